@@ -1,0 +1,60 @@
+-- Constructs that compare as one are one.
+use Rattle.std.proofs.Common.{◌≡◌, ℕ, Bool, true, false, Option, Some, None, refl}
+use Rattle.std.specs.Prelude.{not}
+use Rattle.std.proofs.lemmas.Bool.Decides.{Decides-int_eq, Decides-eqb}
+use Rattle.gomp_types.specs.declared.loop_desc.Sched.{Sched}
+use Rattle.gomp_types.specs.declared.loop_desc.Sched.TheVariants.{Dynamic}
+use Rattle.gomp_types.specs.declared.loop_desc.EndKind.{EndKind}
+use Rattle.gomp_types.specs.declared.loop_desc.EndKind.TheVariants.{Wait, Nowait}
+use Rattle.gomp_types.specs.declared.shape.Shape.{Shape}
+use Rattle.gomp_types.specs.declared.event.Arrival.{Arrival}
+use Rattle.gomp_types.specs.declared.event.Arrival.TheVariants.{Barrier, ShareEnd, RegionEnd}
+use Rattle.gomp_types.specs.declared.event.Tag.{Tag}
+use Rattle.gomp_types.specs.Shapes.{same_sched, same_end, same_shape, same_arrival, same_tag}
+use Rattle.gomp_types.specs.Refusals.{shape_differs, tag_differs}
+use Rattle.gomp_types.proofs.Booleans.{and_left, and_right, not_false}
+
+same_sched_is : (a b : Sched) → same_sched a b ≡ true → a ≡ b
+same_sched_is Dynamic Dynamic e = refl
+
+same_end_is : (a b : EndKind) → same_end a b ≡ true → a ≡ b
+same_end_is Wait Wait e = refl
+same_end_is Nowait Nowait e = refl
+same_end_is _ _ e = absurd (cc)
+
+same_arrival_is : (a b : Arrival) → same_arrival a b ≡ true → a ≡ b
+same_arrival_is Barrier Barrier e = refl
+same_arrival_is ShareEnd ShareEnd e = refl
+same_arrival_is RegionEnd RegionEnd e = refl
+same_arrival_is _ _ e = absurd (cc)
+
+pub same_shape_is : (a b : Shape) → same_shape a b ≡ true → a ≡ b
+same_shape_is a b e =
+    let e5 = and_left _ _ e in
+    let e4 = and_left _ _ e5 in
+    let e3 = and_left _ _ e4 in
+    let e2 = and_left _ _ e3 in
+    let start : a.start ≡ b.start = (Decides-int_eq a.start b.start).0 (and_left _ _ e2) in
+    let incr : a.incr ≡ b.incr = (Decides-int_eq a.incr b.incr).0 (and_right _ _ e2) in
+    let trips : a.trips ≡ b.trips = (Decides-eqb a.trips b.trips).0 (and_right _ _ e3) in
+    let sched : a.sched ≡ b.sched = same_sched_is a.sched b.sched (and_right _ _ e4) in
+    let chunk : a.chunk ≡ b.chunk = (Decides-eqb a.chunk b.chunk).0 (and_right _ _ e5) in
+    let end : a.end_kind ≡ b.end_kind = same_end_is a.end_kind b.end_kind (and_right _ _ e) in
+    rw (start, incr, trips, sched, chunk, end) refl
+
+pub same_tag_is : (a b : Tag) → same_tag a b ≡ true → a ≡ b
+same_tag_is a b e =
+    let kind : a.kind ≡ b.kind = same_arrival_is a.kind b.kind (and_left _ _ e) in
+    let shares : a.shares ≡ b.shares = (Decides-eqb a.shares b.shares).0 (and_right _ _ e) in
+    rw (kind, shares) refl
+
+-- what does not differ from what is there is that
+pub same_shapes : (shape : Shape) (own : Option Shape) → shape_differs shape own ≡ false → (other : Shape) → own ≡ Some other → other ≡ shape
+same_shapes shape None fine other e = absurd (cc)
+same_shapes shape (Some found) fine other e =
+    let one : found ≡ shape = same_shape_is found shape (not_false (same_shape found shape) fine) in cc
+
+pub same_tags : (tag : Tag) (own : Option Tag) → tag_differs tag own ≡ false → (other : Tag) → own ≡ Some other → other ≡ tag
+same_tags tag None fine other e = absurd (cc)
+same_tags tag (Some found) fine other e =
+    let one : found ≡ tag = same_tag_is found tag (not_false (same_tag found tag) fine) in cc

@@ -1,0 +1,10 @@
+pub mod IterationValues
+pub mod Wide
+pub mod Booleans
+pub mod Tiling
+pub mod Dealing
+pub mod Compared
+pub mod SharesKeep
+pub mod TeamKeeps
+pub mod CausesKeep
+pub mod OneReply

@@ -1,0 +1,132 @@
+-- What a list of events says. The newest event stands first.
+use Rattle.std.specs.Prelude.{ℕ, ◌+◌, ◌-◌, ◌==◌, ◌&&◌, ◌||◌, nat_le, nat_lt, Bool, true, false, if◌then◌else◌, List, [], ◌∷◌, Option, Some, None, is_some}
+use Rattle.std.proofs.Common.{zero, suc}
+use Rattle.gomp_types.specs.declared.shape.Shape.{Shape}
+use Rattle.gomp_types.specs.declared.refusal.Clash.{Clash}
+use Rattle.gomp_types.specs.declared.event.Arrival.{Arrival}
+use Rattle.gomp_types.specs.declared.event.Arrival.TheVariants.{RegionEnd}
+use Rattle.gomp_types.specs.declared.event.Tag.{Tag}
+use Rattle.gomp_types.specs.declared.event.Event.{Event}
+use Rattle.gomp_types.specs.declared.event.Event.TheVariants.{Enter, Take, Drained, End, Arrive, Pass, Break}
+
+-- whether each member of a team of this size passes the test
+abbrev pub every_member : ℕ → (ℕ → Bool) → Bool
+every_member zero test = true
+every_member (suc m) test = test m && every_member m test
+
+-- Work-shares (OpenMP API 5.2, chapter 11)
+
+-- how many shares the member has entered
+abbrev pub entered : ℕ → List Event → ℕ
+entered m [] = 0
+entered m (Enter share member shape ∷ earlier) = if member == m then entered m earlier + 1 else entered m earlier
+entered m (_ ∷ earlier) = entered m earlier
+
+-- the share that the member is in, by number and shape: it has entered it and not left it
+abbrev pub open_share : ℕ → List Event → Option (ℕ × Shape)
+open_share m [] = None
+open_share m (Enter share member shape ∷ earlier) = if member == m then Some (share, shape) else open_share m earlier
+open_share m (End share member ∷ earlier) = if member == m then None else open_share m earlier
+open_share m (_ ∷ earlier) = open_share m earlier
+
+-- whether the member is in a share
+abbrev pub is_inside : ℕ → List Event → Bool
+is_inside m h = is_some (open_share m h)
+
+-- the number of a share, if there is one
+abbrev pub share_number : Option (ℕ × Shape) → ℕ
+share_number None = 0
+share_number (Some share) = share.0
+
+-- the number of the share that the member is in
+abbrev pub open_number : ℕ → List Event → ℕ
+open_number m h = share_number (open_share m h)
+
+-- whether the member was told that nothing is left for it of the share that it entered last
+abbrev pub has_drained : ℕ → List Event → Bool
+has_drained m [] = false
+has_drained m (Enter share member shape ∷ earlier) = if member == m then false else has_drained m earlier
+has_drained m (Drained share member ∷ earlier) = if member == m then true else has_drained m earlier
+has_drained m (_ ∷ earlier) = has_drained m earlier
+
+-- what the share is, by those that entered it
+abbrev pub shape_at : ℕ → List Event → Option Shape
+shape_at share [] = None
+shape_at share (Enter i member shape ∷ earlier) = if i == share then Some shape else shape_at share earlier
+shape_at share (_ ∷ earlier) = shape_at share earlier
+
+-- whether the member has left the share
+abbrev pub has_ended : ℕ → ℕ → List Event → Bool
+has_ended share m [] = false
+has_ended share m (End i member ∷ earlier) = (i == share && member == m) || has_ended share m earlier
+has_ended share m (_ ∷ earlier) = has_ended share m earlier
+
+-- whether every member has left the share
+abbrev pub is_over : ℕ → ℕ → List Event → Bool
+is_over members share h = every_member members (λ m. has_ended share m h)
+
+-- whether the share can be opened: the one eight before it, if there is one, is over (own)
+abbrev pub has_room : ℕ → ℕ → List Event → Bool
+has_room members share h = nat_lt share 8 || is_over members (share - 8) h
+
+-- whether the piece from `low` on, `high` excluded, has the iteration
+abbrev pub has_iteration : ℕ → ℕ → ℕ → Bool
+has_iteration k low high = nat_le low k && nat_lt k high
+
+-- how many of the share's takes have the iteration
+abbrev pub times_taken : ℕ → ℕ → List Event → ℕ
+times_taken share k [] = 0
+times_taken share k (Take i member low high ∷ earlier) =
+    if i == share && has_iteration k low high then times_taken share k earlier + 1 else times_taken share k earlier
+times_taken share k (_ ∷ earlier) = times_taken share k earlier
+
+-- Barriers (OpenMP API 5.2, section 15.3)
+
+-- how many barriers the member has passed; so it is the number of the next one
+abbrev pub passed : ℕ → List Event → ℕ
+passed m [] = 0
+passed m (Pass barrier member ∷ earlier) = if member == m then passed m earlier + 1 else passed m earlier
+passed m (_ ∷ earlier) = passed m earlier
+
+-- with which tag the member arrived at the barrier
+abbrev pub arrival : ℕ → ℕ → List Event → Option Tag
+arrival barrier m [] = None
+arrival barrier m (Arrive g member tag ∷ earlier) = if g == barrier && member == m then Some tag else arrival barrier m earlier
+arrival barrier m (_ ∷ earlier) = arrival barrier m earlier
+
+-- with which tag anyone arrived at the barrier
+abbrev pub tag_at : ℕ → List Event → Option Tag
+tag_at barrier [] = None
+tag_at barrier (Arrive g member tag ∷ earlier) = if g == barrier then Some tag else tag_at barrier earlier
+tag_at barrier (_ ∷ earlier) = tag_at barrier earlier
+
+-- whether a member that waits at the barrier may go on: every member has arrived there
+abbrev pub barrier_met : ℕ → ℕ → List Event → Bool
+barrier_met members barrier h = every_member members (λ m. is_some (arrival barrier m h))
+
+-- whether an arrival was at the region's end
+abbrev pub is_region_end : Arrival → Bool
+is_region_end RegionEnd = true
+is_region_end _ = false
+
+abbrev pub was_region_end : Option Tag → Bool
+was_region_end None = false
+was_region_end (Some tag) = is_region_end tag.kind
+
+-- whether the member has passed the region's end
+abbrev pub has_left_region : ℕ → List Event → Bool
+has_left_region m [] = false
+has_left_region m (Pass barrier member ∷ earlier) =
+    (member == m && was_region_end (arrival barrier m earlier)) || has_left_region m earlier
+has_left_region m (_ ∷ earlier) = has_left_region m earlier
+
+-- of two causes the earlier one
+abbrev pub first_clash : Clash → Option Clash → Clash
+first_clash clash None = clash
+first_clash clash (Some first) = first
+
+-- the first cause by which the team broke
+abbrev pub clash_of : List Event → Option Clash
+clash_of [] = None
+clash_of (Break member place ∷ earlier) = Some (first_clash (record { member = member; place = place }) (clash_of earlier))
+clash_of (_ ∷ earlier) = clash_of earlier

@@ -1,0 +1,129 @@
+-- Worked runs of a team, step by step, and answers that are wrong there.
+use Rattle.std.specs.Prelude.{ℕ, ℤ, pos, false, List, [], ◌∷◌, ◌++◌}
+use Rattle.gomp_types.specs.declared.call.Call.{Call}
+use Rattle.gomp_types.specs.declared.call.Call.TheVariants.{LoopStart, LoopNext, LoopEnd, LoopEndNowait, Barrier, RegionEnd, Resume}
+use Rattle.gomp_types.specs.declared.call.Step.{Step}
+use Rattle.gomp_types.specs.declared.loop_desc.LoopDesc.{LoopDesc}
+use Rattle.gomp_types.specs.declared.loop_desc.Sched.TheVariants.{Dynamic}
+use Rattle.gomp_types.specs.declared.loop_desc.EndKind.{EndKind}
+use Rattle.gomp_types.specs.declared.loop_desc.EndKind.TheVariants.{Wait as WaitEnd, Nowait}
+use Rattle.gomp_types.specs.declared.refusal.Place.TheVariants.{Share, Barrier as AtBarrier}
+use Rattle.gomp_types.specs.declared.refusal.Refusal.TheVariants.{Broken, Waiting, OutsideShare, EndDiffers, NotDrained, Drained, Mismatch}
+use Rattle.gomp_types.specs.declared.reply.Reply.{Reply}
+use Rattle.gomp_types.specs.declared.reply.Reply.TheVariants.{Chunk, NoChunk, Finished, Passed, Wait, Refused}
+use Rattle.gomp_types.specs.Record.{Record}
+use Rattle.gomp_types.specs.Causes.{Terms, MayAnswer, Caused}
+
+-- steps with their replies, the first one first
+abbrev pub Run : Type 0
+Run = List (Step × Reply)
+
+abbrev pub recorded : Run → Record → Record
+recorded [] before = before
+recorded (pair ∷ pairs) before = recorded pairs (pair ∷ before)
+
+-- a team of this size, with the standard limits
+abbrev pub team_of : ℕ → Terms
+team_of members = record {
+  members = members;
+  limits = record { shares = 131064; tasks = 1048576; events = 16777216 };
+  cancellation = false;
+}
+
+-- each reply of the run has its cause
+abbrev pub IsRun : ℕ → Run → Type 0
+IsRun members run = Caused (team_of members) (recorded run [])
+
+-- this answer has no cause after the run
+abbrev pub IsWrong : ℕ → Run → Step → Reply → Type 0
+IsWrong members run step reply = MayAnswer (team_of members) (recorded run []) step reply → ⊥
+
+abbrev pub asks : ℕ → Call → Step
+asks m call = record { member = m; call = call }
+
+-- a dynamic loop of step 1
+abbrev pub dynamic_loop : ℤ → ℤ → ℤ → EndKind → Call
+dynamic_loop chunk start end end_kind =
+    LoopStart (record { start = start; end = end; incr = pos 1; sched = Dynamic; chunk = chunk; end_kind = end_kind })
+
+-- ten iterations in chunks of three
+abbrev pub ten_by_three : Call
+ten_by_three = dynamic_loop (pos 3) (pos 0) (pos 10) WaitEnd
+
+-- a loop over a team of two, from its start to its barrier
+abbrev pub loop_of_two : Run
+loop_of_two =
+    (asks 0 ten_by_three, Chunk (pos 0) 3)
+    ∷ (asks 1 ten_by_three, Chunk (pos 3) 3)
+    ∷ (asks 0 LoopNext, Chunk (pos 6) 3)
+    ∷ (asks 1 LoopNext, Chunk (pos 9) 1)
+    ∷ (asks 0 LoopNext, NoChunk)
+    ∷ (asks 1 LoopNext, NoChunk)
+    ∷ (asks 0 LoopEnd, Wait)
+    ∷ (asks 1 LoopEnd, Passed)
+    ∷ (asks 0 Resume, Passed)
+    ∷ []
+
+-- two loops without an iteration
+abbrev pub empty_loops : Run
+empty_loops =
+    (asks 0 (dynamic_loop (pos 3) (pos 5) (pos 5) Nowait), NoChunk)
+    ∷ (asks 0 LoopEndNowait, Finished)
+    ∷ (asks 0 (dynamic_loop (pos 3) (pos 10) (pos 0) Nowait), NoChunk)
+    ∷ (asks 0 LoopEndNowait, Finished)
+    ∷ []
+
+-- a loop whose end is asked for too early, and otherwise than it ends
+abbrev pub refused_ends : Run
+refused_ends =
+    (asks 0 (dynamic_loop (pos 3) (pos 0) (pos 4) WaitEnd), Chunk (pos 0) 3)
+    ∷ (asks 0 LoopEndNowait, Refused EndDiffers)
+    ∷ (asks 0 LoopEnd, Refused NotDrained)
+    ∷ (asks 0 LoopNext, Chunk (pos 3) 1)
+    ∷ (asks 0 LoopNext, NoChunk)
+    ∷ (asks 0 LoopNext, Refused Drained)
+    ∷ (asks 0 LoopEnd, Passed)
+    ∷ (asks 0 LoopNext, Refused OutsideShare)
+    ∷ []
+
+-- one iteration, no barrier
+abbrev pub one_nowait : Call
+one_nowait = dynamic_loop (pos 1) (pos 0) (pos 1) Nowait
+
+-- a member goes through such a loop alone
+abbrev pub loop_alone : Run
+loop_alone = (asks 0 one_nowait, Chunk (pos 0) 1) ∷ (asks 0 LoopNext, NoChunk) ∷ (asks 0 LoopEndNowait, Finished) ∷ []
+
+-- a member that is eight loops ahead of the other
+abbrev pub eight_ahead : Run
+eight_ahead =
+    loop_alone ++ loop_alone ++ loop_alone ++ loop_alone ++ loop_alone ++ loop_alone ++ loop_alone ++ loop_alone
+
+-- it has to wait at the ninth until the other has left the first
+abbrev pub ninth_share : Run
+ninth_share =
+    eight_ahead
+    ++ (asks 0 one_nowait, Wait)
+    ∷ (asks 0 LoopNext, Refused Waiting)
+    ∷ (asks 1 one_nowait, NoChunk)
+    ∷ (asks 0 Resume, Wait)
+    ∷ (asks 1 LoopEndNowait, Finished)
+    ∷ (asks 0 Resume, Chunk (pos 0) 1)
+    ∷ []
+
+-- a member whose loop has another chunk breaks the team
+abbrev pub differing_loop : Run
+differing_loop =
+    (asks 0 ten_by_three, Chunk (pos 0) 3)
+    ∷ (asks 1 (dynamic_loop (pos 2) (pos 0) (pos 10) WaitEnd), Refused Mismatch)
+    ∷ (asks 0 LoopNext, Refused (Broken (record { member = 1; place = Share 0 })))
+    ∷ (asks 1 RegionEnd, Refused (Broken (record { member = 1; place = Share 0 })))
+    ∷ []
+
+-- and so does one that ends the region where another waits at a barrier
+abbrev pub differing_barrier : Run
+differing_barrier =
+    (asks 0 Barrier, Wait)
+    ∷ (asks 1 RegionEnd, Refused Mismatch)
+    ∷ (asks 0 Resume, Refused (Broken (record { member = 1; place = AtBarrier 0 })))
+    ∷ []

@@ -1,0 +1,17 @@
+-- The headline: for every team size and list of member steps, no iteration is taken twice; a loop that all members end had every iteration taken; all members go through the same constructs; no member passes a barrier before all arrived.
+use Rattle.std.specs.Prelude.{ℕ, List}
+use Rattle.gomp_types.specs.declared.event.Event.{Event}
+use Rattle.gomp_types.specs.Deals.{schedule}
+use Rattle.gomp_types.specs.Rules.{Always}
+use Rattle.gomp_types.specs.Laws.{TakenOnce, WholeWhereOver, SameShares, SameArrivals, PassesLast}
+
+pub record Headline (members : ℕ) (h : List Event) : Type 0 where
+  -- no iteration is taken twice
+  pub taken_once : TakenOnce (schedule members) h
+  -- a loop that all members end had every iteration taken
+  pub whole : WholeWhereOver members h
+  -- all members go through the same shares, and arrive alike
+  pub same_shares : SameShares members h
+  pub same_arrivals : SameArrivals h
+  -- no member passes a barrier before all arrived
+  pub passes : Always (PassesLast members) h

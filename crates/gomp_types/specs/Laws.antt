@@ -1,0 +1,74 @@
+-- The laws of a team's events, each clause in the words of the promise that it keeps.
+use Rattle.std.specs.Prelude.{ℕ, ◌+◌, ◌<◌, ◌≤◌, ◌≡◌, List, [], ◌∷◌, Some, ◌⊎◌, take}
+use Rattle.gomp_types.specs.declared.shape.Shape.{Shape}
+use Rattle.gomp_types.specs.declared.event.Tag.{Tag}
+use Rattle.gomp_types.specs.declared.event.Event.{Event}
+use Rattle.gomp_types.specs.declared.event.Event.TheVariants.{Enter, Take, End, Arrive, Pass}
+use Rattle.gomp_types.specs.Events.{entered, times_taken}
+use Rattle.gomp_types.specs.Deals.{Deal, taken_in, takes_in, next_for}
+use Rattle.gomp_types.specs.Rules.{Always}
+
+-- the event is in the list
+abbrev pub Stands : Event → List Event → Type 0
+Stands event [] = ⊥
+Stands event (other ∷ earlier) = (other ≡ event) ⊎ Stands event earlier
+
+-- every member has left the share
+abbrev pub IsOver : ℕ → ℕ → List Event → Type 0
+IsOver members share h = (m : ℕ) → m < members → Stands (End share m) h
+
+-- a take is the least piece that nobody took of those that are its member's to take; its member has entered the share, and not left it
+abbrev pub TakesNext : Deal → Event → List Event → Type 0
+TakesNext deal (Take share m low high) earlier =
+    (shape : Shape)
+    × Stands (Enter share m shape) earlier
+    × (Stands (End share m) earlier → ⊥)
+    × (next_for deal shape share m earlier ≡ Some (low, high))
+TakesNext deal _ earlier = Unit {0}
+
+-- Taken once (OpenMP API 5.2, section 11.5: each iteration is executed once).
+pub record TakenOnce (deal : Deal) (h : List Event) : Type 0 where
+  -- of the takes of a share at most one has the iteration k
+  pub once : (share k : ℕ) → times_taken share k h ≤ 1
+  -- each take is a piece of its share, between its member's entry and end
+  pub pieces : Always (TakesNext deal) h
+  -- the takes from a queue are its pieces 0, 1, 2 and on
+  pub order : (share m q : ℕ) (shape : Shape) → Stands (Enter share m shape) h → takes_in (deal.queue_of shape) share q h ≡ take (taken_in (deal.queue_of shape) share q h) (deal.queue shape q)
+
+-- Whole: a share that every member has left had each of its iterations taken, once.
+abbrev pub WholeWhereOver : ℕ → List Event → Type 0
+WholeWhereOver members h =
+    (share m : ℕ) (shape : Shape) → Stands (Enter share m shape) h → IsOver members share h → (k : ℕ) → k < shape.trips → times_taken share k h ≡ 1
+
+-- a member's shares are numbered as it came to them
+abbrev pub EntersInTurn : Event → List Event → Type 0
+EntersInTurn (Enter share m shape) earlier = share ≡ entered m earlier
+EntersInTurn _ earlier = Unit {0}
+
+-- a share is entered only where the one eight before it is over (own)
+abbrev pub EntersWithRoom : ℕ → Event → List Event → Type 0
+EntersWithRoom members (Enter share m shape) earlier = (old : ℕ) → share ≡ old + 8 → IsOver members old earlier
+EntersWithRoom members _ earlier = Unit {0}
+
+-- Same shares (OpenMP API 5.2, chapter 11: every member meets the same work-shares in the same order).
+pub record SameShares (members : ℕ) (h : List Event) : Type 0 where
+  -- the members' i-th shares are of one shape
+  pub turns : Always EntersInTurn h
+  pub shapes : (share m n : ℕ) (one other : Shape) → Stands (Enter share m one) h → Stands (Enter share n other) h → one ≡ other
+  -- and no more than eight are open
+  pub room : Always (EntersWithRoom members) h
+
+-- Same arrivals: all members arrive at a barrier with one tag.
+abbrev pub SameArrivals : List Event → Type 0
+SameArrivals h = (barrier m n : ℕ) (one other : Tag) → Stands (Arrive barrier m one) h → Stands (Arrive barrier n other) h → one ≡ other
+
+-- Barrier law (OpenMP API 5.2, section 15.3.1): a member passes a barrier only where every member has arrived.
+abbrev pub PassesLast : ℕ → Event → List Event → Type 0
+PassesLast members (Pass barrier m) earlier = (x : ℕ) → x < members → (tag : Tag) × Stands (Arrive barrier x tag) earlier
+PassesLast members _ earlier = Unit {0}
+
+-- what the work-shares alone keep, however they are kept
+pub record ShareLaws (deal : Deal) (members : ℕ) (h : List Event) : Type 0 where
+  pub taken_once : TakenOnce deal h
+  pub whole : WholeWhereOver members h
+  pub same_shares : SameShares members h

@@ -1,0 +1,17 @@
+pub mod Tests
+pub mod Limits
+pub mod RefusalTexts
+pub mod Iterations
+pub mod Pieces
+pub mod Values
+pub mod Shapes
+pub mod Events
+pub mod Record
+pub mod Deals
+pub mod Refusals
+pub mod Replies
+pub mod Causes
+pub mod Rules
+pub mod Laws
+pub mod Headline
+pub mod Examples

@@ -1,0 +1,63 @@
+-- How a refusal is printed. (own)
+use Rattle.std.specs.Prelude.{ℕ, List, ◌++◌, codes}
+use Rattle.std.specs.Fmt.{decimal}
+use Rattle.gomp_types.specs.declared.refusal.Place.{Place}
+use Rattle.gomp_types.specs.declared.refusal.Place.TheVariants.{Share, Barrier, Stopped}
+use Rattle.gomp_types.specs.declared.refusal.Clash.{Clash}
+use Rattle.gomp_types.specs.declared.refusal.Refusal.{Refusal}
+use Rattle.gomp_types.specs.declared.refusal.Refusal.TheVariants.{BadMember, Ended, Broken, Waiting, InsideShare, OutsideShare, ZeroStep, BadChunk, LoopTooLong, EndDiffers, NotDrained, Drained, NotInside, TooManyShares, Mismatch, NoMemory, BadTeam}
+
+-- the number of a refusal, by which a call's tests are ordered
+abbrev pub number_of : Refusal → ℕ
+number_of BadMember = 1
+number_of Ended = 2
+number_of (Broken clash) = 3
+number_of Waiting = 4
+number_of InsideShare = 8
+number_of OutsideShare = 9
+number_of ZeroStep = 12
+number_of BadChunk = 13
+number_of LoopTooLong = 14
+number_of EndDiffers = 17
+number_of NotDrained = 18
+number_of Drained = 19
+number_of NotInside = 22
+number_of TooManyShares = 34
+number_of Mismatch = 35
+number_of NoMemory = 37
+number_of BadTeam = 38
+
+-- the name of a refusal
+abbrev pub name_of : Refusal → List ℕ
+name_of BadMember = codes "BadMember"
+name_of Ended = codes "Ended"
+name_of (Broken clash) = codes "Broken"
+name_of Waiting = codes "Waiting"
+name_of InsideShare = codes "InsideShare"
+name_of OutsideShare = codes "OutsideShare"
+name_of ZeroStep = codes "ZeroStep"
+name_of BadChunk = codes "BadChunk"
+name_of LoopTooLong = codes "LoopTooLong"
+name_of EndDiffers = codes "EndDiffers"
+name_of NotDrained = codes "NotDrained"
+name_of Drained = codes "Drained"
+name_of NotInside = codes "NotInside"
+name_of TooManyShares = codes "TooManyShares"
+name_of Mismatch = codes "Mismatch"
+name_of NoMemory = codes "NoMemory"
+name_of BadTeam = codes "BadTeam"
+
+-- where a team broke
+abbrev pub place_text : Place → List ℕ
+place_text (Share number) = codes "share " ++ decimal number
+place_text (Barrier number) = codes "barrier " ++ decimal number
+place_text Stopped = codes "stopped"
+
+-- by whom, and where
+abbrev pub clash_text : Clash → List ℕ
+clash_text clash = decimal clash.member ++ codes " " ++ place_text clash.place
+
+-- the number and the name, and what broke the team
+abbrev pub text_of : Refusal → List ℕ
+text_of (Broken clash) = codes "E3 Broken " ++ clash_text clash
+text_of refusal = codes "E" ++ decimal (number_of refusal) ++ codes " " ++ name_of refusal

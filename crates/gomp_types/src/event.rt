@@ -1,0 +1,65 @@
+//! What happens in a team: each step and its reply give some events.
+
+ghost use Rattle.std.specs.Prelude.{◌≡◌};
+ghost use Rattle.gomp_types.specs.Shapes.{same_tag};
+
+use crate::refusal::Place;
+use crate::shape::Shape;
+
+/// At what kind of barrier a member arrives (OpenMP API 5.2, sections 15.3.1 and 15.3.2).
+#[derive(Clone, Copy, Debug, PartialEq, Eq)]
+pub enum Arrival {
+    /// A `barrier` construct.
+    Barrier,
+    /// The end of a work-share.
+    ShareEnd,
+    /// The end of the parallel region.
+    RegionEnd,
+}
+
+/// What the arrivals of all members at one barrier have in common.
+#[derive(Clone, Copy, Debug, PartialEq, Eq)]
+pub struct Tag {
+    /// At what kind of barrier.
+    pub kind: Arrival,
+    /// After how many started work-shares; so it tells the share that ends.
+    pub shares: u64,
+}
+
+/// One thing that happened in a team. Shares and barriers are numbered from 0, for each member in
+/// the order in which it came to them.
+#[derive(Debug, Drop, PartialEq, Eq)]
+pub enum Event {
+    /// The member entered a share.
+    Enter {
+        share: u64,
+        member: u16,
+        shape: Shape,
+    },
+    /// The member was given the iterations from `low` on, `high` excluded.
+    Take {
+        share: u64,
+        member: u16,
+        low: u64,
+        high: u64,
+    },
+    /// The member was told that nothing is left for it.
+    Drained { share: u64, member: u16 },
+    /// The member left the share.
+    End { share: u64, member: u16 },
+    /// The member arrived at a barrier.
+    Arrive { barrier: u64, member: u16, tag: Tag },
+    /// The member passed a barrier.
+    Pass { barrier: u64, member: u16 },
+    /// The member's construct differed from the team's there, and broke the team.
+    Break { member: u16, place: Place },
+}
+
+impl Tag {
+    /// Whether two members arrive at one barrier.
+    pub fn is_same(&self, other: &Tag) -> bool
+        ensures { result ≡ same_tag self.now other.now }
+    {
+        self == other
+    }
+}

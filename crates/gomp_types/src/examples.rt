@@ -1,0 +1,50 @@
+//! Worked runs of a team, and answers that are wrong there: that the definitions tell right from
+//! wrong is computed, and checked with every proof.
+
+ghost use Rattle.std.specs.Prelude.{pos, take};
+ghost use Rattle.gomp_types.specs.declared.call.Call.TheVariants.{LoopNext, LoopEnd, LoopEndNowait, RegionEnd, Resume};
+ghost use Rattle.gomp_types.specs.declared.loop_desc.EndKind.TheVariants.{Wait as WaitEnd};
+ghost use Rattle.gomp_types.specs.declared.refusal.Refusal.TheVariants.{NotDrained, Drained, NoMemory, Mismatch};
+ghost use Rattle.gomp_types.specs.declared.reply.Reply.TheVariants.{Chunk, NoChunk, Passed, Wait, Refused};
+ghost use Rattle.gomp_types.specs.Examples.{IsRun, IsWrong, asks, dynamic_loop, one_nowait, loop_of_two, empty_loops, refused_ends, eight_ahead, ninth_share, differing_loop, differing_barrier};
+
+/// Each reply of these runs has its cause.
+pub fn worked_runs()
+    ensures loop_of_two { IsRun 2 loop_of_two }
+    ensures empty_loops { IsRun 1 empty_loops }
+    ensures refused_ends { IsRun 1 refused_ends }
+    ensures ninth_share { IsRun 2 ninth_share }
+    ensures differing_loop { IsRun 2 differing_loop }
+    ensures differing_barrier { IsRun 2 differing_barrier }
+{
+}
+
+/// These answers have none.
+pub fn wrong_answers()
+    // A piece that another member took, and one before its turn.
+    ensures piece_twice { IsWrong 2 (take 2 loop_of_two) (asks 0 LoopNext) (Chunk (pos 3) 3) }
+    ensures piece_too_early { IsWrong 2 (take 2 loop_of_two) (asks 0 LoopNext) (Chunk (pos 9) 1) }
+    ensures piece_too_long { IsWrong 2 (take 3 loop_of_two) (asks 1 LoopNext) (Chunk (pos 9) 3) }
+
+    // None while the last, shorter piece is left; a piece where none is left.
+    ensures none_too_early { IsWrong 2 (take 3 loop_of_two) (asks 1 LoopNext) NoChunk }
+    ensures none_too_late { IsWrong 2 (take 4 loop_of_two) (asks 0 LoopNext) (Chunk (pos 10) 1) }
+
+    // A barrier that opens before the last arrival, and one that stays shut after it.
+    ensures pass_too_early { IsWrong 2 (take 6 loop_of_two) (asks 0 LoopEnd) Passed }
+    ensures pass_too_late { IsWrong 2 (take 8 loop_of_two) (asks 0 Resume) Wait }
+
+    // Of two tests that hold the second; a refusal where no test holds.
+    ensures second_refusal { IsWrong 1 (take 1 refused_ends) (asks 0 LoopEndNowait) (Refused NotDrained) }
+    ensures idle_refusal { IsWrong 1 (take 1 refused_ends) (asks 0 LoopNext) (Refused Drained) }
+    ensures idle_memory { IsWrong 1 (take 1 refused_ends) (asks 0 LoopNext) (Refused NoMemory) }
+
+    // A share opened while the eighth before is not over.
+    ensures ninth_opened { IsWrong 2 eight_ahead (asks 0 one_nowait) (Chunk (pos 0) 1) }
+
+    // Constructs that differ, let in.
+    ensures other_loop { IsWrong 2 (take 1 differing_loop) (asks 1 (dynamic_loop (pos 2) (pos 0) (pos 10) WaitEnd)) (Chunk (pos 3) 2) }
+    ensures other_barrier { IsWrong 2 (take 1 differing_barrier) (asks 1 RegionEnd) Passed }
+    ensures like_loop { IsWrong 2 (take 1 loop_of_two) (asks 1 (dynamic_loop (pos 3) (pos 0) (pos 10) WaitEnd)) (Refused Mismatch) }
+{
+}

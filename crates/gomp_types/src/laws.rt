@@ -1,0 +1,53 @@
+//! What holds of every record whose replies have their causes, from the definitions alone.
+//!
+//! Each function here has an empty body: its contract is a law of the definitions in `specs/`,
+//! proved by the gate, which the crates above have by calling it. No program state stands behind
+//! them, so whatever body answers as the definitions say keeps these laws.
+
+ghost use Rattle.std.specs.Prelude.{ℕ, List, ◌<◌};
+ghost use Rattle.gomp_types.specs.declared.call.Step.{Step};
+ghost use Rattle.gomp_types.specs.declared.reply.Reply.{Reply};
+ghost use Rattle.gomp_types.specs.declared.event.Event.{Event};
+ghost use Rattle.gomp_types.specs.Record.{Record, events};
+ghost use Rattle.gomp_types.specs.Causes.{Terms, MayAnswer, Caused, OneReply};
+ghost use Rattle.gomp_types.specs.declared.shape.Shape.{Shape};
+ghost use Rattle.gomp_types.specs.Pieces.{pieces_of, Tiles};
+ghost use Rattle.gomp_types.specs.Values.{IsShape};
+ghost use Rattle.gomp_types.specs.Deals.{Deal, IsDealt, schedule};
+ghost use Rattle.gomp_types.specs.Rules.{Always, ShareRule};
+ghost use Rattle.gomp_types.specs.Laws.{ShareLaws};
+ghost use Rattle.gomp_types.specs.Headline.{Headline};
+
+/// **The headline**: for every team size and list of member steps, no iteration is taken twice, a
+/// loop that all members end had every iteration taken, all members go through the same
+/// constructs, and no member passes a barrier before all arrived.
+pub fn headline()
+    ensures { (terms : Terms) → (run : Record) → Caused terms run → Headline terms.members (events run) }
+{
+}
+
+/// At most one reply to a step has its cause after a record, want of memory aside.
+pub fn one_reply()
+    ensures { (terms : Terms) → (run : Record) → (step : Step) → (one : Reply) → (other : Reply) → MayAnswer terms run step one → MayAnswer terms run step other → OneReply one other }
+{
+}
+
+/// The pieces of a share lead from its first iteration to its last: each begins where the one
+/// before it ends, and none is empty.
+pub fn pieces_tile()
+    ensures { (members : ℕ) → (shape : Shape) → 0 < members → IsShape shape → Tiles 0 (pieces_of members shape) shape.trips }
+{
+}
+
+/// Each schedule deals fairly: each iteration lies in one piece, which is some member's to take.
+pub fn fair_schedule()
+    ensures { (members : ℕ) → (shape : Shape) → 0 < members → IsShape shape → IsDealt (schedule members) members shape }
+{
+}
+
+/// However the pieces of the work-shares are dealt out, events that keep the rule of the shares
+/// keep their laws: taken once, whole, same shares.
+pub fn share_laws()
+    ensures { (deal : Deal) → (members : ℕ) → (h : List Event) → Always (ShareRule deal members) h → ShareLaws deal members h }
+{
+}

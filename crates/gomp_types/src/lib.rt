@@ -1,0 +1,24 @@
+//! The words of a team's calls and replies, what a record of them means, and the laws that
+//! follow from that meaning alone.
+//!
+//! Every crate above speaks in these types. The definitions lie in `specs/`, and `laws` names what
+//! is proved of them.
+#![tactic(auto)]
+
+pub mod call;
+pub mod event;
+pub mod examples;
+pub mod laws;
+pub mod limits;
+pub mod loop_desc;
+pub mod refusal;
+pub mod reply;
+pub mod shape;
+
+pub use call::{Call, Step};
+pub use event::{Arrival, Event, Tag};
+pub use limits::{Limits, MAX_CHUNK, MAX_MEMBERS, MAX_TRIPS, OPEN_SHARES};
+pub use loop_desc::{EndKind, LoopDesc, Sched, trips};
+pub use refusal::{Clash, Place, Refusal};
+pub use reply::Reply;
+pub use shape::Shape;

@@ -1,0 +1,152 @@
+//! Why a call is refused.
+//!
+//! A call tests its reasons in the order of their numbers and answers the first that holds.
+
+ghost use Rattle.std.specs.Prelude.{◌≡◌, ◌∷◌, ◌++◌, Some};
+ghost use Rattle.std.specs.Fmt.{decimal};
+ghost use Rattle.gomp_types.specs.RefusalTexts.{number_of, name_of, text_of, clash_text, place_text};
+
+use std::fmt;
+use thiserror::Error;
+
+/// Where the constructs of two members differ. Shares and barriers are numbered from 0.
+#[derive(Clone, Copy, Debug, PartialEq, Eq)]
+pub enum Place {
+    /// At the start of this work-share.
+    Share(u64),
+    /// At the arrival at this barrier.
+    Barrier(u64),
+    /// Nowhere: a member stopped the team.
+    Stopped,
+}
+
+/// The first cause by which a team broke.
+#[derive(Clone, Copy, Debug, PartialEq, Eq)]
+pub struct Clash {
+    /// The member whose construct differed.
+    pub member: u16,
+    /// Where it did.
+    pub place: Place,
+}
+
+/// Why a call changed nothing. Each prints as its number and name, as in `E35 Mismatch`.
+#[derive(Debug, Drop, PartialEq, Eq, Error)]
+pub enum Refusal {
+    /// E1: the member's number is not below the team's size.
+    BadMember,
+    /// E2: the member has passed the region's end.
+    Ended,
+    /// E3: the team is broken, by this first cause.
+    Broken(Clash),
+    /// E4: the member's wait is open, and the call is not `resume`.
+    Waiting,
+    /// E8: the member is in a work-share.
+    InsideShare,
+    /// E9: the member is in no work-share of the call's kind.
+    OutsideShare,
+    /// E12: the loop's step is 0.
+    ZeroStep,
+    /// E13: the chunk is negative or above 2^39.
+    BadChunk,
+    /// E14: the loop has more than 2^39 iterations.
+    LoopTooLong,
+    /// E17: the share ends otherwise.
+    EndDiffers,
+    /// E18: the member has not been told that nothing is left.
+    NotDrained,
+    /// E19: the member has been told that nothing is left.
+    Drained,
+    /// E22: no such part is open, or `resume` with no wait open.
+    NotInside,
+    /// E34: the member has started as many shares as the limit.
+    TooManyShares,
+    /// E35: the construct differs from the team's.
+    Mismatch,
+    /// E37: memory was refused.
+    NoMemory,
+    /// E38: a team has 1 to 64 members.
+    BadTeam,
+}
+
+impl Refusal {
+    /// The number, as in the table of refusals.
+    pub fn number(&self) -> u8
+        ensures { result ≡ number_of self.now }
+    {
+        match self {
+            Refusal::BadMember => 1,
+            Refusal::Ended => 2,
+            Refusal::Broken(_) => 3,
+            Refusal::Waiting => 4,
+            Refusal::InsideShare => 8,
+            Refusal::OutsideShare => 9,
+            Refusal::ZeroStep => 12,
+            Refusal::BadChunk => 13,
+            Refusal::LoopTooLong => 14,
+            Refusal::EndDiffers => 17,
+            Refusal::NotDrained => 18,
+            Refusal::Drained => 19,
+            Refusal::NotInside => 22,
+            Refusal::TooManyShares => 34,
+            Refusal::Mismatch => 35,
+            Refusal::NoMemory => 37,
+            Refusal::BadTeam => 38,
+        }
+    }
+
+    /// The name, as in the table of refusals.
+    pub fn name(&self) -> &'static str
+        ensures { result.now ≡ name_of self.now }
+    {
+        match self {
+            Refusal::BadMember => "BadMember",
+            Refusal::Ended => "Ended",
+            Refusal::Broken(_) => "Broken",
+            Refusal::Waiting => "Waiting",
+            Refusal::InsideShare => "InsideShare",
+            Refusal::OutsideShare => "OutsideShare",
+            Refusal::ZeroStep => "ZeroStep",
+            Refusal::BadChunk => "BadChunk",
+            Refusal::LoopTooLong => "LoopTooLong",
+            Refusal::EndDiffers => "EndDiffers",
+            Refusal::NotDrained => "NotDrained",
+            Refusal::Drained => "Drained",
+            Refusal::NotInside => "NotInside",
+            Refusal::TooManyShares => "TooManyShares",
+            Refusal::Mismatch => "Mismatch",
+            Refusal::NoMemory => "NoMemory",
+            Refusal::BadTeam => "BadTeam",
+        }
+    }
+}
+
+impl fmt::Display for Place {
+    ghost output = { λ place. Some (place_text place) };
+
+    fn fmt<W: fmt::Write>(&self, f: &mut fmt::Formatter<W>) -> fmt::Result {
+        match self {
+            Place::Share(number) => write!(f, "share {number}"),
+            Place::Barrier(number) => write!(f, "barrier {number}"),
+            Place::Stopped => write!(f, "stopped"),
+        }
+    }
+}
+
+impl fmt::Display for Clash {
+    ghost output = { λ clash. Some (clash_text clash) };
+
+    fn fmt<W: fmt::Write>(&self, f: &mut fmt::Formatter<W>) -> fmt::Result {
+        write!(f, "{} {}", self.member, self.place)
+    }
+}
+
+impl fmt::Display for Refusal {
+    ghost output = { λ refusal. Some (text_of refusal) };
+
+    fn fmt<W: fmt::Write>(&self, f: &mut fmt::Formatter<W>) -> fmt::Result {
+        match self {
+            Refusal::Broken(clash) => write!(f, "E3 Broken {clash}"),
+            refusal => write!(f, "E{} {}", refusal.number(), refusal.name()),
+        }
+    }
+}
