@@ -1,5 +1,6 @@
 pub mod IterationValues
 pub mod Wide
+pub mod Lists
 pub mod Booleans
 pub mod Tiling
 pub mod Dealing

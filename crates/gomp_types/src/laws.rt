@@ -4,7 +4,7 @@
 //! proved by the gate, which the crates above have by calling it. No program state stands behind
 //! them, so whatever body answers as the definitions say keeps these laws.
 
-ghost use Rattle.std.specs.Prelude.{ℕ, List, ◌<◌};
+ghost use Rattle.std.specs.Prelude.{ℕ, List, Some, None, true, ◌<◌, ◌≡◌};
 ghost use Rattle.gomp_types.specs.declared.call.Step.{Step};
 ghost use Rattle.gomp_types.specs.declared.reply.Reply.{Reply};
 ghost use Rattle.gomp_types.specs.declared.event.Event.{Event};
@@ -13,7 +13,8 @@ ghost use Rattle.gomp_types.specs.Causes.{Terms, MayAnswer, Caused, OneReply};
 ghost use Rattle.gomp_types.specs.declared.shape.Shape.{Shape};
 ghost use Rattle.gomp_types.specs.Pieces.{pieces_of, Tiles};
 ghost use Rattle.gomp_types.specs.Values.{IsShape};
-ghost use Rattle.gomp_types.specs.Deals.{Deal, IsDealt, schedule};
+ghost use Rattle.gomp_types.specs.Deals.{Deal, IsDealt, schedule, next_for};
+ghost use Rattle.gomp_types.specs.Events.{open_share, has_drained};
 ghost use Rattle.gomp_types.specs.Rules.{Always, ShareRule};
 ghost use Rattle.gomp_types.specs.Laws.{ShareLaws};
 ghost use Rattle.gomp_types.specs.Headline.{Headline};
@@ -49,5 +50,11 @@ pub fn fair_schedule()
 /// keep their laws: taken once, whole, same shares.
 pub fn share_laws()
     ensures { (deal : Deal) → (members : ℕ) → (h : List Event) → Always (ShareRule deal members) h → ShareLaws deal members h }
+{
+}
+
+/// What a member was told stays so: nothing is left for it of the share that it is in.
+pub fn told_none()
+    ensures { (deal : Deal) → (members : ℕ) → (m : ℕ) → (i : ℕ) → (shape : Shape) → (h : List Event) → Always (ShareRule deal members) h → open_share m h ≡ Some (i, shape) → has_drained m h ≡ true → next_for deal shape i m h ≡ None }
 {
 }

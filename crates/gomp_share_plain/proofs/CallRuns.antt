@@ -1,0 +1,63 @@
+-- A list of calls, one by one.
+use Rattle.std.proofs.Common.{◌≡◌, ℕ, ◌+◌, ◌<◌, Bool, true, false, List, [], ◌∷◌, ◌++◌, length, Some, None, Ok, Err, refl, ap, sym, ◌∙◌, arith}
+use Rattle.std.specs.Prelude.{Option, Result, ◌&&◌, nat_lt, not, is_some, is_none, is_ok}
+use Rattle.std.proofs.lemmas.Bool.Decides.{nat_tests}
+use Rattle.gomp_types.specs.declared.loop_desc.LoopDesc.{LoopDesc}
+use Rattle.gomp_types.specs.declared.refusal.Refusal.{Refusal}
+use Rattle.gomp_types.specs.declared.event.Event.{Event}
+use Rattle.gomp_types.specs.Tests.{first_refusal, outcome}
+use Rattle.gomp_types.specs.Iterations.{loop_tests}
+use Rattle.gomp_types.proofs.Booleans.{and_left, and_right}
+use Rattle.gomp_share_plain.specs.declared.Seen.{Seen}
+use Rattle.gomp_share_plain.specs.declared.calls.ShareCall.TheVariants.{Open, Claim, Leave}
+use Rattle.gomp_share_plain.specs.declared.calls.ShareStep.{ShareStep}
+use Rattle.gomp_share_plain.specs.declared.calls.ShareAnswer.{ShareAnswer}
+use Rattle.gomp_share_plain.specs.Calls.{seen_of}
+use Rattle.gomp_share_plain.specs.Runs.{may_make, is_made, IsAnswer, answered, events_after, AreAnswers}
+
+-- a loop is fine where none of its tests holds
+pub outcome_is_ok : {A : Type 0} (first : Option Refusal) (value : A) → is_ok (outcome first value) ≡ is_none first
+outcome_is_ok None value = refl
+outcome_is_ok (Some refusal) value = refl
+
+none_is : {A : Type 0} (own : Option A) → is_none own ≡ true → own ≡ None
+none_is None e = refl
+none_is (Some x) e = absurd (cc)
+
+pub loop_fine : (seen : Seen) (loop : LoopDesc) → may_make seen (Open loop) ≡ true → first_refusal (loop_tests loop) ≡ None
+loop_fine seen loop e = none_is (first_refusal (loop_tests loop)) (and_right _ (is_none (first_refusal (loop_tests loop))) e)
+
+never_err : {A : Type 0} (first : Option Refusal) (value : A) (refusal : Refusal) → first ≡ None → outcome first value ≡ Err refusal → ⊥
+never_err None value refusal fine e = absurd (cc)
+never_err (Some found) value refusal fine e = absurd (cc)
+
+pub open_fits : {A : Type 0} (seen : Seen) (loop : LoopDesc) (value : A) (refusal : Refusal) → may_make seen (Open loop) ≡ true → outcome (first_refusal (loop_tests loop)) value ≡ Err refusal → ⊥
+open_fits seen loop value refusal e is = never_err (first_refusal (loop_tests loop)) value refusal (loop_fine seen loop e) is
+
+-- what was tested of what the member sees is so of the events
+pub made : (members : ℕ) (step : ShareStep) (seen : Seen) (h : List Event) → seen ≡ seen_of step.member h → step.member < members → may_make seen step.call ≡ true → is_made members step h ≡ true
+made members step seen h e lt may =
+    let team : nat_lt step.member members ≡ true = grind (arith, nat_tests) in
+    rw team (rw e at may)
+
+and_false : (a b : Bool) → b ≡ false → (a && b) ≡ false
+and_false true b e = e
+and_false false b e = refl
+
+pub not_made : (members : ℕ) (step : ShareStep) (seen : Seen) (h : List Event) → seen ≡ seen_of step.member h → may_make seen step.call ≡ false → is_made members step h ≡ false
+not_made members step seen h e may = and_false (nat_lt step.member members) (may_make (seen_of step.member h) step.call) (rw e at may)
+
+-- one more call
+pub events_after_more : (steps : List ShareStep) (answers : List ShareAnswer) (step : ShareStep) (answer : ShareAnswer) (h : List Event) → length answers ≡ length steps →
+    events_after (steps ++ step ∷ []) (answers ++ answer ∷ []) h ≡ answered step answer (events_after steps answers h)
+events_after_more [] [] step answer h e = refl
+events_after_more [] (a ∷ answers) step answer h e = absurd (omega arith)
+events_after_more (s ∷ steps) [] step answer h e = absurd (omega arith)
+events_after_more (s ∷ steps) (a ∷ answers) step answer h e = events_after_more steps answers step answer (answered s a h) (omega arith)
+
+pub are_answers_more : (members : ℕ) (steps : List ShareStep) (answers : List ShareAnswer) (step : ShareStep) (answer : ShareAnswer) (h : List Event) → length answers ≡ length steps →
+    AreAnswers members steps answers h → IsAnswer members step answer (events_after steps answers h) → AreAnswers members (steps ++ step ∷ []) (answers ++ answer ∷ []) h
+are_answers_more members [] [] step answer h e are is = (is, tt)
+are_answers_more members [] (a ∷ answers) step answer h e are is = absurd (omega arith)
+are_answers_more members (s ∷ steps) [] step answer h e are is = absurd (omega arith)
+are_answers_more members (s ∷ steps) (a ∷ answers) step answer h e are is = (are.0, are_answers_more members steps answers step answer (answered s a h) (omega arith) are.1 is)

@@ -1,0 +1,3 @@
+pub mod OneQueue
+pub mod PlainKeeps
+pub mod CallRuns

@@ -1,0 +1,26 @@
+use Rattle.std.proofs.Common.{arith, ◌<◌, ◌≡◌, ◌∙◌, sym, ap, true, Err}
+use Rattle.gomp_types.specs.Tests.{first_refusal, outcome}
+use Rattle.gomp_types.specs.Iterations.{loop_tests}
+use Rattle.gomp_types.specs.Pieces.{shape_of}
+use Rattle.gomp_share_plain.specs.declared.calls.ShareCall.{ShareCall}
+use Rattle.gomp_share_plain.specs.declared.calls.ShareCall.TheVariants.{Open}
+use Rattle.gomp_share_plain.specs.Runs.{may_make, Answers}
+use Rattle.gomp_share_plain.proofs.CallRuns.{made, open_fits}
+use Rattle.gomp_share_plain.proofs.calls.make_call.Goals as goal
+
+pub returns-in-Err-clause-answer : goal.returns-in-Err-clause-answer
+returns-in-Err-clause-answer g c =
+    let may : may_make c.look-seen.result (Open c.in-Open.desc) ≡ true = ap (may_make c.look-seen.result) (sym c.in-Open.is) ∙ sym c.may_make.ensures ∙ c.if-not-may_make.false in
+    absurd (open_fits c.look-seen.result c.in-Open.desc (shape_of c.in-Open.desc) c.in-Err.field-0 may (sym c.shape.ensures.shape ∙ c.in-Err.is))
+
+pub returns-in-Claim-clause-answer : goal.returns-in-Claim-clause-answer
+returns-in-Claim-clause-answer g c = λ h st.
+    let lt : c.args.step.now.member < g.S.Shares.members c.args.shares.now = rw c.requires (omega arith) in
+    let e = c.look-seen.ensures.value ∙ g.met.S.Shares.agrees c.args.shares.now h c.args.step.now.member st lt in
+    (made _ c.args.step.now c.look-seen.result h e (omega arith) (sym c.may_make.ensures ∙ c.if-not-may_make.false), rw c.in-Claim.is (rw c.requires at (c.claim.ensures.answer h st)))
+
+pub returns-in-Leave-clause-answer : goal.returns-in-Leave-clause-answer
+returns-in-Leave-clause-answer g c = λ h st.
+    let lt : c.args.step.now.member < g.S.Shares.members c.args.shares.now = rw c.requires (omega arith) in
+    let e = c.look-seen.ensures.value ∙ g.met.S.Shares.agrees c.args.shares.now h c.args.step.now.member st lt in
+    (made _ c.args.step.now c.look-seen.result h e (omega arith) (sym c.may_make.ensures ∙ c.if-not-may_make.false), rw c.in-Leave.is tt)

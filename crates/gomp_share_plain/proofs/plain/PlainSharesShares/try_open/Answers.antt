@@ -1,0 +1,106 @@
+use Rattle.std.proofs.Common.{◌≡◌, ◌%◌, ◌+◌, ◌<◌, ◌≤◌, ℕ, arith, rules, refl, ◌∙◌, sym, ap, subst, length, slice_get, not, true, false, Option, Some}
+use Rattle.std.specs.Prelude.{IsTrue}
+use Rattle.std.proofs.lemmas.List.{length-set}
+use Rattle.std.proofs.lemmas.Option.{slice_get_read}
+use Rattle.gomp_types.specs.Events.{has_room, shape_at, entered}
+use Rattle.gomp_types.specs.Refusals.{shape_differs}
+use Rattle.gomp_share_plain.specs.Calls.{CanOpen}
+use Rattle.gomp_share_plain.proofs.PlainKeeps.{enters, opens, told, known_by, place_is, known_place, same_here, differs_here, next_is, fresh, room_by, no_room, room_before, each_room, is_fair}
+use Rattle.gomp_share_plain.proofs.plain.PlainSharesShares.try_open.Goals as goal
+
+pub returns-then-not-is_same-clause-answer : goal.returns-then-not-is_same-clause-answer
+returns-then-not-is_same-clause-answer c = λ h st0.
+    let (can, st) = told _ _ c.args.member h (λ n seen. CanOpen n c.args.member c.args.shape.now seen) c.self.view_is c.requires c.requires.member st0 in
+    let at = slice_get_read c.self.inside.seats.items _ c.args.member c.index-seat.result.now refl can.member c.index-seat.ensures in
+    let eight = st.eight in
+    let within : c.index-seat.result.now.started % 8 < length c.self.inside.places = omega arith in
+    let there = place_is c.self.inside.places (c.index-seat.result.now.started % 8) _ within c.in-Some.is in
+    let here = known_place _ _ _ _ h c.args.member c.index-seat.result.now st at can.outside c.if-number-self.true in
+    let s = st.seat c.args.member _ at in
+    ap (λ n. shape_differs c.args.shape.now (shape_at n h)) s.started ∙ differs_here _ _ _ c.in-Some.share c.args.shape.now h here there ∙ ap not (sym c.is_same.ensures ∙ c.if-not-is_same.true)
+
+pub returns-then-number-self-clause-answer : goal.returns-then-number-self-clause-answer
+returns-then-number-self-clause-answer c = λ h st0.
+    let (can, st) = told _ _ c.args.member h (λ n seen. CanOpen n c.args.member c.args.shape.now seen) c.self.view_is c.requires c.requires.member st0 in
+    let at = slice_get_read c.self.inside.seats.items _ c.args.member c.index-seat.result.now refl can.member c.index-seat.ensures in
+    let eight = st.eight in
+    let within : c.index-seat.result.now.started % 8 < length c.self.inside.places = omega arith in
+    let there = place_is c.self.inside.places (c.index-seat.result.now.started % 8) _ within c.in-Some.is in
+    let here = known_place _ _ _ _ h c.args.member c.index-seat.result.now st at can.outside c.if-number-self.true in
+    let s = st.seat c.args.member _ at in
+    rw (← c.self.view_is) (
+      ap (λ n. shape_differs c.args.shape.now (shape_at n h)) s.started ∙ differs_here _ _ _ c.in-Some.share c.args.shape.now h here there ∙ ap not (sym c.is_same.ensures ∙ c.if-not-is_same.false),
+      subst (λ n. has_room (length c.self.inside.seats.items) n h ≡ true) (sym s.started) (room_before _ _ _ _ h c.index-seat.result.now.started st c.if-number-self.true),
+    )
+
+pub returns-then-number-self-clause-stands : goal.returns-then-number-self-clause-stands
+returns-then-number-self-clause-stands c = λ h st0.
+    let (can, st) = told _ _ c.args.member h (λ n seen. CanOpen n c.args.member c.args.shape.now seen) c.self.view_is c.requires c.requires.member st0 in
+    let at = slice_get_read c.self.inside.seats.items _ c.args.member c.index-seat.result.now refl can.member c.index-seat.ensures in
+    let eight = st.eight in
+    let within : c.index-seat.result.now.started % 8 < length c.self.inside.places = omega arith in
+    let there = place_is c.self.inside.places (c.index-seat.result.now.started % 8) _ within c.in-Some.is in
+    let here = known_place _ _ _ _ h c.args.member c.index-seat.result.now st at can.outside c.if-number-self.true in
+    let fair = is_fair _ _ c.args.member can.member can.valid c.fair_schedule.ensures in
+    rw (length-set c.self.inside.seats.items c.args.member _) (enters _ _ _ _ h c.args.member c.index-seat.result.now c.args.shape.now st at can.outside c.if-number-self.true can.valid fair
+    (same_here _ _ _ c.in-Some.share c.args.shape.now h here there (sym c.is_same.ensures ∙ c.if-not-is_same.false)))
+
+pub invariant_of-self : goal.invariant_of-self
+invariant_of-self c = let (h, st0) = known_by _ _ c.self.view_is c.self.invariant in (_, returns-then-number-self-clause-stands c h st0)
+
+pub returns-then-not-has_room-clause-answer : goal.returns-then-not-has_room-clause-answer
+returns-then-not-has_room-clause-answer c = λ h st0.
+    let (can, st) = told _ _ c.args.member h (λ n seen. CanOpen n c.args.member c.args.shape.now seen) c.self.view_is c.requires c.requires.member st0 in
+    let at = slice_get_read c.self.inside.seats.items _ c.args.member c.index-seat.result.now refl can.member c.index-seat.ensures in
+    let s = st.seat c.args.member _ at in
+    rw (← c.self.view_is) (
+      rw s.started (fresh c.args.shape.now _ _ _ _ h c.index-seat.result.now.started st c.if-number-self.false),
+      subst (λ n. has_room (length c.self.inside.seats.items) n h ≡ false) (sym s.started) (no_room _ _ _ _ h c.index-seat.result.now.started st (λ all.
+          let seats : c.deref.result.now ≡ c.self.inside.seats.items = c.deref.ensures.value in
+          let found : IsTrue c.has_room.result = c.has_room.ensures.1 (rw seats all) in
+          grind (arith, found, c.if-not-has_room.true))),
+    )
+
+pub overflow_add-self : goal.overflow_add-self
+overflow_add-self c =
+    let (h, st0) = known_by _ _ c.self.view_is c.self.invariant in
+    let (can, st) = told _ _ c.args.member h (λ n seen. CanOpen n c.args.member c.args.shape.now seen) c.self.view_is c.requires c.requires.member st0 in
+    let at = slice_get_read c.self.inside.seats.items _ c.args.member c.index-seat.result.now refl can.member c.index-seat.ensures in
+    let s = (st.seat c.args.member _ at).started in
+    let few = can.few in
+    omega arith
+
+pub overflow_add-number-2 : goal.overflow_add-number-2
+overflow_add-number-2 c =
+    let (h, st0) = known_by _ _ c.self.view_is c.self.invariant in
+    let (can, st) = told _ _ c.args.member h (λ n seen. CanOpen n c.args.member c.args.shape.now seen) c.self.view_is c.requires c.requires.member st0 in
+    let at = slice_get_read c.self.inside.seats.items _ c.args.member c.index-seat.result.now refl can.member c.index-seat.ensures in
+    let s = (st.seat c.args.member _ at).started in
+    let few = can.few in
+    omega arith
+
+pub returns-clause-answer : goal.returns-clause-answer
+returns-clause-answer c = λ h st0.
+    let (can, st) = told _ _ c.args.member h (λ n seen. CanOpen n c.args.member c.args.shape.now seen) c.self.view_is c.requires c.requires.member st0 in
+    let at = slice_get_read c.self.inside.seats.items _ c.args.member c.index-seat.result.now refl can.member c.index-seat.ensures in
+    let s = st.seat c.args.member _ at in
+    rw (← c.self.view_is) (
+      rw s.started (fresh c.args.shape.now _ _ _ _ h c.index-seat.result.now.started st c.if-number-self.false),
+      subst (λ n. has_room (length c.self.inside.seats.items) n h ≡ true) (sym s.started) (room_by _ _ _ _ h c.index-seat.result.now.started st (each_room _ _ (
+          let seats : c.deref.result.now ≡ c.self.inside.seats.items = c.deref.ensures.value in
+          rw seats at (c.has_room.ensures.0 (grind (arith, c.if-not-has_room.false)))))),
+    )
+
+pub returns-clause-stands : goal.returns-clause-stands
+returns-clause-stands c = λ h st0.
+    let (can, st) = told _ _ c.args.member h (λ n seen. CanOpen n c.args.member c.args.shape.now seen) c.self.view_is c.requires c.requires.member st0 in
+    let at = slice_get_read c.self.inside.seats.items _ c.args.member c.index-seat.result.now refl can.member c.index-seat.ensures in
+    let fair = is_fair _ _ c.args.member can.member can.valid c.fair_schedule.ensures in
+    let now = next_is _ _ _ _ h c.args.member c.index-seat.result.now st at c.if-number-self.false in
+    let all = each_room c.self.inside.seats.items c.index-seat.result.now.started (
+      let seats : c.deref.result.now ≡ c.self.inside.seats.items = c.deref.ensures.value in
+      rw seats at (c.has_room.ensures.0 (grind (arith, c.if-not-has_room.false)))) in
+    rw (length-set c.self.inside.seats.items c.args.member _, now) (opens _ _ _ _ h c.args.member c.index-seat.result.now c.args.shape.now st at can.outside now can.valid fair (rw now at all))
+
+pub invariant_of-self-2 : goal.invariant_of-self-2
+invariant_of-self-2 c = let (h, st0) = known_by _ _ c.self.view_is c.self.invariant in (_, returns-clause-stands c h st0)

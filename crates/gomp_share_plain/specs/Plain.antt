@@ -1,0 +1,68 @@
+-- What the plain shares keep of the events: the representation, and when it stands for a list of events. (own)
+use Rattle.std.specs.Prelude.{ℕ, ◌+◌, ◌%◌, ◌^◌, ◌<◌, ◌≤◌, ◌≡◌, nat_lt, List, [], ◌∷◌, Option, Some, None, length, slice_get, if◌then◌else◌, false}
+use Rattle.gomp_types.specs.declared.shape.Shape.{Shape}
+use Rattle.gomp_types.specs.declared.event.Event.{Event}
+use Rattle.gomp_types.specs.Values.{IsShape}
+use Rattle.gomp_types.specs.Events.{entered, open_share, has_ended, has_drained, shape_at}
+use Rattle.gomp_types.specs.Deals.{schedule, taken_in}
+use Rattle.gomp_types.specs.Rules.{Always, ShareRule}
+use Rattle.gomp_share_plain.specs.declared.Seen.{Seen}
+use Rattle.gomp_share_plain.specs.declared.plain.Seat.{Seat}
+use Rattle.gomp_share_plain.specs.declared.plain.OpenShare.{OpenShare}
+
+-- the fields, as data
+pub record PlainView : Type 0 where
+  pub seats : List Seat
+  pub opened : ℕ
+  pub places : List (Option OpenShare)
+
+-- a member's seat says what it entered and left, and it is near the newest share
+pub record SeatStands (m : ℕ) (seat : Seat) (opened : ℕ) (h : List Event) : Type 0 where
+  pub started : entered m h ≡ seat.started
+  pub ended : (i : ℕ) → has_ended i m h ≡ nat_lt i seat.ended
+  pub drained : has_drained m h ≡ seat.drained
+  pub in_order : seat.ended ≤ seat.started
+  pub one : seat.started ≤ seat.ended + 1
+  pub known : seat.started ≤ opened
+  pub near : opened ≤ seat.ended + 8
+  pub outside : seat.started ≡ seat.ended → open_share m h ≡ None
+  pub inside : seat.started ≡ seat.ended + 1 → (shape : Shape) × (open_share m h ≡ Some (seat.ended, shape)) × (shape_at seat.ended h ≡ Some shape)
+
+-- how many pieces were taken of those that are the member's to take
+abbrev pub taken_for : ℕ → Shape → ℕ → ℕ → List Event → ℕ
+taken_for members shape share m h = taken_in ((schedule members).queue_of shape) share ((schedule members).queue_of shape m) h
+
+-- the place of a share has its shape, and how many pieces were taken from the one queue of all members
+pub record PlaceStands (members i : ℕ) (place : Option (Option OpenShare)) (h : List Event) : Type 0 where
+  pub share : OpenShare
+  pub there : place ≡ Some (Some share)
+  pub shape : shape_at i h ≡ Some share.shape
+  pub taken_is : (m : ℕ) → taken_for members share.shape i m h ≡ share.taken
+  pub valid : IsShape share.shape
+
+pub record StandsFor (members : ℕ) (seats : List Seat) (opened : ℕ) (places : List (Option OpenShare)) (h : List Event) : Type 0 where
+  pub size : length seats ≡ members
+  pub team : members < 2 ^ 16
+  pub eight : length places ≡ 8
+  pub seat : (m : ℕ) (seat : Seat) → slice_get seats m ≡ Some seat → SeatStands m seat opened h
+  pub place : (i : ℕ) → i < opened → opened ≤ i + 8 → PlaceStands members i (slice_get places (i % 8)) h
+  pub beyond : (i : ℕ) → opened ≤ i → (shape_at i h ≡ None) × ((queue_of : ℕ → ℕ) (q : ℕ) → taken_in queue_of i q h ≡ 0)
+  pub rule : Always (ShareRule (schedule members) members) h
+
+-- the share at a place
+abbrev pub share_there : ℕ → Option (Option OpenShare) → Option (ℕ × Shape)
+share_there i (Some (Some share)) = Some (i, share.shape)
+share_there i (Some None) = None
+share_there i None = None
+
+-- what a member sees of its place
+abbrev pub seat_seen : List (Option OpenShare) → Option Seat → Seen
+seat_seen places None = record { entered = 0; current = None; drained = false }
+seat_seen places (Some seat) = record {
+  entered = seat.started;
+  current = if nat_lt seat.ended seat.started then share_there seat.ended (slice_get places (seat.ended % 8)) else None;
+  drained = seat.drained;
+}
+
+abbrev pub plain_seen : List Seat → List (Option OpenShare) → ℕ → Seen
+plain_seen seats places m = seat_seen places (slice_get seats m)

@@ -1,0 +1,176 @@
+//! The work-shares of a team that one thread steps: a seat for each member, and a place for each
+//! of the eight shares that may be open.
+
+ghost use Rattle.std.specs.Prelude.{◌≡◌, ◌<◌, ◌+◌, ◌%◌, ◌↔◌, IsTrue, All, length, slice_get};
+ghost use Rattle.gomp_share_plain.specs.Plain.{StandsFor, plain_seen, share_there};
+ghost use Rattle.gomp_share_plain.specs.PlainLaws.{plain_aside, plain_agrees};
+
+use crate::{Opening, Seen, Shares};
+use gomp_chunks::Plan;
+use gomp_types::Shape;
+use gomp_types::laws;
+use std::alloc::{AllocError, Global};
+use std::marker::Model;
+
+/// A member's place among the shares.
+#[derive(Clone, Copy, Debug)]
+pub struct Seat {
+    /// How many shares it has entered.
+    started: u64,
+    /// How many of them it has left; the share that it is in has this number.
+    ended: u64,
+    /// Whether it was told that nothing is left of the last.
+    drained: bool,
+}
+
+/// A share that some member may still be in.
+#[derive(Clone, Copy, Debug)]
+pub struct OpenShare {
+    shape: Shape,
+    /// How many of its pieces were taken.
+    taken: u64,
+}
+
+/// The work-shares of a team, for one thread. Share `i` lies at place `i % 8` until share `i + 8`
+/// is opened. After `make` no call takes memory.
+#[derive(Debug, Drop)]
+pub struct PlainShares {
+    seats: Vec<Seat>,
+    /// How many shares were ever opened.
+    opened: u64,
+    places: [Option<OpenShare>; 8],
+}
+
+impl Model for PlainShares {
+    ghost use Rattle.std.specs.Prelude.{List, length};
+    ghost use Rattle.gomp_types.specs.declared.event.Event.{Event};
+    ghost use Rattle.gomp_share_plain.specs.Plain.{PlainView, StandsFor};
+
+    ghost Value = { PlainView };
+
+    ghost view = { λ s. record { seats = s.seats.items; opened = s.opened; places = s.places } };
+
+    ghost invariant = { λ s. (h : List Event) × StandsFor (length s.seats.items) s.seats.items s.opened s.places h };
+}
+
+impl Shares for PlainShares {
+    ghost members = { λ shares. length shares.seats };
+
+    ghost seen = { λ shares m. plain_seen shares.seats shares.places m };
+
+    ghost stands = { λ shares h. StandsFor (length shares.seats) shares.seats shares.opened shares.places h };
+
+    ghost aside = { λ shares h event. plain_aside (length shares.seats) shares.seats shares.opened shares.places h event };
+
+    ghost agrees = { λ shares h m. plain_agrees (length shares.seats) shares.seats shares.opened shares.places h m };
+
+    ghost ruled = { λ shares h stands. stands.rule };
+
+    fn make(alloc: Global, count: u16) -> Result<Self, AllocError> {
+        let seat = Seat {
+            started: 0,
+            ended: 0,
+            drained: false,
+        };
+        Ok(PlainShares {
+            seats: vec![in alloc; seat; count as usize]?,
+            opened: 0,
+            places: [None; 8],
+        })
+    }
+
+    fn look(&self, member: u16) -> Seen {
+        let seat = self.seats[member as usize];
+        let current = if seat.ended < seat.started {
+            share_at(&self.places, seat.ended)
+        } else {
+            None
+        };
+        Seen {
+            entered: seat.started,
+            current,
+            drained: seat.drained,
+        }
+    }
+
+    fn try_open(&mut self, member: u16, shape: &Shape) -> Opening {
+        laws::fair_schedule();
+        let seat = self.seats[member as usize];
+        let number = seat.started;
+        let place = (number % 8) as usize;
+        if number < self.opened {
+            let Some(share) = self.places[place] else {
+                return Opening::Differs;
+            };
+            if !share.shape.is_same(shape) {
+                return Opening::Differs;
+            }
+            self.seats[member as usize] = Seat {
+                started: number + 1,
+                ended: seat.ended,
+                drained: false,
+            };
+            return Opening::Entered;
+        }
+        if !has_room(&self.seats, number) {
+            return Opening::NotYet;
+        }
+        self.places[place] = Some(OpenShare {
+            shape: *shape,
+            taken: 0,
+        });
+        self.opened = number + 1;
+        self.seats[member as usize] = Seat {
+            started: number + 1,
+            ended: seat.ended,
+            drained: false,
+        };
+        Opening::Entered
+    }
+
+    fn claim(&mut self, member: u16) -> Option<(u64, u64)> {
+        let seat = self.seats[member as usize];
+        let place = (seat.ended % 8) as usize;
+        let Some(share) = self.places[place] else {
+            return None;
+        };
+        let plan = Plan::of(&share.shape, self.seats.len() as u16);
+        let Some(piece) = plan.chunk(share.taken) else {
+            self.seats[member as usize] = Seat {
+                started: seat.started,
+                ended: seat.ended,
+                drained: true,
+            };
+            return None;
+        };
+        self.places[place] = Some(OpenShare {
+            shape: share.shape,
+            taken: share.taken + 1,
+        });
+        Some(piece)
+    }
+
+    fn leave(&mut self, member: u16) {
+        laws::told_none();
+        self.seats[member as usize].ended += 1;
+    }
+}
+
+/// Whether every member has left the share eight before this one.
+fn has_room(seats: &[Seat], number: u64) -> bool
+    ensures { IsTrue result ↔ All (λ seat. number < seat.ended + 8) seats.now }
+{
+    seats
+        .iter()
+        .all(|seat| number < 8 || number - 8 < seat.ended)
+}
+
+/// The share of this number, which lies at its place.
+fn share_at(places: &[Option<OpenShare>; 8], number: u64) -> Option<(u64, Shape)>
+    ensures { result ≡ share_there number (slice_get places.now (number % 8)) }
+{
+    match places[(number % 8) as usize] {
+        Some(share) => Some((number, share.shape)),
+        None => None,
+    }
+}
