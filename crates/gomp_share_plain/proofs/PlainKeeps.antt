@@ -1,6 +1,6 @@
 -- Each call keeps the plain shares in step with the events.
 use Rattle.std.proofs.Common.{◌≡◌, ◌≢◌, ℕ, ◌+◌, ◌-◌, ◌%◌, ◌^◌, ◌<◌, ◌≤◌, suc, zero, Bool, true, false, nat_lt, List, [], ◌∷◌, length, get_or, slice_get, slice_set, Some, None, ◌⊎◌, inl, inr, refl, ap, ◌∙◌, sym, subst, arith, replicate}
-use Rattle.std.specs.Prelude.{Option, not, ◌==◌, ◌||◌, if◌then◌else◌, All, is_some}
+use Rattle.std.specs.Prelude.{Option, not, ◌==◌, ◌||◌, if◌then◌else◌, All, is_some, IfSome}
 use Rattle.std.proofs.lemmas.Bool.Decides.{nat_tests, eqb_tells, leb_tells}
 use Rattle.std.proofs.lemmas.Bool.{cases_Bool}
 use Rattle.std.proofs.lemmas.List.{length-set, get_or-replicate, length-replicate}
@@ -8,7 +8,7 @@ use Rattle.std.proofs.lemmas.Option.{slice_get-get_or, slice_get_within, get_or_
 use Rattle.gomp_types.specs.declared.shape.Shape.{Shape}
 use Rattle.gomp_types.specs.declared.event.Event.{Event}
 use Rattle.gomp_types.specs.declared.event.Event.TheVariants.{Enter, Take, Drained, End}
-use Rattle.gomp_types.specs.Pieces.{Piece, pieces_of}
+use Rattle.gomp_types.specs.Pieces.{Piece, Tiles, pieces_of}
 use Rattle.gomp_types.specs.Shapes.{same_shape}
 use Rattle.gomp_types.specs.Events.{entered, open_share, open_number, share_number, has_ended, has_drained, shape_at, is_inside, is_over, has_room}
 use Rattle.gomp_types.specs.Refusals.{shape_differs}
@@ -300,11 +300,28 @@ same_here members i place share shape h p e same = shape_here members i place sh
 
 -- Taking
 
+-- a piece of a list that tiles lies between its ends
+tiles_rise : (low high : ℕ) (pieces : List Piece) → Tiles low pieces high → low ≤ high
+tiles_rise low high [] tiles = omega arith
+tiles_rise low high (piece ∷ pieces) tiles = let rest = tiles_rise piece.1 high pieces tiles.2 in let some = tiles.1 in omega arith
+
+piece_within : (low high : ℕ) (pieces : List Piece) (n : ℕ) (piece : Piece) → Tiles low pieces high → slice_get pieces n ≡ Some piece → (piece.0 < piece.1) × (piece.1 ≤ high)
+piece_within low high [] n piece tiles at = absurd (cc)
+piece_within low high (first ∷ pieces) zero piece tiles at =
+    let same : first ≡ piece = let t = at in cc in
+    let begin = tiles.0 in let some = tiles.1 in let rest = tiles_rise first.1 high pieces tiles.2 in
+    rw (← same) (omega arith, rest)
+piece_within low high (first ∷ pieces) (suc n) piece tiles at = piece_within first.1 high pieces n piece tiles.2 at
+
+answer_within : (low high : ℕ) (pieces : List Piece) (n : ℕ) (answer : Option Piece) → Tiles low pieces high → answer ≡ slice_get pieces n → IfSome answer (λ piece. (piece.0 < piece.1) × (piece.1 ≤ high))
+answer_within low high pieces n None tiles is = tt
+answer_within low high pieces n (Some piece) tiles is = piece_within low high pieces n piece tiles (sym is)
+
 -- what the member may take
 pub piece_at : (members : ℕ) (seats : List Seat) (count : ℕ) (places : List (Option OpenShare)) (h : List Event) (m : ℕ) (seat : Seat) (share : OpenShare) (answer : Option Piece) →
     StandsFor members seats count places h → slice_get seats m ≡ Some seat → is_inside m h ≡ true → slice_get places (seat.ended % 8) ≡ Some (Some share) →
-    answer ≡ slice_get (pieces_of members share.shape) share.taken → Claims members m answer h
-piece_at members seats count places h m seat share answer st at within found is =
+    answer ≡ slice_get (pieces_of members share.shape) share.taken → Tiles 0 (pieces_of members share.shape) share.shape.trips → Claims members m answer h
+piece_at members seats count places h m seat share answer st at within found is tiles =
     let s : SeatStands m seat count h = st.seat m seat at in
     let p = own_place members seats count places h m seat st at within in
     let same = here_is members seat.ended (slice_get places (seat.ended % 8)) share h p found in
@@ -317,6 +334,7 @@ piece_at members seats count places h m seat share answer st at within found is 
       there = own.1 ∙ ap (λ (v : Shape). Some (seat.ended, v)) shape;
       valid = here_valid members seat.ended (slice_get places (seat.ended % 8)) share h p found;
       least = is ∙ ap (slice_get (pieces_of members share.shape)) (sym count_is) ∙ sym (next_piece members share.shape seat.ended m h);
+      within = answer_within 0 share.shape.trips (pieces_of members share.shape) share.taken answer tiles is;
     }
 
 take_rule : (members m : ℕ) (piece : Piece) (h : List Event) → Claims members m (Some piece) h → MayTake (schedule members) (open_number m h) m piece.0 piece.1 h

@@ -1,5 +1,5 @@
 -- What the calls on a team's work-shares ask, answer and add to the events. The newest event stands first. OpenMP API 5.2, chapter 11.
-use Rattle.std.specs.Prelude.{ℕ, ◌<◌, ◌≡◌, ◌^◌, true, false, List, [], ◌∷◌, Option, Some, None, is_some}
+use Rattle.std.specs.Prelude.{ℕ, ◌<◌, ◌≤◌, ◌≡◌, ◌^◌, true, false, List, [], ◌∷◌, Option, Some, None, is_some, IfSome}
 use Rattle.gomp_types.specs.declared.shape.Shape.{Shape}
 use Rattle.gomp_types.specs.declared.event.Event.{Event}
 use Rattle.gomp_types.specs.declared.event.Event.TheVariants.{Enter, Take, Drained, End, Arrive, Pass, Break}
@@ -47,6 +47,7 @@ pub record Claims (members m : ℕ) (answer : Option Piece) (h : List Event) : T
   pub there : open_share m h ≡ Some share
   pub valid : IsShape share.1
   pub least : answer ≡ next_for (schedule members) share.1 share.0 m h
+  pub within : IfSome answer (λ piece. (piece.0 < piece.1) × (piece.1 ≤ share.1.trips))
 
 abbrev pub claimed : ℕ → Option Piece → List Event → List Event
 claimed m (Some piece) h = Take (open_number m h) m piece.0 piece.1 ∷ h

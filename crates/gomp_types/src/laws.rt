@@ -4,7 +4,7 @@
 //! proved by the gate, which the crates above have by calling it. No program state stands behind
 //! them, so whatever body answers as the definitions say keeps these laws.
 
-ghost use Rattle.std.specs.Prelude.{ℕ, List, Some, None, true, ◌<◌, ◌≡◌};
+ghost use Rattle.std.specs.Prelude.{ℕ, List, Some, None, true, pos, ◌<◌, ◌≡◌, ◌≢◌};
 ghost use Rattle.gomp_types.specs.declared.call.Step.{Step};
 ghost use Rattle.gomp_types.specs.declared.reply.Reply.{Reply};
 ghost use Rattle.gomp_types.specs.declared.event.Event.{Event};
@@ -12,7 +12,7 @@ ghost use Rattle.gomp_types.specs.Record.{Record, events};
 ghost use Rattle.gomp_types.specs.Causes.{Terms, MayAnswer, Caused, OneReply};
 ghost use Rattle.gomp_types.specs.declared.shape.Shape.{Shape};
 ghost use Rattle.gomp_types.specs.Pieces.{pieces_of, Tiles};
-ghost use Rattle.gomp_types.specs.Values.{IsShape};
+ghost use Rattle.gomp_types.specs.Values.{IsShape, value_at, iteration_at};
 ghost use Rattle.gomp_types.specs.Deals.{Deal, IsDealt, schedule, next_for};
 ghost use Rattle.gomp_types.specs.Events.{open_share, has_drained};
 ghost use Rattle.gomp_types.specs.Rules.{Always, ShareRule};
@@ -30,6 +30,12 @@ pub fn headline()
 /// At most one reply to a step has its cause after a record, want of memory aside.
 pub fn one_reply()
     ensures { (terms : Terms) → (run : Record) → (step : Step) → (one : Reply) → (other : Reply) → MayAnswer terms run step one → MayAnswer terms run step other → OneReply one other }
+{
+}
+
+/// An iteration's value tells its number.
+pub fn values_tell()
+    ensures { (shape : Shape) → (k : ℕ) → shape.incr ≢ pos 0 → iteration_at shape (value_at shape k) ≡ k }
 {
 }
 
