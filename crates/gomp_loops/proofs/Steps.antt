@@ -1,0 +1,161 @@
+-- What a member sees, and the piece that it was given, in the words of the events.
+use Rattle.std.proofs.Common.{◌≡◌, ℕ, ◌+◌, ◌-◌, ◌<◌, ◌≤◌, Bool, true, false, List, [], ◌∷◌, ◌++◌, Option, Some, None, Ok, refl, ap, ◌∙◌, sym, subst, arith}
+use Rattle.std.proofs.lemmas.Bool.Decides.{nat_tests}
+use Rattle.std.specs.Prelude.{ℤ, pos, ◌≢◌, ◌==◌, nat_le, is_some, IfSome}
+use Rattle.gomp_types.specs.declared.call.Call.TheVariants.{LoopStart, LoopNext}
+use Rattle.gomp_types.specs.declared.loop_desc.LoopDesc.{LoopDesc}
+use Rattle.gomp_types.specs.declared.loop_desc.EndKind.{EndKind}
+use Rattle.gomp_types.specs.declared.limits.Limits.{Limits}
+use Rattle.gomp_types.specs.declared.refusal.Refusal.{Refusal}
+use Rattle.gomp_types.specs.declared.refusal.Refusal.TheVariants.{InsideShare, TooManyShares, Mismatch}
+use Rattle.gomp_types.specs.declared.shape.Shape.{Shape}
+use Rattle.gomp_types.specs.declared.event.Event.{Event}
+use Rattle.gomp_types.specs.declared.event.Event.TheVariants.{Enter}
+use Rattle.gomp_types.specs.Tests.{Test, first_refusal, outcome}
+use Rattle.gomp_types.specs.Iterations.{loop_tests}
+use Rattle.gomp_types.specs.Pieces.{Piece, shape_of}
+use Rattle.gomp_types.specs.Values.{IsShape, value_at, iteration_at}
+use Rattle.gomp_types.specs.Events.{entered, open_share, has_drained, shape_at, has_room}
+use Rattle.gomp_types.specs.Record.{added}
+use Rattle.gomp_types.specs.Refusals.{end_tests, call_tests, shape_differs}
+use Rattle.gomp_types.specs.Replies.{DealsOut}
+use Rattle.gomp_share_plain.specs.declared.Seen.{Seen}
+use Rattle.gomp_share_plain.specs.Calls.{seen_of, Claims, claimed}
+use Rattle.gomp_loops.specs.OwnTests.{start_tests as own_start_tests, next_tests as own_next_tests, end_tests as own_end_tests}
+use Rattle.gomp_loops.specs.Answers.{reply_of, IsReply}
+
+-- The tests
+
+pub end_is : (kind : EndKind) (m : ℕ) (seen : Seen) (h : List Event) (found : Option Refusal) → seen ≡ seen_of m h → found ≡ first_refusal (own_end_tests kind seen) → first_refusal (end_tests kind m h) ≡ found
+end_is kind m seen h found e is = sym (is ∙ ap (λ (s : Seen). first_refusal (own_end_tests kind s)) e)
+
+pub next_is : (limits : Limits) (m : ℕ) (seen : Seen) (h : List Event) (found : Option Refusal) → seen ≡ seen_of m h → found ≡ first_refusal (own_next_tests seen) → first_refusal (call_tests limits m LoopNext h) ≡ found
+next_is limits m seen h found e is = sym (is ∙ ap (λ (s : Seen). first_refusal (own_next_tests s)) e)
+
+-- of tests in a row the first of the front, and else of the rest
+front_holds : (tests more : List Test) (refusal : Refusal) → first_refusal tests ≡ Some refusal → first_refusal (tests ++ more) ≡ Some refusal
+front_holds [] more refusal e = absurd (cc)
+front_holds ((true, found) ∷ tests) more refusal e = e
+front_holds ((false, found) ∷ tests) more refusal e = front_holds tests more refusal e
+
+front_fails : (tests more : List Test) → first_refusal tests ≡ None → first_refusal (tests ++ more) ≡ first_refusal more
+front_fails [] more e = refl
+front_fails ((true, found) ∷ tests) more e = absurd (cc)
+front_fails ((false, found) ∷ tests) more e = front_fails tests more e
+
+-- a start whose own tests fail is refused only where the shares differ
+pub start_refused : (limits : Limits) (m : ℕ) (loop : LoopDesc) (seen : Seen) (h : List Event) (refusal : Refusal) → seen ≡ seen_of m h → Some refusal ≡ first_refusal (own_start_tests limits seen loop) →
+    first_refusal (call_tests limits m (LoopStart loop) h) ≡ Some refusal
+start_refused limits m loop seen h refusal e is =
+    front_holds (own_start_tests limits (seen_of m h) loop) ((shape_differs (shape_of loop) (shape_at (entered m h) h), Mismatch) ∷ []) refusal
+    (sym (is ∙ ap (λ (s : Seen). first_refusal (own_start_tests limits s loop)) e))
+
+pub start_compared : (limits : Limits) (m : ℕ) (loop : LoopDesc) (seen : Seen) (h : List Event) → seen ≡ seen_of m h → None ≡ first_refusal (own_start_tests limits seen loop) →
+    first_refusal (call_tests limits m (LoopStart loop) h) ≡ first_refusal ((shape_differs (shape_of loop) (shape_at (entered m h) h), Mismatch) ∷ [])
+start_compared limits m loop seen h e is =
+    front_fails (own_start_tests limits (seen_of m h) loop) ((shape_differs (shape_of loop) (shape_at (entered m h) h), Mismatch) ∷ [])
+    (sym (is ∙ ap (λ (s : Seen). first_refusal (own_start_tests limits s loop)) e))
+
+-- a start whose own tests fail is outside of every share
+head_fails : (test : Bool) (refusal : Refusal) (tests : List Test) → first_refusal ((test, refusal) ∷ tests) ≡ None → test ≡ false
+head_fails true refusal tests e = absurd (cc)
+head_fails false refusal tests e = refl
+
+pub start_outside : (limits : Limits) (seen : Seen) (loop : LoopDesc) → first_refusal (own_start_tests limits seen loop) ≡ None → is_some seen.current ≡ false
+start_outside limits seen loop e = head_fails (is_some seen.current) InsideShare (loop_tests loop ++ (nat_le limits.shares seen.entered, TooManyShares) ∷ []) e
+
+-- the shape that a loop was found to have
+pub outcome_value : {A : Type 0} (first : Option Refusal) (value found : A) → outcome first value ≡ Ok found → found ≡ value
+outcome_value None value found e = cc
+outcome_value (Some refusal) value found e = absurd (cc)
+
+-- Replies
+
+-- a next whose tests fail is answered what the share deals out
+pub next_reply : (limits : Limits) (members m i : ℕ) (shape : Shape) (answer : Option Piece) (h : List Event) → open_share m h ≡ Some (i, shape) → first_refusal (call_tests limits m LoopNext h) ≡ None →
+    DealsOut members m (Some (i, shape)) (reply_of shape answer) h → IsReply limits members m LoopNext (reply_of shape answer) h
+next_reply limits members m i shape None h there none dealt = (none, rw there dealt)
+next_reply limits members m i shape (Some piece) h there none dealt = (none, rw there dealt)
+
+-- and so is a start, where there is room
+pub start_reply : (limits : Limits) (members m : ℕ) (loop : LoopDesc) (answer : Option Piece) (h : List Event) → first_refusal (call_tests limits m (LoopStart loop) h) ≡ None → has_room members (entered m h) h ≡ true →
+    DealsOut members m (Some (entered m h, shape_of loop)) (reply_of (shape_of loop) answer) h → IsReply limits members m (LoopStart loop) (reply_of (shape_of loop) answer) h
+start_reply limits members m loop None h none room dealt = (none, (room, dealt))
+start_reply limits members m loop (Some piece) h none room dealt = (none, (room, dealt))
+
+-- what the comparison with the team's share gives
+pub compared : (test : Bool) → test ≡ false → first_refusal ((test, Mismatch) ∷ []) ≡ None
+compared test e = rw e refl
+
+-- Pieces
+
+-- an iteration's value tells its number
+abbrev pub ValuesTell : Type 0
+ValuesTell = (shape : Shape) (k : ℕ) → shape.incr ≢ pos 0 → iteration_at shape (value_at shape k) ≡ k
+
+-- the share of a claim is the one that the member is in
+pub claim_here : (members m i : ℕ) (shape : Shape) (answer : Option Piece) (h : List Event) → open_share m h ≡ Some (i, shape) → (claims : Claims members m answer h) → claims.share ≡ (i, shape)
+claim_here members m i shape answer h there claims =
+    let both : Some claims.share ≡ Some (i, shape) = sym claims.there ∙ there in cc
+
+pub claim_valid : (members m i : ℕ) (shape : Shape) (answer : Option Piece) (h : List Event) → open_share m h ≡ Some (i, shape) → Claims members m answer h → IsShape shape
+claim_valid members m i shape answer h there claims =
+    let same = claim_here members m i shape answer h there claims in
+    let one : claims.share.1 ≡ shape = ap (λ (p : ℕ × Shape). p.1) same in
+    rw (← one) claims.valid
+
+pub claim_within : (members m i : ℕ) (shape : Shape) (answer : Option Piece) (h : List Event) → open_share m h ≡ Some (i, shape) → Claims members m answer h →
+    (piece : Piece) → answer ≡ Some piece → (piece.0 < piece.1) × (piece.1 ≤ shape.trips)
+claim_within members m i shape answer h there claims piece is =
+    let same = claim_here members m i shape answer h there claims in
+    let one : claims.share.1 ≡ shape = ap (λ (p : ℕ × Shape). p.1) same in
+    let within : (piece.0 < piece.1) × (piece.1 ≤ claims.share.1.trips) = rw is at claims.within in
+    rw (← one) within
+
+-- the reply is what the share deals out
+deals_by : (members m : ℕ) (share : ℕ × Shape) (answer : Option Piece) (h : List Event) (claims : Claims members m answer h) → claims.share ≡ share → DealsOut members m (Some share) (reply_of share.1 answer) h
+deals_by members m share None h claims same = subst (λ (s : ℕ × Shape). DealsOut members m (Some s) (reply_of s.1 None) h) same (sym claims.least)
+deals_by members m share (Some piece) h claims same =
+    subst (λ (s : ℕ × Shape). DealsOut members m (Some s) (reply_of s.1 (Some piece)) h) same
+    (rw (← claims.least) (refl, (let within = claims.within.0 in omega arith)))
+
+pub deals : (members m i : ℕ) (shape : Shape) (answer : Option Piece) (h : List Event) → open_share m h ≡ Some (i, shape) → Claims members m answer h → DealsOut members m (Some (i, shape)) (reply_of shape answer) h
+deals members m i shape answer h there claims = deals_by members m (i, shape) answer h claims (claim_here members m i shape answer h there claims)
+
+-- and it adds what the shares add
+pub next_adds : (members m i shares : ℕ) (shape : Shape) (answer : Option Piece) (h : List Event) → ValuesTell → open_share m h ≡ Some (i, shape) → Claims members m answer h →
+    added false m shares (reply_of shape answer) LoopNext h ≡ claimed m answer h
+next_adds members m i shares shape None h tell there claims = refl
+next_adds members m i shares shape (Some piece) h tell there claims =
+    let valid = claim_valid members m i shape (Some piece) h there claims in
+    let within = claim_within members m i shape (Some piece) h there claims piece refl in
+    let some = within.0 in
+    let back : piece.0 + (piece.1 - piece.0) ≡ piece.1 = omega arith in
+    rw (there, tell shape piece.0 valid.moves, back) refl
+
+-- A start
+
+same_number : (n : ℕ) → (n == n) ≡ true
+same_number n = grind (arith, nat_tests)
+
+pub open_entered : (m i : ℕ) (shape : Shape) (h : List Event) → open_share m (Enter i m shape ∷ h) ≡ Some (i, shape)
+open_entered m i shape h = rw (same_number m) refl
+
+pub drained_entered : (m i : ℕ) (shape : Shape) (h : List Event) → has_drained m (Enter i m shape ∷ h) ≡ false
+drained_entered m i shape h = rw (same_number m) refl
+
+-- what is dealt out after an entry is dealt out before it
+pub start_deals : (members m i : ℕ) (shape : Shape) (answer : Option Piece) (h : List Event) → Claims members m answer (Enter i m shape ∷ h) → DealsOut members m (Some (i, shape)) (reply_of shape answer) h
+start_deals members m i shape None h claims = deals members m i shape None (Enter i m shape ∷ h) (open_entered m i shape h) claims
+start_deals members m i shape (Some piece) h claims = deals members m i shape (Some piece) (Enter i m shape ∷ h) (open_entered m i shape h) claims
+
+pub start_adds : (members m shares : ℕ) (loop : LoopDesc) (answer : Option Piece) (h : List Event) → ValuesTell → Claims members m answer (Enter shares m (shape_of loop) ∷ h) →
+    added false m shares (reply_of (shape_of loop) answer) (LoopStart loop) h ≡ claimed m answer (Enter shares m (shape_of loop) ∷ h)
+start_adds members m shares loop None h tell claims = rw (same_number m) refl
+start_adds members m shares loop (Some piece) h tell claims =
+    let there = open_entered m shares (shape_of loop) h in
+    let valid = claim_valid members m shares (shape_of loop) (Some piece) (Enter shares m (shape_of loop) ∷ h) there claims in
+    let within = claim_within members m shares (shape_of loop) (Some piece) (Enter shares m (shape_of loop) ∷ h) there claims piece refl in
+    let some = within.0 in
+    let back : piece.0 + (piece.1 - piece.0) ≡ piece.1 = omega arith in
+    rw (same_number m, tell (shape_of loop) piece.0 valid.moves, back) refl

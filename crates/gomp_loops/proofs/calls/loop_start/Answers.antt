@@ -1,0 +1,48 @@
+use Rattle.std.proofs.Common.{◌≡◌, ◌<◌, ◌^◌, ℕ, List, ◌∷◌, refl, ap, ◌∙◌, sym, arith, true, false, None}
+use Rattle.std.specs.Prelude.{is_some}
+use Rattle.gomp_types.specs.declared.shape.Shape.{Shape}
+use Rattle.gomp_types.specs.declared.event.Event.{Event}
+use Rattle.gomp_types.specs.declared.event.Event.TheVariants.{Enter}
+use Rattle.gomp_types.specs.Tests.{first_refusal}
+use Rattle.gomp_types.specs.Iterations.{loop_tests}
+use Rattle.gomp_types.specs.Pieces.{shape_of}
+use Rattle.gomp_types.specs.Values.{IsShape}
+use Rattle.gomp_types.specs.Events.{entered}
+use Rattle.gomp_share_plain.specs.declared.Seen.{Seen}
+use Rattle.gomp_share_plain.specs.Calls.{seen_of}
+use Rattle.gomp_loops.specs.OwnTests.{start_tests}
+use Rattle.gomp_loops.proofs.Steps.{start_outside, outcome_value, open_entered, drained_entered, start_adds}
+use Rattle.gomp_loops.proofs.calls.loop_start.Goals as goal
+
+pub try_open-requires : goal.try_open-requires
+try_open-requires g c =
+    let is : c.in-Ok.shape ≡ shape_of c.args.desc.now = outcome_value (first_refusal (loop_tests c.args.desc.now)) _ _ (sym c.shape.ensures.shape ∙ c.in-Ok.is) in
+    let valid : IsShape c.in-Ok.shape = rw is c.in-Ok.ensures.fits in
+    let out : is_some c.look-seen.result.current ≡ false = start_outside c.args.limits.now c.look-seen.result c.args.desc.now (sym c.start_refusal.ensures.first ∙ c.in_default.is) in
+    let few : c.look-seen.result.entered < 2 ^ 32 = c.in_default.ensures.few in
+    record {
+      member = c.requires;
+      valid = valid;
+      outside = rw (← c.look-seen.ensures.value) out;
+      few = rw (← c.look-seen.ensures.value) (omega arith);
+    }
+
+pub claim-requires : goal.claim-requires
+claim-requires g c =
+    let (h, st) = c.in-Entered.ensures.known in
+    let now = c.in-Entered.ensures.stands h st in
+    let lt : c.args.member < g.S.Shares.members c.try_open.new.self = rw c.try_open.ensures.members c.requires in
+    let e = g.met.S.Shares.agrees c.try_open.new.self _ c.args.member now lt in
+    record {
+      member = lt;
+      inside = rw (e, open_entered c.args.member (entered c.args.member h) c.in-Ok.shape h) refl;
+      more = rw e (drained_entered c.args.member (entered c.args.member h) c.in-Ok.shape h);
+    }
+
+pub returns-in-Entered-clause-stands : goal.returns-in-Entered-clause-stands
+returns-in-Entered-clause-stands g c = λ h st.
+    let is : c.in-Ok.shape ≡ shape_of c.args.desc.now = outcome_value (first_refusal (loop_tests c.args.desc.now)) _ _ (sym c.shape.ensures.shape ∙ c.in-Ok.is) in
+    let now = c.in-Entered.ensures.stands h st in
+    let claims = rw is at (c.claim.ensures.answer _ now) in
+    let adds = start_adds _ c.args.member (entered c.args.member h) c.args.desc.now c.claim.result h c.values_tell.ensures claims in
+    rw (c.piece_reply.ensures, is, adds) (rw is at (c.claim.ensures.stands _ now))

@@ -1,0 +1,124 @@
+//! The calls of libgomp's loops, over any body of the shares.
+
+ghost use Rattle.std.specs.Prelude.{◌≡◌, ◌<◌, ℕ, List, false};
+ghost use Rattle.gomp_types.specs.declared.event.Event.{Event};
+ghost use Rattle.gomp_types.specs.declared.call.Call.TheVariants.{LoopStart, LoopNext, LoopEndNowait};
+ghost use Rattle.gomp_types.specs.declared.loop_desc.EndKind.TheVariants.{Wait as WaitEnd};
+ghost use Rattle.gomp_types.specs.declared.limits.Limits.{Limits};
+ghost use Rattle.gomp_types.specs.Tests.{first_refusal, outcome};
+ghost use Rattle.gomp_types.specs.Events.{entered};
+ghost use Rattle.gomp_types.specs.Record.{added};
+ghost use Rattle.gomp_types.specs.Refusals.{end_tests};
+ghost use Rattle.gomp_share_plain.specs.Calls.{EachStands, seen_of};
+ghost use Rattle.gomp_loops.specs.OwnTests.{own_tests};
+ghost use Rattle.gomp_loops.specs.Answers.{IsReply, left_unless};
+
+use crate::own::{end_refusal, next_refusal, own_refusal, piece_reply, start_refusal};
+use gomp_share_plain::{Opening, Shares};
+use gomp_types::{Call, EndKind, Limits, LoopDesc, Refusal, Reply, laws};
+
+/// Why the member may not make this call, by the tests of this crate: the first that holds.
+pub fn first_refusal<S: Shares>(
+    shares: &S,
+    member: u16,
+    limits: &Limits,
+    call: &Call,
+) -> Option<Refusal>
+    requires { member < S.members shares.now }
+    ensures known { (h : List Event) × S.stands shares.now h }
+    ensures first { EachStands (S.stands shares.now) (λ h. result ≡ first_refusal (own_tests limits.now (seen_of member h) call.now)) }
+{
+    let seen = shares.look(member);
+    own_refusal(&seen, limits, call)
+}
+
+/// Enters the member's next share for this loop, and answers the first chunk.
+///
+/// `Wait` where some member has not left the share eight before: the same call asks again.
+/// Refused with `InsideShare`, `ZeroStep`, `BadChunk`, `LoopTooLong`, `TooManyShares`, or with
+/// `Mismatch` where the loop differs from the team's.
+pub fn loop_start<S: Shares>(
+    shares: &mut S,
+    member: u16,
+    limits: &Limits,
+    desc: &LoopDesc,
+) -> Reply
+    requires { member < S.members shares.old }
+    ensures members { S.members shares.new ≡ S.members shares.old }
+    ensures known { (h : List Event) × S.stands shares.old h }
+    ensures answer { EachStands (S.stands shares.old) (IsReply limits.now (S.members shares.old) member (LoopStart desc.now) result) }
+    ensures stands { EachStands (S.stands shares.old) (λ h. S.stands shares.new (added false member (entered member h) result (LoopStart desc.now) h)) }
+{
+    laws::values_tell();
+    let seen = shares.look(member);
+    if let Some(refusal) = start_refusal(&seen, limits, desc) {
+        return Reply::Refused(refusal);
+    }
+    let shape = match desc.shape() {
+        Ok(shape) => shape,
+        Err(refusal) => return Reply::Refused(refusal),
+    };
+    match shares.try_open(member, &shape) {
+        Opening::Differs => Reply::Refused(Refusal::Mismatch),
+        Opening::NotYet => Reply::Wait,
+        Opening::Entered => piece_reply(&shape, shares.claim(member)),
+    }
+}
+
+/// Answers the next chunk of the member's loop, `NoChunk` where none is left for it.
+///
+/// Refused with `OutsideShare` or `Drained`.
+pub fn loop_next<S: Shares>(shares: &mut S, member: u16) -> Reply
+    requires { member < S.members shares.old }
+    ensures members { S.members shares.new ≡ S.members shares.old }
+    ensures known { (h : List Event) × S.stands shares.old h }
+    ensures answer { (limits : Limits) → EachStands (S.stands shares.old) (IsReply limits (S.members shares.old) member LoopNext result) }
+    ensures stands { EachStands (S.stands shares.old) (λ h. S.stands shares.new (added false member (entered member h) result LoopNext h)) }
+{
+    laws::values_tell();
+    let seen = shares.look(member);
+    if let Some(refusal) = next_refusal(&seen) {
+        return Reply::Refused(refusal);
+    }
+    let Some((_, shape)) = seen.current else {
+        return Reply::Refused(Refusal::OutsideShare);
+    };
+    piece_reply(&shape, shares.claim(member))
+}
+
+/// Leaves the member's loop, at the end of which a barrier stands: this crate's part of that call,
+/// before the member arrives there.
+///
+/// Refused with `OutsideShare`, `EndDiffers` or `NotDrained`.
+pub fn loop_end<S: Shares>(shares: &mut S, member: u16) -> Result<(), Refusal>
+    requires { member < S.members shares.old }
+    ensures members { S.members shares.new ≡ S.members shares.old }
+    ensures known { (h : List Event) × S.stands shares.old h }
+    ensures answer { EachStands (S.stands shares.old) (λ h. result ≡ outcome (first_refusal (end_tests WaitEnd member h)) tt) }
+    ensures stands { EachStands (S.stands shares.old) (λ h. S.stands shares.new (left_unless result member h)) }
+{
+    let seen = shares.look(member);
+    if let Some(refusal) = end_refusal(&seen, EndKind::Wait) {
+        return Err(refusal);
+    }
+    shares.leave(member);
+    Ok(())
+}
+
+/// Leaves the member's loop, which has no barrier at its end.
+///
+/// Refused with `OutsideShare`, `EndDiffers` or `NotDrained`.
+pub fn loop_end_nowait<S: Shares>(shares: &mut S, member: u16) -> Reply
+    requires { member < S.members shares.old }
+    ensures members { S.members shares.new ≡ S.members shares.old }
+    ensures known { (h : List Event) × S.stands shares.old h }
+    ensures answer { (limits : Limits) → EachStands (S.stands shares.old) (IsReply limits (S.members shares.old) member LoopEndNowait result) }
+    ensures stands { EachStands (S.stands shares.old) (λ h. S.stands shares.new (added false member (entered member h) result LoopEndNowait h)) }
+{
+    let seen = shares.look(member);
+    if let Some(refusal) = end_refusal(&seen, EndKind::Nowait) {
+        return Reply::Refused(refusal);
+    }
+    shares.leave(member);
+    Reply::Finished
+}
