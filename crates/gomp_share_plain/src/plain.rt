@@ -7,7 +7,7 @@ ghost use Rattle.gomp_share_plain.specs.PlainLaws.{plain_aside, plain_agrees};
 
 use crate::{Opening, Seen, Shares};
 use gomp_chunks::Plan;
-use gomp_types::Shape;
+use gomp_types::{OPEN_SHARES, Shape};
 use gomp_types::laws;
 use std::alloc::{AllocError, Global};
 use std::marker::Model;
@@ -162,7 +162,7 @@ fn has_room(seats: &[Seat], number: u64) -> bool
 {
     seats
         .iter()
-        .all(|seat| number < 8 || number - 8 < seat.ended)
+        .all(|seat| number < OPEN_SHARES || number - OPEN_SHARES < seat.ended)
 }
 
 /// The share of this number, which lies at its place.

@@ -20,6 +20,7 @@ use Rattle.gomp_types.specs.declared.event.Arrival.{Arrival}
 use Rattle.gomp_types.specs.declared.event.Tag.{Tag}
 use Rattle.gomp_types.specs.declared.event.Event.{Event}
 use Rattle.gomp_types.specs.declared.event.Event.TheVariants.{Enter}
+use Rattle.gomp_types.specs.Limits.{capped}
 use Rattle.gomp_types.specs.Tests.{Test, first_refusal}
 use Rattle.gomp_types.specs.Pieces.{Piece, shape_of}
 use Rattle.gomp_types.specs.Values.{iteration_at}
@@ -117,10 +118,10 @@ tested : (terms : Terms) (step : Step) (waiting : Option Call) (h : List Event) 
     Tested (is_resume step.call) terms.members step.member (meant step.call waiting) h
 tested terms step waiting h pending fine =
     let first = member_tests terms.members step.member h in
-    let row = row_of terms.limits step.member step.call waiting h in
+    let row = row_of (capped terms.limits) step.member step.call waiting h in
     let all = all_fail (first ++ row) fine in
     let team = fail_first first row all in
-    call_tested terms.limits terms.members step.member step.call waiting h (below terms.members step.member team.0) pending (fail_later first row all)
+    call_tested (capped terms.limits) terms.members step.member step.call waiting h (below terms.members step.member team.0) pending (fail_later first row all)
 
 -- What a call has begun keeps the rule
 

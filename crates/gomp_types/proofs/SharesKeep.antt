@@ -10,7 +10,7 @@ use Rattle.gomp_types.specs.Pieces.{Piece}
 use Rattle.gomp_types.specs.Events.{entered, open_share, has_drained, has_ended, shape_at, is_over, has_room, has_iteration, times_taken}
 use Rattle.gomp_types.specs.Deals.{Deal, IsDealt, taken_in, takes_in, next_in, next_for, times}
 use Rattle.gomp_types.specs.Rules.{Always, MayEnter, MayTake, HasNone, ShareRule}
-use Rattle.gomp_types.specs.Laws.{Stands, IsOver, TakesNext, EntersInTurn, EntersWithRoom, ShareLaws}
+use Rattle.gomp_types.specs.Laws.{Stands, IsOver, TakesNext, EntersInTurn, EndsInside, EntersWithRoom, ShareLaws}
 use Rattle.gomp_types.proofs.Booleans.{tells, is_equal, differs, same_number, share_is, and_left, and_right, or_tells, or_left, or_right, not_both, every_tells, every_by}
 use Rattle.gomp_types.proofs.Tiling.{still_past, later_none, times-append, times-take, take_next, take_past, none_has}
 
@@ -367,9 +367,17 @@ takes_next deal members (Take share m low high) earlier rule all = (
 )
 takes_next deal members _ earlier rule all = tt
 
-enters_in_turn : (deal : Deal) (members : ℕ) (event : Event) (earlier : List Event) → ShareRule deal members event earlier → Always (ShareRule deal members) earlier → EntersInTurn event earlier
-enters_in_turn deal members (Enter share m shape) earlier rule all = rule.number
+enters_in_turn : (deal : Deal) (members : ℕ) (event : Event) (earlier : List Event) → ShareRule deal members event earlier → Always (ShareRule deal members) earlier → EntersInTurn members event earlier
+enters_in_turn deal members (Enter share m shape) earlier rule all = (rule.member, rule.number)
 enters_in_turn deal members _ earlier rule all = tt
+
+ends_inside : (deal : Deal) (members : ℕ) (event : Event) (earlier : List Event) → ShareRule deal members event earlier → Always (ShareRule deal members) earlier → EndsInside event earlier
+ends_inside deal members (End share m) earlier rule all = (
+  rule.shape,
+  inside_stands m share rule.shape earlier rule.inside,
+  (λ stands. not_both (has_ended share m earlier) (stands_ended share m earlier stands) (not_ended deal members m share rule.shape earlier all rule.inside)),
+)
+ends_inside deal members _ earlier rule all = tt
 
 enters_with_room : (deal : Deal) (members : ℕ) (event : Event) (earlier : List Event) → ShareRule deal members event earlier → Always (ShareRule deal members) earlier → EntersWithRoom members event earlier
 enters_with_room deal members (Enter share m shape) earlier rule all =
@@ -387,7 +395,8 @@ shares_keep deal members h all = record {
   whole = λ share m shape stands over k lt.
       taken_whole deal members share k shape h all (entry deal members share m shape h all stands).1 (λ x below. stands_ended share x h (over x below)) lt;
   same_shares = record {
-    turns = always (ShareRule deal members) EntersInTurn (enters_in_turn deal members) h all;
+    turns = always (ShareRule deal members) (EntersInTurn members) (enters_in_turn deal members) h all;
+    ends = always (ShareRule deal members) EndsInside (ends_inside deal members) h all;
     shapes = λ share m n one other first second.
         let a = (entry deal members share m one h all first).1 in
         let b = (entry deal members share n other h all second).1 in cc;

@@ -8,7 +8,7 @@ use Rattle.gomp_types.specs.declared.event.Event.TheVariants.{Enter, Take, Drain
 use Rattle.gomp_types.specs.Events.{arrival, tag_at}
 use Rattle.gomp_types.specs.Deals.{schedule}
 use Rattle.gomp_types.specs.Rules.{Always, ShareRule, TeamRule}
-use Rattle.gomp_types.specs.Laws.{Stands, PassesLast, SameArrivals}
+use Rattle.gomp_types.specs.Laws.{Stands, BarriersInTurn, PassesLast, SameArrivals}
 use Rattle.gomp_types.specs.Headline.{Headline}
 use Rattle.gomp_types.proofs.Booleans.{tells, is_equal, same_number, and_left, and_right, some_of, every_tells}
 use Rattle.gomp_types.proofs.SharesKeep.{always, shares_keep}
@@ -43,10 +43,18 @@ tag_stands members g m tag (Arrive barrier member other ∷ earlier) all (inl e)
 tag_stands members g m tag (_ ∷ earlier) all (inl e) = absurd (cc)
 tag_stands members g m tag (event ∷ earlier) all (inr stands) = tag_stays members g tag event earlier all.0 (tag_stands members g m tag earlier all.1 stands)
 
+barriers_in_turn : (members : ℕ) (event : Event) (earlier : List Event) → TeamRule members event earlier → Always (TeamRule members) earlier → BarriersInTurn event earlier
+barriers_in_turn members (Arrive barrier m tag) earlier rule all = rule.number
+barriers_in_turn members (Pass barrier m) earlier rule all = rule.number
+barriers_in_turn members _ earlier rule all = tt
+
 same_arrivals : (members : ℕ) (h : List Event) → Always (TeamRule members) h → SameArrivals h
-same_arrivals members h all = λ barrier m n one other first second.
+same_arrivals members h all = record {
+  turns = always (TeamRule members) BarriersInTurn (barriers_in_turn members) h all;
+  tags = λ barrier m n one other first second.
     let a = tag_stands members barrier m one h all first in
-    let b = tag_stands members barrier n other h all second in cc
+    let b = tag_stands members barrier n other h all second in cc;
+}
 
 arrival_stands : (g m : ℕ) (tag : Tag) (h : List Event) → arrival g m h ≡ Some tag → Stands (Arrive g m tag) h
 arrival_stands g m tag [] at = absurd (cc)

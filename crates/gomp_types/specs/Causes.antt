@@ -9,12 +9,13 @@ use Rattle.gomp_types.specs.declared.reply.Reply.TheVariants.{Refused}
 use Rattle.gomp_types.specs.declared.refusal.Refusal.{Refusal}
 use Rattle.gomp_types.specs.declared.refusal.Refusal.TheVariants.{NoMemory}
 use Rattle.gomp_types.specs.declared.event.Event.{Event}
+use Rattle.gomp_types.specs.Limits.{capped}
 use Rattle.gomp_types.specs.Tests.{Test, first_refusal}
 use Rattle.gomp_types.specs.Record.{Record, waits_of, meant, is_resume, events}
 use Rattle.gomp_types.specs.Refusals.{member_tests, row_of}
 use Rattle.gomp_types.specs.Replies.{MayReply}
 
--- what a team is made with
+-- what a team is made with; a limit above the standard one counts as that
 pub record Terms : Type 0 where
   pub members : ℕ
   pub limits : Limits
@@ -23,7 +24,7 @@ pub record Terms : Type 0 where
 -- the tests of a step, in order, where the member waits for this call
 abbrev pub tests_of : Terms → Step → Option Call → List Event → List Test
 tests_of terms step waiting h =
-    member_tests terms.members step.member h ++ row_of terms.limits step.member step.call waiting h
+    member_tests terms.members step.member h ++ row_of (capped terms.limits) step.member step.call waiting h
 
 -- the first test that holds of a step
 abbrev pub refusal_of : Terms → Step → Option Call → List Event → Option Refusal

@@ -1,5 +1,5 @@
 -- Worked runs of a team, step by step, and answers that are wrong there.
-use Rattle.std.specs.Prelude.{ℕ, ℤ, pos, false, List, [], ◌∷◌, ◌++◌}
+use Rattle.std.specs.Prelude.{ℕ, ℤ, pos, negsuc, Result, false, List, [], ◌∷◌, ◌++◌}
 use Rattle.gomp_types.specs.declared.call.Call.{Call}
 use Rattle.gomp_types.specs.declared.call.Call.TheVariants.{LoopStart, LoopNext, LoopEnd, LoopEndNowait, Barrier, RegionEnd, Resume}
 use Rattle.gomp_types.specs.declared.call.Step.{Step}
@@ -8,9 +8,12 @@ use Rattle.gomp_types.specs.declared.loop_desc.Sched.TheVariants.{Dynamic}
 use Rattle.gomp_types.specs.declared.loop_desc.EndKind.{EndKind}
 use Rattle.gomp_types.specs.declared.loop_desc.EndKind.TheVariants.{Wait as WaitEnd, Nowait}
 use Rattle.gomp_types.specs.declared.refusal.Place.TheVariants.{Share, Barrier as AtBarrier}
-use Rattle.gomp_types.specs.declared.refusal.Refusal.TheVariants.{Broken, Waiting, OutsideShare, EndDiffers, NotDrained, Drained, Mismatch}
+use Rattle.gomp_types.specs.declared.refusal.Refusal.{Refusal}
+use Rattle.gomp_types.specs.declared.refusal.Refusal.TheVariants.{BadMember, Ended, InsideShare, ZeroStep, BadChunk, LoopTooLong, NotInside, TooManyShares, NoMemory, Broken, Waiting, OutsideShare, EndDiffers, NotDrained, Drained, Mismatch}
 use Rattle.gomp_types.specs.declared.reply.Reply.{Reply}
 use Rattle.gomp_types.specs.declared.reply.Reply.TheVariants.{Chunk, NoChunk, Finished, Passed, Wait, Refused}
+use Rattle.gomp_types.specs.Tests.{first_refusal, outcome}
+use Rattle.gomp_types.specs.Iterations.{trip_count, loop_tests}
 use Rattle.gomp_types.specs.Record.{Record}
 use Rattle.gomp_types.specs.Causes.{Terms, MayAnswer, Caused}
 
@@ -31,8 +34,11 @@ team_of members = record {
 }
 
 -- each reply of the run has its cause
+abbrev pub IsRunOf : Terms → Run → Type 0
+IsRunOf terms run = Caused terms (recorded run [])
+
 abbrev pub IsRun : ℕ → Run → Type 0
-IsRun members run = Caused (team_of members) (recorded run [])
+IsRun members run = IsRunOf (team_of members) run
 
 -- this answer has no cause after the run
 abbrev pub IsWrong : ℕ → Run → Step → Reply → Type 0
@@ -110,6 +116,52 @@ ninth_share =
     ∷ (asks 1 LoopEndNowait, Finished)
     ∷ (asks 0 Resume, Chunk (pos 0) 1)
     ∷ []
+
+-- a team of one whose member may start one share
+abbrev pub one_share : Terms
+one_share = record {
+  members = 1;
+  limits = record { shares = 1; tasks = 1048576; events = 16777216 };
+  cancellation = false;
+}
+
+-- it may not start a second one
+abbrev pub second_share : Run
+second_share = loop_alone ++ (asks 0 one_nowait, Refused TooManyShares) ∷ []
+
+-- a loop that is refused for itself
+abbrev pub loop_by : ℤ → ℤ → ℤ → Call
+loop_by incr end chunk =
+    LoopStart (record { start = pos 0; end = end; incr = incr; sched = Dynamic; chunk = chunk; end_kind = WaitEnd })
+
+-- a member alone in its team goes through a region, and asks what it may not
+abbrev pub whole_region : Run
+whole_region =
+    (asks 1 Barrier, Refused BadMember)
+    ∷ (asks 0 Resume, Refused NotInside)
+    ∷ (asks 0 (loop_by (pos 0) (pos 4) (negsuc 0)), Refused ZeroStep)
+    ∷ (asks 0 (loop_by (pos 1) (pos 4) (negsuc 0)), Refused BadChunk)
+    ∷ (asks 0 (loop_by (pos 1) (pos 549755813889) (pos 1)), Refused LoopTooLong)
+    ∷ (asks 0 (loop_by (pos 1) (pos 1) (pos 0)), Chunk (pos 0) 1)
+    ∷ (asks 0 Barrier, Refused InsideShare)
+    ∷ (asks 0 LoopNext, NoChunk)
+    ∷ (asks 0 LoopEnd, Passed)
+    ∷ (asks 0 Barrier, Refused NoMemory)
+    ∷ (asks 0 Barrier, Passed)
+    ∷ (asks 0 RegionEnd, Passed)
+    ∷ (asks 0 Barrier, Refused Ended)
+    ∷ []
+
+-- the loop of all values of an i64, upwards and downwards
+abbrev pub over_all_values : ℤ → LoopDesc
+over_all_values incr = record { start = negsuc 9223372036854775807; end = pos 9223372036854775807; incr = incr; sched = Dynamic; chunk = pos 0; end_kind = WaitEnd }
+
+abbrev pub down_all_values : ℤ → LoopDesc
+down_all_values incr = record { start = pos 9223372036854775807; end = negsuc 9223372036854775807; incr = incr; sched = Dynamic; chunk = pos 0; end_kind = WaitEnd }
+
+-- what becomes of a loop: its number of iterations, or why it is refused
+abbrev pub trips_of : LoopDesc → Result ℕ Refusal
+trips_of loop = outcome (first_refusal (loop_tests loop)) (trip_count loop)
 
 -- a member whose loop has another chunk breaks the team
 abbrev pub differing_loop : Run

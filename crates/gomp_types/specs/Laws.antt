@@ -4,7 +4,7 @@ use Rattle.gomp_types.specs.declared.shape.Shape.{Shape}
 use Rattle.gomp_types.specs.declared.event.Tag.{Tag}
 use Rattle.gomp_types.specs.declared.event.Event.{Event}
 use Rattle.gomp_types.specs.declared.event.Event.TheVariants.{Enter, Take, End, Arrive, Pass}
-use Rattle.gomp_types.specs.Events.{entered, times_taken}
+use Rattle.gomp_types.specs.Events.{entered, passed, times_taken}
 use Rattle.gomp_types.specs.Deals.{Deal, taken_in, takes_in, next_for}
 use Rattle.gomp_types.specs.Rules.{Always}
 
@@ -40,10 +40,15 @@ abbrev pub WholeWhereOver : ℕ → List Event → Type 0
 WholeWhereOver members h =
     (share m : ℕ) (shape : Shape) → Stands (Enter share m shape) h → IsOver members share h → (k : ℕ) → k < shape.trips → times_taken share k h ≡ 1
 
--- a member's shares are numbered as it came to them
-abbrev pub EntersInTurn : Event → List Event → Type 0
-EntersInTurn (Enter share m shape) earlier = share ≡ entered m earlier
-EntersInTurn _ earlier = Unit {0}
+-- a member of the team enters its shares one by one, by their numbers
+abbrev pub EntersInTurn : ℕ → Event → List Event → Type 0
+EntersInTurn members (Enter share m shape) earlier = (m < members) × (share ≡ entered m earlier)
+EntersInTurn members _ earlier = Unit {0}
+
+-- it leaves a share that it has entered, and not left before
+abbrev pub EndsInside : Event → List Event → Type 0
+EndsInside (End share m) earlier = (shape : Shape) × Stands (Enter share m shape) earlier × (Stands (End share m) earlier → ⊥)
+EndsInside _ earlier = Unit {0}
 
 -- a share is entered only where the one eight before it is over (own)
 abbrev pub EntersWithRoom : ℕ → Event → List Event → Type 0
@@ -52,15 +57,26 @@ EntersWithRoom members _ earlier = Unit {0}
 
 -- Same shares (OpenMP API 5.2, chapter 11: every member meets the same work-shares in the same order).
 pub record SameShares (members : ℕ) (h : List Event) : Type 0 where
+  -- a member goes through them one by one
+  pub turns : Always (EntersInTurn members) h
+  pub ends : Always EndsInside h
   -- the members' i-th shares are of one shape
-  pub turns : Always EntersInTurn h
   pub shapes : (share m n : ℕ) (one other : Shape) → Stands (Enter share m one) h → Stands (Enter share n other) h → one ≡ other
   -- and no more than eight are open
   pub room : Always (EntersWithRoom members) h
 
--- Same arrivals: all members arrive at a barrier with one tag.
-abbrev pub SameArrivals : List Event → Type 0
-SameArrivals h = (barrier m n : ℕ) (one other : Tag) → Stands (Arrive barrier m one) h → Stands (Arrive barrier n other) h → one ≡ other
+-- a member arrives at and passes its barriers one by one, by their numbers
+abbrev pub BarriersInTurn : Event → List Event → Type 0
+BarriersInTurn (Arrive barrier m tag) earlier = barrier ≡ passed m earlier
+BarriersInTurn (Pass barrier m) earlier = barrier ≡ passed m earlier
+BarriersInTurn _ earlier = Unit {0}
+
+-- Same arrivals (OpenMP API 5.2, section 15.3: every member meets the same barriers in the same order).
+pub record SameArrivals (h : List Event) : Type 0 where
+  -- a member goes through them one by one
+  pub turns : Always BarriersInTurn h
+  -- and all members arrive at a barrier with one tag
+  pub tags : (barrier m n : ℕ) (one other : Tag) → Stands (Arrive barrier m one) h → Stands (Arrive barrier n other) h → one ≡ other
 
 -- Barrier law (OpenMP API 5.2, section 15.3.1): a member passes a barrier only where every member has arrived.
 abbrev pub PassesLast : ℕ → Event → List Event → Type 0

@@ -1,12 +1,13 @@
 //! Worked runs of a team, and answers that are wrong there: that the definitions tell right from
 //! wrong is computed, and checked with every proof.
 
-ghost use Rattle.std.specs.Prelude.{pos, take};
-ghost use Rattle.gomp_types.specs.declared.call.Call.TheVariants.{LoopNext, LoopEnd, LoopEndNowait, RegionEnd, Resume};
+ghost use Rattle.std.specs.Prelude.{pos, negsuc, take, ◌≡◌, []};
+ghost use Rattle.gomp_types.specs.declared.call.Call.TheVariants.{Barrier, LoopNext, LoopEnd, LoopEndNowait, RegionEnd, Resume};
 ghost use Rattle.gomp_types.specs.declared.loop_desc.EndKind.TheVariants.{Wait as WaitEnd};
-ghost use Rattle.gomp_types.specs.declared.refusal.Refusal.TheVariants.{NotDrained, Drained, NoMemory, Mismatch};
+ghost use Rattle.gomp_types.specs.declared.refusal.Refusal.TheVariants.{ZeroStep, LoopTooLong, TooManyShares, Ended, NotDrained, Drained, NoMemory, Mismatch};
 ghost use Rattle.gomp_types.specs.declared.reply.Reply.TheVariants.{Chunk, NoChunk, Passed, Wait, Refused};
-ghost use Rattle.gomp_types.specs.Examples.{IsRun, IsWrong, asks, dynamic_loop, one_nowait, loop_of_two, empty_loops, refused_ends, eight_ahead, ninth_share, differing_loop, differing_barrier};
+ghost use Rattle.gomp_types.specs.Causes.{MayAnswer};
+ghost use Rattle.gomp_types.specs.Examples.{IsRunOf, one_share, second_share, whole_region, over_all_values, down_all_values, trips_of, IsRun, IsWrong, asks, dynamic_loop, one_nowait, loop_of_two, empty_loops, refused_ends, eight_ahead, ninth_share, differing_loop, differing_barrier};
 
 /// Each reply of these runs has its cause.
 pub fn worked_runs()
@@ -14,8 +15,21 @@ pub fn worked_runs()
     ensures empty_loops { IsRun 1 empty_loops }
     ensures refused_ends { IsRun 1 refused_ends }
     ensures ninth_share { IsRun 2 ninth_share }
+    ensures second_share { IsRunOf one_share second_share }
+    ensures whole_region { IsRun 1 whole_region }
     ensures differing_loop { IsRun 2 differing_loop }
     ensures differing_barrier { IsRun 2 differing_barrier }
+{
+}
+
+/// Loops over all values of an `i64` count without a wrap: by the largest step, the least one, 1, 0
+/// and 2^30.
+pub fn loops_at_the_limits()
+    ensures largest_step { trips_of (over_all_values (pos 9223372036854775807)) ≡ Ok 3 }
+    ensures least_step { trips_of (down_all_values (negsuc 9223372036854775807)) ≡ Ok 2 }
+    ensures step_one { trips_of (over_all_values (pos 1)) ≡ Err LoopTooLong }
+    ensures step_zero { trips_of (over_all_values (pos 0)) ≡ Err ZeroStep }
+    ensures step_2_to_30 { trips_of (over_all_values (pos 1073741824)) ≡ Ok 17179869184 }
 {
 }
 
@@ -38,6 +52,11 @@ pub fn wrong_answers()
     ensures second_refusal { IsWrong 1 (take 1 refused_ends) (asks 0 LoopEndNowait) (Refused NotDrained) }
     ensures idle_refusal { IsWrong 1 (take 1 refused_ends) (asks 0 LoopNext) (Refused Drained) }
     ensures idle_memory { IsWrong 1 (take 1 refused_ends) (asks 0 LoopNext) (Refused NoMemory) }
+
+    // A limit that is one too high, and a region that goes on after its end.
+    ensures first_refused { MayAnswer one_share [] (asks 0 one_nowait) (Refused TooManyShares) → ⊥ }
+    ensures after_the_end { IsWrong 1 (take 12 whole_region) (asks 0 Barrier) Passed }
+    ensures end_too_soon { IsWrong 1 (take 11 whole_region) (asks 0 Barrier) (Refused Ended) }
 
     // A share opened while the eighth before is not over.
     ensures ninth_opened { IsWrong 2 eight_ahead (asks 0 one_nowait) (Chunk (pos 0) 1) }

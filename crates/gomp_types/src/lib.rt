@@ -17,7 +17,7 @@ pub mod shape;
 
 pub use call::{Call, Step};
 pub use event::{Arrival, Event, Tag};
-pub use limits::{Limits, MAX_CHUNK, MAX_MEMBERS, MAX_TRIPS, OPEN_SHARES};
+pub use limits::{Limits, MAX_CHUNK, MAX_MEMBERS, MAX_TRIPS, OPEN_SHARES, is_team_size};
 pub use loop_desc::{EndKind, LoopDesc, Sched, trips};
 pub use refusal::{Clash, Place, Refusal};
 pub use reply::Reply;

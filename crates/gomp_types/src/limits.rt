@@ -1,10 +1,17 @@
 //! How much a team may hold.
 
-ghost use Rattle.std.specs.Prelude.{◌≡◌, ◌^◌, ◌≤◌, min};
+ghost use Rattle.std.specs.Prelude.{◌≡◌, ◌^◌, ◌≤◌, ◌↔◌, IsTrue};
 ghost use Rattle.gomp_types.specs.Limits.{capped};
 
-/// The most members that a team has; it has at least one.
+/// The most members that a team has; it has at least one (own).
 pub const MAX_MEMBERS: u16 = 64;
+
+/// Whether a team may have this many members: 1 to 64.
+pub fn is_team_size(members: u16) -> bool
+    ensures { IsTrue result ↔ ((1 ≤ members) × (members ≤ 64)) }
+{
+    1 <= members && members <= MAX_MEMBERS
+}
 
 /// How many work-shares of a team may be open at once (own).
 pub const OPEN_SHARES: u64 = 8;
