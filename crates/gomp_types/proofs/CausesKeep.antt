@@ -59,32 +59,37 @@ fail_later : (tests more : List Test) → AllFail (tests ++ more) → AllFail mo
 fail_later [] more all = all
 fail_later (test ∷ tests) more all = fail_later tests more all.1
 
--- a call that starts a share
-abbrev Starting : ℕ → ℕ → Call → List Event → Type 0
-Starting members m (LoopStart loop) h = (m < members) × (open_share m h ≡ None) × (loop.incr ≢ pos 0) × (shape_differs (shape_of loop) (shape_at (entered m h) h) ≡ false)
-Starting members m _ h = Unit {0}
+-- where a member is that starts a share, or asks for a piece of its share
+abbrev pub Ready : ℕ → ℕ → Call → List Event → Type 0
+Ready members m (LoopStart loop) h = (m < members) × (open_share m h ≡ None) × (loop.incr ≢ pos 0) × (shape_differs (shape_of loop) (shape_at (entered m h) h) ≡ false)
+Ready members m LoopNext h = is_inside m h ≡ true
+Ready members m Resume h = ⊥
+Ready members m _ h = Unit {0}
 
 -- a call that leaves its share
-abbrev Leaving : Bool → ℕ → List Event → Type 0
+abbrev pub Leaving : Bool → ℕ → List Event → Type 0
 Leaving false m h = Unit {0}
 Leaving true m h = (is_inside m h ≡ true) × (has_drained m h ≡ true)
 
 -- a call that arrives
-abbrev Arriving : Option Arrival → ℕ → List Event → Type 0
+abbrev pub Arriving : Option Arrival → ℕ → List Event → Type 0
 Arriving None m h = Unit {0}
 Arriving (Some kind) m h = tag_differs (tag_with kind (entered m h)) (tag_at (passed m h) h) ≡ false
 
-abbrev Beginning : Bool → ℕ → Call → List Event → Type 0
+abbrev pub Beginning : Bool → ℕ → Call → List Event → Type 0
 Beginning true m call h = Unit {0}
 Beginning false m call h = Leaving (ends_share call) m h × Arriving (arrival_kind call) m h
 
 pub record Tested (again : Bool) (members m : ℕ) (call : Call) (h : List Event) : Type 0 where
-  pub starting : Starting members m call h
+  pub ready : Ready members m call h
   pub beginning : Beginning again m call h
 
--- what is known while a wait is open
-abbrev Pending : ℕ → Option Call → List Event → Type 0
+-- what is known while a wait is open: only starts and arrivals wait
+abbrev pub Pending : ℕ → Option Call → List Event → Type 0
 Pending m (Some (LoopStart loop)) h = (open_share m h ≡ None) × (loop.incr ≢ pos 0)
+Pending m (Some LoopNext) h = ⊥
+Pending m (Some LoopEndNowait) h = ⊥
+Pending m (Some Resume) h = ⊥
 Pending m _ h = Unit {0}
 
 nonzero : (incr : ℤ) → ◌≡◌ {A = Bool} (int_eq incr (pos 0)) false → incr ≢ pos 0
@@ -96,25 +101,30 @@ below members m e = grind (arith, nat_tests)
 call_tested : (limits : Limits) (members m : ℕ) (call : Call) (waiting : Option Call) (h : List Event) → m < members → Pending m waiting h → AllFail (row_of limits m call waiting h) →
     Tested (is_resume call) members m (meant call waiting) h
 call_tested limits members m (LoopStart loop) waiting h lt pending fail = record {
-  starting = (lt, none_of (open_share m h) fail.1.0, nonzero loop.incr fail.1.1.0, fail.1.1.1.1.1.1.0);
+  ready = (lt, none_of (open_share m h) fail.1.0, nonzero loop.incr fail.1.1.0, fail.1.1.1.1.1.1.0);
   beginning = (tt, tt);
 }
-call_tested limits members m LoopNext waiting h lt pending fail = record { starting = tt; beginning = (tt, tt) }
+call_tested limits members m LoopNext waiting h lt pending fail = record { ready = not_false (is_inside m h) fail.1.0; beginning = (tt, tt) }
 call_tested limits members m LoopEnd waiting h lt pending fail = record {
-  starting = tt;
+  ready = tt;
   beginning = ((not_false (is_inside m h) fail.1.0, not_false (has_drained m h) fail.1.1.1.0), fail.1.1.1.1.0);
 }
 call_tested limits members m LoopEndNowait waiting h lt pending fail = record {
-  starting = tt;
+  ready = tt;
   beginning = ((not_false (is_inside m h) fail.1.0, not_false (has_drained m h) fail.1.1.1.0), tt);
 }
-call_tested limits members m Barrier waiting h lt pending fail = record { starting = tt; beginning = (tt, fail.1.1.0) }
-call_tested limits members m RegionEnd waiting h lt pending fail = record { starting = tt; beginning = (tt, fail.1.1.0) }
-call_tested limits members m Resume None h lt pending fail = record { starting = tt; beginning = tt }
-call_tested limits members m Resume (Some (LoopStart loop)) h lt pending fail = record { starting = (lt, pending.0, pending.1, fail.1.0); beginning = tt }
-call_tested limits members m Resume (Some _) h lt pending fail = record { starting = tt; beginning = tt }
+call_tested limits members m Barrier waiting h lt pending fail = record { ready = tt; beginning = (tt, fail.1.1.0) }
+call_tested limits members m RegionEnd waiting h lt pending fail = record { ready = tt; beginning = (tt, fail.1.1.0) }
+call_tested limits members m Resume None h lt pending fail = absurd (let none = fail.0 in cc)
+call_tested limits members m Resume (Some (LoopStart loop)) h lt pending fail = record { ready = (lt, pending.0, pending.1, fail.1.0); beginning = tt }
+call_tested limits members m Resume (Some LoopNext) h lt pending fail = absurd pending
+call_tested limits members m Resume (Some LoopEndNowait) h lt pending fail = absurd pending
+call_tested limits members m Resume (Some Resume) h lt pending fail = absurd pending
+call_tested limits members m Resume (Some LoopEnd) h lt pending fail = record { ready = tt; beginning = tt }
+call_tested limits members m Resume (Some Barrier) h lt pending fail = record { ready = tt; beginning = tt }
+call_tested limits members m Resume (Some RegionEnd) h lt pending fail = record { ready = tt; beginning = tt }
 
-tested : (terms : Terms) (step : Step) (waiting : Option Call) (h : List Event) → Pending step.member waiting h → refusal_of terms step waiting h ≡ None →
+pub tested : (terms : Terms) (step : Step) (waiting : Option Call) (h : List Event) → Pending step.member waiting h → refusal_of terms step waiting h ≡ None →
     Tested (is_resume step.call) terms.members step.member (meant step.call waiting) h
 tested terms step waiting h pending fine =
     let first = member_tests terms.members step.member h in
@@ -155,15 +165,15 @@ chunk_is shape (Some piece) first count moves is =
     let low : iteration_at shape first ≡ piece.0 = ap (iteration_at shape) is.0 ∙ iteration_at-value_at shape piece.0 moves in
     rw (low, is.1) refl
 
-enter_rule : (members m : ℕ) (loop : LoopDesc) (h : List Event) → Starting members m (LoopStart loop) h → has_room members (entered m h) h ≡ true → MayEnter (schedule members) members (entered m h) m (shape_of loop) h
-enter_rule members m loop h starting room =
-    let member = starting.0 in record {
-      member = starting.0;
+enter_rule : (members m : ℕ) (loop : LoopDesc) (h : List Event) → Ready members m (LoopStart loop) h → has_room members (entered m h) h ≡ true → MayEnter (schedule members) members (entered m h) m (shape_of loop) h
+enter_rule members m loop h ready room =
+    let member = ready.0 in record {
+      member = ready.0;
       number = refl;
-      outside = starting.1;
+      outside = ready.1;
       dealt = schedule_deals members (shape_of loop) (omega arith) (chunk_some loop.sched loop.chunk);
-      moves = starting.2;
-      same = same_shapes (shape_of loop) (shape_at (entered m h) h) starting.3;
+      moves = ready.2;
+      same = same_shapes (shape_of loop) (shape_at (entered m h) h) ready.3;
       room = room;
     }
 
@@ -174,13 +184,13 @@ start_keeps again members m loop (Chunk first count) h tested may all = (
   record {
     shape = shape_of loop;
     inside = open_entered m (entered m h) (shape_of loop) h;
-    next = chunk_is (shape_of loop) (next_for (schedule members) (shape_of loop) (entered m h) m h) first count tested.starting.2 may.1;
+    next = chunk_is (shape_of loop) (next_for (schedule members) (shape_of loop) (entered m h) m h) first count tested.ready.2 may.1;
   },
-  (enter_rule members m loop h tested.starting may.0, all),
+  (enter_rule members m loop h tested.ready may.0, all),
 )
 start_keeps again members m loop NoChunk h tested may all = (
   record { shape = shape_of loop; inside = open_entered m (entered m h) (shape_of loop) h; none = may.1 },
-  (enter_rule members m loop h tested.starting may.0, all),
+  (enter_rule members m loop h tested.ready may.0, all),
 )
 start_keeps again members m loop Finished h tested may all = absurd may.1
 start_keeps again members m loop Passed h tested may all = absurd may.1
@@ -282,12 +292,26 @@ open_other again k m shares (Refused refusal) call h e = open_refused k m (place
 pending_same : (k : ℕ) (waiting : Option Call) (h after : List Event) → open_share k after ≡ open_share k h → Pending k waiting h → Pending k waiting after
 pending_same k None h after e pending = tt
 pending_same k (Some (LoopStart loop)) h after e pending = (e ∙ pending.0, pending.1)
-pending_same k (Some _) h after e pending = tt
+pending_same k (Some LoopNext) h after e pending = pending
+pending_same k (Some LoopEnd) h after e pending = tt
+pending_same k (Some LoopEndNowait) h after e pending = pending
+pending_same k (Some Barrier) h after e pending = tt
+pending_same k (Some RegionEnd) h after e pending = tt
+pending_same k (Some Resume) h after e pending = pending
 
-pending_wait : (again : Bool) (members m shares : ℕ) (call : Call) (h : List Event) → Tested again members m call h → Pending m (Some call) (since_begun again m shares call h)
-pending_wait true members m shares (LoopStart loop) h tested = (tested.starting.1, tested.starting.2)
-pending_wait false members m shares (LoopStart loop) h tested = (tested.starting.1, tested.starting.2)
-pending_wait again members m shares _ h tested = tt
+never_waits : (members m : ℕ) (own : Option (ℕ × Shape)) (h : List Event) → DealsOut members m own Wait h → ⊥
+never_waits members m None h may = may
+never_waits members m (Some share) h may = may
+
+pending_wait : (again : Bool) (members m shares : ℕ) (call : Call) (h : List Event) → Tested again members m call h → MayReply members again m call Wait h → Pending m (Some call) (since_begun again m shares call h)
+pending_wait true members m shares (LoopStart loop) h tested may = (tested.ready.1, tested.ready.2)
+pending_wait false members m shares (LoopStart loop) h tested may = (tested.ready.1, tested.ready.2)
+pending_wait again members m shares LoopNext h tested may = never_waits members m (open_share m h) h may
+pending_wait again members m shares LoopEnd h tested may = tt
+pending_wait again members m shares LoopEndNowait h tested may = absurd (cc)
+pending_wait again members m shares Barrier h tested may = tt
+pending_wait again members m shares RegionEnd h tested may = tt
+pending_wait again members m shares Resume h tested may = may
 
 -- One step of a record
 
@@ -303,13 +327,13 @@ answer_pending : (terms : Terms) (earlier : Record) (step : Step) (reply : Reply
     Pending step.member (waits_after reply step.call (waits_of step.member earlier)).open_call (events ((step, reply) ∷ earlier))
 answer_pending terms earlier step Wait may pending =
     pending_wait (is_resume step.call) terms.members step.member (entered step.member (events earlier)) (meant step.call (waits_of step.member earlier).open_call) (events earlier)
-    (tested terms step (waits_of step.member earlier).open_call (events earlier) pending may.0)
+    (tested terms step (waits_of step.member earlier).open_call (events earlier) pending may.0) may.1
 answer_pending terms earlier step (Refused refusal) may pending =
     pending_same step.member (waits_of step.member earlier).open_call (events earlier) (events ((step, Refused refusal) ∷ earlier))
     (open_refused step.member step.member (place_of (meant step.call (waits_of step.member earlier).open_call) step.member (entered step.member (events earlier)) (events earlier)) (events earlier) refusal) pending
 answer_pending terms earlier step _ may pending = tt
 
-pending_holds : (terms : Terms) (run : Record) (k : ℕ) → Caused terms run → Pending k (waits_of k run).open_call (events run)
+pub pending_holds : (terms : Terms) (run : Record) (k : ℕ) → Caused terms run → Pending k (waits_of k run).open_call (events run)
 pending_holds terms [] k caused = tt
 pending_holds terms ((step, reply) ∷ earlier) k caused =
     elim (cases_Bool (step.member == k)) [

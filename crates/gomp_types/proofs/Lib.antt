@@ -9,3 +9,4 @@ pub mod SharesKeep
 pub mod TeamKeeps
 pub mod CausesKeep
 pub mod OneReply
+pub mod SomeReply

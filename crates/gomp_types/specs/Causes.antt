@@ -57,3 +57,7 @@ Caused terms (pair ∷ earlier) = MayAnswer terms earlier pair.0 pair.1 × Cause
 -- two replies are one, or one of them is want of memory
 abbrev pub OneReply : Reply → Reply → Type 0
 OneReply a b = (a ≡ b) ⊎ (a ≡ Refused NoMemory) ⊎ (b ≡ Refused NoMemory)
+
+-- some reply to the step has its cause after this record
+abbrev pub SomeReply : Terms → Record → Step → Type 0
+SomeReply terms run step = (reply : Reply) × MayAnswer terms run step reply

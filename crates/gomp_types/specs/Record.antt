@@ -1,5 +1,5 @@
 -- A record is what was asked and answered, the newest pair first. It tells what each member waits for, and it gives the events.
-use Rattle.std.specs.Prelude.{ℕ, ℤ, ◌+◌, ◌==◌, if◌then◌else◌, List, [], ◌∷◌, Option, Some, None, Bool, true, false}
+use Rattle.std.specs.Prelude.{ℕ, ℤ, ◌+◌, min, ◌==◌, if◌then◌else◌, List, [], ◌∷◌, Option, Some, None, Bool, true, false}
 use Rattle.gomp_types.specs.declared.call.Call.{Call}
 use Rattle.gomp_types.specs.declared.call.Call.TheVariants.{LoopStart, LoopNext, LoopEnd, LoopEndNowait, Barrier, RegionEnd, Resume}
 use Rattle.gomp_types.specs.declared.call.Step.{Step}
@@ -119,10 +119,14 @@ abbrev pub pass_added : Option Arrival → ℕ → ℕ → List Event → List E
 pass_added None barrier m h = h
 pass_added (Some kind) barrier m h = Pass barrier m ∷ h
 
+-- a number as a reply shows it: it stays at the largest one of its type (own)
+abbrev pub shown : ℕ → ℕ
+shown n = min n 18446744073709551615
+
 -- where a construct differs
 abbrev pub place_of : Call → ℕ → ℕ → List Event → Place
-place_of (LoopStart loop) m shares h = Share shares
-place_of _ m shares h = AtBarrier (passed m h)
+place_of (LoopStart loop) m shares h = Share (shown shares)
+place_of _ m shares h = AtBarrier (shown (passed m h))
 
 -- a mismatch breaks the team, no other refusal changes anything
 abbrev pub refusal_added : Refusal → ℕ → Place → List Event → List Event

@@ -9,7 +9,7 @@ ghost use Rattle.gomp_types.specs.declared.call.Step.{Step};
 ghost use Rattle.gomp_types.specs.declared.reply.Reply.{Reply};
 ghost use Rattle.gomp_types.specs.declared.event.Event.{Event};
 ghost use Rattle.gomp_types.specs.Record.{Record, events};
-ghost use Rattle.gomp_types.specs.Causes.{Terms, MayAnswer, Caused, OneReply};
+ghost use Rattle.gomp_types.specs.Causes.{Terms, MayAnswer, Caused, OneReply, SomeReply};
 ghost use Rattle.gomp_types.specs.declared.shape.Shape.{Shape};
 ghost use Rattle.gomp_types.specs.Pieces.{pieces_of, Tiles};
 ghost use Rattle.gomp_types.specs.Values.{IsShape, value_at, iteration_at};
@@ -30,6 +30,13 @@ pub fn headline()
 /// At most one reply to a step has its cause after a record, want of memory aside.
 pub fn one_reply()
     ensures { (terms : Terms) → (run : Record) → (step : Step) → (one : Reply) → (other : Reply) → MayAnswer terms run step one → MayAnswer terms run step other → OneReply one other }
+{
+}
+
+/// To each step some reply has its cause, after every record whose replies have theirs: with
+/// `one_reply`, the record decides exactly one, want of memory aside.
+pub fn some_reply()
+    ensures { (terms : Terms) → (run : Record) → (step : Step) → Caused terms run → SomeReply terms run step }
 {
 }
 
