@@ -1,7 +1,7 @@
 -- What a member sees, and the piece that it was given, in the words of the events.
 use Rattle.std.proofs.Common.{◌≡◌, ℕ, ◌+◌, ◌-◌, ◌<◌, ◌≤◌, Bool, true, false, List, [], ◌∷◌, ◌++◌, Option, Some, None, Ok, refl, ap, ◌∙◌, sym, subst, arith}
 use Rattle.std.proofs.lemmas.Bool.Decides.{nat_tests}
-use Rattle.std.specs.Prelude.{ℤ, pos, ◌≢◌, ◌==◌, nat_le, is_some, IfSome}
+use Rattle.std.specs.Prelude.{pos, ◌≢◌, ◌==◌, nat_le, is_some}
 use Rattle.gomp_types.specs.declared.call.Call.TheVariants.{LoopStart, LoopNext}
 use Rattle.gomp_types.specs.declared.loop_desc.LoopDesc.{LoopDesc}
 use Rattle.gomp_types.specs.declared.loop_desc.EndKind.{EndKind}
@@ -21,7 +21,7 @@ use Rattle.gomp_types.specs.Refusals.{end_tests, call_tests, shape_differs}
 use Rattle.gomp_types.specs.Replies.{DealsOut}
 use Rattle.gomp_share_plain.specs.declared.Seen.{Seen}
 use Rattle.gomp_share_plain.specs.Calls.{seen_of, Claims, claimed}
-use Rattle.gomp_loops.specs.OwnTests.{start_tests as own_start_tests, next_tests as own_next_tests, end_tests as own_end_tests}
+use Rattle.gomp_loops.specs.OwnTests.{own_start_tests, own_next_tests, own_end_tests}
 use Rattle.gomp_loops.specs.Answers.{reply_of, IsReply}
 
 -- The tests

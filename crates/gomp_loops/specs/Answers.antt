@@ -1,4 +1,4 @@
--- What a loop call answers: the definition's line for it, its tests included.
+-- What a loop call answers: its row of `call_tests`, and `MayReply` where none of them holds. The tests on the team, on an open wait and on arrivals are made above this crate.
 use Rattle.std.specs.Prelude.{ℕ, ◌-◌, ◌≡◌, false, List, Option, Some, None, Result, Ok, Err}
 use Rattle.gomp_types.specs.declared.call.Call.{Call}
 use Rattle.gomp_types.specs.declared.limits.Limits.{Limits}
@@ -25,6 +25,6 @@ IsReply limits members m call (Refused refusal) h = first_refusal (call_tests li
 IsReply limits members m call reply h = (first_refusal (call_tests limits m call h) ≡ None) × MayReply members false m call reply h
 
 -- the events after a member has left its share, or was refused
-abbrev pub left_unless : {A : Type 0} → Result A Refusal → ℕ → List Event → List Event
-left_unless (Ok done) m h = left m h
-left_unless (Err refusal) m h = h
+abbrev pub left_unless_refused : {A : Type 0} → Result A Refusal → ℕ → List Event → List Event
+left_unless_refused (Ok done) m h = left m h
+left_unless_refused (Err refusal) m h = h

@@ -11,13 +11,14 @@ ghost use Rattle.gomp_types.specs.Record.{added};
 ghost use Rattle.gomp_types.specs.Refusals.{end_tests};
 ghost use Rattle.gomp_share_plain.specs.Calls.{EachStands, seen_of};
 ghost use Rattle.gomp_loops.specs.OwnTests.{own_tests};
-ghost use Rattle.gomp_loops.specs.Answers.{IsReply, left_unless};
+ghost use Rattle.gomp_loops.specs.Answers.{IsReply, left_unless_refused};
 
 use crate::own::{end_refusal, next_refusal, own_refusal, piece_reply, start_refusal};
 use gomp_share_plain::{Opening, Shares};
 use gomp_types::{Call, EndKind, Limits, LoopDesc, Refusal, Reply, laws};
 
-/// Why the member may not make this call, by the tests of this crate: the first that holds.
+/// Why the member may not make this call: the first test that holds of those that its place among
+/// the shares decides. `Mismatch`, which compares it with other members, is not among them.
 pub fn first_refusal<S: Shares>(
     shares: &S,
     member: u16,
@@ -32,17 +33,14 @@ pub fn first_refusal<S: Shares>(
     own_refusal(&seen, limits, call)
 }
 
-/// Enters the member's next share for this loop, and answers the first chunk.
+/// Enters the member's next share for this loop, and answers the first chunk for it: the least piece
+/// that nobody took. `NoChunk` where there is none; the member is in the share all the same, and may
+/// end it.
 ///
-/// `Wait` where some member has not left the share eight before: the same call asks again.
-/// Refused with `InsideShare`, `ZeroStep`, `BadChunk`, `LoopTooLong`, `TooManyShares`, or with
-/// `Mismatch` where the loop differs from the team's.
-pub fn loop_start<S: Shares>(
-    shares: &mut S,
-    member: u16,
-    limits: &Limits,
-    desc: &LoopDesc,
-) -> Reply
+/// `Wait` where some member has not left the share eight before, and nothing is entered: the layer
+/// above calls again on `Resume`. Refused with `InsideShare`, `ZeroStep`, `BadChunk`, `LoopTooLong`,
+/// `TooManyShares`, or with `Mismatch` where the team's share of this number is of another shape.
+pub fn loop_start<S: Shares>(shares: &mut S, member: u16, limits: &Limits, desc: &LoopDesc) -> Reply
     requires { member < S.members shares.old }
     ensures members { S.members shares.new ≡ S.members shares.old }
     ensures known { (h : List Event) × S.stands shares.old h }
@@ -65,7 +63,8 @@ pub fn loop_start<S: Shares>(
     }
 }
 
-/// Answers the next chunk of the member's loop, `NoChunk` where none is left for it.
+/// Answers the next chunk of the member's loop, `NoChunk` where none is left for it: then it may end
+/// the loop, and not ask again.
 ///
 /// Refused with `OutsideShare` or `Drained`.
 pub fn loop_next<S: Shares>(shares: &mut S, member: u16) -> Reply
@@ -86,8 +85,11 @@ pub fn loop_next<S: Shares>(shares: &mut S, member: u16) -> Reply
     piece_reply(&shape, shares.claim(member))
 }
 
-/// Leaves the member's loop, at the end of which a barrier stands: this crate's part of that call,
-/// before the member arrives there.
+/// Leaves the member's loop, at the end of which a barrier stands: this crate's part of that call.
+///
+/// The layer above asks [`first_refusal`] first, then compares the arrival with those of the other
+/// members, since a `Mismatch` there leaves the member in its loop, and calls this last; then the
+/// member arrives. So the answer is not a reply yet.
 ///
 /// Refused with `OutsideShare`, `EndDiffers` or `NotDrained`.
 pub fn loop_end<S: Shares>(shares: &mut S, member: u16) -> Result<(), Refusal>
@@ -95,7 +97,7 @@ pub fn loop_end<S: Shares>(shares: &mut S, member: u16) -> Result<(), Refusal>
     ensures members { S.members shares.new ≡ S.members shares.old }
     ensures known { (h : List Event) × S.stands shares.old h }
     ensures answer { EachStands (S.stands shares.old) (λ h. result ≡ outcome (first_refusal (end_tests WaitEnd member h)) tt) }
-    ensures stands { EachStands (S.stands shares.old) (λ h. S.stands shares.new (left_unless result member h)) }
+    ensures stands { EachStands (S.stands shares.old) (λ h. S.stands shares.new (left_unless_refused result member h)) }
 {
     let seen = shares.look(member);
     if let Some(refusal) = end_refusal(&seen, EndKind::Wait) {

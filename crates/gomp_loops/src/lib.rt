@@ -1,9 +1,14 @@
 //! The calls of a member on the loops of its team.
 //!
-//! Each call makes its own tests, so it has no premise but a member of the team; its contract is
-//! the definition's line for that call. [`own`] has what does not depend on who is asked: a
-//! member's own tests, and the reply that an answer of the shares gives.
-//! OpenMP API 5.2, section 11.5; the calls have the shape of the libgomp manual's ABI chapter.
+//! A loop is one work-share. Each call makes the tests of its row (`call_tests`), so it has no premise
+//! but a member of the team, and answers what `MayReply` allows where none of them holds. Whether the
+//! team is broken, the member has left the region or has a wait open, and how it arrives at a
+//! barrier, is tested by the layer above.
+//!
+//! [`own`] has what does not ask the shares: a member's own tests, and the reply that a piece gives.
+//!
+//! OpenMP API 5.2, section 11.5. The calls have the form of libgomp's `GOMP_loop_*_start`, `_next`,
+//! `GOMP_loop_end` and `GOMP_loop_end_nowait` (libgomp manual, the ABI chapter).
 #![tactic(auto)]
 
 pub mod calls;

@@ -1,17 +1,21 @@
-//! A member's own tests, by what it sees of its place, and the reply that a piece gives.
+//! A member's own tests, by what it sees of its place among the shares, and the reply that a piece
+//! gives. Nothing here asks the shares, so members on threads can use it with a seat of their own.
 
 ghost use Rattle.std.specs.Prelude.{◌≡◌, ◌<◌, ◌≤◌, ◌^◌, IfNone};
 ghost use Rattle.std.specs.Option.{ForSome};
 ghost use Rattle.gomp_types.specs.Tests.{first_refusal};
 ghost use Rattle.gomp_types.specs.Values.{IsShape};
-ghost use Rattle.gomp_loops.specs.OwnTests.{start_tests, next_tests, end_tests, own_tests};
+ghost use Rattle.gomp_loops.specs.OwnTests.{own_start_tests, own_next_tests, own_end_tests, own_tests};
 ghost use Rattle.gomp_loops.specs.Answers.{reply_of};
 
 use gomp_share_plain::Seen;
 use gomp_types::{Call, EndKind, Limits, LoopDesc, Refusal, Reply, Shape, trips};
 
-/// Why a member that sees this of its place may not make this call, by the tests of this crate:
-/// the first that holds. Those that compare it with other members are not among them.
+/// Why a member that sees this of its place may not make this call: the first test that holds of
+/// those that its place among the shares decides.
+///
+/// `Mismatch`, which compares it with other members, is not among them, nor are the tests on the
+/// team and on an open wait.
 pub fn own_refusal(seen: &Seen, limits: &Limits, call: &Call) -> Option<Refusal>
     ensures { result ≡ first_refusal (own_tests limits.now seen.now call.now) }
 {
@@ -20,6 +24,7 @@ pub fn own_refusal(seen: &Seen, limits: &Limits, call: &Call) -> Option<Refusal>
         Call::LoopNext => next_refusal(seen),
         Call::LoopEnd => end_refusal(seen, EndKind::Wait),
         Call::LoopEndNowait => end_refusal(seen, EndKind::Nowait),
+        Call::Barrier | Call::RegionEnd if seen.current.is_some() => Some(Refusal::InsideShare),
         Call::Barrier | Call::RegionEnd | Call::Resume => None,
     }
 }
@@ -27,7 +32,7 @@ pub fn own_refusal(seen: &Seen, limits: &Limits, call: &Call) -> Option<Refusal>
 /// Why a member may not start this loop: `InsideShare`, `ZeroStep`, `BadChunk`, `LoopTooLong` or
 /// `TooManyShares`.
 pub fn start_refusal(seen: &Seen, limits: &Limits, desc: &LoopDesc) -> Option<Refusal>
-    ensures first { result ≡ first_refusal (start_tests limits.now seen.now desc.now) }
+    ensures first { result ≡ first_refusal (own_start_tests limits.now seen.now desc.now) }
     ensures few { IfNone result (seen.now.entered < 2 ^ 32) }
 {
     if seen.current.is_some() {
@@ -44,7 +49,7 @@ pub fn start_refusal(seen: &Seen, limits: &Limits, desc: &LoopDesc) -> Option<Re
 
 /// Why a member may not ask for the next chunk: `OutsideShare` or `Drained`.
 pub fn next_refusal(seen: &Seen) -> Option<Refusal>
-    ensures { result ≡ first_refusal (next_tests seen.now) }
+    ensures { result ≡ first_refusal (own_next_tests seen.now) }
 {
     if seen.current.is_none() {
         return Some(Refusal::OutsideShare);
@@ -55,10 +60,10 @@ pub fn next_refusal(seen: &Seen) -> Option<Refusal>
     None
 }
 
-/// Why a member may not end its loop as one that ends so: `OutsideShare`, `EndDiffers` or
+/// Why a member may not end its loop by the call for this end kind: `OutsideShare`, `EndDiffers` or
 /// `NotDrained`.
 pub fn end_refusal(seen: &Seen, end_kind: EndKind) -> Option<Refusal>
-    ensures { result ≡ first_refusal (end_tests end_kind seen.now) }
+    ensures { result ≡ first_refusal (own_end_tests end_kind seen.now) }
 {
     let Some((_, shape)) = seen.current else {
         return Some(Refusal::OutsideShare);
@@ -72,8 +77,9 @@ pub fn end_refusal(seen: &Seen, end_kind: EndKind) -> Option<Refusal>
     None
 }
 
-/// The reply to a member that was given this piece of its share, as the value of the first
-/// iteration and the number of them; `NoChunk` where it was given none.
+/// The reply to a member that was given this piece of its share, from iteration `low` on, `high`
+/// excluded: the value of the first iteration and how many there are. `NoChunk` where it was given
+/// none.
 pub fn piece_reply(shape: &Shape, piece: Option<(u64, u64)>) -> Reply
     requires shape { IsShape shape.now }
     requires within { ForSome piece (λ p. (p.0 < p.1) × (p.1 ≤ shape.now.trips)) }

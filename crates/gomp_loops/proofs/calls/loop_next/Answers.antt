@@ -1,9 +1,7 @@
-use Rattle.std.proofs.Common.{◌≡◌, refl, ap, ◌∙◌, sym, Some, subst, ℕ, List}
-use Rattle.gomp_types.specs.declared.shape.Shape.{Shape}
-use Rattle.gomp_types.specs.declared.event.Event.{Event}
+use Rattle.std.proofs.Common.{◌≡◌, ap, ◌∙◌, sym, Some}
 use Rattle.gomp_types.specs.Events.{open_share}
 use Rattle.gomp_share_plain.specs.declared.Seen.{Seen}
-use Rattle.gomp_loops.proofs.Steps.{next_is, next_reply, claim_valid, claim_within, deals, next_adds}
+use Rattle.gomp_loops.proofs.Steps.{next_is, next_reply, claim_valid, claim_within, deals}
 use Rattle.gomp_loops.proofs.calls.loop_next.Goals as goal
 
 pub returns-in-Some-clause-answer : goal.returns-in-Some-clause-answer

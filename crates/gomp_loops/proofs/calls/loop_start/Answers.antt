@@ -1,16 +1,10 @@
-use Rattle.std.proofs.Common.{◌≡◌, ◌<◌, ◌^◌, ℕ, List, ◌∷◌, refl, ap, ◌∙◌, sym, arith, true, false, None}
+use Rattle.std.proofs.Common.{◌≡◌, ◌<◌, ◌^◌, refl, ◌∙◌, sym, arith, false}
 use Rattle.std.specs.Prelude.{is_some}
-use Rattle.gomp_types.specs.declared.shape.Shape.{Shape}
-use Rattle.gomp_types.specs.declared.event.Event.{Event}
-use Rattle.gomp_types.specs.declared.event.Event.TheVariants.{Enter}
 use Rattle.gomp_types.specs.Tests.{first_refusal}
 use Rattle.gomp_types.specs.Iterations.{loop_tests}
 use Rattle.gomp_types.specs.Pieces.{shape_of}
 use Rattle.gomp_types.specs.Values.{IsShape}
 use Rattle.gomp_types.specs.Events.{entered}
-use Rattle.gomp_share_plain.specs.declared.Seen.{Seen}
-use Rattle.gomp_share_plain.specs.Calls.{seen_of}
-use Rattle.gomp_loops.specs.OwnTests.{start_tests}
 use Rattle.gomp_loops.proofs.Steps.{start_outside, outcome_value, open_entered, drained_entered, start_adds}
 use Rattle.gomp_loops.proofs.calls.loop_start.Goals as goal
 
