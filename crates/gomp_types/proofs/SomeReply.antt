@@ -169,3 +169,9 @@ by_first terms run step None e caused =
 
 pub some_reply_holds : (terms : Terms) (run : Record) (step : Step) → Caused terms run → SomeReply terms run step
 some_reply_holds terms run step caused = by_first terms run step (refusal_of terms step (waits_of step.member run).open_call (events run)) refl caused
+
+-- the first test that holds is an answer
+pub refused_holds : (terms : Terms) (run : Record) (step : Step) (refusal : Refusal) → refusal_of terms step (waits_of step.member run).open_call (events run) ≡ Some refusal → MayAnswer terms run step (Refused refusal)
+refused_holds terms run step refusal e =
+    may_refuse (refusal_of terms step (waits_of step.member run).open_call (events run)) refusal step.call e
+    (not_memory (tests_of terms step (waits_of step.member run).open_call (events run)) refusal (whole_row terms step (waits_of step.member run).open_call (events run)) e)

@@ -7,8 +7,8 @@ use Rattle.gomp_types.specs.declared.event.Event.{Event}
 use Rattle.gomp_types.specs.declared.event.Event.TheVariants.{Enter, Take, Drained, End, Arrive, Pass}
 use Rattle.gomp_types.specs.Events.{arrival, tag_at}
 use Rattle.gomp_types.specs.Deals.{schedule}
-use Rattle.gomp_types.specs.Rules.{Always, ShareRule, TeamRule}
-use Rattle.gomp_types.specs.Laws.{Stands, BarriersInTurn, PassesLast, SameArrivals}
+use Rattle.gomp_types.specs.Rules.{Always, ShareRule, ArrivalRule, TeamRule}
+use Rattle.gomp_types.specs.Laws.{Stands, BarriersInTurn, PassesLast, SameArrivals, ArrivalLaws}
 use Rattle.gomp_types.specs.Headline.{Headline}
 use Rattle.gomp_types.proofs.Booleans.{tells, is_equal, same_number, and_left, and_right, some_of, every_tells}
 use Rattle.gomp_types.proofs.SharesKeep.{always, shares_keep}
@@ -26,7 +26,16 @@ share_rules members h all = always (TeamRule members) (ShareRule (schedule membe
 
 -- Arrivals
 
-tag_stays : (members g : ℕ) (tag : Tag) (event : Event) (earlier : List Event) → TeamRule members event earlier → tag_at g earlier ≡ Some tag → tag_at g (event ∷ earlier) ≡ Some tag
+-- and that of the arrivals
+arrival_rule : (members : ℕ) (event : Event) (earlier : List Event) → TeamRule members event earlier → Always (TeamRule members) earlier → ArrivalRule members event earlier
+arrival_rule members (Arrive barrier m tag) earlier rule all = rule
+arrival_rule members (Pass barrier m) earlier rule all = rule
+arrival_rule members _ earlier rule all = tt
+
+arrival_rules : (members : ℕ) (h : List Event) → Always (TeamRule members) h → Always (ArrivalRule members) h
+arrival_rules members h all = always (TeamRule members) (ArrivalRule members) (arrival_rule members) h all
+
+tag_stays : (members g : ℕ) (tag : Tag) (event : Event) (earlier : List Event) → ArrivalRule members event earlier → tag_at g earlier ≡ Some tag → tag_at g (event ∷ earlier) ≡ Some tag
 tag_stays members g tag (Arrive barrier member other) earlier rule at =
     elim (cases_Bool (barrier == g)) [
       | inl e ↦ rw e (let same : tag ≡ other = rule.same tag (rw (is_equal barrier g e) at) in rw same refl)
@@ -34,7 +43,7 @@ tag_stays members g tag (Arrive barrier member other) earlier rule at =
     ]
 tag_stays members g tag _ earlier rule at = at
 
-tag_stands : (members g m : ℕ) (tag : Tag) (h : List Event) → Always (TeamRule members) h → Stands (Arrive g m tag) h → tag_at g h ≡ Some tag
+tag_stands : (members g m : ℕ) (tag : Tag) (h : List Event) → Always (ArrivalRule members) h → Stands (Arrive g m tag) h → tag_at g h ≡ Some tag
 tag_stands members g m tag [] all stands = absurd stands
 tag_stands members g m tag (Arrive barrier member other ∷ earlier) all (inl e) =
     let number : barrier ≡ g = cc in
@@ -43,14 +52,14 @@ tag_stands members g m tag (Arrive barrier member other ∷ earlier) all (inl e)
 tag_stands members g m tag (_ ∷ earlier) all (inl e) = absurd (cc)
 tag_stands members g m tag (event ∷ earlier) all (inr stands) = tag_stays members g tag event earlier all.0 (tag_stands members g m tag earlier all.1 stands)
 
-barriers_in_turn : (members : ℕ) (event : Event) (earlier : List Event) → TeamRule members event earlier → Always (TeamRule members) earlier → BarriersInTurn event earlier
+barriers_in_turn : (members : ℕ) (event : Event) (earlier : List Event) → ArrivalRule members event earlier → Always (ArrivalRule members) earlier → BarriersInTurn event earlier
 barriers_in_turn members (Arrive barrier m tag) earlier rule all = rule.number
 barriers_in_turn members (Pass barrier m) earlier rule all = rule.number
 barriers_in_turn members _ earlier rule all = tt
 
-same_arrivals : (members : ℕ) (h : List Event) → Always (TeamRule members) h → SameArrivals h
+same_arrivals : (members : ℕ) (h : List Event) → Always (ArrivalRule members) h → SameArrivals h
 same_arrivals members h all = record {
-  turns = always (TeamRule members) BarriersInTurn (barriers_in_turn members) h all;
+  turns = always (ArrivalRule members) BarriersInTurn (barriers_in_turn members) h all;
   tags = λ barrier m n one other first second.
     let a = tag_stands members barrier m one h all first in
     let b = tag_stands members barrier n other h all second in cc;
@@ -65,19 +74,27 @@ arrival_stands g m tag (Arrive barrier member other ∷ earlier) at =
     ]
 arrival_stands g m tag (_ ∷ earlier) at = inr (arrival_stands g m tag earlier at)
 
-passes_last : (members : ℕ) (event : Event) (earlier : List Event) → TeamRule members event earlier → Always (TeamRule members) earlier → PassesLast members event earlier
+passes_last : (members : ℕ) (event : Event) (earlier : List Event) → ArrivalRule members event earlier → Always (ArrivalRule members) earlier → PassesLast members event earlier
 passes_last members (Pass barrier m) earlier rule all = λ x lt.
     let found = some_of (arrival barrier x earlier) (every_tells members (λ y. is_some (arrival barrier y earlier)) x rule.met lt) in
     (found.0, arrival_stands barrier x found.0 earlier found.1)
 passes_last members _ earlier rule all = tt
 
+-- the laws of the arrivals, from their rule alone
+pub arrivals_keep : (members : ℕ) (h : List Event) → Always (ArrivalRule members) h → ArrivalLaws members h
+arrivals_keep members h all = record {
+  same_arrivals = same_arrivals members h all;
+  passes = always (ArrivalRule members) (PassesLast members) (passes_last members) h all;
+}
+
 -- the headline, from the rule of the team alone
 pub team_keeps : (members : ℕ) (h : List Event) → Always (TeamRule members) h → Headline members h
 team_keeps members h all =
-    let shares = shares_keep (schedule members) members h (share_rules members h all) in record {
+    let shares = shares_keep (schedule members) members h (share_rules members h all) in
+    let arrivals = arrivals_keep members h (arrival_rules members h all) in record {
       taken_once = shares.taken_once;
       whole = shares.whole;
       same_shares = shares.same_shares;
-      same_arrivals = same_arrivals members h all;
-      passes = always (TeamRule members) (PassesLast members) (passes_last members) h all;
+      same_arrivals = arrivals.same_arrivals;
+      passes = arrivals.passes;
     }

@@ -88,3 +88,8 @@ pub record ShareLaws (deal : Deal) (members : ℕ) (h : List Event) : Type 0 whe
   pub taken_once : TakenOnce deal h
   pub whole : WholeWhereOver members h
   pub same_shares : SameShares members h
+
+-- what the arrivals alone keep, however they are kept
+pub record ArrivalLaws (members : ℕ) (h : List Event) : Type 0 where
+  pub same_arrivals : SameArrivals h
+  pub passes : Always (PassesLast members) h

@@ -52,6 +52,12 @@ pub record MayPass (members barrier m : ℕ) (earlier : List Event) : Type 0 whe
   pub number : barrier ≡ passed m earlier
   pub met : barrier_met members barrier earlier ≡ true
 
+-- the rule of the arrivals alone
+abbrev pub ArrivalRule : ℕ → Event → List Event → Type 0
+ArrivalRule members (Arrive barrier m tag) earlier = MayArrive barrier m tag earlier
+ArrivalRule members (Pass barrier m) earlier = MayPass members barrier m earlier
+ArrivalRule members _ earlier = Unit {0}
+
 -- the rule of a team
 abbrev pub TeamRule : ℕ → Event → List Event → Type 0
 TeamRule members (Arrive barrier m tag) earlier = MayArrive barrier m tag earlier

@@ -8,15 +8,17 @@ ghost use Rattle.std.specs.Prelude.{ℕ, List, Some, None, true, pos, ◌<◌, �
 ghost use Rattle.gomp_types.specs.declared.call.Step.{Step};
 ghost use Rattle.gomp_types.specs.declared.reply.Reply.{Reply};
 ghost use Rattle.gomp_types.specs.declared.event.Event.{Event};
-ghost use Rattle.gomp_types.specs.Record.{Record, events};
-ghost use Rattle.gomp_types.specs.Causes.{Terms, MayAnswer, Caused, OneReply, SomeReply};
+ghost use Rattle.gomp_types.specs.Record.{Record, events, waits_of};
+ghost use Rattle.gomp_types.specs.declared.refusal.Refusal.{Refusal};
+ghost use Rattle.gomp_types.specs.declared.reply.Reply.TheVariants.{Refused};
+ghost use Rattle.gomp_types.specs.Causes.{Terms, refusal_of, MayAnswer, Caused, OneReply, SomeReply};
 ghost use Rattle.gomp_types.specs.declared.shape.Shape.{Shape};
 ghost use Rattle.gomp_types.specs.Pieces.{pieces_of, Tiles};
 ghost use Rattle.gomp_types.specs.Values.{IsShape, value_at, iteration_at};
 ghost use Rattle.gomp_types.specs.Deals.{Deal, IsDealt, schedule, next_for};
 ghost use Rattle.gomp_types.specs.Events.{open_share, has_drained};
-ghost use Rattle.gomp_types.specs.Rules.{Always, ShareRule};
-ghost use Rattle.gomp_types.specs.Laws.{ShareLaws};
+ghost use Rattle.gomp_types.specs.Rules.{Always, ArrivalRule, ShareRule};
+ghost use Rattle.gomp_types.specs.Laws.{ArrivalLaws, ShareLaws};
 ghost use Rattle.gomp_types.specs.Headline.{Headline};
 
 /// **The headline**: for every team size and list of member steps, no iteration is taken twice, a
@@ -37,6 +39,12 @@ pub fn one_reply()
 /// `one_reply`, the record decides exactly one, want of memory aside.
 pub fn some_reply()
     ensures { (terms : Terms) → (run : Record) → (step : Step) → Caused terms run → SomeReply terms run step }
+{
+}
+
+/// The first test of a step that holds is an answer to it.
+pub fn first_refused()
+    ensures { (terms : Terms) → (run : Record) → (step : Step) → (refusal : Refusal) → refusal_of terms step (waits_of step.member run).open_call (events run) ≡ Some refusal → MayAnswer terms run step (Refused refusal) }
 {
 }
 
@@ -63,6 +71,13 @@ pub fn fair_schedule()
 /// keep their laws: taken once, whole, same shares.
 pub fn share_laws()
     ensures { (deal : Deal) → (members : ℕ) → (h : List Event) → Always (ShareRule deal members) h → ShareLaws deal members h }
+{
+}
+
+/// However the arrivals are kept, events that keep their rule keep their laws: all members arrive
+/// alike, at one barrier after another, and none passes before all arrived.
+pub fn arrival_laws()
+    ensures { (members : ℕ) → (h : List Event) → Always (ArrivalRule members) h → ArrivalLaws members h }
 {
 }
 
