@@ -1,15 +1,15 @@
 -- A list of calls, one by one.
-use Rattle.std.proofs.Common.{◌≡◌, ℕ, ◌+◌, ◌<◌, Bool, true, false, List, [], ◌∷◌, ◌++◌, length, Some, None, Ok, Err, refl, ap, sym, ◌∙◌, arith}
-use Rattle.std.specs.Prelude.{Option, Result, ◌&&◌, nat_lt, not, is_some, is_none, is_ok}
+use Rattle.std.proofs.Common.{◌≡◌, ℕ, ◌<◌, Bool, true, false, List, [], ◌∷◌, ◌++◌, length, Some, None, Err, refl, arith}
+use Rattle.std.specs.Prelude.{Option, ◌&&◌, nat_lt, is_none, is_ok}
 use Rattle.std.proofs.lemmas.Bool.Decides.{nat_tests}
 use Rattle.gomp_types.specs.declared.loop_desc.LoopDesc.{LoopDesc}
 use Rattle.gomp_types.specs.declared.refusal.Refusal.{Refusal}
 use Rattle.gomp_types.specs.declared.event.Event.{Event}
 use Rattle.gomp_types.specs.Tests.{first_refusal, outcome}
 use Rattle.gomp_types.specs.Iterations.{loop_tests}
-use Rattle.gomp_types.proofs.Booleans.{and_left, and_right}
+use Rattle.gomp_types.proofs.Booleans.{and_right}
 use Rattle.gomp_share_plain.specs.declared.Seen.{Seen}
-use Rattle.gomp_share_plain.specs.declared.calls.ShareCall.TheVariants.{Open, Claim, Leave}
+use Rattle.gomp_share_plain.specs.declared.calls.ShareCall.TheVariants.{Open}
 use Rattle.gomp_share_plain.specs.declared.calls.ShareStep.{ShareStep}
 use Rattle.gomp_share_plain.specs.declared.calls.ShareAnswer.{ShareAnswer}
 use Rattle.gomp_share_plain.specs.Calls.{seen_of}

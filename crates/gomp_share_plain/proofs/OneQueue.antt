@@ -1,12 +1,12 @@
 -- The members of a team take from one queue, which has the pieces of the share.
-use Rattle.std.proofs.Common.{◌≡◌, ℕ, ◌+◌, Bool, true, false, List, ◌∷◌, refl, slice_get}
-use Rattle.std.specs.Prelude.{Option, ◌==◌, if◌then◌else◌}
+use Rattle.std.proofs.Common.{◌≡◌, ℕ, ◌+◌, false, List, ◌∷◌, refl, slice_get}
+use Rattle.std.specs.Prelude.{◌==◌}
 use Rattle.gomp_types.specs.declared.loop_desc.Sched.{Sched}
 use Rattle.gomp_types.specs.declared.loop_desc.Sched.TheVariants.{Dynamic}
 use Rattle.gomp_types.specs.declared.shape.Shape.{Shape}
 use Rattle.gomp_types.specs.declared.event.Event.{Event}
 use Rattle.gomp_types.specs.declared.event.Event.TheVariants.{Take}
-use Rattle.gomp_types.specs.Pieces.{Piece, pieces_of, sched_pieces}
+use Rattle.gomp_types.specs.Pieces.{pieces_of, sched_pieces}
 use Rattle.gomp_types.specs.Deals.{deal_of, schedule, taken_in, next_for}
 use Rattle.gomp_types.proofs.Booleans.{same_number}
 use Rattle.gomp_share_plain.specs.Plain.{taken_for}

@@ -1,7 +1,7 @@
 -- Each call keeps the plain shares in step with the events.
-use Rattle.std.proofs.Common.{◌≡◌, ◌≢◌, ℕ, ◌+◌, ◌-◌, ◌%◌, ◌^◌, ◌<◌, ◌≤◌, suc, zero, Bool, true, false, nat_lt, List, [], ◌∷◌, length, get_or, slice_get, slice_set, Some, None, ◌⊎◌, inl, inr, refl, ap, ◌∙◌, sym, subst, arith, replicate}
-use Rattle.std.specs.Prelude.{Option, not, ◌==◌, ◌||◌, if◌then◌else◌, All, is_some, IfSome}
-use Rattle.std.proofs.lemmas.Bool.Decides.{nat_tests, eqb_tells, leb_tells}
+use Rattle.std.proofs.Common.{◌≡◌, ◌≢◌, ℕ, ◌+◌, ◌-◌, ◌%◌, ◌^◌, ◌<◌, ◌≤◌, suc, zero, true, false, nat_lt, List, [], ◌∷◌, length, get_or, slice_get, slice_set, Some, None, inl, inr, refl, ap, ◌∙◌, sym, subst, arith, replicate}
+use Rattle.std.specs.Prelude.{Option, not, ◌==◌, All, IfSome}
+use Rattle.std.proofs.lemmas.Bool.Decides.{nat_tests, eqb_tells}
 use Rattle.std.proofs.lemmas.Bool.{cases_Bool}
 use Rattle.std.proofs.lemmas.List.{length-set, get_or-replicate, length-replicate}
 use Rattle.std.proofs.lemmas.Option.{slice_get-get_or, slice_get_within, get_or_from_slice_get}
@@ -13,9 +13,9 @@ use Rattle.gomp_types.specs.Shapes.{same_shape}
 use Rattle.gomp_types.specs.Events.{entered, open_share, open_number, share_number, has_ended, has_drained, shape_at, is_inside, is_over, has_room}
 use Rattle.gomp_types.specs.Refusals.{shape_differs}
 use Rattle.gomp_types.specs.Values.{IsShape}
-use Rattle.gomp_types.specs.Deals.{Deal, IsDealt, schedule, taken_in, next_for}
+use Rattle.gomp_types.specs.Deals.{Deal, IsDealt, schedule, next_for}
 use Rattle.gomp_types.specs.Rules.{Always, ShareRule, MayEnter, MayTake, HasNone}
-use Rattle.gomp_types.proofs.Booleans.{some_of, every_tells, every_by, or_tells, or_left, or_right, none_of, differs, same_number}
+use Rattle.gomp_types.proofs.Booleans.{some_of, every_tells, every_by, or_tells, or_left, or_right, none_of}
 use Rattle.gomp_types.proofs.Compared.{same_shape_is}
 use Rattle.gomp_types.proofs.Lists.{slice_get-set, slice_get-set_same, slice_get-set_other}
 use Rattle.gomp_share_plain.specs.Calls.{Claims, CanLeave, seen_of}
@@ -177,8 +177,8 @@ enters members seats opened places h m seat shape st at out before valid fair sa
       beyond = λ i past. (grind (arith, nat_tests, (st.beyond i past).0, here), (st.beyond i past).1);
       rule = (
         enter_rule members m shape h lt out valid fair
-        (λ other found. let one : Some other ≡ Some shape = sym found ∙ ap (λ n. shape_at n h) here ∙ same in cc)
-        (subst (λ n. has_room members n h ≡ true) (sym here) (room_before members seats opened places h seat.started st before)),
+            (λ other found. let one : Some other ≡ Some shape = sym found ∙ ap (λ n. shape_at n h) here ∙ same in cc)
+            (subst (λ n. has_room members n h ≡ true) (sym here) (room_before members seats opened places h seat.started st before)),
         st.rule,
       );
     }
@@ -238,8 +238,8 @@ opens members seats count places h m seat shape st at out now valid fair room =
       beyond = λ i past. (grind (arith, nat_tests, (st.beyond i (omega arith)).0, here), (st.beyond i (omega arith)).1);
       rule = (
         enter_rule members m shape h lt out valid fair
-        (λ other found. absurd (let n : Some other ≡ None = sym found ∙ ap (λ n. shape_at n h) here ∙ none.0 in cc))
-        (subst (λ n. has_room members n h ≡ true) (sym here) (room_by members seats count places h count st room)),
+            (λ other found. absurd (let n : Some other ≡ None = sym found ∙ ap (λ n. shape_at n h) here ∙ none.0 in cc))
+            (subst (λ n. has_room members n h ≡ true) (sym here) (room_by members seats count places h count st room)),
         st.rule,
       );
     }
@@ -519,21 +519,21 @@ made seats n small e = record {
   team = rw e (rw (length-replicate {A = Seat} n (record { started = 0; ended = 0; drained = false })) small);
   eight = refl;
   seat = λ m seat at.
-    let new : Seat = record { started = 0; ended = 0; drained = false } in
-    let in_new : slice_get (replicate n new) m ≡ Some seat = rw e at at in
-    let lt : m < n = rw (length-replicate n new) at (slice_get_within _ m seat in_new) in
-    let one : new ≡ seat = sym (get_or-replicate n m new seat lt) ∙ get_or_from_slice_get (replicate n new) m seat seat in_new in
-    rw (← one) (record {
-      started = refl;
-      ended = λ i. grind (arith, nat_tests);
-      drained = refl;
-      in_order = omega arith;
-      one = omega arith;
-      known = omega arith;
-      near = omega arith;
-      outside = λ e. refl;
-      inside = λ e. absurd (omega arith);
-    });
+      let new : Seat = record { started = 0; ended = 0; drained = false } in
+      let in_new : slice_get (replicate n new) m ≡ Some seat = rw e at at in
+      let lt : m < n = rw (length-replicate n new) at (slice_get_within _ m seat in_new) in
+      let one : new ≡ seat = sym (get_or-replicate n m new seat lt) ∙ get_or_from_slice_get (replicate n new) m seat seat in_new in
+      rw (← one) (record {
+        started = refl;
+        ended = λ i. grind (arith, nat_tests);
+        drained = refl;
+        in_order = omega arith;
+        one = omega arith;
+        known = omega arith;
+        near = omega arith;
+        outside = λ e. refl;
+        inside = λ e. absurd (omega arith);
+      });
   place = λ i low high. absurd (omega arith);
   beyond = λ i past. (refl, λ queue_of q. refl);
   rule = tt;

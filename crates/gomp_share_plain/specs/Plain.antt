@@ -1,5 +1,5 @@
 -- What the plain shares keep of the events: the representation, and when it stands for a list of events. (own)
-use Rattle.std.specs.Prelude.{ℕ, ◌+◌, ◌%◌, ◌^◌, ◌<◌, ◌≤◌, ◌≡◌, nat_lt, List, [], ◌∷◌, Option, Some, None, length, slice_get, if◌then◌else◌, false}
+use Rattle.std.specs.Prelude.{ℕ, ◌+◌, ◌%◌, ◌^◌, ◌<◌, ◌≤◌, ◌≡◌, nat_lt, List, Option, Some, None, length, slice_get, if◌then◌else◌, false}
 use Rattle.gomp_types.specs.declared.shape.Shape.{Shape}
 use Rattle.gomp_types.specs.declared.event.Event.{Event}
 use Rattle.gomp_types.specs.Values.{IsShape}

@@ -4,7 +4,7 @@ use Rattle.std.proofs.Common.{sym, ap, ◌∙◌, arith, inl, inr, get_or}
 use Rattle.std.proofs.lemmas.Bool.Decides.{nat_tests, eqb_tells}
 use Rattle.std.proofs.lemmas.Option.{slice_get-get_or}
 use Rattle.gomp_types.specs.declared.event.Event.{Event}
-use Rattle.gomp_types.specs.declared.event.Event.TheVariants.{Enter, Take, Drained, End, Arrive, Pass, Break}
+use Rattle.gomp_types.specs.declared.event.Event.TheVariants.{Arrive, Pass, Break}
 use Rattle.gomp_types.specs.Rules.{ShareRule}
 use Rattle.gomp_types.specs.Deals.{schedule, taken_in}
 use Rattle.gomp_types.specs.Events.{shape_at}

@@ -102,6 +102,7 @@ pub fn make_calls<S: Shares>(
     count: u16,
     steps: &[ShareStep],
 ) -> Result<(S, Vec<ShareAnswer>), AllocError>
+    ensures members { IfOk result (λ made. S.members made.0 ≡ count) }
     ensures each { IfOk result (λ made. vec_len made.1 ≡ length steps.now) }
     ensures answers { IfOk result (λ made. AreAnswers count steps.now made.1.items []) }
     ensures stands { IfOk result (λ made. S.stands made.0 (events_after steps.now made.1.items [])) }

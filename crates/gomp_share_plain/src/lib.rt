@@ -15,11 +15,10 @@ ghost use Rattle.gomp_types.specs.Deals.{schedule};
 ghost use Rattle.gomp_share_plain.specs.Calls.{seen_of, CanOpen, MayOpen, opened, CanClaim, Claims, claimed, CanLeave, left, IsAside, EachStands};
 ghost use Rattle.gomp_share_plain.specs.declared.Seen.{Seen};
 
-use gomp_types::Shape;
-use std::alloc::{AllocError, Global};
-
 pub use calls::{ShareAnswer, ShareCall, ShareStep, make_call, make_calls};
+use gomp_types::Shape;
 pub use plain::PlainShares;
+use std::alloc::{AllocError, Global};
 
 /// The answer to a member that opens its next share.
 #[derive(Clone, Copy, Debug, PartialEq, Eq)]

@@ -7,8 +7,7 @@ ghost use Rattle.gomp_share_plain.specs.PlainLaws.{plain_aside, plain_agrees};
 
 use crate::{Opening, Seen, Shares};
 use gomp_chunks::Plan;
-use gomp_types::{OPEN_SHARES, Shape};
-use gomp_types::laws;
+use gomp_types::{OPEN_SHARES, Shape, laws};
 use std::alloc::{AllocError, Global};
 use std::marker::Model;
 
@@ -160,9 +159,7 @@ impl Shares for PlainShares {
 fn has_room(seats: &[Seat], number: u64) -> bool
     ensures { IsTrue result ↔ All (λ seat. number < seat.ended + 8) seats.now }
 {
-    seats
-        .iter()
-        .all(|seat| number < OPEN_SHARES || number - OPEN_SHARES < seat.ended)
+    seats.iter().all(|seat| number < OPEN_SHARES || number - OPEN_SHARES < seat.ended)
 }
 
 /// The share of this number, which lies at its place.
@@ -172,5 +169,98 @@ fn share_at(places: &[Option<OpenShare>; 8], number: u64) -> Option<(u64, Shape)
     match places[(number % 8) as usize] {
         Some(share) => Some((number, share.shape)),
         None => None,
+    }
+}
+
+#[cfg(test)]
+mod tests {
+    use super::*;
+    use crate::ShareAnswer::{Claimed, Left, NotMade, Opened};
+    use crate::ShareCall::{Claim, Leave, Open};
+    use crate::{ShareAnswer, ShareCall, ShareStep, make_calls};
+    use gomp_types::{EndKind, LoopDesc, Sched};
+    use std::process::Abort;
+    use std::test::Fail;
+
+    // A member, what it calls and what it is answered.
+    type Line = (u16, ShareCall, ShareAnswer);
+
+    // A new team of two makes these calls and gets these answers.
+    fn walk(rt: &impl Abort, alloc: Global, lines: &[Line]) -> Result<(), Fail> {
+        let mut steps = Vec::new(alloc);
+        for line in lines {
+            steps.push(ShareStep {
+                member: line.0,
+                call: line.1,
+            })?;
+        }
+        let (_, answers) = make_calls::<PlainShares>(alloc, 2, &steps)?;
+        for (number, (line, answer)) in lines.iter().zip(answers.iter()).enumerate() {
+            assert_eq!(rt; *answer, line.2, "at line {number} of {}", lines.len());
+        }
+        Ok(())
+    }
+
+    fn dynamic(end: i64, chunk: i64, end_kind: EndKind) -> ShareCall {
+        Open(LoopDesc {
+            start: 0,
+            end,
+            incr: 1,
+            sched: Sched::Dynamic,
+            chunk,
+            end_kind,
+        })
+    }
+
+    #[test]
+    fn makes_teams(rt: HostRuntime) -> Result<(), Fail> {
+        for count in [1, 2, 64] {
+            let shares = PlainShares::make(rt.alloc(), count)?;
+            assert_eq!(rt; shares.seats.len(), count as usize);
+        }
+        Ok(())
+    }
+
+    #[test]
+    fn hands_out_each_piece(rt: HostRuntime) -> Result<(), Fail> {
+        let open = dynamic(10, 3, EndKind::Wait);
+        let lines = [
+            (0, open, Opened(Opening::Entered)),
+            (0, Claim, Claimed(Some((0, 3)))),
+            (1, open, Opened(Opening::Entered)),
+            (1, Claim, Claimed(Some((3, 6)))),
+            (0, Claim, Claimed(Some((6, 9)))),
+            (1, Claim, Claimed(Some((9, 10)))),
+            (0, Claim, Claimed(None)),
+            (1, Claim, Claimed(None)),
+            (1, Claim, NotMade),
+            (0, Leave, Left),
+            (1, Leave, Left),
+            (0, Claim, NotMade),
+            (2, open, NotMade),
+        ];
+        walk(&rt, rt.alloc(), &lines)
+    }
+
+    #[test]
+    fn keeps_eight_open(rt: HostRuntime) -> Result<(), Fail> {
+        let open = dynamic(1, 1, EndKind::Nowait);
+        let mut lines = Vec::new(rt.alloc());
+        for _ in 0..8 {
+            lines.extend_from_slice(&[
+                (0, open, Opened(Opening::Entered)),
+                (0, Claim, Claimed(Some((0, 1)))),
+                (0, Claim, Claimed(None)),
+                (0, Leave, Left),
+            ])?;
+        }
+        lines.extend_from_slice(&[
+            (0, open, Opened(Opening::NotYet)),
+            (1, open, Opened(Opening::Entered)),
+            (1, Claim, Claimed(None)),
+            (1, Leave, Left),
+            (0, open, Opened(Opening::Entered)),
+        ])?;
+        walk(&rt, rt.alloc(), &lines)
     }
 }

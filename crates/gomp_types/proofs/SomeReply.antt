@@ -80,9 +80,6 @@ may_refuse first _ call e differ = e
 
 -- What is dealt out
 
-
-
-
 -- the reply to a member that asks for a piece
 dealt_reply : Shape → Option Piece → Reply
 dealt_reply shape None = NoChunk
@@ -110,9 +107,11 @@ start_some members m loop h lt =
     elim (cases_Bool (has_room members (entered m h) h)) [
       | inl room ↦
           let fair = schedule_deals members (shape_of loop) (omega arith) (chunk_some loop.sched loop.chunk) in
-          let next = next_for (schedule members) (shape_of loop) (entered m h) m h in
-          (dealt_reply (shape_of loop) next, starts members m (shape_of loop) h next room
-            (deals_out members m (entered m h, shape_of loop) h next refl (piece_some members m (entered m h) (shape_of loop) h lt fair)))
+          let next = next_for (schedule members) (shape_of loop) (entered m h) m h in (
+            dealt_reply (shape_of loop) next,
+            starts members m (shape_of loop) h next room
+                (deals_out members m (entered m h, shape_of loop) h next refl (piece_some members m (entered m h) (shape_of loop) h lt fair)),
+          )
       | inr full ↦ (Wait, full)
     ]
 
@@ -159,9 +158,11 @@ may_answer terms run step (Refused refusal) none may =
 may_answer terms run step reply none may = (none, may)
 
 by_first : (terms : Terms) (run : Record) (step : Step) (first : Option Refusal) → refusal_of terms step (waits_of step.member run).open_call (events run) ≡ first → Caused terms run → SomeReply terms run step
-by_first terms run step (Some refusal) e caused =
-    (Refused refusal, may_refuse (refusal_of terms step (waits_of step.member run).open_call (events run)) refusal step.call e
-      (not_memory (tests_of terms step (waits_of step.member run).open_call (events run)) refusal (whole_row terms step (waits_of step.member run).open_call (events run)) e))
+by_first terms run step (Some refusal) e caused = (
+  Refused refusal,
+  may_refuse (refusal_of terms step (waits_of step.member run).open_call (events run)) refusal step.call e
+      (not_memory (tests_of terms step (waits_of step.member run).open_call (events run)) refusal (whole_row terms step (waits_of step.member run).open_call (events run)) e),
+)
 by_first terms run step None e caused =
     let passed = tested terms step (waits_of step.member run).open_call (events run) (pending_holds terms run step.member caused) e in
     let found = call_some (is_resume step.call) terms.members step.member (meant step.call (waits_of step.member run).open_call) (events run) passed (rule_holds terms run caused) in

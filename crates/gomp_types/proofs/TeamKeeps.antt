@@ -61,8 +61,8 @@ same_arrivals : (members : ℕ) (h : List Event) → Always (ArrivalRule members
 same_arrivals members h all = record {
   turns = always (ArrivalRule members) BarriersInTurn (barriers_in_turn members) h all;
   tags = λ barrier m n one other first second.
-    let a = tag_stands members barrier m one h all first in
-    let b = tag_stands members barrier n other h all second in cc;
+      let a = tag_stands members barrier m one h all first in
+      let b = tag_stands members barrier n other h all second in cc;
 }
 
 arrival_stands : (g m : ℕ) (tag : Tag) (h : List Event) → arrival g m h ≡ Some tag → Stands (Arrive g m tag) h

@@ -44,15 +44,31 @@ pub enum Event {
         high: u64,
     },
     /// The member was told that nothing is left for it.
-    Drained { share: u64, member: u16 },
+    Drained {
+        share: u64,
+        member: u16,
+    },
     /// The member left the share.
-    End { share: u64, member: u16 },
+    End {
+        share: u64,
+        member: u16,
+    },
     /// The member arrived at a barrier.
-    Arrive { barrier: u64, member: u16, tag: Tag },
+    Arrive {
+        barrier: u64,
+        member: u16,
+        tag: Tag,
+    },
     /// The member passed a barrier.
-    Pass { barrier: u64, member: u16 },
+    Pass {
+        barrier: u64,
+        member: u16,
+    },
     /// The member's construct differed from the team's there, and broke the team.
-    Break { member: u16, place: Place },
+    Break {
+        member: u16,
+        place: Place,
+    },
 }
 
 impl Tag {

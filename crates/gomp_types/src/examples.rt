@@ -19,8 +19,7 @@ pub fn worked_runs()
     ensures whole_region { IsRun 1 whole_region }
     ensures differing_loop { IsRun 2 differing_loop }
     ensures differing_barrier { IsRun 2 differing_barrier }
-{
-}
+{}
 
 /// Loops over all values of an `i64` count without a wrap: by the largest step, the least one, 1, 0
 /// and 2^30.
@@ -30,8 +29,7 @@ pub fn loops_at_the_limits()
     ensures step_one { trips_of (over_all_values (pos 1)) ≡ Err LoopTooLong }
     ensures step_zero { trips_of (over_all_values (pos 0)) ≡ Err ZeroStep }
     ensures step_2_to_30 { trips_of (over_all_values (pos 1073741824)) ≡ Ok 17179869184 }
-{
-}
+{}
 
 /// These answers have none.
 pub fn wrong_answers()
@@ -65,5 +63,4 @@ pub fn wrong_answers()
     ensures other_loop { IsWrong 2 (take 1 differing_loop) (asks 1 (dynamic_loop (pos 2) (pos 0) (pos 10) WaitEnd)) (Chunk (pos 3) 2) }
     ensures other_barrier { IsWrong 2 (take 1 differing_barrier) (asks 1 RegionEnd) Passed }
     ensures like_loop { IsWrong 2 (take 1 loop_of_two) (asks 1 (dynamic_loop (pos 3) (pos 0) (pos 10) WaitEnd)) (Refused Mismatch) }
-{
-}
+{}

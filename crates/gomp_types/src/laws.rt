@@ -26,63 +26,53 @@ ghost use Rattle.gomp_types.specs.Headline.{Headline};
 /// constructs, and no member passes a barrier before all arrived.
 pub fn headline()
     ensures { (terms : Terms) → (run : Record) → Caused terms run → Headline terms.members (events run) }
-{
-}
+{}
 
 /// At most one reply to a step has its cause after a record, want of memory aside.
 pub fn one_reply()
     ensures { (terms : Terms) → (run : Record) → (step : Step) → (one : Reply) → (other : Reply) → MayAnswer terms run step one → MayAnswer terms run step other → OneReply one other }
-{
-}
+{}
 
 /// To each step some reply has its cause, after every record whose replies have theirs: with
 /// `one_reply`, the record decides exactly one, want of memory aside.
 pub fn some_reply()
     ensures { (terms : Terms) → (run : Record) → (step : Step) → Caused terms run → SomeReply terms run step }
-{
-}
+{}
 
 /// The first test of a step that holds is an answer to it.
 pub fn first_refused()
     ensures { (terms : Terms) → (run : Record) → (step : Step) → (refusal : Refusal) → refusal_of terms step (waits_of step.member run).open_call (events run) ≡ Some refusal → MayAnswer terms run step (Refused refusal) }
-{
-}
+{}
 
 /// An iteration's value tells its number.
 pub fn values_tell()
     ensures { (shape : Shape) → (k : ℕ) → shape.incr ≢ pos 0 → iteration_at shape (value_at shape k) ≡ k }
-{
-}
+{}
 
 /// The pieces of a share lead from its first iteration to its last: each begins where the one
 /// before it ends, and none is empty.
 pub fn pieces_tile()
     ensures { (members : ℕ) → (shape : Shape) → 0 < members → IsShape shape → Tiles 0 (pieces_of members shape) shape.trips }
-{
-}
+{}
 
 /// Each schedule deals fairly: each iteration lies in one piece, which is some member's to take.
 pub fn fair_schedule()
     ensures { (members : ℕ) → (shape : Shape) → 0 < members → IsShape shape → IsDealt (schedule members) members shape }
-{
-}
+{}
 
 /// However the pieces of the work-shares are dealt out, events that keep the rule of the shares
 /// keep their laws: taken once, whole, same shares.
 pub fn share_laws()
     ensures { (deal : Deal) → (members : ℕ) → (h : List Event) → Always (ShareRule deal members) h → ShareLaws deal members h }
-{
-}
+{}
 
 /// However the arrivals are kept, events that keep their rule keep their laws: all members arrive
 /// alike, at one barrier after another, and none passes before all arrived.
 pub fn arrival_laws()
     ensures { (members : ℕ) → (h : List Event) → Always (ArrivalRule members) h → ArrivalLaws members h }
-{
-}
+{}
 
 /// What a member was told stays so: nothing is left for it of the share that it is in.
 pub fn told_none()
     ensures { (deal : Deal) → (members : ℕ) → (m : ℕ) → (i : ℕ) → (shape : Shape) → (h : List Event) → Always (ShareRule deal members) h → open_share m h ≡ Some (i, shape) → has_drained m h ≡ true → next_for deal shape i m h ≡ None }
-{
-}
+{}

@@ -1,10 +1,7 @@
-use Rattle.std.proofs.Common.{arith, ◌<◌, ◌≡◌, ◌∙◌, sym, ap, true, Err}
-use Rattle.gomp_types.specs.Tests.{first_refusal, outcome}
-use Rattle.gomp_types.specs.Iterations.{loop_tests}
+use Rattle.std.proofs.Common.{arith, ◌<◌, ◌≡◌, ◌∙◌, sym, ap, true}
 use Rattle.gomp_types.specs.Pieces.{shape_of}
-use Rattle.gomp_share_plain.specs.declared.calls.ShareCall.{ShareCall}
 use Rattle.gomp_share_plain.specs.declared.calls.ShareCall.TheVariants.{Open}
-use Rattle.gomp_share_plain.specs.Runs.{may_make, Answers}
+use Rattle.gomp_share_plain.specs.Runs.{may_make}
 use Rattle.gomp_share_plain.proofs.CallRuns.{made, open_fits}
 use Rattle.gomp_share_plain.proofs.calls.make_call.Goals as goal
 

@@ -1,12 +1,10 @@
-use Rattle.std.proofs.Common.{◌≡◌, ◌<◌, ℕ, List, [], length, take, arith, subst}
+use Rattle.std.proofs.Common.{◌≡◌, ◌<◌, [], length, take, arith}
 use Rattle.std.specs.Prelude.{pos}
 use Rattle.std.proofs.lemmas.List.{take_more, length-take}
 use Rattle.std.proofs.lemmas.Grind.{common_steps}
 use Rattle.gomp_types.specs.declared.loop_desc.Sched.TheVariants.{Dynamic}
 use Rattle.gomp_types.specs.declared.loop_desc.EndKind.TheVariants.{Wait}
-use Rattle.gomp_types.specs.declared.event.Event.{Event}
 use Rattle.gomp_types.specs.Deals.{schedule}
-use Rattle.gomp_types.specs.Rules.{Always, ShareRule}
 use Rattle.gomp_share_plain.specs.declared.calls.ShareStep.{ShareStep}
 use Rattle.gomp_share_plain.specs.declared.calls.ShareCall.TheVariants.{Open}
 use Rattle.gomp_share_plain.specs.Runs.{events_after}

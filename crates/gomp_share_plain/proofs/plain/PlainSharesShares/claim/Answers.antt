@@ -1,8 +1,8 @@
-use Rattle.std.proofs.Common.{◌≡◌, ◌%◌, ◌<◌, ◌^◌, ℕ, arith, rules, refl, ◌∙◌, sym, ap, subst, length, slice_get, Option, Some, None}
+use Rattle.std.proofs.Common.{◌≡◌, ◌%◌, ◌<◌, ◌^◌, arith, rules, refl, ◌∙◌, sym, ap, subst, length, slice_get}
 use Rattle.std.proofs.lemmas.List.{length-set}
 use Rattle.std.proofs.lemmas.Option.{slice_get_read}
 use Rattle.gomp_types.specs.Pieces.{Tiles, pieces_of}
-use Rattle.gomp_share_plain.specs.Calls.{CanClaim, Claims}
+use Rattle.gomp_share_plain.specs.Calls.{CanClaim}
 use Rattle.gomp_share_plain.proofs.PlainKeeps.{claims, drains, place_is, piece_at, told, known_by, own_place, not_empty, here_valid}
 use Rattle.gomp_share_plain.proofs.plain.PlainSharesShares.claim.Goals as goal
 
@@ -40,10 +40,10 @@ returns-in_default-chunk-clause-answer c = λ h st0.
     rw (← c.self.view_is) (
     let size : c.len.result ≡ length c.self.inside.seats.items = search rules in
     let tiles : Tiles 0 (pieces_of (length c.self.inside.seats.items) c.in-Some.share.shape) c.in-Some.share.shape.trips =
-        subst (λ pieces. Tiles 0 pieces c.in-Some.share.shape.trips) (c.of-plan.ensures.pieces ∙ ap (λ n. pieces_of n c.in-Some.share.shape) size) c.of-plan.ensures.tiles in
+    subst (λ pieces. Tiles 0 pieces c.in-Some.share.shape.trips) (c.of-plan.ensures.pieces ∙ ap (λ n. pieces_of n c.in-Some.share.shape) size) c.of-plan.ensures.tiles in
     piece_at _ _ _ _ h c.args.member c.index-seat.result.now c.in-Some.share _ st at can.inside there (
-      sym c.in_default-chunk.is ∙ c.chunk.ensures.piece ∙ ap (λ pieces. slice_get pieces c.in-Some.share.taken) c.of-plan.ensures.pieces
-      ∙ ap (λ n. slice_get (pieces_of n c.in-Some.share.shape) c.in-Some.share.taken) size
+    sym c.in_default-chunk.is ∙ c.chunk.ensures.piece ∙ ap (λ pieces. slice_get pieces c.in-Some.share.taken) c.of-plan.ensures.pieces
+    ∙ ap (λ n. slice_get (pieces_of n c.in-Some.share.shape) c.in-Some.share.taken) size
     ) tiles)
 
 pub returns-in_default-chunk-clause-stands : goal.returns-in_default-chunk-clause-stands
@@ -66,10 +66,10 @@ returns-clause-answer c = λ h st0.
     rw (← c.self.view_is) (
     let size : c.len.result ≡ length c.self.inside.seats.items = search rules in
     let tiles : Tiles 0 (pieces_of (length c.self.inside.seats.items) c.in-Some.share.shape) c.in-Some.share.shape.trips =
-        subst (λ pieces. Tiles 0 pieces c.in-Some.share.shape.trips) (c.of-plan.ensures.pieces ∙ ap (λ n. pieces_of n c.in-Some.share.shape) size) c.of-plan.ensures.tiles in
+    subst (λ pieces. Tiles 0 pieces c.in-Some.share.shape.trips) (c.of-plan.ensures.pieces ∙ ap (λ n. pieces_of n c.in-Some.share.shape) size) c.of-plan.ensures.tiles in
     piece_at _ _ _ _ h c.args.member c.index-seat.result.now c.in-Some.share _ st at can.inside there (
-      sym c.in-Some-chunk.is ∙ c.chunk.ensures.piece ∙ ap (λ pieces. slice_get pieces c.in-Some.share.taken) c.of-plan.ensures.pieces
-      ∙ ap (λ n. slice_get (pieces_of n c.in-Some.share.shape) c.in-Some.share.taken) size
+    sym c.in-Some-chunk.is ∙ c.chunk.ensures.piece ∙ ap (λ pieces. slice_get pieces c.in-Some.share.taken) c.of-plan.ensures.pieces
+    ∙ ap (λ n. slice_get (pieces_of n c.in-Some.share.shape) c.in-Some.share.taken) size
     ) tiles)
 
 pub returns-clause-stands : goal.returns-clause-stands

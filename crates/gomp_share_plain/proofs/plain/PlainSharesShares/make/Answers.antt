@@ -1,4 +1,4 @@
-use Rattle.std.proofs.Common.{ℕ, ◌<◌, ◌^◌, [], arith}
+use Rattle.std.proofs.Common.{◌<◌, ◌^◌, [], arith}
 use Rattle.gomp_share_plain.proofs.PlainKeeps.{made}
 use Rattle.gomp_share_plain.proofs.plain.PlainSharesShares.make.Goals as goal
 

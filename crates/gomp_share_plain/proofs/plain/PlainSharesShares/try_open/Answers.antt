@@ -1,8 +1,8 @@
-use Rattle.std.proofs.Common.{◌≡◌, ◌%◌, ◌+◌, ◌<◌, ◌≤◌, ℕ, arith, rules, refl, ◌∙◌, sym, ap, subst, length, slice_get, not, true, false, Option, Some}
+use Rattle.std.proofs.Common.{◌≡◌, ◌%◌, ◌<◌, arith, refl, ◌∙◌, sym, ap, subst, length, not, true, false}
 use Rattle.std.specs.Prelude.{IsTrue}
 use Rattle.std.proofs.lemmas.List.{length-set}
 use Rattle.std.proofs.lemmas.Option.{slice_get_read}
-use Rattle.gomp_types.specs.Events.{has_room, shape_at, entered}
+use Rattle.gomp_types.specs.Events.{has_room, shape_at}
 use Rattle.gomp_types.specs.Refusals.{shape_differs}
 use Rattle.gomp_share_plain.specs.Calls.{CanOpen}
 use Rattle.gomp_share_plain.proofs.PlainKeeps.{enters, opens, told, known_by, place_is, known_place, same_here, differs_here, next_is, fresh, room_by, no_room, room_before, each_room, is_fair}
@@ -98,8 +98,8 @@ returns-clause-stands c = λ h st0.
     let fair = is_fair _ _ c.args.member can.member can.valid c.fair_schedule.ensures in
     let now = next_is _ _ _ _ h c.args.member c.index-seat.result.now st at c.if-number-self.false in
     let all = each_room c.self.inside.seats.items c.index-seat.result.now.started (
-      let seats : c.deref.result.now ≡ c.self.inside.seats.items = c.deref.ensures.value in
-      rw seats at (c.has_room.ensures.0 (grind (arith, c.if-not-has_room.false)))) in
+    let seats : c.deref.result.now ≡ c.self.inside.seats.items = c.deref.ensures.value in
+    rw seats at (c.has_room.ensures.0 (grind (arith, c.if-not-has_room.false)))) in
     rw (length-set c.self.inside.seats.items c.args.member _, now) (opens _ _ _ _ h c.args.member c.index-seat.result.now c.args.shape.now st at can.outside now can.valid fair (rw now at all))
 
 pub invariant_of-self-2 : goal.invariant_of-self-2

@@ -11,5 +11,5 @@ returns-clause-fits c =
     let fs : FitsSigned w64 c.args.self.now.start = search rules in
     let fe : FitsSigned w64 c.args.self.now.end = search rules in
     let fine : first_refusal (loop_tests c.args.self.now) ≡ None =
-        outcome_fine (first_refusal (loop_tests c.args.self.now)) (trip_count c.args.self.now) c.in_ok-trips.trips (sym c.trips.ensures.count ∙ c.in_ok-trips.was) in
+    outcome_fine (first_refusal (loop_tests c.args.self.now)) (trip_count c.args.self.now) c.in_ok-trips.trips (sym c.trips.ensures.count ∙ c.in_ok-trips.was) in
     shape_is c.args.self.now fs fe fine

@@ -1,0 +1,293 @@
+-- The barrier stays in step with the events.
+use Rattle.std.proofs.Common.{◌≡◌, ◌≢◌, ℕ, ◌+◌, ◌<◌, ◌≤◌, Bool, true, false, not, List, ◌∷◌, Some, None, length, slice_get, slice_set, get_or, refl, ap, ◌∙◌, sym, subst, arith, inl, inr}
+use Rattle.std.specs.Prelude.{◌==◌, ◌&&◌, ◌||◌, if◌then◌else◌, is_some, All}
+use Rattle.std.proofs.lemmas.Bool.Decides.{nat_tests, eqb_tells}
+use Rattle.std.proofs.lemmas.Bool.{cases_Bool}
+use Rattle.std.proofs.lemmas.Option.{slice_get-get_or, slice_get_within, get_or_from_slice_get}
+use Rattle.gomp_types.specs.declared.event.Tag.{Tag}
+use Rattle.gomp_types.specs.declared.event.Event.{Event}
+use Rattle.gomp_types.specs.declared.event.Event.TheVariants.{Arrive, Pass}
+use Rattle.gomp_types.specs.Events.{passed, arrival, tag_at, has_left_region, is_region_end, barrier_met}
+use Rattle.gomp_types.specs.Record.{shown}
+use Rattle.gomp_types.proofs.Booleans.{every_tells, every_by}
+use Rattle.gomp_types.proofs.Lists.{slice_get-set}
+use Rattle.gomp_barrier.specs.declared.front.Place.{Place}
+use Rattle.gomp_barrier.specs.declared.front.Front.{Front}
+use Rattle.gomp_barrier.specs.Places.{differ, is_ahead, tag_for, number_for, IsThere, arrived_at, advanced, barrier_of, PlaceStands, BarrierStands, SomeBehind}
+
+-- What an arrival and a pass add
+
+same_number : (n : ℕ) → (n == n) ≡ true
+same_number n = grind (arith, nat_tests)
+
+other_number : (a b : ℕ) → a ≢ b → (a == b) ≡ false
+other_number a b differ = elim (eqb_tells a b) [ inl e ↦ absurd (differ e.1) | inr e ↦ e.0 ]
+
+arrival_same : (g m : ℕ) (tag : Tag) (h : List Event) → arrival g m (Arrive g m tag ∷ h) ≡ Some tag
+arrival_same g m tag h = rw (same_number g, same_number m) refl
+
+arrival_elsewhere : (g n m : ℕ) (tag : Tag) (h : List Event) → n ≢ g → arrival g m (Arrive n m tag ∷ h) ≡ arrival g m h
+arrival_elsewhere g n m tag h other = rw (other_number n g other) refl
+
+arrival_other : (g n m k : ℕ) (tag : Tag) (h : List Event) → m ≢ k → arrival g k (Arrive n m tag ∷ h) ≡ arrival g k h
+arrival_other g n m k tag h other = and_other (n == g) (m == k) (other_number m k other)
+  where
+    and_other : (a b : Bool) → b ≡ false → (if a && b then Some tag else arrival g k h) ≡ arrival g k h
+    and_other true b e = rw e refl
+    and_other false b e = refl
+
+tag_same : (g m : ℕ) (tag : Tag) (h : List Event) → tag_at g (Arrive g m tag ∷ h) ≡ Some tag
+tag_same g m tag h = rw (same_number g) refl
+
+tag_elsewhere : (g n m : ℕ) (tag : Tag) (h : List Event) → n ≢ g → tag_at g (Arrive n m tag ∷ h) ≡ tag_at g h
+tag_elsewhere g n m tag h other = rw (other_number n g other) refl
+
+-- the number of a member's next barrier does not depend on what else is kept of it
+same_barrier : (front : Front) (least : ℕ) (a b : Place) → a.odd ≡ b.odd → barrier_of front least a ≡ barrier_of front least b
+same_barrier front least a b e = ap (λ odd. if differ odd front.odd then least + 1 else least) e
+
+-- where a member's tag stands
+pub tag_is : (members : List Place) (front : Front) (least : ℕ) (member : Place) (h : List Event) → BarrierStands members front least h → tag_at (barrier_of front least member) h ≡ tag_for front member
+tag_is members front least member h st = by_ahead (is_ahead front member)
+  where
+    by_ahead : (ahead : Bool) → tag_at (if ahead then least + 1 else least) h ≡ (if ahead then front.next else front.tag)
+    by_ahead true = st.next
+    by_ahead false = st.tag
+
+shown_next : (n : ℕ) → shown (shown n + 1) ≡ shown (n + 1)
+shown_next n = omega arith
+
+pub number_is : (members : List Place) (front : Front) (least : ℕ) (member : Place) (h : List Event) → BarrierStands members front least h → number_for front member ≡ shown (barrier_of front least member)
+number_is members front least member h st = by_ahead (is_ahead front member)
+  where
+    by_ahead : (ahead : Bool) → (if ahead then shown (front.number + 1) else front.number) ≡ shown (if ahead then least + 1 else least)
+    by_ahead true = ap (λ n. shown (n + 1)) st.number ∙ shown_next least
+    by_ahead false = st.number
+
+-- An arrival
+
+-- a member that arrives at its next barrier
+own_arrives : (front after_front : Front) (least m : ℕ) (member after : Place) (tag : Tag) (h : List Event) → PlaceStands front least m member h → after.odd ≡ member.odd → after.arrived ≡ Some tag → after.left ≡ member.left →
+    after_front.odd ≡ front.odd → PlaceStands after_front least m after (Arrive (barrier_of front least member) m tag ∷ h)
+own_arrives front after_front least m member after tag h p odd arrived left turn =
+    let same : barrier_of after_front least after ≡ barrier_of front least member = rw (odd, turn) refl in
+    record {
+      passed_is = p.passed_is ∙ sym same;
+      here = subst (λ n. arrival n m (Arrive (barrier_of front least member) m tag ∷ h) ≡ after.arrived) (sym same) (arrival_same (barrier_of front least member) m tag h ∙ sym arrived);
+      behind = λ g lt. let below : g < barrier_of front least member = subst (λ n. g < n) same lt in
+          rw (arrival_elsewhere g (barrier_of front least member) m tag h (λ e. omega arith)) (p.behind g below);
+      beyond = λ g lt. let above : barrier_of front least member < g = subst (λ n. n < g) same lt in
+          arrival_elsewhere g (barrier_of front least member) m tag h (λ e. omega arith) ∙ p.beyond g above;
+      left_is = p.left_is ∙ sym left;
+    }
+
+-- another member's place
+other_arrives : (front after_front : Front) (least n m k : ℕ) (member : Place) (tag : Tag) (h : List Event) → PlaceStands front least k member h → m ≢ k → after_front.odd ≡ front.odd →
+    PlaceStands after_front least k member (Arrive n m tag ∷ h)
+other_arrives front after_front least n m k member tag h p other turn =
+    let same : barrier_of after_front least member ≡ barrier_of front least member = rw turn refl in
+    record {
+      passed_is = p.passed_is ∙ sym same;
+      here = subst (λ b. arrival b k (Arrive n m tag ∷ h) ≡ member.arrived) (sym same) (arrival_other (barrier_of front least member) n m k tag h other ∙ p.here);
+      behind = λ g lt. rw (arrival_other g n m k tag h other) (p.behind g (subst (λ b. g < b) same lt));
+      beyond = λ g lt. arrival_other g n m k tag h other ∙ p.beyond g (subst (λ b. b < g) same lt);
+      left_is = p.left_is;
+    }
+
+pub turn_arrived : (front : Front) (member : Place) (tag : Tag) → (arrived_at front member tag).odd ≡ front.odd
+turn_arrived front member tag = by_ahead (is_ahead front member)
+  where
+    by_ahead : (ahead : Bool) → (let after : Front = if ahead then record { odd = front.odd; number = front.number; tag = front.tag; next = Some tag } else record { odd = front.odd; number = front.number; tag = Some tag; next = front.next } in after.odd) ≡ front.odd
+    by_ahead true = refl
+    by_ahead false = refl
+
+-- the front's tags after an arrival
+record Tagged (front : Front) (least : ℕ) (h : List Event) : Type 0 where
+  number : front.number ≡ shown least
+  tag : tag_at least h ≡ front.tag
+  next : tag_at (least + 1) h ≡ front.next
+  beyond : (g : ℕ) → least + 2 ≤ g → tag_at g h ≡ None
+
+tagged : (front : Front) (member : Place) (least m : ℕ) (tag : Tag) (h : List Event) → Tagged front least h → Tagged (arrived_at front member tag) least (Arrive (barrier_of front least member) m tag ∷ h)
+tagged front member least m tag h t = by_ahead (is_ahead front member)
+  where
+    by_ahead : (ahead : Bool) → Tagged (if ahead then record { odd = front.odd; number = front.number; tag = front.tag; next = Some tag } else record { odd = front.odd; number = front.number; tag = Some tag; next = front.next }) least (Arrive (if ahead then least + 1 else least) m tag ∷ h)
+    by_ahead true = record {
+      number = t.number;
+      tag = tag_elsewhere least (least + 1) m tag h (λ e. omega arith) ∙ t.tag;
+      next = tag_same (least + 1) m tag h;
+      beyond = λ g le. tag_elsewhere g (least + 1) m tag h (λ e. omega arith) ∙ t.beyond g le;
+    }
+    by_ahead false = record {
+      number = t.number;
+      tag = tag_same least m tag h;
+      next = tag_elsewhere (least + 1) least m tag h (λ e. omega arith) ∙ t.next;
+      beyond = λ g le. tag_elsewhere g least m tag h (λ e. omega arith) ∙ t.beyond g le;
+    }
+
+pub arrives : (members : List Place) (front : Front) (least m : ℕ) (member after : Place) (tag : Tag) (h : List Event) → BarrierStands members front least h → slice_get members m ≡ Some member →
+    after.odd ≡ member.odd → after.arrived ≡ Some tag → after.left ≡ member.left →
+    BarrierStands (slice_set members m after) (arrived_at front member tag) least (Arrive (barrier_of front least member) m tag ∷ h)
+arrives members front least m member after tag h st at odd arrived left =
+    let t = tagged front member least m tag h (record { number = st.number; tag = st.tag; next = st.next; beyond = st.beyond }) in
+    let turn = turn_arrived front member tag in
+    record {
+      number = t.number;
+      tag = t.tag;
+      next = t.next;
+      beyond = t.beyond;
+      place = λ k other at_k. elim (slice_get-set members m k after other at_k) [
+        | inl e ↦ rw (e.0, e.1) (own_arrives front (arrived_at front member tag) least m member after tag h (st.place m member at) odd arrived left turn)
+        | inr e ↦ other_arrives front (arrived_at front member tag) least (barrier_of front least member) m k other tag h (st.place k other e.1) (λ same. e.0 (sym same)) turn
+      ];
+    }
+
+-- A pass
+
+passed_own : (g m : ℕ) (h : List Event) → passed m (Pass g m ∷ h) ≡ passed m h + 1
+passed_own g m h = rw (same_number m) refl
+
+passed_other : (g m k : ℕ) (h : List Event) → m ≢ k → passed k (Pass g m ∷ h) ≡ passed k h
+passed_other g m k h other = rw (other_number m k other) refl
+
+left_other : (g m k : ℕ) (h : List Event) → m ≢ k → has_left_region k (Pass g m ∷ h) ≡ has_left_region k h
+left_other g m k h other = rw (other_number m k other) refl
+
+left_own : (g m : ℕ) (tag : Tag) (left : Bool) (h : List Event) → arrival g m h ≡ Some tag → has_left_region m h ≡ left → has_left_region m (Pass g m ∷ h) ≡ (left || is_region_end tag.kind)
+left_own g m tag left h at is = rw (same_number m, at, is) (or_swap (is_region_end tag.kind) left)
+  where
+    or_swap : (a b : Bool) → (a || b) ≡ (b || a)
+    or_swap true true = refl
+    or_swap true false = refl
+    or_swap false true = refl
+    or_swap false false = refl
+
+flipped : (front : Front) (member : Place) → differ (not member.odd) front.odd ≡ not (is_ahead front member)
+flipped front member = by (member.odd) (front.odd)
+  where
+    by : (a b : Bool) → differ (not a) b ≡ not (differ a b)
+    by true true = refl
+    by true false = refl
+    by false true = refl
+    by false false = refl
+
+-- a member behind the front passes it
+own_passes : (front : Front) (least m : ℕ) (member after : Place) (tag : Tag) (h : List Event) → PlaceStands front least m member h → is_ahead front member ≡ false → member.arrived ≡ Some tag →
+    after.odd ≡ not member.odd → after.arrived ≡ None → after.left ≡ (member.left || is_region_end tag.kind) → PlaceStands front least m after (Pass least m ∷ h)
+own_passes front least m member after tag h p behind arrived odd none left =
+    let before : barrier_of front least member ≡ least = rw behind refl in
+    let now : is_ahead front after ≡ true = rw odd (flipped front member ∙ ap not behind) in
+    let next : barrier_of front least after ≡ least + 1 = rw now refl in
+    let here : arrival least m h ≡ Some tag = subst (λ b. arrival b m h ≡ member.arrived) before p.here ∙ arrived in
+    record {
+      passed_is = passed_own least m h ∙ ap (λ (n : ℕ). n + 1) (p.passed_is ∙ before) ∙ sym next;
+      here = subst (λ b. arrival b m h ≡ after.arrived) (sym next) (p.beyond (least + 1) (subst (λ b. b < least + 1) (sym before) (omega arith)) ∙ sym none);
+      behind = λ g lt. elim (eqb_tells g least) [
+        | inl e ↦ ap (λ n. is_some (arrival n m h)) e.1 ∙ ap is_some here
+        | inr e ↦ p.behind g (subst (λ b. g < b) (sym before) (let below : g < least + 1 = subst (λ b. g < b) next lt in omega (arith, e.1)))
+      ];
+      beyond = λ g lt. p.beyond g (subst (λ b. b < g) (sym before) (let above : least + 1 < g = subst (λ b. b < g) next lt in omega arith));
+      left_is = left_own least m tag member.left h here p.left_is ∙ sym left;
+    }
+
+other_passes : (front : Front) (least m k : ℕ) (member : Place) (h : List Event) → PlaceStands front least k member h → m ≢ k → PlaceStands front least k member (Pass least m ∷ h)
+other_passes front least m k member h p other = record {
+  passed_is = passed_other least m k h other ∙ p.passed_is;
+  here = p.here;
+  behind = p.behind;
+  beyond = p.beyond;
+  left_is = left_other least m k h other ∙ p.left_is;
+}
+
+pub passes : (members : List Place) (front : Front) (least m : ℕ) (member after : Place) (tag : Tag) (h : List Event) → BarrierStands members front least h → slice_get members m ≡ Some member →
+    is_ahead front member ≡ false → member.arrived ≡ Some tag → after.odd ≡ not member.odd → after.arrived ≡ None → after.left ≡ (member.left || is_region_end tag.kind) →
+    BarrierStands (slice_set members m after) front least (Pass least m ∷ h)
+passes members front least m member after tag h st at behind arrived odd none left = record {
+  number = st.number;
+  tag = st.tag;
+  next = st.next;
+  beyond = st.beyond;
+  place = λ k other at_k. elim (slice_get-set members m k after other at_k) [
+    | inl e ↦ rw (e.0, e.1) (own_passes front least m member after tag h (st.place m member at) behind arrived odd none left)
+    | inr e ↦ other_passes front least m k other h (st.place k other e.1) (λ same. e.0 (sym same))
+  ];
+}
+
+-- The front moves on once all have passed it
+
+moved : (front : Front) (member : Place) → is_ahead front member ≡ true → is_ahead (advanced front) member ≡ false
+moved front member e = by member.odd front.odd e
+  where
+    by : (a b : Bool) → differ a b ≡ true → differ a (not b) ≡ false
+    by true true e = absurd (cc)
+    by true false e = refl
+    by false true e = refl
+    by false false e = absurd (cc)
+
+all_at : (front : Front) (members : List Place) (m : ℕ) (member : Place) → All (λ x. is_ahead front x ≡ true) members → slice_get members m ≡ Some member → is_ahead front member ≡ true
+all_at front members m member all at = rw (get_or_from_slice_get members m member member at) at (all m member (slice_get_within members m member at))
+
+pub moves_on : (members : List Place) (front : Front) (least : ℕ) (h : List Event) → BarrierStands members front least h → All (λ x. is_ahead front x ≡ true) members → BarrierStands members (advanced front) (least + 1) h
+moves_on members front least h st all = record {
+  number = ap (λ n. shown (n + 1)) st.number ∙ shown_next least;
+  tag = st.next;
+  next = st.beyond (least + 1 + 1) (omega arith);
+  beyond = λ g le. st.beyond g (omega arith);
+  place = λ m member at.
+      let p = st.place m member at in
+      let ahead = all_at front members m member all at in
+      let before : barrier_of front least member ≡ least + 1 = rw ahead refl in
+      let after : barrier_of (advanced front) (least + 1) member ≡ least + 1 = rw (moved front member ahead) refl in
+      record {
+        passed_is = p.passed_is ∙ before ∙ sym after;
+        here = subst (λ b. arrival b m h ≡ member.arrived) (before ∙ sym after) p.here;
+        behind = λ g lt. p.behind g (subst (λ b. g < b) (after ∙ sym before) lt);
+        beyond = λ g lt. p.beyond g (subst (λ b. b < g) (after ∙ sym before) lt);
+        left_is = p.left_is;
+      };
+}
+
+-- then some member is behind it
+pub behind_again : (members : List Place) (front : Front) (m : ℕ) (member : Place) → slice_get members m ≡ Some member → All (λ x. is_ahead front x ≡ true) members → SomeBehind (advanced front) members
+behind_again members front m member at all again =
+    let ahead = all_at front members m member all at in
+    let now = all_at (advanced front) members m member again at in
+    let off = moved front member ahead in cc
+
+-- Whether a barrier is met
+
+there : (front : Front) (least m : ℕ) (member : Place) (h : List Event) → PlaceStands front least m member h → is_some (arrival least m h) ≡ (is_ahead front member || is_some member.arrived)
+there front least m member h p = by_ahead (is_ahead front member) refl
+  where
+    by_ahead : (ahead : Bool) → is_ahead front member ≡ ahead → is_some (arrival least m h) ≡ (ahead || is_some member.arrived)
+    by_ahead true e = let same : barrier_of front least member ≡ least + 1 = rw e refl in p.behind least (subst (λ b. least < b) (sym same) (omega arith))
+    by_ahead false e = let same : barrier_of front least member ≡ least = rw e refl in ap is_some (subst (λ b. arrival b m h ≡ member.arrived) same p.here)
+
+pub met_by : (members : List Place) (front : Front) (least : ℕ) (h : List Event) → BarrierStands members front least h → All (IsThere front) members → barrier_met (length members) least h ≡ true
+met_by members front least h st all =
+    every_by (length members) (λ m. is_some (arrival least m h)) (λ m lt.
+    let none : Place = record { odd = true; arrived = None; left = true } in
+    let at : slice_get members m ≡ Some (get_or members m none) = slice_get-get_or members m none lt in
+    there front least m _ h (st.place m _ at) ∙ all m none lt)
+
+pub met_all : (members : List Place) (front : Front) (least : ℕ) (h : List Event) → BarrierStands members front least h → barrier_met (length members) least h ≡ true → All (IsThere front) members
+met_all members front least h st met = λ m none lt.
+    let at : slice_get members m ≡ Some (get_or members m none) = slice_get-get_or members m none lt in
+    sym (there front least m _ h (st.place m _ at)) ∙ every_tells (length members) (λ x. is_some (arrival least x h)) m met lt
+
+-- a member ahead of the front waits for those behind it
+pub not_met_ahead : (members : List Place) (front : Front) (least : ℕ) (h : List Event) → BarrierStands members front least h → SomeBehind front members → barrier_met (length members) (least + 1) h ≡ false
+not_met_ahead members front least h st behind =
+    elim (cases_Bool (barrier_met (length members) (least + 1) h)) [
+      | inl met ↦ absurd (behind (λ m none lt.
+          let at : slice_get members m ≡ Some (get_or members m none) = slice_get-get_or members m none lt in
+          ahead_of m _ (st.place m _ at) (every_tells (length members) (λ x. is_some (arrival (least + 1) x h)) m met lt)))
+      | inr e ↦ e
+    ]
+  where
+    ahead_of : (m : ℕ) (member : Place) → PlaceStands front least m member h → is_some (arrival (least + 1) m h) ≡ true → is_ahead front member ≡ true
+    ahead_of m member p there =
+        elim (cases_Bool (is_ahead front member)) [
+          | inl e ↦ e
+          | inr e ↦ absurd (let none : arrival (least + 1) m h ≡ None = (let same : barrier_of front least member ≡ least = rw e refl in p.beyond (least + 1) (subst (λ b. b < least + 1) (sym same) (omega arith))) in let off : is_some (arrival (least + 1) m h) ≡ false = rw none refl in cc)
+        ]

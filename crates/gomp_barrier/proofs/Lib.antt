@@ -1,0 +1,2 @@
+pub mod BarrierKeeps
+pub mod BarrierSteps

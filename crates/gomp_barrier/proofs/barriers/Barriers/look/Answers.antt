@@ -1,0 +1,12 @@
+use Rattle.std.proofs.Common.{◌<◌, length, refl, subst, sym}
+use Rattle.std.proofs.lemmas.Option.{slice_get_read}
+use Rattle.gomp_barrier.specs.Stands.{BarriersView}
+use Rattle.gomp_barrier.proofs.BarrierSteps.{within, look_is}
+use Rattle.gomp_barrier.proofs.barriers.Barriers.look.Goals as goal
+
+pub returns-clause-value : goal.returns-clause-value
+returns-clause-value c = λ h st0.
+    let st = within _ _ h c.self.view_is st0 in
+    let lt : c.args.member < length c.self.inside.places.items = subst (λ (v : BarriersView). c.args.member < length v.places) (sym c.self.view_is) c.requires in
+    let at = slice_get_read c.self.inside.places.items _ c.args.member _ refl lt c.index.ensures in
+    rw (c.number_for.ensures, c.tag_for.ensures) (look_is c.self.inside.places.items c.self.inside.front c.args.member _ h st at)

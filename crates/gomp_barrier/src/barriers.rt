@@ -1,0 +1,206 @@
+//! The barriers of a team that one thread steps.
+
+ghost use Rattle.std.specs.Prelude.{◌≡◌, ◌<◌, ◌↔◌, ℕ, List, [], ◌∷◌, length, IfOk, IsTrue, true, false};
+ghost use Rattle.gomp_types.specs.declared.event.Event.{Event};
+ghost use Rattle.gomp_barrier.specs.declared.front.Place.{Place};
+ghost use Rattle.gomp_barrier.specs.declared.front.Front.{Front};
+ghost use Rattle.gomp_types.specs.Events.{passed, tag_at, barrier_met};
+ghost use Rattle.gomp_types.specs.Refusals.{tag_differs};
+ghost use Rattle.gomp_types.specs.Laws.{ArrivalLaws};
+ghost use Rattle.gomp_barrier.specs.Calls.{at_barrier, arrived_after, turn_after, IsAside};
+ghost use Rattle.gomp_barrier.specs.Stands.{BarriersView, Stands};
+
+use crate::front::{
+    Front, Place, all_there, arrived_at, ends_region, is_ahead, number_for, passed_by, settled,
+    tag_for,
+};
+use gomp_types::Tag;
+use std::alloc::{AllocError, Global};
+use std::marker::Model;
+
+/// What a member sees of its next barrier.
+#[derive(Clone, Copy, Debug, PartialEq, Eq)]
+pub struct AtBarrier {
+    /// The barrier's number, from 0; it stays at the largest one of its type.
+    pub number: u64,
+    /// With which tag members have arrived there.
+    pub tag: Option<Tag>,
+    /// With which tag this member has.
+    pub arrived: Option<Tag>,
+    /// Whether the member has passed the region's end.
+    pub left: bool,
+}
+
+/// The barriers of one team. After `make` no call takes memory.
+#[derive(Debug, Drop)]
+pub struct Barriers {
+    places: Vec<Place>,
+    front: Front,
+}
+
+impl Model for Barriers {
+    ghost use Rattle.std.specs.Prelude.{List};
+    ghost use Rattle.gomp_types.specs.declared.event.Event.{Event};
+    ghost use Rattle.gomp_barrier.specs.Stands.{BarriersView, Stands};
+
+    ghost Value = { BarriersView };
+
+    ghost view = { λ b. record { places = b.places.items; front = b.front } };
+
+    ghost invariant = { λ b. (h : List Event) × Stands b.places.items b.front h };
+}
+
+impl Barriers {
+    /// The barriers of a new team of this many members, at least 1.
+    pub fn make(alloc: Global, count: u16) -> Result<Barriers, AllocError>
+        requires { 0 < count }
+        ensures members { IfOk result (λ barriers. length barriers.places ≡ count) }
+        ensures stands { IfOk result (λ barriers. Stands barriers.places barriers.front []) }
+    {
+        let place = Place {
+            odd: false,
+            arrived: None,
+            left: false,
+        };
+        Ok(Barriers {
+            places: vec![in alloc; place; count as usize]?,
+            front: Front {
+                odd: false,
+                number: 0,
+                tag: None,
+                next: None,
+            },
+        })
+    }
+
+    /// What the member sees of its next barrier.
+    pub fn look(&self, member: u16) -> AtBarrier
+        requires { member < length self.now.places }
+        ensures known { (h : List Event) × Stands self.now.places self.now.front h }
+        ensures value { (h : List Event) → Stands self.now.places self.now.front h → result ≡ at_barrier member h }
+    {
+        let place = self.places[member as usize];
+        AtBarrier {
+            number: number_for(&self.front, &place),
+            tag: tag_for(&self.front, &place),
+            arrived: place.arrived,
+            left: place.left,
+        }
+    }
+
+    /// The member arrives at its next barrier with this tag, unless others arrived there with
+    /// another one: then nothing changes, and the answer is false.
+    pub fn arrive(&mut self, member: u16, tag: Tag) -> bool
+        requires { member < length self.old.places }
+        ensures members { length self.new.places ≡ length self.old.places }
+        ensures known { (h : List Event) × Stands self.old.places self.old.front h }
+        ensures answer { (h : List Event) → Stands self.old.places self.old.front h → (IsTrue result ↔ (tag_differs tag (tag_at (passed member h) h) ≡ false)) }
+        ensures stands { (h : List Event) → Stands self.old.places self.old.front h → Stands self.new.places self.new.front (arrived_after result member tag h) }
+    {
+        let place = self.places[member as usize];
+        if differs(tag, tag_for(&self.front, &place)) {
+            return false;
+        }
+        self.places[member as usize] = Place {
+            odd: place.odd,
+            arrived: Some(tag),
+            left: place.left,
+        };
+        self.front = arrived_at(&self.front, &place, tag);
+        true
+    }
+
+    /// The member passes its next barrier where every member has arrived there; else nothing
+    /// changes, and the answer is false.
+    pub fn turn(&mut self, member: u16) -> bool
+        requires { member < length self.old.places }
+        ensures members { length self.new.places ≡ length self.old.places }
+        ensures known { (h : List Event) × Stands self.old.places self.old.front h }
+        ensures answer { (h : List Event) → Stands self.old.places self.old.front h → result ≡ barrier_met (length self.old.places) (passed member h) h }
+        ensures stands { (h : List Event) → Stands self.old.places self.old.front h → Stands self.new.places self.new.front (turn_after result member h) }
+    {
+        let place = self.places[member as usize];
+        if is_ahead(&self.front, &place) {
+            return false;
+        }
+        if !all_there(&self.front, &self.places) {
+            return false;
+        }
+        self.places[member as usize] = passed_by(&place, ends_region(place.arrived));
+        self.front = settled(&self.front, &self.places);
+        true
+    }
+
+    /// Whatever calls were made: all members arrive alike, at one barrier after another, and none
+    /// passes before all arrived.
+    pub fn laws(&self)
+        ensures { (h : List Event) → Stands self.now.places self.now.front h → ArrivalLaws (length self.now.places) h }
+    {
+        gomp_types::laws::arrival_laws();
+    }
+}
+
+/// Events of the work-shares, and a break, change nothing of the barriers.
+pub fn aside()
+    ensures { (places : List Place) → (front : Front) → (h : List Event) → (event : Event) → IsAside event → Stands places front h → Stands places front (event ∷ h) }
+{}
+
+/// Whether others arrived with another tag.
+fn differs(tag: Tag, others: Option<Tag>) -> bool
+    ensures { result ≡ tag_differs tag others }
+{
+    match others {
+        Some(other) => !other.is_same(&tag),
+        None => false,
+    }
+}
+
+#[cfg(test)]
+mod tests {
+    use super::*;
+    use gomp_types::Arrival;
+    use std::test::Fail;
+
+    #[test]
+    fn opens_when_all_are_there(rt: HostRuntime) -> Result<(), Fail> {
+        let tag = Tag {
+            kind: Arrival::Barrier,
+            shares: 0,
+        };
+        let mut barriers = Barriers::make(rt.alloc(), 2)?;
+        assert!(rt; barriers.arrive(0, tag));
+        assert!(rt; !barriers.turn(0));
+        assert!(rt; barriers.arrive(1, tag));
+        assert!(rt; barriers.turn(1));
+        assert!(rt; barriers.arrive(1, tag));
+        assert!(rt; !barriers.turn(1));
+        assert_eq!(rt; barriers.look(0).number, 0);
+        assert_eq!(rt; barriers.look(1).number, 1);
+        assert!(rt; barriers.turn(0));
+        assert_eq!(rt; barriers.look(0).number, 1);
+        assert!(rt; !barriers.turn(1));
+        Ok(())
+    }
+
+    #[test]
+    fn takes_one_tag(rt: HostRuntime) -> Result<(), Fail> {
+        let end = Tag {
+            kind: Arrival::RegionEnd,
+            shares: 1,
+        };
+        let other = Tag {
+            kind: Arrival::RegionEnd,
+            shares: 0,
+        };
+        let mut barriers = Barriers::make(rt.alloc(), 2)?;
+        assert!(rt; barriers.arrive(1, end));
+        assert!(rt; !barriers.arrive(0, other));
+        assert_eq!(rt; barriers.look(0).arrived, None);
+        assert_eq!(rt; barriers.look(0).tag, Some(end));
+        assert!(rt; barriers.arrive(0, end));
+        assert!(rt; barriers.turn(0));
+        assert!(rt; barriers.look(0).left);
+        assert!(rt; !barriers.look(1).left);
+        Ok(())
+    }
+}

@@ -1,0 +1,129 @@
+//! The places of a team's members at its barriers, and the barrier that the slowest come to next.
+//!
+//! No member is two barriers ahead of another, so it is enough to know of each whether it is ahead
+//! of the slowest, which the parities tell.
+
+ghost use Rattle.std.specs.Prelude.{◌≡◌, ◌↔◌, IsTrue, All, true};
+ghost use Rattle.gomp_types.specs.Events.{was_region_end};
+ghost use Rattle.gomp_barrier.specs.Places.{is_ahead, tag_for, number_for, IsThere, arrived_at, passed_by, advanced};
+
+use gomp_types::{Arrival, Tag};
+
+/// A member's place at the barriers.
+#[derive(Clone, Copy, Debug, PartialEq, Eq)]
+pub struct Place {
+    /// Whether it has passed an odd number of barriers.
+    pub odd: bool,
+    /// With which tag it has arrived at its next barrier.
+    pub arrived: Option<Tag>,
+    /// Whether it has passed the region's end.
+    pub left: bool,
+}
+
+/// The barrier that the slowest members come to next.
+#[derive(Clone, Copy, Debug, PartialEq, Eq)]
+pub struct Front {
+    /// Whether its number is odd.
+    pub odd: bool,
+    /// Its number, which stays at the largest one of its type.
+    pub number: u64,
+    /// With which tag members have arrived at it.
+    pub tag: Option<Tag>,
+    /// With which tag members that have passed it arrived at the one after it.
+    pub next: Option<Tag>,
+}
+
+/// Whether the member has passed the front.
+pub fn is_ahead(front: &Front, member: &Place) -> bool
+    ensures { result ≡ is_ahead front.now member.now }
+{
+    member.odd != front.odd
+}
+
+/// With which tag others have arrived at the member's next barrier.
+pub fn tag_for(front: &Front, member: &Place) -> Option<Tag>
+    ensures { result ≡ tag_for front.now member.now }
+{
+    if is_ahead(front, member) {
+        front.next
+    } else {
+        front.tag
+    }
+}
+
+/// The number of the member's next barrier.
+pub fn number_for(front: &Front, member: &Place) -> u64
+    ensures { result ≡ number_for front.now member.now }
+{
+    if is_ahead(front, member) {
+        front.number.saturating_add(1)
+    } else {
+        front.number
+    }
+}
+
+/// Whether every member has arrived at the front.
+pub fn all_there(front: &Front, members: &[Place]) -> bool
+    ensures { IsTrue result ↔ All (IsThere front.now) members.now }
+{
+    members.iter().all(|member| is_ahead(front, member) || member.arrived.is_some())
+}
+
+/// The front after the member has arrived with this tag at its next barrier.
+pub fn arrived_at(front: &Front, member: &Place, tag: Tag) -> Front
+    ensures { result ≡ arrived_at front.now member.now tag }
+{
+    if is_ahead(front, member) {
+        Front {
+            odd: front.odd,
+            number: front.number,
+            tag: front.tag,
+            next: Some(tag),
+        }
+    } else {
+        Front {
+            odd: front.odd,
+            number: front.number,
+            tag: Some(tag),
+            next: front.next,
+        }
+    }
+}
+
+/// The member after it has passed its next barrier.
+pub fn passed_by(member: &Place, at_region_end: bool) -> Place
+    ensures { result ≡ passed_by member.now at_region_end }
+{
+    Place {
+        odd: !member.odd,
+        arrived: None,
+        left: member.left || at_region_end,
+    }
+}
+
+/// The front after members have passed: the next barrier, once all have passed this one.
+pub fn settled(front: &Front, members: &[Place]) -> Front
+    ensures all { All (λ member. is_ahead front.now member ≡ true) members.now → result ≡ advanced front.now }
+    ensures some { (All (λ member. is_ahead front.now member ≡ true) members.now → ⊥) → result ≡ front.now }
+{
+    if members.iter().all(|member| is_ahead(front, member)) {
+        Front {
+            odd: !front.odd,
+            number: front.number.saturating_add(1),
+            tag: front.next,
+            next: None,
+        }
+    } else {
+        *front
+    }
+}
+
+/// Whether an arrival is at the region's end.
+pub fn ends_region(arrived: Option<Tag>) -> bool
+    ensures { result ≡ was_region_end arrived }
+{
+    match arrived {
+        Some(tag) => matches!(tag.kind, Arrival::RegionEnd),
+        None => false,
+    }
+}
