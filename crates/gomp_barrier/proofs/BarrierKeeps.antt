@@ -11,9 +11,9 @@ use Rattle.gomp_types.specs.Events.{passed, arrival, tag_at, has_left_region, is
 use Rattle.gomp_types.specs.Record.{shown}
 use Rattle.gomp_types.proofs.Booleans.{every_tells, every_by}
 use Rattle.gomp_types.proofs.Lists.{slice_get-set}
-use Rattle.gomp_barrier.specs.declared.front.Place.{Place}
+use Rattle.gomp_barrier.specs.declared.front.Seat.{Seat}
 use Rattle.gomp_barrier.specs.declared.front.Front.{Front}
-use Rattle.gomp_barrier.specs.Places.{differ, is_ahead, tag_for, number_for, IsThere, arrived_at, advanced, barrier_of, PlaceStands, BarrierStands, SomeBehind}
+use Rattle.gomp_barrier.specs.Seats.{differ, is_ahead, tag_for, number_for, IsThere, arrived_at, advanced, barrier_of, SeatStands, BarrierStands, SomeBehind}
 
 -- What an arrival and a pass add
 
@@ -43,11 +43,11 @@ tag_elsewhere : (g n m : ℕ) (tag : Tag) (h : List Event) → n ≢ g → tag_a
 tag_elsewhere g n m tag h other = rw (other_number n g other) refl
 
 -- the number of a member's next barrier does not depend on what else is kept of it
-same_barrier : (front : Front) (least : ℕ) (a b : Place) → a.odd ≡ b.odd → barrier_of front least a ≡ barrier_of front least b
+same_barrier : (front : Front) (least : ℕ) (a b : Seat) → a.odd ≡ b.odd → barrier_of front least a ≡ barrier_of front least b
 same_barrier front least a b e = ap (λ odd. if differ odd front.odd then least + 1 else least) e
 
 -- where a member's tag stands
-pub tag_is : (members : List Place) (front : Front) (least : ℕ) (member : Place) (h : List Event) → BarrierStands members front least h → tag_at (barrier_of front least member) h ≡ tag_for front member
+pub tag_is : (members : List Seat) (front : Front) (least : ℕ) (member : Seat) (h : List Event) → BarrierStands members front least h → tag_at (barrier_of front least member) h ≡ tag_for front member
 tag_is members front least member h st = by_ahead (is_ahead front member)
   where
     by_ahead : (ahead : Bool) → tag_at (if ahead then least + 1 else least) h ≡ (if ahead then front.next else front.tag)
@@ -57,7 +57,7 @@ tag_is members front least member h st = by_ahead (is_ahead front member)
 shown_next : (n : ℕ) → shown (shown n + 1) ≡ shown (n + 1)
 shown_next n = omega arith
 
-pub number_is : (members : List Place) (front : Front) (least : ℕ) (member : Place) (h : List Event) → BarrierStands members front least h → number_for front member ≡ shown (barrier_of front least member)
+pub number_is : (members : List Seat) (front : Front) (least : ℕ) (member : Seat) (h : List Event) → BarrierStands members front least h → number_for front member ≡ shown (barrier_of front least member)
 number_is members front least member h st = by_ahead (is_ahead front member)
   where
     by_ahead : (ahead : Bool) → (if ahead then shown (front.number + 1) else front.number) ≡ shown (if ahead then least + 1 else least)
@@ -67,8 +67,8 @@ number_is members front least member h st = by_ahead (is_ahead front member)
 -- An arrival
 
 -- a member that arrives at its next barrier
-own_arrives : (front after_front : Front) (least m : ℕ) (member after : Place) (tag : Tag) (h : List Event) → PlaceStands front least m member h → after.odd ≡ member.odd → after.arrived ≡ Some tag → after.left ≡ member.left →
-    after_front.odd ≡ front.odd → PlaceStands after_front least m after (Arrive (barrier_of front least member) m tag ∷ h)
+own_arrives : (front after_front : Front) (least m : ℕ) (member after : Seat) (tag : Tag) (h : List Event) → SeatStands front least m member h → after.odd ≡ member.odd → after.arrived ≡ Some tag → after.left ≡ member.left →
+    after_front.odd ≡ front.odd → SeatStands after_front least m after (Arrive (barrier_of front least member) m tag ∷ h)
 own_arrives front after_front least m member after tag h p odd arrived left turn =
     let same : barrier_of after_front least after ≡ barrier_of front least member = rw (odd, turn) refl in
     record {
@@ -81,9 +81,9 @@ own_arrives front after_front least m member after tag h p odd arrived left turn
       left_is = p.left_is ∙ sym left;
     }
 
--- another member's place
-other_arrives : (front after_front : Front) (least n m k : ℕ) (member : Place) (tag : Tag) (h : List Event) → PlaceStands front least k member h → m ≢ k → after_front.odd ≡ front.odd →
-    PlaceStands after_front least k member (Arrive n m tag ∷ h)
+-- another member's seat
+other_arrives : (front after_front : Front) (least n m k : ℕ) (member : Seat) (tag : Tag) (h : List Event) → SeatStands front least k member h → m ≢ k → after_front.odd ≡ front.odd →
+    SeatStands after_front least k member (Arrive n m tag ∷ h)
 other_arrives front after_front least n m k member tag h p other turn =
     let same : barrier_of after_front least member ≡ barrier_of front least member = rw turn refl in
     record {
@@ -94,7 +94,7 @@ other_arrives front after_front least n m k member tag h p other turn =
       left_is = p.left_is;
     }
 
-pub turn_arrived : (front : Front) (member : Place) (tag : Tag) → (arrived_at front member tag).odd ≡ front.odd
+pub turn_arrived : (front : Front) (member : Seat) (tag : Tag) → (arrived_at front member tag).odd ≡ front.odd
 turn_arrived front member tag = by_ahead (is_ahead front member)
   where
     by_ahead : (ahead : Bool) → (let after : Front = if ahead then record { odd = front.odd; number = front.number; tag = front.tag; next = Some tag } else record { odd = front.odd; number = front.number; tag = Some tag; next = front.next } in after.odd) ≡ front.odd
@@ -108,7 +108,7 @@ record Tagged (front : Front) (least : ℕ) (h : List Event) : Type 0 where
   next : tag_at (least + 1) h ≡ front.next
   beyond : (g : ℕ) → least + 2 ≤ g → tag_at g h ≡ None
 
-tagged : (front : Front) (member : Place) (least m : ℕ) (tag : Tag) (h : List Event) → Tagged front least h → Tagged (arrived_at front member tag) least (Arrive (barrier_of front least member) m tag ∷ h)
+tagged : (front : Front) (member : Seat) (least m : ℕ) (tag : Tag) (h : List Event) → Tagged front least h → Tagged (arrived_at front member tag) least (Arrive (barrier_of front least member) m tag ∷ h)
 tagged front member least m tag h t = by_ahead (is_ahead front member)
   where
     by_ahead : (ahead : Bool) → Tagged (if ahead then record { odd = front.odd; number = front.number; tag = front.tag; next = Some tag } else record { odd = front.odd; number = front.number; tag = Some tag; next = front.next }) least (Arrive (if ahead then least + 1 else least) m tag ∷ h)
@@ -125,7 +125,7 @@ tagged front member least m tag h t = by_ahead (is_ahead front member)
       beyond = λ g le. tag_elsewhere g least m tag h (λ e. omega arith) ∙ t.beyond g le;
     }
 
-pub arrives : (members : List Place) (front : Front) (least m : ℕ) (member after : Place) (tag : Tag) (h : List Event) → BarrierStands members front least h → slice_get members m ≡ Some member →
+pub arrives : (members : List Seat) (front : Front) (least m : ℕ) (member after : Seat) (tag : Tag) (h : List Event) → BarrierStands members front least h → slice_get members m ≡ Some member →
     after.odd ≡ member.odd → after.arrived ≡ Some tag → after.left ≡ member.left →
     BarrierStands (slice_set members m after) (arrived_at front member tag) least (Arrive (barrier_of front least member) m tag ∷ h)
 arrives members front least m member after tag h st at odd arrived left =
@@ -136,9 +136,9 @@ arrives members front least m member after tag h st at odd arrived left =
       tag = t.tag;
       next = t.next;
       beyond = t.beyond;
-      place = λ k other at_k. elim (slice_get-set members m k after other at_k) [
-        | inl e ↦ rw (e.0, e.1) (own_arrives front (arrived_at front member tag) least m member after tag h (st.place m member at) odd arrived left turn)
-        | inr e ↦ other_arrives front (arrived_at front member tag) least (barrier_of front least member) m k other tag h (st.place k other e.1) (λ same. e.0 (sym same)) turn
+      seat = λ k other at_k. elim (slice_get-set members m k after other at_k) [
+        | inl e ↦ rw (e.0, e.1) (own_arrives front (arrived_at front member tag) least m member after tag h (st.seat m member at) odd arrived left turn)
+        | inr e ↦ other_arrives front (arrived_at front member tag) least (barrier_of front least member) m k other tag h (st.seat k other e.1) (λ same. e.0 (sym same)) turn
       ];
     }
 
@@ -162,7 +162,7 @@ left_own g m tag left h at is = rw (same_number m, at, is) (or_swap (is_region_e
     or_swap false true = refl
     or_swap false false = refl
 
-flipped : (front : Front) (member : Place) → differ (not member.odd) front.odd ≡ not (is_ahead front member)
+flipped : (front : Front) (member : Seat) → differ (not member.odd) front.odd ≡ not (is_ahead front member)
 flipped front member = by (member.odd) (front.odd)
   where
     by : (a b : Bool) → differ (not a) b ≡ not (differ a b)
@@ -172,8 +172,8 @@ flipped front member = by (member.odd) (front.odd)
     by false false = refl
 
 -- a member behind the front passes it
-own_passes : (front : Front) (least m : ℕ) (member after : Place) (tag : Tag) (h : List Event) → PlaceStands front least m member h → is_ahead front member ≡ false → member.arrived ≡ Some tag →
-    after.odd ≡ not member.odd → after.arrived ≡ None → after.left ≡ (member.left || is_region_end tag.kind) → PlaceStands front least m after (Pass least m ∷ h)
+own_passes : (front : Front) (least m : ℕ) (member after : Seat) (tag : Tag) (h : List Event) → SeatStands front least m member h → is_ahead front member ≡ false → member.arrived ≡ Some tag →
+    after.odd ≡ not member.odd → after.arrived ≡ None → after.left ≡ (member.left || is_region_end tag.kind) → SeatStands front least m after (Pass least m ∷ h)
 own_passes front least m member after tag h p behind arrived odd none left =
     let before : barrier_of front least member ≡ least = rw behind refl in
     let now : is_ahead front after ≡ true = rw odd (flipped front member ∙ ap not behind) in
@@ -190,7 +190,7 @@ own_passes front least m member after tag h p behind arrived odd none left =
       left_is = left_own least m tag member.left h here p.left_is ∙ sym left;
     }
 
-other_passes : (front : Front) (least m k : ℕ) (member : Place) (h : List Event) → PlaceStands front least k member h → m ≢ k → PlaceStands front least k member (Pass least m ∷ h)
+other_passes : (front : Front) (least m k : ℕ) (member : Seat) (h : List Event) → SeatStands front least k member h → m ≢ k → SeatStands front least k member (Pass least m ∷ h)
 other_passes front least m k member h p other = record {
   passed_is = passed_other least m k h other ∙ p.passed_is;
   here = p.here;
@@ -199,7 +199,7 @@ other_passes front least m k member h p other = record {
   left_is = left_other least m k h other ∙ p.left_is;
 }
 
-pub passes : (members : List Place) (front : Front) (least m : ℕ) (member after : Place) (tag : Tag) (h : List Event) → BarrierStands members front least h → slice_get members m ≡ Some member →
+pub passes : (members : List Seat) (front : Front) (least m : ℕ) (member after : Seat) (tag : Tag) (h : List Event) → BarrierStands members front least h → slice_get members m ≡ Some member →
     is_ahead front member ≡ false → member.arrived ≡ Some tag → after.odd ≡ not member.odd → after.arrived ≡ None → after.left ≡ (member.left || is_region_end tag.kind) →
     BarrierStands (slice_set members m after) front least (Pass least m ∷ h)
 passes members front least m member after tag h st at behind arrived odd none left = record {
@@ -207,15 +207,15 @@ passes members front least m member after tag h st at behind arrived odd none le
   tag = st.tag;
   next = st.next;
   beyond = st.beyond;
-  place = λ k other at_k. elim (slice_get-set members m k after other at_k) [
-    | inl e ↦ rw (e.0, e.1) (own_passes front least m member after tag h (st.place m member at) behind arrived odd none left)
-    | inr e ↦ other_passes front least m k other h (st.place k other e.1) (λ same. e.0 (sym same))
+  seat = λ k other at_k. elim (slice_get-set members m k after other at_k) [
+    | inl e ↦ rw (e.0, e.1) (own_passes front least m member after tag h (st.seat m member at) behind arrived odd none left)
+    | inr e ↦ other_passes front least m k other h (st.seat k other e.1) (λ same. e.0 (sym same))
   ];
 }
 
 -- The front moves on once all have passed it
 
-moved : (front : Front) (member : Place) → is_ahead front member ≡ true → is_ahead (advanced front) member ≡ false
+moved : (front : Front) (member : Seat) → is_ahead front member ≡ true → is_ahead (advanced front) member ≡ false
 moved front member e = by member.odd front.odd e
   where
     by : (a b : Bool) → differ a b ≡ true → differ a (not b) ≡ false
@@ -224,17 +224,17 @@ moved front member e = by member.odd front.odd e
     by false true e = refl
     by false false e = absurd (cc)
 
-all_at : (front : Front) (members : List Place) (m : ℕ) (member : Place) → All (λ x. is_ahead front x ≡ true) members → slice_get members m ≡ Some member → is_ahead front member ≡ true
+all_at : (front : Front) (members : List Seat) (m : ℕ) (member : Seat) → All (λ x. is_ahead front x ≡ true) members → slice_get members m ≡ Some member → is_ahead front member ≡ true
 all_at front members m member all at = rw (get_or_from_slice_get members m member member at) at (all m member (slice_get_within members m member at))
 
-pub moves_on : (members : List Place) (front : Front) (least : ℕ) (h : List Event) → BarrierStands members front least h → All (λ x. is_ahead front x ≡ true) members → BarrierStands members (advanced front) (least + 1) h
+pub moves_on : (members : List Seat) (front : Front) (least : ℕ) (h : List Event) → BarrierStands members front least h → All (λ x. is_ahead front x ≡ true) members → BarrierStands members (advanced front) (least + 1) h
 moves_on members front least h st all = record {
   number = ap (λ n. shown (n + 1)) st.number ∙ shown_next least;
   tag = st.next;
   next = st.beyond (least + 1 + 1) (omega arith);
   beyond = λ g le. st.beyond g (omega arith);
-  place = λ m member at.
-      let p = st.place m member at in
+  seat = λ m member at.
+      let p = st.seat m member at in
       let ahead = all_at front members m member all at in
       let before : barrier_of front least member ≡ least + 1 = rw ahead refl in
       let after : barrier_of (advanced front) (least + 1) member ≡ least + 1 = rw (moved front member ahead) refl in
@@ -248,7 +248,7 @@ moves_on members front least h st all = record {
 }
 
 -- then some member is behind it
-pub behind_again : (members : List Place) (front : Front) (m : ℕ) (member : Place) → slice_get members m ≡ Some member → All (λ x. is_ahead front x ≡ true) members → SomeBehind (advanced front) members
+pub behind_again : (members : List Seat) (front : Front) (m : ℕ) (member : Seat) → slice_get members m ≡ Some member → All (λ x. is_ahead front x ≡ true) members → SomeBehind (advanced front) members
 behind_again members front m member at all again =
     let ahead = all_at front members m member all at in
     let now = all_at (advanced front) members m member again at in
@@ -256,36 +256,36 @@ behind_again members front m member at all again =
 
 -- Whether a barrier is met
 
-there : (front : Front) (least m : ℕ) (member : Place) (h : List Event) → PlaceStands front least m member h → is_some (arrival least m h) ≡ (is_ahead front member || is_some member.arrived)
+there : (front : Front) (least m : ℕ) (member : Seat) (h : List Event) → SeatStands front least m member h → is_some (arrival least m h) ≡ (is_ahead front member || is_some member.arrived)
 there front least m member h p = by_ahead (is_ahead front member) refl
   where
     by_ahead : (ahead : Bool) → is_ahead front member ≡ ahead → is_some (arrival least m h) ≡ (ahead || is_some member.arrived)
     by_ahead true e = let same : barrier_of front least member ≡ least + 1 = rw e refl in p.behind least (subst (λ b. least < b) (sym same) (omega arith))
     by_ahead false e = let same : barrier_of front least member ≡ least = rw e refl in ap is_some (subst (λ b. arrival b m h ≡ member.arrived) same p.here)
 
-pub met_by : (members : List Place) (front : Front) (least : ℕ) (h : List Event) → BarrierStands members front least h → All (IsThere front) members → barrier_met (length members) least h ≡ true
+pub met_by : (members : List Seat) (front : Front) (least : ℕ) (h : List Event) → BarrierStands members front least h → All (IsThere front) members → barrier_met (length members) least h ≡ true
 met_by members front least h st all =
     every_by (length members) (λ m. is_some (arrival least m h)) (λ m lt.
-    let none : Place = record { odd = true; arrived = None; left = true } in
+    let none : Seat = record { odd = true; arrived = None; left = true } in
     let at : slice_get members m ≡ Some (get_or members m none) = slice_get-get_or members m none lt in
-    there front least m _ h (st.place m _ at) ∙ all m none lt)
+    there front least m _ h (st.seat m _ at) ∙ all m none lt)
 
-pub met_all : (members : List Place) (front : Front) (least : ℕ) (h : List Event) → BarrierStands members front least h → barrier_met (length members) least h ≡ true → All (IsThere front) members
+pub met_all : (members : List Seat) (front : Front) (least : ℕ) (h : List Event) → BarrierStands members front least h → barrier_met (length members) least h ≡ true → All (IsThere front) members
 met_all members front least h st met = λ m none lt.
     let at : slice_get members m ≡ Some (get_or members m none) = slice_get-get_or members m none lt in
-    sym (there front least m _ h (st.place m _ at)) ∙ every_tells (length members) (λ x. is_some (arrival least x h)) m met lt
+    sym (there front least m _ h (st.seat m _ at)) ∙ every_tells (length members) (λ x. is_some (arrival least x h)) m met lt
 
 -- a member ahead of the front waits for those behind it
-pub not_met_ahead : (members : List Place) (front : Front) (least : ℕ) (h : List Event) → BarrierStands members front least h → SomeBehind front members → barrier_met (length members) (least + 1) h ≡ false
+pub not_met_ahead : (members : List Seat) (front : Front) (least : ℕ) (h : List Event) → BarrierStands members front least h → SomeBehind front members → barrier_met (length members) (least + 1) h ≡ false
 not_met_ahead members front least h st behind =
     elim (cases_Bool (barrier_met (length members) (least + 1) h)) [
       | inl met ↦ absurd (behind (λ m none lt.
           let at : slice_get members m ≡ Some (get_or members m none) = slice_get-get_or members m none lt in
-          ahead_of m _ (st.place m _ at) (every_tells (length members) (λ x. is_some (arrival (least + 1) x h)) m met lt)))
+          ahead_of m _ (st.seat m _ at) (every_tells (length members) (λ x. is_some (arrival (least + 1) x h)) m met lt)))
       | inr e ↦ e
     ]
   where
-    ahead_of : (m : ℕ) (member : Place) → PlaceStands front least m member h → is_some (arrival (least + 1) m h) ≡ true → is_ahead front member ≡ true
+    ahead_of : (m : ℕ) (member : Seat) → SeatStands front least m member h → is_some (arrival (least + 1) m h) ≡ true → is_ahead front member ≡ true
     ahead_of m member p there =
         elim (cases_Bool (is_ahead front member)) [
           | inl e ↦ e

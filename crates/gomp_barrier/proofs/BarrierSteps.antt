@@ -14,32 +14,32 @@ use Rattle.gomp_types.specs.Rules.{Always, ArrivalRule}
 use Rattle.gomp_types.proofs.Booleans.{some_of}
 use Rattle.gomp_types.proofs.Compared.{same_tags}
 use Rattle.gomp_types.proofs.Lists.{slice_get-set}
-use Rattle.gomp_barrier.specs.declared.front.Place.{Place}
+use Rattle.gomp_barrier.specs.declared.front.Seat.{Seat}
 use Rattle.gomp_barrier.specs.declared.front.Front.{Front}
 use Rattle.gomp_barrier.specs.declared.barriers.AtBarrier.{AtBarrier}
-use Rattle.gomp_barrier.specs.Places.{differ, is_ahead, tag_for, number_for, IsThere, arrived_at, passed_by, advanced, barrier_of, PlaceStands, BarrierStands, SomeBehind}
+use Rattle.gomp_barrier.specs.Seats.{differ, is_ahead, tag_for, number_for, IsThere, arrived_at, passed_by, advanced, barrier_of, SeatStands, BarrierStands, SomeBehind}
 use Rattle.gomp_barrier.specs.Calls.{at_barrier, IsAside}
 use Rattle.gomp_barrier.specs.Stands.{BarriersView, Stands}
 use Rattle.gomp_barrier.proofs.BarrierKeeps.{tag_is, number_is, arrives, turn_arrived, passes, moves_on, behind_again, met_by, met_all, not_met_ahead}
 
 -- The value of a team's barriers, and their fields
 
-pub within : (view now : BarriersView) (h : List Event) → view ≡ now → Stands now.places now.front h → Stands view.places view.front h
+pub within : (view now : BarriersView) (h : List Event) → view ≡ now → Stands now.seats now.front h → Stands view.seats view.front h
 within view now h e st = rw e st
 
-pub known_by : (view now : BarriersView) → view ≡ now → (h : List Event) × Stands view.places view.front h → (h : List Event) × Stands now.places now.front h
+pub known_by : (view now : BarriersView) → view ≡ now → (h : List Event) × Stands view.seats view.front h → (h : List Event) × Stands now.seats now.front h
 known_by view now e (h, st) = (h, rw (← e) st)
 
 -- Looking
 
-pub look_is : (places : List Place) (front : Front) (m : ℕ) (place : Place) (h : List Event) → Stands places front h → slice_get places m ≡ Some place →
-    record { number = number_for front place; tag = tag_for front place; arrived = place.arrived; left = place.left } ≡ at_barrier m h
-look_is places front m place h st at =
-    let p = st.barrier.place m place at in
-    let number : number_for front place ≡ shown (passed m h) = number_is places front st.least place h st.barrier ∙ ap shown (sym p.passed_is) in
-    let tag : tag_for front place ≡ tag_at (passed m h) h = sym (tag_is places front st.least place h st.barrier) ∙ ap (λ g. tag_at g h) (sym p.passed_is) in
-    let arrived : place.arrived ≡ arrival (passed m h) m h = sym p.here ∙ ap (λ g. arrival g m h) (sym p.passed_is) in
-    let left : place.left ≡ has_left_region m h = sym p.left_is in
+pub look_is : (seats : List Seat) (front : Front) (m : ℕ) (seat : Seat) (h : List Event) → Stands seats front h → slice_get seats m ≡ Some seat →
+    record { number = number_for front seat; tag = tag_for front seat; arrived = seat.arrived; left = seat.left } ≡ at_barrier m h
+look_is seats front m seat h st at =
+    let p = st.barrier.seat m seat at in
+    let number : number_for front seat ≡ shown (passed m h) = number_is seats front st.least seat h st.barrier ∙ ap shown (sym p.passed_is) in
+    let tag : tag_for front seat ≡ tag_at (passed m h) h = sym (tag_is seats front st.least seat h st.barrier) ∙ ap (λ g. tag_at g h) (sym p.passed_is) in
+    let arrived : seat.arrived ≡ arrival (passed m h) m h = sym p.here ∙ ap (λ g. arrival g m h) (sym p.passed_is) in
+    let left : seat.left ≡ has_left_region m h = sym p.left_is in
     same_look _ _ _ _ _ _ _ _ number tag arrived left
   where
     same_look : (n n2 : ℕ) (t t2 a a2 : Option Tag) (l l2 : Bool) → n ≡ n2 → t ≡ t2 → a ≡ a2 → l ≡ l2 → ◌≡◌ {A = AtBarrier} (record { number = n; tag = t; arrived = a; left = l }) (record { number = n2; tag = t2; arrived = a2; left = l2 })
@@ -47,13 +47,13 @@ look_is places front m place h st at =
 
 -- Aside
 
-aside_place : (front : Front) (least m : ℕ) (place : Place) (event : Event) (h : List Event) → IsAside event → PlaceStands front least m place h → PlaceStands front least m place (event ∷ h)
-aside_place front least m place (Enter share k shape) h is p = record { passed_is = p.passed_is; here = p.here; behind = p.behind; beyond = p.beyond; left_is = p.left_is }
-aside_place front least m place (Take share k low high) h is p = record { passed_is = p.passed_is; here = p.here; behind = p.behind; beyond = p.beyond; left_is = p.left_is }
-aside_place front least m place (Drained share k) h is p = record { passed_is = p.passed_is; here = p.here; behind = p.behind; beyond = p.beyond; left_is = p.left_is }
-aside_place front least m place (End share k) h is p = record { passed_is = p.passed_is; here = p.here; behind = p.behind; beyond = p.beyond; left_is = p.left_is }
-aside_place front least m place (Break k where') h is p = record { passed_is = p.passed_is; here = p.here; behind = p.behind; beyond = p.beyond; left_is = p.left_is }
-aside_place front least m place _ h is p = absurd is
+aside_place : (front : Front) (least m : ℕ) (seat : Seat) (event : Event) (h : List Event) → IsAside event → SeatStands front least m seat h → SeatStands front least m seat (event ∷ h)
+aside_place front least m seat (Enter share k shape) h is p = record { passed_is = p.passed_is; here = p.here; behind = p.behind; beyond = p.beyond; left_is = p.left_is }
+aside_place front least m seat (Take share k low high) h is p = record { passed_is = p.passed_is; here = p.here; behind = p.behind; beyond = p.beyond; left_is = p.left_is }
+aside_place front least m seat (Drained share k) h is p = record { passed_is = p.passed_is; here = p.here; behind = p.behind; beyond = p.beyond; left_is = p.left_is }
+aside_place front least m seat (End share k) h is p = record { passed_is = p.passed_is; here = p.here; behind = p.behind; beyond = p.beyond; left_is = p.left_is }
+aside_place front least m seat (Break k where') h is p = record { passed_is = p.passed_is; here = p.here; behind = p.behind; beyond = p.beyond; left_is = p.left_is }
+aside_place front least m seat _ h is p = absurd is
 
 aside_tag : (event : Event) (h : List Event) → IsAside event → (g : ℕ) → tag_at g (event ∷ h) ≡ tag_at g h
 aside_tag (Arrive barrier k tag) h is g = absurd is
@@ -65,92 +65,92 @@ aside_rule members (Arrive barrier k tag) h is = absurd is
 aside_rule members (Pass barrier k) h is = absurd is
 aside_rule members _ h is = tt
 
-pub aside_keeps : (places : List Place) (front : Front) (h : List Event) (event : Event) → IsAside event → Stands places front h → Stands places front (event ∷ h)
-aside_keeps places front h event is st = record {
+pub aside_keeps : (seats : List Seat) (front : Front) (h : List Event) (event : Event) → IsAside event → Stands seats front h → Stands seats front (event ∷ h)
+aside_keeps seats front h event is st = record {
   least = st.least;
   barrier = record {
     number = st.barrier.number;
     tag = aside_tag event h is st.least ∙ st.barrier.tag;
     next = aside_tag event h is (st.least + 1) ∙ st.barrier.next;
     beyond = λ g le. aside_tag event h is g ∙ st.barrier.beyond g le;
-    place = λ m place at. aside_place front st.least m place event h is (st.barrier.place m place at);
+    seat = λ m seat at. aside_place front st.least m seat event h is (st.barrier.seat m seat at);
   };
   behind = st.behind;
-  rule = (aside_rule (length places) event h is, st.rule);
+  rule = (aside_rule (length seats) event h is, st.rule);
 }
 
 -- Arriving
 
-pub tag_here : (places : List Place) (front : Front) (m : ℕ) (place : Place) (h : List Event) → Stands places front h → slice_get places m ≡ Some place → tag_at (passed m h) h ≡ tag_for front place
-tag_here places front m place h st at =
-    ap (λ g. tag_at g h) (st.barrier.place m place at).passed_is ∙ tag_is places front st.least place h st.barrier
+pub tag_here : (seats : List Seat) (front : Front) (m : ℕ) (seat : Seat) (h : List Event) → Stands seats front h → slice_get seats m ≡ Some seat → tag_at (passed m h) h ≡ tag_for front seat
+tag_here seats front m seat h st at =
+    ap (λ g. tag_at g h) (st.barrier.seat m seat at).passed_is ∙ tag_is seats front st.least seat h st.barrier
 
-ahead_stays : (front after : Front) (m : ℕ) (place new : Place) (places : List Place) → slice_get places m ≡ Some place → new.odd ≡ place.odd → after.odd ≡ front.odd → SomeBehind front places → SomeBehind after (slice_set places m new)
-ahead_stays front after m place new places at odd turn behind = λ all. behind (λ k d lt.
-    let here : slice_get places k ≡ Some (get_or places k d) = slice_get-get_or places k d lt in
-    let longer : k < length (slice_set places m new) = rw (length-set places m new) lt in
-    let now : slice_get (slice_set places m new) k ≡ Some (get_or (slice_set places m new) k d) = slice_get-get_or (slice_set places m new) k d longer in
-    let ahead : is_ahead after (get_or (slice_set places m new) k d) ≡ true = all k d longer in
-    elim (slice_get-set places m k new (get_or (slice_set places m new) k d) now) [
+ahead_stays : (front after : Front) (m : ℕ) (seat new : Seat) (seats : List Seat) → slice_get seats m ≡ Some seat → new.odd ≡ seat.odd → after.odd ≡ front.odd → SomeBehind front seats → SomeBehind after (slice_set seats m new)
+ahead_stays front after m seat new seats at odd turn behind = λ all. behind (λ k d lt.
+    let here : slice_get seats k ≡ Some (get_or seats k d) = slice_get-get_or seats k d lt in
+    let longer : k < length (slice_set seats m new) = rw (length-set seats m new) lt in
+    let now : slice_get (slice_set seats m new) k ≡ Some (get_or (slice_set seats m new) k d) = slice_get-get_or (slice_set seats m new) k d longer in
+    let ahead : is_ahead after (get_or (slice_set seats m new) k d) ≡ true = all k d longer in
+    elim (slice_get-set seats m k new (get_or (slice_set seats m new) k d) now) [
       | inl e ↦
-          let own : Some (get_or places k d) ≡ Some place = sym here ∙ ap (slice_get places) e.0 ∙ at in
-          let same : get_or places k d ≡ place = let t = own in cc in
-          same_ahead (get_or (slice_set places m new) k d) (get_or places k d) (ap (λ (p : Place). p.odd) e.1 ∙ odd ∙ ap (λ (p : Place). p.odd) (sym same)) ahead
+          let own : Some (get_or seats k d) ≡ Some seat = sym here ∙ ap (slice_get seats) e.0 ∙ at in
+          let same : get_or seats k d ≡ seat = let t = own in cc in
+          same_ahead (get_or (slice_set seats m new) k d) (get_or seats k d) (ap (λ (p : Seat). p.odd) e.1 ∙ odd ∙ ap (λ (p : Seat). p.odd) (sym same)) ahead
       | inr e ↦
-          let own : Some (get_or places k d) ≡ Some (get_or (slice_set places m new) k d) = sym here ∙ e.1 in
-          let same : get_or places k d ≡ get_or (slice_set places m new) k d = let t = own in cc in
-          same_ahead (get_or (slice_set places m new) k d) (get_or places k d) (ap (λ (p : Place). p.odd) (sym same)) ahead
+          let own : Some (get_or seats k d) ≡ Some (get_or (slice_set seats m new) k d) = sym here ∙ e.1 in
+          let same : get_or seats k d ≡ get_or (slice_set seats m new) k d = let t = own in cc in
+          same_ahead (get_or (slice_set seats m new) k d) (get_or seats k d) (ap (λ (p : Seat). p.odd) (sym same)) ahead
     ])
   where
-    same_ahead : (one other : Place) → one.odd ≡ other.odd → is_ahead after one ≡ true → is_ahead front other ≡ true
+    same_ahead : (one other : Seat) → one.odd ≡ other.odd → is_ahead after one ≡ true → is_ahead front other ≡ true
     same_ahead one other e is = subst (λ odd. differ odd front.odd ≡ true) e (subst (λ odd. differ one.odd odd ≡ true) turn is)
 
-pub arrive_keeps : (places : List Place) (front : Front) (m : ℕ) (place : Place) (tag : Tag) (h : List Event) → Stands places front h → slice_get places m ≡ Some place → tag_differs tag (tag_for front place) ≡ false →
-    Stands (slice_set places m (record { odd = place.odd; arrived = Some tag; left = place.left })) (arrived_at front place tag) (Arrive (passed m h) m tag ∷ h)
-arrive_keeps places front m place tag h st at fine =
-    let new : Place = record { odd = place.odd; arrived = Some tag; left = place.left } in
-    let p = st.barrier.place m place at in
+pub arrive_keeps : (seats : List Seat) (front : Front) (m : ℕ) (seat : Seat) (tag : Tag) (h : List Event) → Stands seats front h → slice_get seats m ≡ Some seat → tag_differs tag (tag_for front seat) ≡ false →
+    Stands (slice_set seats m (record { odd = seat.odd; arrived = Some tag; left = seat.left })) (arrived_at front seat tag) (Arrive (passed m h) m tag ∷ h)
+arrive_keeps seats front m seat tag h st at fine =
+    let new : Seat = record { odd = seat.odd; arrived = Some tag; left = seat.left } in
+    let p = st.barrier.seat m seat at in
     record {
       least = st.least;
-      barrier = subst (λ g. BarrierStands (slice_set places m new) (arrived_at front place tag) st.least (Arrive g m tag ∷ h)) (sym p.passed_is) (arrives places front st.least m place new tag h st.barrier at refl refl refl);
-      behind = ahead_stays front (arrived_at front place tag) m place new places at refl (turn_arrived front place tag) st.behind;
-      rule = subst (λ n. Always (ArrivalRule n) (Arrive (passed m h) m tag ∷ h)) (sym (length-set places m new)) (
-        record { number = refl; same = same_tags tag (tag_at (passed m h) h) (ap (tag_differs tag) (tag_here places front m place h st at) ∙ fine) },
+      barrier = subst (λ g. BarrierStands (slice_set seats m new) (arrived_at front seat tag) st.least (Arrive g m tag ∷ h)) (sym p.passed_is) (arrives seats front st.least m seat new tag h st.barrier at refl refl refl);
+      behind = ahead_stays front (arrived_at front seat tag) m seat new seats at refl (turn_arrived front seat tag) st.behind;
+      rule = subst (λ n. Always (ArrivalRule n) (Arrive (passed m h) m tag ∷ h)) (sym (length-set seats m new)) (
+        record { number = refl; same = same_tags tag (tag_at (passed m h) h) (ap (tag_differs tag) (tag_here seats front m seat h st at) ∙ fine) },
         st.rule,
       );
     }
 
--- whether a tag differs from those of the others, by what the place shows of them
-pub differs_is : (places : List Place) (front : Front) (m : ℕ) (place : Place) (tag : Tag) (others : Option Tag) (differs : Bool) (h : List Event) → Stands places front h → slice_get places m ≡ Some place → others ≡ tag_for front place → differs ≡ tag_differs tag others →
+-- whether a tag differs from those of the others, by what the seat shows of them
+pub differs_is : (seats : List Seat) (front : Front) (m : ℕ) (seat : Seat) (tag : Tag) (others : Option Tag) (differs : Bool) (h : List Event) → Stands seats front h → slice_get seats m ≡ Some seat → others ≡ tag_for front seat → differs ≡ tag_differs tag others →
     tag_differs tag (tag_at (passed m h) h) ≡ differs
-differs_is places front m place tag others differs h st at seen is = ap (tag_differs tag) (tag_here places front m place h st at ∙ sym seen) ∙ sym is
+differs_is seats front m seat tag others differs h st at seen is = ap (tag_differs tag) (tag_here seats front m seat h st at ∙ sym seen) ∙ sym is
 
 -- Passing
 
-pub met_ahead : (places : List Place) (front : Front) (m : ℕ) (place : Place) (h : List Event) → Stands places front h → slice_get places m ≡ Some place → is_ahead front place ≡ true → barrier_met (length places) (passed m h) h ≡ false
-met_ahead places front m place h st at ahead =
-    let next : barrier_of front st.least place ≡ st.least + 1 = rw ahead refl in
-    subst (λ g. barrier_met (length places) g h ≡ false) (sym ((st.barrier.place m place at).passed_is ∙ next)) (not_met_ahead places front st.least h st.barrier st.behind)
+pub met_ahead : (seats : List Seat) (front : Front) (m : ℕ) (seat : Seat) (h : List Event) → Stands seats front h → slice_get seats m ≡ Some seat → is_ahead front seat ≡ true → barrier_met (length seats) (passed m h) h ≡ false
+met_ahead seats front m seat h st at ahead =
+    let next : barrier_of front st.least seat ≡ st.least + 1 = rw ahead refl in
+    subst (λ g. barrier_met (length seats) g h ≡ false) (sym ((st.barrier.seat m seat at).passed_is ∙ next)) (not_met_ahead seats front st.least h st.barrier st.behind)
 
-at_least : (places : List Place) (front : Front) (m : ℕ) (place : Place) (h : List Event) (st : Stands places front h) → slice_get places m ≡ Some place → is_ahead front place ≡ false → passed m h ≡ st.least
-at_least places front m place h st at behind =
-    let same : barrier_of front st.least place ≡ st.least = rw behind refl in (st.barrier.place m place at).passed_is ∙ same
+at_least : (seats : List Seat) (front : Front) (m : ℕ) (seat : Seat) (h : List Event) (st : Stands seats front h) → slice_get seats m ≡ Some seat → is_ahead front seat ≡ false → passed m h ≡ st.least
+at_least seats front m seat h st at behind =
+    let same : barrier_of front st.least seat ≡ st.least = rw behind refl in (st.barrier.seat m seat at).passed_is ∙ same
 
-pub met_not : (places : List Place) (front : Front) (m : ℕ) (place : Place) (h : List Event) → Stands places front h → slice_get places m ≡ Some place → is_ahead front place ≡ false → (All (IsThere front) places → ⊥) →
-    barrier_met (length places) (passed m h) h ≡ false
-met_not places front m place h st at behind not_all =
-    elim (cases_Bool (barrier_met (length places) (passed m h) h)) [
-      | inl e ↦ absurd (not_all (met_all places front st.least h st.barrier (subst (λ g. barrier_met (length places) g h ≡ true) (at_least places front m place h st at behind) e)))
+pub met_not : (seats : List Seat) (front : Front) (m : ℕ) (seat : Seat) (h : List Event) → Stands seats front h → slice_get seats m ≡ Some seat → is_ahead front seat ≡ false → (All (IsThere front) seats → ⊥) →
+    barrier_met (length seats) (passed m h) h ≡ false
+met_not seats front m seat h st at behind not_all =
+    elim (cases_Bool (barrier_met (length seats) (passed m h) h)) [
+      | inl e ↦ absurd (not_all (met_all seats front st.least h st.barrier (subst (λ g. barrier_met (length seats) g h ≡ true) (at_least seats front m seat h st at behind) e)))
       | inr e ↦ e
     ]
 
-pub met_now : (places : List Place) (front : Front) (m : ℕ) (place : Place) (h : List Event) → Stands places front h → slice_get places m ≡ Some place → is_ahead front place ≡ false → All (IsThere front) places →
-    barrier_met (length places) (passed m h) h ≡ true
-met_now places front m place h st at behind all =
-    subst (λ g. barrier_met (length places) g h ≡ true) (sym (at_least places front m place h st at behind)) (met_by places front st.least h st.barrier all)
+pub met_now : (seats : List Seat) (front : Front) (m : ℕ) (seat : Seat) (h : List Event) → Stands seats front h → slice_get seats m ≡ Some seat → is_ahead front seat ≡ false → All (IsThere front) seats →
+    barrier_met (length seats) (passed m h) h ≡ true
+met_now seats front m seat h st at behind all =
+    subst (λ g. barrier_met (length seats) g h ≡ true) (sym (at_least seats front m seat h st at behind)) (met_by seats front st.least h st.barrier all)
 
--- all places pass a test, or not all do
-decide_all : (test : Place → Bool) (places : List Place) → All (λ p. test p ≡ true) places ⊎ (All (λ p. test p ≡ true) places → ⊥)
+-- all seats pass a test, or not all do
+decide_all : (test : Seat → Bool) (seats : List Seat) → All (λ p. test p ≡ true) seats ⊎ (All (λ p. test p ≡ true) seats → ⊥)
 decide_all test [] = inl (λ k d lt. absurd (omega arith))
 decide_all test (x ∷ xs) =
     elim (cases_Bool (test x)) [
@@ -161,49 +161,49 @@ decide_all test (x ∷ xs) =
       | inr e ↦ inr (λ all. let is : test x ≡ true = all 0 x (omega arith) in cc)
     ]
   where
-    cons_all : (k : ℕ) (d : Place) → test x ≡ true → All (λ p. test p ≡ true) xs → k < length (x ∷ xs) → test (get_or (x ∷ xs) k d) ≡ true
+    cons_all : (k : ℕ) (d : Seat) → test x ≡ true → All (λ p. test p ≡ true) xs → k < length (x ∷ xs) → test (get_or (x ∷ xs) k d) ≡ true
     cons_all zero d e all lt = e
     cons_all (suc k) d e all lt = all k d (omega arith)
 
 -- the front after members have passed
-pub settle_keeps : (places : List Place) (front settled : Front) (m : ℕ) (place : Place) (least : ℕ) (h : List Event) → BarrierStands places front least h → slice_get places m ≡ Some place → Always (ArrivalRule (length places)) h →
-    (All (λ p. is_ahead front p ≡ true) places → settled ≡ advanced front) → ((All (λ p. is_ahead front p ≡ true) places → ⊥) → settled ≡ front) → Stands places settled h
-settle_keeps places front settled m place least h st at rule all some =
-    elim (decide_all (is_ahead front) places) [
-      | inl every ↦ rw (all every) (record { least = least + 1; barrier = moves_on places front least h st every; behind = behind_again places front m place at every; rule = rule })
+pub settle_keeps : (seats : List Seat) (front settled : Front) (m : ℕ) (seat : Seat) (least : ℕ) (h : List Event) → BarrierStands seats front least h → slice_get seats m ≡ Some seat → Always (ArrivalRule (length seats)) h →
+    (All (λ p. is_ahead front p ≡ true) seats → settled ≡ advanced front) → ((All (λ p. is_ahead front p ≡ true) seats → ⊥) → settled ≡ front) → Stands seats settled h
+settle_keeps seats front settled m seat least h st at rule all some =
+    elim (decide_all (is_ahead front) seats) [
+      | inl every ↦ rw (all every) (record { least = least + 1; barrier = moves_on seats front least h st every; behind = behind_again seats front m seat at every; rule = rule })
       | inr not_every ↦ rw (some not_every) (record { least = least; barrier = st; behind = not_every; rule = rule })
     ]
 
-there_tag : (front : Front) (place : Place) → is_ahead front place ≡ false → IsThere front place → (tag : Tag) × (place.arrived ≡ Some tag)
-there_tag front place behind is = some_of place.arrived (subst (λ b. (b || is_some place.arrived) ≡ true) behind is)
+there_tag : (front : Front) (seat : Seat) → is_ahead front seat ≡ false → IsThere front seat → (tag : Tag) × (seat.arrived ≡ Some tag)
+there_tag front seat behind is = some_of seat.arrived (subst (λ b. (b || is_some seat.arrived) ≡ true) behind is)
 
-pub turn_keeps : (places : List Place) (front settled : Front) (m : ℕ) (place : Place) (h : List Event) → Stands places front h → slice_get places m ≡ Some place → is_ahead front place ≡ false → All (IsThere front) places →
-    (All (λ p. is_ahead front p ≡ true) (slice_set places m (passed_by place (was_region_end place.arrived))) → settled ≡ advanced front) →
-    ((All (λ p. is_ahead front p ≡ true) (slice_set places m (passed_by place (was_region_end place.arrived))) → ⊥) → settled ≡ front) →
-    Stands (slice_set places m (passed_by place (was_region_end place.arrived))) settled (Pass (passed m h) m ∷ h)
-turn_keeps places front settled m place h st at behind all every some =
-    let new : Place = passed_by place (was_region_end place.arrived) in
-    let is : IsThere front place = rw (get_or_from_slice_get places m place place at) at (all m place (slice_get_within places m place at)) in
-    let tag = there_tag front place behind is in
-    let number = at_least places front m place h st at behind in
-    let left : new.left ≡ (place.left || is_region_end tag.0.kind) = ap (λ t. place.left || was_region_end t) tag.1 in
-    let moved : BarrierStands (slice_set places m new) front st.least (Pass (passed m h) m ∷ h) = subst (λ g. BarrierStands (slice_set places m new) front st.least (Pass g m ∷ h)) (sym number) (passes places front st.least m place new tag.0 h st.barrier at behind tag.1 refl refl left) in
-    let own : slice_get (slice_set places m new) m ≡ Some new = set_same places m new (slice_get_within places m place at) in
-    settle_keeps (slice_set places m new) front settled m new st.least (Pass (passed m h) m ∷ h) moved own
-    (subst (λ n. Always (ArrivalRule n) (Pass (passed m h) m ∷ h)) (sym (length-set places m new)) (record { number = refl; met = met_now places front m place h st at behind all }, st.rule)) every some
+pub turn_keeps : (seats : List Seat) (front settled : Front) (m : ℕ) (seat : Seat) (h : List Event) → Stands seats front h → slice_get seats m ≡ Some seat → is_ahead front seat ≡ false → All (IsThere front) seats →
+    (All (λ p. is_ahead front p ≡ true) (slice_set seats m (passed_by seat (was_region_end seat.arrived))) → settled ≡ advanced front) →
+    ((All (λ p. is_ahead front p ≡ true) (slice_set seats m (passed_by seat (was_region_end seat.arrived))) → ⊥) → settled ≡ front) →
+    Stands (slice_set seats m (passed_by seat (was_region_end seat.arrived))) settled (Pass (passed m h) m ∷ h)
+turn_keeps seats front settled m seat h st at behind all every some =
+    let new : Seat = passed_by seat (was_region_end seat.arrived) in
+    let is : IsThere front seat = rw (get_or_from_slice_get seats m seat seat at) at (all m seat (slice_get_within seats m seat at)) in
+    let tag = there_tag front seat behind is in
+    let number = at_least seats front m seat h st at behind in
+    let left : new.left ≡ (seat.left || is_region_end tag.0.kind) = ap (λ t. seat.left || was_region_end t) tag.1 in
+    let moved : BarrierStands (slice_set seats m new) front st.least (Pass (passed m h) m ∷ h) = subst (λ g. BarrierStands (slice_set seats m new) front st.least (Pass g m ∷ h)) (sym number) (passes seats front st.least m seat new tag.0 h st.barrier at behind tag.1 refl refl left) in
+    let own : slice_get (slice_set seats m new) m ≡ Some new = set_same seats m new (slice_get_within seats m seat at) in
+    settle_keeps (slice_set seats m new) front settled m new st.least (Pass (passed m h) m ∷ h) moved own
+    (subst (λ n. Always (ArrivalRule n) (Pass (passed m h) m ∷ h)) (sym (length-set seats m new)) (record { number = refl; met = met_now seats front m seat h st at behind all }, st.rule)) every some
   where
-    set_same : (xs : List Place) (i : ℕ) (x : Place) → i < length xs → slice_get (slice_set xs i x) i ≡ Some x
+    set_same : (xs : List Seat) (i : ℕ) (x : Seat) → i < length xs → slice_get (slice_set xs i x) i ≡ Some x
     set_same [] i x lt = absurd (omega arith)
     set_same (a ∷ xs) zero x lt = refl
     set_same (a ∷ xs) (suc i) x lt = set_same xs i x (omega arith)
 
 -- New barriers stand for no events
 
-pub made : (places : List Place) (n : ℕ) → 0 < n → places ≡ replicate n (record { odd = false; arrived = None; left = false }) → Stands places (record { odd = false; number = 0; tag = None; next = None }) []
-made places n some e =
-    let new : Place = record { odd = false; arrived = None; left = false } in
+pub made : (seats : List Seat) (n : ℕ) → 0 < n → seats ≡ replicate n (record { odd = false; arrived = None; left = false }) → Stands seats (record { odd = false; number = 0; tag = None; next = None }) []
+made seats n some e =
+    let new : Seat = record { odd = false; arrived = None; left = false } in
     let front : Front = record { odd = false; number = 0; tag = None; next = None } in
-    let size : length places ≡ n = ap length e ∙ length-replicate n new in
+    let size : length seats ≡ n = ap length e ∙ length-replicate n new in
     record {
       least = 0;
       barrier = record {
@@ -211,18 +211,18 @@ made places n some e =
         tag = refl;
         next = refl;
         beyond = λ g le. refl;
-        place = λ m place at. rw (← one m place (subst (λ xs. slice_get xs m ≡ Some place) e at)) (record { passed_is = refl; here = refl; behind = λ g lt. absurd (omega arith); beyond = λ g lt. refl; left_is = refl });
+        seat = λ m seat at. rw (← one m seat (subst (λ xs. slice_get xs m ≡ Some seat) e at)) (record { passed_is = refl; here = refl; behind = λ g lt. absurd (omega arith); beyond = λ g lt. refl; left_is = refl });
       };
       behind = λ all.
           let first = all 0 new (rw size some) in
-          let at : slice_get places 0 ≡ Some (get_or places 0 new) = slice_get-get_or places 0 new (rw size some) in
-          let is : new ≡ get_or places 0 new = one 0 (get_or places 0 new) (subst (λ xs. slice_get xs 0 ≡ Some (get_or places 0 new)) e at) in
-          let ahead : is_ahead front new ≡ true = subst (λ (p : Place). is_ahead front p ≡ true) (sym is) first in cc;
+          let at : slice_get seats 0 ≡ Some (get_or seats 0 new) = slice_get-get_or seats 0 new (rw size some) in
+          let is : new ≡ get_or seats 0 new = one 0 (get_or seats 0 new) (subst (λ xs. slice_get xs 0 ≡ Some (get_or seats 0 new)) e at) in
+          let ahead : is_ahead front new ≡ true = subst (λ (p : Seat). is_ahead front p ≡ true) (sym is) first in cc;
       rule = tt;
     }
   where
-    one : (m : ℕ) (place : Place) → slice_get (replicate n (record { odd = false; arrived = None; left = false })) m ≡ Some place → record { odd = false; arrived = None; left = false } ≡ place
-    one m place at =
-        let new : Place = record { odd = false; arrived = None; left = false } in
-        let lt : m < n = rw (length-replicate n new) at (slice_get_within _ m place at) in
-        sym (get_or-replicate n m new place lt) ∙ get_or_from_slice_get (replicate n new) m place place at
+    one : (m : ℕ) (seat : Seat) → slice_get (replicate n (record { odd = false; arrived = None; left = false })) m ≡ Some seat → record { odd = false; arrived = None; left = false } ≡ seat
+    one m seat at =
+        let new : Seat = record { odd = false; arrived = None; left = false } in
+        let lt : m < n = rw (length-replicate n new) at (slice_get_within _ m seat at) in
+        sym (get_or-replicate n m new seat lt) ∙ get_or_from_slice_get (replicate n new) m seat seat at

@@ -1,3 +1,3 @@
-pub mod Places
+pub mod Seats
 pub mod Calls
 pub mod Stands

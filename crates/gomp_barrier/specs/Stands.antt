@@ -2,18 +2,18 @@
 use Rattle.std.specs.Prelude.{ℕ, List, length}
 use Rattle.gomp_types.specs.declared.event.Event.{Event}
 use Rattle.gomp_types.specs.Rules.{Always, ArrivalRule}
-use Rattle.gomp_barrier.specs.declared.front.Place.{Place}
+use Rattle.gomp_barrier.specs.declared.front.Seat.{Seat}
 use Rattle.gomp_barrier.specs.declared.front.Front.{Front}
-use Rattle.gomp_barrier.specs.Places.{BarrierStands, SomeBehind}
+use Rattle.gomp_barrier.specs.Seats.{BarrierStands, SomeBehind}
 
 -- the fields, as data
 pub record BarriersView : Type 0 where
-  pub places : List Place
+  pub seats : List Seat
   pub front : Front
 
--- each place and the front say what the events do, and some member has not passed the front
-pub record Stands (places : List Place) (front : Front) (h : List Event) : Type 0 where
+-- each seat and the front say what the events do, and some member has not passed the front
+pub record Stands (seats : List Seat) (front : Front) (h : List Event) : Type 0 where
   pub least : ℕ
-  pub barrier : BarrierStands places front least h
-  pub behind : SomeBehind front places
-  pub rule : Always (ArrivalRule (length places)) h
+  pub barrier : BarrierStands seats front least h
+  pub behind : SomeBehind front seats
+  pub rule : Always (ArrivalRule (length seats)) h

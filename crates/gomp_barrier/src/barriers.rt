@@ -1,8 +1,8 @@
 //! The barriers of a team that one thread steps.
 
-ghost use Rattle.std.specs.Prelude.{◌≡◌, ◌<◌, ◌↔◌, ℕ, List, [], ◌∷◌, length, IfOk, IsTrue, true, false};
+ghost use Rattle.std.specs.Prelude.{◌≡◌, ◌<◌, ℕ, List, [], ◌∷◌, length, IfOk, not, false};
 ghost use Rattle.gomp_types.specs.declared.event.Event.{Event};
-ghost use Rattle.gomp_barrier.specs.declared.front.Place.{Place};
+ghost use Rattle.gomp_barrier.specs.declared.front.Seat.{Seat};
 ghost use Rattle.gomp_barrier.specs.declared.front.Front.{Front};
 ghost use Rattle.gomp_types.specs.Events.{passed, tag_at, barrier_met};
 ghost use Rattle.gomp_types.specs.Refusals.{tag_differs};
@@ -11,7 +11,7 @@ ghost use Rattle.gomp_barrier.specs.Calls.{at_barrier, arrived_after, turn_after
 ghost use Rattle.gomp_barrier.specs.Stands.{BarriersView, Stands};
 
 use crate::front::{
-    Front, Place, all_there, arrived_at, ends_region, is_ahead, number_for, passed_by, settled,
+    Front, Seat, all_there, arrived_at, ends_region, is_ahead, number_for, passed_by, settled,
     tag_for,
 };
 use gomp_types::Tag;
@@ -34,7 +34,7 @@ pub struct AtBarrier {
 /// The barriers of one team. After `make` no call takes memory.
 #[derive(Debug, Drop)]
 pub struct Barriers {
-    places: Vec<Place>,
+    seats: Vec<Seat>,
     front: Front,
 }
 
@@ -45,25 +45,26 @@ impl Model for Barriers {
 
     ghost Value = { BarriersView };
 
-    ghost view = { λ b. record { places = b.places.items; front = b.front } };
+    ghost view = { λ b. record { seats = b.seats.items; front = b.front } };
 
-    ghost invariant = { λ b. (h : List Event) × Stands b.places.items b.front h };
+    ghost invariant = { λ b. (h : List Event) × Stands b.seats.items b.front h };
 }
 
 impl Barriers {
-    /// The barriers of a new team of this many members, at least 1.
+    /// The barriers of a new team of `count` members, at least 1 (a team has 1 to 64). It fails
+    /// where their memory is refused.
     pub fn make(alloc: Global, count: u16) -> Result<Barriers, AllocError>
         requires { 0 < count }
-        ensures members { IfOk result (λ barriers. length barriers.places ≡ count) }
-        ensures stands { IfOk result (λ barriers. Stands barriers.places barriers.front []) }
+        ensures members { IfOk result (λ barriers. length barriers.seats ≡ count) }
+        ensures stands { IfOk result (λ barriers. Stands barriers.seats barriers.front []) }
     {
-        let place = Place {
+        let seat = Seat {
             odd: false,
             arrived: None,
             left: false,
         };
         Ok(Barriers {
-            places: vec![in alloc; place; count as usize]?,
+            seats: vec![in alloc; seat; count as usize]?,
             front: Front {
                 odd: false,
                 number: 0,
@@ -73,79 +74,84 @@ impl Barriers {
         })
     }
 
-    /// What the member sees of its next barrier.
+    /// What the member, numbered from 0, sees of its next barrier.
     pub fn look(&self, member: u16) -> AtBarrier
-        requires { member < length self.now.places }
-        ensures known { (h : List Event) × Stands self.now.places self.now.front h }
-        ensures value { (h : List Event) → Stands self.now.places self.now.front h → result ≡ at_barrier member h }
+        requires { member < length self.now.seats }
+        ensures known { (h : List Event) × Stands self.now.seats self.now.front h }
+        ensures value { (h : List Event) → Stands self.now.seats self.now.front h → result ≡ at_barrier member h }
     {
-        let place = self.places[member as usize];
+        let seat = self.seats[member as usize];
         AtBarrier {
-            number: number_for(&self.front, &place),
-            tag: tag_for(&self.front, &place),
-            arrived: place.arrived,
-            left: place.left,
+            number: number_for(&self.front, &seat),
+            tag: tag_for(&self.front, &seat),
+            arrived: seat.arrived,
+            left: seat.left,
         }
     }
 
-    /// The member arrives at its next barrier with this tag, unless others arrived there with
-    /// another one: then nothing changes, and the answer is false.
+    /// The member, numbered from 0, arrives at its next barrier with this tag, unless someone
+    /// arrived there with another one: then nothing changes, and the answer is false. It is asked
+    /// once for each barrier, and not after the region's end: `look` tells both.
     pub fn arrive(&mut self, member: u16, tag: Tag) -> bool
-        requires { member < length self.old.places }
-        ensures members { length self.new.places ≡ length self.old.places }
-        ensures known { (h : List Event) × Stands self.old.places self.old.front h }
-        ensures answer { (h : List Event) → Stands self.old.places self.old.front h → (IsTrue result ↔ (tag_differs tag (tag_at (passed member h) h) ≡ false)) }
-        ensures stands { (h : List Event) → Stands self.old.places self.old.front h → Stands self.new.places self.new.front (arrived_after result member tag h) }
+        requires { member < length self.old.seats }
+        ensures members { length self.new.seats ≡ length self.old.seats }
+        ensures known { (h : List Event) × Stands self.old.seats self.old.front h }
+        ensures answer { (h : List Event) → Stands self.old.seats self.old.front h → result ≡ not (tag_differs tag (tag_at (passed member h) h)) }
+        ensures kept { result ≡ false → self.new ≡ self.old }
+        ensures stands { (h : List Event) → Stands self.old.seats self.old.front h → Stands self.new.seats self.new.front (arrived_after result member tag h) }
     {
-        let place = self.places[member as usize];
-        if differs(tag, tag_for(&self.front, &place)) {
+        let seat = self.seats[member as usize];
+        if differs(tag, tag_for(&self.front, &seat)) {
             return false;
         }
-        self.places[member as usize] = Place {
-            odd: place.odd,
+        self.seats[member as usize] = Seat {
+            odd: seat.odd,
             arrived: Some(tag),
-            left: place.left,
+            left: seat.left,
         };
-        self.front = arrived_at(&self.front, &place, tag);
+        self.front = arrived_at(&self.front, &seat, tag);
         true
     }
 
-    /// The member passes its next barrier where every member has arrived there; else nothing
+    /// The member, numbered from 0, passes its next barrier where every member has arrived there; else nothing
     /// changes, and the answer is false.
     pub fn turn(&mut self, member: u16) -> bool
-        requires { member < length self.old.places }
-        ensures members { length self.new.places ≡ length self.old.places }
-        ensures known { (h : List Event) × Stands self.old.places self.old.front h }
-        ensures answer { (h : List Event) → Stands self.old.places self.old.front h → result ≡ barrier_met (length self.old.places) (passed member h) h }
-        ensures stands { (h : List Event) → Stands self.old.places self.old.front h → Stands self.new.places self.new.front (turn_after result member h) }
+        requires { member < length self.old.seats }
+        ensures members { length self.new.seats ≡ length self.old.seats }
+        ensures known { (h : List Event) × Stands self.old.seats self.old.front h }
+        ensures answer { (h : List Event) → Stands self.old.seats self.old.front h → result ≡ barrier_met (length self.old.seats) (passed member h) h }
+        ensures kept { result ≡ false → self.new ≡ self.old }
+        ensures stands { (h : List Event) → Stands self.old.seats self.old.front h → Stands self.new.seats self.new.front (turn_after result member h) }
     {
-        let place = self.places[member as usize];
-        if is_ahead(&self.front, &place) {
+        let seat = self.seats[member as usize];
+        if is_ahead(&self.front, &seat) {
             return false;
         }
-        if !all_there(&self.front, &self.places) {
+        if !all_there(&self.front, &self.seats) {
             return false;
         }
-        self.places[member as usize] = passed_by(&place, ends_region(place.arrived));
-        self.front = settled(&self.front, &self.places);
+        self.seats[member as usize] = passed_by(&seat, ends_region(seat.arrived));
+        self.front = settled(&self.front, &self.seats);
         true
     }
 
     /// Whatever calls were made: all members arrive alike, at one barrier after another, and none
     /// passes before all arrived.
     pub fn laws(&self)
-        ensures { (h : List Event) → Stands self.now.places self.now.front h → ArrivalLaws (length self.now.places) h }
+        ensures known { (h : List Event) × Stands self.now.seats self.now.front h }
+        ensures laws { (h : List Event) → Stands self.now.seats self.now.front h → ArrivalLaws (length self.now.seats) h }
     {
+        let _ = &self.seats;
         gomp_types::laws::arrival_laws();
     }
 }
 
 /// Events of the work-shares, and a break, change nothing of the barriers.
 pub fn aside()
-    ensures { (places : List Place) → (front : Front) → (h : List Event) → (event : Event) → IsAside event → Stands places front h → Stands places front (event ∷ h) }
+    ensures { (seats : List Seat) → (front : Front) → (h : List Event) → (event : Event) → IsAside event → Stands seats front h → Stands seats front (event ∷ h) }
 {}
 
-/// Whether others arrived with another tag.
+/// Whether some member arrived with another tag.
 fn differs(tag: Tag, others: Option<Tag>) -> bool
     ensures { result ≡ tag_differs tag others }
 {

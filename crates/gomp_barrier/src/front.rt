@@ -1,20 +1,20 @@
-//! The places of a team's members at its barriers, and the barrier that the slowest come to next.
+//! The seats of a team's members at its barriers, and the barrier that the slowest come to next.
 //!
 //! No member is two barriers ahead of another, so it is enough to know of each whether it is ahead
 //! of the slowest, which the parities tell.
 
 ghost use Rattle.std.specs.Prelude.{◌≡◌, ◌↔◌, IsTrue, All, true};
 ghost use Rattle.gomp_types.specs.Events.{was_region_end};
-ghost use Rattle.gomp_barrier.specs.Places.{is_ahead, tag_for, number_for, IsThere, arrived_at, passed_by, advanced};
+ghost use Rattle.gomp_barrier.specs.Seats.{is_ahead, tag_for, number_for, IsThere, arrived_at, passed_by, advanced};
 
 use gomp_types::{Arrival, Tag};
 
-/// A member's place at the barriers.
+/// A member's seat at the barriers.
 #[derive(Clone, Copy, Debug, PartialEq, Eq)]
-pub struct Place {
+pub struct Seat {
     /// Whether it has passed an odd number of barriers.
     pub odd: bool,
-    /// With which tag it has arrived at its next barrier.
+    /// With which tag it has arrived at its next barrier: none where it has not.
     pub arrived: Option<Tag>,
     /// Whether it has passed the region's end.
     pub left: bool,
@@ -34,14 +34,14 @@ pub struct Front {
 }
 
 /// Whether the member has passed the front.
-pub fn is_ahead(front: &Front, member: &Place) -> bool
+pub fn is_ahead(front: &Front, member: &Seat) -> bool
     ensures { result ≡ is_ahead front.now member.now }
 {
     member.odd != front.odd
 }
 
-/// With which tag others have arrived at the member's next barrier.
-pub fn tag_for(front: &Front, member: &Place) -> Option<Tag>
+/// With which tag any member has arrived at the member's next barrier: none where nobody has.
+pub fn tag_for(front: &Front, member: &Seat) -> Option<Tag>
     ensures { result ≡ tag_for front.now member.now }
 {
     if is_ahead(front, member) {
@@ -52,7 +52,7 @@ pub fn tag_for(front: &Front, member: &Place) -> Option<Tag>
 }
 
 /// The number of the member's next barrier.
-pub fn number_for(front: &Front, member: &Place) -> u64
+pub fn number_for(front: &Front, member: &Seat) -> u64
     ensures { result ≡ number_for front.now member.now }
 {
     if is_ahead(front, member) {
@@ -63,14 +63,14 @@ pub fn number_for(front: &Front, member: &Place) -> u64
 }
 
 /// Whether every member has arrived at the front.
-pub fn all_there(front: &Front, members: &[Place]) -> bool
+pub fn all_there(front: &Front, members: &[Seat]) -> bool
     ensures { IsTrue result ↔ All (IsThere front.now) members.now }
 {
     members.iter().all(|member| is_ahead(front, member) || member.arrived.is_some())
 }
 
 /// The front after the member has arrived with this tag at its next barrier.
-pub fn arrived_at(front: &Front, member: &Place, tag: Tag) -> Front
+pub fn arrived_at(front: &Front, member: &Seat, tag: Tag) -> Front
     ensures { result ≡ arrived_at front.now member.now tag }
 {
     if is_ahead(front, member) {
@@ -91,10 +91,10 @@ pub fn arrived_at(front: &Front, member: &Place, tag: Tag) -> Front
 }
 
 /// The member after it has passed its next barrier.
-pub fn passed_by(member: &Place, at_region_end: bool) -> Place
+pub fn passed_by(member: &Seat, at_region_end: bool) -> Seat
     ensures { result ≡ passed_by member.now at_region_end }
 {
-    Place {
+    Seat {
         odd: !member.odd,
         arrived: None,
         left: member.left || at_region_end,
@@ -102,9 +102,9 @@ pub fn passed_by(member: &Place, at_region_end: bool) -> Place
 }
 
 /// The front after members have passed: the next barrier, once all have passed this one.
-pub fn settled(front: &Front, members: &[Place]) -> Front
-    ensures all { All (λ member. is_ahead front.now member ≡ true) members.now → result ≡ advanced front.now }
-    ensures some { (All (λ member. is_ahead front.now member ≡ true) members.now → ⊥) → result ≡ front.now }
+pub fn settled(front: &Front, members: &[Seat]) -> Front
+    ensures moved { All (λ member. is_ahead front.now member ≡ true) members.now → result ≡ advanced front.now }
+    ensures stays { (All (λ member. is_ahead front.now member ≡ true) members.now → ⊥) → result ≡ front.now }
 {
     if members.iter().all(|member| is_ahead(front, member)) {
         Front {

@@ -7,6 +7,6 @@
 #![tactic(auto)]
 
 pub mod barriers;
-pub mod front;
+mod front;
 
 pub use barriers::{AtBarrier, Barriers, aside};

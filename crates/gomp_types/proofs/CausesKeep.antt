@@ -1,6 +1,6 @@
 -- Replies that have their causes keep the rule of a team; so the headline holds of every record whose replies have their causes.
 use Rattle.std.proofs.Common.{◌≡◌, ℕ, ◌+◌, ◌<◌, Bool, true, false, List, [], ◌∷◌, ◌++◌, Option, Some, None, refl, ap, ◌∙◌, sym, arith, inl, inr, subst}
-use Rattle.std.specs.Prelude.{◌==◌, ◌≢◌, ℤ, pos, is_some, nat_le, not}
+use Rattle.std.specs.Prelude.{◌==◌, ◌≢◌, ℤ, pos, is_some, nat_le}
 use Rattle.std.proofs.lemmas.Bool.Decides.{nat_tests}
 use Rattle.std.proofs.lemmas.Bool.{cases_Bool}
 use Rattle.std.proofs.lemmas.Int.{ints}
@@ -17,7 +17,6 @@ use Rattle.gomp_types.specs.declared.reply.Reply.{Reply}
 use Rattle.gomp_types.specs.declared.reply.Reply.TheVariants.{Chunk, NoChunk, Finished, Passed, Wait, Refused}
 use Rattle.gomp_types.specs.declared.shape.Shape.{Shape}
 use Rattle.gomp_types.specs.declared.event.Arrival.{Arrival}
-use Rattle.gomp_types.specs.declared.event.Tag.{Tag}
 use Rattle.gomp_types.specs.declared.event.Event.{Event}
 use Rattle.gomp_types.specs.declared.event.Event.TheVariants.{Enter}
 use Rattle.gomp_types.specs.Limits.{capped}
@@ -25,9 +24,9 @@ use Rattle.gomp_types.specs.Tests.{Test, first_refusal}
 use Rattle.gomp_types.specs.Pieces.{Piece, shape_of}
 use Rattle.gomp_types.specs.Values.{iteration_at}
 use Rattle.gomp_types.specs.Events.{entered, open_share, share_number, is_inside, has_drained, shape_at, has_room, passed, tag_at, barrier_met}
-use Rattle.gomp_types.specs.Record.{Record, Waits, events, events_after, added, meant, is_resume, waits_of, waits_after, arrival_kind, ends_share, tag_with, share_left, arrived, begun, since_begun, piece_taken, pass_added, refusal_added, place_of}
-use Rattle.gomp_types.specs.Deals.{next_for, schedule, IsDealt}
-use Rattle.gomp_types.specs.Refusals.{shape_differs, tag_differs, call_tests, row_of, member_tests}
+use Rattle.gomp_types.specs.Record.{Record, events, added, meant, is_resume, waits_of, waits_after, arrival_kind, ends_share, tag_with, share_left, arrived, since_begun, piece_taken, pass_added, refusal_added, place_of}
+use Rattle.gomp_types.specs.Deals.{next_for, schedule}
+use Rattle.gomp_types.specs.Refusals.{shape_differs, tag_differs, row_of, member_tests}
 use Rattle.gomp_types.specs.Replies.{IsChunk, DealsOut, Starts, Awaits, is_met, MayReply}
 use Rattle.gomp_types.specs.Causes.{Terms, refusal_of, MayAnswer, Caused}
 use Rattle.gomp_types.specs.Rules.{Always, TeamRule, HasNone, MayEnter}
@@ -143,10 +142,10 @@ left_rule members m h (Some share) at there drained all =
 begun_keeps : (members m : ℕ) (ends : Bool) (kind : Option Arrival) (h : List Event) → Leaving ends m h → Arriving kind m h → Always (TeamRule members) h → Always (TeamRule members) (arrived kind m (entered m h) (share_left ends m h))
 begun_keeps members m false None h leaving arriving all = all
 begun_keeps members m false (Some kind) h leaving arriving all =
-    (record { number = refl; same = same_tags (tag_with kind (entered m h)) (tag_at (passed m h) h) arriving }, all)
+    ((record { number = refl; same = same_tags (tag_with kind (entered m h)) (tag_at (passed m h) h) arriving }, refl), all)
 begun_keeps members m true None h leaving arriving all = (left_rule members m h (open_share m h) refl leaving.0 leaving.1 all, all)
 begun_keeps members m true (Some kind) h leaving arriving all = (
-  record { number = refl; same = same_tags (tag_with kind (entered m h)) (tag_at (passed m h) h) arriving },
+  (record { number = refl; same = same_tags (tag_with kind (entered m h)) (tag_at (passed m h) h) arriving }, refl),
   (left_rule members m h (open_share m h) refl leaving.0 leaving.1 all, all),
 )
 

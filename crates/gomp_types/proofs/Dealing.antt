@@ -1,5 +1,5 @@
 -- Each schedule deals fairly to each share.
-use Rattle.std.proofs.Common.{◌≡◌, ℕ, ◌<◌, List, refl, arith}
+use Rattle.std.proofs.Common.{ℕ, ◌<◌, List, refl, arith}
 use Rattle.gomp_types.specs.declared.loop_desc.Sched.{Sched}
 use Rattle.gomp_types.specs.declared.loop_desc.Sched.TheVariants.{Dynamic}
 use Rattle.gomp_types.specs.declared.shape.Shape.{Shape}

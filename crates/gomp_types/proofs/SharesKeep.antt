@@ -1,5 +1,5 @@
 -- Events that keep the rule of the work-shares keep their laws, however the pieces are dealt out.
-use Rattle.std.proofs.Common.{◌≡◌, ℕ, ◌+◌, ◌<◌, ◌≤◌, Bool, true, false, List, [], ◌∷◌, ◌++◌, Option, Some, None, refl, ap, ◌∙◌, sym, arith, take, ◌⊎◌, inl, inr, subst, add-zero}
+use Rattle.std.proofs.Common.{◌≡◌, ℕ, ◌+◌, ◌<◌, ◌≤◌, Bool, true, false, List, [], ◌∷◌, ◌++◌, Option, Some, None, refl, ap, ◌∙◌, sym, arith, take, ◌⊎◌, inl, inr, subst}
 use Rattle.std.specs.Prelude.{pos, if◌then◌else◌, ◌&&◌, ◌||◌, ◌==◌, ◌-◌, ◌≢◌, nat_lt}
 use Rattle.std.proofs.lemmas.Bool.Decides.{nat_tests}
 use Rattle.std.proofs.lemmas.Bool.{cases_Bool}
@@ -9,9 +9,9 @@ use Rattle.gomp_types.specs.declared.event.Event.TheVariants.{Enter, Take, Drain
 use Rattle.gomp_types.specs.Pieces.{Piece}
 use Rattle.gomp_types.specs.Events.{entered, open_share, has_drained, has_ended, shape_at, is_over, has_room, has_iteration, times_taken}
 use Rattle.gomp_types.specs.Deals.{Deal, IsDealt, taken_in, takes_in, next_in, next_for, times}
-use Rattle.gomp_types.specs.Rules.{Always, MayEnter, MayTake, HasNone, ShareRule}
-use Rattle.gomp_types.specs.Laws.{Stands, IsOver, TakesNext, EntersInTurn, EndsInside, EntersWithRoom, ShareLaws}
-use Rattle.gomp_types.proofs.Booleans.{tells, is_equal, differs, same_number, share_is, and_left, and_right, or_tells, or_left, or_right, not_both, every_tells, every_by}
+use Rattle.gomp_types.specs.Rules.{Always, MayTake, HasNone, ShareRule}
+use Rattle.gomp_types.specs.Laws.{Happened, IsOver, TakesNext, EntersInTurn, EndsInside, EntersWithRoom, ShareLaws}
+use Rattle.gomp_types.proofs.Booleans.{tells, is_equal, differs, same_number, share_is, and_left, and_right, or_tells, or_right, not_both, every_tells}
 use Rattle.gomp_types.proofs.Tiling.{still_past, later_none, times-append, times-take, take_next, take_past, none_has}
 
 -- from one rule to another
@@ -66,7 +66,7 @@ inside deal members m i shape (End share member ∷ earlier) all at =
 inside deal members m i shape (_ ∷ earlier) all at = inside deal members m i shape earlier all.1 at
 
 -- the member has entered the share that it is in
-inside_stands : (m i : ℕ) (shape : Shape) (h : List Event) → open_share m h ≡ Some (i, shape) → Stands (Enter i m shape) h
+inside_stands : (m i : ℕ) (shape : Shape) (h : List Event) → open_share m h ≡ Some (i, shape) → Happened (Enter i m shape) h
 inside_stands m i shape [] at = absurd (cc)
 inside_stands m i shape (Enter share member other ∷ earlier) at =
     elim (tells (member == m) (Some (share, other)) (open_share m earlier) (Some (i, shape)) at) [
@@ -307,7 +307,7 @@ drained_none deal members m i shape (_ ∷ earlier) all within drained = drained
 
 -- From tests on the list to what stands in it
 
-pub end_stands : (share m : ℕ) (h : List Event) → has_ended share m h ≡ true → Stands (End share m) h
+pub end_stands : (share m : ℕ) (h : List Event) → has_ended share m h ≡ true → Happened (End share m) h
 end_stands share m [] e = absurd (cc)
 end_stands share m (End i member ∷ earlier) e =
     elim (or_tells (i == share && member == m) (has_ended share m earlier) e) [
@@ -319,7 +319,7 @@ end_stands share m (End i member ∷ earlier) e =
     ]
 end_stands share m (_ ∷ earlier) e = inr (end_stands share m earlier e)
 
-pub stands_ended : (share m : ℕ) (h : List Event) → Stands (End share m) h → has_ended share m h ≡ true
+pub stands_ended : (share m : ℕ) (h : List Event) → Happened (End share m) h → has_ended share m h ≡ true
 stands_ended share m [] stands = absurd stands
 stands_ended share m (End i member ∷ earlier) (inl e) =
     let is : i ≡ share = cc in
@@ -345,7 +345,7 @@ room_over members share old h e room =
 abbrev Entry : ℕ → ℕ → ℕ → Shape → List Event → Type 0
 Entry members share m shape h = (m < members) × (shape_at share h ≡ Some shape)
 
-entry : (deal : Deal) (members share m : ℕ) (shape : Shape) (h : List Event) → Always (ShareRule deal members) h → Stands (Enter share m shape) h → Entry members share m shape h
+entry : (deal : Deal) (members share m : ℕ) (shape : Shape) (h : List Event) → Always (ShareRule deal members) h → Happened (Enter share m shape) h → Entry members share m shape h
 entry deal members share m shape [] all stands = absurd stands
 entry deal members share m shape (Enter i member other ∷ earlier) all (inl e) =
     let number : i ≡ share = cc in

@@ -1,5 +1,5 @@
 -- Some reply to each step has its cause.
-use Rattle.std.proofs.Common.{◌≡◌, ◌≢◌, ℕ, ◌+◌, ◌-◌, ◌<◌, Bool, true, false, List, [], ◌∷◌, ◌++◌, Option, Some, None, refl, ap, ◌∙◌, sym, arith, slice_get, inl, inr}
+use Rattle.std.proofs.Common.{subst, ◌≡◌, ◌≢◌, ℕ, ◌-◌, ◌<◌, Bool, true, false, List, [], ◌∷◌, ◌++◌, Option, Some, None, refl, ◌∙◌, arith, inl, inr}
 use Rattle.std.specs.Prelude.{is_some}
 use Rattle.std.proofs.lemmas.Bool.{cases_Bool}
 use Rattle.gomp_types.specs.declared.call.Call.{Call}
@@ -18,7 +18,7 @@ use Rattle.gomp_types.specs.Tests.{Test, first_refusal}
 use Rattle.gomp_types.specs.Limits.{capped}
 use Rattle.gomp_types.specs.Pieces.{Piece, shape_of}
 use Rattle.gomp_types.specs.Values.{value_at}
-use Rattle.gomp_types.specs.Events.{entered, open_share, is_inside, has_room, clash_of}
+use Rattle.gomp_types.specs.Events.{entered, open_share, has_room, clash_of}
 use Rattle.gomp_types.specs.Record.{Record, events, meant, is_resume, waits_of}
 use Rattle.gomp_types.specs.Deals.{IsDealt, next_for, taken_in, schedule}
 use Rattle.gomp_types.specs.Refusals.{call_tests, row_of, broken_tests, member_tests}
@@ -158,15 +158,20 @@ may_answer terms run step (Refused refusal) none may =
 may_answer terms run step reply none may = (none, may)
 
 by_first : (terms : Terms) (run : Record) (step : Step) (first : Option Refusal) → refusal_of terms step (waits_of step.member run).open_call (events run) ≡ first → Caused terms run → SomeReply terms run step
-by_first terms run step (Some refusal) e caused = (
-  Refused refusal,
-  may_refuse (refusal_of terms step (waits_of step.member run).open_call (events run)) refusal step.call e
-      (not_memory (tests_of terms step (waits_of step.member run).open_call (events run)) refusal (whole_row terms step (waits_of step.member run).open_call (events run)) e),
-)
+by_first terms run step (Some refusal) e caused =
+    let other = not_memory (tests_of terms step (waits_of step.member run).open_call (events run)) refusal (whole_row terms step (waits_of step.member run).open_call (events run)) e in (
+      Refused refusal,
+      (λ same. other (let is : Refused refusal ≡ Refused NoMemory = same in cc)),
+      may_refuse (refusal_of terms step (waits_of step.member run).open_call (events run)) refusal step.call e other,
+    )
 by_first terms run step None e caused =
     let passed = tested terms step (waits_of step.member run).open_call (events run) (pending_holds terms run step.member caused) e in
-    let found = call_some (is_resume step.call) terms.members step.member (meant step.call (waits_of step.member run).open_call) (events run) passed (rule_holds terms run caused) in
-    (found.0, may_answer terms run step found.0 e found.1)
+    let found = call_some (is_resume step.call) terms.members step.member (meant step.call (waits_of step.member run).open_call) (events run) passed (rule_holds terms run caused) in (
+      found.0,
+      (λ same. not_refused terms.members (is_resume step.call) step.member (meant step.call (waits_of step.member run).open_call) NoMemory (events run)
+          (subst (λ reply. MayReply terms.members (is_resume step.call) step.member (meant step.call (waits_of step.member run).open_call) reply (events run)) same found.1)),
+      may_answer terms run step found.0 e found.1,
+    )
 
 pub some_reply_holds : (terms : Terms) (run : Record) (step : Step) → Caused terms run → SomeReply terms run step
 some_reply_holds terms run step caused = by_first terms run step (refusal_of terms step (waits_of step.member run).open_call (events run)) refl caused

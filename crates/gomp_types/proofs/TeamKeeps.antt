@@ -1,5 +1,5 @@
 -- Events that keep the rule of a team keep the headline.
-use Rattle.std.proofs.Common.{◌≡◌, ℕ, ◌<◌, List, [], ◌∷◌, Some, refl, ap, inl, inr}
+use Rattle.std.proofs.Common.{◌≡◌, ℕ, List, [], ◌∷◌, Some, refl, ap, inl, inr}
 use Rattle.std.specs.Prelude.{◌&&◌, ◌==◌, is_some}
 use Rattle.std.proofs.lemmas.Bool.{cases_Bool}
 use Rattle.gomp_types.specs.declared.event.Tag.{Tag}
@@ -8,7 +8,7 @@ use Rattle.gomp_types.specs.declared.event.Event.TheVariants.{Enter, Take, Drain
 use Rattle.gomp_types.specs.Events.{arrival, tag_at}
 use Rattle.gomp_types.specs.Deals.{schedule}
 use Rattle.gomp_types.specs.Rules.{Always, ShareRule, ArrivalRule, TeamRule}
-use Rattle.gomp_types.specs.Laws.{Stands, BarriersInTurn, PassesLast, SameArrivals, ArrivalLaws}
+use Rattle.gomp_types.specs.Laws.{Happened, BarriersInTurn, PassesLast, SameArrivals, TellsShares, ArrivalLaws}
 use Rattle.gomp_types.specs.Headline.{Headline}
 use Rattle.gomp_types.proofs.Booleans.{tells, is_equal, same_number, and_left, and_right, some_of, every_tells}
 use Rattle.gomp_types.proofs.SharesKeep.{always, shares_keep}
@@ -28,7 +28,7 @@ share_rules members h all = always (TeamRule members) (ShareRule (schedule membe
 
 -- and that of the arrivals
 arrival_rule : (members : ℕ) (event : Event) (earlier : List Event) → TeamRule members event earlier → Always (TeamRule members) earlier → ArrivalRule members event earlier
-arrival_rule members (Arrive barrier m tag) earlier rule all = rule
+arrival_rule members (Arrive barrier m tag) earlier rule all = rule.0
 arrival_rule members (Pass barrier m) earlier rule all = rule
 arrival_rule members _ earlier rule all = tt
 
@@ -43,7 +43,7 @@ tag_stays members g tag (Arrive barrier member other) earlier rule at =
     ]
 tag_stays members g tag _ earlier rule at = at
 
-tag_stands : (members g m : ℕ) (tag : Tag) (h : List Event) → Always (ArrivalRule members) h → Stands (Arrive g m tag) h → tag_at g h ≡ Some tag
+tag_stands : (members g m : ℕ) (tag : Tag) (h : List Event) → Always (ArrivalRule members) h → Happened (Arrive g m tag) h → tag_at g h ≡ Some tag
 tag_stands members g m tag [] all stands = absurd stands
 tag_stands members g m tag (Arrive barrier member other ∷ earlier) all (inl e) =
     let number : barrier ≡ g = cc in
@@ -65,7 +65,7 @@ same_arrivals members h all = record {
       let b = tag_stands members barrier n other h all second in cc;
 }
 
-arrival_stands : (g m : ℕ) (tag : Tag) (h : List Event) → arrival g m h ≡ Some tag → Stands (Arrive g m tag) h
+arrival_stands : (g m : ℕ) (tag : Tag) (h : List Event) → arrival g m h ≡ Some tag → Happened (Arrive g m tag) h
 arrival_stands g m tag [] at = absurd (cc)
 arrival_stands g m tag (Arrive barrier member other ∷ earlier) at =
     elim (tells (barrier == g && member == m) (Some other) (arrival g m earlier) (Some tag) at) [
@@ -87,6 +87,10 @@ arrivals_keep members h all = record {
   passes = always (ArrivalRule members) (PassesLast members) (passes_last members) h all;
 }
 
+tells_shares : (members : ℕ) (event : Event) (earlier : List Event) → TeamRule members event earlier → Always (TeamRule members) earlier → TellsShares event earlier
+tells_shares members (Arrive barrier m tag) earlier rule all = rule.1
+tells_shares members _ earlier rule all = tt
+
 -- the headline, from the rule of the team alone
 pub team_keeps : (members : ℕ) (h : List Event) → Always (TeamRule members) h → Headline members h
 team_keeps members h all =
@@ -96,5 +100,6 @@ team_keeps members h all =
       whole = shares.whole;
       same_shares = shares.same_shares;
       same_arrivals = arrivals.same_arrivals;
+      one_order = always (TeamRule members) TellsShares (tells_shares members) h all;
       passes = arrivals.passes;
     }

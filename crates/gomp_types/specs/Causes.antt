@@ -1,5 +1,5 @@
 -- Cause: the record before a step decides its reply, and nothing else does, save that memory may be refused. (own)
-use Rattle.std.specs.Prelude.{ℕ, ◌≡◌, ◌⊎◌, Bool, true, false, IsTrue, List, [], ◌∷◌, ◌++◌, Option, Some, None}
+use Rattle.std.specs.Prelude.{ℕ, ◌≡◌, ◌≢◌, ◌⊎◌, Bool, true, false, IsTrue, List, [], ◌∷◌, ◌++◌, Option, Some, None}
 use Rattle.gomp_types.specs.declared.call.Call.{Call}
 use Rattle.gomp_types.specs.declared.call.Call.TheVariants.{LoopStart, Barrier}
 use Rattle.gomp_types.specs.declared.call.Step.{Step}
@@ -58,6 +58,6 @@ Caused terms (pair ∷ earlier) = MayAnswer terms earlier pair.0 pair.1 × Cause
 abbrev pub OneReply : Reply → Reply → Type 0
 OneReply a b = (a ≡ b) ⊎ (a ≡ Refused NoMemory) ⊎ (b ≡ Refused NoMemory)
 
--- some reply to the step has its cause after this record
+-- some reply to the step, other than want of memory, has its cause after this record
 abbrev pub SomeReply : Terms → Record → Step → Type 0
-SomeReply terms run step = (reply : Reply) × MayAnswer terms run step reply
+SomeReply terms run step = (reply : Reply) × (reply ≢ Refused NoMemory) × MayAnswer terms run step reply

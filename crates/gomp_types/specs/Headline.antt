@@ -3,7 +3,7 @@ use Rattle.std.specs.Prelude.{ℕ, List}
 use Rattle.gomp_types.specs.declared.event.Event.{Event}
 use Rattle.gomp_types.specs.Deals.{schedule}
 use Rattle.gomp_types.specs.Rules.{Always}
-use Rattle.gomp_types.specs.Laws.{TakenOnce, WholeWhereOver, SameShares, SameArrivals, PassesLast}
+use Rattle.gomp_types.specs.Laws.{TakenOnce, WholeWhereOver, SameShares, SameArrivals, TellsShares, PassesLast}
 
 pub record Headline (members : ℕ) (h : List Event) : Type 0 where
   -- no iteration is taken twice
@@ -13,5 +13,7 @@ pub record Headline (members : ℕ) (h : List Event) : Type 0 where
   -- all members go through the same shares, and arrive alike
   pub same_shares : SameShares members h
   pub same_arrivals : SameArrivals h
+  -- shares and barriers in one order
+  pub one_order : Always TellsShares h
   -- no member passes a barrier before all arrived
   pub passes : Always (PassesLast members) h

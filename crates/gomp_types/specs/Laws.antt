@@ -8,21 +8,21 @@ use Rattle.gomp_types.specs.Events.{entered, passed, times_taken}
 use Rattle.gomp_types.specs.Deals.{Deal, taken_in, takes_in, next_for}
 use Rattle.gomp_types.specs.Rules.{Always}
 
--- the event is in the list
-abbrev pub Stands : Event → List Event → Type 0
-Stands event [] = ⊥
-Stands event (other ∷ earlier) = (other ≡ event) ⊎ Stands event earlier
+-- the event is among them
+abbrev pub Happened : Event → List Event → Type 0
+Happened event [] = ⊥
+Happened event (other ∷ earlier) = (other ≡ event) ⊎ Happened event earlier
 
 -- every member has left the share
 abbrev pub IsOver : ℕ → ℕ → List Event → Type 0
-IsOver members share h = (m : ℕ) → m < members → Stands (End share m) h
+IsOver members share h = (m : ℕ) → m < members → Happened (End share m) h
 
 -- a take is the least piece that nobody took of those that are its member's to take; its member has entered the share, and not left it
 abbrev pub TakesNext : Deal → Event → List Event → Type 0
 TakesNext deal (Take share m low high) earlier =
     (shape : Shape)
-    × Stands (Enter share m shape) earlier
-    × (Stands (End share m) earlier → ⊥)
+    × Happened (Enter share m shape) earlier
+    × (Happened (End share m) earlier → ⊥)
     × (next_for deal shape share m earlier ≡ Some (low, high))
 TakesNext deal _ earlier = Unit {0}
 
@@ -33,12 +33,12 @@ pub record TakenOnce (deal : Deal) (h : List Event) : Type 0 where
   -- each take is a piece of its share, between its member's entry and end
   pub pieces : Always (TakesNext deal) h
   -- the takes from a queue are its pieces 0, 1, 2 and on
-  pub order : (share m q : ℕ) (shape : Shape) → Stands (Enter share m shape) h → takes_in (deal.queue_of shape) share q h ≡ take (taken_in (deal.queue_of shape) share q h) (deal.queue shape q)
+  pub order : (share m q : ℕ) (shape : Shape) → Happened (Enter share m shape) h → takes_in (deal.queue_of shape) share q h ≡ take (taken_in (deal.queue_of shape) share q h) (deal.queue shape q)
 
 -- Whole: a share that every member has left had each of its iterations taken, once.
 abbrev pub WholeWhereOver : ℕ → List Event → Type 0
 WholeWhereOver members h =
-    (share m : ℕ) (shape : Shape) → Stands (Enter share m shape) h → IsOver members share h → (k : ℕ) → k < shape.trips → times_taken share k h ≡ 1
+    (share m : ℕ) (shape : Shape) → Happened (Enter share m shape) h → IsOver members share h → (k : ℕ) → k < shape.trips → times_taken share k h ≡ 1
 
 -- a member of the team enters its shares one by one, by their numbers
 abbrev pub EntersInTurn : ℕ → Event → List Event → Type 0
@@ -47,7 +47,7 @@ EntersInTurn members _ earlier = Unit {0}
 
 -- it leaves a share that it has entered, and not left before
 abbrev pub EndsInside : Event → List Event → Type 0
-EndsInside (End share m) earlier = (shape : Shape) × Stands (Enter share m shape) earlier × (Stands (End share m) earlier → ⊥)
+EndsInside (End share m) earlier = (shape : Shape) × Happened (Enter share m shape) earlier × (Happened (End share m) earlier → ⊥)
 EndsInside _ earlier = Unit {0}
 
 -- a share is entered only where the one eight before it is over (own)
@@ -61,7 +61,7 @@ pub record SameShares (members : ℕ) (h : List Event) : Type 0 where
   pub turns : Always (EntersInTurn members) h
   pub ends : Always EndsInside h
   -- the members' i-th shares are of one shape
-  pub shapes : (share m n : ℕ) (one other : Shape) → Stands (Enter share m one) h → Stands (Enter share n other) h → one ≡ other
+  pub shapes : (share m n : ℕ) (one other : Shape) → Happened (Enter share m one) h → Happened (Enter share n other) h → one ≡ other
   -- and no more than eight are open
   pub room : Always (EntersWithRoom members) h
 
@@ -76,11 +76,16 @@ pub record SameArrivals (h : List Event) : Type 0 where
   -- a member goes through them one by one
   pub turns : Always BarriersInTurn h
   -- and all members arrive at a barrier with one tag
-  pub tags : (barrier m n : ℕ) (one other : Tag) → Stands (Arrive barrier m one) h → Stands (Arrive barrier n other) h → one ≡ other
+  pub tags : (barrier m n : ℕ) (one other : Tag) → Happened (Arrive barrier m one) h → Happened (Arrive barrier n other) h → one ≡ other
+
+-- an arrival tells how many shares its member has entered: so the members meet shares and barriers in one order
+abbrev pub TellsShares : Event → List Event → Type 0
+TellsShares (Arrive barrier m tag) earlier = tag.shares ≡ entered m earlier
+TellsShares _ earlier = Unit {0}
 
 -- Barrier law (OpenMP API 5.2, section 15.3.1): a member passes a barrier only where every member has arrived.
 abbrev pub PassesLast : ℕ → Event → List Event → Type 0
-PassesLast members (Pass barrier m) earlier = (x : ℕ) → x < members → (tag : Tag) × Stands (Arrive barrier x tag) earlier
+PassesLast members (Pass barrier m) earlier = (x : ℕ) → x < members → (tag : Tag) × Happened (Arrive barrier x tag) earlier
 PassesLast members _ earlier = Unit {0}
 
 -- what the work-shares alone keep, however they are kept

@@ -1,5 +1,5 @@
 -- When an event may happen in a team, given the events before it: a rule for each kind of event. (own)
-use Rattle.std.specs.Prelude.{ℕ, pos, ◌<◌, ◌≡◌, ◌≢◌, true, List, [], ◌∷◌, Some, None, is_some}
+use Rattle.std.specs.Prelude.{ℕ, pos, ◌<◌, ◌≡◌, ◌≢◌, true, List, [], ◌∷◌, Some, None}
 use Rattle.gomp_types.specs.declared.shape.Shape.{Shape}
 use Rattle.gomp_types.specs.declared.event.Tag.{Tag}
 use Rattle.gomp_types.specs.declared.event.Event.{Event}
@@ -60,6 +60,6 @@ ArrivalRule members _ earlier = Unit {0}
 
 -- the rule of a team
 abbrev pub TeamRule : ℕ → Event → List Event → Type 0
-TeamRule members (Arrive barrier m tag) earlier = MayArrive barrier m tag earlier
+TeamRule members (Arrive barrier m tag) earlier = MayArrive barrier m tag earlier × (tag.shares ≡ entered m earlier)
 TeamRule members (Pass barrier m) earlier = MayPass members barrier m earlier
 TeamRule members event earlier = ShareRule (schedule members) members event earlier

@@ -23,7 +23,7 @@ ghost use Rattle.gomp_types.specs.Headline.{Headline};
 
 /// **The headline**: for every team size and list of member steps, no iteration is taken twice, a
 /// loop that all members end had every iteration taken, all members go through the same
-/// constructs, and no member passes a barrier before all arrived.
+/// constructs in the same order, and no member passes a barrier before all arrived.
 pub fn headline()
     ensures { (terms : Terms) → (run : Record) → Caused terms run → Headline terms.members (events run) }
 {}
@@ -33,8 +33,8 @@ pub fn one_reply()
     ensures { (terms : Terms) → (run : Record) → (step : Step) → (one : Reply) → (other : Reply) → MayAnswer terms run step one → MayAnswer terms run step other → OneReply one other }
 {}
 
-/// To each step some reply has its cause, after every record whose replies have theirs: with
-/// `one_reply`, the record decides exactly one, want of memory aside.
+/// To each step some reply other than want of memory has its cause, after every record whose
+/// replies have theirs: with `one_reply`, the record decides exactly one, want of memory aside.
 pub fn some_reply()
     ensures { (terms : Terms) → (run : Record) → (step : Step) → Caused terms run → SomeReply terms run step }
 {}

@@ -7,6 +7,6 @@ use Rattle.gomp_barrier.proofs.barriers.Barriers.look.Goals as goal
 pub returns-clause-value : goal.returns-clause-value
 returns-clause-value c = λ h st0.
     let st = within _ _ h c.self.view_is st0 in
-    let lt : c.args.member < length c.self.inside.places.items = subst (λ (v : BarriersView). c.args.member < length v.places) (sym c.self.view_is) c.requires in
-    let at = slice_get_read c.self.inside.places.items _ c.args.member _ refl lt c.index.ensures in
-    rw (c.number_for.ensures, c.tag_for.ensures) (look_is c.self.inside.places.items c.self.inside.front c.args.member _ h st at)
+    let lt : c.args.member < length c.self.inside.seats.items = subst (λ (v : BarriersView). c.args.member < length v.seats) (sym c.self.view_is) c.requires in
+    let at = slice_get_read c.self.inside.seats.items _ c.args.member _ refl lt c.index.ensures in
+    rw (c.number_for.ensures, c.tag_for.ensures) (look_is c.self.inside.seats.items c.self.inside.front c.args.member _ h st at)

@@ -1,68 +1,74 @@
--- The barrier of a team, by each member's place at it, and when that stands for a list of events. OpenMP API 5.2, section 15.3.
+-- The barrier of a team, by each member's seat at it, and when that stands for a list of events. OpenMP API 5.2, section 15.3.
 use Rattle.std.specs.Prelude.{ℕ, ◌+◌, ◌<◌, ◌≤◌, ◌≡◌, Bool, true, false, not, ◌||◌, if◌then◌else◌, List, Option, Some, None, is_some, All, slice_get}
 use Rattle.gomp_types.specs.declared.event.Tag.{Tag}
 use Rattle.gomp_types.specs.declared.event.Event.{Event}
 use Rattle.gomp_types.specs.Events.{passed, arrival, tag_at, has_left_region}
 use Rattle.gomp_types.specs.Record.{shown}
-use Rattle.gomp_barrier.specs.declared.front.Place.{Place}
+use Rattle.gomp_barrier.specs.declared.front.Seat.{Seat}
 use Rattle.gomp_barrier.specs.declared.front.Front.{Front}
 
+-- exactly one of the two holds
 abbrev pub differ : Bool → Bool → Bool
 differ true true = false
 differ false false = false
 differ _ _ = true
 
 -- whether the member has passed the front
-abbrev pub is_ahead : Front → Place → Bool
+abbrev pub is_ahead : Front → Seat → Bool
 is_ahead front member = differ member.odd front.odd
 
--- with which tag others have arrived at the member's next barrier
-abbrev pub tag_for : Front → Place → Option Tag
+-- with which tag any member has arrived at the member's next barrier
+abbrev pub tag_for : Front → Seat → Option Tag
 tag_for front member = if is_ahead front member then front.next else front.tag
 
 -- the number of the member's next barrier, as it is shown
-abbrev pub number_for : Front → Place → ℕ
+abbrev pub number_for : Front → Seat → ℕ
 number_for front member = if is_ahead front member then shown (front.number + 1) else front.number
 
--- the member has arrived at the front
-abbrev pub IsThere : Front → Place → Type 0
+-- the member has arrived at the front, or has passed it
+abbrev pub IsThere : Front → Seat → Type 0
 IsThere front member = (is_ahead front member || is_some member.arrived) ≡ true
 
 -- the front after an arrival
-abbrev pub arrived_at : Front → Place → Tag → Front
+abbrev pub arrived_at : Front → Seat → Tag → Front
 arrived_at front member tag =
     if is_ahead front member
     then record { odd = front.odd; number = front.number; tag = front.tag; next = Some tag }
     else record { odd = front.odd; number = front.number; tag = Some tag; next = front.next }
 
 -- a member after it has passed
-abbrev pub passed_by : Place → Bool → Place
+abbrev pub passed_by : Seat → Bool → Seat
 passed_by member at_region_end = record { odd = not member.odd; arrived = None; left = member.left || at_region_end }
 
 -- the front after all have passed
 abbrev pub advanced : Front → Front
 advanced front = record { odd = not front.odd; number = shown (front.number + 1); tag = front.next; next = None }
 
--- the number of the member's next barrier, where the front is the barrier `least`
-abbrev pub barrier_of : Front → ℕ → Place → ℕ
+-- the number of the member's next barrier, where the front's exact number is `least` (`front.number` is that number as it is shown)
+abbrev pub barrier_of : Front → ℕ → Seat → ℕ
 barrier_of front least member = if is_ahead front member then least + 1 else least
 
--- a member's place at the barriers
-pub record PlaceStands (front : Front) (least m : ℕ) (member : Place) (h : List Event) : Type 0 where
+-- a member's seat at the barriers
+pub record SeatStands (front : Front) (least m : ℕ) (member : Seat) (h : List Event) : Type 0 where
+  -- so many barriers it has passed
   pub passed_is : passed m h ≡ barrier_of front least member
+  -- at the next it has arrived so
   pub here : arrival (barrier_of front least member) m h ≡ member.arrived
+  -- it has arrived at every one before
   pub behind : (g : ℕ) → g < barrier_of front least member → is_some (arrival g m h) ≡ true
+  -- and at none after
   pub beyond : (g : ℕ) → barrier_of front least member < g → arrival g m h ≡ None
   pub left_is : has_left_region m h ≡ member.left
 
--- the front, and each member's place
-pub record BarrierStands (members : List Place) (front : Front) (least : ℕ) (h : List Event) : Type 0 where
+-- the front, and each member's seat
+pub record BarrierStands (members : List Seat) (front : Front) (least : ℕ) (h : List Event) : Type 0 where
   pub number : front.number ≡ shown least
   pub tag : tag_at least h ≡ front.tag
   pub next : tag_at (least + 1) h ≡ front.next
+  -- nobody has arrived at a later one
   pub beyond : (g : ℕ) → least + 2 ≤ g → tag_at g h ≡ None
-  pub place : (m : ℕ) (member : Place) → slice_get members m ≡ Some member → PlaceStands front least m member h
+  pub seat : (m : ℕ) (member : Seat) → slice_get members m ≡ Some member → SeatStands front least m member h
 
 -- some member has not passed the front
-abbrev pub SomeBehind : Front → List Place → Type 0
+abbrev pub SomeBehind : Front → List Seat → Type 0
 SomeBehind front members = All (λ member. is_ahead front member ≡ true) members → ⊥
