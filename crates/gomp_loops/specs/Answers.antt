@@ -1,4 +1,4 @@
--- What a loop call answers: its row of `call_tests`, and `MayReply` where none of them holds. The tests on the team, on an open wait and on arrivals are made above this crate.
+-- What a loop call answers: its row of `call_tests`, and `MayReply` where none of them holds. The tests on the team, on an open wait and on arrivals are made above this crate. OpenMP API 5.2, section 11.5.
 use Rattle.std.specs.Prelude.{ℕ, ◌-◌, ◌≡◌, false, List, Option, Some, None, Result, Ok, Err}
 use Rattle.gomp_types.specs.declared.call.Call.{Call}
 use Rattle.gomp_types.specs.declared.limits.Limits.{Limits}

@@ -1,4 +1,4 @@
--- The plain shares keep the laws of the trait.
+-- The plain shares keep the laws of the trait. (own)
 use Rattle.std.specs.Prelude.{ℕ, ◌+◌, ◌%◌, ◌<◌, ◌≡◌, nat_lt, List, ◌∷◌, Option, Some, None, length, slice_get, true, false, refl}
 use Rattle.std.proofs.Common.{sym, ap, ◌∙◌, arith, inl, inr, get_or}
 use Rattle.std.proofs.lemmas.Bool.Decides.{nat_tests, eqb_tells}

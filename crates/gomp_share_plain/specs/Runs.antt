@@ -1,4 +1,4 @@
--- A list of calls on a team's work-shares, with their answers: the events that they give.
+-- A list of calls on a team's work-shares, with their answers: the events that they give. (own)
 use Rattle.std.specs.Prelude.{ℕ, ◌≡◌, ◌^◌, ◌&&◌, nat_lt, not, is_some, is_none, Bool, true, false, List, [], ◌∷◌}
 use Rattle.gomp_types.specs.declared.event.Event.{Event}
 use Rattle.gomp_types.specs.Tests.{first_refusal}

@@ -1,4 +1,4 @@
--- Worked runs of a team, step by step, and answers that are wrong there.
+-- Worked runs of a team, step by step, and answers that are wrong there. (own)
 use Rattle.std.specs.Prelude.{ℕ, ℤ, pos, negsuc, Result, false, List, [], ◌∷◌, ◌++◌}
 use Rattle.gomp_types.specs.declared.call.Call.{Call}
 use Rattle.gomp_types.specs.declared.call.Call.TheVariants.{LoopStart, LoopNext, LoopEnd, LoopEndNowait, Barrier, RegionEnd, Resume}

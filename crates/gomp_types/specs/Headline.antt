@@ -1,4 +1,4 @@
--- The headline: for every team size and list of member steps, no iteration is taken twice; a loop that all members end had every iteration taken; all members go through the same constructs; no member passes a barrier before all arrived.
+-- The headline: for every team size and list of member steps, no iteration is taken twice; a loop that all members end had every iteration taken; all members go through the same constructs in one order; no member passes a barrier before all arrived. OpenMP API 5.2, sections 11.5 and 15.3.
 use Rattle.std.specs.Prelude.{ℕ, List}
 use Rattle.gomp_types.specs.declared.event.Event.{Event}
 use Rattle.gomp_types.specs.Deals.{schedule}
