@@ -1,0 +1,4 @@
+mod Parts
+mod Answered
+mod Rows
+mod Steps

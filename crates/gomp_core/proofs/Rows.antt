@@ -1,0 +1,223 @@
+-- The tests of a step: those that the member can make alone, and then the comparison with the other members.
+use Rattle.std.proofs.Common.{◌≡◌, ℕ, ◌<◌, Bool, true, false, List, [], ◌∷◌, ◌++◌, Option, Some, None, refl, ap, ◌∙◌, sym, subst, arith}
+use Rattle.std.specs.Prelude.{nat_le, is_some, is_none}
+use Rattle.std.proofs.lemmas.Bool.Decides.{nat_tests}
+use Rattle.gomp_types.specs.declared.call.Call.{Call}
+use Rattle.gomp_types.specs.declared.call.Call.TheVariants.{LoopStart, LoopNext, LoopEnd, LoopEndNowait, Barrier, RegionEnd, Resume}
+use Rattle.gomp_types.specs.declared.call.Step.{Step}
+use Rattle.gomp_types.specs.declared.limits.Limits.{Limits}
+use Rattle.gomp_types.specs.declared.refusal.Clash.{Clash}
+use Rattle.gomp_types.specs.declared.refusal.Place.{Place}
+use Rattle.gomp_types.specs.declared.refusal.Refusal.{Refusal}
+use Rattle.gomp_types.specs.declared.refusal.Refusal.TheVariants.{Mismatch, BadMember, Ended, Waiting, NotInside}
+use Rattle.gomp_types.specs.declared.event.Event.{Event}
+use Rattle.gomp_types.specs.Limits.{capped}
+use Rattle.gomp_types.specs.Tests.{Test, first_refusal}
+use Rattle.gomp_types.specs.Events.{clash_of, has_left_region}
+use Rattle.gomp_types.specs.Record.{meant, is_resume, refusal_added}
+use Rattle.gomp_types.specs.Refusals.{row_of, member_tests, broken_tests}
+use Rattle.gomp_types.specs.Causes.{Terms, tests_of}
+use Rattle.gomp_share_plain.specs.declared.Seen.{Seen}
+use Rattle.gomp_share_plain.specs.Calls.{seen_of}
+use Rattle.gomp_loops.specs.OwnTests.{own_tests}
+use Rattle.gomp_core.specs.declared.waiting.Waiting.{Waiting as Kept}
+use Rattle.gomp_core.specs.declared.waiting.Waiting.TheVariants.{Start, Arrive}
+use Rattle.gomp_core.specs.Waits.{open_call}
+use Rattle.gomp_core.specs.Answers.{own_row, compared, IsReady}
+use Rattle.gomp_core.specs.Stands.{IsTested}
+
+pub front_holds : (tests more : List Test) (refusal : Refusal) → first_refusal tests ≡ Some refusal → first_refusal (tests ++ more) ≡ Some refusal
+front_holds [] more refusal e = absurd (cc)
+front_holds ((true, found) ∷ tests) more refusal e = e
+front_holds ((false, found) ∷ tests) more refusal e = front_holds tests more refusal e
+
+pub front_fails : (tests more : List Test) → first_refusal tests ≡ None → first_refusal (tests ++ more) ≡ first_refusal more
+front_fails [] more e = refl
+front_fails ((true, found) ∷ tests) more e = absurd (cc)
+front_fails ((false, found) ∷ tests) more e = front_fails tests more e
+
+none_before : (tests more : List Test) → first_refusal (tests ++ more) ≡ None → first_refusal tests ≡ None
+none_before [] more e = refl
+none_before ((true, found) ∷ tests) more e = absurd (cc)
+none_before ((false, found) ∷ tests) more e = none_before tests more e
+
+none_later : (tests more : List Test) → first_refusal (tests ++ more) ≡ None → first_refusal more ≡ None
+none_later [] more e = e
+none_later ((true, found) ∷ tests) more e = absurd (cc)
+none_later ((false, found) ∷ tests) more e = none_later tests more e
+
+-- The row of a call, in its two parts
+
+row_splits : (limits : Limits) (m : ℕ) (call : Call) (waiting : Option Call) (h : List Event) → row_of limits m call waiting h ≡ own_row limits m call waiting h ++ compared (is_resume call) m (meant call waiting) h
+row_splits limits m (LoopStart loop) waiting h = refl
+row_splits limits m LoopNext waiting h = refl
+row_splits limits m LoopEnd waiting h = refl
+row_splits limits m LoopEndNowait waiting h = refl
+row_splits limits m Barrier waiting h = refl
+row_splits limits m RegionEnd waiting h = refl
+row_splits limits m Resume None h = refl
+row_splits limits m Resume (Some (LoopStart loop)) h = refl
+row_splits limits m Resume (Some LoopNext) h = refl
+row_splits limits m Resume (Some LoopEnd) h = refl
+row_splits limits m Resume (Some LoopEndNowait) h = refl
+row_splits limits m Resume (Some Barrier) h = refl
+row_splits limits m Resume (Some RegionEnd) h = refl
+row_splits limits m Resume (Some Resume) h = refl
+
+joined : (a b c : List Test) → a ++ (b ++ c) ≡ (a ++ b) ++ c
+joined [] b c = refl
+joined (test ∷ a) b c = ap (λ (rest : List Test). test ∷ rest) (joined a b c)
+
+-- all tests of a step that the member can make alone
+abbrev pub alone : Terms → Step → Option Call → List Event → List Test
+alone terms step waiting h = member_tests terms.members step.member h ++ own_row terms.limits step.member step.call waiting h
+
+tests_split : (terms : Terms) (step : Step) (waiting : Option Call) (h : List Event) → capped terms.limits ≡ terms.limits →
+    tests_of terms step waiting h ≡ alone terms step waiting h ++ compared (is_resume step.call) step.member (meant step.call waiting) h
+tests_split terms step waiting h small =
+    ap (λ (limits : Limits). member_tests terms.members step.member h ++ row_of limits step.member step.call waiting h) small
+    ∙ ap (λ (row : List Test). member_tests terms.members step.member h ++ row) (row_splits terms.limits step.member step.call waiting h)
+    ∙ joined (member_tests terms.members step.member h) (own_row terms.limits step.member step.call waiting h) (compared (is_resume step.call) step.member (meant step.call waiting) h)
+
+pub refused_alone : (terms : Terms) (step : Step) (waiting : Option Call) (h : List Event) (refusal : Refusal) → capped terms.limits ≡ terms.limits → first_refusal (alone terms step waiting h) ≡ Some refusal →
+    first_refusal (tests_of terms step waiting h) ≡ Some refusal
+refused_alone terms step waiting h refusal small is =
+    ap first_refusal (tests_split terms step waiting h small) ∙ front_holds (alone terms step waiting h) (compared (is_resume step.call) step.member (meant step.call waiting) h) refusal is
+
+pub compared_last : (terms : Terms) (step : Step) (waiting : Option Call) (h : List Event) → capped terms.limits ≡ terms.limits → first_refusal (alone terms step waiting h) ≡ None →
+    first_refusal (tests_of terms step waiting h) ≡ first_refusal (compared (is_resume step.call) step.member (meant step.call waiting) h)
+compared_last terms step waiting h small none =
+    ap first_refusal (tests_split terms step waiting h small) ∙ front_fails (alone terms step waiting h) (compared (is_resume step.call) step.member (meant step.call waiting) h) none
+
+-- What is so where the member's own tests fail
+
+head_fails : (test : Bool) (refusal : Refusal) (tests : List Test) → first_refusal ((test, refusal) ∷ tests) ≡ None → test ≡ false
+head_fails true refusal tests e = absurd (cc)
+head_fails false refusal tests e = refl
+
+pub below : (terms : Terms) (step : Step) (waiting : Option Call) (h : List Event) → first_refusal (alone terms step waiting h) ≡ None → step.member < terms.members
+below terms step waiting h none =
+    let fails : nat_le terms.members step.member ≡ false = head_fails (nat_le terms.members step.member) BadMember ((has_left_region step.member h, Ended) ∷ broken_tests (clash_of h) ++ own_row terms.limits step.member step.call waiting h) none in
+    grind (arith, nat_tests, fails)
+
+not_broken : (clash : Option Clash) → first_refusal (broken_tests clash) ≡ None → clash ≡ None
+not_broken None e = refl
+not_broken (Some clash) e = absurd (cc)
+
+pub whole : (terms : Terms) (step : Step) (waiting : Option Call) (h : List Event) → first_refusal (alone terms step waiting h) ≡ None → clash_of h ≡ None
+whole terms step waiting h none =
+    not_broken (clash_of h) (none_later ((nat_le terms.members step.member, BadMember) ∷ (has_left_region step.member h, Ended) ∷ []) (broken_tests (clash_of h))
+    (none_before (member_tests terms.members step.member h) (own_row terms.limits step.member step.call waiting h) none))
+
+-- the call, or the one that it repeats, may be answered
+row_ready : (limits : Limits) (m : ℕ) (call : Call) (waiting : Option Call) (h : List Event) → first_refusal (own_row limits m call waiting h) ≡ None → IsTested limits m waiting h →
+    IsReady limits (is_resume call) m (meant call waiting) h
+row_ready limits m Resume None h none tested = absurd (cc)
+row_ready limits m Resume (Some call) h none tested = tested
+row_ready limits m (LoopStart loop) None h none tested = none
+row_ready limits m LoopNext None h none tested = none
+row_ready limits m LoopEnd None h none tested = none
+row_ready limits m LoopEndNowait None h none tested = none
+row_ready limits m Barrier None h none tested = none
+row_ready limits m RegionEnd None h none tested = none
+row_ready limits m (LoopStart loop) (Some call) h none tested = absurd (cc)
+row_ready limits m LoopNext (Some call) h none tested = absurd (cc)
+row_ready limits m LoopEnd (Some call) h none tested = absurd (cc)
+row_ready limits m LoopEndNowait (Some call) h none tested = absurd (cc)
+row_ready limits m Barrier (Some call) h none tested = absurd (cc)
+row_ready limits m RegionEnd (Some call) h none tested = absurd (cc)
+
+pub ready : (terms : Terms) (step : Step) (waiting : Option Call) (h : List Event) → first_refusal (alone terms step waiting h) ≡ None → IsTested terms.limits step.member waiting h →
+    IsReady terms.limits (is_resume step.call) step.member (meant step.call waiting) h
+ready terms step waiting h none tested =
+    row_ready terms.limits step.member step.call waiting h (none_later (member_tests terms.members step.member h) (own_row terms.limits step.member step.call waiting h) none) tested
+
+-- the first test that holds, of a member of a whole team
+pub alone_is : (terms : Terms) (step : Step) (waiting : Option Call) (h : List Event) (found : Option Refusal) → step.member < terms.members → has_left_region step.member h ≡ false → clash_of h ≡ None →
+    found ≡ first_refusal (own_row terms.limits step.member step.call waiting h) → found ≡ first_refusal (alone terms step waiting h)
+alone_is terms step waiting h found lt stays sound is =
+    let small : nat_le terms.members step.member ≡ false = grind (arith, nat_tests) in
+    rw (small, stays, sound) is
+
+pub resume_open : (limits : Limits) (m : ℕ) (waiting : Option Call) (h : List Event) → is_some waiting ≡ true → None ≡ first_refusal (own_row limits m Resume waiting h)
+resume_open limits m None h e = absurd (cc)
+resume_open limits m (Some call) h e = refl
+
+pub resume_closed : (limits : Limits) (m : ℕ) (waiting : Option Call) (h : List Event) → is_some waiting ≡ false → Some NotInside ≡ first_refusal (own_row limits m Resume waiting h)
+resume_closed limits m None h e = refl
+resume_closed limits m (Some call) h e = absurd (cc)
+
+pub call_waits : (limits : Limits) (m : ℕ) (call : Call) (waiting : Option Call) (h : List Event) → (call ≡ Resume → ⊥) → is_some waiting ≡ true → Some Waiting ≡ first_refusal (own_row limits m call waiting h)
+call_waits limits m Resume waiting h other e = absurd (other refl)
+call_waits limits m (LoopStart loop) waiting h other e = rw e refl
+call_waits limits m LoopNext waiting h other e = rw e refl
+call_waits limits m LoopEnd waiting h other e = rw e refl
+call_waits limits m LoopEndNowait waiting h other e = rw e refl
+call_waits limits m Barrier waiting h other e = rw e refl
+call_waits limits m RegionEnd waiting h other e = rw e refl
+
+pub call_goes_on : (limits : Limits) (m : ℕ) (call : Call) (waiting : Option Call) (h : List Event) → (call ≡ Resume → ⊥) → is_some waiting ≡ false →
+    first_refusal (own_tests limits (seen_of m h) call) ≡ first_refusal (own_row limits m call waiting h)
+call_goes_on limits m Resume waiting h other e = absurd (other refl)
+call_goes_on limits m (LoopStart loop) waiting h other e = rw e refl
+call_goes_on limits m LoopNext waiting h other e = rw e refl
+call_goes_on limits m LoopEnd waiting h other e = rw e refl
+call_goes_on limits m LoopEndNowait waiting h other e = rw e refl
+call_goes_on limits m Barrier waiting h other e = rw e refl
+call_goes_on limits m RegionEnd waiting h other e = rw e refl
+
+pub some_open : (kept : Option Kept) → is_some (open_call kept) ≡ is_some kept
+some_open None = refl
+some_open (Some (Start loop)) = refl
+some_open (Some (Arrive kind)) = refl
+
+-- A refusal by those tests changes nothing
+
+-- a refusal that breaks nothing
+abbrev pub IsQuiet : Refusal → Type 0
+IsQuiet Mismatch = ⊥
+IsQuiet _ = Unit {0}
+
+abbrev AllQuiet : List Test → Type 0
+AllQuiet [] = Unit {0}
+AllQuiet (test ∷ tests) = IsQuiet test.1 × AllQuiet tests
+
+all_quiet : (tests more : List Test) → AllQuiet tests → AllQuiet more → AllQuiet (tests ++ more)
+all_quiet [] more first rest = rest
+all_quiet (test ∷ tests) more first rest = (first.0, all_quiet tests more first.1 rest)
+
+first_quiet : (tests : List Test) (refusal : Refusal) → AllQuiet tests → first_refusal tests ≡ Some refusal → IsQuiet refusal
+first_quiet [] refusal all e = absurd (cc)
+first_quiet ((true, found) ∷ tests) refusal all e = let same : found ≡ refusal = cc in subst IsQuiet same all.0
+first_quiet ((false, found) ∷ tests) refusal all e = first_quiet tests refusal all.1 e
+
+quiet_broken : (clash : Option Clash) → AllQuiet (broken_tests clash)
+quiet_broken None = tt
+quiet_broken (Some clash) = (tt, tt)
+
+quiet_own : (limits : Limits) (seen : Seen) (call : Call) → AllQuiet (own_tests limits seen call)
+quiet_own limits seen (LoopStart loop) = (tt, (tt, (tt, (tt, (tt, tt)))))
+quiet_own limits seen LoopNext = (tt, (tt, tt))
+quiet_own limits seen LoopEnd = (tt, (tt, (tt, tt)))
+quiet_own limits seen LoopEndNowait = (tt, (tt, (tt, tt)))
+quiet_own limits seen Barrier = (tt, tt)
+quiet_own limits seen RegionEnd = (tt, tt)
+quiet_own limits seen Resume = tt
+
+quiet_row : (limits : Limits) (m : ℕ) (call : Call) (waiting : Option Call) (h : List Event) → AllQuiet (own_row limits m call waiting h)
+quiet_row limits m Resume waiting h = (tt, tt)
+quiet_row limits m (LoopStart loop) waiting h = (tt, quiet_own limits (seen_of m h) (LoopStart loop))
+quiet_row limits m LoopNext waiting h = (tt, quiet_own limits (seen_of m h) LoopNext)
+quiet_row limits m LoopEnd waiting h = (tt, quiet_own limits (seen_of m h) LoopEnd)
+quiet_row limits m LoopEndNowait waiting h = (tt, quiet_own limits (seen_of m h) LoopEndNowait)
+quiet_row limits m Barrier waiting h = (tt, quiet_own limits (seen_of m h) Barrier)
+quiet_row limits m RegionEnd waiting h = (tt, quiet_own limits (seen_of m h) RegionEnd)
+
+pub quiet_alone : (terms : Terms) (step : Step) (waiting : Option Call) (h : List Event) (refusal : Refusal) → first_refusal (alone terms step waiting h) ≡ Some refusal → IsQuiet refusal
+quiet_alone terms step waiting h refusal is =
+    first_quiet (alone terms step waiting h) refusal
+    (all_quiet (member_tests terms.members step.member h) (own_row terms.limits step.member step.call waiting h) (tt, (tt, quiet_broken (clash_of h))) (quiet_row terms.limits step.member step.call waiting h)) is
+
+pub quiet_adds : (refusal : Refusal) (m : ℕ) (place : Place) (h : List Event) → IsQuiet refusal → refusal_added refusal m place h ≡ h
+quiet_adds Mismatch m place h quiet = absurd quiet
+quiet_adds _ m place h quiet = refl

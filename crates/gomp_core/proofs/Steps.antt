@@ -1,0 +1,341 @@
+-- A step leaves the team standing for the record with this step and its reply.
+use Rattle.std.proofs.Common.{◌≡◌, ℕ, ◌+◌, ◌<◌, Bool, true, false, List, [], ◌∷◌, Option, Some, None, Result, Ok, Err, length, slice_get, slice_set, replicate, refl, ap, ◌∙◌, sym, subst, arith, suc, zero, inl, inr}
+use Rattle.std.specs.Prelude.{◌==◌, ◌≢◌, ℤ, ◌⊎◌, if◌then◌else◌}
+use Rattle.std.proofs.lemmas.Bool.{cases_Bool}
+use Rattle.std.proofs.lemmas.Bool.Decides.{nat_tests}
+use Rattle.std.proofs.lemmas.List.{length-set}
+use Rattle.gomp_types.specs.declared.call.Call.{Call}
+use Rattle.gomp_types.specs.declared.call.Call.TheVariants.{LoopStart, LoopNext, LoopEnd, LoopEndNowait, Barrier, RegionEnd, Resume}
+use Rattle.gomp_types.specs.declared.call.Step.{Step}
+use Rattle.gomp_types.specs.declared.limits.Limits.{Limits}
+use Rattle.gomp_types.specs.declared.refusal.Clash.{Clash}
+use Rattle.gomp_types.specs.declared.refusal.Place.{Place}
+use Rattle.gomp_types.specs.declared.refusal.Refusal.{Refusal}
+use Rattle.gomp_types.specs.declared.refusal.Refusal.TheVariants.{Mismatch}
+use Rattle.gomp_types.specs.declared.reply.Reply.{Reply}
+use Rattle.gomp_types.specs.declared.reply.Reply.TheVariants.{Chunk, NoChunk, Finished, Passed, Wait, Refused}
+use Rattle.gomp_types.specs.declared.shape.Shape.{Shape}
+use Rattle.gomp_types.specs.declared.event.Arrival.{Arrival}
+use Rattle.gomp_types.specs.declared.event.Event.{Event}
+use Rattle.gomp_types.specs.Limits.{capped}
+use Rattle.gomp_types.specs.Tests.{first_refusal}
+use Rattle.gomp_types.specs.Events.{entered, open_share, clash_of}
+use Rattle.gomp_types.specs.Record.{Record, Waits, waits_of, waits_after, events, added, meant, is_resume, piece_taken, pass_added, refusal_added, since_begun, arrived, share_left, arrival_kind, ends_share, place_of}
+use Rattle.gomp_types.specs.Replies.{MayReply, DealsOut}
+use Rattle.gomp_types.specs.Causes.{Terms, refusal_of, MayAnswer}
+use Rattle.gomp_share_plain.specs.Calls.{seen_of}
+use Rattle.gomp_loops.specs.OwnTests.{own_tests}
+use Rattle.gomp_barrier.specs.Stands.{BarriersView, Stands as BarriersStand}
+use Rattle.gomp_core.specs.declared.waiting.Waiting.{Waiting}
+use Rattle.gomp_core.specs.declared.waiting.Waiting.TheVariants.{Start, Arrive}
+use Rattle.gomp_core.specs.Waits.{open_call, waiting_after, kept_for}
+use Rattle.gomp_core.specs.Answers.{IsReady, IsAnswer, MayWait, reply_to, broken_after, Parts}
+use Rattle.gomp_core.specs.Stands.{TeamView, IsTested, WaitStands, Stands, terms_of}
+use Rattle.gomp_core.proofs.Rows.{alone, refused_alone, compared_last, whole, ready, quiet_alone, quiet_adds, IsQuiet}
+
+-- A new team
+
+only_nones : (count m : ℕ) (waiting : Option Waiting) → slice_get (replicate {A = Option Waiting} count None) m ≡ Some waiting → waiting ≡ None
+only_nones zero m waiting at = absurd (cc)
+only_nones (suc count) zero waiting at = cc
+only_nones (suc count) (suc m) waiting at = only_nones count m waiting at
+
+only_none : {A : Type 0} (copies : Option A → Type 0) → ((x : A) → copies (Some x) → ⊥) → (y : Option A) → copies y → y ≡ None
+only_none copies never None e = refl
+only_none copies never (Some x) e = absurd (never x e)
+
+-- copies of none are none
+pub all_none : {A : Type 0} (copies : Option A → Type 0) (kept : List (Option A)) (count : ℕ) → (((y : Option A) → copies y → y ≡ None) → kept ≡ replicate count None) → ((x : A) → copies (Some x) → ⊥) → kept ≡ replicate count None
+all_none copies kept count all never = all (only_none copies never)
+
+-- nobody waits
+pub fresh : (limits : Limits) (kept : List (Option Waiting)) (count m : ℕ) (waiting : Option Waiting) → kept ≡ replicate count None → slice_get kept m ≡ Some waiting → WaitStands limits m waiting []
+fresh limits kept count m waiting all at =
+    let is : waiting ≡ None = only_nones count m waiting (subst (λ (xs : List (Option Waiting)). slice_get xs m ≡ Some waiting) all at) in
+    rw is (record { call_is = refl; tested = tt })
+
+-- A record that grows
+
+same_of : {A : Type 0} (test : Bool) (x : A) → (if test then x else x) ≡ x
+same_of true x = refl
+same_of false x = refl
+
+waits_refused : (k : ℕ) (step : Step) (refusal : Refusal) (before : Record) → waits_of k ((step, Refused refusal) ∷ before) ≡ waits_of k before
+waits_refused k step refusal before = same_of (step.member == k) (waits_of k before)
+
+at_own : {A : Type 0} (n : ℕ) (x y : A) → (if n == n then x else y) ≡ x
+at_own n x y = grind (arith, nat_tests)
+
+waits_own : (step : Step) (reply : Reply) (before : Record) → waits_of step.member ((step, reply) ∷ before) ≡ waits_after reply step.call (waits_of step.member before)
+waits_own step reply before = at_own step.member (waits_after reply step.call (waits_of step.member before)) (waits_of step.member before)
+
+at_other : {A : Type 0} (n k : ℕ) (x y : A) → k ≢ n → (if n == k then x else y) ≡ y
+at_other n k x y differ = grind (arith, nat_tests, differ)
+
+waits_other : (k : ℕ) (step : Step) (reply : Reply) (before : Record) → k ≢ step.member → waits_of k ((step, reply) ∷ before) ≡ waits_of k before
+waits_other k step reply before other = at_other step.member k (waits_after reply step.call (waits_of k before)) (waits_of k before) other
+
+-- A refusal by a test that the member can make alone
+
+pub stands_refused : {S : Type 0} (stands : S → List Event → Type 0) (members : S → ℕ) (team : TeamView S) (before : Record) (step : Step) (refusal : Refusal) → Stands stands members team before →
+    first_refusal (alone (terms_of team) step (waits_of step.member before).open_call (events before)) ≡ Some refusal → Stands stands members team ((step, Refused refusal) ∷ before)
+stands_refused stands members team before step refusal st is =
+    let same : events ((step, Refused refusal) ∷ before) ≡ events before = quiet_adds refusal step.member _ (events before) (quiet_alone (terms_of team) step (waits_of step.member before).open_call (events before) refusal is) in
+    record {
+      shares_are = subst (stands team.shares) (sym same) st.shares_are;
+      barriers_are = subst (BarriersStand team.barriers.seats team.barriers.front) (sym same) st.barriers_are;
+      broken_is = st.broken_is ∙ ap clash_of (sym same);
+      wait = λ k waiting at. let old = st.wait k waiting at in record {
+        call_is = ap (λ (w : Waits). w.open_call) (waits_refused k step refusal before) ∙ old.call_is;
+        tested = subst (IsTested team.limits k (open_call waiting)) (sym same) old.tested;
+      };
+      limits_are = st.limits_are;
+      shares_size = st.shares_size;
+      barriers_size = st.barriers_size;
+    }
+
+pub answer_refused : {S : Type 0} (stands : S → List Event → Type 0) (members : S → ℕ) (team : TeamView S) (before : Record) (step : Step) (refusal : Refusal) → Stands stands members team before →
+    first_refusal (alone (terms_of team) step (waits_of step.member before).open_call (events before)) ≡ Some refusal →
+    refusal_of (terms_of team) step (waits_of step.member before).open_call (events before) ≡ Some refusal
+answer_refused stands members team before step refusal st is = refused_alone (terms_of team) step (waits_of step.member before).open_call (events before) refusal st.limits_are is
+
+-- The cause of an answer
+
+deals_no_refusal : (members m : ℕ) (share : Option (ℕ × Shape)) (refusal : Refusal) (h : List Event) → DealsOut members m share (Refused refusal) h → ⊥
+deals_no_refusal members m None refusal h may = may
+deals_no_refusal members m (Some share) refusal h may = may
+
+no_refusal : (members : ℕ) (again : Bool) (m : ℕ) (call : Call) (refusal : Refusal) (h : List Event) → MayReply members again m call (Refused refusal) h → ⊥
+no_refusal members again m (LoopStart loop) refusal h may = may.1
+no_refusal members again m LoopNext refusal h may = deals_no_refusal members m (open_share m h) refusal h may
+no_refusal members again m LoopEnd refusal h may = may
+no_refusal members again m LoopEndNowait refusal h may = absurd (cc)
+no_refusal members again m Barrier refusal h may = may
+no_refusal members again m RegionEnd refusal h may = may
+no_refusal members again m Resume refusal h may = may
+
+answered_ok : (terms : Terms) (before : Record) (step : Step) (reply : Reply) → refusal_of terms step (waits_of step.member before).open_call (events before) ≡ None →
+    MayReply terms.members (is_resume step.call) step.member (meant step.call (waits_of step.member before).open_call) reply (events before) → MayAnswer terms before step reply
+answered_ok terms before step (Refused refusal) none may = absurd (no_refusal terms.members (is_resume step.call) step.member (meant step.call (waits_of step.member before).open_call) refusal (events before) may)
+answered_ok terms before step reply none may = (none, may)
+
+pub answered : (terms : Terms) (before : Record) (step : Step) (result : Result Reply Place) → capped terms.limits ≡ terms.limits →
+    ((refusal : Refusal) → refusal_of terms step (waits_of step.member before).open_call (events before) ≡ Some refusal → MayAnswer terms before step (Refused refusal)) →
+    first_refusal (alone terms step (waits_of step.member before).open_call (events before)) ≡ None →
+    IsAnswer terms.members (is_resume step.call) step.member (meant step.call (waits_of step.member before).open_call) result (events before) → MayAnswer terms before step (reply_to result)
+answered terms before step (Ok reply) small law none is =
+    answered_ok terms before step reply (compared_last terms step (waits_of step.member before).open_call (events before) small none ∙ is.0) is.1
+answered terms before step (Err place) small law none is =
+    law Mismatch (compared_last terms step (waits_of step.member before).open_call (events before) small none ∙ is.0)
+
+-- What another member's call leaves as it is
+
+-- of a member's place among the shares, what the tests of a start read
+record SamePlace (k : ℕ) (h after : List Event) : Type 0 where
+  pub number : entered k after ≡ entered k h
+  pub share : open_share k after ≡ open_share k h
+
+same_arrived : (k m shares : ℕ) (kind : Option Arrival) (h after : List Event) → SamePlace k h after → SamePlace k h (arrived kind m shares after)
+same_arrived k m shares None h after same = same
+same_arrived k m shares (Some kind) h after same = record { number = same.number; share = same.share }
+
+same_left : (k m : ℕ) (ends : Bool) (h : List Event) → k ≢ m → SamePlace k h (share_left ends m h)
+same_left k m false h other = record { number = refl; share = refl }
+same_left k m true h other = record { number = refl; share = at_other m k None (open_share k h) other }
+
+same_since : (again : Bool) (k m shares : ℕ) (call : Call) (h : List Event) → k ≢ m → SamePlace k h (since_begun again m shares call h)
+same_since true k m shares call h other = record { number = refl; share = refl }
+same_since false k m shares call h other = same_arrived k m shares (arrival_kind call) h (share_left (ends_share call) m h) (same_left k m (ends_share call) h other)
+
+same_passed : (k m barrier : ℕ) (kind : Option Arrival) (h after : List Event) → SamePlace k h after → SamePlace k h (pass_added kind barrier m after)
+same_passed k m barrier None h after same = same
+same_passed k m barrier (Some kind) h after same = record { number = same.number; share = same.share }
+
+same_piece : (k m : ℕ) (own : Option (ℕ × Shape)) (first : ℤ) (count : ℕ) (h : List Event) → SamePlace k h (piece_taken own m first count h)
+same_piece k m None first count h = record { number = refl; share = refl }
+same_piece k m (Some share) first count h = record { number = refl; share = refl }
+
+same_refused : (k m : ℕ) (place : Place) (refusal : Refusal) (h : List Event) → SamePlace k h (refusal_added refusal m place h)
+same_refused k m place Mismatch h = record { number = refl; share = refl }
+same_refused k m place _ h = record { number = refl; share = refl }
+
+same_place : (again : Bool) (k m shares : ℕ) (reply : Reply) (call : Call) (h : List Event) → k ≢ m → SamePlace k h (added again m shares reply call h)
+same_place again k m shares (Chunk first count) (LoopStart loop) h other = record { number = at_other m k (entered k h + 1) (entered k h) other; share = at_other m k _ (open_share k h) other }
+same_place again k m shares (Chunk first count) LoopNext h other = same_piece k m (open_share m h) first count h
+same_place again k m shares (Chunk first count) _ h other = record { number = refl; share = refl }
+same_place again k m shares NoChunk (LoopStart loop) h other = record { number = at_other m k (entered k h + 1) (entered k h) other; share = at_other m k _ (open_share k h) other }
+same_place again k m shares NoChunk LoopNext h other = record { number = refl; share = refl }
+same_place again k m shares NoChunk _ h other = record { number = refl; share = refl }
+same_place again k m shares Finished call h other = same_since again k m shares call h other
+same_place again k m shares Passed call h other = same_passed k m _ (arrival_kind call) h (since_begun again m shares call h) (same_since again k m shares call h other)
+same_place again k m shares Wait call h other = same_since again k m shares call h other
+same_place again k m shares (Refused refusal) call h other = same_refused k m (place_of call m shares h) refusal h
+
+tested_kept : (limits : Limits) (k : ℕ) (waiting : Option Call) (h after : List Event) → SamePlace k h after → IsTested limits k waiting h → IsTested limits k waiting after
+tested_kept limits k None h after same tested = tt
+tested_kept limits k (Some (LoopStart loop)) h after same tested = rw (same.number, same.share) tested
+tested_kept limits k (Some LoopNext) h after same tested = tested
+tested_kept limits k (Some LoopEnd) h after same tested = tt
+tested_kept limits k (Some LoopEndNowait) h after same tested = tested
+tested_kept limits k (Some Barrier) h after same tested = tt
+tested_kept limits k (Some RegionEnd) h after same tested = tt
+tested_kept limits k (Some Resume) h after same tested = tested
+
+-- What the member's own call leaves
+
+no_wait : (members m : ℕ) (share : Option (ℕ × Shape)) (h : List Event) → DealsOut members m share Wait h → ⊥
+no_wait members m None h may = may
+no_wait members m (Some share) h may = may
+
+-- a call that waits may be repeated
+waits_tested : (limits : Limits) (members : ℕ) (again : Bool) (m shares : ℕ) (call : Call) (h : List Event) → IsReady limits again m call h → MayReply members again m call Wait h →
+    IsTested limits m (Some call) (since_begun again m shares call h)
+waits_tested limits members true m shares (LoopStart loop) h ready may = ready
+waits_tested limits members false m shares (LoopStart loop) h ready may = ready
+waits_tested limits members again m shares LoopNext h ready may = absurd (no_wait members m (open_share m h) h may)
+waits_tested limits members again m shares LoopEnd h ready may = tt
+waits_tested limits members again m shares LoopEndNowait h ready may = absurd (cc)
+waits_tested limits members again m shares Barrier h ready may = tt
+waits_tested limits members again m shares RegionEnd h ready may = tt
+waits_tested limits members again m shares Resume h ready may = absurd may
+
+-- and it is what is kept
+some_meant : (waiting : Waiting) → Some (meant Resume (open_call (Some waiting))) ≡ open_call (Some waiting)
+some_meant (Start loop) = refl
+some_meant (Arrive kind) = refl
+
+kept_is : (members : ℕ) (again : Bool) (m : ℕ) (call : Call) (waiting : Option Waiting) (h : List Event) → MayReply members again m (meant call (open_call waiting)) Wait h →
+    Some (meant call (open_call waiting)) ≡ open_call (kept_for call waiting)
+kept_is members again m (LoopStart loop) waiting h may = refl
+kept_is members again m LoopNext waiting h may = absurd (no_wait members m (open_share m h) h may)
+kept_is members again m LoopEnd waiting h may = refl
+kept_is members again m LoopEndNowait waiting h may = absurd (cc)
+kept_is members again m Barrier waiting h may = refl
+kept_is members again m RegionEnd waiting h may = refl
+kept_is members again m Resume None h may = absurd may
+kept_is members again m Resume (Some waiting) h may = some_meant waiting
+
+own_wait : (limits : Limits) (members : ℕ) (step : Step) (reply : Reply) (waiting : Option Waiting) (before : Record) → (waits_of step.member before).open_call ≡ open_call waiting → IsTested limits step.member (open_call waiting) (events before) →
+    IsReady limits (is_resume step.call) step.member (meant step.call (open_call waiting)) (events before) →
+    MayReply members (is_resume step.call) step.member (meant step.call (open_call waiting)) reply (events before) →
+    WaitStands limits step.member (waiting_after reply step.call waiting) ((step, reply) ∷ before)
+own_wait limits members step Wait waiting before is tested ready may =
+    let kept = kept_is members (is_resume step.call) step.member step.call waiting (events before) may in
+    let again = waits_tested limits members (is_resume step.call) step.member (entered step.member (events before)) (meant step.call (open_call waiting)) (events before) ready may in
+    record {
+      call_is = ap (λ (w : Waits). w.open_call) (waits_own step Wait before) ∙ ap (λ (w : Option Call). Some (meant step.call w)) is ∙ kept;
+      tested = rw (is, ← kept) again;
+    }
+own_wait limits members step (Refused refusal) waiting before is tested ready may =
+    absurd (no_refusal members (is_resume step.call) step.member (meant step.call (open_call waiting)) refusal (events before) may)
+own_wait limits members step reply waiting before is tested ready may = record { call_is = ap (λ (w : Waits). w.open_call) (waits_own step reply before); tested = tt }
+
+clash_arrived : (m shares : ℕ) (kind : Option Arrival) (h : List Event) → clash_of (arrived kind m shares h) ≡ clash_of h
+clash_arrived m shares None h = refl
+clash_arrived m shares (Some kind) h = refl
+
+clash_left : (m : ℕ) (ends : Bool) (h : List Event) → clash_of (share_left ends m h) ≡ clash_of h
+clash_left m false h = refl
+clash_left m true h = refl
+
+clash_since : (again : Bool) (m shares : ℕ) (call : Call) (h : List Event) → clash_of (since_begun again m shares call h) ≡ clash_of h
+clash_since true m shares call h = refl
+clash_since false m shares call h = clash_arrived m shares (arrival_kind call) (share_left (ends_share call) m h) ∙ clash_left m (ends_share call) h
+
+clash_passed : (m barrier : ℕ) (kind : Option Arrival) (h : List Event) → clash_of (pass_added kind barrier m h) ≡ clash_of h
+clash_passed m barrier None h = refl
+clash_passed m barrier (Some kind) h = refl
+
+clash_piece : (m : ℕ) (own : Option (ℕ × Shape)) (first : ℤ) (count : ℕ) (h : List Event) → clash_of (piece_taken own m first count h) ≡ clash_of h
+clash_piece m None first count h = refl
+clash_piece m (Some share) first count h = refl
+
+-- a reply that is no refusal leaves the team as whole as it was
+clash_kept : (members : ℕ) (again : Bool) (m shares : ℕ) (call : Call) (reply : Reply) (h : List Event) → MayReply members again m call reply h → clash_of (added again m shares reply call h) ≡ clash_of h
+clash_kept members again m shares (LoopStart loop) (Chunk first count) h may = refl
+clash_kept members again m shares LoopNext (Chunk first count) h may = clash_piece m (open_share m h) first count h
+clash_kept members again m shares _ (Chunk first count) h may = refl
+clash_kept members again m shares (LoopStart loop) NoChunk h may = refl
+clash_kept members again m shares LoopNext NoChunk h may = refl
+clash_kept members again m shares _ NoChunk h may = refl
+clash_kept members again m shares call Finished h may = clash_since again m shares call h
+clash_kept members again m shares call Passed h may = clash_passed m _ (arrival_kind call) (since_begun again m shares call h) ∙ clash_since again m shares call h
+clash_kept members again m shares call Wait h may = clash_since again m shares call h
+clash_kept members again m shares call (Refused refusal) h may = absurd (no_refusal members again m call refusal h may)
+
+clash_after : (members : ℕ) (again : Bool) (m : ℕ) (call : Call) (result : Result Reply Place) (broken : Option Clash) (h : List Event) → IsAnswer members again m call result h → broken ≡ clash_of h → clash_of h ≡ None →
+    broken_after broken m result ≡ clash_of (added again m (entered m h) (reply_to result) call h)
+clash_after members again m call (Ok reply) broken h is same sound = same ∙ sym (clash_kept members again m (entered m h) call reply h is.1)
+clash_after members again m call (Err place) broken h is same sound = rw (is.1, sound) refl
+
+-- what is kept of the member's wait, after its answer
+wait_after : (limits : Limits) (members : ℕ) (step : Step) (result : Result Reply Place) (waiting : Option Waiting) (before : Record) → (waits_of step.member before).open_call ≡ open_call waiting → IsTested limits step.member (open_call waiting) (events before) →
+    IsReady limits (is_resume step.call) step.member (meant step.call (open_call waiting)) (events before) →
+    IsAnswer members (is_resume step.call) step.member (meant step.call (open_call waiting)) result (events before) →
+    WaitStands limits step.member (waiting_after (reply_to result) step.call waiting) ((step, reply_to result) ∷ before)
+wait_after limits members step (Ok reply) waiting before is tested ready answer = own_wait limits members step reply waiting before is tested ready answer.1
+wait_after limits members step (Err place) waiting before is tested ready answer = record {
+  call_is = ap (λ (w : Waits). w.open_call) (waits_own step (Refused Mismatch) before) ∙ is;
+  tested = tested_kept limits step.member (open_call waiting) (events before) (events ((step, Refused Mismatch) ∷ before)) (record { number = refl; share = refl }) tested;
+}
+
+-- A place in a list
+
+slice_get-set : {A : Type 0} (xs : List A) (i k : ℕ) (x y : A) → slice_get (slice_set xs i x) k ≡ Some y → ((k ≡ i) × (y ≡ x)) ⊎ ((k ≢ i) × (slice_get xs k ≡ Some y))
+slice_get-set [] i k x y at = absurd (cc)
+slice_get-set (z ∷ xs) zero zero x y at = inl (refl, cc)
+slice_get-set (z ∷ xs) zero (suc k) x y at = inr ((λ e. absurd (omega arith)), at)
+slice_get-set (z ∷ xs) (suc i) zero x y at = inr ((λ e. absurd (omega arith)), at)
+slice_get-set (z ∷ xs) (suc i) (suc k) x y at = elim (slice_get-set xs i k x y at) [
+  | inl e ↦ inl (ap suc e.0, e.1)
+  | inr e ↦ inr ((λ same. e.0 (omega arith)), e.1)
+]
+
+-- The team after an answer
+
+pub stands_answered : {S : Type 0} (stands : S → List Event → Type 0) (members : S → ℕ) (team : TeamView S) (shares : S) (barriers : BarriersView) (before : Record) (step : Step) (waiting : Option Waiting) (result : Result Reply Place) →
+    Stands stands members team before → slice_get team.waiting step.member ≡ Some waiting →
+    first_refusal (alone (terms_of team) step (waits_of step.member before).open_call (events before)) ≡ None →
+    IsReady team.limits (is_resume step.call) step.member (meant step.call (open_call waiting)) (events before) →
+    IsAnswer (length team.waiting) (is_resume step.call) step.member (meant step.call (open_call waiting)) result (events before) →
+    Parts stands shares barriers (added (is_resume step.call) step.member (entered step.member (events before)) (reply_to result) (meant step.call (open_call waiting)) (events before)) →
+    members shares ≡ members team.shares → length barriers.seats ≡ length team.barriers.seats →
+    Stands stands members (record { limits = team.limits; broken = broken_after team.broken step.member result; waiting = slice_set team.waiting step.member (waiting_after (reply_to result) step.call waiting); barriers = barriers; shares = shares }) ((step, reply_to result) ∷ before)
+stands_answered stands members team shares barriers before step waiting result st at none ready answer parts shares_same barriers_same =
+    let own = st.wait step.member waiting at in
+    let adds : events ((step, reply_to result) ∷ before) ≡ added (is_resume step.call) step.member (entered step.member (events before)) (reply_to result) (meant step.call (open_call waiting)) (events before) =
+        ap (λ (w : Option Call). added (is_resume step.call) step.member (entered step.member (events before)) (reply_to result) (meant step.call w) (events before)) own.call_is in
+    record {
+      shares_are = subst (stands shares) (sym adds) parts.0;
+      barriers_are = subst (BarriersStand barriers.seats barriers.front) (sym adds) parts.1;
+      broken_is = clash_after (length team.waiting) (is_resume step.call) step.member (meant step.call (open_call waiting)) result team.broken (events before) answer st.broken_is (whole (terms_of team) step (waits_of step.member before).open_call (events before) none) ∙ ap clash_of (sym adds);
+      wait = λ k other there. elim (slice_get-set team.waiting step.member k (waiting_after (reply_to result) step.call waiting) other there) [
+        | inl e ↦ rw (e.0, e.1) (wait_after team.limits (length team.waiting) step result waiting before own.call_is own.tested ready answer)
+        | inr e ↦ let old = st.wait k other e.1 in record {
+          call_is = ap (λ (w : Waits). w.open_call) (waits_other k step (reply_to result) before e.0) ∙ old.call_is;
+          tested = subst (IsTested team.limits k (open_call other)) (sym adds)
+            (tested_kept team.limits k (open_call other) (events before) _ (same_place (is_resume step.call) k step.member (entered step.member (events before)) (reply_to result) (meant step.call (open_call waiting)) (events before) e.0) old.tested);
+        }
+      ];
+      limits_are = st.limits_are;
+      shares_size = shares_same ∙ st.shares_size ∙ sym (length-set team.waiting step.member _);
+      barriers_size = barriers_same ∙ st.barriers_size ∙ sym (length-set team.waiting step.member _);
+    }
+
+-- a step that no test of the member alone refuses
+pub step_ready : {S : Type 0} (stands : S → List Event → Type 0) (members : S → ℕ) (team : TeamView S) (before : Record) (step : Step) (waiting : Option Waiting) → Stands stands members team before → slice_get team.waiting step.member ≡ Some waiting →
+    first_refusal (alone (terms_of team) step (waits_of step.member before).open_call (events before)) ≡ None →
+    IsReady team.limits (is_resume step.call) step.member (meant step.call (open_call waiting)) (events before)
+step_ready stands members team before step waiting st at none =
+    let own = st.wait step.member waiting at in
+    subst (λ (w : Option Call). IsReady team.limits (is_resume step.call) step.member (meant step.call w) (events before)) own.call_is
+    (ready (terms_of team) step (waits_of step.member before).open_call (events before) none (subst (λ (w : Option Call). IsTested team.limits step.member w (events before)) (sym own.call_is) own.tested))
+
+pub step_answered : {S : Type 0} (stands : S → List Event → Type 0) (members : S → ℕ) (team : TeamView S) (before : Record) (step : Step) (waiting : Option Waiting) (result : Result Reply Place) →
+    Stands stands members team before → slice_get team.waiting step.member ≡ Some waiting →
+    ((refusal : Refusal) → refusal_of (terms_of team) step (waits_of step.member before).open_call (events before) ≡ Some refusal → MayAnswer (terms_of team) before step (Refused refusal)) →
+    first_refusal (alone (terms_of team) step (waits_of step.member before).open_call (events before)) ≡ None →
+    IsAnswer (length team.waiting) (is_resume step.call) step.member (meant step.call (open_call waiting)) result (events before) → MayAnswer (terms_of team) before step (reply_to result)
+step_answered stands members team before step waiting result st at law none answer =
+    answered (terms_of team) before step result st.limits_are law none
+    (subst (λ (w : Option Call). IsAnswer (length team.waiting) (is_resume step.call) step.member (meant step.call w) result (events before)) (sym (st.wait step.member waiting at).call_is) answer)

@@ -1,0 +1,94 @@
+-- What a member's call is answered once no test that it can make alone holds, and what the parts of the team then stand for. OpenMP API 5.2, chapters 11 and 15.
+use Rattle.std.specs.Prelude.{ℕ, ◌≡◌, Bool, true, false, List, [], ◌∷◌, Option, Some, None, Result, Ok, Err, is_some, is_none}
+use Rattle.gomp_types.specs.declared.call.Call.{Call}
+use Rattle.gomp_types.specs.declared.call.Call.TheVariants.{LoopStart, LoopNext, LoopEnd, LoopEndNowait, Barrier, RegionEnd, Resume}
+use Rattle.gomp_types.specs.declared.loop_desc.EndKind.TheVariants.{Wait as WaitEnd}
+use Rattle.gomp_types.specs.declared.limits.Limits.{Limits}
+use Rattle.gomp_types.specs.declared.refusal.Refusal.TheVariants.{Waiting, NotInside, Mismatch}
+use Rattle.gomp_types.specs.declared.refusal.Place.{Place}
+use Rattle.gomp_types.specs.declared.refusal.Clash.{Clash}
+use Rattle.gomp_types.specs.declared.reply.Reply.{Reply}
+use Rattle.gomp_types.specs.declared.reply.Reply.TheVariants.{Passed, Refused}
+use Rattle.gomp_types.specs.declared.event.Arrival.{Arrival}
+use Rattle.gomp_types.specs.declared.event.Arrival.TheVariants.{Barrier as BarrierArrival, ShareEnd, RegionEnd as RegionEndArrival}
+use Rattle.gomp_types.specs.declared.event.Event.{Event}
+use Rattle.gomp_types.specs.declared.event.Event.TheVariants.{Pass}
+use Rattle.gomp_types.specs.Tests.{Test, first_refusal}
+use Rattle.gomp_types.specs.Events.{entered, passed}
+use Rattle.gomp_types.specs.Record.{place_of}
+use Rattle.gomp_types.specs.Refusals.{start_tests, arrival_tests, end_tests}
+use Rattle.gomp_types.specs.Replies.{MayReply}
+use Rattle.gomp_share_plain.specs.Calls.{seen_of}
+use Rattle.gomp_loops.specs.OwnTests.{own_tests}
+use Rattle.gomp_barrier.specs.Stands.{BarriersView, Stands as BarriersStand}
+
+-- The tests of a step, in two parts: its row is the first part and then the second
+
+-- by what the member sees alone: whether it waits, and its place among the shares
+abbrev pub own_row : Limits → ℕ → Call → Option Call → List Event → List Test
+own_row limits m Resume waiting h = (is_none waiting, NotInside) ∷ []
+own_row limits m call waiting h = (is_some waiting, Waiting) ∷ own_tests limits (seen_of m h) call
+
+-- an arrival is compared with those of the other members once
+abbrev pub arrival_compared : Bool → Arrival → ℕ → List Event → List Test
+arrival_compared true kind m h = []
+arrival_compared false kind m h = arrival_tests kind m h
+
+-- by the other members' constructs
+abbrev pub compared : Bool → ℕ → Call → List Event → List Test
+compared again m (LoopStart loop) h = start_tests m loop h
+compared again m LoopEnd h = arrival_compared again ShareEnd m h
+compared again m Barrier h = arrival_compared again BarrierArrival m h
+compared again m RegionEnd h = arrival_compared again RegionEndArrival m h
+compared again m _ h = []
+
+-- Answers
+
+-- a call that can wait; where it is a start, its own tests were made and failed
+abbrev pub MayWait : Limits → ℕ → Call → List Event → Type 0
+MayWait limits m (LoopStart loop) h = first_refusal (own_tests limits (seen_of m h) (LoopStart loop)) ≡ None
+MayWait limits m LoopEnd h = Unit {0}
+MayWait limits m Barrier h = Unit {0}
+MayWait limits m RegionEnd h = Unit {0}
+MayWait limits m _ h = ⊥
+
+-- no test that the member can make alone holds of its call, or of the one that it repeats
+abbrev pub IsReady : Limits → Bool → ℕ → Call → List Event → Type 0
+IsReady limits false m call h = first_refusal (own_tests limits (seen_of m h) call) ≡ None
+IsReady limits true m call h = MayWait limits m call h
+
+-- the loop may be left, where one ends with this arrival
+abbrev pub MayLeave : Arrival → ℕ → List Event → Type 0
+MayLeave ShareEnd m h = first_refusal (end_tests WaitEnd m h) ≡ None
+MayLeave _ m h = Unit {0}
+
+-- the answer is the place where the construct differs, or else a reply that the call may be given
+abbrev pub IsAnswer : ℕ → Bool → ℕ → Call → Result Reply Place → List Event → Type 0
+IsAnswer members again m call (Err place) h =
+    (first_refusal (compared again m call h) ≡ Some Mismatch) × (place ≡ place_of call m (entered m h) h)
+IsAnswer members again m call (Ok reply) h =
+    (first_refusal (compared again m call h) ≡ None) × MayReply members again m call reply h
+
+abbrev pub reply_to : Result Reply Place → Reply
+reply_to (Ok reply) = reply
+reply_to (Err place) = Refused Mismatch
+
+-- the cause by which the team is broken after this answer to a member
+abbrev pub broken_after : Option Clash → ℕ → Result Reply Place → Option Clash
+broken_after broken m (Ok reply) = broken
+broken_after broken m (Err place) = Some (record { member = m; place = place })
+
+-- the events after a turn at the barrier
+abbrev pub passed_after : Reply → ℕ → List Event → List Event
+passed_after Passed m h = Pass (passed m h) m ∷ h
+passed_after _ m h = h
+
+-- The parts of a team
+
+-- the shares and the barriers stand for these events
+abbrev pub Parts : {S : Type 0} → (S → List Event → Type 0) → S → BarriersView → List Event → Type 0
+Parts stands shares barriers h = stands shares h × BarriersStand barriers.seats barriers.front h
+
+-- of each list of events that both stand for, this holds
+abbrev pub EachPart : {S : Type 0} → (S → List Event → Type 0) → S → BarriersView → (List Event → Type 0) → Type 0
+EachPart stands shares barriers P = (h : List Event) → stands shares h → BarriersStand barriers.seats barriers.front h → P h

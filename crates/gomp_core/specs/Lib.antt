@@ -1,0 +1,3 @@
+pub mod Waits
+pub mod Answers
+pub mod Stands

@@ -1,0 +1,76 @@
+//! Arrivals: the `barrier` construct, the end of a loop with a barrier, and the end of the region.
+//!
+//! OpenMP API 5.2, sections 15.3.1 and 15.3.2; libgomp's `GOMP_barrier`, `GOMP_loop_end` and
+//! `GOMP_parallel_end`.
+
+ghost use Rattle.std.specs.Prelude.{◌≡◌, ◌<◌, ℕ, List, length, false, Ok};
+ghost use Rattle.gomp_types.specs.declared.event.Event.{Event};
+ghost use Rattle.gomp_types.specs.Events.{entered, passed, barrier_met};
+ghost use Rattle.gomp_types.specs.Record.{added, share_left, ends_share};
+ghost use Rattle.gomp_types.specs.Replies.{Awaits};
+ghost use Rattle.gomp_share_plain.specs.Calls.{EachStands};
+ghost use Rattle.gomp_barrier.specs.Stands.{Stands as BarriersStand};
+ghost use Rattle.gomp_core.specs.Waits.{arriving};
+ghost use Rattle.gomp_core.specs.Answers.{EachPart, Parts, MayLeave, IsAnswer, reply_to, passed_after};
+
+use gomp_barrier::Barriers;
+use gomp_share_plain::Shares;
+use gomp_types::{Arrival, Place, Refusal, Reply, Tag};
+
+/// The member arrives at its next barrier, and passes it where it is the last one. A loop that ends
+/// there is left first.
+///
+/// The error is the place where its arrival differs from those of other members; then nothing has
+/// changed.
+pub fn arrive<S: Shares>(
+    shares: &mut S,
+    barriers: &mut Barriers,
+    member: u16,
+    kind: Arrival,
+) -> Result<Reply, Place>
+    requires shares { member < S.members shares.old }
+    requires barriers { member < length barriers.old.seats }
+    ensures members { S.members shares.new ≡ S.members shares.old }
+    ensures seats { length barriers.new.seats ≡ length barriers.old.seats }
+    ensures answer { EachPart S.stands shares.old barriers.old (λ h. MayLeave kind member h → IsAnswer (length barriers.old.seats) false member (arriving kind) result h) }
+    ensures stands { EachPart S.stands shares.old barriers.old (λ h. MayLeave kind member h → Parts S.stands shares.new barriers.new (added false member (entered member h) (reply_to result) (arriving kind) h)) }
+{
+    gomp_barrier::aside();
+    let tag = Tag {
+        kind,
+        shares: shares.look(member).entered,
+    };
+    if !barriers.arrive(member, tag) {
+        return Err(Place::Barrier(barriers.look(member).number));
+    }
+    match leave(shares, member, kind) {
+        Ok(()) => Ok(turn(barriers, member)),
+        Err(refusal) => Ok(Reply::Refused(refusal)),
+    }
+}
+
+/// Leaves the loop that ends with an arrival of this kind, where one does.
+fn leave<S: Shares>(shares: &mut S, member: u16, kind: Arrival) -> Result<(), Refusal>
+    requires { member < S.members shares.old }
+    ensures members { S.members shares.new ≡ S.members shares.old }
+    ensures left { EachStands (S.stands shares.old) (λ h. MayLeave kind member h → (result ≡ Ok tt) × S.stands shares.new (share_left (ends_share (arriving kind)) member h)) }
+{
+    match kind {
+        Arrival::ShareEnd => gomp_loops::loop_end(shares, member),
+        Arrival::Barrier | Arrival::RegionEnd => Ok(()),
+    }
+}
+
+/// The member passes the barrier at which it has arrived, where every member has.
+pub fn turn(barriers: &mut Barriers, member: u16) -> Reply
+    requires { member < length barriers.old.seats }
+    ensures seats { length barriers.new.seats ≡ length barriers.old.seats }
+    ensures answer { (h : List Event) → BarriersStand barriers.old.seats barriers.old.front h → Awaits (barrier_met (length barriers.old.seats) (passed member h) h) result }
+    ensures stands { (h : List Event) → BarriersStand barriers.old.seats barriers.old.front h → BarriersStand barriers.new.seats barriers.new.front (passed_after result member h) }
+{
+    if barriers.turn(member) {
+        Reply::Passed
+    } else {
+        Reply::Wait
+    }
+}

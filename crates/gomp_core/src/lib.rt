@@ -1,0 +1,14 @@
+//! A team of OpenMP members, as one state machine that is handed their steps.
+//!
+//! [`Team::step`] answers one call of one member; [`run`] makes a team and answers a list of steps.
+//! A team is generic in the body of its work-shares; its parts are reached through the contracts of
+//! `gomp_share_plain`, `gomp_loops` and `gomp_barrier`, and each of them stands for all of the
+//! team's events.
+#![tactic(auto)]
+
+mod answer;
+mod arrivals;
+pub mod team;
+mod waiting;
+
+pub use team::Team;

@@ -1,0 +1,151 @@
+//! A team that one thread steps.
+
+ghost use Rattle.std.specs.Prelude.{◌≡◌, ◌<◌, ◌≤◌, ◌↔◌, ◌∷◌, ◌++◌, [], length, IfOk, Err};
+ghost use Rattle.gomp_types.specs.declared.refusal.Refusal.TheVariants.{BadTeam};
+ghost use Rattle.gomp_types.specs.Limits.{capped};
+ghost use Rattle.gomp_types.specs.Tests.{first_refusal};
+ghost use Rattle.gomp_types.specs.Record.{Record, events, waits_of};
+ghost use Rattle.gomp_types.specs.Refusals.{member_tests};
+ghost use Rattle.gomp_types.specs.Causes.{MayAnswer};
+ghost use Rattle.gomp_core.specs.Answers.{own_row};
+ghost use Rattle.gomp_core.specs.Stands.{Stands, standard, terms_of};
+
+use crate::answer::{answer, broken_after, reply_to};
+use crate::waiting::{Waiting, waiting_after};
+use gomp_barrier::Barriers;
+use gomp_share_plain::Shares;
+use gomp_types::{Call, Clash, Limits, Refusal, Reply, is_team_size, laws};
+use std::alloc::{AllocError, Global};
+use std::marker::Model;
+
+/// A team of 1 to 64 members, numbered from 0, whose work-shares are kept by `S`.
+///
+/// Every value stands for some record of steps and replies (its invariant), so a team may lie
+/// anywhere, and be stepped with nothing to prove.
+#[derive(Drop)]
+pub struct Team<S: Shares> {
+    limits: Limits,
+    broken: Option<Clash>,
+    waiting: Vec<Option<Waiting>>,
+    barriers: Barriers,
+    shares: S,
+}
+
+impl<S: Shares> Model for Team<S> {
+    ghost use Rattle.gomp_types.specs.Record.{Record};
+    ghost use Rattle.gomp_core.specs.Stands.{TeamView, Stands};
+
+    ghost Value = { TeamView S };
+
+    ghost view = { λ t. record { limits = t.limits; broken = t.broken; waiting = t.waiting.items; barriers = t.barriers; shares = t.shares } };
+
+    ghost invariant = { λ t. (before : Record) × Stands S.stands S.members (record { limits = t.limits; broken = t.broken; waiting = t.waiting.items; barriers = t.barriers; shares = t.shares }) before };
+}
+
+impl<S: Shares> Team<S> {
+    /// A new team of this many members, with the standard limits.
+    ///
+    /// Refused with `BadTeam` (E38) where the number is not 1 to 64, and with `NoMemory` (E37) where
+    /// memory is refused.
+    pub fn new(alloc: Global, count: u16) -> Result<Team<S>, Refusal>
+        ensures size { result ≡ Err BadTeam ↔ ((1 ≤ count) × (count ≤ 64) → ⊥) }
+        ensures members { IfOk result (λ team. length team.waiting ≡ count) }
+        ensures limits { IfOk result (λ team. team.limits ≡ standard) }
+        ensures stands { IfOk result (λ team. Stands S.stands S.members team []) }
+    {
+        Team::with_limits(alloc, count, Limits::STANDARD)
+    }
+
+    /// A new team with these limits, each lowered to the standard one where it is larger.
+    ///
+    /// Refused as [`new`](Team::new) is.
+    pub fn with_limits(alloc: Global, count: u16, limits: Limits) -> Result<Team<S>, Refusal>
+        ensures size { result ≡ Err BadTeam ↔ ((1 ≤ count) × (count ≤ 64) → ⊥) }
+        ensures members { IfOk result (λ team. length team.waiting ≡ count) }
+        ensures limits { IfOk result (λ team. team.limits ≡ capped limits) }
+        ensures stands { IfOk result (λ team. Stands S.stands S.members team []) }
+    {
+        if !is_team_size(count) {
+            return Err(Refusal::BadTeam);
+        }
+        match Team::make(alloc, count, limits.capped()) {
+            Ok(team) => Ok(team),
+            Err(_) => Err(Refusal::NoMemory),
+        }
+    }
+
+    fn make(alloc: Global, count: u16, limits: Limits) -> Result<Team<S>, AllocError>
+        requires size { 0 < count }
+        requires capped { capped limits ≡ limits }
+        ensures members { IfOk result (λ team. length team.waiting ≡ count) }
+        ensures limits { IfOk result (λ team. team.limits ≡ limits) }
+        ensures stands { IfOk result (λ team. Stands S.stands S.members team []) }
+    {
+        let none: Option<Waiting> = None;
+        Ok(Team {
+            limits,
+            broken: None,
+            waiting: vec![in alloc; none; count as usize]?,
+            barriers: Barriers::make(alloc, count)?,
+            shares: S::make(alloc, count)?,
+        })
+    }
+
+    /// The reply to one call of one member. It takes no memory.
+    ///
+    /// The reply is the one that has its cause in what was asked and answered before; after a
+    /// refusal the team is as before, save that `Mismatch` (E35) breaks it.
+    pub fn step(&mut self, member: u16, call: Call) -> Reply
+        ensures known { (before : Record) × Stands S.stands S.members self.old before }
+        ensures members { length self.new.waiting ≡ length self.old.waiting }
+        ensures limits { self.new.limits ≡ self.old.limits }
+        ensures answer { (before : Record) → Stands S.stands S.members self.old before → MayAnswer (terms_of self.old) before (record { member = member; call = call }) result }
+        ensures stands { (before : Record) → Stands S.stands S.members self.old before → Stands S.stands S.members self.new ((record { member = member; call = call }, result) ∷ before) }
+    {
+        laws::first_refused();
+        if let Some(refusal) = self.refusal(member, &call) {
+            return Reply::Refused(refusal);
+        }
+        let waiting = self.waiting[member as usize];
+        let answer = answer(
+            &mut self.shares,
+            &mut self.barriers,
+            &self.limits,
+            member,
+            &call,
+            &waiting,
+        );
+        self.broken = broken_after(self.broken, member, &answer);
+        let reply = reply_to(answer);
+        self.waiting[member as usize] = waiting_after(&reply, &call, waiting);
+        reply
+    }
+
+    /// The first test of the step that holds, of those that the member can make alone: all of them
+    /// but the comparison with other members, which stands last in each row.
+    fn refusal(&self, member: u16, call: &Call) -> Option<Refusal>
+        ensures { (before : Record) → Stands S.stands S.members self.now before → result ≡ first_refusal (member_tests (length self.now.waiting) member (events before) ++ own_row self.now.limits member call.now (waits_of member before).open_call (events before)) }
+    {
+        if member as usize >= self.waiting.len() {
+            return Some(Refusal::BadMember);
+        }
+        if self.barriers.look(member).left {
+            return Some(Refusal::Ended);
+        }
+        if let Some(clash) = self.broken {
+            return Some(Refusal::Broken(clash));
+        }
+        let waits = self.waiting[member as usize].is_some();
+        if let Call::Resume = call {
+            return if waits {
+                None
+            } else {
+                Some(Refusal::NotInside)
+            };
+        }
+        if waits {
+            return Some(Refusal::Waiting);
+        }
+        gomp_loops::first_refusal(&self.shares, member, &self.limits, call)
+    }
+}
