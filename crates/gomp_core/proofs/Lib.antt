@@ -1,4 +1,4 @@
 mod Parts
 mod Answered
 mod Rows
-mod Steps
+mod Stepping

@@ -52,3 +52,7 @@ pub record Stands {S : Type 0} (stands : S → List Event → Type 0) (members :
 -- what the team was made with
 abbrev pub terms_of : {S : Type 0} → TeamView S → Terms
 terms_of team = record { members = length team.waiting; limits = team.limits; cancellation = false }
+
+-- what a team of this many members is made with where no limits are given
+abbrev pub standard_terms : ℕ → Terms
+standard_terms count = record { members = count; limits = standard; cancellation = false }

@@ -8,7 +8,9 @@
 
 mod answer;
 mod arrivals;
+pub mod steps;
 pub mod team;
 mod waiting;
 
+pub use steps::run;
 pub use team::Team;

@@ -1,7 +1,8 @@
 //! A team that one thread steps.
 
-ghost use Rattle.std.specs.Prelude.{◌≡◌, ◌<◌, ◌≤◌, ◌↔◌, ◌∷◌, ◌++◌, [], length, IfOk, Err};
-ghost use Rattle.gomp_types.specs.declared.refusal.Refusal.TheVariants.{BadTeam};
+ghost use Rattle.std.specs.Prelude.{◌≡◌, ◌<◌, ◌≤◌, ◌↔◌, ◌⊎◌, ◌∷◌, ◌++◌, [], length, IfOk, Err};
+ghost use Rattle.gomp_types.specs.declared.refusal.Refusal.{Refusal};
+ghost use Rattle.gomp_types.specs.declared.refusal.Refusal.TheVariants.{BadTeam, NoMemory};
 ghost use Rattle.gomp_types.specs.Limits.{capped};
 ghost use Rattle.gomp_types.specs.Tests.{first_refusal};
 ghost use Rattle.gomp_types.specs.Record.{Record, events, waits_of};
@@ -49,6 +50,7 @@ impl<S: Shares> Team<S> {
     /// memory is refused.
     pub fn new(alloc: Global, count: u16) -> Result<Team<S>, Refusal>
         ensures size { result ≡ Err BadTeam ↔ ((1 ≤ count) × (count ≤ 64) → ⊥) }
+        ensures refused { (refusal : Refusal) → result ≡ Err refusal → (refusal ≡ BadTeam) ⊎ (refusal ≡ NoMemory) }
         ensures members { IfOk result (λ team. length team.waiting ≡ count) }
         ensures limits { IfOk result (λ team. team.limits ≡ standard) }
         ensures stands { IfOk result (λ team. Stands S.stands S.members team []) }
@@ -61,6 +63,7 @@ impl<S: Shares> Team<S> {
     /// Refused as [`new`](Team::new) is.
     pub fn with_limits(alloc: Global, count: u16, limits: Limits) -> Result<Team<S>, Refusal>
         ensures size { result ≡ Err BadTeam ↔ ((1 ≤ count) × (count ≤ 64) → ⊥) }
+        ensures refused { (refusal : Refusal) → result ≡ Err refusal → (refusal ≡ BadTeam) ⊎ (refusal ≡ NoMemory) }
         ensures members { IfOk result (λ team. length team.waiting ≡ count) }
         ensures limits { IfOk result (λ team. team.limits ≡ capped limits) }
         ensures stands { IfOk result (λ team. Stands S.stands S.members team []) }

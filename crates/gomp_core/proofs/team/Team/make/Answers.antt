@@ -1,5 +1,5 @@
 use Rattle.std.proofs.Common.{◌≡◌, ◌∙◌, [], None, length, refl, sym, arith}
-use Rattle.gomp_core.proofs.Steps.{fresh, all_none}
+use Rattle.gomp_core.proofs.Stepping.{fresh, all_none}
 use Rattle.gomp_core.proofs.team.Team.make.Goals as goal
 
 pub returns-clause-stands : goal.returns-clause-stands

@@ -7,7 +7,7 @@ use Rattle.gomp_core.specs.Waits.{open_call}
 use Rattle.gomp_core.specs.Answers.{IsAnswer}
 use Rattle.gomp_core.specs.Stands.{TeamView, Stands, terms_of}
 use Rattle.gomp_core.proofs.Rows.{alone, below}
-use Rattle.gomp_core.proofs.Steps.{stands_refused, answer_refused, step_ready, step_answered, stands_answered}
+use Rattle.gomp_core.proofs.Stepping.{stands_refused, answer_refused, step_ready, step_answered, stands_answered}
 use Rattle.gomp_core.proofs.team.Team.step.Goals as goal
 
 pub returns-in-Some-clause-answer : goal.returns-in-Some-clause-answer

@@ -1,5 +1,5 @@
 -- A step leaves the team standing for the record with this step and its reply.
-use Rattle.std.proofs.Common.{◌≡◌, ℕ, ◌+◌, ◌<◌, Bool, true, false, List, [], ◌∷◌, Option, Some, None, Result, Ok, Err, length, slice_get, slice_set, replicate, refl, ap, ◌∙◌, sym, subst, arith, suc, zero, inl, inr}
+use Rattle.std.proofs.Common.{◌≡◌, ℕ, ◌+◌, ◌<◌, Bool, true, false, List, [], ◌∷◌, ◌++◌, Option, Some, None, Result, Ok, Err, length, slice_get, slice_set, replicate, refl, ap, ◌∙◌, sym, subst, arith, suc, zero, inl, inr}
 use Rattle.std.specs.Prelude.{◌==◌, ◌≢◌, ℤ, ◌⊎◌, if◌then◌else◌}
 use Rattle.std.proofs.lemmas.Bool.{cases_Bool}
 use Rattle.std.proofs.lemmas.Bool.Decides.{nat_tests}
@@ -20,7 +20,7 @@ use Rattle.gomp_types.specs.declared.event.Event.{Event}
 use Rattle.gomp_types.specs.Limits.{capped}
 use Rattle.gomp_types.specs.Tests.{first_refusal}
 use Rattle.gomp_types.specs.Events.{entered, open_share, clash_of}
-use Rattle.gomp_types.specs.Record.{Record, Waits, waits_of, waits_after, events, added, meant, is_resume, piece_taken, pass_added, refusal_added, since_begun, arrived, share_left, arrival_kind, ends_share, place_of}
+use Rattle.gomp_types.specs.Record.{Record, record_after, Waits, waits_of, waits_after, events, added, meant, is_resume, piece_taken, pass_added, refusal_added, since_begun, arrived, share_left, arrival_kind, ends_share, place_of}
 use Rattle.gomp_types.specs.Replies.{MayReply, DealsOut}
 use Rattle.gomp_types.specs.Causes.{Terms, refusal_of, MayAnswer}
 use Rattle.gomp_share_plain.specs.Calls.{seen_of}
@@ -30,7 +30,7 @@ use Rattle.gomp_core.specs.declared.waiting.Waiting.{Waiting}
 use Rattle.gomp_core.specs.declared.waiting.Waiting.TheVariants.{Start, Arrive}
 use Rattle.gomp_core.specs.Waits.{open_call, waiting_after, kept_for}
 use Rattle.gomp_core.specs.Answers.{IsReady, IsAnswer, MayWait, reply_to, broken_after, Parts}
-use Rattle.gomp_core.specs.Stands.{TeamView, IsTested, WaitStands, Stands, terms_of}
+use Rattle.gomp_core.specs.Stands.{TeamView, IsTested, WaitStands, Stands, terms_of, standard, standard_terms}
 use Rattle.gomp_core.proofs.Rows.{alone, refused_alone, compared_last, whole, ready, quiet_alone, quiet_adds, IsQuiet}
 
 -- A new team
@@ -339,3 +339,29 @@ pub step_answered : {S : Type 0} (stands : S → List Event → Type 0) (members
 step_answered stands members team before step waiting result st at law none answer =
     answered (terms_of team) before step result st.limits_are law none
     (subst (λ (w : Option Call). IsAnswer (length team.waiting) (is_resume step.call) step.member (meant step.call w) result (events before)) (sym (st.wait step.member waiting at).call_is) answer)
+
+-- A list of steps
+
+pub record_grows : (steps : List Step) (replies : List Reply) (step : Step) (reply : Reply) (before : Record) → length replies ≡ length steps →
+    record_after (steps ++ step ∷ []) (replies ++ reply ∷ []) before ≡ (step, reply) ∷ record_after steps replies before
+record_grows [] [] step reply before e = refl
+record_grows [] (r ∷ replies) step reply before e = absurd (omega arith)
+record_grows (s ∷ steps) [] step reply before e = absurd (omega arith)
+record_grows (s ∷ steps) (r ∷ replies) step reply before e = record_grows steps replies step reply ((s, r) ∷ before) (omega arith)
+
+pub moved_on : (yielded rest : List Step) (step : Step) → yielded ++ (step ∷ rest) ≡ (yielded ++ step ∷ []) ++ rest
+moved_on [] rest step = refl
+moved_on (s ∷ yielded) rest step = ap (λ (xs : List Step). s ∷ xs) (moved_on yielded rest step)
+
+pub all_done : (yielded rest steps : List Step) → yielded ++ rest ≡ steps → length rest ≡ 0 → yielded ≡ steps
+all_done [] [] steps e none = e
+all_done (s ∷ yielded) [] [] e none = absurd (cc)
+all_done (s ∷ yielded) [] (t ∷ steps) e none =
+    let first : s ≡ t = cc in
+    let later : yielded ++ [] ≡ steps = cc in
+    rw (first, all_done yielded [] steps later refl) refl
+all_done yielded (s ∷ rest) steps e none = absurd (omega arith)
+
+-- the terms of a team of this size with the standard limits
+pub terms_are : {S : Type 0} (team : TeamView S) (count : ℕ) → length team.waiting ≡ count → team.limits ≡ standard → terms_of team ≡ standard_terms count
+terms_are team count members limits = rw (members, limits) refl

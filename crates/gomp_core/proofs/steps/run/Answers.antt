@@ -1,0 +1,85 @@
+use Rattle.std.proofs.Common.{◌≡◌, ◌≤◌, ◌<◌, ◌+◌, ◌∙◌, ◌∷◌, ◌++◌, [], List, length, vec_len, refl, ap, sym, subst, arith, length-append}
+use Rattle.gomp_types.specs.declared.call.Step.{Step}
+use Rattle.gomp_types.specs.Record.{record_after, events}
+use Rattle.gomp_types.specs.Causes.{Terms, Caused, MayAnswer}
+use Rattle.gomp_types.specs.Headline.{Headline}
+use Rattle.gomp_core.specs.Stands.{Stands, standard_terms, terms_of}
+use Rattle.gomp_core.proofs.Stepping.{record_grows, moved_on, all_done, terms_are}
+use Rattle.gomp_core.proofs.steps.run.Given.{Over}
+use Rattle.gomp_core.proofs.steps.run.Goals as goal
+
+pub loop-step-init : goal.loop-step-init
+loop-step-init g c = record {
+  all = c.into_iter-step-iterator.ensures.into_iter_gives.0;
+  each = rw c.in-Ok.ensures.items refl;
+  room = let room = c.in-Ok.ensures.capacity in let len = c.len.ensures in let ok = c.args.steps.ok in omega arith;
+  members = c.in_ok-team.ensures.members;
+  limits = c.in_ok-team.ensures.limits;
+  caused = tt;
+  stands = c.in_ok-team.ensures.stands;
+}
+
+pub push_reserved-requires : goal.push_reserved-requires
+push_reserved-requires g c =
+    let inv = c.loop-step.invariant in
+    let more : length c.args.steps.items ≡ length c.loop-step.yielded + length (c.in-Some.step ∷ c.next.new.self.rest.items) =
+        ap length (sym inv.all ∙ ap (λ (xs : List Step). c.loop-step.yielded ++ xs) c.in-Some.ensures.steps.0) ∙ length-append c.loop-step.yielded (c.in-Some.step ∷ c.next.new.self.rest.items) in
+    let room = inv.room in let each = inv.each in let ok = c.loop-step.replies.ok in omega arith
+
+pub loop-step-preserved : goal.loop-step-preserved
+loop-step-preserved g c =
+    let inv = c.loop-step.invariant in
+    let before = record_after c.loop-step.yielded c.loop-step.replies.items [] in
+    let more = record_grows c.loop-step.yielded c.loop-step.replies.items c.in-Some.step c.step.result [] inv.each in
+    let answer : MayAnswer (standard_terms c.args.count) before c.in-Some.step c.step.result =
+        subst (λ (terms : Terms). MayAnswer terms before c.in-Some.step c.step.result) (terms_are c.loop-step.team c.args.count inv.members inv.limits) (c.step.ensures.answer before inv.stands) in
+    record {
+      all = sym (moved_on c.loop-step.yielded c.next.new.self.rest.items c.in-Some.step) ∙ ap (λ (xs : List Step). c.loop-step.yielded ++ xs) (sym c.in-Some.ensures.steps.0) ∙ inv.all;
+      each = let each = inv.each in rw c.push_reserved.ensures.items (simp length-append (omega arith));
+      room = let kept = c.push_reserved.ensures.capacity in let room = inv.room in omega arith;
+      members = c.step.ensures.members ∙ inv.members;
+      limits = c.step.ensures.limits ∙ inv.limits;
+      caused = rw (c.push_reserved.ensures.items, more) (answer, inv.caused);
+      stands = rw (c.push_reserved.ensures.items, more) (c.step.ensures.stands before inv.stands);
+    }
+
+-- Where no step is left
+
+steps_done : (g : Over) (c : goal.After-drop-step-iterator g) → c.loop-step.yielded ≡ c.args.steps.items
+steps_done g c =
+    let inv = c.loop-step.invariant in
+    let size = c.loop-step.step-iterator.rest.ok in
+    let none = c.in-None.ensures.steps in
+    all_done c.loop-step.yielded c.loop-step.step-iterator.rest.items c.args.steps.items inv.all (sym size.0 ∙ none.0)
+
+pub returns-in-None-clause-each : goal.returns-in-None-clause-each
+returns-in-None-clause-each g c = let inv = c.loop-step.invariant in let ok = c.loop-step.replies.ok in let same = ap length (steps_done g c) in let each = inv.each in omega arith
+
+pub returns-in-None-clause-caused : goal.returns-in-None-clause-caused
+returns-in-None-clause-caused g c = let inv = c.loop-step.invariant in subst (λ (steps : List Step). Caused (standard_terms c.args.count) (record_after steps c.loop-step.replies.items [])) (steps_done g c) inv.caused
+
+pub returns-in-None-clause-stands : goal.returns-in-None-clause-stands
+returns-in-None-clause-stands g c =
+    let inv = c.loop-step.invariant in
+    subst (λ (steps : List Step). Stands g.S.Shares.stands g.S.Shares.members c.loop-step.team (record_after steps c.loop-step.replies.items [])) (steps_done g c) inv.stands
+
+the_headline : (g : Over) (c : goal.After-drop-step-iterator g) → Headline c.args.count (events (record_after c.args.steps.items c.loop-step.replies.items []))
+the_headline g c = c.headline.ensures (standard_terms c.args.count) (record_after c.args.steps.items c.loop-step.replies.items []) (returns-in-None-clause-caused g c)
+
+pub returns-in-None-clause-taken_once : goal.returns-in-None-clause-taken_once
+returns-in-None-clause-taken_once g c = (the_headline g c).taken_once
+
+pub returns-in-None-clause-whole : goal.returns-in-None-clause-whole
+returns-in-None-clause-whole g c = (the_headline g c).whole
+
+pub returns-in-None-clause-same_shares : goal.returns-in-None-clause-same_shares
+returns-in-None-clause-same_shares g c = (the_headline g c).same_shares
+
+pub returns-in-None-clause-same_arrivals : goal.returns-in-None-clause-same_arrivals
+returns-in-None-clause-same_arrivals g c = (the_headline g c).same_arrivals
+
+pub returns-in-None-clause-one_order : goal.returns-in-None-clause-one_order
+returns-in-None-clause-one_order g c = (the_headline g c).one_order
+
+pub returns-in-None-clause-passes : goal.returns-in-None-clause-passes
+returns-in-None-clause-passes g c = (the_headline g c).passes

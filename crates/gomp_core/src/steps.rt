@@ -1,0 +1,56 @@
+//! A list of steps, answered by a new team.
+
+ghost use Rattle.std.specs.Prelude.{◌≡◌, ◌≤◌, ◌↔◌, ◌⊎◌, List, [], length, IfOk, Err, vec_len};
+ghost use Rattle.gomp_types.specs.declared.refusal.Refusal.{Refusal};
+ghost use Rattle.gomp_types.specs.declared.refusal.Refusal.TheVariants.{BadTeam, NoMemory};
+ghost use Rattle.gomp_types.specs.Record.{record_after, events};
+ghost use Rattle.gomp_types.specs.Causes.{Caused};
+ghost use Rattle.gomp_types.specs.Deals.{schedule};
+ghost use Rattle.gomp_types.specs.Rules.{Always};
+ghost use Rattle.gomp_types.specs.Laws.{TakenOnce, WholeWhereOver, SameShares, SameArrivals, TellsShares, PassesLast};
+ghost use Rattle.gomp_core.specs.Stands.{Stands, standard_terms};
+
+use crate::team::Team;
+use gomp_share_plain::Shares;
+use gomp_types::{Refusal, Reply, Step, laws};
+use std::alloc::Global;
+
+/// The replies of a new team of `count` members to these steps, in order, one for each, and the team
+/// after them. The steps are dropped.
+///
+/// **The headline**, of all that these steps and replies give: for every team size and list of
+/// steps no iteration is taken twice, a loop that all members end had every iteration taken, all
+/// members go through the same constructs in the same order, and no member passes a barrier before
+/// all arrived.
+///
+/// Refused with `BadTeam` (E38) where the size is not 1 to 64, and with `NoMemory` (E37) where the
+/// memory of the team or of the replies is refused; then the steps are dropped and nothing is kept.
+pub fn run<S: Shares + Drop>(
+    alloc: Global,
+    count: u16,
+    steps: Vec<Step>,
+) -> Result<(Team<S>, Vec<Reply>), Refusal>
+    ensures size { result ≡ Err BadTeam ↔ ((1 ≤ count) × (count ≤ 64) → ⊥) }
+    ensures refused { (refusal : Refusal) → result ≡ Err refusal → (refusal ≡ BadTeam) ⊎ (refusal ≡ NoMemory) }
+    ensures each { IfOk result (λ ran. vec_len ran.1 ≡ length steps.items) }
+    ensures caused { IfOk result (λ ran. Caused (standard_terms count) (record_after steps.items ran.1.items [])) }
+    ensures stands { IfOk result (λ ran. Stands S.stands S.members ran.0 (record_after steps.items ran.1.items [])) }
+    ensures taken_once { IfOk result (λ ran. TakenOnce (schedule count) (events (record_after steps.items ran.1.items []))) }
+    ensures whole { IfOk result (λ ran. WholeWhereOver count (events (record_after steps.items ran.1.items []))) }
+    ensures same_shares { IfOk result (λ ran. SameShares count (events (record_after steps.items ran.1.items []))) }
+    ensures same_arrivals { IfOk result (λ ran. SameArrivals (events (record_after steps.items ran.1.items []))) }
+    ensures one_order { IfOk result (λ ran. Always TellsShares (events (record_after steps.items ran.1.items []))) }
+    ensures passes { IfOk result (λ ran. Always (PassesLast count) (events (record_after steps.items ran.1.items []))) }
+{
+    laws::headline();
+    let mut team = Team::new(alloc, count)?;
+    match Vec::with_capacity(alloc, steps.len()) {
+        Ok(mut replies) => {
+            for step in steps {
+                replies.push_reserved(team.step(step.member, step.call));
+            }
+            Ok((team, replies))
+        }
+        Err(_) => Err(Refusal::NoMemory),
+    }
+}
