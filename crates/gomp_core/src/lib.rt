@@ -11,6 +11,8 @@ mod arrivals;
 pub mod steps;
 pub mod team;
 mod waiting;
+#[cfg(test)]
+mod worked;
 
 pub use steps::run;
 pub use team::Team;
