@@ -1,6 +1,6 @@
 -- The answer to each call is one that its row and its line of replies allow.
-use Rattle.std.proofs.Common.{◌≡◌, ℕ, Bool, true, false, List, [], ◌∷◌, ◌++◌, Option, Some, None, Result, Ok, Err, refl, ap, ◌∙◌, sym, arith}
-use Rattle.std.specs.Prelude.{not, min, ◌≤◌}
+use Rattle.std.proofs.Common.{◌≡◌, ℕ, Bool, true, false, List, [], ◌∷◌, ◌++◌, Some, None, Result, Ok, Err, refl, ap, ◌∙◌, sym}
+use Rattle.std.specs.Prelude.{not}
 use Rattle.gomp_types.specs.declared.call.Call.{Call}
 use Rattle.gomp_types.specs.declared.call.Call.TheVariants.{LoopStart}
 use Rattle.gomp_types.specs.declared.limits.Limits.{Limits}
@@ -20,12 +20,12 @@ use Rattle.gomp_types.specs.Pieces.{shape_of}
 use Rattle.gomp_types.specs.Events.{entered, passed, shape_at, tag_at, barrier_met}
 use Rattle.gomp_types.specs.Record.{added, begun, shown, tag_with}
 use Rattle.gomp_types.specs.Refusals.{call_tests, start_tests, shape_differs, tag_differs}
-use Rattle.gomp_types.specs.Replies.{Awaits, MayReply}
+use Rattle.gomp_types.specs.Replies.{Awaits}
 use Rattle.gomp_share_plain.specs.Calls.{seen_of}
 use Rattle.gomp_loops.specs.OwnTests.{own_tests}
 use Rattle.gomp_loops.specs.Answers.{IsReply}
 use Rattle.gomp_core.specs.Waits.{arriving}
-use Rattle.gomp_core.specs.Answers.{compared, IsReady, IsAnswer, reply_to}
+use Rattle.gomp_core.specs.Answers.{compared, IsReady, IsAnswer}
 
 -- Tests in a row
 

@@ -1,6 +1,6 @@
 -- The tests of a step: those that the member can make alone, and then the comparison with the other members.
-use Rattle.std.proofs.Common.{◌≡◌, ℕ, ◌<◌, Bool, true, false, List, [], ◌∷◌, ◌++◌, Option, Some, None, refl, ap, ◌∙◌, sym, subst, arith}
-use Rattle.std.specs.Prelude.{nat_le, is_some, is_none}
+use Rattle.std.proofs.Common.{◌≡◌, ℕ, ◌<◌, Bool, true, false, List, [], ◌∷◌, ◌++◌, Option, Some, None, refl, ap, ◌∙◌, subst, arith}
+use Rattle.std.specs.Prelude.{nat_le, is_some}
 use Rattle.std.proofs.lemmas.Bool.Decides.{nat_tests}
 use Rattle.gomp_types.specs.declared.call.Call.{Call}
 use Rattle.gomp_types.specs.declared.call.Call.TheVariants.{LoopStart, LoopNext, LoopEnd, LoopEndNowait, Barrier, RegionEnd, Resume}

@@ -1,7 +1,6 @@
 -- A step leaves the team standing for the record with this step and its reply.
-use Rattle.std.proofs.Common.{◌≡◌, ℕ, ◌+◌, ◌<◌, Bool, true, false, List, [], ◌∷◌, ◌++◌, Option, Some, None, Result, Ok, Err, length, slice_get, slice_set, replicate, refl, ap, ◌∙◌, sym, subst, arith, suc, zero, inl, inr}
+use Rattle.std.proofs.Common.{◌≡◌, ℕ, ◌+◌, Bool, true, false, List, [], ◌∷◌, ◌++◌, Option, Some, None, Result, Ok, Err, length, slice_get, slice_set, replicate, refl, ap, ◌∙◌, sym, subst, arith, suc, zero, inl, inr}
 use Rattle.std.specs.Prelude.{◌==◌, ◌≢◌, ℤ, ◌⊎◌, if◌then◌else◌}
-use Rattle.std.proofs.lemmas.Bool.{cases_Bool}
 use Rattle.std.proofs.lemmas.Bool.Decides.{nat_tests}
 use Rattle.std.proofs.lemmas.List.{length-set}
 use Rattle.gomp_types.specs.declared.call.Call.{Call}
@@ -23,15 +22,13 @@ use Rattle.gomp_types.specs.Events.{entered, open_share, clash_of}
 use Rattle.gomp_types.specs.Record.{Record, record_after, Waits, waits_of, waits_after, events, added, meant, is_resume, piece_taken, pass_added, refusal_added, since_begun, arrived, share_left, arrival_kind, ends_share, place_of}
 use Rattle.gomp_types.specs.Replies.{MayReply, DealsOut}
 use Rattle.gomp_types.specs.Causes.{Terms, refusal_of, MayAnswer}
-use Rattle.gomp_share_plain.specs.Calls.{seen_of}
-use Rattle.gomp_loops.specs.OwnTests.{own_tests}
 use Rattle.gomp_barrier.specs.Stands.{BarriersView, Stands as BarriersStand}
 use Rattle.gomp_core.specs.declared.waiting.Waiting.{Waiting}
 use Rattle.gomp_core.specs.declared.waiting.Waiting.TheVariants.{Start, Arrive}
 use Rattle.gomp_core.specs.Waits.{open_call, waiting_after, kept_for}
-use Rattle.gomp_core.specs.Answers.{IsReady, IsAnswer, MayWait, reply_to, broken_after, Parts}
+use Rattle.gomp_core.specs.Answers.{IsReady, IsAnswer, reply_to, broken_after, Parts}
 use Rattle.gomp_core.specs.Stands.{TeamView, IsTested, WaitStands, Stands, terms_of, standard, standard_terms}
-use Rattle.gomp_core.proofs.Rows.{alone, refused_alone, compared_last, whole, ready, quiet_alone, quiet_adds, IsQuiet}
+use Rattle.gomp_core.proofs.Rows.{alone, refused_alone, compared_last, whole, ready, quiet_alone, quiet_adds}
 
 -- A new team
 
@@ -304,7 +301,7 @@ pub stands_answered : {S : Type 0} (stands : S → List Event → Type 0) (membe
 stands_answered stands members team shares barriers before step waiting result st at none ready answer parts shares_same barriers_same =
     let own = st.wait step.member waiting at in
     let adds : events ((step, reply_to result) ∷ before) ≡ added (is_resume step.call) step.member (entered step.member (events before)) (reply_to result) (meant step.call (open_call waiting)) (events before) =
-        ap (λ (w : Option Call). added (is_resume step.call) step.member (entered step.member (events before)) (reply_to result) (meant step.call w) (events before)) own.call_is in
+    ap (λ (w : Option Call). added (is_resume step.call) step.member (entered step.member (events before)) (reply_to result) (meant step.call w) (events before)) own.call_is in
     record {
       shares_are = subst (stands shares) (sym adds) parts.0;
       barriers_are = subst (BarriersStand barriers.seats barriers.front) (sym adds) parts.1;
@@ -314,7 +311,7 @@ stands_answered stands members team shares barriers before step waiting result s
         | inr e ↦ let old = st.wait k other e.1 in record {
           call_is = ap (λ (w : Waits). w.open_call) (waits_other k step (reply_to result) before e.0) ∙ old.call_is;
           tested = subst (IsTested team.limits k (open_call other)) (sym adds)
-            (tested_kept team.limits k (open_call other) (events before) _ (same_place (is_resume step.call) k step.member (entered step.member (events before)) (reply_to result) (meant step.call (open_call waiting)) (events before) e.0) old.tested);
+              (tested_kept team.limits k (open_call other) (events before) _ (same_place (is_resume step.call) k step.member (entered step.member (events before)) (reply_to result) (meant step.call (open_call waiting)) (events before) e.0) old.tested);
         }
       ];
       limits_are = st.limits_are;

@@ -63,7 +63,11 @@ pub fn reply_to(answer: Result<Reply, Place>) -> Reply
 }
 
 /// Why the team is broken after an answer to this member: by it, where the answer is a place.
-pub fn broken_after(broken: Option<Clash>, member: u16, answer: &Result<Reply, Place>) -> Option<Clash>
+pub fn broken_after(
+    broken: Option<Clash>,
+    member: u16,
+    answer: &Result<Reply, Place>,
+) -> Option<Clash>
     ensures { result ≡ broken_after broken member answer.now }
 {
     match answer {
@@ -77,7 +81,12 @@ pub fn broken_after(broken: Option<Clash>, member: u16, answer: &Result<Reply, P
 
 /// Starts a loop, or asks again whether there is room for it. The error is the share that the
 /// team has there, where it is another loop.
-fn start<S: Shares>(shares: &mut S, member: u16, limits: &Limits, desc: &LoopDesc) -> Result<Reply, Place>
+fn start<S: Shares>(
+    shares: &mut S,
+    member: u16,
+    limits: &Limits,
+    desc: &LoopDesc,
+) -> Result<Reply, Place>
     requires { member < S.members shares.old }
     ensures members { S.members shares.new ≡ S.members shares.old }
     ensures answer { EachStands (S.stands shares.old) (λ h. IsReady limits.now false member (LoopStart desc.now) h → IsAnswer (S.members shares.old) false member (LoopStart desc.now) result h) }

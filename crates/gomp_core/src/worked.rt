@@ -49,8 +49,7 @@ fn gives(
 #[test]
 fn loop_of_two_members(rt: HostRuntime) -> Result<(), Fail> {
     let alloc = rt.alloc();
-    let steps = vec![
-        in alloc;
+    let steps = vec![in alloc;
         by(0, dynamic(3, 0, 10, 1, EndKind::Wait)),
         by(1, dynamic(3, 0, 10, 1, EndKind::Wait)),
         by(0, Call::LoopNext),
@@ -61,8 +60,7 @@ fn loop_of_two_members(rt: HostRuntime) -> Result<(), Fail> {
         by(1, Call::LoopEnd),
         by(0, Call::Resume),
     ]?;
-    let expected = vec![
-        in alloc;
+    let expected = vec![in alloc;
         chunk(0, 3),
         chunk(3, 3),
         chunk(6, 3),
@@ -79,15 +77,13 @@ fn loop_of_two_members(rt: HostRuntime) -> Result<(), Fail> {
 #[test]
 fn empty_loops(rt: HostRuntime) -> Result<(), Fail> {
     let alloc = rt.alloc();
-    let steps = vec![
-        in alloc;
+    let steps = vec![in alloc;
         by(0, dynamic(3, 5, 5, 1, EndKind::Nowait)),
         by(0, Call::LoopEndNowait),
         by(0, dynamic(3, 10, 0, 1, EndKind::Nowait)),
         by(0, Call::LoopEndNowait),
     ]?;
-    let expected = vec![
-        in alloc;
+    let expected = vec![in alloc;
         Reply::NoChunk,
         Reply::Finished,
         Reply::NoChunk,
@@ -99,32 +95,27 @@ fn empty_loops(rt: HostRuntime) -> Result<(), Fail> {
 #[test]
 fn downward_loop(rt: HostRuntime) -> Result<(), Fail> {
     let alloc = rt.alloc();
-    let steps = vec![
-        in alloc;
+    let steps = vec![in alloc;
         by(0, dynamic(2, 10, 0, -3, EndKind::Nowait)),
         by(0, Call::LoopNext),
         by(0, Call::LoopNext),
     ]?;
-    let expected = vec![
-        in alloc;
-        chunk(10, 2),
-        chunk(4, 2),
-        Reply::NoChunk,
-    ]?;
+    let expected = vec![in alloc; chunk(10, 2), chunk(4, 2), Reply::NoChunk]?;
     gives(&rt, alloc, 1, steps, expected)
 }
 
 #[test]
 fn widest_loops(rt: HostRuntime) -> Result<(), Fail> {
     let alloc = rt.alloc();
-    let steps = vec![
-        in alloc;
+    let steps = vec![in alloc;
         by(0, dynamic(0, i64::MIN, i64::MAX, 1, EndKind::Wait)),
         by(0, dynamic(0, i64::MIN, i64::MAX, 0, EndKind::Wait)),
-        by(0, dynamic(0, i64::MIN, i64::MAX, 1_073_741_824, EndKind::Wait)),
+        by(
+            0,
+            dynamic(0, i64::MIN, i64::MAX, 1_073_741_824, EndKind::Wait)
+        ),
     ]?;
-    let expected = vec![
-        in alloc;
+    let expected = vec![in alloc;
         Reply::Refused(Refusal::LoopTooLong),
         Reply::Refused(Refusal::ZeroStep),
         chunk(i64::MIN, 1),
@@ -135,24 +126,18 @@ fn widest_loops(rt: HostRuntime) -> Result<(), Fail> {
 #[test]
 fn longest_loop(rt: HostRuntime) -> Result<(), Fail> {
     let alloc = rt.alloc();
-    let steps = vec![
-        in alloc;
+    let steps = vec![in alloc;
         by(0, dynamic(1, 0, 549_755_813_889, 1, EndKind::Nowait)),
         by(0, dynamic(1, 0, 549_755_813_888, 1, EndKind::Nowait)),
     ]?;
-    let expected = vec![
-        in alloc;
-        Reply::Refused(Refusal::LoopTooLong),
-        chunk(0, 1),
-    ]?;
+    let expected = vec![in alloc; Reply::Refused(Refusal::LoopTooLong), chunk(0, 1)]?;
     gives(&rt, alloc, 1, steps, expected)
 }
 
 #[test]
 fn ends_of_a_loop(rt: HostRuntime) -> Result<(), Fail> {
     let alloc = rt.alloc();
-    let steps = vec![
-        in alloc;
+    let steps = vec![in alloc;
         by(0, dynamic(3, 0, 4, 1, EndKind::Wait)),
         by(0, Call::LoopEndNowait),
         by(0, Call::LoopEnd),
@@ -162,8 +147,7 @@ fn ends_of_a_loop(rt: HostRuntime) -> Result<(), Fail> {
         by(0, Call::LoopEnd),
         by(0, Call::LoopNext),
     ]?;
-    let expected = vec![
-        in alloc;
+    let expected = vec![in alloc;
         chunk(0, 3),
         Reply::Refused(Refusal::EndDiffers),
         Reply::Refused(Refusal::NotDrained),
@@ -179,8 +163,7 @@ fn ends_of_a_loop(rt: HostRuntime) -> Result<(), Fail> {
 #[test]
 fn ninth_share_waits(rt: HostRuntime) -> Result<(), Fail> {
     let alloc = rt.alloc();
-    let steps = vec![
-        in alloc;
+    let steps = vec![in alloc;
         by(0, dynamic(1, 0, 1, 1, EndKind::Nowait)),
         by(0, Call::LoopNext),
         by(0, Call::LoopEndNowait),
@@ -212,8 +195,7 @@ fn ninth_share_waits(rt: HostRuntime) -> Result<(), Fail> {
         by(1, Call::LoopEndNowait),
         by(0, Call::Resume),
     ]?;
-    let expected = vec![
-        in alloc;
+    let expected = vec![in alloc;
         chunk(0, 1),
         Reply::NoChunk,
         Reply::Finished,
@@ -251,15 +233,13 @@ fn ninth_share_waits(rt: HostRuntime) -> Result<(), Fail> {
 #[test]
 fn other_chunk_size(rt: HostRuntime) -> Result<(), Fail> {
     let alloc = rt.alloc();
-    let steps = vec![
-        in alloc;
+    let steps = vec![in alloc;
         by(0, dynamic(3, 0, 10, 1, EndKind::Wait)),
         by(1, dynamic(2, 0, 10, 1, EndKind::Wait)),
         by(0, Call::LoopNext),
         by(1, Call::RegionEnd),
     ]?;
-    let expected = vec![
-        in alloc;
+    let expected = vec![in alloc;
         chunk(0, 3),
         Reply::Refused(Refusal::Mismatch),
         broken(1, Place::Share(0)),
@@ -271,14 +251,12 @@ fn other_chunk_size(rt: HostRuntime) -> Result<(), Fail> {
 #[test]
 fn other_arrival(rt: HostRuntime) -> Result<(), Fail> {
     let alloc = rt.alloc();
-    let steps = vec![
-        in alloc;
+    let steps = vec![in alloc;
         by(0, Call::Barrier),
         by(1, Call::RegionEnd),
         by(0, Call::Resume),
     ]?;
-    let expected = vec![
-        in alloc;
+    let expected = vec![in alloc;
         Reply::Wait,
         Reply::Refused(Refusal::Mismatch),
         broken(1, Place::Barrier(0)),
@@ -294,7 +272,10 @@ fn one_share_too_many(rt: HostRuntime) -> Result<(), Fail> {
         events: 0,
     };
     let mut team: Team<PlainShares> = Team::with_limits(rt.alloc(), 1, limits)?;
-    assert_eq!(rt; team.step(0, dynamic(1, 0, 1, 1, EndKind::Nowait)), chunk(0, 1));
+    assert_eq!(rt;
+        team.step(0, dynamic(1, 0, 1, 1, EndKind::Nowait)),
+        chunk(0, 1)
+    );
     assert_eq!(rt; team.step(0, Call::LoopNext), Reply::NoChunk);
     assert_eq!(rt; team.step(0, Call::LoopEndNowait), Reply::Finished);
     let reply = team.step(0, dynamic(1, 0, 1, 1, EndKind::Nowait));

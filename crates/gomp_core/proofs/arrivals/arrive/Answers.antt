@@ -1,13 +1,10 @@
-use Rattle.std.proofs.Common.{◌≡◌, ap, ◌∙◌, length}
+use Rattle.std.proofs.Common.{ap, ◌∙◌, length}
 use Rattle.gomp_types.specs.declared.refusal.Place.TheVariants.{Barrier as AtBarrier}
-use Rattle.gomp_types.specs.Events.{entered, passed, barrier_met}
-use Rattle.gomp_types.specs.Record.{begun, tag_with, share_left, ends_share}
-use Rattle.gomp_types.specs.Replies.{Awaits}
+use Rattle.gomp_types.specs.Events.{entered}
+use Rattle.gomp_types.specs.Record.{tag_with}
 use Rattle.gomp_share_plain.specs.declared.Seen.{Seen}
 use Rattle.gomp_barrier.specs.declared.barriers.AtBarrier.{AtBarrier as Sight}
-use Rattle.gomp_barrier.specs.Calls.{arrived_after}
 use Rattle.gomp_barrier.specs.Stands.{Stands as BarriersStand}
-use Rattle.gomp_core.specs.Waits.{arriving}
 use Rattle.gomp_core.proofs.Parts.{arrival_made, arrival_kept, arrival_turned}
 use Rattle.gomp_core.proofs.Answered.{arrive_differs, arrive_answers}
 use Rattle.gomp_core.proofs.arrivals.arrive.Goals as goal
@@ -39,6 +36,7 @@ returns-in-Ok-clause-stands g c = λ h sst bst may.
     let is = ap (λ (s : Seen). tag_with c.args.kind s.entered) e in
     let made = arrival_made (BarriersStand c.args.barriers.now.seats c.args.barriers.now.front) (BarriersStand c.arrive.new.self.seats c.arrive.new.self.front) (c.aside.ensures _ _) c.args.member (entered c.args.member h) c.args.kind _ c.arrive.result h is c.if-not-arrive.false c.arrive.ensures.stands bst in
     let awaits = c.turn.ensures.answer _ made in
-    let left = c.in-Ok.ensures.left h sst may in
-    (arrival_kept (g.S.Shares.stands c.leave.new.shares) (g.met.S.Shares.aside c.leave.new.shares) c.args.member (entered c.args.member h) c.args.kind c.turn.result _ h awaits left.1,
-     arrival_turned (BarriersStand c.turn.new.barriers.seats c.turn.new.barriers.front) c.args.member (entered c.args.member h) c.args.kind c.turn.result _ h awaits (c.turn.ensures.stands _ made))
+    let left = c.in-Ok.ensures.left h sst may in (
+      arrival_kept (g.S.Shares.stands c.leave.new.shares) (g.met.S.Shares.aside c.leave.new.shares) c.args.member (entered c.args.member h) c.args.kind c.turn.result _ h awaits left.1,
+      arrival_turned (BarriersStand c.turn.new.barriers.seats c.turn.new.barriers.front) c.args.member (entered c.args.member h) c.args.kind c.turn.result _ h awaits (c.turn.ensures.stands _ made),
+    )

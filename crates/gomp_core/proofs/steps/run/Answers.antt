@@ -1,9 +1,9 @@
-use Rattle.std.proofs.Common.{◌≡◌, ◌≤◌, ◌<◌, ◌+◌, ◌∙◌, ◌∷◌, ◌++◌, [], List, length, vec_len, refl, ap, sym, subst, arith, length-append}
+use Rattle.std.proofs.Common.{◌≡◌, ◌+◌, ◌∙◌, ◌∷◌, ◌++◌, [], List, length, refl, ap, sym, subst, arith, length-append}
 use Rattle.gomp_types.specs.declared.call.Step.{Step}
 use Rattle.gomp_types.specs.Record.{record_after, events}
 use Rattle.gomp_types.specs.Causes.{Terms, Caused, MayAnswer}
 use Rattle.gomp_types.specs.Headline.{Headline}
-use Rattle.gomp_core.specs.Stands.{Stands, standard_terms, terms_of}
+use Rattle.gomp_core.specs.Stands.{Stands, standard_terms}
 use Rattle.gomp_core.proofs.Stepping.{record_grows, moved_on, all_done, terms_are}
 use Rattle.gomp_core.proofs.steps.run.Given.{Over}
 use Rattle.gomp_core.proofs.steps.run.Goals as goal
@@ -23,7 +23,7 @@ pub push_reserved-requires : goal.push_reserved-requires
 push_reserved-requires g c =
     let inv = c.loop-step.invariant in
     let more : length c.args.steps.items ≡ length c.loop-step.yielded + length (c.in-Some.step ∷ c.next.new.self.rest.items) =
-        ap length (sym inv.all ∙ ap (λ (xs : List Step). c.loop-step.yielded ++ xs) c.in-Some.ensures.steps.0) ∙ length-append c.loop-step.yielded (c.in-Some.step ∷ c.next.new.self.rest.items) in
+    ap length (sym inv.all ∙ ap (λ (xs : List Step). c.loop-step.yielded ++ xs) c.in-Some.ensures.steps.0) ∙ length-append c.loop-step.yielded (c.in-Some.step ∷ c.next.new.self.rest.items) in
     let room = inv.room in let each = inv.each in let ok = c.loop-step.replies.ok in omega arith
 
 pub loop-step-preserved : goal.loop-step-preserved
@@ -32,7 +32,7 @@ loop-step-preserved g c =
     let before = record_after c.loop-step.yielded c.loop-step.replies.items [] in
     let more = record_grows c.loop-step.yielded c.loop-step.replies.items c.in-Some.step c.step.result [] inv.each in
     let answer : MayAnswer (standard_terms c.args.count) before c.in-Some.step c.step.result =
-        subst (λ (terms : Terms). MayAnswer terms before c.in-Some.step c.step.result) (terms_are c.loop-step.team c.args.count inv.members inv.limits) (c.step.ensures.answer before inv.stands) in
+    subst (λ (terms : Terms). MayAnswer terms before c.in-Some.step c.step.result) (terms_are c.loop-step.team c.args.count inv.members inv.limits) (c.step.ensures.answer before inv.stands) in
     record {
       all = sym (moved_on c.loop-step.yielded c.next.new.self.rest.items c.in-Some.step) ∙ ap (λ (xs : List Step). c.loop-step.yielded ++ xs) (sym c.in-Some.ensures.steps.0) ∙ inv.all;
       each = let each = inv.each in rw c.push_reserved.ensures.items (simp length-append (omega arith));

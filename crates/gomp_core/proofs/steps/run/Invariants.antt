@@ -1,4 +1,4 @@
-use Rattle.std.proofs.Common.{◌≡◌, ◌≤◌, ◌++◌, [], length, vec_len}
+use Rattle.std.proofs.Common.{◌≡◌, ◌≤◌, ◌++◌, [], length}
 use Rattle.std.specs.Vec.{vec_capacity}
 use Rattle.gomp_types.specs.Record.{record_after}
 use Rattle.gomp_types.specs.Causes.{Caused}

@@ -1,4 +1,4 @@
-use Rattle.std.proofs.Common.{◌≡◌, ◌∙◌, [], None, length, refl, sym, arith}
+use Rattle.std.proofs.Common.{◌≡◌, ◌∙◌, [], length, refl, sym, arith}
 use Rattle.gomp_core.proofs.Stepping.{fresh, all_none}
 use Rattle.gomp_core.proofs.team.Team.make.Goals as goal
 

@@ -1,4 +1,4 @@
-use Rattle.std.proofs.Common.{◌≡◌, ◌∙◌, ◌∷◌, ◌<◌, ap, sym, subst, refl, length, Option, Some, None}
+use Rattle.std.proofs.Common.{◌≡◌, ◌∙◌, ◌<◌, sym, subst, refl, length, None}
 use Rattle.std.proofs.lemmas.Option.{slice_get_read}
 use Rattle.gomp_types.specs.declared.call.Step.{Step}
 use Rattle.gomp_types.specs.Tests.{first_refusal}
@@ -27,12 +27,12 @@ returns-clause-answer g c = λ before st0.
     let team : TeamView g.row.S.Denot = record { limits = c.self.inside.limits; broken = c.self.inside.broken; waiting = c.self.inside.waiting.items; barriers = c.self.inside.barriers; shares = c.self.inside.shares } in
     let st : Stands g.S.Shares.stands g.S.Shares.members team before = subst (λ (t : TeamView g.row.S.Denot). Stands g.S.Shares.stands g.S.Shares.members t before) (sym c.self.view_is) st0 in
     let none : first_refusal (alone (terms_of team) step (waits_of c.args.member before).open_call (events before)) ≡ None =
-        subst (λ (t : TeamView g.row.S.Denot). first_refusal (alone (terms_of t) step (waits_of c.args.member before).open_call (events before)) ≡ None) (sym c.self.view_is) (sym (c.refusal.ensures before st0) ∙ c.in_default.is) in
+    subst (λ (t : TeamView g.row.S.Denot). first_refusal (alone (terms_of t) step (waits_of c.args.member before).open_call (events before)) ≡ None) (sym c.self.view_is) (sym (c.refusal.ensures before st0) ∙ c.in_default.is) in
     let lt : c.args.member < length c.self.inside.waiting.items = below (terms_of team) step (waits_of c.args.member before).open_call (events before) none in
     let at = slice_get_read c.self.inside.waiting.items _ c.args.member _ refl lt c.index.ensures in
     let may = step_ready g.S.Shares.stands g.S.Shares.members team before step c.index.result.now st at none in
     let answer : IsAnswer (length c.self.inside.waiting.items) (is_resume c.args.call) c.args.member (meant c.args.call (open_call c.index.result.now)) c.answer-answer.result (events before) =
-        rw st.shares_size at (c.answer-answer.ensures.answer (events before) st.shares_are st.barriers_are may) in
+    rw st.shares_size at (c.answer-answer.ensures.answer (events before) st.shares_are st.barriers_are may) in
     rw (← c.self.view_is, c.reply_to-reply.ensures) (step_answered g.S.Shares.stands g.S.Shares.members team before step c.index.result.now c.answer-answer.result st at (c.first_refused.ensures (terms_of team) before step) none answer)
 
 pub returns-clause-stands : goal.returns-clause-stands
@@ -41,12 +41,12 @@ returns-clause-stands g c = λ before st0.
     let team : TeamView g.row.S.Denot = record { limits = c.self.inside.limits; broken = c.self.inside.broken; waiting = c.self.inside.waiting.items; barriers = c.self.inside.barriers; shares = c.self.inside.shares } in
     let st : Stands g.S.Shares.stands g.S.Shares.members team before = subst (λ (t : TeamView g.row.S.Denot). Stands g.S.Shares.stands g.S.Shares.members t before) (sym c.self.view_is) st0 in
     let none : first_refusal (alone (terms_of team) step (waits_of c.args.member before).open_call (events before)) ≡ None =
-        subst (λ (t : TeamView g.row.S.Denot). first_refusal (alone (terms_of t) step (waits_of c.args.member before).open_call (events before)) ≡ None) (sym c.self.view_is) (sym (c.refusal.ensures before st0) ∙ c.in_default.is) in
+    subst (λ (t : TeamView g.row.S.Denot). first_refusal (alone (terms_of t) step (waits_of c.args.member before).open_call (events before)) ≡ None) (sym c.self.view_is) (sym (c.refusal.ensures before st0) ∙ c.in_default.is) in
     let lt : c.args.member < length c.self.inside.waiting.items = below (terms_of team) step (waits_of c.args.member before).open_call (events before) none in
     let at = slice_get_read c.self.inside.waiting.items _ c.args.member _ refl lt c.index.ensures in
     let may = step_ready g.S.Shares.stands g.S.Shares.members team before step c.index.result.now st at none in
     let answer : IsAnswer (length c.self.inside.waiting.items) (is_resume c.args.call) c.args.member (meant c.args.call (open_call c.index.result.now)) c.answer-answer.result (events before) =
-        rw st.shares_size at (c.answer-answer.ensures.answer (events before) st.shares_are st.barriers_are may) in
+    rw st.shares_size at (c.answer-answer.ensures.answer (events before) st.shares_are st.barriers_are may) in
     rw (c.waiting_after.ensures, c.broken_after-self-inside.ensures, c.reply_to-reply.ensures) (stands_answered g.S.Shares.stands g.S.Shares.members team c.answer-answer.new.shares c.answer-answer.new.barriers before step c.index.result.now c.answer-answer.result st at none may answer
     (c.answer-answer.ensures.stands (events before) st.shares_are st.barriers_are may) c.answer-answer.ensures.members c.answer-answer.ensures.seats)
 
