@@ -25,7 +25,7 @@ use Rattle.gomp_share_plain.specs.Calls.{seen_of}
 use Rattle.gomp_loops.specs.OwnTests.{own_tests}
 use Rattle.gomp_loops.specs.Answers.{IsReply}
 use Rattle.gomp_core.specs.Waits.{arriving}
-use Rattle.gomp_core.specs.Answers.{compared, IsReady, IsAnswer}
+use Rattle.gomp_core.specs.Answers.{comparison_tests, IsReady, IsAnswer}
 
 -- Tests in a row
 
@@ -48,7 +48,7 @@ not_false false e = refl
 
 -- A loop call
 
-pub loop_answers : (limits : Limits) (members m : ℕ) (call : Call) (reply : Reply) (h : List Event) → first_refusal (call_tests limits m call h) ≡ None → first_refusal (compared false m call h) ≡ None →
+pub loop_answers : (limits : Limits) (members m : ℕ) (call : Call) (reply : Reply) (h : List Event) → first_refusal (call_tests limits m call h) ≡ None → first_refusal (comparison_tests false m call h) ≡ None →
     IsReply limits members m call reply h → IsAnswer members false m call (Ok reply) h
 loop_answers limits members m call (Refused refusal) h none alone is = absurd (cc)
 loop_answers limits members m call reply h none alone is = (alone, is.1)

@@ -1,6 +1,6 @@
 -- The tests of a step: those that the member can make alone, and then the comparison with the other members.
 use Rattle.std.proofs.Common.{◌≡◌, ℕ, ◌<◌, Bool, true, false, List, [], ◌∷◌, ◌++◌, Option, Some, None, refl, ap, ◌∙◌, subst, arith}
-use Rattle.std.specs.Prelude.{nat_le, is_some}
+use Rattle.std.specs.Prelude.{nat_le, ◌≢◌, is_some}
 use Rattle.std.proofs.lemmas.Bool.Decides.{nat_tests}
 use Rattle.gomp_types.specs.declared.call.Call.{Call}
 use Rattle.gomp_types.specs.declared.call.Call.TheVariants.{LoopStart, LoopNext, LoopEnd, LoopEndNowait, Barrier, RegionEnd, Resume}
@@ -9,7 +9,7 @@ use Rattle.gomp_types.specs.declared.limits.Limits.{Limits}
 use Rattle.gomp_types.specs.declared.refusal.Clash.{Clash}
 use Rattle.gomp_types.specs.declared.refusal.Place.{Place}
 use Rattle.gomp_types.specs.declared.refusal.Refusal.{Refusal}
-use Rattle.gomp_types.specs.declared.refusal.Refusal.TheVariants.{Mismatch, BadMember, Ended, Waiting, NotInside}
+use Rattle.gomp_types.specs.declared.refusal.Refusal.TheVariants.{Mismatch, NoMemory, BadMember, Ended, Waiting, NotInside}
 use Rattle.gomp_types.specs.declared.event.Event.{Event}
 use Rattle.gomp_types.specs.Limits.{capped}
 use Rattle.gomp_types.specs.Tests.{Test, first_refusal}
@@ -23,8 +23,8 @@ use Rattle.gomp_loops.specs.OwnTests.{own_tests}
 use Rattle.gomp_core.specs.declared.waiting.Waiting.{Waiting as Kept}
 use Rattle.gomp_core.specs.declared.waiting.Waiting.TheVariants.{Start, Arrive}
 use Rattle.gomp_core.specs.Waits.{open_call}
-use Rattle.gomp_core.specs.Answers.{own_row, compared, IsReady}
-use Rattle.gomp_core.specs.Stands.{IsTested}
+use Rattle.gomp_core.specs.Answers.{own_row, comparison_tests, IsReady}
+use Rattle.gomp_core.specs.Stands.{MayBeRepeated}
 
 pub front_holds : (tests more : List Test) (refusal : Refusal) → first_refusal tests ≡ Some refusal → first_refusal (tests ++ more) ≡ Some refusal
 front_holds [] more refusal e = absurd (cc)
@@ -48,7 +48,7 @@ none_later ((false, found) ∷ tests) more e = none_later tests more e
 
 -- The row of a call, in its two parts
 
-row_splits : (limits : Limits) (m : ℕ) (call : Call) (waiting : Option Call) (h : List Event) → row_of limits m call waiting h ≡ own_row limits m call waiting h ++ compared (is_resume call) m (meant call waiting) h
+row_splits : (limits : Limits) (m : ℕ) (call : Call) (waiting : Option Call) (h : List Event) → row_of limits m call waiting h ≡ own_row limits m call waiting h ++ comparison_tests (is_resume call) m (meant call waiting) h
 row_splits limits m (LoopStart loop) waiting h = refl
 row_splits limits m LoopNext waiting h = refl
 row_splits limits m LoopEnd waiting h = refl
@@ -73,21 +73,21 @@ abbrev pub alone : Terms → Step → Option Call → List Event → List Test
 alone terms step waiting h = member_tests terms.members step.member h ++ own_row terms.limits step.member step.call waiting h
 
 tests_split : (terms : Terms) (step : Step) (waiting : Option Call) (h : List Event) → capped terms.limits ≡ terms.limits →
-    tests_of terms step waiting h ≡ alone terms step waiting h ++ compared (is_resume step.call) step.member (meant step.call waiting) h
+    tests_of terms step waiting h ≡ alone terms step waiting h ++ comparison_tests (is_resume step.call) step.member (meant step.call waiting) h
 tests_split terms step waiting h small =
     ap (λ (limits : Limits). member_tests terms.members step.member h ++ row_of limits step.member step.call waiting h) small
     ∙ ap (λ (row : List Test). member_tests terms.members step.member h ++ row) (row_splits terms.limits step.member step.call waiting h)
-    ∙ joined (member_tests terms.members step.member h) (own_row terms.limits step.member step.call waiting h) (compared (is_resume step.call) step.member (meant step.call waiting) h)
+    ∙ joined (member_tests terms.members step.member h) (own_row terms.limits step.member step.call waiting h) (comparison_tests (is_resume step.call) step.member (meant step.call waiting) h)
 
 pub refused_alone : (terms : Terms) (step : Step) (waiting : Option Call) (h : List Event) (refusal : Refusal) → capped terms.limits ≡ terms.limits → first_refusal (alone terms step waiting h) ≡ Some refusal →
     first_refusal (tests_of terms step waiting h) ≡ Some refusal
 refused_alone terms step waiting h refusal small is =
-    ap first_refusal (tests_split terms step waiting h small) ∙ front_holds (alone terms step waiting h) (compared (is_resume step.call) step.member (meant step.call waiting) h) refusal is
+    ap first_refusal (tests_split terms step waiting h small) ∙ front_holds (alone terms step waiting h) (comparison_tests (is_resume step.call) step.member (meant step.call waiting) h) refusal is
 
 pub compared_last : (terms : Terms) (step : Step) (waiting : Option Call) (h : List Event) → capped terms.limits ≡ terms.limits → first_refusal (alone terms step waiting h) ≡ None →
-    first_refusal (tests_of terms step waiting h) ≡ first_refusal (compared (is_resume step.call) step.member (meant step.call waiting) h)
+    first_refusal (tests_of terms step waiting h) ≡ first_refusal (comparison_tests (is_resume step.call) step.member (meant step.call waiting) h)
 compared_last terms step waiting h small none =
-    ap first_refusal (tests_split terms step waiting h small) ∙ front_fails (alone terms step waiting h) (compared (is_resume step.call) step.member (meant step.call waiting) h) none
+    ap first_refusal (tests_split terms step waiting h small) ∙ front_fails (alone terms step waiting h) (comparison_tests (is_resume step.call) step.member (meant step.call waiting) h) none
 
 -- What is so where the member's own tests fail
 
@@ -110,7 +110,7 @@ whole terms step waiting h none =
     (none_before (member_tests terms.members step.member h) (own_row terms.limits step.member step.call waiting h) none))
 
 -- the call, or the one that it repeats, may be answered
-row_ready : (limits : Limits) (m : ℕ) (call : Call) (waiting : Option Call) (h : List Event) → first_refusal (own_row limits m call waiting h) ≡ None → IsTested limits m waiting h →
+row_ready : (limits : Limits) (m : ℕ) (call : Call) (waiting : Option Call) (h : List Event) → first_refusal (own_row limits m call waiting h) ≡ None → MayBeRepeated limits m waiting h →
     IsReady limits (is_resume call) m (meant call waiting) h
 row_ready limits m Resume None h none tested = absurd (cc)
 row_ready limits m Resume (Some call) h none tested = tested
@@ -127,7 +127,7 @@ row_ready limits m LoopEndNowait (Some call) h none tested = absurd (cc)
 row_ready limits m Barrier (Some call) h none tested = absurd (cc)
 row_ready limits m RegionEnd (Some call) h none tested = absurd (cc)
 
-pub ready : (terms : Terms) (step : Step) (waiting : Option Call) (h : List Event) → first_refusal (alone terms step waiting h) ≡ None → IsTested terms.limits step.member waiting h →
+pub ready : (terms : Terms) (step : Step) (waiting : Option Call) (h : List Event) → first_refusal (alone terms step waiting h) ≡ None → MayBeRepeated terms.limits step.member waiting h →
     IsReady terms.limits (is_resume step.call) step.member (meant step.call waiting) h
 ready terms step waiting h none tested =
     row_ready terms.limits step.member step.call waiting h (none_later (member_tests terms.members step.member h) (own_row terms.limits step.member step.call waiting h) none) tested
@@ -173,9 +173,10 @@ some_open (Some (Arrive kind)) = refl
 
 -- A refusal by those tests changes nothing
 
--- a refusal that breaks nothing
+-- a refusal that breaks nothing, and is not for want of memory
 abbrev pub IsQuiet : Refusal → Type 0
 IsQuiet Mismatch = ⊥
+IsQuiet NoMemory = ⊥
 IsQuiet _ = Unit {0}
 
 abbrev AllQuiet : List Test → Type 0
@@ -221,3 +222,7 @@ quiet_alone terms step waiting h refusal is =
 pub quiet_adds : (refusal : Refusal) (m : ℕ) (place : Place) (h : List Event) → IsQuiet refusal → refusal_added refusal m place h ≡ h
 quiet_adds Mismatch m place h quiet = absurd quiet
 quiet_adds _ m place h quiet = refl
+
+pub quiet_memory : (refusal : Refusal) → IsQuiet refusal → refusal ≢ NoMemory
+quiet_memory NoMemory quiet = absurd quiet
+quiet_memory _ quiet = λ same. absurd (cc)

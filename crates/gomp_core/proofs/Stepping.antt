@@ -10,7 +10,7 @@ use Rattle.gomp_types.specs.declared.limits.Limits.{Limits}
 use Rattle.gomp_types.specs.declared.refusal.Clash.{Clash}
 use Rattle.gomp_types.specs.declared.refusal.Place.{Place}
 use Rattle.gomp_types.specs.declared.refusal.Refusal.{Refusal}
-use Rattle.gomp_types.specs.declared.refusal.Refusal.TheVariants.{Mismatch}
+use Rattle.gomp_types.specs.declared.refusal.Refusal.TheVariants.{Mismatch, NoMemory}
 use Rattle.gomp_types.specs.declared.reply.Reply.{Reply}
 use Rattle.gomp_types.specs.declared.reply.Reply.TheVariants.{Chunk, NoChunk, Finished, Passed, Wait, Refused}
 use Rattle.gomp_types.specs.declared.shape.Shape.{Shape}
@@ -21,14 +21,14 @@ use Rattle.gomp_types.specs.Tests.{first_refusal}
 use Rattle.gomp_types.specs.Events.{entered, open_share, clash_of}
 use Rattle.gomp_types.specs.Record.{Record, record_after, Waits, waits_of, waits_after, events, added, meant, is_resume, piece_taken, pass_added, refusal_added, since_begun, arrived, share_left, arrival_kind, ends_share, place_of}
 use Rattle.gomp_types.specs.Replies.{MayReply, DealsOut}
-use Rattle.gomp_types.specs.Causes.{Terms, refusal_of, MayAnswer}
+use Rattle.gomp_types.specs.Causes.{Terms, refusal_of, MayAnswer, Caused}
 use Rattle.gomp_barrier.specs.Stands.{BarriersView, Stands as BarriersStand}
 use Rattle.gomp_core.specs.declared.waiting.Waiting.{Waiting}
 use Rattle.gomp_core.specs.declared.waiting.Waiting.TheVariants.{Start, Arrive}
 use Rattle.gomp_core.specs.Waits.{open_call, waiting_after, kept_for}
-use Rattle.gomp_core.specs.Answers.{IsReady, IsAnswer, reply_to, broken_after, Parts}
-use Rattle.gomp_core.specs.Stands.{TeamView, IsTested, WaitStands, Stands, terms_of, standard, standard_terms}
-use Rattle.gomp_core.proofs.Rows.{alone, refused_alone, compared_last, whole, ready, quiet_alone, quiet_adds}
+use Rattle.gomp_core.specs.Answers.{IsReady, IsAnswer, reply_to, broken_after, PartsStand}
+use Rattle.gomp_core.specs.Stands.{TeamView, MayBeRepeated, WaitStands, Stands, terms_of, members_of, standard, standard_terms, NoneForMemory}
+use Rattle.gomp_core.proofs.Rows.{alone, refused_alone, compared_last, whole, ready, quiet_alone, quiet_memory, quiet_adds}
 
 -- A new team
 
@@ -75,16 +75,18 @@ waits_other k step reply before other = at_other step.member k (waits_after repl
 -- A refusal by a test that the member can make alone
 
 pub stands_refused : {S : Type 0} (stands : S → List Event → Type 0) (members : S → ℕ) (team : TeamView S) (before : Record) (step : Step) (refusal : Refusal) → Stands stands members team before →
+    MayAnswer (terms_of team) before step (Refused refusal) →
     first_refusal (alone (terms_of team) step (waits_of step.member before).open_call (events before)) ≡ Some refusal → Stands stands members team ((step, Refused refusal) ∷ before)
-stands_refused stands members team before step refusal st is =
+stands_refused stands members team before step refusal st may is =
     let same : events ((step, Refused refusal) ∷ before) ≡ events before = quiet_adds refusal step.member _ (events before) (quiet_alone (terms_of team) step (waits_of step.member before).open_call (events before) refusal is) in
     record {
+      caused = (may, st.caused);
       shares_are = subst (stands team.shares) (sym same) st.shares_are;
       barriers_are = subst (BarriersStand team.barriers.seats team.barriers.front) (sym same) st.barriers_are;
       broken_is = st.broken_is ∙ ap clash_of (sym same);
       wait = λ k waiting at. let old = st.wait k waiting at in record {
         call_is = ap (λ (w : Waits). w.open_call) (waits_refused k step refusal before) ∙ old.call_is;
-        tested = subst (IsTested team.limits k (open_call waiting)) (sym same) old.tested;
+        tested = subst (MayBeRepeated team.limits k (open_call waiting)) (sym same) old.tested;
       };
       limits_are = st.limits_are;
       shares_size = st.shares_size;
@@ -168,7 +170,7 @@ same_place again k m shares Passed call h other = same_passed k m _ (arrival_kin
 same_place again k m shares Wait call h other = same_since again k m shares call h other
 same_place again k m shares (Refused refusal) call h other = same_refused k m (place_of call m shares h) refusal h
 
-tested_kept : (limits : Limits) (k : ℕ) (waiting : Option Call) (h after : List Event) → SamePlace k h after → IsTested limits k waiting h → IsTested limits k waiting after
+tested_kept : (limits : Limits) (k : ℕ) (waiting : Option Call) (h after : List Event) → SamePlace k h after → MayBeRepeated limits k waiting h → MayBeRepeated limits k waiting after
 tested_kept limits k None h after same tested = tt
 tested_kept limits k (Some (LoopStart loop)) h after same tested = rw (same.number, same.share) tested
 tested_kept limits k (Some LoopNext) h after same tested = tested
@@ -186,7 +188,7 @@ no_wait members m (Some share) h may = may
 
 -- a call that waits may be repeated
 waits_tested : (limits : Limits) (members : ℕ) (again : Bool) (m shares : ℕ) (call : Call) (h : List Event) → IsReady limits again m call h → MayReply members again m call Wait h →
-    IsTested limits m (Some call) (since_begun again m shares call h)
+    MayBeRepeated limits m (Some call) (since_begun again m shares call h)
 waits_tested limits members true m shares (LoopStart loop) h ready may = ready
 waits_tested limits members false m shares (LoopStart loop) h ready may = ready
 waits_tested limits members again m shares LoopNext h ready may = absurd (no_wait members m (open_share m h) h may)
@@ -212,7 +214,7 @@ kept_is members again m RegionEnd waiting h may = refl
 kept_is members again m Resume None h may = absurd may
 kept_is members again m Resume (Some waiting) h may = some_meant waiting
 
-own_wait : (limits : Limits) (members : ℕ) (step : Step) (reply : Reply) (waiting : Option Waiting) (before : Record) → (waits_of step.member before).open_call ≡ open_call waiting → IsTested limits step.member (open_call waiting) (events before) →
+own_wait : (limits : Limits) (members : ℕ) (step : Step) (reply : Reply) (waiting : Option Waiting) (before : Record) → (waits_of step.member before).open_call ≡ open_call waiting → MayBeRepeated limits step.member (open_call waiting) (events before) →
     IsReady limits (is_resume step.call) step.member (meant step.call (open_call waiting)) (events before) →
     MayReply members (is_resume step.call) step.member (meant step.call (open_call waiting)) reply (events before) →
     WaitStands limits step.member (waiting_after reply step.call waiting) ((step, reply) ∷ before)
@@ -266,7 +268,7 @@ clash_after members again m call (Ok reply) broken h is same sound = same ∙ sy
 clash_after members again m call (Err place) broken h is same sound = rw (is.1, sound) refl
 
 -- what is kept of the member's wait, after its answer
-wait_after : (limits : Limits) (members : ℕ) (step : Step) (result : Result Reply Place) (waiting : Option Waiting) (before : Record) → (waits_of step.member before).open_call ≡ open_call waiting → IsTested limits step.member (open_call waiting) (events before) →
+wait_after : (limits : Limits) (members : ℕ) (step : Step) (result : Result Reply Place) (waiting : Option Waiting) (before : Record) → (waits_of step.member before).open_call ≡ open_call waiting → MayBeRepeated limits step.member (open_call waiting) (events before) →
     IsReady limits (is_resume step.call) step.member (meant step.call (open_call waiting)) (events before) →
     IsAnswer members (is_resume step.call) step.member (meant step.call (open_call waiting)) result (events before) →
     WaitStands limits step.member (waiting_after (reply_to result) step.call waiting) ((step, reply_to result) ∷ before)
@@ -288,36 +290,7 @@ slice_get-set (z ∷ xs) (suc i) (suc k) x y at = elim (slice_get-set xs i k x y
   | inr e ↦ inr ((λ same. e.0 (omega arith)), e.1)
 ]
 
--- The team after an answer
-
-pub stands_answered : {S : Type 0} (stands : S → List Event → Type 0) (members : S → ℕ) (team : TeamView S) (shares : S) (barriers : BarriersView) (before : Record) (step : Step) (waiting : Option Waiting) (result : Result Reply Place) →
-    Stands stands members team before → slice_get team.waiting step.member ≡ Some waiting →
-    first_refusal (alone (terms_of team) step (waits_of step.member before).open_call (events before)) ≡ None →
-    IsReady team.limits (is_resume step.call) step.member (meant step.call (open_call waiting)) (events before) →
-    IsAnswer (length team.waiting) (is_resume step.call) step.member (meant step.call (open_call waiting)) result (events before) →
-    Parts stands shares barriers (added (is_resume step.call) step.member (entered step.member (events before)) (reply_to result) (meant step.call (open_call waiting)) (events before)) →
-    members shares ≡ members team.shares → length barriers.seats ≡ length team.barriers.seats →
-    Stands stands members (record { limits = team.limits; broken = broken_after team.broken step.member result; waiting = slice_set team.waiting step.member (waiting_after (reply_to result) step.call waiting); barriers = barriers; shares = shares }) ((step, reply_to result) ∷ before)
-stands_answered stands members team shares barriers before step waiting result st at none ready answer parts shares_same barriers_same =
-    let own = st.wait step.member waiting at in
-    let adds : events ((step, reply_to result) ∷ before) ≡ added (is_resume step.call) step.member (entered step.member (events before)) (reply_to result) (meant step.call (open_call waiting)) (events before) =
-    ap (λ (w : Option Call). added (is_resume step.call) step.member (entered step.member (events before)) (reply_to result) (meant step.call w) (events before)) own.call_is in
-    record {
-      shares_are = subst (stands shares) (sym adds) parts.0;
-      barriers_are = subst (BarriersStand barriers.seats barriers.front) (sym adds) parts.1;
-      broken_is = clash_after (length team.waiting) (is_resume step.call) step.member (meant step.call (open_call waiting)) result team.broken (events before) answer st.broken_is (whole (terms_of team) step (waits_of step.member before).open_call (events before) none) ∙ ap clash_of (sym adds);
-      wait = λ k other there. elim (slice_get-set team.waiting step.member k (waiting_after (reply_to result) step.call waiting) other there) [
-        | inl e ↦ rw (e.0, e.1) (wait_after team.limits (length team.waiting) step result waiting before own.call_is own.tested ready answer)
-        | inr e ↦ let old = st.wait k other e.1 in record {
-          call_is = ap (λ (w : Waits). w.open_call) (waits_other k step (reply_to result) before e.0) ∙ old.call_is;
-          tested = subst (IsTested team.limits k (open_call other)) (sym adds)
-              (tested_kept team.limits k (open_call other) (events before) _ (same_place (is_resume step.call) k step.member (entered step.member (events before)) (reply_to result) (meant step.call (open_call waiting)) (events before) e.0) old.tested);
-        }
-      ];
-      limits_are = st.limits_are;
-      shares_size = shares_same ∙ st.shares_size ∙ sym (length-set team.waiting step.member _);
-      barriers_size = barriers_same ∙ st.barriers_size ∙ sym (length-set team.waiting step.member _);
-    }
+-- A step that none of those tests refuses, and its answer
 
 -- a step that no test of the member alone refuses
 pub step_ready : {S : Type 0} (stands : S → List Event → Type 0) (members : S → ℕ) (team : TeamView S) (before : Record) (step : Step) (waiting : Option Waiting) → Stands stands members team before → slice_get team.waiting step.member ≡ Some waiting →
@@ -326,16 +299,55 @@ pub step_ready : {S : Type 0} (stands : S → List Event → Type 0) (members : 
 step_ready stands members team before step waiting st at none =
     let own = st.wait step.member waiting at in
     subst (λ (w : Option Call). IsReady team.limits (is_resume step.call) step.member (meant step.call w) (events before)) own.call_is
-    (ready (terms_of team) step (waits_of step.member before).open_call (events before) none (subst (λ (w : Option Call). IsTested team.limits step.member w (events before)) (sym own.call_is) own.tested))
+    (ready (terms_of team) step (waits_of step.member before).open_call (events before) none (subst (λ (w : Option Call). MayBeRepeated team.limits step.member w (events before)) (sym own.call_is) own.tested))
+
+-- what is known of such a step, of a member that waits for this, and of its answer
+pub record Admitted {S : Type 0} (stands : S → List Event → Type 0) (members : S → ℕ) (team : TeamView S) (before : Record) (step : Step) (waiting : Option Waiting) (result : Result Reply Place) : Type 0 where
+  pub stand : Stands stands members team before
+  pub at : slice_get team.waiting step.member ≡ Some waiting
+  pub none : first_refusal (alone (terms_of team) step (waits_of step.member before).open_call (events before)) ≡ None
+  pub may : IsReady team.limits (is_resume step.call) step.member (meant step.call (open_call waiting)) (events before)
+  pub answer : IsAnswer (members_of team) (is_resume step.call) step.member (meant step.call (open_call waiting)) result (events before)
+
+-- a refusal has its cause where it is the first test that holds
+abbrev pub RefusedFirst : Terms → Record → Step → Type 0
+RefusedFirst terms before step = (refusal : Refusal) → refusal_of terms step (waits_of step.member before).open_call (events before) ≡ Some refusal → MayAnswer terms before step (Refused refusal)
 
 pub step_answered : {S : Type 0} (stands : S → List Event → Type 0) (members : S → ℕ) (team : TeamView S) (before : Record) (step : Step) (waiting : Option Waiting) (result : Result Reply Place) →
-    Stands stands members team before → slice_get team.waiting step.member ≡ Some waiting →
-    ((refusal : Refusal) → refusal_of (terms_of team) step (waits_of step.member before).open_call (events before) ≡ Some refusal → MayAnswer (terms_of team) before step (Refused refusal)) →
-    first_refusal (alone (terms_of team) step (waits_of step.member before).open_call (events before)) ≡ None →
-    IsAnswer (length team.waiting) (is_resume step.call) step.member (meant step.call (open_call waiting)) result (events before) → MayAnswer (terms_of team) before step (reply_to result)
-step_answered stands members team before step waiting result st at law none answer =
-    answered (terms_of team) before step result st.limits_are law none
-    (subst (λ (w : Option Call). IsAnswer (length team.waiting) (is_resume step.call) step.member (meant step.call w) result (events before)) (sym (st.wait step.member waiting at).call_is) answer)
+    Admitted stands members team before step waiting result → RefusedFirst (terms_of team) before step → MayAnswer (terms_of team) before step (reply_to result)
+step_answered stands members team before step waiting result admitted law =
+    answered (terms_of team) before step result admitted.stand.limits_are law admitted.none
+    (subst (λ (w : Option Call). IsAnswer (members_of team) (is_resume step.call) step.member (meant step.call w) result (events before)) (sym (admitted.stand.wait step.member waiting admitted.at).call_is) admitted.answer)
+
+pub stands_answered : {S : Type 0} (stands : S → List Event → Type 0) (members : S → ℕ) (team : TeamView S) (shares : S) (barriers : BarriersView) (before : Record) (step : Step) (waiting : Option Waiting) (result : Result Reply Place) →
+    Admitted stands members team before step waiting result → RefusedFirst (terms_of team) before step →
+    PartsStand stands shares barriers (added (is_resume step.call) step.member (entered step.member (events before)) (reply_to result) (meant step.call (open_call waiting)) (events before)) →
+    members shares ≡ members team.shares → length barriers.seats ≡ length team.barriers.seats →
+    Stands stands members (record { limits = team.limits; broken = broken_after team.broken step.member result; waiting = slice_set team.waiting step.member (waiting_after (reply_to result) step.call waiting); barriers = barriers; shares = shares }) ((step, reply_to result) ∷ before)
+stands_answered stands members team shares barriers before step waiting result admitted law parts shares_same barriers_same =
+    let st = admitted.stand in
+    let own = st.wait step.member waiting admitted.at in
+    let adds : events ((step, reply_to result) ∷ before) ≡ added (is_resume step.call) step.member (entered step.member (events before)) (reply_to result) (meant step.call (open_call waiting)) (events before) =
+    ap (λ (w : Option Call). added (is_resume step.call) step.member (entered step.member (events before)) (reply_to result) (meant step.call w) (events before)) own.call_is in
+    let size : length (slice_set team.waiting step.member (waiting_after (reply_to result) step.call waiting)) ≡ length team.waiting = length-set team.waiting step.member (waiting_after (reply_to result) step.call waiting) in
+    record {
+      caused = subst (λ (n : ℕ). Caused (record { members = n; limits = team.limits; cancellation = false }) ((step, reply_to result) ∷ before)) (sym size)
+          (step_answered stands members team before step waiting result admitted law, st.caused);
+      shares_are = subst (stands shares) (sym adds) parts.0;
+      barriers_are = subst (BarriersStand barriers.seats barriers.front) (sym adds) parts.1;
+      broken_is = clash_after (members_of team) (is_resume step.call) step.member (meant step.call (open_call waiting)) result team.broken (events before) admitted.answer st.broken_is (whole (terms_of team) step (waits_of step.member before).open_call (events before) admitted.none) ∙ ap clash_of (sym adds);
+      wait = λ k other there. elim (slice_get-set team.waiting step.member k (waiting_after (reply_to result) step.call waiting) other there) [
+        | inl e ↦ rw (e.0, e.1) (wait_after team.limits (members_of team) step result waiting before own.call_is own.tested admitted.may admitted.answer)
+        | inr e ↦ let old = st.wait k other e.1 in record {
+          call_is = ap (λ (w : Waits). w.open_call) (waits_other k step (reply_to result) before e.0) ∙ old.call_is;
+          tested = subst (MayBeRepeated team.limits k (open_call other)) (sym adds)
+              (tested_kept team.limits k (open_call other) (events before) _ (same_place (is_resume step.call) k step.member (entered step.member (events before)) (reply_to result) (meant step.call (open_call waiting)) (events before) e.0) old.tested);
+        }
+      ];
+      limits_are = st.limits_are;
+      shares_size = shares_same ∙ st.shares_size ∙ sym size;
+      barriers_size = barriers_same ∙ st.barriers_size ∙ sym size;
+    }
 
 -- A list of steps
 
@@ -362,3 +374,22 @@ all_done yielded (s ∷ rest) steps e none = absurd (omega arith)
 -- the terms of a team of this size with the standard limits
 pub terms_are : {S : Type 0} (team : TeamView S) (count : ℕ) → length team.waiting ≡ count → team.limits ≡ standard → terms_of team ≡ standard_terms count
 terms_are team count members limits = rw (members, limits) refl
+
+-- No reply for want of memory
+
+no_refusal_kept : (reply : Reply) (members : ℕ) (again : Bool) (m : ℕ) (call : Call) (h : List Event) → MayReply members again m call reply h → reply ≢ Refused NoMemory
+no_refusal_kept (Refused refusal) members again m call h may = absurd (no_refusal members again m call refusal h may)
+no_refusal_kept _ members again m call h may = λ same. absurd (cc)
+
+pub answer_memory : (members : ℕ) (again : Bool) (m : ℕ) (call : Call) (result : Result Reply Place) (h : List Event) → IsAnswer members again m call result h → reply_to result ≢ Refused NoMemory
+answer_memory members again m call (Ok reply) h is = no_refusal_kept reply members again m call h is.1
+answer_memory members again m call (Err place) h is = λ same. absurd (cc)
+
+pub refused_memory : (terms : Terms) (step : Step) (waiting : Option Call) (h : List Event) (refusal : Refusal) → first_refusal (alone terms step waiting h) ≡ Some refusal → Refused refusal ≢ Refused NoMemory
+refused_memory terms step waiting h refusal is same =
+    let one : refusal ≡ NoMemory = cc in
+    absurd (quiet_memory refusal (quiet_alone terms step waiting h refusal is) one)
+
+pub memory_more : (replies : List Reply) (reply : Reply) → NoneForMemory replies → reply ≢ Refused NoMemory → NoneForMemory (replies ++ reply ∷ [])
+memory_more [] reply all one = (one, tt)
+memory_more (first ∷ replies) reply all one = (all.0, memory_more replies reply all.1 one)

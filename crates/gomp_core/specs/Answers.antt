@@ -29,22 +29,22 @@ abbrev pub own_row : Limits → ℕ → Call → Option Call → List Event → 
 own_row limits m Resume waiting h = (is_none waiting, NotInside) ∷ []
 own_row limits m call waiting h = (is_some waiting, Waiting) ∷ own_tests limits (seen_of m h) call
 
--- an arrival is compared with those of the other members once
-abbrev pub arrival_compared : Bool → Arrival → ℕ → List Event → List Test
-arrival_compared true kind m h = []
-arrival_compared false kind m h = arrival_tests kind m h
+-- an arrival is compared with those of the other members once, when it is made
+abbrev pub arrival_comparison : Bool → Arrival → ℕ → List Event → List Test
+arrival_comparison true kind m h = []
+arrival_comparison false kind m h = arrival_tests kind m h
 
--- by the other members' constructs
-abbrev pub compared : Bool → ℕ → Call → List Event → List Test
-compared again m (LoopStart loop) h = start_tests m loop h
-compared again m LoopEnd h = arrival_compared again ShareEnd m h
-compared again m Barrier h = arrival_compared again BarrierArrival m h
-compared again m RegionEnd h = arrival_compared again RegionEndArrival m h
-compared again m _ h = []
+-- by the other members' constructs; `again` where the call is repeated
+abbrev pub comparison_tests : Bool → ℕ → Call → List Event → List Test
+comparison_tests again m (LoopStart loop) h = start_tests m loop h
+comparison_tests again m LoopEnd h = arrival_comparison again ShareEnd m h
+comparison_tests again m Barrier h = arrival_comparison again BarrierArrival m h
+comparison_tests again m RegionEnd h = arrival_comparison again RegionEndArrival m h
+comparison_tests again m _ h = []
 
 -- Answers
 
--- a call that can wait; where it is a start, its own tests were made and failed
+-- a call that can wait; where it is a start, none of its own tests holds
 abbrev pub MayWait : Limits → ℕ → Call → List Event → Type 0
 MayWait limits m (LoopStart loop) h = first_refusal (own_tests limits (seen_of m h) (LoopStart loop)) ≡ None
 MayWait limits m LoopEnd h = Unit {0}
@@ -52,7 +52,7 @@ MayWait limits m Barrier h = Unit {0}
 MayWait limits m RegionEnd h = Unit {0}
 MayWait limits m _ h = ⊥
 
--- no test that the member can make alone holds of its call, or of the one that it repeats
+-- none of the tests that come before the comparison holds; `again` where a resume repeats a call that waits
 abbrev pub IsReady : Limits → Bool → ℕ → Call → List Event → Type 0
 IsReady limits false m call h = first_refusal (own_tests limits (seen_of m h) call) ≡ None
 IsReady limits true m call h = MayWait limits m call h
@@ -65,9 +65,9 @@ MayLeave _ m h = Unit {0}
 -- the answer is the place where the construct differs, or else a reply that the call may be given
 abbrev pub IsAnswer : ℕ → Bool → ℕ → Call → Result Reply Place → List Event → Type 0
 IsAnswer members again m call (Err place) h =
-    (first_refusal (compared again m call h) ≡ Some Mismatch) × (place ≡ place_of call m (entered m h) h)
+    (first_refusal (comparison_tests again m call h) ≡ Some Mismatch) × (place ≡ place_of call m (entered m h) h)
 IsAnswer members again m call (Ok reply) h =
-    (first_refusal (compared again m call h) ≡ None) × MayReply members again m call reply h
+    (first_refusal (comparison_tests again m call h) ≡ None) × MayReply members again m call reply h
 
 abbrev pub reply_to : Result Reply Place → Reply
 reply_to (Ok reply) = reply
@@ -86,9 +86,9 @@ passed_after _ m h = h
 -- The parts of a team
 
 -- the shares and the barriers stand for these events
-abbrev pub Parts : {S : Type 0} → (S → List Event → Type 0) → S → BarriersView → List Event → Type 0
-Parts stands shares barriers h = stands shares h × BarriersStand barriers.seats barriers.front h
+abbrev pub PartsStand : {S : Type 0} → (S → List Event → Type 0) → S → BarriersView → List Event → Type 0
+PartsStand stands shares barriers h = stands shares h × BarriersStand barriers.seats barriers.front h
 
 -- of each list of events that both stand for, this holds
-abbrev pub EachPart : {S : Type 0} → (S → List Event → Type 0) → S → BarriersView → (List Event → Type 0) → Type 0
-EachPart stands shares barriers P = (h : List Event) → stands shares h → BarriersStand barriers.seats barriers.front h → P h
+abbrev pub EachPartsStand : {S : Type 0} → (S → List Event → Type 0) → S → BarriersView → (List Event → Type 0) → Type 0
+EachPartsStand stands shares barriers P = (h : List Event) → stands shares h → BarriersStand barriers.seats barriers.front h → P h

@@ -1,4 +1,4 @@
-//! What a member is answered once no test that it can make alone holds.
+//! What a member is answered where no test before the comparison with other members holds.
 
 ghost use Rattle.std.specs.Prelude.{◌≡◌, ◌<◌, ℕ, List, length, false, IsTrue, ◌↔◌};
 ghost use Rattle.gomp_types.specs.declared.call.Call.TheVariants.{LoopStart};
@@ -9,7 +9,7 @@ ghost use Rattle.gomp_types.specs.Events.{entered};
 ghost use Rattle.gomp_types.specs.Record.{added, shown, meant, is_resume};
 ghost use Rattle.gomp_share_plain.specs.Calls.{EachStands};
 ghost use Rattle.gomp_core.specs.Waits.{open_call};
-ghost use Rattle.gomp_core.specs.Answers.{EachPart, Parts, IsReady, IsAnswer, reply_to, broken_after};
+ghost use Rattle.gomp_core.specs.Answers.{EachPartsStand, PartsStand, IsReady, IsAnswer, reply_to, broken_after};
 
 use crate::arrivals::{arrive, turn};
 use crate::waiting::Waiting;
@@ -33,8 +33,8 @@ pub fn answer<S: Shares>(
     requires team { length barriers.old.seats ≡ S.members shares.old }
     ensures members { S.members shares.new ≡ S.members shares.old }
     ensures seats { length barriers.new.seats ≡ length barriers.old.seats }
-    ensures answer { EachPart S.stands shares.old barriers.old (λ h. IsReady limits.now (is_resume call.now) member (meant call.now (open_call waiting.now)) h → IsAnswer (S.members shares.old) (is_resume call.now) member (meant call.now (open_call waiting.now)) result h) }
-    ensures stands { EachPart S.stands shares.old barriers.old (λ h. IsReady limits.now (is_resume call.now) member (meant call.now (open_call waiting.now)) h → Parts S.stands shares.new barriers.new (added (is_resume call.now) member (entered member h) (reply_to result) (meant call.now (open_call waiting.now)) h)) }
+    ensures answer { EachPartsStand S.stands shares.old barriers.old (λ h. IsReady limits.now (is_resume call.now) member (meant call.now (open_call waiting.now)) h → IsAnswer (S.members shares.old) (is_resume call.now) member (meant call.now (open_call waiting.now)) result h) }
+    ensures stands { EachPartsStand S.stands shares.old barriers.old (λ h. IsReady limits.now (is_resume call.now) member (meant call.now (open_call waiting.now)) h → PartsStand S.stands shares.new barriers.new (added (is_resume call.now) member (entered member h) (reply_to result) (meant call.now (open_call waiting.now)) h)) }
 {
     gomp_barrier::aside();
     match call {
@@ -47,6 +47,7 @@ pub fn answer<S: Shares>(
         Call::Resume => match waiting {
             Some(Waiting::Start(desc)) => start(shares, member, limits, desc),
             Some(Waiting::Arrive(_)) => Ok(turn(barriers, member)),
+            // Not where the call is ready: this is the first test of its row.
             None => Ok(Reply::Refused(Refusal::NotInside)),
         },
     }
@@ -105,7 +106,7 @@ fn is_mismatch(reply: &Reply) -> bool
     matches!(reply, Reply::Refused(Refusal::Mismatch))
 }
 
-/// The place of this share. Its number is as it is shown, since it fits in its type.
+/// The place of this share. A place shows a number up to the largest `u64`, and so this one as it is.
 fn at_share(number: u64) -> Place
     ensures { result ≡ Share (shown number) }
 {

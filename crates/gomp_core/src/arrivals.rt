@@ -11,17 +11,17 @@ ghost use Rattle.gomp_types.specs.Replies.{Awaits};
 ghost use Rattle.gomp_share_plain.specs.Calls.{EachStands};
 ghost use Rattle.gomp_barrier.specs.Stands.{Stands as BarriersStand};
 ghost use Rattle.gomp_core.specs.Waits.{arriving};
-ghost use Rattle.gomp_core.specs.Answers.{EachPart, Parts, MayLeave, IsAnswer, reply_to, passed_after};
+ghost use Rattle.gomp_core.specs.Answers.{EachPartsStand, PartsStand, MayLeave, IsAnswer, reply_to, passed_after};
 
 use gomp_barrier::Barriers;
 use gomp_share_plain::Shares;
 use gomp_types::{Arrival, Place, Refusal, Reply, Tag};
 
-/// The member arrives at its next barrier, and passes it where it is the last one. A loop that ends
-/// there is left first.
+/// The member arrives at its next barrier, and passes it where all have arrived. Where a loop ends
+/// there, the member has left it before it arrives.
 ///
-/// The error is the place where its arrival differs from those of other members; then nothing has
-/// changed.
+/// The error is the place where its arrival differs from those of other members; then it stays where
+/// it is, in its loop too, and so the arrival is compared before the loop is left.
 pub fn arrive<S: Shares>(
     shares: &mut S,
     barriers: &mut Barriers,
@@ -32,8 +32,8 @@ pub fn arrive<S: Shares>(
     requires barriers { member < length barriers.old.seats }
     ensures members { S.members shares.new ≡ S.members shares.old }
     ensures seats { length barriers.new.seats ≡ length barriers.old.seats }
-    ensures answer { EachPart S.stands shares.old barriers.old (λ h. MayLeave kind member h → IsAnswer (length barriers.old.seats) false member (arriving kind) result h) }
-    ensures stands { EachPart S.stands shares.old barriers.old (λ h. MayLeave kind member h → Parts S.stands shares.new barriers.new (added false member (entered member h) (reply_to result) (arriving kind) h)) }
+    ensures answer { EachPartsStand S.stands shares.old barriers.old (λ h. MayLeave kind member h → IsAnswer (length barriers.old.seats) false member (arriving kind) result h) }
+    ensures stands { EachPartsStand S.stands shares.old barriers.old (λ h. MayLeave kind member h → PartsStand S.stands shares.new barriers.new (added false member (entered member h) (reply_to result) (arriving kind) h)) }
 {
     gomp_barrier::aside();
     let tag = Tag {
@@ -45,6 +45,7 @@ pub fn arrive<S: Shares>(
     }
     match leave(shares, member, kind) {
         Ok(()) => Ok(turn(barriers, member)),
+        // Not where `MayLeave` holds, as `answer` sees to.
         Err(refusal) => Ok(Reply::Refused(refusal)),
     }
 }

@@ -8,7 +8,7 @@ ghost use Rattle.gomp_types.specs.Causes.{Caused};
 ghost use Rattle.gomp_types.specs.Deals.{schedule};
 ghost use Rattle.gomp_types.specs.Rules.{Always};
 ghost use Rattle.gomp_types.specs.Laws.{TakenOnce, WholeWhereOver, SameShares, SameArrivals, TellsShares, PassesLast};
-ghost use Rattle.gomp_core.specs.Stands.{Stands, standard_terms};
+ghost use Rattle.gomp_core.specs.Stands.{Stands, terms_of, standard_terms, NoneForMemory};
 
 use crate::team::Team;
 use gomp_share_plain::Shares;
@@ -33,6 +33,8 @@ pub fn run<S: Shares + Drop>(
     ensures size { result ≡ Err BadTeam ↔ ((1 ≤ count) × (count ≤ 64) → ⊥) }
     ensures refused { (refusal : Refusal) → result ≡ Err refusal → (refusal ≡ BadTeam) ⊎ (refusal ≡ NoMemory) }
     ensures each { IfOk result (λ ran. vec_len ran.1 ≡ length steps.items) }
+    ensures terms { IfOk result (λ ran. terms_of ran.0 ≡ standard_terms count) }
+    ensures memory { IfOk result (λ ran. NoneForMemory ran.1.items) }
     ensures caused { IfOk result (λ ran. Caused (standard_terms count) (record_after steps.items ran.1.items [])) }
     ensures stands { IfOk result (λ ran. Stands S.stands S.members ran.0 (record_after steps.items ran.1.items [])) }
     ensures taken_once { IfOk result (λ ran. TakenOnce (schedule count) (events (record_after steps.items ran.1.items []))) }

@@ -1,15 +1,17 @@
 //! A team that one thread steps.
 
-ghost use Rattle.std.specs.Prelude.{◌≡◌, ◌<◌, ◌≤◌, ◌↔◌, ◌⊎◌, ◌∷◌, ◌++◌, [], length, IfOk, Err};
+ghost use Rattle.std.specs.Prelude.{◌≡◌, ◌≢◌, ◌<◌, ◌≤◌, ◌↔◌, ◌⊎◌, ◌∷◌, ◌++◌, [], length, IfOk, Err};
 ghost use Rattle.gomp_types.specs.declared.refusal.Refusal.{Refusal};
 ghost use Rattle.gomp_types.specs.declared.refusal.Refusal.TheVariants.{BadTeam, NoMemory};
 ghost use Rattle.gomp_types.specs.Limits.{capped};
 ghost use Rattle.gomp_types.specs.Tests.{first_refusal};
 ghost use Rattle.gomp_types.specs.Record.{Record, events, waits_of};
 ghost use Rattle.gomp_types.specs.Refusals.{member_tests};
+ghost use Rattle.gomp_types.specs.declared.reply.Reply.TheVariants.{Refused};
 ghost use Rattle.gomp_types.specs.Causes.{MayAnswer};
+ghost use Rattle.gomp_types.specs.Headline.{Headline};
 ghost use Rattle.gomp_core.specs.Answers.{own_row};
-ghost use Rattle.gomp_core.specs.Stands.{Stands, standard, terms_of};
+ghost use Rattle.gomp_core.specs.Stands.{Stands, standard, terms_of, members_of};
 
 use crate::answer::{answer, broken_after, reply_to};
 use crate::waiting::{Waiting, waiting_after};
@@ -51,7 +53,7 @@ impl<S: Shares> Team<S> {
     pub fn new(alloc: Global, count: u16) -> Result<Team<S>, Refusal>
         ensures size { result ≡ Err BadTeam ↔ ((1 ≤ count) × (count ≤ 64) → ⊥) }
         ensures refused { (refusal : Refusal) → result ≡ Err refusal → (refusal ≡ BadTeam) ⊎ (refusal ≡ NoMemory) }
-        ensures members { IfOk result (λ team. length team.waiting ≡ count) }
+        ensures members { IfOk result (λ team. members_of team ≡ count) }
         ensures limits { IfOk result (λ team. team.limits ≡ standard) }
         ensures stands { IfOk result (λ team. Stands S.stands S.members team []) }
     {
@@ -64,7 +66,7 @@ impl<S: Shares> Team<S> {
     pub fn with_limits(alloc: Global, count: u16, limits: Limits) -> Result<Team<S>, Refusal>
         ensures size { result ≡ Err BadTeam ↔ ((1 ≤ count) × (count ≤ 64) → ⊥) }
         ensures refused { (refusal : Refusal) → result ≡ Err refusal → (refusal ≡ BadTeam) ⊎ (refusal ≡ NoMemory) }
-        ensures members { IfOk result (λ team. length team.waiting ≡ count) }
+        ensures members { IfOk result (λ team. members_of team ≡ count) }
         ensures limits { IfOk result (λ team. team.limits ≡ capped limits) }
         ensures stands { IfOk result (λ team. Stands S.stands S.members team []) }
     {
@@ -80,7 +82,7 @@ impl<S: Shares> Team<S> {
     fn make(alloc: Global, count: u16, limits: Limits) -> Result<Team<S>, AllocError>
         requires size { 0 < count }
         requires capped { capped limits ≡ limits }
-        ensures members { IfOk result (λ team. length team.waiting ≡ count) }
+        ensures members { IfOk result (λ team. members_of team ≡ count) }
         ensures limits { IfOk result (λ team. team.limits ≡ limits) }
         ensures stands { IfOk result (λ team. Stands S.stands S.members team []) }
     {
@@ -94,14 +96,17 @@ impl<S: Shares> Team<S> {
         })
     }
 
-    /// The reply to one call of one member. It takes no memory.
+    /// The reply to one call of one member, numbered from 0: the one that has its cause in what was
+    /// asked and answered before. [`Call`] says what each call is, [`Refusal`] when each refusal
+    /// comes; after one the team is as before, save that `Mismatch` (E35) breaks it.
     ///
-    /// The reply is the one that has its cause in what was asked and answered before; after a
-    /// refusal the team is as before, save that `Mismatch` (E35) breaks it.
+    /// It takes no memory, so `NoMemory` (E37) is no answer to any call here. Which replies have a
+    /// cause is `MayAnswer` in specs/Causes.antt of gomp_types (OpenMP API 5.2, chapters 11 and 15).
     pub fn step(&mut self, member: u16, call: Call) -> Reply
         ensures known { (before : Record) × Stands S.stands S.members self.old before }
-        ensures members { length self.new.waiting ≡ length self.old.waiting }
+        ensures members { members_of self.new ≡ members_of self.old }
         ensures limits { self.new.limits ≡ self.old.limits }
+        ensures memory { result ≢ Refused NoMemory }
         ensures answer { (before : Record) → Stands S.stands S.members self.old before → MayAnswer (terms_of self.old) before (record { member = member; call = call }) result }
         ensures stands { (before : Record) → Stands S.stands S.members self.old before → Stands S.stands S.members self.new ((record { member = member; call = call }, result) ∷ before) }
     {
@@ -110,7 +115,7 @@ impl<S: Shares> Team<S> {
             return Reply::Refused(refusal);
         }
         let waiting = self.waiting[member as usize];
-        let answer = answer(
+        let outcome = answer(
             &mut self.shares,
             &mut self.barriers,
             &self.limits,
@@ -118,16 +123,26 @@ impl<S: Shares> Team<S> {
             &call,
             &waiting,
         );
-        self.broken = broken_after(self.broken, member, &answer);
-        let reply = reply_to(answer);
+        self.broken = broken_after(self.broken, member, &outcome);
+        let reply = reply_to(outcome);
         self.waiting[member as usize] = waiting_after(&reply, &call, waiting);
         reply
     }
 
-    /// The first test of the step that holds, of those that the member can make alone: all of them
-    /// but the comparison with other members, which stands last in each row.
+    /// Whatever was asked: no iteration is taken twice, a loop that all members end had every
+    /// iteration taken, all members go through the same constructs in the same order, and no member
+    /// passes a barrier before all arrived.
+    pub fn laws(&self)
+        ensures known { (before : Record) × Stands S.stands S.members self.now before }
+        ensures laws { (before : Record) → Stands S.stands S.members self.now before → Headline (members_of self.now) (events before) }
+    {
+        let _ = &self.waiting;
+        laws::headline();
+    }
+
+    /// The first test of the step that holds, of all but `Mismatch`, which stands last in each row.
     fn refusal(&self, member: u16, call: &Call) -> Option<Refusal>
-        ensures { (before : Record) → Stands S.stands S.members self.now before → result ≡ first_refusal (member_tests (length self.now.waiting) member (events before) ++ own_row self.now.limits member call.now (waits_of member before).open_call (events before)) }
+        ensures { (before : Record) → Stands S.stands S.members self.now before → result ≡ first_refusal (member_tests (members_of self.now) member (events before) ++ own_row self.now.limits member call.now (waits_of member before).open_call (events before)) }
     {
         if member as usize >= self.waiting.len() {
             return Some(Refusal::BadMember);

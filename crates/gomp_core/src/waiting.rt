@@ -26,6 +26,7 @@ pub fn waiting_after(reply: &Reply, call: &Call, waiting: Option<Waiting>) -> Op
             Call::Barrier => Some(Waiting::Arrive(Arrival::Barrier)),
             Call::RegionEnd => Some(Waiting::Arrive(Arrival::RegionEnd)),
             Call::Resume => waiting,
+            // These never wait.
             Call::LoopNext | Call::LoopEndNowait => None,
         },
         Reply::Refused(_) => waiting,

@@ -163,70 +163,28 @@ fn ends_of_a_loop(rt: HostRuntime) -> Result<(), Fail> {
 #[test]
 fn ninth_share_waits(rt: HostRuntime) -> Result<(), Fail> {
     let alloc = rt.alloc();
-    let steps = vec![in alloc;
-        by(0, dynamic(1, 0, 1, 1, EndKind::Nowait)),
-        by(0, Call::LoopNext),
-        by(0, Call::LoopEndNowait),
-        by(0, dynamic(1, 0, 1, 1, EndKind::Nowait)),
-        by(0, Call::LoopNext),
-        by(0, Call::LoopEndNowait),
-        by(0, dynamic(1, 0, 1, 1, EndKind::Nowait)),
-        by(0, Call::LoopNext),
-        by(0, Call::LoopEndNowait),
-        by(0, dynamic(1, 0, 1, 1, EndKind::Nowait)),
-        by(0, Call::LoopNext),
-        by(0, Call::LoopEndNowait),
-        by(0, dynamic(1, 0, 1, 1, EndKind::Nowait)),
-        by(0, Call::LoopNext),
-        by(0, Call::LoopEndNowait),
-        by(0, dynamic(1, 0, 1, 1, EndKind::Nowait)),
-        by(0, Call::LoopNext),
-        by(0, Call::LoopEndNowait),
-        by(0, dynamic(1, 0, 1, 1, EndKind::Nowait)),
-        by(0, Call::LoopNext),
-        by(0, Call::LoopEndNowait),
-        by(0, dynamic(1, 0, 1, 1, EndKind::Nowait)),
-        by(0, Call::LoopNext),
-        by(0, Call::LoopEndNowait),
-        by(0, dynamic(1, 0, 1, 1, EndKind::Nowait)),
-        by(0, Call::LoopNext),
-        by(1, dynamic(1, 0, 1, 1, EndKind::Nowait)),
-        by(0, Call::Resume),
-        by(1, Call::LoopEndNowait),
-        by(0, Call::Resume),
-    ]?;
-    let expected = vec![in alloc;
-        chunk(0, 1),
-        Reply::NoChunk,
-        Reply::Finished,
-        chunk(0, 1),
-        Reply::NoChunk,
-        Reply::Finished,
-        chunk(0, 1),
-        Reply::NoChunk,
-        Reply::Finished,
-        chunk(0, 1),
-        Reply::NoChunk,
-        Reply::Finished,
-        chunk(0, 1),
-        Reply::NoChunk,
-        Reply::Finished,
-        chunk(0, 1),
-        Reply::NoChunk,
-        Reply::Finished,
-        chunk(0, 1),
-        Reply::NoChunk,
-        Reply::Finished,
-        chunk(0, 1),
-        Reply::NoChunk,
-        Reply::Finished,
-        Reply::Wait,
-        Reply::Refused(Refusal::Waiting),
-        Reply::NoChunk,
-        Reply::Wait,
-        Reply::Finished,
-        chunk(0, 1),
-    ]?;
+    let mut steps = Vec::new(alloc);
+    let mut expected = Vec::new(alloc);
+    for _ in 0..8 {
+        steps.push(by(0, dynamic(1, 0, 1, 1, EndKind::Nowait)))?;
+        steps.push(by(0, Call::LoopNext))?;
+        steps.push(by(0, Call::LoopEndNowait))?;
+        expected.push(chunk(0, 1))?;
+        expected.push(Reply::NoChunk)?;
+        expected.push(Reply::Finished)?;
+    }
+    steps.push(by(0, dynamic(1, 0, 1, 1, EndKind::Nowait)))?;
+    steps.push(by(0, Call::LoopNext))?;
+    steps.push(by(1, dynamic(1, 0, 1, 1, EndKind::Nowait)))?;
+    steps.push(by(0, Call::Resume))?;
+    steps.push(by(1, Call::LoopEndNowait))?;
+    steps.push(by(0, Call::Resume))?;
+    expected.push(Reply::Wait)?;
+    expected.push(Reply::Refused(Refusal::Waiting))?;
+    expected.push(Reply::NoChunk)?;
+    expected.push(Reply::Wait)?;
+    expected.push(Reply::Finished)?;
+    expected.push(chunk(0, 1))?;
     gives(&rt, alloc, 2, steps, expected)
 }
 
@@ -284,17 +242,11 @@ fn one_share_too_many(rt: HostRuntime) -> Result<(), Fail> {
 }
 
 #[test]
-fn team_sizes(rt: HostRuntime) -> Result<(), Fail> {
-    for count in [0, 65, u16::MAX] {
-        let steps = vec![in rt.alloc(); by(0, Call::Barrier)]?;
-        match run::<PlainShares>(rt.alloc(), count, steps) {
-            Ok(_) => return Err(Fail::new("a team of a size that is refused")),
-            Err(refusal) => assert_eq!(rt; refusal, Refusal::BadTeam),
-        }
-    }
-    let steps = vec![in rt.alloc(); by(63, Call::Barrier), by(64, Call::Barrier)]?;
-    let expected = vec![in rt.alloc(); Reply::Wait, Reply::Refused(Refusal::BadMember)]?;
-    gives(&rt, rt.alloc(), 64, steps, expected)
+fn largest_team(rt: HostRuntime) -> Result<(), Fail> {
+    let alloc = rt.alloc();
+    let steps = vec![in alloc; by(63, Call::Barrier), by(64, Call::Barrier)]?;
+    let expected = vec![in alloc; Reply::Wait, Reply::Refused(Refusal::BadMember)]?;
+    gives(&rt, alloc, 64, steps, expected)
 }
 
 /// Teams at the places where a caller may keep them.
@@ -317,7 +269,7 @@ impl Pool {
 }
 
 #[test]
-fn stepped_where_it_lies(rt: HostRuntime) -> Result<(), Fail> {
+fn stepped_in_a_vec_a_box_and_a_mutex(rt: HostRuntime) -> Result<(), Fail> {
     let alloc = rt.alloc();
     let mut pool = Pool {
         listed: vec![in alloc; Team::new(alloc, 1)?]?,

@@ -6,6 +6,7 @@ pub returns-clause-stands : goal.returns-clause-stands
 returns-clause-stands g c =
     let len : length c.in_ok-vec.field-0.items ≡ c.args.count = let n = c.in_ok-vec.ensures.len in let m = c.in_ok-vec.field-0.ok in omega arith in
     record {
+      caused = tt;
       shares_are = c.in_ok-make-2.ensures.stands;
       barriers_are = c.in_ok-make.ensures.stands;
       broken_is = refl;

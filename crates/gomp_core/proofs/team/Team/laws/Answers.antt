@@ -1,0 +1,5 @@
+use Rattle.gomp_core.specs.Stands.{terms_of}
+use Rattle.gomp_core.proofs.team.Team.laws.Goals as goal
+
+pub returns-clause-laws : goal.returns-clause-laws
+returns-clause-laws g c = λ before st. c.headline.ensures (terms_of c.args.self.now) before st.caused
