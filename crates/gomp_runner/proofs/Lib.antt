@@ -1,0 +1,5 @@
+mod WordLemmas
+mod NumberLemmas
+mod TextLemmas
+mod AnswerLemmas
+mod ServeLemmas

@@ -1,0 +1,32 @@
+-- What `ompteam steps` writes for a text, and with which status it ends. (own)
+use Rattle.std.specs.Prelude.{ℕ, ◌≡◌, ◌≤◌, ◌&&◌, nat_le, Bool, true, false, List, [], Result, Ok, Err, length, flat_map}
+use Rattle.gomp_types.specs.declared.call.Step.{Step}
+use Rattle.gomp_types.specs.declared.reply.Reply.{Reply}
+use Rattle.gomp_types.specs.declared.refusal.Refusal.TheVariants.{BadTeam}
+use Rattle.gomp_types.specs.Record.{record_after}
+use Rattle.gomp_types.specs.Causes.{Caused}
+use Rattle.gomp_core.specs.Stands.{standard_terms, NoneForMemory}
+use Rattle.gomp_runner.specs.declared.parse.BadLine.{BadLine}
+use Rattle.gomp_runner.specs.Printing.{reply_line, bad_line_text, refusal_line}
+
+-- whether a team may have this many members
+abbrev pub is_size : ℕ → Bool
+is_size count = nat_le 1 count && nat_le count 64
+
+-- the replies of a new team of this size to the steps, one for each, a line for each
+pub record Replied (count : ℕ) (steps : List Step) (text : List ℕ) (code : ℕ) : Type 0 where
+  pub replies : List Reply
+  pub each : length replies ≡ length steps
+  pub caused : Caused (standard_terms count) (record_after steps replies [])
+  pub memory : NoneForMemory replies
+  pub text_is : text ≡ flat_map reply_line replies
+  pub code_is : code ≡ 0
+
+abbrev pub Runs : Bool → ℕ → List Step → List ℕ → ℕ → Type 0
+Runs true count steps text code = Replied count steps text code
+Runs false count steps text code = (text ≡ refusal_line BadTeam) × (code ≡ 2)
+
+-- what is written for what was read
+abbrev pub AnswerTo : Result (ℕ × List Step) BadLine → List ℕ → ℕ → Type 0
+AnswerTo (Ok found) text code = Runs (is_size found.0) found.0 found.1 text code
+AnswerTo (Err bad) text code = (text ≡ bad_line_text bad) × (code ≡ 1)

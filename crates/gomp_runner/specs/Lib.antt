@@ -1,0 +1,6 @@
+pub mod Printing
+pub mod Words
+pub mod Numbers
+pub mod StepText
+pub mod Answers
+pub mod Serving

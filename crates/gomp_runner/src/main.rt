@@ -1,0 +1,34 @@
+//! `ompteam`: reads a text of steps of an OpenMP team, and prints the reply to each.
+//!
+//! [`command::serve`] does everything: it reads the command line, reads the text, runs it and writes
+//! the replies. `main` only hands it the process's words, input and output, prints what is noted
+//! beside the output and ends with the status.
+#![tactic(auto)]
+
+mod answer;
+mod command;
+mod numbers;
+mod parse;
+mod print;
+mod serve;
+mod words;
+#[cfg(test)]
+mod worked;
+
+use command::{Notes, serve};
+use std::io;
+use std::process::ExitCode;
+
+fn main(rt: HostRuntime) -> io::Result<ExitCode> {
+    let alloc = rt.alloc();
+    let words: Vec<String> = std::env::args(&rt)?.collect(alloc)?;
+    let status = serve(alloc, words.as_slice(), rt.reader(), &mut io::writer(&rt));
+    match &status.notes {
+        Notes::Nothing => {}
+        Notes::NoMemory => eprintln!(rt; "no memory")?,
+        Notes::Command(text) => eprint!(rt; "{text}")?,
+        Notes::InputFault => eprintln!(rt; "input fault")?,
+        Notes::OutputFault => eprintln!(rt; "output fault")?,
+    }
+    Ok(ExitCode::from(status.code))
+}

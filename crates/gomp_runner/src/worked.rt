@@ -1,0 +1,296 @@
+//! Texts of steps, and what the program writes for them.
+
+use crate::command::{Notes, Status, serve};
+use std::alloc::Global;
+use std::io::{self, ErrorKind, Read, Write};
+use std::process::Abort;
+use std::test::Fail;
+
+/// That `ompteam steps` writes this for the text, and ends with this status.
+fn writes(
+    rt: &impl Abort,
+    alloc: Global,
+    text: &str,
+    output: &str,
+    code: u8,
+) -> Result<(), Fail> {
+    let mut written = Vec::new(alloc);
+    let status = serve(alloc, &["ompteam", "steps"], text.as_bytes(), &mut written);
+    if status.notes == Notes::NoMemory {
+        return Err(Fail::new("no memory"));
+    }
+    assert_eq!(rt; status.notes, Notes::Nothing);
+    assert_eq!(rt; status.code, code);
+    assert_eq!(rt; str::from_utf8(written.as_slice()), Ok(output));
+    Ok(())
+}
+
+#[test]
+fn texts(rt: HostRuntime) -> Result<(), Fail> {
+    let rows: [(&str, &str, u8); 13] = [
+        // a loop of two members
+        (
+            "team 2\n\
+             0 loop dynamic 3 0 10 1 wait\n\
+             1 loop dynamic 3 0 10 1 wait\n\
+             0 next\n\
+             1 next\n\
+             0 next\n\
+             1 next\n\
+             0 end\n\
+             1 end\n\
+             0 resume\n",
+            "chunk 0 3\n\
+             chunk 3 3\n\
+             chunk 6 3\n\
+             chunk 9 1\n\
+             none\n\
+             none\n\
+             wait\n\
+             passed\n\
+             passed\n",
+            0,
+        ),
+        // loops without iterations
+        (
+            "team 1\n\
+             0 loop dynamic 3 5 5 1 nowait\n\
+             0 end_nowait\n\
+             0 loop dynamic 3 10 0 1 nowait\n\
+             0 end_nowait\n",
+            "none\n\
+             ok\n\
+             none\n\
+             ok\n",
+            0,
+        ),
+        // a loop downwards
+        (
+            "team 1\n\
+             0 loop dynamic 2 10 0 -3 nowait\n\
+             0 next\n\
+             0 next\n",
+            "chunk 10 2\n\
+             chunk 4 2\n\
+             none\n",
+            0,
+        ),
+        // the widest loops
+        (
+            "team 1\n\
+             0 loop dynamic 0 -9223372036854775808 9223372036854775807 1 wait\n\
+             0 loop dynamic 0 -9223372036854775808 9223372036854775807 0 wait\n\
+             0 loop dynamic 0 -9223372036854775808 9223372036854775807 1073741824 wait\n",
+            "refused E14 LoopTooLong\n\
+             refused E12 ZeroStep\n\
+             chunk -9223372036854775808 1\n",
+            0,
+        ),
+        // the longest loop
+        (
+            "team 1\n\
+             0 loop dynamic 1 0 549755813889 1 nowait\n\
+             0 loop dynamic 1 0 549755813888 1 nowait\n",
+            "refused E14 LoopTooLong\n\
+             chunk 0 1\n",
+            0,
+        ),
+        // the ends of a loop
+        (
+            "team 1\n\
+             0 loop dynamic 3 0 4 1 wait\n\
+             0 end_nowait\n\
+             0 end\n\
+             0 next\n\
+             0 next\n\
+             0 next\n\
+             0 end\n\
+             0 next\n",
+            "chunk 0 3\n\
+             refused E17 EndDiffers\n\
+             refused E18 NotDrained\n\
+             chunk 3 1\n\
+             none\n\
+             refused E19 Drained\n\
+             passed\n\
+             refused E9 OutsideShare\n",
+            0,
+        ),
+        // the ninth share
+        (
+            "team 2\n\
+             0 loop dynamic 1 0 1 1 nowait\n\
+             0 next\n\
+             0 end_nowait\n\
+             0 loop dynamic 1 0 1 1 nowait\n\
+             0 next\n\
+             0 end_nowait\n\
+             0 loop dynamic 1 0 1 1 nowait\n\
+             0 next\n\
+             0 end_nowait\n\
+             0 loop dynamic 1 0 1 1 nowait\n\
+             0 next\n\
+             0 end_nowait\n\
+             0 loop dynamic 1 0 1 1 nowait\n\
+             0 next\n\
+             0 end_nowait\n\
+             0 loop dynamic 1 0 1 1 nowait\n\
+             0 next\n\
+             0 end_nowait\n\
+             0 loop dynamic 1 0 1 1 nowait\n\
+             0 next\n\
+             0 end_nowait\n\
+             0 loop dynamic 1 0 1 1 nowait\n\
+             0 next\n\
+             0 end_nowait\n\
+             0 loop dynamic 1 0 1 1 nowait\n\
+             0 next\n\
+             1 loop dynamic 1 0 1 1 nowait\n\
+             0 resume\n\
+             1 end_nowait\n\
+             0 resume\n",
+            "chunk 0 1\n\
+             none\n\
+             ok\n\
+             chunk 0 1\n\
+             none\n\
+             ok\n\
+             chunk 0 1\n\
+             none\n\
+             ok\n\
+             chunk 0 1\n\
+             none\n\
+             ok\n\
+             chunk 0 1\n\
+             none\n\
+             ok\n\
+             chunk 0 1\n\
+             none\n\
+             ok\n\
+             chunk 0 1\n\
+             none\n\
+             ok\n\
+             chunk 0 1\n\
+             none\n\
+             ok\n\
+             wait\n\
+             refused E4 Waiting\n\
+             none\n\
+             wait\n\
+             ok\n\
+             chunk 0 1\n",
+            0,
+        ),
+        // another chunk size
+        (
+            "team 2\n\
+             0 loop dynamic 3 0 10 1 wait\n\
+             1 loop dynamic 2 0 10 1 wait\n\
+             0 next\n\
+             1 region_end\n",
+            "chunk 0 3\n\
+             refused E35 Mismatch\n\
+             refused E3 Broken 1 share 0\n\
+             refused E3 Broken 1 share 0\n",
+            0,
+        ),
+        // another arrival
+        (
+            "team 2\n\
+             0 barrier\n\
+             1 region_end\n\
+             0 resume\n",
+            "wait\n\
+             refused E35 Mismatch\n\
+             refused E3 Broken 1 barrier 0\n",
+            0,
+        ),
+        // a barrier inside a loop and a nowait end
+        (
+            "team 1\n\
+             0 loop dynamic -1 0 4 0 wait\n",
+            "refused E12 ZeroStep\n",
+            0,
+        ),
+        // no text
+        (
+            "",
+            "bad line 1: first line\n",
+            1,
+        ),
+        // no members
+        (
+            "team 0\n",
+            "refused E38 BadTeam\n",
+            2,
+        ),
+        // too many members
+        (
+            "team 65\n",
+            "refused E38 BadTeam\n",
+            2,
+        ),
+    ];
+    for (text, output, code) in rows {
+        writes(&rt, rt.alloc(), text, output, code)?;
+    }
+    Ok(())
+}
+
+#[test]
+fn bad_lines(rt: HostRuntime) -> Result<(), Fail> {
+    let rows: [(&str, &str); 20] = [
+        ("# a comment\n\ntea 2\n", "bad line 3: first line\n"),
+        ("team\n", "bad line 1: missing word\n"),
+        ("team x\n", "bad line 1: bad number\n"),
+        ("team 4294967296\n", "bad line 1: bad number\n"),
+        ("team 2 3\n", "bad line 1: extra word\n"),
+        ("team 1\n\n# é\n", "bad line 3: not ascii\n"),
+        ("team 1\nx\n", "bad line 2: missing word\n"),
+        ("team 1\nx foo\n", "bad line 2: unknown word\n"),
+        ("team 1\n0 loop dynamic x\n", "bad line 2: missing word\n"),
+        ("team 1\n0 loop guided 1 0 1 1 wait\n", "bad line 2: unknown word\n"),
+        ("team 1\n0 loop dynamic 1 0 1 1 cancellable\n", "bad line 2: unknown word\n"),
+        ("team 1\n0 loop dynamic +1 0 1 1 wait\n", "bad line 2: bad number\n"),
+        ("team 1\n0 loop dynamic 1 0 9223372036854775808 1 wait\n", "bad line 2: bad number\n"),
+        ("team 1\n65536 next\n", "bad line 2: bad number\n"),
+        ("team 1\n-0 next\n", "bad line 2: bad number\n"),
+        ("team 1\n0 loop dynamic 1 0 1 1 wait ordered\n", "bad line 2: extra word\n"),
+        ("team 1\n0\tnext\n", "bad line 2: missing word\n"),
+        ("team 1\n0 next\r\n", "bad line 2: unknown word\n"),
+        ("team 1\n0 next now", "bad line 2: extra word\n"),
+        ("team 65\n0 foo\n", "bad line 2: unknown word\n"),
+    ];
+    for (text, output) in rows {
+        writes(&rt, rt.alloc(), text, output, 1)?;
+    }
+    Ok(())
+}
+
+#[test]
+fn numbers_and_spaces(rt: HostRuntime) -> Result<(), Fail> {
+    let text = "  team   01\n 00 loop dynamic -0 00010 0 -03 nowait \n# the end";
+    writes(&rt, rt.alloc(), text, "chunk 10 1\n", 0)
+}
+
+#[test]
+fn other_words(rt: HostRuntime) -> Result<(), Fail> {
+    for words in [["ompteam", "run"], ["ompteam", "check"], ["ompteam", "--steps"]] {
+        let mut written = Vec::new(rt.alloc());
+        let status = serve(rt.alloc(), &words, b"team 1\n".as_slice(), &mut written);
+        assert_eq!(rt; status.code, 1);
+        assert!(rt; matches!(&status.notes, Notes::Command(_)));
+        assert!(rt; written.is_empty());
+    }
+    for (words, shown) in [
+        (["ompteam", "--version"], "ompteam 0.1.0\n"),
+        (["ompteam", "steps"], ""),
+    ] {
+        let mut written = Vec::new(rt.alloc());
+        let status = serve(rt.alloc(), &words, b"team 1\n".as_slice(), &mut written);
+        assert_eq!(rt; status.code, 0);
+        assert_eq!(rt; status.notes, Notes::Nothing);
+        assert_eq!(rt; str::from_utf8(written.as_slice()), Ok(shown));
+    }
+    Ok(())
+}
