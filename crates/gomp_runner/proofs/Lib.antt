@@ -1,5 +1,2 @@
-mod WordLemmas
-mod NumberLemmas
-mod TextLemmas
 mod AnswerLemmas
 mod ServeLemmas

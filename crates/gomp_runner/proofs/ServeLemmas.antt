@@ -1,8 +1,7 @@
 -- What was read of a text that is not too long.
-use Rattle.std.proofs.Common.{◌≡◌, ℕ, ◌+◌, ◌<◌, ◌≤◌, true, false, List, [], ◌++◌, Option, Some, None, Result, Ok, Err, length, take, refl, ap, ◌∙◌, sym, subst, arith}
+use Rattle.std.proofs.Common.{◌≡◌, ℕ, ◌≤◌, false, List, Option, Some, None, Result, Ok, Err, length, take, ◌∙◌, subst, arith}
 use Rattle.std.specs.Prelude.{IfSome, OnOk, is_err}
 use Rattle.std.specs.Option.{option_map}
-use Rattle.std.proofs.lemmas.Grind.{common_steps}
 use Rattle.std.proofs.lemmas.List.{length-take, take_all}
 
 whole : (text : List ℕ) → length (take 16777217 text) ≤ 16777216 → take 16777217 text ≡ text

@@ -1,13 +1,13 @@
 -- What `ompteam steps` writes for a text, and with which status it ends. (own)
-use Rattle.std.specs.Prelude.{ℕ, ◌≡◌, ◌≤◌, ◌&&◌, nat_le, Bool, true, false, List, [], Result, Ok, Err, length, flat_map}
+use Rattle.std.specs.Prelude.{ℕ, ◌≡◌, ◌&&◌, nat_le, Bool, true, false, List, [], Result, Ok, Err, length, flat_map}
 use Rattle.gomp_types.specs.declared.call.Step.{Step}
 use Rattle.gomp_types.specs.declared.reply.Reply.{Reply}
 use Rattle.gomp_types.specs.declared.refusal.Refusal.TheVariants.{BadTeam}
 use Rattle.gomp_types.specs.Record.{record_after}
 use Rattle.gomp_types.specs.Causes.{Caused}
 use Rattle.gomp_core.specs.Stands.{standard_terms, NoneForMemory}
-use Rattle.gomp_runner.specs.declared.parse.BadLine.{BadLine}
-use Rattle.gomp_runner.specs.Printing.{reply_line, bad_line_text, refusal_line}
+use Rattle.gomp_script.specs.declared.parse.BadLine.{BadLine}
+use Rattle.gomp_script.specs.Printing.{reply_line, bad_line_text, refusal_line}
 
 -- whether a team may have this many members
 abbrev pub is_size : ℕ → Bool

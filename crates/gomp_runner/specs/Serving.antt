@@ -1,7 +1,7 @@
 -- What is written for what was read. (own)
 use Rattle.std.specs.Prelude.{ℕ, List, Option}
 use Rattle.std.specs.Io.KnownBytes.{Appends}
-use Rattle.gomp_runner.specs.StepText.{steps_of}
+use Rattle.gomp_script.specs.StepText.{steps_of}
 use Rattle.gomp_runner.specs.Answers.{AnswerTo}
 
 -- the answer to the text was written, and nothing else

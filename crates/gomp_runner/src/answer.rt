@@ -1,12 +1,11 @@
 //! From a text of steps to the text of their replies, and the exit status.
 
 ghost use Rattle.std.specs.Prelude.{◌≡◌, min, IfOk, string_bytes};
-ghost use Rattle.gomp_runner.specs.StepText.{steps_of};
+ghost use Rattle.gomp_script.specs.StepText.{steps_of};
 ghost use Rattle.gomp_runner.specs.Answers.{AnswerTo};
 
-use crate::parse::{ParseError, parse_steps};
-use crate::print::{print_bad_line, print_refusal, print_replies};
 use gomp_core::run;
+use gomp_script::{ParseError, parse_steps, print_bad_line, print_refusal, print_replies};
 use gomp_share_plain::PlainShares;
 use gomp_types::Refusal;
 use std::alloc::{AllocError, Global};

@@ -3,9 +3,9 @@
 use crate::serve::{Ending, serve_steps};
 use clap::error::ErrorKind;
 use clap::{Command, Error};
-use std::alloc::{AllocError, Global};
-use std::io::{Read, Write};
+use std::alloc::Global;
 use std::convert::AsStr;
+use std::io::{Read, Write};
 
 /// What is told beside the output, on standard error.
 #[derive(Debug, Drop, PartialEq, Eq)]
@@ -45,8 +45,9 @@ pub fn serve<S: AsStr, R: Read + Drop, W: Write>(
 
 /// Whether the words are those of `ompteam steps`.
 fn is_accepted<S: AsStr>(alloc: Global, words: &[S]) -> Result<(), Error> {
-    let steps = Command::new(alloc, "steps")
-        .about("Run the text of steps on standard input and print each reply");
+    let steps = Command::new(alloc, "steps").about(
+        "Run the text of steps on standard input and print each reply",
+    );
     let command = Command::new(alloc, "ompteam")
         .version("0.1.0")
         .about("An OpenMP team, step by step")

@@ -7,11 +7,7 @@
 
 mod answer;
 mod command;
-mod numbers;
-mod parse;
-mod print;
 mod serve;
-mod words;
 #[cfg(test)]
 mod worked;
 

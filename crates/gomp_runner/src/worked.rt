@@ -7,13 +7,7 @@ use std::process::Abort;
 use std::test::Fail;
 
 /// That `ompteam steps` writes this for the text, and ends with this status.
-fn writes(
-    rt: &impl Abort,
-    alloc: Global,
-    text: &str,
-    output: &str,
-    code: u8,
-) -> Result<(), Fail> {
+fn writes(rt: &impl Abort, alloc: Global, text: &str, output: &str, code: u8) -> Result<(), Fail> {
     let mut written = Vec::new(alloc);
     let status = serve(alloc, &["ompteam", "steps"], text.as_bytes(), &mut written);
     if status.notes == Notes::NoMemory {
@@ -213,23 +207,11 @@ fn texts(rt: HostRuntime) -> Result<(), Fail> {
             0,
         ),
         // no text
-        (
-            "",
-            "bad line 1: first line\n",
-            1,
-        ),
+        ("", "bad line 1: first line\n", 1),
         // no members
-        (
-            "team 0\n",
-            "refused E38 BadTeam\n",
-            2,
-        ),
+        ("team 0\n", "refused E38 BadTeam\n", 2),
         // too many members
-        (
-            "team 65\n",
-            "refused E38 BadTeam\n",
-            2,
-        ),
+        ("team 65\n", "refused E38 BadTeam\n", 2),
     ];
     for (text, output, code) in rows {
         writes(&rt, rt.alloc(), text, output, code)?;
@@ -249,13 +231,28 @@ fn bad_lines(rt: HostRuntime) -> Result<(), Fail> {
         ("team 1\nx\n", "bad line 2: missing word\n"),
         ("team 1\nx foo\n", "bad line 2: unknown word\n"),
         ("team 1\n0 loop dynamic x\n", "bad line 2: missing word\n"),
-        ("team 1\n0 loop guided 1 0 1 1 wait\n", "bad line 2: unknown word\n"),
-        ("team 1\n0 loop dynamic 1 0 1 1 cancellable\n", "bad line 2: unknown word\n"),
-        ("team 1\n0 loop dynamic +1 0 1 1 wait\n", "bad line 2: bad number\n"),
-        ("team 1\n0 loop dynamic 1 0 9223372036854775808 1 wait\n", "bad line 2: bad number\n"),
+        (
+            "team 1\n0 loop guided 1 0 1 1 wait\n",
+            "bad line 2: unknown word\n",
+        ),
+        (
+            "team 1\n0 loop dynamic 1 0 1 1 cancellable\n",
+            "bad line 2: unknown word\n",
+        ),
+        (
+            "team 1\n0 loop dynamic +1 0 1 1 wait\n",
+            "bad line 2: bad number\n",
+        ),
+        (
+            "team 1\n0 loop dynamic 1 0 9223372036854775808 1 wait\n",
+            "bad line 2: bad number\n",
+        ),
         ("team 1\n65536 next\n", "bad line 2: bad number\n"),
         ("team 1\n-0 next\n", "bad line 2: bad number\n"),
-        ("team 1\n0 loop dynamic 1 0 1 1 wait ordered\n", "bad line 2: extra word\n"),
+        (
+            "team 1\n0 loop dynamic 1 0 1 1 wait ordered\n",
+            "bad line 2: extra word\n",
+        ),
         ("team 1\n0\tnext\n", "bad line 2: missing word\n"),
         ("team 1\n0 next\r\n", "bad line 2: unknown word\n"),
         ("team 1\n0 next now", "bad line 2: extra word\n"),
@@ -275,7 +272,11 @@ fn numbers_and_spaces(rt: HostRuntime) -> Result<(), Fail> {
 
 #[test]
 fn other_words(rt: HostRuntime) -> Result<(), Fail> {
-    for words in [["ompteam", "run"], ["ompteam", "check"], ["ompteam", "--steps"]] {
+    for words in [
+        ["ompteam", "run"],
+        ["ompteam", "check"],
+        ["ompteam", "--steps"],
+    ] {
         let mut written = Vec::new(rt.alloc());
         let status = serve(rt.alloc(), &words, b"team 1\n".as_slice(), &mut written);
         assert_eq!(rt; status.code, 1);

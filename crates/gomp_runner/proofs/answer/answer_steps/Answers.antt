@@ -1,9 +1,8 @@
-use Rattle.std.proofs.Common.{◌≡◌, ◌∙◌, ◌≤◌, ℕ, true, Ok, List, length, refl, ap, sym, arith}
-use Rattle.gomp_types.specs.declared.call.Step.{Step}
+use Rattle.std.proofs.Common.{◌≡◌, ◌∙◌, ◌≤◌, true, Ok, refl, ap, arith}
 use Rattle.std.specs.Prelude.{flat_map}
-use Rattle.gomp_runner.specs.Printing.{reply_line}
-use Rattle.gomp_runner.specs.StepText.{steps_of}
-use Rattle.gomp_runner.specs.Answers.{AnswerTo, Replied, is_size}
+use Rattle.gomp_script.specs.Printing.{reply_line}
+use Rattle.gomp_script.specs.StepText.{steps_of}
+use Rattle.gomp_runner.specs.Answers.{is_size}
 use Rattle.gomp_runner.proofs.AnswerLemmas.{size_by, is_size_of, same_count}
 use Rattle.gomp_runner.proofs.answer.answer_steps.Goals as goal
 

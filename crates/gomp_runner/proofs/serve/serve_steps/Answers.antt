@@ -1,8 +1,8 @@
-use Rattle.std.proofs.Common.{◌≡◌, ◌≤◌, ◌∙◌, ℕ, List, length, ap, sym, rules, arith}
+use Rattle.std.proofs.Common.{◌≡◌, ◌≤◌, ◌∙◌, length, sym, arith}
 use Rattle.std.specs.Prelude.{string_bytes}
 use Rattle.std.specs.Io.KnownBytes.{Appends}
 use Rattle.gomp_runner.specs.Answers.{AnswerTo}
-use Rattle.gomp_runner.specs.StepText.{steps_of}
+use Rattle.gomp_script.specs.StepText.{steps_of}
 use Rattle.gomp_runner.specs.Serving.{Served}
 use Rattle.gomp_runner.proofs.ServeLemmas.{read_all, on_ok}
 use Rattle.gomp_runner.proofs.serve.serve_steps.Goals as goal

@@ -1,0 +1,41 @@
+-- How a reply is printed. (own)
+use Rattle.std.specs.Prelude.{List, ◌++◌, codes, ℕ}
+use Rattle.std.specs.Fmt.{decimal, signed_decimal}
+use Rattle.gomp_types.specs.declared.reply.Reply.{Reply}
+use Rattle.gomp_types.specs.declared.reply.Reply.TheVariants.{Chunk, NoChunk, Finished, Passed, Wait, Refused}
+use Rattle.gomp_types.specs.declared.refusal.Refusal.{Refusal}
+use Rattle.gomp_script.specs.declared.parse.Why.{Why}
+use Rattle.gomp_script.specs.declared.parse.Why.TheVariants.{NotAscii, FirstLine, UnknownWord, MissingWord, BadNumber, ExtraWord}
+use Rattle.gomp_script.specs.declared.parse.BadLine.{BadLine}
+use Rattle.gomp_types.specs.RefusalTexts.{text_of}
+
+abbrev pub refused_text : Refusal → List ℕ
+refused_text refusal = codes "refused " ++ text_of refusal
+
+-- the text of a reply; its numbers are decimal
+abbrev pub reply_text : Reply → List ℕ
+reply_text (Chunk first count) = codes "chunk " ++ (signed_decimal first ++ (codes " " ++ decimal count))
+reply_text NoChunk = codes "none"
+reply_text Finished = codes "ok"
+reply_text Passed = codes "passed"
+reply_text Wait = codes "wait"
+reply_text (Refused refusal) = refused_text refusal
+
+-- a line ends with one line feed
+abbrev pub reply_line : Reply → List ℕ
+reply_line reply = reply_text reply ++ codes "\n"
+
+-- a refused text, before any reply
+abbrev pub refusal_line : Refusal → List ℕ
+refusal_line refusal = refused_text refusal ++ codes "\n"
+
+abbrev pub why_text : Why → List ℕ
+why_text NotAscii = codes "not ascii"
+why_text FirstLine = codes "first line"
+why_text UnknownWord = codes "unknown word"
+why_text MissingWord = codes "missing word"
+why_text BadNumber = codes "bad number"
+why_text ExtraWord = codes "extra word"
+
+abbrev pub bad_line_text : BadLine → List ℕ
+bad_line_text bad = codes "bad line " ++ (decimal bad.line ++ (codes ": " ++ (why_text bad.why ++ codes "\n")))

@@ -1,0 +1,173 @@
+-- The text of steps: a line `team N`, and then a line `MEMBER CALL` for each step. (own)
+use Rattle.std.specs.Prelude.{ℕ, ◌≡◌, ◌+◌, ◌++◌, if◌then◌else◌, List, [], ◌∷◌, Option, Some, None, Result, Ok, Err, codes}
+use Rattle.gomp_types.specs.declared.call.Call.{Call}
+use Rattle.gomp_types.specs.declared.call.Call.TheVariants.{LoopStart, LoopNext, LoopEnd, LoopEndNowait, Barrier, RegionEnd, Resume}
+use Rattle.gomp_types.specs.declared.call.Step.{Step}
+use Rattle.gomp_types.specs.declared.loop_desc.Sched.{Sched}
+use Rattle.gomp_types.specs.declared.loop_desc.Sched.TheVariants.{Dynamic}
+use Rattle.gomp_types.specs.declared.loop_desc.EndKind.{EndKind}
+use Rattle.gomp_types.specs.declared.loop_desc.EndKind.TheVariants.{Wait, Nowait}
+use Rattle.gomp_types.specs.Record.{shown}
+use Rattle.gomp_script.specs.declared.parse.Why.{Why}
+use Rattle.gomp_script.specs.declared.parse.Why.TheVariants.{NotAscii, FirstLine, UnknownWord, MissingWord, BadNumber, ExtraWord}
+use Rattle.gomp_script.specs.declared.parse.BadLine.{BadLine}
+use Rattle.gomp_script.specs.declared.parse.ParseError.{ParseError}
+use Rattle.gomp_script.specs.declared.parse.ParseError.TheVariants.{Memory, Bad}
+use Rattle.gomp_script.specs.Words.{lines_of, words_of, is_ascii, begins_comment, same_word}
+use Rattle.gomp_script.specs.Numbers.{unsigned, signed}
+
+-- Reading: a value, or why the line is bad; the first fault is told
+infixl 10 ◌>>=◌
+abbrev pub ◌>>=◌ : {A B : Type 0} → Result A Why → (A → Result B Why) → Result B Why
+(Ok value) >>= go = go value
+(Err why) >>= go = Err why
+
+-- what is wanted is there
+abbrev pub wanted : {A : Type 0} → Why → Option A → Result A Why
+wanted why None = Err why
+wanted why (Some value) = Ok value
+
+-- the next word, and those after it
+abbrev pub next : List (List ℕ) → Result (List ℕ × List (List ℕ)) Why
+next [] = Err MissingWord
+next (word ∷ words) = Ok (word, words)
+
+-- no word is left
+abbrev pub finished : List (List ℕ) → Result (Unit {0}) Why
+finished [] = Ok tt
+finished (word ∷ words) = Err ExtraWord
+
+-- The words of a list
+
+abbrev pub sched_of : List ℕ → Option Sched
+sched_of word = if same_word word (codes "dynamic") then Some Dynamic else None
+
+abbrev pub end_of : List ℕ → Option EndKind
+end_of word = if same_word word (codes "wait") then Some Wait else if same_word word (codes "nowait") then Some Nowait else None
+
+-- the calls that stand alone
+abbrev pub call_of : List ℕ → Option Call
+call_of word =
+    if same_word word (codes "next") then Some LoopNext
+    else if same_word word (codes "end") then Some LoopEnd
+    else if same_word word (codes "end_nowait") then Some LoopEndNowait
+    else if same_word word (codes "barrier") then Some Barrier
+    else if same_word word (codes "region_end") then Some RegionEnd
+    else if same_word word (codes "resume") then Some Resume
+    else None
+
+-- Steps
+
+-- `MEMBER CALL`, where the call stands alone
+unfoldable pub plain_step : List ℕ → List ℕ → List (List ℕ) → Result Step Why
+plain_step member call words = do
+  made ← wanted UnknownWord (call_of call)
+  number ← wanted BadNumber (unsigned 65535 member)
+  done ← finished words
+  Ok (record { member = number; call = made })
+
+-- `MEMBER loop KIND CHUNK START END INCR ENDKIND`
+unfoldable pub loop_step : List ℕ → List (List ℕ) → Result Step Why
+loop_step member words = do
+  kind ← next words
+  sched ← wanted UnknownWord (sched_of kind.0)
+  chunk ← next kind.1
+  start ← next chunk.1
+  end ← next start.1
+  incr ← next end.1
+  ending ← next incr.1
+  end_kind ← wanted UnknownWord (end_of ending.0)
+  number ← wanted BadNumber (unsigned 65535 member)
+  size ← wanted BadNumber (signed chunk.0)
+  first ← wanted BadNumber (signed start.0)
+  bound ← wanted BadNumber (signed end.0)
+  step ← wanted BadNumber (signed incr.0)
+  done ← finished ending.1
+  Ok (record { member = number; call = LoopStart (record { start = first; end = bound; incr = step; sched = sched; chunk = size; end_kind = end_kind }) })
+
+abbrev pub step_of : List (List ℕ) → Result Step Why
+step_of [] = Err MissingWord
+step_of (member ∷ []) = Err MissingWord
+step_of (member ∷ call ∷ words) = if same_word call (codes "loop") then loop_step member words else plain_step member call words
+
+-- `team N`
+unfoldable pub team_of : List (List ℕ) → Result ℕ Why
+team_of words = do
+  first ← next words
+  named ← wanted FirstLine (if same_word first.0 (codes "team") then Some (tt {0}) else None)
+  count ← next first.1
+  number ← wanted BadNumber (unsigned 4294967295 count.0)
+  done ← finished count.1
+  Ok number
+
+-- Lines: an empty one and a comment say nothing; bytes that are not ASCII are a fault in those too
+
+abbrev pub said : {A : Type 0} → Result A Why → Result (Option A) Why
+said (Ok value) = Ok (Some value)
+said (Err why) = Err why
+
+abbrev pub read_words : {A : Type 0} → (List (List ℕ) → Result A Why) → List (List ℕ) → Result (Option A) Why
+read_words reads [] = Ok None
+read_words reads (word ∷ words) = if begins_comment word then Ok None else said (reads (word ∷ words))
+
+abbrev pub read_line : {A : Type 0} → (List (List ℕ) → Result A Why) → List ℕ → Result (Option A) Why
+read_line reads line = if is_ascii line then read_words reads (words_of line) else Err NotAscii
+
+-- Texts
+
+abbrev pub bad_line : {A : Type 0} → ℕ → Why → Result A BadLine
+bad_line number why = Err (record { line = number; why = why })
+
+abbrev pub with_front : Step → Result (List Step) BadLine → Result (List Step) BadLine
+with_front step (Ok steps) = Ok (step ∷ steps)
+with_front step (Err bad) = Err bad
+
+abbrev pub with_team : ℕ → Result (List Step) BadLine → Result (ℕ × List Step) BadLine
+with_team count (Ok steps) = Ok (count, steps)
+with_team count (Err bad) = Err bad
+
+abbrev pub step_line : ℕ → Result (Option Step) Why → Result (List Step) BadLine → Result (List Step) BadLine
+step_line number (Err why) later = bad_line number why
+step_line number (Ok None) later = later
+step_line number (Ok (Some step)) later = with_front step later
+
+-- the steps of the lines from this one on; lines are numbered from 1, up to the largest number
+abbrev pub steps_from : ℕ → List (List ℕ) → Result (List Step) BadLine
+steps_from number [] = Ok []
+steps_from number (line ∷ lines) = step_line number (read_line step_of line) (steps_from (shown (number + 1)) lines)
+
+abbrev pub team_line : ℕ → Result (Option ℕ) Why → Result (ℕ × List Step) BadLine → Result (List Step) BadLine → Result (ℕ × List Step) BadLine
+team_line number (Err why) later steps = bad_line number why
+team_line number (Ok None) later steps = later
+team_line number (Ok (Some count)) later steps = with_team count steps
+
+-- a text without a line that counts has no first line
+abbrev pub text_from : ℕ → List (List ℕ) → Result (ℕ × List Step) BadLine
+text_from number [] = bad_line 1 FirstLine
+text_from number (line ∷ lines) = team_line number (read_line team_of line) (text_from (shown (number + 1)) lines) (steps_from (shown (number + 1)) lines)
+
+-- the size of the team and its steps, or the first bad line
+abbrev pub steps_of : List ℕ → Result (ℕ × List Step) BadLine
+steps_of text = text_from 1 (lines_of text)
+
+-- What a function gives that may find no memory
+
+-- an error is that of the reading, or want of memory
+abbrev pub Fails : {Y : Type 0} → ParseError → Result Y BadLine → Type 0
+Fails Memory read = Unit {0}
+Fails (Bad bad) read = read ≡ Err bad
+
+-- what is given, seen by `view`, is what reading gives, unless memory is refused
+abbrev pub Gives : {X Y : Type 0} → (X → Y) → Result X ParseError → Result Y BadLine → Type 0
+Gives view (Ok value) read = read ≡ Ok (view value)
+Gives view (Err error) read = Fails error read
+
+-- the lines of what is left of a text
+abbrev pub lines_left : Option (List ℕ) → List (List ℕ)
+lines_left None = []
+lines_left (Some text) = lines_of text
+
+-- the steps so far, with what a line said
+abbrev pub kept : List Step → Option Step → List Step
+kept steps None = steps
+kept steps (Some step) = steps ++ step ∷ []

@@ -1,0 +1,13 @@
+//! The texts of `ompteam`: reading the text of steps, and printing replies.
+//!
+//! [`parse_steps`] reads exactly the texts that `StepText.antt` defines, and tells of any other the
+//! first bad line and its first fault; [`print_replies`] is the table of replies, byte for byte.
+#![tactic(auto)]
+
+mod numbers;
+mod parse;
+mod print;
+mod words;
+
+pub use parse::{BadLine, ParseError, Why, parse_steps};
+pub use print::{print_bad_line, print_refusal, print_replies};

@@ -1,0 +1,75 @@
+//! How replies are printed.
+
+ghost use Rattle.std.specs.Prelude.{◌≡◌, ◌++◌, Some, string_bytes, IfOk, OnOk, flat_map};
+ghost use Rattle.gomp_script.specs.Printing.{reply_text, reply_line, refusal_line, why_text, bad_line_text};
+
+use crate::parse::{BadLine, Why};
+use gomp_types::{Refusal, Reply};
+use std::alloc::{AllocError, Global};
+use std::fmt;
+
+/// A reply as it is printed, without the line feed.
+#[derive(Clone, Copy)]
+struct Printed<'a>(&'a Reply);
+
+impl fmt::Display for Printed<'_> {
+    ghost output = { λ printed. Some (reply_text printed.0.now) };
+
+    fn fmt<W: fmt::Write>(&self, f: &mut fmt::Formatter<W>) -> fmt::Result {
+        match self.0 {
+            Reply::Chunk { first, count } => write!(f, "chunk {first} {count}"),
+            Reply::NoChunk => write!(f, "none"),
+            Reply::Finished => write!(f, "ok"),
+            Reply::Passed => write!(f, "passed"),
+            Reply::Wait => write!(f, "wait"),
+            Reply::Refused(refusal) => write!(f, "refused {refusal}"),
+        }
+    }
+}
+
+impl fmt::Display for Why {
+    ghost output = { λ why. Some (why_text why) };
+
+    fn fmt<W: fmt::Write>(&self, f: &mut fmt::Formatter<W>) -> fmt::Result {
+        match self {
+            Why::NotAscii => write!(f, "not ascii"),
+            Why::FirstLine => write!(f, "first line"),
+            Why::UnknownWord => write!(f, "unknown word"),
+            Why::MissingWord => write!(f, "missing word"),
+            Why::BadNumber => write!(f, "bad number"),
+            Why::ExtraWord => write!(f, "extra word"),
+        }
+    }
+}
+
+/// The line that refuses a text.
+pub fn print_bad_line(alloc: Global, bad: &BadLine) -> Result<String, AllocError>
+    ensures { IfOk result (λ text. string_bytes text ≡ bad_line_text bad.now) }
+{
+    format!(in alloc; "bad line {}: {}\n", bad.line, bad.why)
+}
+
+/// The line that refuses a team.
+pub fn print_refusal(alloc: Global, refusal: &Refusal) -> Result<String, AllocError>
+    ensures { IfOk result (λ text. string_bytes text ≡ refusal_line refusal.now) }
+{
+    format!(in alloc; "refused {refusal}\n")
+}
+
+/// The lines of these replies.
+pub fn print_replies(alloc: Global, replies: &[Reply]) -> Result<String, AllocError>
+    ensures { IfOk result (λ text. string_bytes text ≡ flat_map reply_line replies.now) }
+{
+    let mut text = String::new(alloc);
+    for reply in replies {
+        print_reply(reply, &mut text)?;
+    }
+    Ok(text)
+}
+
+/// Appends the line of this reply to a text. On want of memory the text may have a part of it.
+fn print_reply(reply: &Reply, text: &mut String) -> Result<(), AllocError>
+    ensures { OnOk result (string_bytes text.new ≡ string_bytes text.old ++ reply_line reply.now) }
+{
+    writeln!(text, "{}", Printed(reply))
+}

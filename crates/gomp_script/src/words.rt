@@ -1,0 +1,54 @@
+//! The lines and words of a text.
+
+ghost use Rattle.std.specs.Prelude.{◌≡◌, ◌<◌, ◌∷◌, [], length, MatchOption, IsTrue, ◌↔◌, option_copied};
+ghost use Rattle.gomp_script.specs.Words.{words_of, is_ascii, begins_comment, cut, past_spaces};
+
+/// The bytes before the first separator, and those after it where there is one.
+pub fn cut(text: &[u8], separator: u8) -> (&[u8], Option<&[u8]>)
+    ensures before { result.0.now ≡ (cut separator text.now).0 }
+    ensures after { option_copied result.1 ≡ (cut separator text.now).1 }
+{
+    match text.iter().position(|&byte| byte == separator) {
+        Some(at) => (&text[..at], Some(&text[at + 1..])),
+        None => (text, None),
+    }
+}
+
+/// The bytes from the first on that is no space.
+fn past_spaces(mut text: &[u8]) -> &[u8]
+    ensures { result.now ≡ past_spaces text.entry.now }
+{
+    while let [b' ', rest @ ..] = text {
+        text = rest;
+    }
+    text
+}
+
+/// The first word of a line, and the rest of the line after it. None where there is no word.
+pub fn next_word(line: &[u8]) -> Option<(&[u8], &[u8])>
+    ensures { MatchOption result (words_of line.now ≡ []) (λ found. words_of line.now ≡ found.0.now ∷ words_of found.1.now) }
+{
+    let line = past_spaces(line);
+    if line.is_empty() {
+        return None;
+    }
+    let (word, after) = cut(line, b' ');
+    match after {
+        Some(rest) => Some((word, rest)),
+        None => Some((word, b"")),
+    }
+}
+
+/// Whether all bytes are ASCII.
+pub fn is_ascii(line: &[u8]) -> bool
+    ensures { result ≡ is_ascii line.now }
+{
+    line.iter().all(|byte| *byte < 128)
+}
+
+/// Whether a line that begins with this word is a comment.
+pub fn begins_comment(word: &[u8]) -> bool
+    ensures { result ≡ begins_comment word.now }
+{
+    matches!(word, [b'#', ..])
+}
