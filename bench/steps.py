@@ -11,7 +11,7 @@ import tempfile
 import time
 
 ROOT = os.path.dirname(os.path.dirname(os.path.abspath(__file__)))
-PROGRAM = os.path.join(ROOT, "crates", "gomp_runner", "out", "gomp_runner")
+PROGRAM = os.path.join(ROOT, "crates", "gomp_runner", "out", "ompteam")
 
 
 def text_of(members, lines):
