@@ -2,7 +2,10 @@
 """Times `ompteam steps` on texts of its own making: steps a second and peak memory.
 
 Each text is a team that runs loops of eight iterations for each member, in chunks of one: a start, eight
-calls for the next chunk, the last of which is answered `none`, and the end, ten lines for each member."""
+calls for the next chunk, the last of which is answered `none`, and the end, ten lines for each member.
+
+The peak memory that the system tells counts the launcher's own before the program begins (about 15 MB), so it
+says something of the program only where the text is large."""
 
 import os
 import subprocess
