@@ -1,2 +1,3 @@
 pub mod Answers
+pub mod CommandLine
 pub mod Serving

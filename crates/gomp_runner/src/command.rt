@@ -1,11 +1,15 @@
 //! The command line, and how the program ends.
 
+ghost use Rattle.std.specs.Prelude.{◌≡◌, ℕ, List, [], ◌∷◌, IfOk, map, codes};
+ghost use Rattle.clap.specs.Words.{FailsBy, app_of, kind_of};
+ghost use Rattle.gomp_runner.specs.CommandLine.{Ends, Stepped, Told, faults_of, ompteam, status_of};
+
 use crate::serve::{Ending, serve_steps};
 use clap::error::ErrorKind;
 use clap::{Command, Error};
-use std::alloc::Global;
+use std::alloc::{AllocError, Global};
 use std::convert::AsStr;
-use std::io::{Read, Write};
+use std::io::{self, Read, Write};
 
 /// What is told beside the output, on standard error.
 #[derive(Debug, Drop, PartialEq, Eq)]
@@ -36,29 +40,58 @@ pub fn serve<S: AsStr, R: Read + Drop, W: Write>(
     words: &[S],
     reader: R,
     writer: &mut W,
-) -> Status {
-    match is_accepted(alloc, words) {
+) -> Status
+    ensures ends { Ends (faults_of (map S.text words.now)) (R.remaining reader) (W.contents writer.old) (W.contents writer.new) result }
+    ensures steps { (name : List ℕ) → map S.text words.now ≡ name ∷ codes "steps" ∷ [] → Stepped (R.remaining reader) (W.contents writer.old) (W.contents writer.new) result }
+{
+    match accepted(alloc, words) {
         Ok(()) => ended(serve_steps(alloc, reader, writer)),
         Err(error) => told(alloc, &error, writer),
     }
 }
 
-/// Whether the words are those of `ompteam steps`.
-fn is_accepted<S: AsStr>(alloc: Global, words: &[S]) -> Result<(), Error> {
+/// Nothing where the words are those of `ompteam steps`, or why they are refused.
+fn accepted<S: AsStr>(alloc: Global, words: &[S]) -> Result<(), Error>
+    ensures { FailsBy (faults_of (map S.text words.now)) result }
+{
+    match ompteam(alloc)?.try_get_matches_from(words) {
+        Ok(_) => Ok(()),
+        Err(error) => Err(error),
+    }
+}
+
+/// The command, as its words are read and as its help shows it.
+fn ompteam<'a>(alloc: Global) -> Result<Command<'a>, AllocError>
+    ensures { IfOk result (λ command. app_of command ≡ ompteam) }
+{
     let steps = Command::new(alloc, "steps").about(
         "Run the text of steps on standard input and print each reply",
     );
-    let command = Command::new(alloc, "ompteam")
+    Command::new(alloc, "ompteam")
         .version("0.1.0")
         .about("An OpenMP team, step by step")
         .subcommand_required(true)
-        .subcommand(steps)?;
-    command.try_get_matches_from(words)?;
-    Ok(())
+        .subcommand(steps)
+}
+
+/// The end where the words of the command line cannot be had.
+pub fn without_words(alloc: Global, error: &io::Error) -> Status {
+    if let io::ErrorKind::OutOfMemory = error.kind() {
+        return ended(Ending::NoMemory);
+    }
+    match String::from_str(alloc, "error: a word of the command line is not UTF-8\n") {
+        Ok(text) => Status {
+            code: 1,
+            notes: Notes::Command(text),
+        },
+        Err(_) => ended(Ending::NoMemory),
+    }
 }
 
 /// The end where the text of steps was served.
-fn ended(ending: Ending) -> Status {
+fn ended(ending: Ending) -> Status
+    ensures { result ≡ status_of ending }
+{
     match ending {
         Ending::Answered(code) => Status {
             code,
@@ -80,7 +113,9 @@ fn ended(ending: Ending) -> Status {
 }
 
 /// The end where the words are no command: help and the version are written, a fault is noted.
-fn told<W: Write>(alloc: Global, error: &Error, writer: &mut W) -> Status {
+fn told<W: Write>(alloc: Global, error: &Error, writer: &mut W) -> Status
+    ensures { Told (kind_of error.now) (W.contents writer.old) (W.contents writer.new) result.notes result.code }
+{
     if let ErrorKind::OutOfMemory = error.kind() {
         return ended(Ending::NoMemory);
     }

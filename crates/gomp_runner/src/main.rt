@@ -11,14 +11,20 @@ mod serve;
 #[cfg(test)]
 mod worked;
 
-use command::{Notes, serve};
+use command::{Notes, Status, serve, without_words};
 use std::io;
 use std::process::ExitCode;
 
 fn main(rt: HostRuntime) -> io::Result<ExitCode> {
-    let alloc = rt.alloc();
-    let words: Vec<String> = std::env::args(&rt)?.collect(alloc)?;
-    let status = serve(alloc, words.as_slice(), rt.reader(), &mut io::writer(&rt));
+    let status = match words(&rt) {
+        Ok(words) => serve(
+            rt.alloc(),
+            words.as_slice(),
+            rt.reader(),
+            &mut io::writer(&rt),
+        ),
+        Err(error) => without_words(rt.alloc(), &error),
+    };
     match &status.notes {
         Notes::Nothing => {}
         Notes::NoMemory => eprintln!(rt; "no memory")?,
@@ -27,4 +33,9 @@ fn main(rt: HostRuntime) -> io::Result<ExitCode> {
         Notes::OutputFault => eprintln!(rt; "output fault")?,
     }
     Ok(ExitCode::from(status.code))
+}
+
+/// The words of the command line, the program's name first.
+fn words(rt: &HostRuntime) -> io::Result<Vec<String>> {
+    Ok(std::env::args(rt)?.collect(rt.alloc())?)
 }

@@ -1,22 +1,22 @@
 //! `ompteam steps`: reads a text of steps, runs it, and writes each reply on a line.
 
-ghost use Rattle.std.specs.Prelude.{ℕ, ◌≡◌, ◌≢◌, IfSome};
-ghost use Rattle.gomp_runner.specs.declared.serve.Ending.TheVariants.{Answered};
-ghost use Rattle.gomp_runner.specs.Serving.{Served};
+ghost use Rattle.std.specs.Prelude.{◌≡◌, IfOk, IfErr, IfSome};
+ghost use Rattle.std.specs.IoError.{error_kind};
+ghost use Rattle.gomp_runner.specs.Serving.{Whole, IsUnread, Serves, unread_as};
 
 use crate::answer::answer_steps;
 use std::alloc::Global;
 use std::io::{self, ErrorKind, Read, Write};
 
 /// The longest text that is read, in bytes (own).
-pub const MAX_TEXT: u64 = 1 << 24;
+pub const MAX_TEXT: u32 = 1 << 24;
 
 /// How the text of steps was served.
 #[derive(Clone, Copy, Debug, PartialEq, Eq)]
 pub enum Ending {
     /// The answer was written, and it ends with this status.
     Answered(u8),
-    /// Memory was refused.
+    /// Memory was refused; nothing is written.
     NoMemory,
     /// The text could not be read, or is longer than [`MAX_TEXT`]; nothing is written.
     InputFault,
@@ -26,16 +26,12 @@ pub enum Ending {
 
 /// Reads a text of steps, and writes the answer to it and nothing else.
 pub fn serve_steps<R: Read + Drop, W: Write>(alloc: Global, reader: R, writer: &mut W) -> Ending
-    ensures { (code : ℕ) → result ≡ Answered code → IfSome (R.remaining reader) (λ text. Served text (W.contents writer.old) (W.contents writer.new) code) }
+    ensures { Serves (R.remaining reader) (W.contents writer.old) (W.contents writer.new) result }
 {
-    let mut bounded = reader.take(MAX_TEXT + 1);
-    let mut text = Vec::new(alloc);
-    if let Err(error) = bounded.read_to_end(&mut text) {
-        return unread(&error);
-    }
-    if text.len() as u64 > MAX_TEXT {
-        return Ending::InputFault;
-    }
+    let text = match read_text(alloc, reader, MAX_TEXT) {
+        Ok(text) => text,
+        Err(ending) => return ending,
+    };
     let Ok(answer) = answer_steps(alloc, text.as_slice()) else {
         return Ending::NoMemory;
     };
@@ -45,9 +41,25 @@ pub fn serve_steps<R: Read + Drop, W: Write>(alloc: Global, reader: R, writer: &
     Ending::Answered(answer.code)
 }
 
+/// All that the reader gives, where that is at most `limit` bytes; or how the program ends.
+fn read_text<R: Read + Drop>(alloc: Global, reader: R, limit: u32) -> Result<Vec<u8>, Ending>
+    ensures whole { IfOk result (λ text. IfSome (R.remaining reader) (Whole limit text.items)) }
+    ensures unread { IfErr result IsUnread }
+{
+    let mut bounded = reader.take(limit as u64 + 1);
+    let mut text = Vec::new(alloc);
+    if let Err(error) = bounded.read_to_end(&mut text) {
+        return Err(unread(&error));
+    }
+    if text.len() > limit as usize {
+        return Err(Ending::InputFault);
+    }
+    Ok(text)
+}
+
 /// The end after a read that failed.
 fn unread(error: &io::Error) -> Ending
-    ensures { (code : ℕ) → result ≢ Answered code }
+    ensures { result ≡ unread_as (error_kind error.now) }
 {
     match error.kind() {
         ErrorKind::OutOfMemory => Ending::NoMemory,

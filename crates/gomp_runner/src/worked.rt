@@ -295,3 +295,99 @@ fn other_words(rt: HostRuntime) -> Result<(), Fail> {
     }
     Ok(())
 }
+
+/// A reader that gives a byte a read, and fails once as many reads are done as it may do.
+#[derive(Drop)]
+struct FailingReader<'a> {
+    text: &'a [u8],
+    reads: usize,
+}
+
+impl Read for FailingReader<'_> {
+    fn read(&mut self, buf: &mut [u8]) -> io::Result<usize> {
+        if self.reads == 0 {
+            return Err(io::Error::from(ErrorKind::TimedOut));
+        }
+        self.reads -= 1;
+        match (self.text, buf) {
+            ([first, rest @ ..], [place, ..]) => {
+                *place = *first;
+                self.text = rest;
+                Ok(1)
+            }
+            _ => Ok(0),
+        }
+    }
+}
+
+#[test]
+fn each_read_fails(rt: HostRuntime) -> Result<(), Fail> {
+    let text = b"team 1\n0 barrier\n";
+    for reads in 0..=text.len() {
+        let reader = FailingReader {
+            text: text.as_slice(),
+            reads,
+        };
+        let mut written = Vec::new(rt.alloc());
+        let status = serve(rt.alloc(), &["ompteam", "steps"], reader, &mut written);
+        assert_eq!(rt; status.notes, Notes::InputFault);
+        assert_eq!(rt; status.code, 1);
+        assert!(rt; written.is_empty());
+    }
+    let reader = FailingReader {
+        text: text.as_slice(),
+        reads: text.len() + 1,
+    };
+    let mut written = Vec::new(rt.alloc());
+    let status = serve(rt.alloc(), &["ompteam", "steps"], reader, &mut written);
+    assert_eq!(rt; status.notes, Notes::Nothing);
+    assert_eq!(rt; written.as_slice(), b"passed\n".as_slice());
+    Ok(())
+}
+
+/// A writer that takes a byte a write, and fails once as many writes are done as it may do.
+#[derive(Drop)]
+struct FailingWriter {
+    written: Vec<u8>,
+    writes: usize,
+}
+
+impl Write for FailingWriter {
+    fn write(&mut self, buf: &[u8]) -> io::Result<usize> {
+        let [first, ..] = buf else {
+            return Ok(0);
+        };
+        if self.writes == 0 {
+            return Err(io::Error::from(ErrorKind::BrokenPipe));
+        }
+        self.writes -= 1;
+        self.written.push(*first)?;
+        Ok(1)
+    }
+
+    fn flush(&mut self) -> io::Result<()> {
+        Ok(())
+    }
+}
+
+#[test]
+fn each_write_fails(rt: HostRuntime) -> Result<(), Fail> {
+    let output = b"none\nok\n";
+    for writes in 0..=output.len() {
+        let mut writer = FailingWriter {
+            written: Vec::new(rt.alloc()),
+            writes,
+        };
+        let text = b"team 1\n0 loop dynamic 1 0 0 1 nowait\n0 end_nowait\n".as_slice();
+        let status = serve(rt.alloc(), &["ompteam", "steps"], text, &mut writer);
+        let (notes, code) = if writes < output.len() {
+            (Notes::OutputFault, 1)
+        } else {
+            (Notes::Nothing, 0)
+        };
+        assert_eq!(rt; status.notes, notes);
+        assert_eq!(rt; status.code, code);
+        assert_eq!(rt; writer.written.as_slice(), &output[..writes]);
+    }
+    Ok(())
+}
