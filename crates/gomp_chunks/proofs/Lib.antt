@@ -1,1 +1,3 @@
+pub mod GuidedSpots
 pub mod PieceAt
+pub mod Queues

@@ -1,24 +1,22 @@
--- The pieces of a loop by their numbers: how many there are, which one has a number, and that it begins within the loop.
-use Rattle.std.proofs.Common.{◌≡◌, ℕ, ◌+◌, ◌*◌, ◌<◌, ◌≤◌, ◌∙◌, Some, refl, suc, ap, zero-add, suc-mul, arith}
-use Rattle.std.specs.Prelude.{length, slice_get}
+-- The pieces of a share by their numbers: how many there are, which one has a number, and that it lies within the loop.
+use Rattle.std.proofs.Common.{◌≡◌, ℕ, ◌+◌, ◌*◌, ◌/◌, ◌%◌, ◌<◌, ◌≤◌, ◌∙◌, Some, refl, suc, zero, ap, zero-add, suc-mul, add-one, arith}
+use Rattle.std.specs.Prelude.{min, length, slice_get}
 use Rattle.std.specs.Int.{div_ceil}
-use Rattle.std.proofs.Math.Nat.{mul-le-mul_right}
+use Rattle.std.proofs.Math.Nat.{mul-le-mul_right, mul_comm, mod-lt}
+use Rattle.std.proofs.lemmas.Nat.{div-add-mod'}
 use Rattle.std.proofs.lemmas.Grind.{div_ceil_times}
 use Rattle.std.proofs.lemmas.List.FromFn.{length-map-range_with_len, get_or-map-range_with_len}
 use Rattle.std.proofs.lemmas.Option.{slice_get-get_or}
-use Rattle.gomp_types.specs.declared.loop_desc.Sched.{Sched}
-use Rattle.gomp_types.specs.declared.loop_desc.Sched.TheVariants.{Dynamic}
-use Rattle.gomp_types.specs.declared.shape.Shape.{Shape}
-use Rattle.gomp_types.specs.Pieces.{Piece, dynamic_piece, dynamic_pieces, sched_pieces, pieces_of}
+use Rattle.gomp_types.specs.Pieces.{Piece, dynamic_piece, dynamic_pieces, even_piece, even_pieces}
 
--- Over the two numbers of a dynamic loop
+-- Pieces of the chunk's size
 
 -- there is a piece for each chunk that is begun
-length-dynamic_pieces : (trips chunk : ℕ) → length (dynamic_pieces trips chunk) ≡ div_ceil trips chunk
+pub length-dynamic_pieces : (trips chunk : ℕ) → length (dynamic_pieces trips chunk) ≡ div_ceil trips chunk
 length-dynamic_pieces trips chunk = length-map-range_with_len (dynamic_piece trips chunk) 0 (div_ceil trips chunk)
 
 -- each piece stands at its number
-slice_get-dynamic_pieces : (trips chunk j : ℕ) → j < length (dynamic_pieces trips chunk) → slice_get (dynamic_pieces trips chunk) j ≡ Some (dynamic_piece trips chunk j)
+pub slice_get-dynamic_pieces : (trips chunk j : ℕ) → j < length (dynamic_pieces trips chunk) → slice_get (dynamic_pieces trips chunk) j ≡ Some (dynamic_piece trips chunk j)
 slice_get-dynamic_pieces trips chunk j inside =
     let filler : Piece = (0, 0) in
     let below : j < div_ceil trips chunk = rw (← length-dynamic_pieces trips chunk) inside in
@@ -26,7 +24,7 @@ slice_get-dynamic_pieces trips chunk j inside =
     ∙ ap Some (get_or-map-range_with_len (dynamic_piece trips chunk) 0 (div_ceil trips chunk) j j filler below (zero-add j))
 
 -- each piece begins at an iteration
-dynamic_begins_within : (trips chunk j : ℕ) → 0 < chunk → j < length (dynamic_pieces trips chunk) → j * chunk < trips
+pub dynamic_begins_within : (trips chunk j : ℕ) → 0 < chunk → j < length (dynamic_pieces trips chunk) → j * chunk < trips
 dynamic_begins_within trips chunk j some inside =
     let below : j < div_ceil trips chunk = rw (← length-dynamic_pieces trips chunk) inside in
     let end = (div_ceil_times trips chunk some).1 in
@@ -34,17 +32,31 @@ dynamic_begins_within trips chunk j some inside =
     let next : suc j * chunk ≡ j * chunk + chunk = suc-mul j chunk in
     omega arith
 
--- Over a shape
+-- A piece for each member
 
--- while there is one schedule, each loop is dynamic
-sched_pieces-dynamic : (members : ℕ) (sched : Sched) (shape : Shape) → sched_pieces members sched shape ≡ dynamic_pieces shape.trips shape.chunk
-sched_pieces-dynamic members Dynamic shape = refl
+pub length-even_pieces : (trips members : ℕ) → length (even_pieces trips members) ≡ min trips members
+length-even_pieces trips members = length-map-range_with_len (even_piece trips members) 0 (min trips members)
 
-pub length-pieces_of : (members : ℕ) (shape : Shape) → length (pieces_of members shape) ≡ div_ceil shape.trips shape.chunk
-length-pieces_of members shape = rw (sched_pieces-dynamic members shape.sched shape) (length-dynamic_pieces shape.trips shape.chunk)
+pub slice_get-even_pieces : (trips members j : ℕ) → j < length (even_pieces trips members) → slice_get (even_pieces trips members) j ≡ Some (even_piece trips members j)
+slice_get-even_pieces trips members j inside =
+    let filler : Piece = (0, 0) in
+    let below : j < min trips members = rw (← length-even_pieces trips members) inside in
+    slice_get-get_or (even_pieces trips members) j filler inside
+    ∙ ap Some (get_or-map-range_with_len (even_piece trips members) 0 (min trips members) j j filler below (zero-add j))
 
-pub slice_get-pieces_of : (members j : ℕ) (shape : Shape) → j < length (pieces_of members shape) → slice_get (pieces_of members shape) j ≡ Some (dynamic_piece shape.trips shape.chunk j)
-slice_get-pieces_of members j shape = rw (sched_pieces-dynamic members shape.sched shape) (slice_get-dynamic_pieces shape.trips shape.chunk j)
+-- over the quotient and the rest
+rises : (trips members q r s : ℕ) → q * members + r ≡ trips → r < members → s < min trips members → ((s * q + min s r) < ((s + 1) * q + min (s + 1) r)) × (((s + 1) * q + min (s + 1) r) ≤ trips)
+rises trips members zero r s whole rest below =
+    let now : s * zero ≡ zero = omega arith in
+    let next : (s + 1) * zero ≡ zero = omega arith in
+    let none : zero * members ≡ zero = omega arith in
+    (omega arith, omega arith)
+rises trips members (suc q) r s whole rest below =
+    let next : (s + 1) * suc q ≡ s * suc q + suc q = ap (λ t. t * suc q) (add-one s) ∙ suc-mul s (suc q) in
+    let most : (s + 1) * suc q ≤ members * suc q = mul-le-mul_right (suc q) (omega arith) in
+    let turned : members * suc q ≡ suc q * members = mul_comm members (suc q) in
+    (omega arith, omega arith)
 
-pub begins_within : (members j : ℕ) (shape : Shape) → 0 < shape.chunk → j < length (pieces_of members shape) → j * shape.chunk < shape.trips
-begins_within members j shape some = rw (sched_pieces-dynamic members shape.sched shape) (dynamic_begins_within shape.trips shape.chunk j some)
+-- an even piece has an iteration, and ends within the loop
+pub even_within : (trips members j : ℕ) → j < min trips members → ((even_piece trips members j).0 < (even_piece trips members j).1) × ((even_piece trips members j).1 ≤ trips)
+even_within trips members j below = rises trips members (trips / members) (trips % members) j (div-add-mod' trips members) (mod-lt trips (omega arith)) below

@@ -1,37 +1,51 @@
 //! The pieces in which a work-share hands out its iterations, each computed when it is asked for.
 //!
 //! No list of pieces is kept and no memory is taken: a piece follows from the number of
-//! iterations, the chunk and the schedule alone (OpenMP API 5.2, section 11.5.3).
+//! iterations, the chunk, the kind of the share and the team's size (OpenMP API 5.2, section
+//! 11.5.3).
 #![tactic(auto)]
 
-ghost use Rattle.std.specs.Prelude.{◌≡◌, ◌<◌, ◌≤◌, ◌^◌, length, slice_get, IfSome, OnSome};
-ghost use Rattle.gomp_types.specs.Pieces.{pieces_of, Tiles};
-ghost use Rattle.gomp_types.specs.Values.{IsShape};
+pub mod chunked;
+pub mod cursor;
+pub mod even;
+pub mod guided;
 
+ghost use Rattle.std.specs.Prelude.{◌≡◌, ◌<◌, ◌≤◌, ◌^◌, ◌⊎◌, length, slice_get, IfSome, OnSome};
+ghost use Rattle.gomp_types.specs.declared.shape.ShareKind.TheVariants.{Guided};
+ghost use Rattle.gomp_types.specs.Pieces.{Tiles};
+ghost use Rattle.gomp_types.specs.Values.{IsShape};
+ghost use Rattle.gomp_chunks.specs.Plans.{next_piece, owner, piece_at, pieces};
+ghost use Rattle.gomp_chunks.specs.Spots.{IsSpot};
+
+use chunked::{chunked_count, chunked_piece};
+pub use cursor::Cursor;
+use even::{even_count, even_owner, even_piece};
 use gomp_types::laws::pieces_tile;
-use gomp_types::{Sched, Shape};
+use gomp_types::{Shape, ShareKind};
+use guided::{Spot, forward, guided_count, guided_piece};
 use std::marker::Model;
 
 /// The pieces of one work-share in the order of their iterations.
 ///
 /// A piece is given by its first iteration and the one after its last, both counted from 0.
-#[derive(Debug, Drop)]
+#[derive(Clone, Copy, Debug)]
 pub struct Plan {
     shape: Shape,
-    // No code reads it while each loop is dynamic, but which pieces there are may depend on it.
     members: u16,
 }
 
 impl Model for Plan {
-    ghost use Rattle.std.specs.Prelude.{List, ◌<◌};
-    ghost use Rattle.gomp_types.specs.Pieces.{Piece, pieces_of};
+    ghost use Rattle.std.specs.Prelude.{◌<◌};
     ghost use Rattle.gomp_types.specs.Values.{IsShape};
+    ghost use Rattle.gomp_chunks.specs.Plans.{PlanView};
 
-    ghost Value = { List Piece };
+    ghost Value = { PlanView };
 
-    ghost view = { λ plan. pieces_of plan.members plan.shape };
+    ghost view = { λ plan. record { members = plan.members; shape = plan.shape } };
 
     ghost invariant = { λ plan. IsShape plan.shape × (0 < plan.members) };
+
+    ghost inverse = { λ plan. record { members = plan.members; shape = plan.shape } };
 }
 
 impl Plan {
@@ -42,8 +56,8 @@ impl Plan {
     pub fn of(shape: &Shape, members: u16) -> Plan
         requires shape { IsShape shape.now }
         requires team { 0 < members }
-        ensures pieces { result ≡ pieces_of members shape.now }
-        ensures tiles { Tiles 0 result shape.now.trips }
+        ensures plan { result ≡ record { members = members; shape = shape.now } }
+        ensures tiles { Tiles 0 (pieces result) shape.now.trips }
     {
         // What `tiles` says follows from the definitions alone.
         pieces_tile();
@@ -53,91 +67,94 @@ impl Plan {
         }
     }
 
-    /// How many pieces there are, 0 to 2^39; none where the loop has no iterations.
+    /// How many pieces there are, 0 to 2^39; none where the loop has no iterations. Those of a guided
+    /// loop are counted anew at each call.
     pub fn chunks(&self) -> u64
-        ensures count { result ≡ length self.now }
+        ensures count { result ≡ length (pieces self.now) }
         ensures bounded { result ≤ 2 ^ 39 }
     {
-        match self.shape.sched {
-            Sched::Dynamic => self.shape.trips.div_ceil(self.shape.chunk),
+        match self.shape.kind {
+            ShareKind::StaticChunked | ShareKind::Dynamic => chunked_count(&self.shape),
+            ShareKind::StaticEven => even_count(&self.shape, self.members),
+            ShareKind::Guided => guided_count(&self.shape, self.members),
         }
     }
 
     /// Piece number `j`, counted from 0: its first iteration, and the one after its last. `None`
-    /// where `j` is past the last piece. Any number may be asked for, at the same small cost.
-    ///
-    /// A piece of a dynamic loop has as many iterations as the chunk says, and the last piece
-    /// perhaps fewer (OpenMP API 5.2, section 11.5.3, the `schedule` clause).
+    /// where `j` is past the last piece. Any number may be asked for, at the same small cost; only a
+    /// guided loop's pieces are gone over from the first one on (see [`Cursor`]).
     pub fn chunk(&self, j: u64) -> Option<(u64, u64)>
-        ensures piece { result ≡ slice_get self.now j }
+        ensures piece { result ≡ slice_get (pieces self.now) j }
 
-        // A piece has an iteration, and its ends and its number lie within the limits of a loop.
-        ensures within { IfSome result (λ piece. (piece.0 < piece.1) × (piece.1 ≤ 2 ^ 39)) }
-        ensures number { OnSome result (j < 2 ^ 39) }
+        // A piece has an iteration, and its ends and its number lie within the loop.
+        ensures within { IfSome result (λ piece. (piece.0 < piece.1) × (piece.1 ≤ self.now.shape.trips)) }
+        ensures number { OnSome result (j < self.now.shape.trips) }
     {
+        self.piece_from(self.spot_from(Spot::START, j), j)
+    }
+
+    /// The member that owns piece number `j` of a static loop. `None` where `j` is past the last
+    /// piece, and where the pieces belong to whoever asks next.
+    pub fn owner(&self, j: u64) -> Option<u16>
+        ensures { result ≡ owner self.now j }
+    {
+        let members = self.members;
         if j >= self.chunks() {
             return None;
         }
-        match self.shape.sched {
-            Sched::Dynamic => {
-                let first = j * self.shape.chunk;
-                Some((first, self.shape.trips.min(first + self.shape.chunk)))
-            }
+        match self.shape.kind {
+            ShareKind::StaticChunked => Some((j % members as u64) as u16),
+            ShareKind::StaticEven => Some(even_owner(members, j)),
+            ShareKind::Dynamic | ShareKind::Guided => None,
+        }
+    }
+
+    /// The number of the piece that a member takes next, where it took `own` pieces and all members
+    /// together took `all`: of a static loop its own next one, of others the next one of all. `None`,
+    /// or a number past the last piece, where nothing is left for it.
+    pub fn next_number(&self, member: u16, own: u64, all: u64) -> Option<u64>
+        requires { member < self.now.members }
+        ensures { next_piece self.now member own all ≡ piece_at self.now result }
+    {
+        match self.shape.kind {
+            ShareKind::StaticChunked if own >= chunked_count(&self.shape) => None,
+            ShareKind::StaticChunked => Some(own * self.members as u64 + member as u64),
+            ShareKind::StaticEven if own > 0 => None,
+            ShareKind::StaticEven => Some(member as u64),
+            ShareKind::Dynamic | ShareKind::Guided => Some(all),
+        }
+    }
+
+    /// The spot of piece number `j`, from one that lies before it; one that is not looked for stays.
+    fn spot_from(&self, start: Spot, j: u64) -> Spot
+        requires spot { IsSpot self.now.members self.now.shape start }
+        requires ahead { start.number ≤ j }
+        ensures spot { IsSpot self.now.members self.now.shape result }
+        ensures ahead { result.number ≤ j }
+        ensures there { self.now.shape.kind ≡ Guided → (result.number ≡ j) ⊎ (result.first ≡ self.now.shape.trips) }
+    {
+        match self.shape.kind {
+            ShareKind::Guided => forward(&self.shape, self.members, start, j),
+            _ => start,
+        }
+    }
+
+    /// Piece number `j`, where this is its spot.
+    fn piece_from(&self, spot: Spot, j: u64) -> Option<(u64, u64)>
+        requires spot { IsSpot self.now.members self.now.shape spot }
+        requires ahead { spot.number ≤ j }
+        requires there { self.now.shape.kind ≡ Guided → (spot.number ≡ j) ⊎ (spot.first ≡ self.now.shape.trips) }
+        ensures piece { result ≡ slice_get (pieces self.now) j }
+        ensures within { IfSome result (λ piece. (piece.0 < piece.1) × (piece.1 ≤ self.now.shape.trips)) }
+        ensures number { OnSome result (j < self.now.shape.trips) }
+    {
+        match self.shape.kind {
+            ShareKind::StaticChunked | ShareKind::Dynamic => chunked_piece(&self.shape, j),
+            ShareKind::StaticEven => even_piece(&self.shape, self.members, j),
+            ShareKind::Guided => guided_piece(&self.shape, self.members, spot, j),
         }
     }
 }
 
 #[cfg(test)]
-mod tests {
-    use super::*;
-    use gomp_types::{EndKind, LoopDesc};
-    use std::test::Fail;
-
-    // The longest loop has 2^39 iterations.
-    const LONGEST: i64 = 549_755_813_888;
-
-    // So many pieces it has in chunks of one.
-    const MOST: u64 = 549_755_813_888;
-
-    #[test]
-    fn answers_each_piece(rt: HostRuntime) -> Result<(), Fail> {
-        // A loop's iterations, its chunk and how many pieces that makes; a number, and the piece
-        // that has it.
-        let table = [
-            (LONGEST, 1, MOST, 0, Some((0, 1))),
-            (LONGEST, 1, MOST, MOST - 1, Some((MOST - 1, MOST))),
-            (LONGEST, 1, MOST, MOST, None),
-            (LONGEST, 1, MOST, u64::MAX, None),
-            (LONGEST, LONGEST, 1, 0, Some((0, MOST))),
-            (LONGEST, LONGEST, 1, 1, None),
-            (10, 3, 4, 0, Some((0, 3))),
-            (10, 3, 4, 1, Some((3, 6))),
-            (10, 3, 4, 2, Some((6, 9))),
-            (10, 3, 4, 3, Some((9, 10))),
-            (10, 3, 4, 4, None),
-            (0, 3, 0, 0, None),
-        ];
-        for (trips, chunk, count, j, piece) in table {
-            let desc = LoopDesc {
-                start: 0,
-                end: trips,
-                incr: 1,
-                sched: Sched::Dynamic,
-                chunk,
-                end_kind: EndKind::Wait,
-            };
-            let plan = Plan::of(&desc.shape()?, 4);
-            assert_eq!(rt;
-                plan.chunks(),
-                count,
-                "{trips} iterations in chunks of {chunk}"
-            );
-            assert_eq!(rt;
-                plan.chunk(j),
-                piece,
-                "piece {j} of {trips} iterations in chunks of {chunk}"
-            );
-        }
-        Ok(())
-    }
-}
+mod tests;

@@ -8,6 +8,8 @@
 
 mod answer;
 mod arrivals;
+#[cfg(test)]
+mod schedules;
 pub mod steps;
 pub mod team;
 mod waiting;

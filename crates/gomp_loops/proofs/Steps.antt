@@ -1,5 +1,5 @@
 -- What a member sees, and the piece that it was given, in the words of the events.
-use Rattle.std.proofs.Common.{◌≡◌, ℕ, ◌+◌, ◌-◌, ◌<◌, ◌≤◌, Bool, true, false, List, [], ◌∷◌, ◌++◌, Option, Some, None, Ok, refl, ap, ◌∙◌, sym, subst, arith}
+use Rattle.std.proofs.Common.{◌≡◌, ℕ, ◌+◌, ◌-◌, ◌<◌, ◌≤◌, Bool, true, false, List, [], ◌∷◌, ◌++◌, Option, Some, None, Ok, Err, refl, ap, ◌∙◌, sym, subst, arith}
 use Rattle.std.proofs.lemmas.Bool.Decides.{nat_tests}
 use Rattle.std.specs.Prelude.{pos, ◌≢◌, ◌==◌, nat_le, is_some}
 use Rattle.gomp_types.specs.declared.call.Call.TheVariants.{LoopStart, LoopNext}
@@ -63,6 +63,14 @@ head_fails false refusal tests e = refl
 
 pub start_outside : (limits : Limits) (seen : Seen) (loop : LoopDesc) → first_refusal (own_start_tests limits seen loop) ≡ None → is_some seen.current ≡ false
 start_outside limits seen loop e = head_fails (is_some seen.current) InsideShare (loop_tests loop ++ (nat_le limits.shares seen.entered, TooManyShares) ∷ []) e
+
+-- a member outside of every share is refused as its loop is
+pub start_own : (limits : Limits) (seen : Seen) (loop : LoopDesc) (refusal : Refusal) → is_some seen.current ≡ false → first_refusal (loop_tests loop) ≡ Some refusal → first_refusal (own_start_tests limits seen loop) ≡ Some refusal
+start_own limits seen loop refusal out e = rw out (front_holds (loop_tests loop) ((nat_le limits.shares seen.entered, TooManyShares) ∷ []) refusal e)
+
+pub outcome_refused : {A : Type 0} (first : Option Refusal) (value : A) (refusal : Refusal) → outcome first value ≡ Err refusal → first ≡ Some refusal
+outcome_refused None value refusal e = absurd (cc)
+outcome_refused (Some found) value refusal e = let same : found ≡ refusal = cc in ap Some same
 
 -- the shape that a loop was found to have
 pub outcome_value : {A : Type 0} (first : Option Refusal) (value found : A) → outcome first value ≡ Ok found → found ≡ value

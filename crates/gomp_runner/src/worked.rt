@@ -21,7 +21,7 @@ fn writes(rt: &impl Abort, alloc: Global, text: &str, output: &str, code: u8) ->
 
 #[test]
 fn texts(rt: HostRuntime) -> Result<(), Fail> {
-    let rows: [(&str, &str, u8); 13] = [
+    let rows: [(&str, &str, u8); 19] = [
         // a loop of two members
         (
             "team 2\n\
@@ -206,6 +206,128 @@ fn texts(rt: HostRuntime) -> Result<(), Fail> {
             "refused E12 ZeroStep\n",
             0,
         ),
+        // a static loop without a chunk
+        (
+            "team 4\n\
+             0 loop static 0 0 10 1 nowait\n\
+             1 loop static 0 0 10 1 nowait\n\
+             2 loop static 0 0 10 1 nowait\n\
+             3 loop static 0 0 10 1 nowait\n\
+             0 next\n\
+             1 next\n\
+             2 next\n\
+             3 next\n",
+            "chunk 0 3\n\
+             chunk 3 3\n\
+             chunk 6 2\n\
+             chunk 8 2\n\
+             none\n\
+             none\n\
+             none\n\
+             none\n",
+            0,
+        ),
+        // the same with fewer iterations than members
+        (
+            "team 4\n\
+             0 loop static 0 0 2 1 nowait\n\
+             1 loop static 0 0 2 1 nowait\n\
+             2 loop static 0 0 2 1 nowait\n\
+             3 loop static 0 0 2 1 nowait\n\
+             0 next\n\
+             1 next\n",
+            "chunk 0 1\n\
+             chunk 1 1\n\
+             none\n\
+             none\n\
+             none\n\
+             none\n",
+            0,
+        ),
+        // a static loop with a chunk
+        (
+            "team 2\n\
+             0 loop static 3 0 10 1 nowait\n\
+             0 next\n\
+             0 next\n\
+             1 loop static 3 0 10 1 nowait\n\
+             1 next\n\
+             1 next\n",
+            "chunk 0 3\n\
+             chunk 6 3\n\
+             none\n\
+             chunk 3 3\n\
+             chunk 9 1\n\
+             none\n",
+            0,
+        ),
+        // the same, asked in another order
+        (
+            "team 2\n\
+             1 loop static 3 0 10 1 nowait\n\
+             0 loop static 3 0 10 1 nowait\n\
+             1 next\n\
+             1 next\n\
+             0 next\n\
+             0 next\n",
+            "chunk 3 3\n\
+             chunk 0 3\n\
+             chunk 9 1\n\
+             none\n\
+             chunk 6 3\n\
+             none\n",
+            0,
+        ),
+        // a guided loop
+        (
+            "team 4\n\
+             0 loop guided 2 0 20 1 nowait\n\
+             1 loop guided 2 0 20 1 nowait\n\
+             2 loop guided 2 0 20 1 nowait\n\
+             3 loop guided 2 0 20 1 nowait\n\
+             0 next\n\
+             1 next\n\
+             2 next\n\
+             3 next\n\
+             0 next\n",
+            "chunk 0 5\n\
+             chunk 5 4\n\
+             chunk 9 3\n\
+             chunk 12 2\n\
+             chunk 14 2\n\
+             chunk 16 2\n\
+             chunk 18 2\n\
+             none\n\
+             none\n",
+            0,
+        ),
+        // the same, asked in another order
+        (
+            "team 4\n\
+             3 loop guided 2 0 20 1 nowait\n\
+             3 next\n\
+             1 loop guided 2 0 20 1 nowait\n\
+             3 next\n\
+             3 next\n\
+             1 next\n\
+             3 next\n\
+             3 next\n\
+             0 loop guided 2 0 20 1 nowait\n\
+             2 loop guided 2 0 20 1 nowait\n\
+             1 next\n",
+            "chunk 0 5\n\
+             chunk 5 4\n\
+             chunk 9 3\n\
+             chunk 12 2\n\
+             chunk 14 2\n\
+             chunk 16 2\n\
+             chunk 18 2\n\
+             none\n\
+             none\n\
+             none\n\
+             none\n",
+            0,
+        ),
         // no text
         ("", "bad line 1: first line\n", 1),
         // no members
@@ -232,7 +354,7 @@ fn bad_lines(rt: HostRuntime) -> Result<(), Fail> {
         ("team 1\nx foo\n", "bad line 2: unknown word\n"),
         ("team 1\n0 loop dynamic x\n", "bad line 2: missing word\n"),
         (
-            "team 1\n0 loop guided 1 0 1 1 wait\n",
+            "team 1\n0 loop auto 1 0 1 1 wait\n",
             "bad line 2: unknown word\n",
         ),
         (

@@ -4,7 +4,7 @@ use Rattle.gomp_types.specs.declared.call.Call.{Call}
 use Rattle.gomp_types.specs.declared.call.Call.TheVariants.{LoopStart, LoopNext, LoopEnd, LoopEndNowait, Barrier, RegionEnd, Resume}
 use Rattle.gomp_types.specs.declared.call.Step.{Step}
 use Rattle.gomp_types.specs.declared.loop_desc.Sched.{Sched}
-use Rattle.gomp_types.specs.declared.loop_desc.Sched.TheVariants.{Dynamic}
+use Rattle.gomp_types.specs.declared.loop_desc.Sched.TheVariants.{Static, Dynamic, Guided, Runtime}
 use Rattle.gomp_types.specs.declared.loop_desc.EndKind.{EndKind}
 use Rattle.gomp_types.specs.declared.loop_desc.EndKind.TheVariants.{Wait, Nowait}
 use Rattle.gomp_types.specs.Record.{shown}
@@ -40,7 +40,12 @@ finished (word ∷ words) = Err ExtraWord
 -- The words of a list
 
 abbrev pub sched_of : List ℕ → Option Sched
-sched_of word = if same_word word (codes "dynamic") then Some Dynamic else None
+sched_of word =
+    if same_word word (codes "static") then Some Static
+    else if same_word word (codes "dynamic") then Some Dynamic
+    else if same_word word (codes "guided") then Some Guided
+    else if same_word word (codes "runtime") then Some Runtime
+    else None
 
 abbrev pub end_of : List ℕ → Option EndKind
 end_of word = if same_word word (codes "wait") then Some Wait else if same_word word (codes "nowait") then Some Nowait else None

@@ -213,8 +213,17 @@ fn is_word(word: &[u8], name: &[u8]) -> bool
 fn sched_of(word: &[u8]) -> Option<Sched>
     ensures { result ≡ sched_of word.now }
 {
+    if is_word(word, b"static") {
+        return Some(Sched::Static);
+    }
     if is_word(word, b"dynamic") {
         return Some(Sched::Dynamic);
+    }
+    if is_word(word, b"guided") {
+        return Some(Sched::Guided);
+    }
+    if is_word(word, b"runtime") {
+        return Some(Sched::Runtime);
     }
     None
 }

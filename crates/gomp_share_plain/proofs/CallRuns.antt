@@ -1,18 +1,20 @@
 -- A list of calls, one by one.
-use Rattle.std.proofs.Common.{◌≡◌, ℕ, ◌<◌, Bool, true, false, List, [], ◌∷◌, ◌++◌, length, Some, None, Err, refl, arith}
-use Rattle.std.specs.Prelude.{Option, ◌&&◌, nat_lt, is_none, is_ok}
+use Rattle.std.proofs.Common.{◌≡◌, ℕ, ◌<◌, Bool, true, false, List, [], ◌∷◌, ◌++◌, length, Some, None, Ok, Err, refl, arith}
+use Rattle.std.specs.Prelude.{Option, ◌&&◌, ◌^◌, nat_lt, is_none, is_some, is_ok}
 use Rattle.std.proofs.lemmas.Bool.Decides.{nat_tests}
 use Rattle.gomp_types.specs.declared.loop_desc.LoopDesc.{LoopDesc}
 use Rattle.gomp_types.specs.declared.refusal.Refusal.{Refusal}
+use Rattle.gomp_types.specs.declared.shape.Shape.{Shape}
+use Rattle.gomp_types.specs.Values.{IsShape}
 use Rattle.gomp_types.specs.declared.event.Event.{Event}
 use Rattle.gomp_types.specs.Tests.{first_refusal, outcome}
 use Rattle.gomp_types.specs.Iterations.{loop_tests}
-use Rattle.gomp_types.proofs.Booleans.{and_right}
+use Rattle.gomp_types.proofs.Booleans.{and_left, and_right}
 use Rattle.gomp_share_plain.specs.declared.Seen.{Seen}
 use Rattle.gomp_share_plain.specs.declared.calls.ShareCall.TheVariants.{Open}
 use Rattle.gomp_share_plain.specs.declared.calls.ShareStep.{ShareStep}
 use Rattle.gomp_share_plain.specs.declared.calls.ShareAnswer.{ShareAnswer}
-use Rattle.gomp_share_plain.specs.Calls.{seen_of}
+use Rattle.gomp_share_plain.specs.Calls.{CanOpen, seen_of}
 use Rattle.gomp_share_plain.specs.Runs.{may_make, is_made, IsAnswer, answered, events_after, AreAnswers}
 
 -- a loop is fine where none of its tests holds
@@ -26,6 +28,28 @@ none_is (Some x) e = absurd (cc)
 
 pub loop_fine : (seen : Seen) (loop : LoopDesc) → may_make seen (Open loop) ≡ true → first_refusal (loop_tests loop) ≡ None
 loop_fine seen loop e = none_is (first_refusal (loop_tests loop)) (and_right _ (is_none (first_refusal (loop_tests loop))) e)
+
+pub outcome_value : {A : Type 0} (first : Option Refusal) (value found : A) → outcome first value ≡ Ok found → found ≡ value
+outcome_value None value found e = cc
+outcome_value (Some refusal) value found e = absurd (cc)
+
+-- where a loop may be opened, its member is outside and has entered few shares
+pub opens_loop : (seen : Seen) (loop : LoopDesc) → may_make seen (Open loop) ≡ true → (is_none seen.current && nat_lt seen.entered (2 ^ 48)) ≡ true
+opens_loop seen loop e = and_left _ (is_none (first_refusal (loop_tests loop))) e
+
+pub can_open : (members m : ℕ) (shape : Shape) (seen : Seen) → m < members → IsShape shape → (is_none seen.current && nat_lt seen.entered (2 ^ 48)) ≡ true → CanOpen members m shape seen
+can_open members m shape seen lt valid may =
+    let few = and_right (is_none seen.current) (nat_lt seen.entered (2 ^ 48)) may in
+    record {
+      member = lt;
+      valid = valid;
+      outside = outside_is seen.current (and_left (is_none seen.current) (nat_lt seen.entered (2 ^ 48)) may);
+      few = grind (arith, nat_tests, few);
+    }
+  where
+    outside_is : {A : Type 0} (own : Option A) → is_none own ≡ true → is_some own ≡ false
+    outside_is None e = refl
+    outside_is (Some x) e = absurd (cc)
 
 never_err : {A : Type 0} (first : Option Refusal) (value : A) (refusal : Refusal) → first ≡ None → outcome first value ≡ Err refusal → ⊥
 never_err None value refusal fine e = absurd (cc)

@@ -1,3 +1,3 @@
-pub mod OneQueue
+pub mod Takes
 pub mod PlainKeeps
 pub mod CallRuns

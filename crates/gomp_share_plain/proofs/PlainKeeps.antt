@@ -14,6 +14,9 @@ use Rattle.gomp_types.specs.Events.{entered, open_share, open_number, share_numb
 use Rattle.gomp_types.specs.Refusals.{shape_differs}
 use Rattle.gomp_types.specs.Values.{IsShape}
 use Rattle.gomp_types.specs.Deals.{Deal, IsDealt, schedule, next_for}
+use Rattle.gomp_types.specs.Record.{shown}
+use Rattle.gomp_chunks.specs.Plans.{PlanView, next_piece}
+use Rattle.gomp_chunks.specs.Spots.{CursorView}
 use Rattle.gomp_types.specs.Rules.{Always, ShareRule, MayEnter, MayTake, HasNone}
 use Rattle.gomp_types.proofs.Booleans.{some_of, every_tells, every_by, or_tells, or_left, or_right, none_of}
 use Rattle.gomp_types.proofs.Compared.{same_shape_is}
@@ -22,9 +25,9 @@ use Rattle.gomp_share_plain.specs.Calls.{Claims, CanLeave, seen_of}
 use Rattle.gomp_share_plain.specs.declared.Seen.{Seen}
 use Rattle.gomp_share_plain.specs.declared.plain.Seat.{Seat}
 use Rattle.gomp_share_plain.specs.declared.plain.OpenShare.{OpenShare}
-use Rattle.gomp_share_plain.specs.Plain.{SeatStands, PlaceStands, StandsFor, PlainView, plain_seen, taken_for}
+use Rattle.gomp_share_plain.specs.Plain.{SeatStands, PlaceStands, StandsFor, PlainView, plain_seen, taken_by, taken_of}
 use Rattle.gomp_share_plain.specs.PlainLaws.{plain_agrees}
-use Rattle.gomp_share_plain.proofs.OneQueue.{next_piece, taken_here, taken_else}
+use Rattle.gomp_share_plain.proofs.Takes.{next_is_for, next_shown, shown_more, taken_here, taken_mine, taken_theirs, taken_else}
 
 -- Where a member is
 
@@ -58,7 +61,7 @@ room_by members seats count places h number st each =
     elim (cases_Bool (nat_lt number 8)) [
       | inl low ↦ or_left (nat_lt number 8) (is_over members (number - 8) h) low
       | inr high ↦ or_right (nat_lt number 8) (is_over members (number - 8) h) (every_by members (λ m. has_ended (number - 8) m h) (λ m lt.
-          let none : Seat = record { started = 0; ended = 0; drained = false } in
+          let none : Seat = record { started = 0; ended = 0; drained = false; taken = 0 } in
           let size = st.size in
           let at : slice_get seats m ≡ Some (get_or seats m none) = slice_get-get_or seats m none (omega arith) in
           let near = each m _ at in
@@ -108,6 +111,8 @@ seat_enters m k seat opened more shape h i s other le room kept = record {
   started = grind (arith, nat_tests, s.started);
   ended = s.ended;
   drained = grind (arith, nat_tests, s.drained);
+  taken = s.taken;
+  fresh = s.fresh;
   in_order = s.in_order;
   one = s.one;
   known = let k = s.known in omega arith;
@@ -119,11 +124,13 @@ seat_enters m k seat opened more shape h i s other le room kept = record {
 -- the seat of the member that enters
 own_enters : (m : ℕ) (seat : Seat) (opened more : ℕ) (shape : Shape) (h : List Event) → SeatStands m seat opened h → seat.started ≡ seat.ended → seat.started + 1 ≤ more → more ≤ seat.ended + 8 →
     shape_at seat.started (Enter (entered m h) m shape ∷ h) ≡ Some shape →
-    SeatStands m (record { started = seat.started + 1; ended = seat.ended; drained = false }) more (Enter (entered m h) m shape ∷ h)
+    SeatStands m (record { started = seat.started + 1; ended = seat.ended; drained = false; taken = 0 }) more (Enter (entered m h) m shape ∷ h)
 own_enters m seat opened more shape h s even known near there = record {
   started = grind (arith, nat_tests, s.started);
   ended = s.ended;
   drained = grind (arith, nat_tests);
+  taken = λ e. let none = s.fresh seat.ended (omega arith) in omega arith;
+  fresh = λ i le. s.fresh i (omega arith);
   in_order = omega arith;
   one = omega arith;
   known = known;
@@ -148,7 +155,7 @@ enter_rule members m shape h lt out valid fair same room = record {
 pub enters : (members : ℕ) (seats : List Seat) (opened : ℕ) (places : List (Option OpenShare)) (h : List Event) (m : ℕ) (seat : Seat) (shape : Shape) →
     StandsFor members seats opened places h → slice_get seats m ≡ Some seat → is_inside m h ≡ false → seat.started < opened → IsShape shape → IsDealt (schedule members) members shape →
     shape_at seat.started h ≡ Some shape →
-    StandsFor members (slice_set seats m (record { started = seat.started + 1; ended = seat.ended; drained = false })) opened places (Enter (entered m h) m shape ∷ h)
+    StandsFor members (slice_set seats m (record { started = seat.started + 1; ended = seat.ended; drained = false; taken = 0 })) opened places (Enter (entered m h) m shape ∷ h)
 enters members seats opened places h m seat shape st at out before valid fair same =
     let s : SeatStands m seat opened h = st.seat m seat at in
     let here : entered m h ≡ seat.started = s.started in
@@ -172,6 +179,7 @@ enters members seats opened places h m seat shape st at out before valid fair sa
         there = p.there;
         shape = grind (arith, nat_tests, p.shape, same, here);
         taken_is = p.taken_is;
+        cursor_is = p.cursor_is;
         valid = p.valid;
       };
       beyond = λ i past. (grind (arith, nat_tests, (st.beyond i past).0, here), (st.beyond i past).1);
@@ -191,11 +199,11 @@ places_apart : (i j n : ℕ) → i ≢ j → i < n → j < n → n ≤ i + 8 →
 places_apart i j n differ a b c d same = absurd (omega (arith, differ))
 
 -- a member opens the next share
-pub opens : (members : ℕ) (seats : List Seat) (count : ℕ) (places : List (Option OpenShare)) (h : List Event) (m : ℕ) (seat : Seat) (shape : Shape) →
+pub opens : (members : ℕ) (seats : List Seat) (count : ℕ) (places : List (Option OpenShare)) (h : List Event) (m : ℕ) (seat : Seat) (shape : Shape) (cursor : CursorView) → cursor.plan ≡ record { members = members; shape = shape } →
     StandsFor members seats count places h → slice_get seats m ≡ Some seat → is_inside m h ≡ false → seat.started ≡ count → IsShape shape → IsDealt (schedule members) members shape →
     ((k : ℕ) (other : Seat) → slice_get seats k ≡ Some other → count < other.ended + 8) →
-    StandsFor members (slice_set seats m (record { started = count + 1; ended = seat.ended; drained = false })) (count + 1) (slice_set places (count % 8) (Some (record { shape = shape; taken = 0 }))) (Enter (entered m h) m shape ∷ h)
-opens members seats count places h m seat shape st at out now valid fair room =
+    StandsFor members (slice_set seats m (record { started = count + 1; ended = seat.ended; drained = false; taken = 0 })) (count + 1) (slice_set places (count % 8) (Some (record { shape = shape; taken = 0; cursor = cursor }))) (Enter (entered m h) m shape ∷ h)
+opens members seats count places h m seat shape cursor plan st at out now valid fair room =
     let s : SeatStands m seat count h = st.seat m seat at in
     let here : entered m h ≡ count = s.started ∙ now in
     let even : seat.started ≡ seat.ended = outside m seat count h s out in
@@ -218,10 +226,11 @@ opens members seats count places h m seat shape st at out now valid fair room =
       ];
       place = λ i low high. elim (eqb_tells i count) [
         | inl e ↦ record {
-          share = record { shape = shape; taken = 0 };
+          share = record { shape = shape; taken = 0; cursor = cursor };
           there = rw e.1 (slice_get-set_same places (count % 8) _ within);
           shape = grind (arith, nat_tests, here, e.1);
-          taken_is = λ k. ap (λ n. taken_for members shape n k h) e.1 ∙ none.1 ((schedule members).queue_of shape) ((schedule members).queue_of shape k);
+          taken_is = let zero_taken = none.1 (λ k. 0) 0 in ap (λ n. shown (taken_of n h)) e.1 ∙ ap shown zero_taken;
+          cursor_is = plan;
           valid = valid;
         }
         | inr e ↦
@@ -232,6 +241,7 @@ opens members seats count places h m seat shape st at out now valid fair room =
               there = slice_get-set_other places (count % 8) (i % 8) _ apart ∙ p.there;
               shape = grind (arith, nat_tests, here, e.1, p.shape);
               taken_is = p.taken_is;
+              cursor_is = p.cursor_is;
               valid = p.valid;
             }
       ];
@@ -256,8 +266,8 @@ next_is members seats count places h m seat st at past = let k = (st.seat m seat
 
 -- Places
 
-pub place_is : (places : List (Option OpenShare)) (k : ℕ) (share : Option OpenShare) → k < length places → get_or places k None ≡ share → slice_get places k ≡ Some share
-place_is places k share lt e = slice_get-get_or places k None lt ∙ ap Some e
+pub place_is : (places : List (Option OpenShare)) (k : ℕ) (none share : Option OpenShare) → k < length places → get_or places k none ≡ share → slice_get places k ≡ Some share
+place_is places k none share lt e = slice_get-get_or places k none lt ∙ ap Some e
 
 -- the place of a share that others opened
 pub known_place : (members : ℕ) (seats : List Seat) (count : ℕ) (places : List (Option OpenShare)) (h : List Event) (m : ℕ) (seat : Seat) →
@@ -286,6 +296,9 @@ here_is members i place share h p e = let both : Some (Some p.share) ≡ Some (S
 pub here_valid : (members i : ℕ) (place : Option (Option OpenShare)) (share : OpenShare) (h : List Event) → PlaceStands members i place h → place ≡ Some (Some share) → IsShape share.shape
 here_valid members i place share h p e = rw (← here_is members i place share h p e) p.valid
 
+pub here_plan : (members i : ℕ) (place : Option (Option OpenShare)) (share : OpenShare) (h : List Event) → PlaceStands members i place h → place ≡ Some (Some share) → share.cursor.plan ≡ record { members = members; shape = share.shape }
+here_plan members i place share h p e = rw (← here_is members i place share h p e) p.cursor_is
+
 pub shape_here : (members i : ℕ) (place : Option (Option OpenShare)) (share : OpenShare) (h : List Event) → PlaceStands members i place h → place ≡ Some (Some share) → shape_at i h ≡ Some share.shape
 shape_here members i place share h p e = p.shape ∙ ap (λ (v : OpenShare). Some v.shape) (here_is members i place share h p e)
 
@@ -300,41 +313,32 @@ same_here members i place share shape h p e same = shape_here members i place sh
 
 -- Taking
 
--- a piece of a list that tiles lies between its ends
-tiles_rise : (low high : ℕ) (pieces : List Piece) → Tiles low pieces high → low ≤ high
-tiles_rise low high [] tiles = omega arith
-tiles_rise low high (piece ∷ pieces) tiles = let rest = tiles_rise piece.1 high pieces tiles.2 in let some = tiles.1 in omega arith
-
-piece_within : (low high : ℕ) (pieces : List Piece) (n : ℕ) (piece : Piece) → Tiles low pieces high → slice_get pieces n ≡ Some piece → (piece.0 < piece.1) × (piece.1 ≤ high)
-piece_within low high [] n piece tiles at = absurd (cc)
-piece_within low high (first ∷ pieces) zero piece tiles at =
-    let same : first ≡ piece = let t = at in cc in
-    let begin = tiles.0 in let some = tiles.1 in let rest = tiles_rise first.1 high pieces tiles.2 in
-    rw (← same) (omega arith, rest)
-piece_within low high (first ∷ pieces) (suc n) piece tiles at = piece_within first.1 high pieces n piece tiles.2 at
-
-answer_within : (low high : ℕ) (pieces : List Piece) (n : ℕ) (answer : Option Piece) → Tiles low pieces high → answer ≡ slice_get pieces n → IfSome answer (λ piece. (piece.0 < piece.1) × (piece.1 ≤ high))
-answer_within low high pieces n None tiles is = tt
-answer_within low high pieces n (Some piece) tiles is = piece_within low high pieces n piece tiles (sym is)
-
 -- what the member may take
 pub piece_at : (members : ℕ) (seats : List Seat) (count : ℕ) (places : List (Option OpenShare)) (h : List Event) (m : ℕ) (seat : Seat) (share : OpenShare) (answer : Option Piece) →
     StandsFor members seats count places h → slice_get seats m ≡ Some seat → is_inside m h ≡ true → slice_get places (seat.ended % 8) ≡ Some (Some share) →
-    answer ≡ slice_get (pieces_of members share.shape) share.taken → Tiles 0 (pieces_of members share.shape) share.shape.trips → Claims members m answer h
-piece_at members seats count places h m seat share answer st at within found is tiles =
+    answer ≡ next_piece share.cursor.plan m seat.taken share.taken → IfSome answer (λ piece. (piece.0 < piece.1) × (piece.1 ≤ share.cursor.plan.shape.trips)) →
+    (IsShape share.shape → Tiles 0 (pieces_of members share.shape) share.shape.trips) → Claims members m answer h
+piece_at members seats count places h m seat share answer st at within found is size tiles =
     let s : SeatStands m seat count h = st.seat m seat at in
     let p = own_place members seats count places h m seat st at within in
     let same = here_is members seat.ended (slice_get places (seat.ended % 8)) share h p found in
-    let own = s.inside (inside m seat count h s within) in
+    let full = inside m seat count h s within in
+    let own = s.inside full in
     let one_shape : Some own.0 ≡ Some share.shape = sym own.2 ∙ shape_here members seat.ended (slice_get places (seat.ended % 8)) share h p found in
     let shape : own.0 ≡ share.shape = let e = one_shape in cc in
-    let count_is : taken_for members share.shape seat.ended m h ≡ share.taken = rw (← same) (p.taken_is m) in
+    let valid = here_valid members seat.ended (slice_get places (seat.ended % 8)) share h p found in
+    let plan : share.cursor.plan ≡ record { members = members; shape = share.shape } = rw (← same) p.cursor_is in
+    let all : shown (taken_of seat.ended h) ≡ share.taken = rw (← same) p.taken_is in
+    let view : PlanView = record { members = members; shape = share.shape } in
+    let next : answer ≡ next_piece view m seat.taken share.taken = is ∙ ap (λ (p : PlanView). next_piece p m seat.taken share.taken) plan in
+    let least : answer ≡ next_piece view m (shown (taken_by seat.ended m h)) (shown (taken_of seat.ended h)) =
+    next ∙ sym (ap (λ n. next_piece view m n share.taken) (s.taken full)) ∙ sym (ap (λ n. next_piece view m (shown (taken_by seat.ended m h)) n) all) in
     record {
       share = (seat.ended, share.shape);
       there = own.1 ∙ ap (λ (v : Shape). Some (seat.ended, v)) shape;
-      valid = here_valid members seat.ended (slice_get places (seat.ended % 8)) share h p found;
-      least = is ∙ ap (slice_get (pieces_of members share.shape)) (sym count_is) ∙ sym (next_piece members share.shape seat.ended m h);
-      within = answer_within 0 share.shape.trips (pieces_of members share.shape) share.taken answer tiles is;
+      valid = valid;
+      least = least ∙ next_shown members share.shape m (taken_by seat.ended m h) (taken_of seat.ended h) valid (tiles valid) ∙ sym (next_is_for members share.shape seat.ended m h);
+      within = subst (λ (plan : PlanView). IfSome answer (λ piece. (piece.0 < piece.1) × (piece.1 ≤ plan.shape.trips))) plan size;
     }
 
 take_rule : (members m : ℕ) (piece : Piece) (h : List Event) → Claims members m (Some piece) h → MayTake (schedule members) (open_number m h) m piece.0 piece.1 h
@@ -348,10 +352,10 @@ none_rule members m h claims =
     rw number (record { shape = claims.share.1; inside = claims.there; none = sym claims.least })
 
 -- a member takes a piece
-pub claims : (members : ℕ) (seats : List Seat) (count : ℕ) (places : List (Option OpenShare)) (h : List Event) (m : ℕ) (seat : Seat) (share : OpenShare) (piece : Piece) →
+pub claims : (members : ℕ) (seats : List Seat) (count : ℕ) (places : List (Option OpenShare)) (h : List Event) (m : ℕ) (seat : Seat) (share : OpenShare) (piece : Piece) (cursor : CursorView) → cursor.plan ≡ share.cursor.plan →
     StandsFor members seats count places h → slice_get seats m ≡ Some seat → is_inside m h ≡ true → slice_get places (seat.ended % 8) ≡ Some (Some share) → Claims members m (Some piece) h →
-    StandsFor members seats count (slice_set places (seat.ended % 8) (Some (record { shape = share.shape; taken = share.taken + 1 }))) (Take (open_number m h) m piece.0 piece.1 ∷ h)
-claims members seats count places h m seat share piece st at within found may =
+    StandsFor members (slice_set seats m (record { started = seat.started; ended = seat.ended; drained = seat.drained; taken = shown (seat.taken + 1) })) count (slice_set places (seat.ended % 8) (Some (record { shape = share.shape; taken = shown (share.taken + 1); cursor = cursor }))) (Take (open_number m h) m piece.0 piece.1 ∷ h)
+claims members seats count places h m seat share piece cursor plan st at within found may =
     let s : SeatStands m seat count h = st.seat m seat at in
     let here : open_number m h ≡ seat.ended = inside_number m seat count h s within in
     let one : seat.started ≡ seat.ended + 1 = inside m seat count h s within in
@@ -359,29 +363,47 @@ claims members seats count places h m seat share piece st at within found may =
     let now = own_place members seats count places h m seat st at within in
     let same = here_is members seat.ended (slice_get places (seat.ended % 8)) share h now found in
     record {
-      size = st.size;
+      size = length-set seats m _ ∙ st.size;
       team = st.team;
       eight = length-set places (seat.ended % 8) _ ∙ st.eight;
-      seat = λ k other at_k. let o : SeatStands k other count h = st.seat k other at_k in record {
-        started = o.started;
-        ended = o.ended;
-        drained = o.drained;
-        in_order = o.in_order;
-        one = o.one;
-        known = o.known;
-        near = o.near;
-        outside = o.outside;
-        inside = o.inside;
-      };
+      seat = λ k other at_k. elim (slice_get-set seats m k _ other at_k) [
+        | inl e ↦ rw (e.0, e.1) (record {
+          started = s.started;
+          ended = s.ended;
+          drained = s.drained;
+          taken = λ full. rw here (ap shown (taken_mine seat.ended m piece.0 piece.1 h) ∙ shown_more (taken_by seat.ended m h) ∙ ap (λ n. shown (n + 1)) (s.taken one));
+          fresh = λ i le. taken_else (λ k. k) m i (open_number m h) m piece.0 piece.1 h (rw here (other_number i seat.ended (λ equal. omega arith))) ∙ s.fresh i le;
+          in_order = s.in_order;
+          one = s.one;
+          known = s.known;
+          near = s.near;
+          outside = s.outside;
+          inside = s.inside;
+        })
+        | inr e ↦ let o : SeatStands k other count h = st.seat k other e.1 in record {
+          started = o.started;
+          ended = o.ended;
+          drained = o.drained;
+          taken = λ full. ap shown (taken_theirs other.ended (open_number m h) k m piece.0 piece.1 h e.0) ∙ o.taken full;
+          fresh = λ i le. taken_theirs i (open_number m h) k m piece.0 piece.1 h e.0 ∙ o.fresh i le;
+          in_order = o.in_order;
+          one = o.one;
+          known = o.known;
+          near = o.near;
+          outside = o.outside;
+          inside = o.inside;
+        }
+      ];
       place = λ i low high. elim (eqb_tells i seat.ended) [
         | inl e ↦ record {
-          share = record { shape = share.shape; taken = share.taken + 1 };
+          share = record { shape = share.shape; taken = shown (share.taken + 1); cursor = cursor };
           there = rw e.1 (slice_get-set_same places (seat.ended % 8) _ room);
           shape = ap (λ n. shape_at n h) e.1 ∙ shape_here members seat.ended (slice_get places (seat.ended % 8)) share h now found;
-          taken_is = λ k.
-              let before : taken_for members share.shape seat.ended k h ≡ share.taken = rw (← same) (now.taken_is k) in
-              subst (λ (n : ℕ). taken_for members share.shape n k (Take (open_number m h) m piece.0 piece.1 ∷ h) ≡ share.taken + 1) (sym e.1)
-              (rw here (taken_here members seat.ended k m piece.0 piece.1 share.shape h ∙ ap (λ (n : ℕ). n + 1) before));
+          taken_is =
+              let before : shown (taken_of seat.ended h) ≡ share.taken = rw (← same) now.taken_is in
+              subst (λ (n : ℕ). shown (taken_of n (Take (open_number m h) m piece.0 piece.1 ∷ h)) ≡ shown (share.taken + 1)) (sym e.1)
+              (rw here (ap shown (taken_here seat.ended m piece.0 piece.1 h) ∙ shown_more (taken_of seat.ended h) ∙ ap (λ (n : ℕ). shown (n + 1)) before));
+          cursor_is = plan ∙ (rw (← same) now.cursor_is);
           valid = rw (← same) now.valid;
         }
         | inr e ↦
@@ -392,7 +414,8 @@ claims members seats count places h m seat share piece st at within found may =
               share = p.share;
               there = slice_get-set_other places (seat.ended % 8) (i % 8) _ apart ∙ p.there;
               shape = p.shape;
-              taken_is = λ k. taken_else ((schedule members).queue_of p.share.shape) ((schedule members).queue_of p.share.shape k) i (open_number m h) m piece.0 piece.1 h away ∙ p.taken_is k;
+              taken_is = ap shown (taken_else (λ k. 0) 0 i (open_number m h) m piece.0 piece.1 h away) ∙ p.taken_is;
+              cursor_is = p.cursor_is;
               valid = p.valid;
             }
       ];
@@ -409,7 +432,7 @@ claims members seats count places h m seat share piece st at within found may =
 -- a member is told that nothing is left
 pub drains : (members : ℕ) (seats : List Seat) (count : ℕ) (places : List (Option OpenShare)) (h : List Event) (m : ℕ) (seat : Seat) →
     StandsFor members seats count places h → slice_get seats m ≡ Some seat → Claims members m None h →
-    StandsFor members (slice_set seats m (record { started = seat.started; ended = seat.ended; drained = true })) count places (Drained (open_number m h) m ∷ h)
+    StandsFor members (slice_set seats m (record { started = seat.started; ended = seat.ended; drained = true; taken = seat.taken })) count places (Drained (open_number m h) m ∷ h)
 drains members seats count places h m seat st at may =
     let s : SeatStands m seat count h = st.seat m seat at in
     record {
@@ -421,6 +444,8 @@ drains members seats count places h m seat st at may =
           started = s.started;
           ended = s.ended;
           drained = grind (arith, nat_tests);
+          taken = s.taken;
+          fresh = s.fresh;
           in_order = s.in_order;
           one = s.one;
           known = s.known;
@@ -432,6 +457,8 @@ drains members seats count places h m seat st at may =
           started = o.started;
           ended = o.ended;
           drained = grind (arith, nat_tests, o.drained, e.0);
+          taken = o.taken;
+          fresh = o.fresh;
           in_order = o.in_order;
           one = o.one;
           known = o.known;
@@ -445,6 +472,7 @@ drains members seats count places h m seat st at may =
         there = p.there;
         shape = p.shape;
         taken_is = p.taken_is;
+        cursor_is = p.cursor_is;
         valid = p.valid;
       };
       beyond = st.beyond;
@@ -456,7 +484,7 @@ drains members seats count places h m seat st at may =
 -- a member leaves its share, of which it was told that nothing is left
 pub leaves : (members : ℕ) (seats : List Seat) (count : ℕ) (places : List (Option OpenShare)) (h : List Event) (m : ℕ) (seat : Seat) →
     StandsFor members seats count places h → slice_get seats m ≡ Some seat → is_inside m h ≡ true → HasNone (schedule members) (open_number m h) m h →
-    StandsFor members (slice_set seats m (record { started = seat.started; ended = seat.ended + 1; drained = seat.drained })) count places (End (open_number m h) m ∷ h)
+    StandsFor members (slice_set seats m (record { started = seat.started; ended = seat.ended + 1; drained = seat.drained; taken = seat.taken })) count places (End (open_number m h) m ∷ h)
 leaves members seats count places h m seat st at within none =
     let s : SeatStands m seat count h = st.seat m seat at in
     let here : open_number m h ≡ seat.ended = inside_number m seat count h s within in
@@ -470,6 +498,8 @@ leaves members seats count places h m seat st at within none =
           started = s.started;
           ended = λ i. grind (arith, nat_tests, s.ended i, here, full);
           drained = s.drained;
+          taken = λ e. absurd (omega arith);
+          fresh = s.fresh;
           in_order = omega arith;
           one = omega arith;
           known = s.known;
@@ -481,6 +511,8 @@ leaves members seats count places h m seat st at within none =
           started = o.started;
           ended = λ i. grind (arith, nat_tests, o.ended i, e.0);
           drained = o.drained;
+          taken = o.taken;
+          fresh = o.fresh;
           in_order = o.in_order;
           one = o.one;
           known = o.known;
@@ -494,6 +526,7 @@ leaves members seats count places h m seat st at within none =
         there = p.there;
         shape = p.shape;
         taken_is = p.taken_is;
+        cursor_is = p.cursor_is;
         valid = p.valid;
       };
       beyond = st.beyond;
@@ -512,14 +545,14 @@ pub known_by : (view now : PlainView) → view ≡ now → (h : List Event) × S
 known_by view now e (h, st) = (h, rw (← e) st)
 
 -- new shares stand for no events
-pub made : (seats : List Seat) (n : ℕ) → n < 2 ^ 16 → seats ≡ replicate n (record { started = 0; ended = 0; drained = false }) →
+pub made : (seats : List Seat) (n : ℕ) → n < 2 ^ 16 → seats ≡ replicate n (record { started = 0; ended = 0; drained = false; taken = 0 }) →
     StandsFor (length seats) seats 0 (None ∷ None ∷ None ∷ None ∷ None ∷ None ∷ None ∷ None ∷ []) []
 made seats n small e = record {
   size = refl;
-  team = rw e (rw (length-replicate {A = Seat} n (record { started = 0; ended = 0; drained = false })) small);
+  team = rw e (rw (length-replicate {A = Seat} n (record { started = 0; ended = 0; drained = false; taken = 0 })) small);
   eight = refl;
   seat = λ m seat at.
-      let new : Seat = record { started = 0; ended = 0; drained = false } in
+      let new : Seat = record { started = 0; ended = 0; drained = false; taken = 0 } in
       let in_new : slice_get (replicate n new) m ≡ Some seat = rw e at at in
       let lt : m < n = rw (length-replicate n new) at (slice_get_within _ m seat in_new) in
       let one : new ≡ seat = sym (get_or-replicate n m new seat lt) ∙ get_or_from_slice_get (replicate n new) m seat seat in_new in
@@ -527,6 +560,8 @@ made seats n small e = record {
         started = refl;
         ended = λ i. grind (arith, nat_tests);
         drained = refl;
+        taken = λ e. absurd (omega arith);
+        fresh = λ i le. refl;
         in_order = omega arith;
         one = omega arith;
         known = omega arith;

@@ -4,6 +4,7 @@ use Rattle.gomp_types.specs.declared.shape.Shape.{Shape}
 use Rattle.gomp_types.specs.declared.event.Event.{Event}
 use Rattle.gomp_types.specs.Values.{IsShape}
 use Rattle.gomp_types.specs.Events.{entered, open_share, has_ended, has_drained, shape_at}
+use Rattle.gomp_types.specs.Record.{shown}
 use Rattle.gomp_types.specs.Deals.{schedule, taken_in}
 use Rattle.gomp_types.specs.Rules.{Always, ShareRule}
 use Rattle.gomp_share_plain.specs.declared.Seen.{Seen}
@@ -16,11 +17,21 @@ pub record PlainView : Type 0 where
   pub opened : ℕ
   pub places : List (Option OpenShare)
 
+-- how many pieces of a share were taken, and how many of them by one member
+abbrev pub taken_of : ℕ → List Event → ℕ
+taken_of share h = taken_in (λ m. 0) share 0 h
+
+abbrev pub taken_by : ℕ → ℕ → List Event → ℕ
+taken_by share m h = taken_in (λ k. k) share m h
+
 -- a member's seat says what it entered and left, and it is near the newest share
 pub record SeatStands (m : ℕ) (seat : Seat) (opened : ℕ) (h : List Event) : Type 0 where
   pub started : entered m h ≡ seat.started
   pub ended : (i : ℕ) → has_ended i m h ≡ nat_lt i seat.ended
   pub drained : has_drained m h ≡ seat.drained
+  -- how many pieces it took of the share that it is in, and none of those that it has not entered
+  pub taken : seat.started ≡ seat.ended + 1 → shown (taken_by seat.ended m h) ≡ seat.taken
+  pub fresh : (i : ℕ) → seat.started ≤ i → taken_by i m h ≡ 0
   pub in_order : seat.ended ≤ seat.started
   pub one : seat.started ≤ seat.ended + 1
   pub known : seat.started ≤ opened
@@ -28,16 +39,13 @@ pub record SeatStands (m : ℕ) (seat : Seat) (opened : ℕ) (h : List Event) : 
   pub outside : seat.started ≡ seat.ended → open_share m h ≡ None
   pub inside : seat.started ≡ seat.ended + 1 → (shape : Shape) × (open_share m h ≡ Some (seat.ended, shape)) × (shape_at seat.ended h ≡ Some shape)
 
--- how many pieces were taken of those that are the member's to take
-abbrev pub taken_for : ℕ → Shape → ℕ → ℕ → List Event → ℕ
-taken_for members shape share m h = taken_in ((schedule members).queue_of shape) share ((schedule members).queue_of shape m) h
-
--- the place of a share has its shape, and how many pieces were taken from the one queue of all members
+-- the place of a share has its shape, a cursor in its pieces, and how many of them were taken
 pub record PlaceStands (members i : ℕ) (place : Option (Option OpenShare)) (h : List Event) : Type 0 where
   pub share : OpenShare
   pub there : place ≡ Some (Some share)
   pub shape : shape_at i h ≡ Some share.shape
-  pub taken_is : (m : ℕ) → taken_for members share.shape i m h ≡ share.taken
+  pub taken_is : shown (taken_of i h) ≡ share.taken
+  pub cursor_is : share.cursor.plan ≡ record { members = members; shape = share.shape }
   pub valid : IsShape share.shape
 
 pub record StandsFor (members : ℕ) (seats : List Seat) (opened : ℕ) (places : List (Option OpenShare)) (h : List Event) : Type 0 where

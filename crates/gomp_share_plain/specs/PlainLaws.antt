@@ -33,7 +33,7 @@ seen_inside members m seat opened places h s one p =
 pub plain_agrees : (members : ℕ) (seats : List Seat) (opened : ℕ) (places : List (Option OpenShare)) (h : List Event) (m : ℕ) → StandsFor members seats opened places h → m < length seats →
     plain_seen seats places m ≡ seen_of m h
 plain_agrees members seats opened places h m st lt =
-    let none : Seat = record { started = 0; ended = 0; drained = false } in
+    let none : Seat = record { started = 0; ended = 0; drained = false; taken = 0 } in
     let at : slice_get seats m ≡ Some (get_or seats m none) = slice_get-get_or seats m none lt in
     let s : SeatStands m (get_or seats m none) opened h = st.seat m _ at in
     ap (seat_seen places) at ∙ elim (eqb_tells (get_or seats m none).started (get_or seats m none).ended) [
@@ -51,16 +51,16 @@ SameFor event h =
 
 aside_same : (event : Event) (h : List Event) → IsAside event → SameFor event h
 aside_same (Arrive barrier m tag) h is = (
-  (λ k seat opened s. record { started = s.started; ended = s.ended; drained = s.drained; in_order = s.in_order; one = s.one; known = s.known; near = s.near; outside = s.outside; inside = s.inside }),
-  (λ members i place p. record { share = p.share; there = p.there; shape = p.shape; taken_is = p.taken_is; valid = p.valid }),
+  (λ k seat opened s. record { started = s.started; ended = s.ended; drained = s.drained; taken = s.taken; fresh = s.fresh; in_order = s.in_order; one = s.one; known = s.known; near = s.near; outside = s.outside; inside = s.inside }),
+  (λ members i place p. record { share = p.share; there = p.there; shape = p.shape; taken_is = p.taken_is; cursor_is = p.cursor_is; valid = p.valid }),
 )
 aside_same (Pass barrier m) h is = (
-  (λ k seat opened s. record { started = s.started; ended = s.ended; drained = s.drained; in_order = s.in_order; one = s.one; known = s.known; near = s.near; outside = s.outside; inside = s.inside }),
-  (λ members i place p. record { share = p.share; there = p.there; shape = p.shape; taken_is = p.taken_is; valid = p.valid }),
+  (λ k seat opened s. record { started = s.started; ended = s.ended; drained = s.drained; taken = s.taken; fresh = s.fresh; in_order = s.in_order; one = s.one; known = s.known; near = s.near; outside = s.outside; inside = s.inside }),
+  (λ members i place p. record { share = p.share; there = p.there; shape = p.shape; taken_is = p.taken_is; cursor_is = p.cursor_is; valid = p.valid }),
 )
 aside_same (Break m place) h is = (
-  (λ k seat opened s. record { started = s.started; ended = s.ended; drained = s.drained; in_order = s.in_order; one = s.one; known = s.known; near = s.near; outside = s.outside; inside = s.inside }),
-  (λ members i place p. record { share = p.share; there = p.there; shape = p.shape; taken_is = p.taken_is; valid = p.valid }),
+  (λ k seat opened s. record { started = s.started; ended = s.ended; drained = s.drained; taken = s.taken; fresh = s.fresh; in_order = s.in_order; one = s.one; known = s.known; near = s.near; outside = s.outside; inside = s.inside }),
+  (λ members i place p. record { share = p.share; there = p.there; shape = p.shape; taken_is = p.taken_is; cursor_is = p.cursor_is; valid = p.valid }),
 )
 aside_same _ h is = absurd is
 

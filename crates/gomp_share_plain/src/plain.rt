@@ -6,7 +6,7 @@ ghost use Rattle.gomp_share_plain.specs.Plain.{StandsFor, plain_seen, share_ther
 ghost use Rattle.gomp_share_plain.specs.PlainLaws.{plain_aside, plain_agrees};
 
 use crate::{Opening, Seen, Shares};
-use gomp_chunks::Plan;
+use gomp_chunks::{Cursor, Plan};
 use gomp_types::{OPEN_SHARES, Shape, laws};
 use std::alloc::{AllocError, Global};
 use std::marker::Model;
@@ -20,6 +20,8 @@ pub struct Seat {
     ended: u64,
     /// Whether it was told that nothing is left of the last.
     drained: bool,
+    /// How many pieces it took of the last; like every count, it stays at the largest number.
+    taken: u64,
 }
 
 /// A share that some member may still be in.
@@ -28,6 +30,8 @@ pub struct OpenShare {
     shape: Shape,
     /// How many of its pieces were taken.
     taken: u64,
+    /// Where the last of them lies.
+    cursor: Cursor,
 }
 
 /// The work-shares of a team, for one thread. Share `i` lies at place `i % 8` until share `i + 8`
@@ -70,6 +74,7 @@ impl Shares for PlainShares {
             started: 0,
             ended: 0,
             drained: false,
+            taken: 0,
         };
         Ok(PlainShares {
             seats: vec![in alloc; seat; count as usize]?,
@@ -94,6 +99,7 @@ impl Shares for PlainShares {
 
     fn try_open(&mut self, member: u16, shape: &Shape) -> Opening {
         laws::fair_schedule();
+        let members = self.seats.len() as u16;
         let seat = self.seats[member as usize];
         let number = seat.started;
         let place = (number % 8) as usize;
@@ -108,6 +114,7 @@ impl Shares for PlainShares {
                 started: number + 1,
                 ended: seat.ended,
                 drained: false,
+                taken: 0,
             };
             return Opening::Entered;
         }
@@ -117,34 +124,41 @@ impl Shares for PlainShares {
         self.places[place] = Some(OpenShare {
             shape: *shape,
             taken: 0,
+            cursor: Cursor::new(Plan::of(shape, members)),
         });
         self.opened = number + 1;
         self.seats[member as usize] = Seat {
             started: number + 1,
             ended: seat.ended,
             drained: false,
+            taken: 0,
         };
         Opening::Entered
     }
 
     fn claim(&mut self, member: u16) -> Option<(u64, u64)> {
+        laws::pieces_tile();
         let seat = self.seats[member as usize];
         let place = (seat.ended % 8) as usize;
         let Some(share) = self.places[place] else {
             return None;
         };
-        let plan = Plan::of(&share.shape, self.seats.len() as u16);
-        let Some(piece) = plan.chunk(share.taken) else {
+        let mut cursor = share.cursor;
+        let Some(piece) = cursor.next_piece(member, seat.taken, share.taken) else {
             self.seats[member as usize] = Seat {
-                started: seat.started,
-                ended: seat.ended,
                 drained: true,
+                ..seat
             };
             return None;
         };
+        self.seats[member as usize] = Seat {
+            taken: seat.taken.saturating_add(1),
+            ..seat
+        };
         self.places[place] = Some(OpenShare {
             shape: share.shape,
-            taken: share.taken + 1,
+            taken: share.taken.saturating_add(1),
+            cursor,
         });
         Some(piece)
     }
@@ -202,11 +216,15 @@ mod tests {
     }
 
     fn dynamic(end: i64, chunk: i64, end_kind: EndKind) -> ShareCall {
+        open(Sched::Dynamic, end, chunk, end_kind)
+    }
+
+    fn open(sched: Sched, end: i64, chunk: i64, end_kind: EndKind) -> ShareCall {
         Open(LoopDesc {
             start: 0,
             end,
             incr: 1,
-            sched: Sched::Dynamic,
+            sched,
             chunk,
             end_kind,
         })
@@ -238,6 +256,45 @@ mod tests {
             (1, Leave, Left),
             (0, Claim, NotMade),
             (2, open, NotMade),
+        ];
+        walk(&rt, rt.alloc(), &lines)
+    }
+
+    #[test]
+    fn hands_out_what_each_member_owns(rt: HostRuntime) -> Result<(), Fail> {
+        let chunked = open(Sched::Static, 10, 3, EndKind::Wait);
+        let even = open(Sched::Static, 1, 0, EndKind::Wait);
+        let lines = [
+            (1, chunked, Opened(Opening::Entered)),
+            (1, Claim, Claimed(Some((3, 6)))),
+            (1, Claim, Claimed(Some((9, 10)))),
+            (1, Claim, Claimed(None)),
+            (1, Leave, Left),
+            (1, even, Opened(Opening::Entered)),
+            (1, Claim, Claimed(None)),
+            (0, chunked, Opened(Opening::Entered)),
+            (0, Claim, Claimed(Some((0, 3)))),
+            (0, Claim, Claimed(Some((6, 9)))),
+            (0, Claim, Claimed(None)),
+            (0, Leave, Left),
+            (0, even, Opened(Opening::Entered)),
+            (0, Claim, Claimed(Some((0, 1)))),
+            (0, Claim, Claimed(None)),
+        ];
+        walk(&rt, rt.alloc(), &lines)
+    }
+
+    #[test]
+    fn shrinks_guided_pieces(rt: HostRuntime) -> Result<(), Fail> {
+        let guided = open(Sched::Guided, 10, 2, EndKind::Wait);
+        let lines = [
+            (0, guided, Opened(Opening::Entered)),
+            (0, Claim, Claimed(Some((0, 5)))),
+            (1, guided, Opened(Opening::Entered)),
+            (1, Claim, Claimed(Some((5, 8)))),
+            (0, Claim, Claimed(Some((8, 10)))),
+            (0, Claim, Claimed(None)),
+            (1, Claim, Claimed(None)),
         ];
         walk(&rt, rt.alloc(), &lines)
     }

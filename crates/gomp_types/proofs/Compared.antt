@@ -1,20 +1,24 @@
 -- Constructs that compare as one are one.
 use Rattle.std.proofs.Common.{◌≡◌, true, false, Option, Some, None, refl}
 use Rattle.std.proofs.lemmas.Bool.Decides.{Decides-int_eq, Decides-eqb}
-use Rattle.gomp_types.specs.declared.loop_desc.Sched.{Sched}
-use Rattle.gomp_types.specs.declared.loop_desc.Sched.TheVariants.{Dynamic}
+use Rattle.gomp_types.specs.declared.shape.ShareKind.{ShareKind}
+use Rattle.gomp_types.specs.declared.shape.ShareKind.TheVariants.{StaticChunked, StaticEven, Dynamic, Guided}
 use Rattle.gomp_types.specs.declared.loop_desc.EndKind.{EndKind}
 use Rattle.gomp_types.specs.declared.loop_desc.EndKind.TheVariants.{Wait, Nowait}
 use Rattle.gomp_types.specs.declared.shape.Shape.{Shape}
 use Rattle.gomp_types.specs.declared.event.Arrival.{Arrival}
 use Rattle.gomp_types.specs.declared.event.Arrival.TheVariants.{Barrier, ShareEnd, RegionEnd}
 use Rattle.gomp_types.specs.declared.event.Tag.{Tag}
-use Rattle.gomp_types.specs.Shapes.{same_sched, same_end, same_shape, same_arrival, same_tag}
+use Rattle.gomp_types.specs.Shapes.{same_kind, same_end, same_shape, same_arrival, same_tag}
 use Rattle.gomp_types.specs.Refusals.{shape_differs, tag_differs}
 use Rattle.gomp_types.proofs.Booleans.{and_left, and_right, not_false}
 
-same_sched_is : (a b : Sched) → same_sched a b ≡ true → a ≡ b
-same_sched_is Dynamic Dynamic e = refl
+same_kind_is : (a b : ShareKind) → same_kind a b ≡ true → a ≡ b
+same_kind_is StaticChunked StaticChunked e = refl
+same_kind_is StaticEven StaticEven e = refl
+same_kind_is Dynamic Dynamic e = refl
+same_kind_is Guided Guided e = refl
+same_kind_is _ _ e = absurd (cc)
 
 same_end_is : (a b : EndKind) → same_end a b ≡ true → a ≡ b
 same_end_is Wait Wait e = refl
@@ -36,10 +40,10 @@ same_shape_is a b e =
     let start : a.start ≡ b.start = (Decides-int_eq a.start b.start).0 (and_left _ _ e2) in
     let incr : a.incr ≡ b.incr = (Decides-int_eq a.incr b.incr).0 (and_right _ _ e2) in
     let trips : a.trips ≡ b.trips = (Decides-eqb a.trips b.trips).0 (and_right _ _ e3) in
-    let sched : a.sched ≡ b.sched = same_sched_is a.sched b.sched (and_right _ _ e4) in
+    let kind : a.kind ≡ b.kind = same_kind_is a.kind b.kind (and_right _ _ e4) in
     let chunk : a.chunk ≡ b.chunk = (Decides-eqb a.chunk b.chunk).0 (and_right _ _ e5) in
     let end : a.end_kind ≡ b.end_kind = same_end_is a.end_kind b.end_kind (and_right _ _ e) in
-    rw (start, incr, trips, sched, chunk, end) refl
+    rw (start, incr, trips, kind, chunk, end) refl
 
 pub same_tag_is : (a b : Tag) → same_tag a b ≡ true → a ≡ b
 same_tag_is a b e =

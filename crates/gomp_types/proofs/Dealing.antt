@@ -1,11 +1,17 @@
 -- Each schedule deals fairly to each share.
-use Rattle.std.proofs.Common.{ℕ, ◌<◌, List, refl, arith}
-use Rattle.gomp_types.specs.declared.loop_desc.Sched.{Sched}
-use Rattle.gomp_types.specs.declared.loop_desc.Sched.TheVariants.{Dynamic}
+use Rattle.std.proofs.Common.{ℕ, ◌+◌, ◌*◌, ◌%◌, ◌<◌, List, refl, arith, length}
+use Rattle.std.specs.Prelude.{min}
+use Rattle.std.proofs.Math.Nat.{mod-lt}
+use Rattle.std.proofs.lemmas.List.FromFn.{length-map-range_with_len}
 use Rattle.gomp_types.specs.declared.shape.Shape.{Shape}
-use Rattle.gomp_types.specs.Pieces.{Piece, Tiles, sched_pieces, pieces_of}
+use Rattle.gomp_types.specs.declared.shape.ShareKind.{ShareKind}
+use Rattle.gomp_types.specs.declared.shape.ShareKind.TheVariants as kinds
+use Rattle.gomp_types.specs.Pieces.{Piece, Tiles, kind_pieces, pieces_of, even_piece, even_pieces}
 use Rattle.gomp_types.specs.Values.{IsShape}
 use Rattle.gomp_types.specs.Deals.{IsDealt, one_queue, deal_of, schedule}
+use Rattle.gomp_types.proofs.EvenTiling.{even_tiles}
+use Rattle.gomp_types.proofs.GuidedTiling.{guided_tiles}
+use Rattle.gomp_types.proofs.Owned.{own_queues_deal}
 use Rattle.gomp_types.proofs.Tiling.{dynamic_tiles, times_once, times_most, piece_some}
 
 -- one queue for all is fair where its pieces tile the iterations
@@ -19,19 +25,33 @@ one_queue_deals pieces members shape some tiles = record {
   taker = λ k lt. (0, some, refl);
 }
 
-sched_deals : (members : ℕ) (shape : Shape) (sched : Sched) → 0 < members → 0 < shape.chunk → IsDealt (deal_of members sched) members shape
-sched_deals members shape Dynamic team some =
-    one_queue_deals (sched_pieces members Dynamic) members shape team (dynamic_tiles shape.trips shape.chunk some)
+-- the pieces of a share tile its iterations, whatever its kind
+kind_tiles : (members : ℕ) (shape : Shape) (kind : ShareKind) → 0 < members → 0 < shape.chunk → Tiles 0 (kind_pieces members kind shape) shape.trips
+kind_tiles members shape kinds.StaticChunked team some = dynamic_tiles shape.trips shape.chunk some
+kind_tiles members shape kinds.StaticEven team some = even_tiles shape.trips members team
+kind_tiles members shape kinds.Dynamic team some = dynamic_tiles shape.trips shape.chunk some
+kind_tiles members shape kinds.Guided team some = guided_tiles shape.trips members shape.chunk some
 
--- Whatever the share's schedule
+-- there are no more even pieces than members
+even_owned : (trips members j : ℕ) → j < length (even_pieces trips members) → j < members
+even_owned trips members j within =
+    let count = length-map-range_with_len (even_piece trips members) 0 (min trips members) in
+    omega arith
+
+kind_deals : (members : ℕ) (shape : Shape) (kind : ShareKind) → 0 < members → 0 < shape.chunk → IsDealt (deal_of members kind) members shape
+kind_deals members shape kinds.StaticChunked team some =
+    own_queues_deal (λ j. j % members) (kind_pieces members kinds.StaticChunked) members shape (λ j within. mod-lt j team) (kind_tiles members shape kinds.StaticChunked team some)
+kind_deals members shape kinds.StaticEven team some =
+    own_queues_deal (λ j. j) (kind_pieces members kinds.StaticEven) members shape (even_owned shape.trips members) (kind_tiles members shape kinds.StaticEven team some)
+kind_deals members shape kinds.Dynamic team some =
+    one_queue_deals (kind_pieces members kinds.Dynamic) members shape team (kind_tiles members shape kinds.Dynamic team some)
+kind_deals members shape kinds.Guided team some =
+    one_queue_deals (kind_pieces members kinds.Guided) members shape team (kind_tiles members shape kinds.Guided team some)
 
 pub pieces_tile_all : (members : ℕ) (shape : Shape) → 0 < members → IsShape shape → Tiles 0 (pieces_of members shape) shape.trips
-pieces_tile_all members shape team is = tiles_by members shape shape.sched team is.some
-  where
-    tiles_by : (members : ℕ) (shape : Shape) (sched : Sched) → 0 < members → 0 < shape.chunk → Tiles 0 (sched_pieces members sched shape) shape.trips
-    tiles_by members shape Dynamic team some = dynamic_tiles shape.trips shape.chunk some
+pieces_tile_all members shape team is = kind_tiles members shape shape.kind team is.some
 
 pub schedule_deals : (members : ℕ) (shape : Shape) → 0 < members → 0 < shape.chunk → IsDealt (schedule members) members shape
 schedule_deals members shape team some =
-    let d = sched_deals members shape shape.sched team some in
+    let d = kind_deals members shape shape.kind team some in
     record { home = d.home; elsewhere = d.elsewhere; most = d.most; one = d.one; some = d.some; taker = d.taker }

@@ -3,6 +3,9 @@ pub mod Wide
 pub mod Lists
 pub mod Booleans
 pub mod Tiling
+pub mod EvenTiling
+pub mod GuidedTiling
+pub mod Owned
 pub mod Dealing
 pub mod Compared
 pub mod SharesKeep

@@ -106,7 +106,7 @@ start_some : (members m : ℕ) (loop : LoopDesc) (h : List Event) → m < member
 start_some members m loop h lt =
     elim (cases_Bool (has_room members (entered m h) h)) [
       | inl room ↦
-          let fair = schedule_deals members (shape_of loop) (omega arith) (chunk_some loop.sched loop.chunk) in
+          let fair = schedule_deals members (shape_of loop) (omega arith) (chunk_some loop.chunk) in
           let next = next_for (schedule members) (shape_of loop) (entered m h) m h in (
             dealt_reply (shape_of loop) next,
             starts members m (shape_of loop) h next room

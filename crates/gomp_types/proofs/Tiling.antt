@@ -32,17 +32,17 @@ dynamic_tiles trips chunk some =
     rw begin at (tiles_from trips chunk 0 (div_ceil trips chunk) some (omega arith))
 
 -- which piece has an iteration
-has_none_before : (k low high : ℕ) → k < low → has_iteration k low high ≡ false
+pub has_none_before : (k low high : ℕ) → k < low → has_iteration k low high ≡ false
 has_none_before k low high lt = grind (arith, nat_tests)
 
-has_it : (k low high : ℕ) → low ≤ k → k < high → has_iteration k low high ≡ true
+pub has_it : (k low high : ℕ) → low ≤ k → k < high → has_iteration k low high ≡ true
 has_it k low high le lt = grind (arith, nat_tests)
 
-has_none_after : (k low high : ℕ) → high ≤ k → has_iteration k low high ≡ false
+pub has_none_after : (k low high : ℕ) → high ≤ k → has_iteration k low high ≡ false
 has_none_after k low high le = grind (arith, nat_tests)
 
 -- no piece of the list has a number below its first
-times_below : (k low high : ℕ) (pieces : List Piece) → Tiles low pieces high → k < low → times k pieces ≡ 0
+pub times_below : (k low high : ℕ) (pieces : List Piece) → Tiles low pieces high → k < low → times k pieces ≡ 0
 times_below k low high [] tiles lt = refl
 times_below k low high (piece ∷ pieces) tiles lt =
     let first = tiles.0 in let some = tiles.1 in

@@ -1,11 +1,10 @@
 -- How the pieces of a share are dealt out: a schedule tells from which queue a member takes, and which pieces lie there. OpenMP API 5.2, section 11.5.3.
-use Rattle.std.specs.Prelude.{ℕ, ◌+◌, ◌<◌, ◌≤◌, ◌≡◌, ◌≢◌, ◌==◌, ◌&&◌, if◌then◌else◌, List, [], ◌∷◌, ◌++◌, Option, Some, slice_get}
-use Rattle.gomp_types.specs.declared.loop_desc.Sched.{Sched}
-use Rattle.gomp_types.specs.declared.loop_desc.Sched.TheVariants.{Dynamic}
+use Rattle.std.specs.Prelude.{ℕ, ◌+◌, ◌<◌, ◌≤◌, ◌≡◌, ◌≢◌, ◌==◌, ◌&&◌, if◌then◌else◌, List, [], ◌∷◌, ◌++◌, Option, Some, None, slice_get}
 use Rattle.gomp_types.specs.declared.shape.Shape.{Shape}
+use Rattle.gomp_types.specs.declared.shape.ShareKind.{ShareKind}
 use Rattle.gomp_types.specs.declared.event.Event.{Event}
 use Rattle.gomp_types.specs.declared.event.Event.TheVariants.{Take}
-use Rattle.gomp_types.specs.Pieces.{Piece, sched_pieces}
+use Rattle.gomp_types.specs.Pieces.{Piece, kind_pieces, owner_by}
 use Rattle.gomp_types.specs.Events.{has_iteration}
 
 -- the queue from which a member takes, and its pieces in order
@@ -17,15 +16,29 @@ pub record Deal : Type 0 where
 abbrev pub one_queue : (Shape → List Piece) → Deal
 one_queue pieces = record { queue_of = λ shape m. 0; queue = λ shape q. pieces shape }
 
--- how a loop of this schedule is dealt out in a team of this size
-abbrev pub deal_of : ℕ → Sched → Deal
-deal_of members Dynamic = one_queue (sched_pieces members Dynamic)
+-- the pieces of one owner in a list whose first piece has the number j
+abbrev pub owned_from : (ℕ → ℕ) → ℕ → ℕ → List Piece → List Piece
+owned_from owner m j [] = []
+owned_from owner m j (piece ∷ pieces) =
+    if owner j == m then piece ∷ owned_from owner m (j + 1) pieces else owned_from owner m (j + 1) pieces
 
--- how the shares of a team of this size are dealt out, each by its own schedule
+-- a queue for each member, with the pieces that it owns
+abbrev pub own_queues : (ℕ → ℕ) → (Shape → List Piece) → Deal
+own_queues owner pieces = record { queue_of = λ shape m. m; queue = λ shape q. owned_from owner q 0 (pieces shape) }
+
+abbrev pub deal_by : Option (ℕ → ℕ) → (Shape → List Piece) → Deal
+deal_by None pieces = one_queue pieces
+deal_by (Some owner) pieces = own_queues owner pieces
+
+-- how a share of this kind is dealt out in a team of this size
+abbrev pub deal_of : ℕ → ShareKind → Deal
+deal_of members kind = deal_by (owner_by members kind) (kind_pieces members kind)
+
+-- how the shares of a team of this size are dealt out, each by its own kind
 abbrev pub schedule : ℕ → Deal
 schedule members = record {
-  queue_of = λ shape m. (deal_of members shape.sched).queue_of shape m;
-  queue = λ shape q. (deal_of members shape.sched).queue shape q;
+  queue_of = λ shape m. (deal_of members shape.kind).queue_of shape m;
+  queue = λ shape q. (deal_of members shape.kind).queue shape q;
 }
 
 -- how many pieces of the queue were taken

@@ -1,8 +1,10 @@
 -- The iterations of a loop, and when a loop is refused. OpenMP API 5.2, sections 4.4.1 and 4.4.2.
-use Rattle.std.specs.Prelude.{ℕ, ℤ, pos, ◌+ℤ◌, ◌-ℤ◌, ◌*ℤ◌, int_lt, unsigned_abs, ◌^◌, nat_lt, Bool, ◌||◌, if◌then◌else◌, List, [], ◌∷◌}
+use Rattle.std.specs.Prelude.{ℕ, ℤ, pos, ◌+ℤ◌, ◌-ℤ◌, ◌*ℤ◌, int_lt, unsigned_abs, ◌^◌, nat_lt, Bool, true, false, not, ◌&&◌, ◌||◌, if◌then◌else◌, List, [], ◌∷◌}
 use Rattle.std.specs.Ordering.{int_eq}
 use Rattle.std.specs.Int.{div_ceil}
 use Rattle.gomp_types.specs.declared.loop_desc.LoopDesc.{LoopDesc}
+use Rattle.gomp_types.specs.declared.loop_desc.Sched.{Sched}
+use Rattle.gomp_types.specs.declared.loop_desc.Sched.TheVariants.{Runtime}
 use Rattle.gomp_types.specs.declared.refusal.Refusal.TheVariants.{ZeroStep, BadChunk, LoopTooLong}
 use Rattle.gomp_types.specs.Tests.{Test}
 
@@ -29,10 +31,20 @@ max_trips = 2 ^ 39
 abbrev pub max_chunk : ℕ
 max_chunk = 2 ^ 39
 
+-- whether the control variables give the schedule
+abbrev pub is_runtime : Sched → Bool
+is_runtime Runtime = true
+is_runtime _ = false
+
+-- the chunk is none: negative, too large, or given where the control variables give the schedule
+abbrev pub is_bad_chunk : LoopDesc → Bool
+is_bad_chunk loop =
+    int_lt loop.chunk (pos 0) || int_lt (pos max_chunk) loop.chunk || is_runtime loop.sched && not (int_eq loop.chunk (pos 0))
+
 -- the tests of a loop by itself, in order
 abbrev pub loop_tests : LoopDesc → List Test
 loop_tests loop =
     (int_eq loop.incr (pos 0), ZeroStep)
-    ∷ (int_lt loop.chunk (pos 0) || int_lt (pos max_chunk) loop.chunk, BadChunk)
+    ∷ (is_bad_chunk loop, BadChunk)
     ∷ (nat_lt max_trips (trip_count loop), LoopTooLong)
     ∷ []

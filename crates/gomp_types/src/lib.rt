@@ -21,4 +21,4 @@ pub use limits::{Limits, MAX_CHUNK, MAX_MEMBERS, MAX_TRIPS, OPEN_SHARES, is_team
 pub use loop_desc::{EndKind, LoopDesc, Sched, trips};
 pub use refusal::{Clash, Place, Refusal};
 pub use reply::Reply;
-pub use shape::Shape;
+pub use shape::{Shape, ShareKind};

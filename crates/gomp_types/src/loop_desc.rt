@@ -5,18 +5,26 @@
 ghost use Rattle.std.specs.Prelude.{◌≡◌, ◌≢◌, ◌<◌, ◌↔◌, ℕ, pos, IfOk, IsTrue, OnOk};
 ghost use Rattle.gomp_types.specs.Tests.{first_refusal, outcome};
 ghost use Rattle.gomp_types.specs.Iterations.{trip_count, iteration_value, lies_before_end, loop_tests};
-ghost use Rattle.gomp_types.specs.Pieces.{shape_of};
+ghost use Rattle.gomp_types.specs.Pieces.{kind_of, resolved, shape_of};
 ghost use Rattle.gomp_types.specs.Values.{IsShape};
 
 use crate::limits::{MAX_CHUNK, MAX_TRIPS};
 use crate::refusal::Refusal;
-use crate::shape::Shape;
+use crate::shape::{Shape, ShareKind};
 
-/// How the iterations of a loop are handed out (OpenMP API 5.2, section 11.5.3).
+/// How the iterations of a loop are handed out, as the program writes it (OpenMP API 5.2, section
+/// 11.5.3).
 #[derive(Clone, Copy, Debug, PartialEq, Eq)]
 pub enum Sched {
-    /// Pieces of the chunk's size, each to whoever asks next.
+    /// Pieces of the chunk's size, which belong to the members in turn; without a chunk, one
+    /// piece for each member.
+    Static,
+    /// Pieces of the chunk's size, each to whoever asks next; without a chunk, of 1.
     Dynamic,
+    /// Pieces that shrink to the chunk's size, each to whoever asks next; without a chunk, to 1.
+    Guided,
+    /// The schedule and the chunk of the control variables; a chunk of its own is refused.
+    Runtime,
 }
 
 /// What stands at the end of a work-sharing construct.
@@ -39,13 +47,44 @@ pub struct LoopDesc {
     pub incr: i64,
     /// How the iterations are handed out.
     pub sched: Sched,
-    /// How many iterations a piece has, up to 2^39; 0 where the program gives no number.
+    /// How many iterations a piece has, up to 2^39, of a guided loop how many at least; 0 where the
+    /// program gives no number.
     pub chunk: i64,
     /// What stands at the loop's end.
     pub end_kind: EndKind,
 }
 
 impl LoopDesc {
+    /// The loop with the schedule that counts: where it leaves that to the control variables, with
+    /// their schedule and chunk.
+    ///
+    /// A loop that is refused for a chunk of its own stays as it is.
+    pub fn resolved(&self, sched: Sched, chunk: i64) -> LoopDesc
+        ensures { result ≡ resolved sched chunk self.now }
+    {
+        match self.sched {
+            Sched::Runtime if self.chunk == 0 => LoopDesc {
+                sched,
+                chunk,
+                ..*self
+            },
+            _ => *self,
+        }
+    }
+
+    /// How the loop is dealt out. A schedule that is still left to the control variables counts as
+    /// the one that they begin with, which is dynamic.
+    fn kind(&self) -> ShareKind
+        ensures { result ≡ kind_of self.now.sched self.now.chunk }
+    {
+        match self.sched {
+            Sched::Static if self.chunk == 0 => ShareKind::StaticEven,
+            Sched::Static => ShareKind::StaticChunked,
+            Sched::Guided => ShareKind::Guided,
+            Sched::Dynamic | Sched::Runtime => ShareKind::Dynamic,
+        }
+    }
+
     /// What the members of a team have to have in common, where the loop is not refused.
     ///
     /// Refused as [`trips`] is.
@@ -54,15 +93,17 @@ impl LoopDesc {
         ensures fits { OnOk result (IsShape (shape_of self.now)) }
     {
         let _ends = (self.start, self.end);
-        let trips = trips(self)?;
-        Ok(Shape {
-            start: self.start,
-            incr: self.incr,
-            trips,
-            sched: self.sched,
-            chunk: self.chunk.unsigned_abs().max(1),
-            end_kind: self.end_kind,
-        })
+        match trips(self) {
+            Ok(trips) => Ok(Shape {
+                start: self.start,
+                incr: self.incr,
+                trips,
+                kind: self.kind(),
+                chunk: self.chunk.unsigned_abs().max(1),
+                end_kind: self.end_kind,
+            }),
+            Err(refusal) => Err(refusal),
+        }
     }
 
     /// How many steps lead from the start to the end or past it.
@@ -86,8 +127,8 @@ impl LoopDesc {
 
 /// The number of iterations of a loop, 0 to 2^39.
 ///
-/// Refused with `ZeroStep` where the step is 0, with `BadChunk` where the chunk is negative or above
-/// 2^39, with `LoopTooLong` where there are more than 2^39 iterations; the first of these that holds.
+/// Refused with `ZeroStep` where the step is 0, with `BadChunk` where the chunk is negative, above
+/// 2^39, or not 0 with a schedule that the control variables give, with `LoopTooLong` where there are more than 2^39 iterations; the first of these that holds.
 ///
 /// OpenMP API 5.2, section 4.4.2.
 pub fn trips(desc: &LoopDesc) -> Result<u64, Refusal>
@@ -101,6 +142,9 @@ pub fn trips(desc: &LoopDesc) -> Result<u64, Refusal>
         return Err(Refusal::ZeroStep);
     }
     if desc.chunk < 0 || desc.chunk > MAX_CHUNK {
+        return Err(Refusal::BadChunk);
+    }
+    if matches!(desc.sched, Sched::Runtime) && desc.chunk != 0 {
         return Err(Refusal::BadChunk);
     }
     let count = desc.steps();

@@ -5,7 +5,7 @@ use Rattle.gomp_types.specs.Iterations.{loop_tests}
 use Rattle.gomp_types.specs.Pieces.{shape_of}
 use Rattle.gomp_types.specs.Values.{IsShape}
 use Rattle.gomp_types.specs.Events.{entered}
-use Rattle.gomp_loops.proofs.Steps.{start_outside, outcome_value, open_entered, drained_entered, start_adds}
+use Rattle.gomp_loops.proofs.Steps.{compared, start_compared, start_deals, start_refused, start_reply, start_outside, outcome_value, open_entered, drained_entered, start_adds}
 use Rattle.gomp_loops.proofs.calls.loop_start.Goals as goal
 
 pub try_open-requires : goal.try_open-requires
@@ -40,3 +40,19 @@ returns-in-Entered-clause-stands g c = λ h st.
     let claims = rw is at (c.claim.ensures.answer _ now) in
     let adds = start_adds _ c.args.member (entered c.args.member h) c.args.desc.now c.claim.result h c.values_tell.ensures claims in
     rw (c.piece_reply.ensures, is, adds) (rw is at (c.claim.ensures.stands _ now))
+
+pub returns-in-Some-clause-answer : goal.returns-in-Some-clause-answer
+returns-in-Some-clause-answer g c = λ h st.
+    let e = c.look-seen.ensures.value ∙ g.met.S.Shares.agrees c.args.shares.now h c.args.member st c.requires in
+    start_refused c.args.limits.now c.args.member c.args.desc.now c.look-seen.result h c.in-Some.refusal e (sym c.in-Some.is ∙ c.start_refusal.ensures.first)
+
+pub returns-in-Entered-clause-answer : goal.returns-in-Entered-clause-answer
+returns-in-Entered-clause-answer g c = λ h st.
+    let is : c.in-Ok.shape ≡ shape_of c.args.desc.now = outcome_value (first_refusal (loop_tests c.args.desc.now)) _ _ (sym c.shape.ensures.shape ∙ c.in-Ok.is) in
+    let e = c.look-seen.ensures.value ∙ g.met.S.Shares.agrees c.args.shares.now h c.args.member st c.requires in
+    let may = rw is at (c.in-Entered.ensures.answer h st) in
+    let none = start_compared c.args.limits.now c.args.member c.args.desc.now c.look-seen.result h e (sym c.in_default.is ∙ c.start_refusal.ensures.first) ∙ compared _ may.0 in
+    let now = c.in-Entered.ensures.stands h st in
+    let claims = rw (is, c.try_open.ensures.members) at (c.claim.ensures.answer _ now) in
+    let dealt = start_deals (g.S.Shares.members c.args.shares.now) c.args.member (entered c.args.member h) (shape_of c.args.desc.now) c.claim.result h claims in
+    rw (c.piece_reply.ensures, is) (start_reply c.args.limits.now (g.S.Shares.members c.args.shares.now) c.args.member c.args.desc.now c.claim.result h none may.1 dealt)

@@ -2,7 +2,7 @@ use Rattle.std.proofs.Common.{◌≡◌, ◌<◌, [], length, take, arith}
 use Rattle.std.specs.Prelude.{pos}
 use Rattle.std.proofs.lemmas.List.{take_more, length-take}
 use Rattle.std.proofs.lemmas.Grind.{common_steps}
-use Rattle.gomp_types.specs.declared.loop_desc.Sched.TheVariants.{Dynamic}
+use Rattle.gomp_types.specs.declared.loop_desc.Sched.TheVariants.{Static}
 use Rattle.gomp_types.specs.declared.loop_desc.EndKind.TheVariants.{Wait}
 use Rattle.gomp_types.specs.Deals.{schedule}
 use Rattle.gomp_share_plain.specs.declared.calls.ShareStep.{ShareStep}
@@ -12,7 +12,7 @@ use Rattle.gomp_share_plain.proofs.CallRuns.{events_after_more, are_answers_more
 use Rattle.gomp_share_plain.proofs.calls.make_calls.Goals as goal
 
 abbrev some_step : ShareStep
-some_step = record { member = 0; call = Open (record { start = pos 0; end = pos 0; incr = pos 0; sched = Dynamic; chunk = pos 0; end_kind = Wait }) }
+some_step = record { member = 0; call = Open (record { start = pos 0; end = pos 0; incr = pos 0; sched = Static; chunk = pos 0; end_kind = Wait }) }
 
 pub loop-step-preserved : goal.loop-step-preserved
 loop-step-preserved g c =

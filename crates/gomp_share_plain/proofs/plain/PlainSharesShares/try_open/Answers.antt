@@ -1,11 +1,11 @@
-use Rattle.std.proofs.Common.{◌≡◌, ◌%◌, ◌<◌, arith, refl, ◌∙◌, sym, ap, subst, length, not, true, false}
+use Rattle.std.proofs.Common.{◌≡◌, ◌%◌, ◌<◌, ◌^◌, arith, rules, refl, ◌∙◌, sym, ap, subst, length, not, true, false}
 use Rattle.std.specs.Prelude.{IsTrue}
 use Rattle.std.proofs.lemmas.List.{length-set}
 use Rattle.std.proofs.lemmas.Option.{slice_get_read}
 use Rattle.gomp_types.specs.Events.{has_room, shape_at}
 use Rattle.gomp_types.specs.Refusals.{shape_differs}
 use Rattle.gomp_share_plain.specs.Calls.{CanOpen}
-use Rattle.gomp_share_plain.proofs.PlainKeeps.{enters, opens, told, known_by, place_is, known_place, same_here, differs_here, next_is, fresh, room_by, no_room, room_before, each_room, is_fair}
+use Rattle.gomp_share_plain.proofs.PlainKeeps.{enters, opens, told, known_by, place_is, known_place, not_empty, same_here, differs_here, next_is, fresh, room_by, no_room, room_before, each_room, is_fair}
 use Rattle.gomp_share_plain.proofs.plain.PlainSharesShares.try_open.Goals as goal
 
 pub returns-then-not-is_same-clause-answer : goal.returns-then-not-is_same-clause-answer
@@ -14,7 +14,7 @@ returns-then-not-is_same-clause-answer c = λ h st0.
     let at = slice_get_read c.self.inside.seats.items _ c.args.member c.index-seat.result.now refl can.member c.index-seat.ensures in
     let eight = st.eight in
     let within : c.index-seat.result.now.started % 8 < length c.self.inside.places = omega arith in
-    let there = place_is c.self.inside.places (c.index-seat.result.now.started % 8) _ within c.in-Some.is in
+    let there = place_is c.self.inside.places (c.index-seat.result.now.started % 8) _ _ within c.in-Some.is in
     let here = known_place _ _ _ _ h c.args.member c.index-seat.result.now st at can.outside c.if-number-self.true in
     let s = st.seat c.args.member _ at in
     ap (λ n. shape_differs c.args.shape.now (shape_at n h)) s.started ∙ differs_here _ _ _ c.in-Some.share c.args.shape.now h here there ∙ ap not (sym c.is_same.ensures ∙ c.if-not-is_same.true)
@@ -25,7 +25,7 @@ returns-then-number-self-clause-answer c = λ h st0.
     let at = slice_get_read c.self.inside.seats.items _ c.args.member c.index-seat.result.now refl can.member c.index-seat.ensures in
     let eight = st.eight in
     let within : c.index-seat.result.now.started % 8 < length c.self.inside.places = omega arith in
-    let there = place_is c.self.inside.places (c.index-seat.result.now.started % 8) _ within c.in-Some.is in
+    let there = place_is c.self.inside.places (c.index-seat.result.now.started % 8) _ _ within c.in-Some.is in
     let here = known_place _ _ _ _ h c.args.member c.index-seat.result.now st at can.outside c.if-number-self.true in
     let s = st.seat c.args.member _ at in
     rw (← c.self.view_is) (
@@ -39,7 +39,7 @@ returns-then-number-self-clause-stands c = λ h st0.
     let at = slice_get_read c.self.inside.seats.items _ c.args.member c.index-seat.result.now refl can.member c.index-seat.ensures in
     let eight = st.eight in
     let within : c.index-seat.result.now.started % 8 < length c.self.inside.places = omega arith in
-    let there = place_is c.self.inside.places (c.index-seat.result.now.started % 8) _ within c.in-Some.is in
+    let there = place_is c.self.inside.places (c.index-seat.result.now.started % 8) _ _ within c.in-Some.is in
     let here = known_place _ _ _ _ h c.args.member c.index-seat.result.now st at can.outside c.if-number-self.true in
     let fair = is_fair _ _ c.args.member can.member can.valid c.fair_schedule.ensures in
     rw (length-set c.self.inside.seats.items c.args.member _) (enters _ _ _ _ h c.args.member c.index-seat.result.now c.args.shape.now st at can.outside c.if-number-self.true can.valid fair
@@ -97,10 +97,25 @@ returns-clause-stands c = λ h st0.
     let at = slice_get_read c.self.inside.seats.items _ c.args.member c.index-seat.result.now refl can.member c.index-seat.ensures in
     let fair = is_fair _ _ c.args.member can.member can.valid c.fair_schedule.ensures in
     let now = next_is _ _ _ _ h c.args.member c.index-seat.result.now st at c.if-number-self.false in
+    let size : c.len-members.result ≡ length c.self.inside.seats.items = search rules in
     let all = each_room c.self.inside.seats.items c.index-seat.result.now.started (
     let seats : c.deref.result.now ≡ c.self.inside.seats.items = c.deref.ensures.value in
     rw seats at (c.has_room.ensures.0 (grind (arith, c.if-not-has_room.false)))) in
-    rw (length-set c.self.inside.seats.items c.args.member _, now) (opens _ _ _ _ h c.args.member c.index-seat.result.now c.args.shape.now st at can.outside now can.valid fair (rw now at all))
+    rw (length-set c.self.inside.seats.items c.args.member _, now) (opens _ _ _ _ h c.args.member c.index-seat.result.now c.args.shape.now c.new.result (c.new.ensures ∙ c.of.ensures.plan ∙ ap (λ n. record { members = n; shape = c.args.shape.now }) size) st at can.outside now can.valid fair (rw now at all))
 
 pub invariant_of-self-2 : goal.invariant_of-self-2
 invariant_of-self-2 c = let (h, st0) = known_by _ _ c.self.view_is c.self.invariant in (_, returns-clause-stands c h st0)
+
+pub returns-in_default-clause-answer : goal.returns-in_default-clause-answer
+returns-in_default-clause-answer c = λ h st0.
+    let (can, st) = told _ _ c.args.member h (λ n seen. CanOpen n c.args.member c.args.shape.now seen) c.self.view_is c.requires c.requires.member st0 in
+    let at = slice_get_read c.self.inside.seats.items _ c.args.member c.index-seat.result.now refl can.member c.index-seat.ensures in
+    let eight = st.eight in
+    let within : c.index-seat.result.now.started % 8 < length c.self.inside.places = omega arith in
+    absurd (not_empty _ _ _ h (known_place _ _ _ _ h c.args.member c.index-seat.result.now st at can.outside c.if-number-self.true) (place_is c.self.inside.places (c.index-seat.result.now.started % 8) _ _ within c.in_default.is))
+
+pub overflow_cast-members : goal.overflow_cast-members
+overflow_cast-members c =
+    let team : length c.self.inside.seats.items < 2 ^ 16 = c.self.invariant.1.team in
+    let size : c.len-members.result ≡ length c.self.inside.seats.items = search rules in
+    grind (arith, size, team)

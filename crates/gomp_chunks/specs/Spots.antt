@@ -1,0 +1,19 @@
+-- A spot in the pieces of a guided loop: a piece's number and its first iteration. (own)
+use Rattle.std.specs.Prelude.{ℕ, ◌≡◌, ◌+◌, ◌-◌, ◌≤◌, length, slice_get}
+use Rattle.gomp_types.specs.declared.shape.Shape.{Shape}
+use Rattle.gomp_types.specs.Pieces.{guided_from, guided_pieces}
+use Rattle.gomp_chunks.specs.Plans.{PlanView}
+use Rattle.gomp_chunks.specs.declared.guided.Spot.{Spot}
+
+-- what a cursor keeps: the plan, and the spot of the piece that was asked for last
+pub record CursorView : Type 0 where
+  pub plan : PlanView
+  pub spot : Spot
+
+-- from this spot on, the pieces are those of what is left
+pub record IsSpot (members : ℕ) (shape : Shape) (spot : Spot) : Type 0 where
+  pub within : spot.first ≤ shape.trips
+  pub number : spot.number ≤ length (guided_pieces shape.trips members shape.chunk)
+  pub most : ℕ
+  pub enough : shape.trips - spot.first ≤ most
+  pub rest : (i : ℕ) → slice_get (guided_pieces shape.trips members shape.chunk) (spot.number + i) ≡ slice_get (guided_from members shape.chunk most spot.first (shape.trips - spot.first)) i

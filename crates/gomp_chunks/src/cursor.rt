@@ -1,0 +1,69 @@
+//! Pieces asked for one after another.
+
+ghost use Rattle.std.specs.Prelude.{◌≡◌, ◌<◌, ◌≤◌, IfSome, slice_get};
+ghost use Rattle.gomp_chunks.specs.Plans.{next_piece, pieces};
+
+use crate::Plan;
+use crate::guided::{Spot, forward};
+use std::marker::Model;
+
+/// A plan with the place of the piece that was asked for last, from which the next one is found
+/// without going over those before it anew.
+#[derive(Clone, Copy, Debug)]
+pub struct Cursor {
+    plan: Plan,
+    spot: Spot,
+}
+
+impl Model for Cursor {
+    ghost use Rattle.gomp_chunks.specs.Spots.{CursorView, IsSpot};
+
+    ghost Value = { CursorView };
+
+    ghost view = { λ cursor. record { plan = cursor.plan; spot = cursor.spot } };
+
+    ghost invariant = { λ cursor. IsSpot cursor.plan.members cursor.plan.shape cursor.spot };
+
+    ghost inverse = { λ cursor. record { plan = cursor.plan; spot = cursor.spot } };
+}
+
+impl Cursor {
+    /// A cursor that stands at the first piece of this plan.
+    pub fn new(plan: Plan) -> Cursor
+        ensures { result.plan ≡ plan }
+    {
+        Cursor {
+            plan,
+            spot: Spot::START,
+        }
+    }
+
+    /// What [`Plan::chunk`] gives for piece number `j`. A number that is not below the last one that
+    /// was asked for takes as many turns as there are pieces between them; a lower one is looked for
+    /// from the first piece on.
+    pub fn advance_to(&mut self, j: u64) -> Option<(u64, u64)>
+        ensures plan { self.new.plan ≡ self.old.plan }
+        ensures piece { result ≡ slice_get (pieces self.old.plan) j }
+        ensures within { IfSome result (λ piece. (piece.0 < piece.1) × (piece.1 ≤ self.old.plan.shape.trips)) }
+    {
+        let start = if j < self.spot.number {
+            Spot::START
+        } else {
+            self.spot
+        };
+        self.spot = self.plan.spot_from(start, j);
+        self.plan.piece_from(self.spot, j)
+    }
+
+    /// The piece that a member takes next, where it took `own` pieces and all members together took
+    /// `all`: of a static loop its own next one, of others the next one of all.
+    pub fn next_piece(&mut self, member: u16, own: u64, all: u64) -> Option<(u64, u64)>
+        requires { member < self.old.plan.members }
+        ensures plan { self.new.plan ≡ self.old.plan }
+        ensures piece { result ≡ next_piece self.old.plan member own all }
+        ensures within { IfSome result (λ piece. (piece.0 < piece.1) × (piece.1 ≤ self.old.plan.shape.trips)) }
+    {
+        let number = self.plan.next_number(member, own, all)?;
+        self.advance_to(number)
+    }
+}

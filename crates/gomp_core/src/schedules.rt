@@ -1,0 +1,204 @@
+//! Worked runs of static, guided and runtime loops: whoever asks when, each piece goes where its
+//! schedule says.
+
+use crate::Team;
+use gomp_share_plain::PlainShares;
+use gomp_types::{Call, EndKind, LoopDesc, Refusal, Reply, Sched};
+use std::alloc::Global;
+use std::process::Abort;
+use std::test::Fail;
+
+/// So many orders of steps are tried.
+const ORDERS: u32 = 100;
+
+fn start(sched: Sched, chunk: i64, end: i64) -> Call {
+    Call::LoopStart(LoopDesc {
+        start: 0,
+        end,
+        incr: 1,
+        sched,
+        chunk,
+        end_kind: EndKind::Nowait,
+    })
+}
+
+/// The next number of a sequence that looks like chance, and is the same in each run.
+fn drawn(seed: u32) -> u32 {
+    seed.wrapping_mul(1_664_525).wrapping_add(1_013_904_223)
+}
+
+/// That members who ask in many orders get the pieces of their queues in order, and then none. One
+/// queue is that of all members; of more, each member has its own.
+fn deals(
+    rt: &impl Abort,
+    alloc: Global,
+    members: usize,
+    call: Call,
+    queues: &[&[(i64, u64)]],
+) -> Result<(), Fail> {
+    for order in 0..ORDERS {
+        let mut team: Team<PlainShares> = Team::new(alloc, members as u16)?;
+        let mut taken = vec![in alloc; 0; queues.len()]?;
+        let mut calls = vec![in alloc; Some(call); members]?;
+        let mut seed = order;
+        let mut left = members;
+        while left > 0 {
+            seed = drawn(seed);
+            let member = (seed >> 16) as usize % members;
+            let Some(call) = calls[member] else {
+                continue;
+            };
+            let queue = member.min(queues.len() - 1);
+            let reply = team.step(member as u16, call);
+            if taken[queue] < queues[queue].len() {
+                let (first, count) = queues[queue][taken[queue]];
+                assert_eq!(rt;
+                    reply,
+                    Reply::Chunk { first, count },
+                    "member {member} in order {order}"
+                );
+                taken[queue] += 1;
+                calls[member] = Some(Call::LoopNext);
+            } else {
+                assert_eq!(rt; reply, Reply::NoChunk, "member {member} in order {order}");
+                calls[member] = None;
+                left -= 1;
+            }
+        }
+    }
+    Ok(())
+}
+
+#[test]
+fn static_pieces_go_to_their_owners(rt: HostRuntime) -> Result<(), Fail> {
+    let alloc = rt.alloc();
+    deals(
+        &rt,
+        alloc,
+        4,
+        start(Sched::Static, 0, 10),
+        &[&[(0, 3)], &[(3, 3)], &[(6, 2)], &[(8, 2)]],
+    )?;
+    deals(
+        &rt,
+        alloc,
+        4,
+        start(Sched::Static, 0, 2),
+        &[&[(0, 1)], &[(1, 1)], &[], &[]],
+    )?;
+    deals(
+        &rt,
+        alloc,
+        2,
+        start(Sched::Static, 3, 10),
+        &[&[(0, 3), (6, 3)], &[(3, 3), (9, 1)]],
+    )?;
+    deals(&rt, alloc, 2, start(Sched::Static, 1, 0), &[&[], &[]])
+}
+
+#[test]
+fn guided_pieces_shrink(rt: HostRuntime) -> Result<(), Fail> {
+    let pieces = [(0, 5), (5, 4), (9, 3), (12, 2), (14, 2), (16, 2), (18, 2)];
+    deals(
+        &rt,
+        rt.alloc(),
+        4,
+        start(Sched::Guided, 2, 20),
+        &[pieces.as_slice()],
+    )?;
+    deals(&rt, rt.alloc(), 3, start(Sched::Guided, 2, 0), &[&[]])
+}
+
+#[test]
+fn runtime_is_dynamic_where_nothing_sets_it(rt: HostRuntime) -> Result<(), Fail> {
+    let alloc = rt.alloc();
+    deals(
+        &rt,
+        alloc,
+        2,
+        start(Sched::Runtime, 0, 3),
+        &[&[(0, 1), (1, 1), (2, 1)]],
+    )?;
+    let mut team: Team<PlainShares> = Team::new(alloc, 2)?;
+    let refused = Reply::Refused(Refusal::BadChunk);
+    assert_eq!(rt; team.step(0, start(Sched::Runtime, 5, 10)), refused);
+    assert_eq!(rt;
+        team.step(0, start(Sched::Runtime, 0, 10)),
+        Reply::Chunk { first: 0, count: 1 }
+    );
+    assert_eq!(rt;
+        team.step(1, start(Sched::Dynamic, 1, 10)),
+        Reply::Chunk { first: 1, count: 1 }
+    );
+    Ok(())
+}
+
+#[test]
+fn kinds_are_compared(rt: HostRuntime) -> Result<(), Fail> {
+    let schedules = [
+        start(Sched::Static, 0, 8),
+        start(Sched::Static, 1, 8),
+        start(Sched::Dynamic, 1, 8),
+        start(Sched::Guided, 1, 8),
+    ];
+    for (i, first) in schedules.iter().enumerate() {
+        for (j, second) in schedules.iter().enumerate() {
+            let mut team: Team<PlainShares> = Team::new(rt.alloc(), 2)?;
+            team.step(0, *first);
+            let differs = team.step(1, *second) == Reply::Refused(Refusal::Mismatch);
+            assert_eq!(rt; differs, i != j, "loops {i} and {j}");
+        }
+    }
+    Ok(())
+}
+
+#[test]
+fn longest_loops(rt: HostRuntime) -> Result<(), Fail> {
+    let alloc = rt.alloc();
+    let longest = 549_755_813_888;
+    let all = longest as u64;
+    let rows = [
+        (
+            Sched::Static,
+            longest,
+            0,
+            Reply::Chunk {
+                first: 0,
+                count: all,
+            },
+        ),
+        (Sched::Static, longest, 63, Reply::NoChunk),
+        (
+            Sched::Static,
+            0,
+            63,
+            Reply::Chunk {
+                first: longest - longest / 64,
+                count: all / 64,
+            },
+        ),
+        (
+            Sched::Guided,
+            longest,
+            63,
+            Reply::Chunk {
+                first: 0,
+                count: all,
+            },
+        ),
+        (
+            Sched::Guided,
+            0,
+            63,
+            Reply::Chunk {
+                first: 0,
+                count: all / 64,
+            },
+        ),
+    ];
+    for (sched, chunk, member, reply) in rows {
+        let mut team: Team<PlainShares> = Team::new(alloc, 64)?;
+        assert_eq!(rt; team.step(member, start(sched, chunk, longest)), reply);
+    }
+    Ok(())
+}
