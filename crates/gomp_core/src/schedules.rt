@@ -11,15 +11,15 @@ use std::test::Fail;
 /// So many orders of steps are tried.
 const ORDERS: u32 = 100;
 
-fn start(sched: Sched, chunk: i64, end: i64) -> Call {
-    Call::LoopStart(LoopDesc {
+fn of(sched: Sched, chunk: i64, end: i64) -> LoopDesc {
+    LoopDesc {
         start: 0,
         end,
         incr: 1,
         sched,
         chunk,
         end_kind: EndKind::Nowait,
-    })
+    }
 }
 
 /// The next number of a sequence that looks like chance, and is the same in each run.
@@ -33,21 +33,28 @@ fn deals(
     rt: &impl Abort,
     alloc: Global,
     members: usize,
-    call: Call,
+    desc: LoopDesc,
     queues: &[&[(i64, u64)]],
 ) -> Result<(), Fail> {
     for order in 0..ORDERS {
         let mut team: Team<PlainShares> = Team::new(alloc, members as u16)?;
         let mut taken = vec![in alloc; 0; queues.len()]?;
-        let mut calls = vec![in alloc; Some(call); members]?;
+        let mut started = vec![in alloc; false; members]?;
+        let mut over = vec![in alloc; false; members]?;
         let mut seed = order;
         let mut left = members;
         while left > 0 {
             seed = drawn(seed);
             let member = (seed >> 16) as usize % members;
-            let Some(call) = calls[member] else {
+            if over[member] {
                 continue;
+            }
+            let call = if started[member] {
+                Call::LoopNext
+            } else {
+                Call::LoopStart(desc)
             };
+            started[member] = true;
             let queue = member.min(queues.len() - 1);
             let reply = team.step(member as u16, call);
             if taken[queue] < queues[queue].len() {
@@ -58,10 +65,9 @@ fn deals(
                     "member {member} in order {order}"
                 );
                 taken[queue] += 1;
-                calls[member] = Some(Call::LoopNext);
             } else {
                 assert_eq!(rt; reply, Reply::NoChunk, "member {member} in order {order}");
-                calls[member] = None;
+                over[member] = true;
                 left -= 1;
             }
         }
@@ -76,24 +82,24 @@ fn static_pieces_go_to_their_owners(rt: HostRuntime) -> Result<(), Fail> {
         &rt,
         alloc,
         4,
-        start(Sched::Static, 0, 10),
+        of(Sched::Static, 0, 10),
         &[&[(0, 3)], &[(3, 3)], &[(6, 2)], &[(8, 2)]],
     )?;
     deals(
         &rt,
         alloc,
         4,
-        start(Sched::Static, 0, 2),
+        of(Sched::Static, 0, 2),
         &[&[(0, 1)], &[(1, 1)], &[], &[]],
     )?;
     deals(
         &rt,
         alloc,
         2,
-        start(Sched::Static, 3, 10),
+        of(Sched::Static, 3, 10),
         &[&[(0, 3), (6, 3)], &[(3, 3), (9, 1)]],
     )?;
-    deals(&rt, alloc, 2, start(Sched::Static, 1, 0), &[&[], &[]])
+    deals(&rt, alloc, 2, of(Sched::Static, 1, 0), &[&[], &[]])
 }
 
 #[test]
@@ -103,10 +109,10 @@ fn guided_pieces_shrink(rt: HostRuntime) -> Result<(), Fail> {
         &rt,
         rt.alloc(),
         4,
-        start(Sched::Guided, 2, 20),
+        of(Sched::Guided, 2, 20),
         &[pieces.as_slice()],
     )?;
-    deals(&rt, rt.alloc(), 3, start(Sched::Guided, 2, 0), &[&[]])
+    deals(&rt, rt.alloc(), 3, of(Sched::Guided, 2, 0), &[&[]])
 }
 
 #[test]
@@ -116,18 +122,21 @@ fn runtime_is_dynamic_where_nothing_sets_it(rt: HostRuntime) -> Result<(), Fail>
         &rt,
         alloc,
         2,
-        start(Sched::Runtime, 0, 3),
+        of(Sched::Runtime, 0, 3),
         &[&[(0, 1), (1, 1), (2, 1)]],
     )?;
     let mut team: Team<PlainShares> = Team::new(alloc, 2)?;
     let refused = Reply::Refused(Refusal::BadChunk);
-    assert_eq!(rt; team.step(0, start(Sched::Runtime, 5, 10)), refused);
     assert_eq!(rt;
-        team.step(0, start(Sched::Runtime, 0, 10)),
+        team.step(0, Call::LoopStart(of(Sched::Runtime, 5, 10))),
+        refused
+    );
+    assert_eq!(rt;
+        team.step(0, Call::LoopStart(of(Sched::Runtime, 0, 10))),
         Reply::Chunk { first: 0, count: 1 }
     );
     assert_eq!(rt;
-        team.step(1, start(Sched::Dynamic, 1, 10)),
+        team.step(1, Call::LoopStart(of(Sched::Dynamic, 1, 10))),
         Reply::Chunk { first: 1, count: 1 }
     );
     Ok(())
@@ -136,16 +145,17 @@ fn runtime_is_dynamic_where_nothing_sets_it(rt: HostRuntime) -> Result<(), Fail>
 #[test]
 fn kinds_are_compared(rt: HostRuntime) -> Result<(), Fail> {
     let schedules = [
-        start(Sched::Static, 0, 8),
-        start(Sched::Static, 1, 8),
-        start(Sched::Dynamic, 1, 8),
-        start(Sched::Guided, 1, 8),
+        of(Sched::Static, 0, 8),
+        of(Sched::Static, 1, 8),
+        of(Sched::Dynamic, 1, 8),
+        of(Sched::Guided, 1, 8),
     ];
     for (i, first) in schedules.iter().enumerate() {
         for (j, second) in schedules.iter().enumerate() {
             let mut team: Team<PlainShares> = Team::new(rt.alloc(), 2)?;
-            team.step(0, *first);
-            let differs = team.step(1, *second) == Reply::Refused(Refusal::Mismatch);
+            team.step(0, Call::LoopStart(*first));
+            let differs = team.step(1, Call::LoopStart(*second))
+                == Reply::Refused(Refusal::Mismatch);
             assert_eq!(rt; differs, i != j, "loops {i} and {j}");
         }
     }
@@ -198,7 +208,10 @@ fn longest_loops(rt: HostRuntime) -> Result<(), Fail> {
     ];
     for (sched, chunk, member, reply) in rows {
         let mut team: Team<PlainShares> = Team::new(alloc, 64)?;
-        assert_eq!(rt; team.step(member, start(sched, chunk, longest)), reply);
+        assert_eq!(rt;
+            team.step(member, Call::LoopStart(of(sched, chunk, longest))),
+            reply
+        );
     }
     Ok(())
 }

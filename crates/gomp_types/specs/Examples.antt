@@ -4,7 +4,8 @@ use Rattle.gomp_types.specs.declared.call.Call.{Call}
 use Rattle.gomp_types.specs.declared.call.Call.TheVariants.{LoopStart, LoopNext, LoopEnd, LoopEndNowait, Barrier, RegionEnd, Resume}
 use Rattle.gomp_types.specs.declared.call.Step.{Step}
 use Rattle.gomp_types.specs.declared.loop_desc.LoopDesc.{LoopDesc}
-use Rattle.gomp_types.specs.declared.loop_desc.Sched.TheVariants.{Dynamic}
+use Rattle.gomp_types.specs.declared.loop_desc.Sched.{Sched}
+use Rattle.gomp_types.specs.declared.loop_desc.Sched.TheVariants.{Static, Dynamic, Guided, Runtime}
 use Rattle.gomp_types.specs.declared.loop_desc.EndKind.{EndKind}
 use Rattle.gomp_types.specs.declared.loop_desc.EndKind.TheVariants.{Wait as WaitEnd, Nowait}
 use Rattle.gomp_types.specs.declared.refusal.Place.TheVariants.{Share, Barrier as AtBarrier}
@@ -178,4 +179,52 @@ differing_barrier =
     (asks 0 Barrier, Wait)
     ∷ (asks 1 RegionEnd, Refused Mismatch)
     ∷ (asks 0 Resume, Refused (Broken (record { member = 1; place = AtBarrier 0 })))
+    ∷ []
+
+-- a loop of step 1 from 0 on, with this schedule
+abbrev pub loop_with : Sched → ℤ → ℤ → Call
+loop_with sched chunk end = LoopStart (record { start = pos 0; end = end; incr = pos 1; sched = sched; chunk = chunk; end_kind = Nowait })
+
+-- a static loop with a chunk, of two members, whoever asks when
+abbrev pub owned_pieces : Run
+owned_pieces =
+    (asks 1 (loop_with Static (pos 3) (pos 10)), Chunk (pos 3) 3)
+    ∷ (asks 1 LoopNext, Chunk (pos 9) 1)
+    ∷ (asks 0 (loop_with Static (pos 3) (pos 10)), Chunk (pos 0) 3)
+    ∷ (asks 1 LoopNext, NoChunk)
+    ∷ (asks 0 LoopNext, Chunk (pos 6) 3)
+    ∷ (asks 0 LoopNext, NoChunk)
+    ∷ []
+
+-- one without, of four members, and one of fewer iterations than members
+abbrev pub even_pieces_of_four : Run
+even_pieces_of_four =
+    (asks 2 (loop_with Static (pos 0) (pos 10)), Chunk (pos 6) 2)
+    ∷ (asks 0 (loop_with Static (pos 0) (pos 10)), Chunk (pos 0) 3)
+    ∷ (asks 3 (loop_with Static (pos 0) (pos 10)), Chunk (pos 8) 2)
+    ∷ (asks 2 LoopNext, NoChunk)
+    ∷ (asks 1 (loop_with Static (pos 0) (pos 10)), Chunk (pos 3) 3)
+    ∷ (asks 2 LoopEndNowait, Finished)
+    ∷ (asks 2 (loop_with Static (pos 0) (pos 2)), NoChunk)
+    ∷ []
+
+-- a guided loop of four members
+abbrev pub shrinking_pieces : Run
+shrinking_pieces =
+    (asks 2 (loop_with Guided (pos 2) (pos 20)), Chunk (pos 0) 5)
+    ∷ (asks 2 LoopNext, Chunk (pos 5) 4)
+    ∷ (asks 0 (loop_with Guided (pos 2) (pos 20)), Chunk (pos 9) 3)
+    ∷ (asks 2 LoopNext, Chunk (pos 12) 2)
+    ∷ (asks 0 LoopNext, Chunk (pos 14) 2)
+    ∷ (asks 0 LoopNext, Chunk (pos 16) 2)
+    ∷ (asks 2 LoopNext, Chunk (pos 18) 2)
+    ∷ (asks 0 LoopNext, NoChunk)
+    ∷ []
+
+-- a loop whose schedule the control variables give, while they are as they begin
+abbrev pub runtime_pieces : Run
+runtime_pieces =
+    (asks 0 (loop_with Runtime (pos 5) (pos 10)), Refused BadChunk)
+    ∷ (asks 0 (loop_with Runtime (pos 0) (pos 10)), Chunk (pos 0) 1)
+    ∷ (asks 1 (loop_with Dynamic (pos 1) (pos 10)), Chunk (pos 1) 1)
     ∷ []

@@ -1,13 +1,15 @@
 //! Worked runs of a team, and answers that are wrong there: that the definitions tell right from
 //! wrong is computed, and checked with every proof.
 
-ghost use Rattle.std.specs.Prelude.{pos, negsuc, take, ◌≡◌, []};
+ghost use Rattle.std.specs.Prelude.{pos, negsuc, take, ◌≡◌, [], ◌∷◌};
 ghost use Rattle.gomp_types.specs.declared.call.Call.TheVariants.{Barrier, LoopNext, LoopEnd, LoopEndNowait, RegionEnd, Resume};
+ghost use Rattle.gomp_types.specs.declared.loop_desc.Sched.TheVariants.{Static, Guided, Runtime};
 ghost use Rattle.gomp_types.specs.declared.loop_desc.EndKind.TheVariants.{Wait as WaitEnd};
 ghost use Rattle.gomp_types.specs.declared.refusal.Refusal.TheVariants.{ZeroStep, LoopTooLong, TooManyShares, Ended, NotDrained, Drained, NoMemory, Mismatch};
 ghost use Rattle.gomp_types.specs.declared.reply.Reply.TheVariants.{Chunk, NoChunk, Passed, Wait, Refused};
 ghost use Rattle.gomp_types.specs.Causes.{MayAnswer};
-ghost use Rattle.gomp_types.specs.Examples.{IsRunOf, one_share, second_share, whole_region, over_all_values, down_all_values, trips_of, IsRun, IsWrong, asks, dynamic_loop, one_nowait, loop_of_two, empty_loops, refused_ends, eight_ahead, ninth_share, differing_loop, differing_barrier};
+ghost use Rattle.gomp_types.specs.Pieces.{resolved};
+ghost use Rattle.gomp_types.specs.Examples.{loop_with, owned_pieces, even_pieces_of_four, shrinking_pieces, runtime_pieces, IsRunOf, one_share, second_share, whole_region, over_all_values, down_all_values, trips_of, IsRun, IsWrong, asks, dynamic_loop, one_nowait, loop_of_two, empty_loops, refused_ends, eight_ahead, ninth_share, differing_loop, differing_barrier};
 
 /// Each reply of these runs has its cause.
 pub fn worked_runs()
@@ -63,4 +65,32 @@ pub fn wrong_answers()
     ensures other_loop { IsWrong 2 (take 1 differing_loop) (asks 1 (dynamic_loop (pos 2) (pos 0) (pos 10) WaitEnd)) (Chunk (pos 3) 2) }
     ensures other_barrier { IsWrong 2 (take 1 differing_barrier) (asks 1 RegionEnd) Passed }
     ensures like_loop { IsWrong 2 (take 1 loop_of_two) (asks 1 (dynamic_loop (pos 3) (pos 0) (pos 10) WaitEnd)) (Refused Mismatch) }
+{}
+
+/// Loops of the other schedules: each reply has its cause.
+pub fn worked_schedules()
+    ensures owned_pieces { IsRun 2 owned_pieces }
+    ensures even_pieces { IsRun 4 even_pieces_of_four }
+    ensures shrinking_pieces { IsRun 4 shrinking_pieces }
+    ensures runtime_pieces { IsRun 2 runtime_pieces }
+    ensures resolved { resolved Guided (pos 7) (record (over_all_values (pos 1)) { sched = Runtime }) ≡ record (over_all_values (pos 1)) { sched = Guided; chunk = pos 7 } }
+{}
+
+/// And these have none.
+pub fn wrong_schedules()
+    // A static piece for whoever asks first, and none while a member has one of its own.
+    ensures unowned_piece { IsWrong 2 [] (asks 1 (loop_with Static (pos 3) (pos 10))) (Chunk (pos 0) 3) }
+    ensures own_piece_left { IsWrong 2 (take 1 owned_pieces) (asks 1 LoopNext) NoChunk }
+    ensures own_piece_again { IsWrong 2 (take 2 owned_pieces) (asks 1 LoopNext) (Chunk (pos 3) 3) }
+
+    // The iterations that are left over, for the last members.
+    ensures longer_last_part { IsWrong 4 [] (asks 2 (loop_with Static (pos 0) (pos 10))) (Chunk (pos 5) 3) }
+
+    // A guided piece that does not shrink, and one that is smaller than the chunk.
+    ensures unshrunken_piece { IsWrong 4 (take 1 shrinking_pieces) (asks 2 LoopNext) (Chunk (pos 5) 5) }
+    ensures piece_below_chunk { IsWrong 4 (take 4 shrinking_pieces) (asks 0 LoopNext) (Chunk (pos 14) 1) }
+
+    // Schedules that differ, let in: without a chunk, and with one of 1.
+    ensures other_schedule { IsWrong 2 ((asks 0 (loop_with Static (pos 0) (pos 2)), Chunk (pos 0) 1) ∷ []) (asks 1 (loop_with Static (pos 1) (pos 2))) (Chunk (pos 1) 1) }
+    ensures chunk_of_its_own { IsWrong 1 [] (asks 0 (loop_with Runtime (pos 5) (pos 10))) (Chunk (pos 0) 5) }
 {}
