@@ -1,8 +1,9 @@
 #!/usr/bin/env python3
 """Times `ompteam steps` on texts of its own making: steps a second and peak memory.
 
-Each text is a team that runs loops of eight iterations for each member, in chunks of one: a start, eight
-calls for the next chunk, the last of which is answered `none`, and the end, ten lines for each member.
+Each text is a team that runs loops with about eight pieces for each member: a start, eight calls for the next
+chunk, and the end, ten lines for each member. Of a static loop without a chunk a member has one piece, so most of
+its calls are refused there; and so are some of a guided loop, whose pieces are not as many for each member.
 
 The peak memory that the system tells counts the launcher's own before the program begins (about 15 MB), so it
 says something of the program only where the text is large."""
@@ -17,11 +18,15 @@ ROOT = os.path.dirname(os.path.dirname(os.path.abspath(__file__)))
 PROGRAM = os.path.join(ROOT, "crates", "gomp_runner", "out", "ompteam")
 
 
-def text_of(members, lines):
+# A schedule with its chunk, and how many iterations for each member make about eight pieces.
+SCHEDULES = [("dynamic 1", 8), ("static 1", 8), ("static 0", 8), ("guided 1", 1100)]
+
+
+def text_of(schedule, iterations, members, lines):
     """A text of about so many lines for a team of so many members."""
     text = [f"team {members}"]
     while len(text) < lines:
-        calls = [f"loop dynamic 1 0 {8 * members} 1 nowait"] + ["next"] * 8 + ["end_nowait"]
+        calls = [f"loop {schedule} 0 {iterations * members} 1 nowait"] + ["next"] * 8 + ["end_nowait"]
         for call in calls:
             text.extend(f"{member} {call}" for member in range(members))
     return "\n".join(text[:lines]) + "\n"
@@ -41,15 +46,21 @@ def run(path):
 
 def main():
     subprocess.run([os.path.join(ROOT, "ompteam"), "steps"], input=b"team 1\n", check=True)
-    print("members    lines   seconds  steps/s  ns/step   memory/text")
-    for members in (1, 8, 64):
-        for lines in (10_000, 100_000, 1_000_000):
-            with tempfile.NamedTemporaryFile(suffix=".steps") as file:
-                file.write(text_of(members, lines).encode())
-                file.flush()
-                size = os.path.getsize(file.name)
-                seconds, memory = min(run(file.name) for _ in range(3))
-            print(f"{members:7} {lines:8} {seconds:9.4f} {lines / seconds:8.0f} {seconds / lines * 1e9:8.0f} {memory / size:13.1f}")
+    print("schedule  members    lines   seconds  steps/s  ns/step   memory/text")
+    for schedule, iterations in SCHEDULES:
+        for members in (1, 8, 64):
+            for lines in (10_000, 100_000, 1_000_000):
+                row(schedule, iterations, members, lines)
+
+
+def row(schedule, iterations, members, lines):
+    """Prints the best of three runs."""
+    with tempfile.NamedTemporaryFile(suffix=".steps") as file:
+        file.write(text_of(schedule, iterations, members, lines).encode())
+        file.flush()
+        size = os.path.getsize(file.name)
+        seconds, memory = min(run(file.name) for _ in range(3))
+    print(f"{schedule:9} {members:7} {lines:8} {seconds:9.4f} {lines / seconds:8.0f} {seconds / lines * 1e9:8.0f} {memory / size:13.1f}")
 
 
 if __name__ == "__main__":
