@@ -1,9 +1,9 @@
 #!/usr/bin/env python3
 """Times `ompteam steps` on texts of its own making: steps a second and peak memory.
 
-Each text is a team that runs loops with about eight pieces for each member: a start, eight calls for the next
-chunk, and the end, ten lines for each member. Of a static loop without a chunk a member has one piece, so most of
-its calls are refused there; and so are some of a guided loop, whose pieces are not as many for each member.
+Each text is a team that runs loops, ten lines for each member: a start, eight calls for the next chunk, and the
+end. There are eight pieces for each member; in a static loop without a chunk one, and in a guided loop about eight,
+save that a member alone has one. A member without a piece left is refused, which is a step as well.
 
 The peak memory that the system tells counts the launcher's own before the program begins (about 15 MB), so it
 says something of the program only where the text is large."""

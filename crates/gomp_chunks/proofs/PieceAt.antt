@@ -1,5 +1,5 @@
 -- The pieces of a share by their numbers: how many there are, which one has a number, and that it lies within the loop.
-use Rattle.std.proofs.Common.{◌≡◌, ℕ, ◌+◌, ◌*◌, ◌/◌, ◌%◌, ◌<◌, ◌≤◌, ◌∙◌, Some, refl, suc, zero, ap, zero-add, suc-mul, add-one, arith}
+use Rattle.std.proofs.Common.{◌≡◌, ℕ, ◌+◌, ◌*◌, ◌/◌, ◌%◌, ◌<◌, ◌≤◌, ◌∙◌, Some, suc, zero, ap, zero-add, suc-mul, add-one, arith}
 use Rattle.std.specs.Prelude.{min, length, slice_get}
 use Rattle.std.specs.Int.{div_ceil}
 use Rattle.std.proofs.Math.Nat.{mul-le-mul_right, mul_comm, mod-lt}

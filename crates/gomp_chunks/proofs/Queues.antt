@@ -1,5 +1,5 @@
 -- The pieces that a member owns: where each stands among all pieces.
-use Rattle.std.proofs.Common.{◌≡◌, ℕ, ◌+◌, ◌-◌, ◌*◌, ◌%◌, ◌<◌, ◌≤◌, ◌∙◌, false, true, List, [], ◌∷◌, Some, None, refl, ap, suc, zero, arith, length, slice_get, inl, inr, suc-mul}
+use Rattle.std.proofs.Common.{◌≡◌, ℕ, ◌+◌, ◌-◌, ◌*◌, ◌%◌, ◌<◌, ◌≤◌, ◌∙◌, false, true, List, [], ◌∷◌, None, refl, suc, zero, arith, length, slice_get, inl, inr, suc-mul}
 use Rattle.std.specs.Prelude.{◌==◌, if◌then◌else◌, nat_le}
 use Rattle.std.proofs.lemmas.Nat.{mod-mul-add}
 use Rattle.std.proofs.lemmas.Bool.Decides.{nat_tests}

@@ -1,5 +1,5 @@
 -- A plan: the pieces of one work-share, who owns which, and which one is next. (own)
-use Rattle.std.specs.Prelude.{ℕ, nat_lt, Bool, List, Option, Some, None, length, slice_get, option_and_then, if◌then◌else◌}
+use Rattle.std.specs.Prelude.{ℕ, nat_lt, List, Option, Some, None, length, slice_get, option_and_then, if◌then◌else◌}
 use Rattle.gomp_types.specs.declared.shape.Shape.{Shape}
 use Rattle.gomp_types.specs.Pieces.{Piece, pieces_of, owner_by}
 use Rattle.gomp_types.specs.Deals.{schedule}

@@ -5,7 +5,7 @@ use Rattle.gomp_types.specs.Pieces.{guided_from, guided_pieces}
 use Rattle.gomp_chunks.specs.Plans.{PlanView}
 use Rattle.gomp_chunks.specs.declared.guided.Spot.{Spot}
 
--- what a cursor keeps: the plan, and the spot of the piece that was asked for last
+-- what a cursor keeps: the plan, and the spot of the piece that was asked for last, which moves only where the loop is guided
 pub record CursorView : Type 0 where
   pub plan : PlanView
   pub spot : Spot

@@ -7,8 +7,8 @@ use crate::Plan;
 use crate::guided::{Spot, forward};
 use std::marker::Model;
 
-/// A plan with the place of the piece that was asked for last, from which the next one is found
-/// without going over those before it anew.
+/// A plan with the place of the piece of a guided loop that was asked for last, from which the next
+/// one is found without going over those before it anew. Pieces of other loops need no place.
 #[derive(Clone, Copy, Debug)]
 pub struct Cursor {
     plan: Plan,

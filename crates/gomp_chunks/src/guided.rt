@@ -24,8 +24,8 @@ impl Spot {
     };
 }
 
-/// How many iterations the piece has that begins here, one that is no iteration having none: its
-/// part of what is left, and no fewer than the chunk says while so many are left.
+/// How many iterations the piece has that begins here: its part of what is left, and no fewer than
+/// the chunk says while so many are left; 0 past the last iteration.
 pub fn size_from(shape: &Shape, members: u16, first: u64) -> u64
     requires shape { IsShape shape.now }
     requires team { 0 < members }

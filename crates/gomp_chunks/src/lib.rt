@@ -125,7 +125,7 @@ impl Plan {
         }
     }
 
-    /// The spot of piece number `j`, from one that lies before it; one that is not looked for stays.
+    /// The spot of piece number `j`, from one that lies before it. Only a guided loop's is looked for.
     fn spot_from(&self, start: Spot, j: u64) -> Spot
         requires spot { IsSpot self.now.members self.now.shape start }
         requires ahead { start.number ≤ j }

@@ -8,8 +8,10 @@ use std::alloc::Global;
 use std::process::Abort;
 use std::test::Fail;
 
-/// So many orders of steps are tried.
+/// So many orders of steps are tried, each of so many turns.
 const ORDERS: u32 = 100;
+
+const TURNS: u32 = 400;
 
 fn of(sched: Sched, chunk: i64, end: i64) -> LoopDesc {
     LoopDesc {
@@ -27,52 +29,73 @@ fn drawn(seed: u32) -> u32 {
     seed.wrapping_mul(1_664_525).wrapping_add(1_013_904_223)
 }
 
+/// How far a member is with the loop.
+#[derive(Clone, Copy)]
+struct Progress {
+    started: bool,
+    over: bool,
+    taken: usize,
+}
+
 /// That members who ask in many orders get the pieces of their queues in order, and then none. One
-/// queue is that of all members; of more, each member has its own.
+/// queue is that of all members, at most four; of more, each member has its own.
 fn deals(
     rt: &impl Abort,
     alloc: Global,
-    members: usize,
+    members: u16,
     desc: LoopDesc,
     queues: &[&[(i64, u64)]],
 ) -> Result<(), Fail> {
+    let new = Progress {
+        started: false,
+        over: false,
+        taken: 0,
+    };
     for order in 0..ORDERS {
-        let mut team: Team<PlainShares> = Team::new(alloc, members as u16)?;
-        let mut taken = vec![in alloc; 0; queues.len()]?;
-        let mut started = vec![in alloc; false; members]?;
-        let mut over = vec![in alloc; false; members]?;
+        let mut team: Team<PlainShares> = Team::new(alloc, members)?;
+        let mut each = vec![in alloc; new; members as usize]?;
+        let mut all: usize = 0;
         let mut seed = order;
-        let mut left = members;
-        while left > 0 {
+        for _ in 0..TURNS {
             seed = drawn(seed);
-            let member = (seed >> 16) as usize % members;
-            if over[member] {
+            let member = (seed >> 16 & 3) as u16;
+            let Some(progress) = each.get_mut(member as usize) else {
                 continue;
-            }
-            let call = if started[member] {
+            };
+            let (queue, taken) = if queues.len() == 1 {
+                (queues.first(), all)
+            } else {
+                (queues.get(member as usize), progress.taken)
+            };
+            let (Some(queue), false) = (queue, progress.over) else {
+                continue;
+            };
+            let call = if progress.started {
                 Call::LoopNext
             } else {
                 Call::LoopStart(desc)
             };
-            started[member] = true;
-            let queue = member.min(queues.len() - 1);
-            let reply = team.step(member as u16, call);
-            if taken[queue] < queues[queue].len() {
-                let (first, count) = queues[queue][taken[queue]];
-                assert_eq!(rt;
-                    reply,
-                    Reply::Chunk { first, count },
-                    "member {member} in order {order}"
-                );
-                taken[queue] += 1;
-            } else {
-                assert_eq!(rt; reply, Reply::NoChunk, "member {member} in order {order}");
-                over[member] = true;
-                left -= 1;
-            }
+            let expected = match queue.get(taken) {
+                Some((first, count)) => chunk(*first, *count),
+                None => Reply::NoChunk,
+            };
+            assert_eq!(rt;
+                team.step(member, call),
+                expected,
+                "member {member} in order {order}"
+            );
+            progress.started = true;
+            progress.over = taken >= queue.len();
+            progress.taken = taken.saturating_add(1);
+            all = all.saturating_add(1);
         }
+        assert!(rt; each.iter().all(|progress| progress.over));
     }
     Ok(())
+}
+
+fn chunk(first: i64, count: u64) -> Reply {
+    Reply::Chunk { first, count }
 }
 
 #[test]

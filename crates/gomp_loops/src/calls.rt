@@ -33,8 +33,8 @@ pub fn first_refusal<S: Shares>(
     own_refusal(&seen, limits, call)
 }
 
-/// Enters the member's next share for this loop, and answers the first chunk for it: the least piece
-/// that nobody took. `NoChunk` where there is none; the member is in the share all the same, and may
+/// Enters the member's next share for this loop, and answers the first chunk for it: of the pieces
+/// that are its to take, the least one that nobody took. `NoChunk` where there is none; the member is in the share all the same, and may
 /// end it.
 ///
 /// `Wait` where some member has not left the share eight before, and nothing is entered: the layer

@@ -8,24 +8,25 @@ use Rattle.gomp_runner.specs.Answers.{AnswerTo}
 use Rattle.gomp_runner.specs.declared.serve.Ending.{Ending}
 use Rattle.gomp_runner.specs.declared.serve.Ending.TheVariants.{Answered, NoMemory, InputFault, OutputFault}
 
--- what was read is the whole text, which is no longer than the limit
-abbrev pub Whole : ℕ → List ℕ → List ℕ → Type 0
-Whole limit read text = (read ≡ text) × (length text ≤ limit)
+-- what was read is all that the reader had, where that is known, and no longer than the limit
+abbrev pub Whole : ℕ → Option (List ℕ) → List ℕ → Type 0
+Whole limit remaining text = IfSome remaining (λ all. text ≡ all) × (length text ≤ limit)
 
 -- the longest text that is read, in bytes
 abbrev pub max_text : ℕ
 max_text = 16777216
 
--- the answer to the text was written, and nothing else
-pub record Served (text : List ℕ) (before after : Option (List ℕ)) (code : ℕ) : Type 0 where
-  pub size : length text ≤ max_text
+-- a text was read whole, and the answer to it was written, and nothing else; what a reader has and a writer holds is known of some, of a process's input and output it is not
+pub record Served (remaining before after : Option (List ℕ)) (code : ℕ) : Type 0 where
+  pub text : List ℕ
+  pub whole : Whole max_text remaining text
   pub output : List ℕ
   pub answer : AnswerTo (steps_of text) output code
   pub written : Appends before after output
 
 -- what became of the reader's text: before and after are what the writer holds
 abbrev pub Serves : Option (List ℕ) → Option (List ℕ) → Option (List ℕ) → Ending → Type 0
-Serves remaining before after (Answered code) = IfSome remaining (λ text. Served text before after code)
+Serves remaining before after (Answered code) = Served remaining before after code
 Serves remaining before after NoMemory = after ≡ before
 Serves remaining before after InputFault = after ≡ before
 Serves remaining before after OutputFault = ⊤

@@ -46,8 +46,8 @@ pub fn answer_steps(alloc: Global, text: &[u8]) -> Result<Answer, AllocError>
     }
 }
 
-/// This number of members, where it is one that a team may have or not: a number above the largest
-/// `u16` is as much too large as that one.
+/// The number of members as a `u16`: one above the largest `u16` becomes that, since no team may have
+/// either.
 fn team_size(count: u32) -> u16
     ensures { result ≡ min count 65535 }
 {

@@ -1,6 +1,6 @@
 //! `ompteam steps`: reads a text of steps, runs it, and writes each reply on a line.
 
-ghost use Rattle.std.specs.Prelude.{◌≡◌, IfOk, IfErr, IfSome};
+ghost use Rattle.std.specs.Prelude.{◌≡◌, IfOk, IfErr};
 ghost use Rattle.std.specs.IoError.{error_kind};
 ghost use Rattle.gomp_runner.specs.Serving.{Whole, IsUnread, Serves, unread_as};
 
@@ -43,7 +43,7 @@ pub fn serve_steps<R: Read + Drop, W: Write>(alloc: Global, reader: R, writer: &
 
 /// All that the reader gives, where that is at most `limit` bytes; or how the program ends.
 fn read_text<R: Read + Drop>(alloc: Global, reader: R, limit: u32) -> Result<Vec<u8>, Ending>
-    ensures whole { IfOk result (λ text. IfSome (R.remaining reader) (Whole limit text.items)) }
+    ensures whole { IfOk result (λ text. Whole limit (R.remaining reader) text.items) }
     ensures unread { IfErr result IsUnread }
 {
     let mut bounded = reader.take(limit as u64 + 1);

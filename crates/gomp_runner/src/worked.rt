@@ -1,6 +1,6 @@
 //! Texts of steps, and what the program writes for them.
 
-use crate::command::{Notes, Status, serve};
+use crate::command::{Notes, serve, without_words};
 use std::alloc::Global;
 use std::io::{self, ErrorKind, Read, Write};
 use std::process::Abort;
@@ -199,7 +199,7 @@ fn texts(rt: HostRuntime) -> Result<(), Fail> {
              refused E3 Broken 1 barrier 0\n",
             0,
         ),
-        // a barrier inside a loop and a nowait end
+        // a loop with two faults
         (
             "team 1\n\
              0 loop dynamic -1 0 4 0 wait\n",
@@ -405,6 +405,16 @@ fn other_words(rt: HostRuntime) -> Result<(), Fail> {
         assert!(rt; matches!(&status.notes, Notes::Command(_)));
         assert!(rt; written.is_empty());
     }
+    let mut written = Vec::new(rt.alloc());
+    let status = serve(
+        rt.alloc(),
+        &["ompteam", "--help"],
+        b"team 1\n".as_slice(),
+        &mut written,
+    );
+    assert_eq!(rt; status.code, 0);
+    assert_eq!(rt; status.notes, Notes::Nothing);
+    assert!(rt; written.starts_with(b"An OpenMP team, step by step\n"));
     for (words, shown) in [
         (["ompteam", "--version"], "ompteam 0.1.0\n"),
         (["ompteam", "steps"], ""),
@@ -415,6 +425,21 @@ fn other_words(rt: HostRuntime) -> Result<(), Fail> {
         assert_eq!(rt; status.notes, Notes::Nothing);
         assert_eq!(rt; str::from_utf8(written.as_slice()), Ok(shown));
     }
+    Ok(())
+}
+
+#[test]
+fn words_that_cannot_be_had(rt: HostRuntime) -> Result<(), Fail> {
+    let status = without_words(rt.alloc(), &io::Error::from(ErrorKind::OutOfMemory));
+    assert_eq!(rt; status.notes, Notes::NoMemory);
+    assert_eq!(rt; status.code, 3);
+    let status = without_words(rt.alloc(), &io::Error::from(ErrorKind::InvalidData));
+    let text = String::from_str(
+        rt.alloc(),
+        "error: a word of the command line is not UTF-8\n",
+    )?;
+    assert_eq!(rt; status.notes, Notes::Command(text));
+    assert_eq!(rt; status.code, 1);
     Ok(())
 }
 

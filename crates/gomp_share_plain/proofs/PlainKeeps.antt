@@ -1,5 +1,5 @@
 -- Each call keeps the plain shares in step with the events.
-use Rattle.std.proofs.Common.{◌≡◌, ◌≢◌, ℕ, ◌+◌, ◌-◌, ◌%◌, ◌^◌, ◌<◌, ◌≤◌, suc, zero, true, false, nat_lt, List, [], ◌∷◌, length, get_or, slice_get, slice_set, Some, None, inl, inr, refl, ap, ◌∙◌, sym, subst, arith, replicate}
+use Rattle.std.proofs.Common.{◌≡◌, ◌≢◌, ℕ, ◌+◌, ◌-◌, ◌%◌, ◌^◌, ◌<◌, ◌≤◌, true, false, nat_lt, List, [], ◌∷◌, length, get_or, slice_get, slice_set, Some, None, inl, inr, refl, ap, ◌∙◌, sym, subst, arith, replicate}
 use Rattle.std.specs.Prelude.{Option, not, ◌==◌, All, IfSome}
 use Rattle.std.proofs.lemmas.Bool.Decides.{nat_tests, eqb_tells}
 use Rattle.std.proofs.lemmas.Bool.{cases_Bool}

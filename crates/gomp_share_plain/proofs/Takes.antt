@@ -1,8 +1,8 @@
 -- How many pieces count for a member, and what a take adds.
-use Rattle.std.proofs.Common.{◌≡◌, ◌≢◌, ℕ, ◌+◌, ◌%◌, ◌<◌, ◌≤◌, ◌∙◌, false, List, [], ◌∷◌, Option, Some, None, refl, ap, arith, length, slice_get, inl, inr, sym}
-use Rattle.std.specs.Prelude.{◌==◌, ◌^◌, if◌then◌else◌}
+use Rattle.std.proofs.Common.{◌≡◌, ◌≢◌, ℕ, ◌+◌, ◌%◌, ◌≤◌, ◌∙◌, false, List, [], ◌∷◌, Option, Some, None, refl, ap, arith, length, slice_get, inl, inr, sym}
+use Rattle.std.specs.Prelude.{◌==◌, ◌^◌}
 use Rattle.std.proofs.lemmas.Bool.{cases_Bool, cases_lt}
-use Rattle.std.proofs.lemmas.Bool.Decides.{nat_tests, eqb_tells}
+use Rattle.std.proofs.lemmas.Bool.Decides.{nat_tests}
 use Rattle.std.proofs.lemmas.Option.{slice_get_past}
 use Rattle.gomp_types.specs.declared.shape.Shape.{Shape}
 use Rattle.gomp_types.specs.declared.shape.ShareKind.{ShareKind}
@@ -14,7 +14,7 @@ use Rattle.gomp_types.specs.Values.{IsShape}
 use Rattle.gomp_types.specs.Pieces.{Piece, Tiles, pieces_of, kind_pieces, owner_by}
 use Rattle.gomp_types.specs.Deals.{deal_of, schedule, owned_from, taken_in, next_for}
 use Rattle.gomp_types.proofs.Booleans.{same_number}
-use Rattle.gomp_chunks.specs.Plans.{PlanView, count_for, next_piece, own_queue}
+use Rattle.gomp_chunks.specs.Plans.{count_for, next_piece, own_queue}
 use Rattle.gomp_share_plain.specs.Plain.{taken_by, taken_of}
 
 -- the takes that count for a member are its own of a static share, and else all

@@ -77,8 +77,8 @@ pub trait Shares: Sized {
         ensures answer { EachStands (stands self.old) (MayOpen (members self.old) member shape.now result) }
         ensures stands { EachStands (stands self.old) (λ h. stands self.new (opened member shape.now result h)) };
 
-    /// Takes the next piece of the member's share: its first iteration and the one after its last.
-    /// None where nothing is left for the member.
+    /// Takes the next piece of the member's share that is its to take: its first iteration and the
+    /// one after its last. None where nothing is left for the member.
     fn claim(&mut self, member: u16) -> Option<(u64, u64)>
         requires { CanClaim (members self.old) member (seen self.old member) }
         ensures members { members self.new ≡ members self.old }

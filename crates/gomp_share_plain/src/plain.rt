@@ -20,7 +20,7 @@ pub struct Seat {
     ended: u64,
     /// Whether it was told that nothing is left of the last.
     drained: bool,
-    /// How many pieces it took of the last; like every count, it stays at the largest number.
+    /// How many pieces it took of the last; the count stays at the largest number.
     taken: u64,
 }
 
@@ -28,9 +28,9 @@ pub struct Seat {
 #[derive(Clone, Copy, Debug)]
 pub struct OpenShare {
     shape: Shape,
-    /// How many of its pieces were taken.
+    /// How many of its pieces were taken; the count stays at the largest number.
     taken: u64,
-    /// Where the last of them lies.
+    /// Its pieces, with the place of the last one of a guided loop that was taken.
     cursor: Cursor,
 }
 

@@ -1,5 +1,5 @@
 -- Each schedule deals fairly to each share.
-use Rattle.std.proofs.Common.{ℕ, ◌+◌, ◌*◌, ◌%◌, ◌<◌, List, refl, arith, length}
+use Rattle.std.proofs.Common.{ℕ, ◌%◌, ◌<◌, List, refl, arith, length}
 use Rattle.std.specs.Prelude.{min}
 use Rattle.std.proofs.Math.Nat.{mod-lt}
 use Rattle.std.proofs.lemmas.List.FromFn.{length-map-range_with_len}

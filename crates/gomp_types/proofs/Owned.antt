@@ -1,13 +1,13 @@
 -- The pieces of each owner, of a list of pieces that tile: each iteration lies in a piece of one owner.
 use Rattle.std.proofs.Common.{◌≡◌, ℕ, ◌+◌, ◌<◌, ◌≤◌, Bool, true, false, List, [], ◌∷◌, Some, refl, arith, suc, zero, length, slice_get, inl, inr}
 use Rattle.std.specs.Prelude.{if◌then◌else◌, ◌==◌, ◌≢◌}
-use Rattle.std.proofs.lemmas.Bool.Decides.{nat_tests, Decides-eqb}
+use Rattle.std.proofs.lemmas.Bool.Decides.{nat_tests}
 use Rattle.std.proofs.lemmas.Bool.{cases_Bool}
 use Rattle.gomp_types.specs.declared.shape.Shape.{Shape}
 use Rattle.gomp_types.specs.Pieces.{Piece, Tiles}
 use Rattle.gomp_types.specs.Events.{has_iteration}
 use Rattle.gomp_types.specs.Deals.{IsDealt, own_queues, owned_from, times}
-use Rattle.gomp_types.proofs.Tiling.{times_below, times_most, times_once}
+use Rattle.gomp_types.proofs.Tiling.{times_below, times_most}
 
 -- the number of the piece with an iteration, where the list begins with piece number j
 abbrev place_of : ℕ → ℕ → List Piece → ℕ

@@ -1,10 +1,10 @@
 -- The pieces in which the iterations of a work-share are handed out. OpenMP API 5.2, section 11.5.3.
-use Rattle.std.specs.Prelude.{ℕ, ℤ, pos, zero, suc, ◌+◌, ◌-◌, ◌*◌, ◌/◌, ◌%◌, ◌<◌, ◌≡◌, ◌&&◌, min, max, unsigned_abs, Bool, true, false, if◌then◌else◌, List, [], ◌∷◌, map, Option, Some, None}
+use Rattle.std.specs.Prelude.{ℕ, ℤ, pos, zero, suc, ◌+◌, ◌-◌, ◌*◌, ◌/◌, ◌%◌, ◌<◌, ◌≡◌, ◌&&◌, min, max, unsigned_abs, if◌then◌else◌, List, [], ◌∷◌, map, Option, Some, None}
 use Rattle.std.specs.Ordering.{int_eq}
 use Rattle.std.specs.Int.{div_ceil}
 use Rattle.std.specs.List.{range_with_len}
 use Rattle.gomp_types.specs.declared.loop_desc.Sched.{Sched}
-use Rattle.gomp_types.specs.declared.loop_desc.Sched.TheVariants.{Static, Guided, Runtime}
+use Rattle.gomp_types.specs.declared.loop_desc.Sched.TheVariants.{Static, Guided}
 use Rattle.gomp_types.specs.declared.loop_desc.LoopDesc.{LoopDesc}
 use Rattle.gomp_types.specs.declared.shape.Shape.{Shape}
 use Rattle.gomp_types.specs.declared.shape.ShareKind.{ShareKind}

@@ -17,7 +17,7 @@ abbrev pub IsChunk : Shape → Option Piece → ℤ → ℕ → Type 0
 IsChunk shape None first count = ⊥
 IsChunk shape (Some piece) first count = (first ≡ value_at shape piece.0) × (piece.0 + count ≡ piece.1)
 
--- the answer to a member that asks for iterations: the least piece of its share that nobody took, none where there is none
+-- the answer to a member that asks for iterations: the least piece that nobody took of those of its share that are its to take, none where there is none
 abbrev pub DealsOut : ℕ → ℕ → Option (ℕ × Shape) → Reply → List Event → Type 0
 DealsOut members m None reply h = ⊥
 DealsOut members m (Some share) (Chunk first count) h = IsChunk share.1 (next_for (schedule members) share.1 share.0 m h) first count

@@ -84,13 +84,14 @@ pub fn wrong_schedules()
     ensures own_piece_again { IsWrong 2 (take 2 owned_pieces) (asks 1 LoopNext) (Chunk (pos 3) 3) }
 
     // The iterations that are left over, for the last members.
-    ensures longer_last_part { IsWrong 4 [] (asks 2 (loop_with Static (pos 0) (pos 10))) (Chunk (pos 5) 3) }
+    ensures longer_last_part { IsWrong 4 [] (asks 2 (loop_with Static (pos 0) (pos 10))) (Chunk (pos 4) 3) }
 
     // A guided piece that does not shrink, and one that is smaller than the chunk.
     ensures unshrunken_piece { IsWrong 4 (take 1 shrinking_pieces) (asks 2 LoopNext) (Chunk (pos 5) 5) }
-    ensures piece_below_chunk { IsWrong 4 (take 4 shrinking_pieces) (asks 0 LoopNext) (Chunk (pos 14) 1) }
+    ensures piece_below_chunk { IsWrong 4 (take 5 shrinking_pieces) (asks 0 LoopNext) (Chunk (pos 16) 1) }
 
-    // Schedules that differ, let in: without a chunk, and with one of 1.
+    // Schedules that differ, without a chunk and with one of 1, let in; and a runtime schedule
+    // with a chunk of its own.
     ensures other_schedule { IsWrong 2 ((asks 0 (loop_with Static (pos 0) (pos 2)), Chunk (pos 0) 1) ∷ []) (asks 1 (loop_with Static (pos 1) (pos 2))) (Chunk (pos 1) 1) }
     ensures chunk_of_its_own { IsWrong 1 [] (asks 0 (loop_with Runtime (pos 5) (pos 10))) (Chunk (pos 0) 5) }
 {}

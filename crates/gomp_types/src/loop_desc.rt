@@ -17,7 +17,7 @@ use crate::shape::{Shape, ShareKind};
 #[derive(Clone, Copy, Debug, PartialEq, Eq)]
 pub enum Sched {
     /// Pieces of the chunk's size, which belong to the members in turn; without a chunk, one
-    /// piece for each member.
+    /// piece for each member, as even as may be.
     Static,
     /// Pieces of the chunk's size, each to whoever asks next; without a chunk, of 1.
     Dynamic,
@@ -58,7 +58,8 @@ impl LoopDesc {
     /// The loop with the schedule that counts: where it leaves that to the control variables, with
     /// their schedule and chunk.
     ///
-    /// A loop that is refused for a chunk of its own stays as it is.
+    /// The control variables have a schedule of their own, never `Runtime`, and a chunk from 0 to
+    /// 2^39. A loop that is refused for a chunk of its own stays as it is.
     pub fn resolved(&self, sched: Sched, chunk: i64) -> LoopDesc
         ensures { result ≡ resolved sched chunk self.now }
     {

@@ -46,7 +46,7 @@ pub enum Refusal {
     OutsideShare,
     /// E12: the loop's step is 0.
     ZeroStep,
-    /// E13: the chunk is negative or above 2^39.
+    /// E13: the chunk is negative, above 2^39, or given with a runtime schedule.
     BadChunk,
     /// E14: the loop has more than 2^39 iterations.
     LoopTooLong,

@@ -1,4 +1,4 @@
-use Rattle.std.proofs.Common.{◌≡◌, ◌<◌, length, sym, subst, arith}
+use Rattle.std.proofs.Common.{◌≡◌, length, sym, subst, arith}
 use Rattle.gomp_types.specs.Pieces.{even_pieces}
 use Rattle.gomp_chunks.specs.Plans.{PlanView, pieces}
 use Rattle.gomp_chunks.proofs.PieceAt.{length-even_pieces}

@@ -1,4 +1,4 @@
-use Rattle.std.proofs.Common.{◌≡◌, ◌<◌, ◌≤◌, ◌∙◌, length, sym, arith}
+use Rattle.std.proofs.Common.{◌<◌, length, sym, arith}
 use Rattle.std.specs.Prelude.{min}
 use Rattle.gomp_types.specs.Pieces.{even_pieces}
 use Rattle.gomp_chunks.proofs.PieceAt.{length-even_pieces, slice_get-even_pieces, even_within}

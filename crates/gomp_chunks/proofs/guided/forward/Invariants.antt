@@ -1,4 +1,4 @@
-use Rattle.std.proofs.Common.{ℕ, ◌≤◌, ◌-◌}
+use Rattle.std.proofs.Common.{◌≤◌, ◌-◌}
 use Rattle.gomp_chunks.specs.Spots.{IsSpot}
 use Rattle.gomp_chunks.proofs.guided.forward.Given as goal
 

@@ -1,4 +1,4 @@
-use Rattle.std.proofs.Common.{◌≡◌, ◌<◌, ◌≤◌, ◌∙◌, Some, ap, sym, arith, length}
+use Rattle.std.proofs.Common.{◌≡◌, sym, arith}
 use Rattle.std.proofs.lemmas.Option.{slice_get_within}
 use Rattle.gomp_types.specs.Pieces.{guided_pieces}
 use Rattle.gomp_chunks.proofs.GuidedSpots.{few_pieces, none_there, piece_there}

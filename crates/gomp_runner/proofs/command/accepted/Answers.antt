@@ -1,4 +1,4 @@
-use Rattle.std.proofs.Common.{◌≡◌, true, map, ap, sym, ◌∙◌}
+use Rattle.std.proofs.Common.{map, ap, sym, ◌∙◌}
 use Rattle.clap.specs.Words.{fault_of, is_simple_and_free}
 use Rattle.gomp_runner.proofs.CommandLemmas.{is_covered}
 use Rattle.gomp_runner.proofs.command.accepted.Goals as goal

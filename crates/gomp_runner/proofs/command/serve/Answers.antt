@@ -1,6 +1,4 @@
-use Rattle.std.proofs.Common.{◌≡◌, []}
-use Rattle.clap.specs.Words.{HasKind}
-use Rattle.gomp_runner.specs.CommandLine.{Ends, Stepped}
+use Rattle.std.proofs.Common.{[]}
 use Rattle.gomp_runner.proofs.CommandLemmas.{steps_has_no_fault, told_ends}
 use Rattle.gomp_runner.proofs.command.serve.Goals as goal
 

@@ -1,4 +1,4 @@
-use Rattle.std.proofs.Common.{◌≡◌, ◌≤◌, length, arith}
+use Rattle.std.proofs.Common.{◌≤◌, length, arith}
 use Rattle.gomp_runner.proofs.ServeLemmas.{read_all}
 use Rattle.gomp_runner.proofs.serve.read_text.Goals as goal
 

@@ -1,7 +1,6 @@
-use Rattle.std.proofs.Common.{◌≡◌, ◌%◌, ◌<◌, arith, refl, ◌∙◌, sym, ap, length}
+use Rattle.std.proofs.Common.{◌%◌, ◌<◌, arith, refl, ◌∙◌, sym, length}
 use Rattle.std.proofs.lemmas.List.{length-set}
 use Rattle.std.proofs.lemmas.Option.{slice_get_read}
-use Rattle.gomp_chunks.specs.Plans.{PlanView}
 use Rattle.gomp_share_plain.specs.Calls.{CanClaim}
 use Rattle.gomp_share_plain.proofs.PlainKeeps.{claims, drains, place_is, piece_at, told, known_by, own_place, not_empty, here_plan}
 use Rattle.gomp_share_plain.proofs.plain.PlainSharesShares.claim.Goals as goal

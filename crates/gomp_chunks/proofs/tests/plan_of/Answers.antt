@@ -1,0 +1,16 @@
+use Rattle.std.proofs.Common.{◌≡◌, ◌∙◌, sym, Some, None, Ok}
+use Rattle.std.specs.Prelude.{Option}
+use Rattle.gomp_types.specs.declared.refusal.Refusal.{Refusal}
+use Rattle.gomp_types.specs.Tests.{first_refusal, outcome}
+use Rattle.gomp_types.specs.Iterations.{loop_tests}
+use Rattle.gomp_types.specs.Pieces.{shape_of}
+use Rattle.gomp_chunks.proofs.tests.plan_of.Goals as goal
+
+outcome_value : {A : Type 0} (first : Option Refusal) (value found : A) → outcome first value ≡ Ok found → found ≡ value
+outcome_value None value found e = cc
+outcome_value (Some refusal) value found e = absurd (cc)
+
+pub of-requires-clause-shape : goal.of-requires-clause-shape
+of-requires-clause-shape c =
+    let is : c.in_ok-shape.field-0 ≡ shape_of c.args.desc.now = outcome_value (first_refusal (loop_tests c.args.desc.now)) (shape_of c.args.desc.now) c.in_ok-shape.field-0 (sym c.shape.ensures.shape ∙ c.in_ok-shape.was) in
+    rw is c.in_ok-shape.ensures.fits
