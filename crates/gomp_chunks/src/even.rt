@@ -35,7 +35,8 @@ pub fn even_piece(shape: &Shape, members: u16, j: u64) -> Option<(u64, u64)>
 /// The member that owns piece number `j`.
 pub fn even_owner(members: u16, j: u64) -> u16
     requires { j < members }
-    ensures { result ≡ j }
+    ensures number { result ≡ j }
+    ensures member { result < members }
 {
     let _members = members;
     j as u16

@@ -5,10 +5,10 @@
 //! 11.5.3).
 #![tactic(auto)]
 
-pub mod chunked;
+mod chunked;
 pub mod cursor;
-pub mod even;
-pub mod guided;
+mod even;
+mod guided;
 
 ghost use Rattle.std.specs.Prelude.{◌≡◌, ◌<◌, ◌≤◌, ◌^◌, ◌⊎◌, length, slice_get, IfSome, OnSome};
 ghost use Rattle.gomp_types.specs.declared.shape.ShareKind.TheVariants.{Guided};
@@ -22,7 +22,8 @@ pub use cursor::Cursor;
 use even::{even_count, even_owner, even_piece};
 use gomp_types::laws::pieces_tile;
 use gomp_types::{Shape, ShareKind};
-use guided::{Spot, forward, guided_count, guided_piece};
+pub use guided::Spot;
+use guided::{forward, guided_count, guided_piece};
 use std::marker::Model;
 
 /// The pieces of one work-share in the order of their iterations.
@@ -96,7 +97,8 @@ impl Plan {
     /// The member that owns piece number `j` of a static loop. `None` where `j` is past the last
     /// piece, and where the pieces belong to whoever asks next.
     pub fn owner(&self, j: u64) -> Option<u16>
-        ensures { result ≡ owner self.now j }
+        ensures owner { result ≡ owner self.now j }
+        ensures member { IfSome result (λ member. member < self.now.members) }
     {
         let members = self.members;
         if j >= self.chunks() {

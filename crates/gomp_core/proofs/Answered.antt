@@ -6,7 +6,7 @@ use Rattle.gomp_types.specs.declared.call.Call.TheVariants.{LoopStart}
 use Rattle.gomp_types.specs.declared.limits.Limits.{Limits}
 use Rattle.gomp_types.specs.declared.loop_desc.LoopDesc.{LoopDesc}
 use Rattle.gomp_types.specs.declared.reply.Reply.{Reply}
-use Rattle.gomp_types.specs.declared.reply.Reply.TheVariants.{Chunk, NoChunk, Finished, Passed, Wait, Refused}
+use Rattle.gomp_types.specs.declared.reply.Reply.TheVariants.{Chunk, NoChunk, Finished, Passed, Wait, Stopped, Refused}
 use Rattle.gomp_types.specs.declared.refusal.Refusal.{Refusal}
 use Rattle.gomp_types.specs.declared.refusal.Refusal.TheVariants.{Mismatch}
 use Rattle.gomp_types.specs.declared.refusal.Place.{Place}
@@ -78,6 +78,7 @@ start_adds m shares loop NoChunk h = refl
 start_adds m shares loop Finished h = refl
 start_adds m shares loop Passed h = refl
 start_adds m shares loop Wait h = refl
+start_adds m shares loop Stopped h = refl
 start_adds m shares loop (Refused refusal) h = refl
 
 -- An arrival

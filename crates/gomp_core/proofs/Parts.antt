@@ -2,9 +2,9 @@
 use Rattle.std.proofs.Common.{◌≡◌, ℕ, Bool, true, false, List, ◌∷◌, Option, Some, None}
 use Rattle.std.specs.Prelude.{ℤ}
 use Rattle.gomp_types.specs.declared.call.Call.{Call}
-use Rattle.gomp_types.specs.declared.call.Call.TheVariants.{LoopStart, LoopNext, LoopEnd, LoopEndNowait, Barrier, RegionEnd, Resume}
+use Rattle.gomp_types.specs.declared.call.Call.TheVariants.{LoopStart, LoopNext, LoopEnd, LoopEndNowait, Barrier, RegionEnd, Resume, Stop}
 use Rattle.gomp_types.specs.declared.reply.Reply.{Reply}
-use Rattle.gomp_types.specs.declared.reply.Reply.TheVariants.{Chunk, NoChunk, Finished, Passed, Wait, Refused}
+use Rattle.gomp_types.specs.declared.reply.Reply.TheVariants.{Chunk, NoChunk, Finished, Passed, Wait, Stopped, Refused}
 use Rattle.gomp_types.specs.declared.refusal.Refusal.{Refusal}
 use Rattle.gomp_types.specs.declared.refusal.Refusal.TheVariants.{Mismatch}
 use Rattle.gomp_types.specs.declared.refusal.Place.{Place}
@@ -44,6 +44,7 @@ since_kept P keeps false m shares LoopEndNowait h aloof p = keeps _ _ tt p
 since_kept P keeps false m shares Barrier h aloof p = absurd (cc)
 since_kept P keeps false m shares RegionEnd h aloof p = absurd (cc)
 since_kept P keeps false m shares Resume h aloof p = p
+since_kept P keeps false m shares Stop h aloof p = p
 
 pub loop_kept : (P : List Event → Type 0) → Keeps BarriersAside P → (again : Bool) (m shares : ℕ) (reply : Reply) (call : Call) (h : List Event) → arrival_kind call ≡ None → P h → P (added again m shares reply call h)
 loop_kept P keeps again m shares (Chunk first count) (LoopStart loop) h aloof p = keeps _ _ tt (keeps _ _ tt p)
@@ -55,6 +56,7 @@ loop_kept P keeps again m shares NoChunk _ h aloof p = p
 loop_kept P keeps again m shares Finished call h aloof p = since_kept P keeps again m shares call h aloof p
 loop_kept P keeps again m shares Passed call h aloof p = rw aloof (since_kept P keeps again m shares call h aloof p)
 loop_kept P keeps again m shares Wait call h aloof p = since_kept P keeps again m shares call h aloof p
+loop_kept P keeps again m shares Stopped call h aloof p = keeps _ _ tt p
 loop_kept P keeps again m shares (Refused refusal) call h aloof p = refusal_kept P (λ h m place p. keeps h _ tt p) m (place_of call m shares h) refusal h p
 
 -- The shares do not see what an arrival adds, save that a loop is left

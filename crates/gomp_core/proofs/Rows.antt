@@ -3,7 +3,7 @@ use Rattle.std.proofs.Common.{◌≡◌, ℕ, ◌<◌, Bool, true, false, List, 
 use Rattle.std.specs.Prelude.{nat_le, ◌≢◌, is_some}
 use Rattle.std.proofs.lemmas.Bool.Decides.{nat_tests}
 use Rattle.gomp_types.specs.declared.call.Call.{Call}
-use Rattle.gomp_types.specs.declared.call.Call.TheVariants.{LoopStart, LoopNext, LoopEnd, LoopEndNowait, Barrier, RegionEnd, Resume}
+use Rattle.gomp_types.specs.declared.call.Call.TheVariants.{LoopStart, LoopNext, LoopEnd, LoopEndNowait, Barrier, RegionEnd, Resume, Stop}
 use Rattle.gomp_types.specs.declared.call.Step.{Step}
 use Rattle.gomp_types.specs.declared.limits.Limits.{Limits}
 use Rattle.gomp_types.specs.declared.refusal.Clash.{Clash}
@@ -55,6 +55,7 @@ row_splits limits m LoopEnd waiting h = refl
 row_splits limits m LoopEndNowait waiting h = refl
 row_splits limits m Barrier waiting h = refl
 row_splits limits m RegionEnd waiting h = refl
+row_splits limits m Stop waiting h = refl
 row_splits limits m Resume None h = refl
 row_splits limits m Resume (Some (LoopStart loop)) h = refl
 row_splits limits m Resume (Some LoopNext) h = refl
@@ -63,6 +64,7 @@ row_splits limits m Resume (Some LoopEndNowait) h = refl
 row_splits limits m Resume (Some Barrier) h = refl
 row_splits limits m Resume (Some RegionEnd) h = refl
 row_splits limits m Resume (Some Resume) h = refl
+row_splits limits m Resume (Some Stop) h = refl
 
 joined : (a b c : List Test) → a ++ (b ++ c) ≡ (a ++ b) ++ c
 joined [] b c = refl
@@ -120,6 +122,7 @@ row_ready limits m LoopEnd None h none tested = none
 row_ready limits m LoopEndNowait None h none tested = none
 row_ready limits m Barrier None h none tested = none
 row_ready limits m RegionEnd None h none tested = none
+row_ready limits m Stop waiting h none tested = refl
 row_ready limits m (LoopStart loop) (Some call) h none tested = absurd (cc)
 row_ready limits m LoopNext (Some call) h none tested = absurd (cc)
 row_ready limits m LoopEnd (Some call) h none tested = absurd (cc)
@@ -147,24 +150,26 @@ pub resume_closed : (limits : Limits) (m : ℕ) (waiting : Option Call) (h : Lis
 resume_closed limits m None h e = refl
 resume_closed limits m (Some call) h e = absurd (cc)
 
-pub call_waits : (limits : Limits) (m : ℕ) (call : Call) (waiting : Option Call) (h : List Event) → (call ≡ Resume → ⊥) → is_some waiting ≡ true → Some Waiting ≡ first_refusal (own_row limits m call waiting h)
-call_waits limits m Resume waiting h other e = absurd (other refl)
-call_waits limits m (LoopStart loop) waiting h other e = rw e refl
-call_waits limits m LoopNext waiting h other e = rw e refl
-call_waits limits m LoopEnd waiting h other e = rw e refl
-call_waits limits m LoopEndNowait waiting h other e = rw e refl
-call_waits limits m Barrier waiting h other e = rw e refl
-call_waits limits m RegionEnd waiting h other e = rw e refl
+pub call_waits : (limits : Limits) (m : ℕ) (call : Call) (waiting : Option Call) (h : List Event) → (call ≡ Resume → ⊥) → (call ≡ Stop → ⊥) → is_some waiting ≡ true → Some Waiting ≡ first_refusal (own_row limits m call waiting h)
+call_waits limits m Resume waiting h other goes e = absurd (other refl)
+call_waits limits m Stop waiting h other goes e = absurd (goes refl)
+call_waits limits m (LoopStart loop) waiting h other goes e = rw e refl
+call_waits limits m LoopNext waiting h other goes e = rw e refl
+call_waits limits m LoopEnd waiting h other goes e = rw e refl
+call_waits limits m LoopEndNowait waiting h other goes e = rw e refl
+call_waits limits m Barrier waiting h other goes e = rw e refl
+call_waits limits m RegionEnd waiting h other goes e = rw e refl
 
-pub call_goes_on : (limits : Limits) (m : ℕ) (call : Call) (waiting : Option Call) (h : List Event) → (call ≡ Resume → ⊥) → is_some waiting ≡ false →
+pub call_goes_on : (limits : Limits) (m : ℕ) (call : Call) (waiting : Option Call) (h : List Event) → (call ≡ Resume → ⊥) → (call ≡ Stop → ⊥) → is_some waiting ≡ false →
     first_refusal (own_tests limits (seen_of m h) call) ≡ first_refusal (own_row limits m call waiting h)
-call_goes_on limits m Resume waiting h other e = absurd (other refl)
-call_goes_on limits m (LoopStart loop) waiting h other e = rw e refl
-call_goes_on limits m LoopNext waiting h other e = rw e refl
-call_goes_on limits m LoopEnd waiting h other e = rw e refl
-call_goes_on limits m LoopEndNowait waiting h other e = rw e refl
-call_goes_on limits m Barrier waiting h other e = rw e refl
-call_goes_on limits m RegionEnd waiting h other e = rw e refl
+call_goes_on limits m Resume waiting h other goes e = absurd (other refl)
+call_goes_on limits m Stop waiting h other goes e = absurd (goes refl)
+call_goes_on limits m (LoopStart loop) waiting h other goes e = rw e refl
+call_goes_on limits m LoopNext waiting h other goes e = rw e refl
+call_goes_on limits m LoopEnd waiting h other goes e = rw e refl
+call_goes_on limits m LoopEndNowait waiting h other goes e = rw e refl
+call_goes_on limits m Barrier waiting h other goes e = rw e refl
+call_goes_on limits m RegionEnd waiting h other goes e = rw e refl
 
 pub some_open : (kept : Option Kept) → is_some (open_call kept) ≡ is_some kept
 some_open None = refl
@@ -204,9 +209,11 @@ quiet_own limits seen LoopEndNowait = (tt, (tt, (tt, tt)))
 quiet_own limits seen Barrier = (tt, tt)
 quiet_own limits seen RegionEnd = (tt, tt)
 quiet_own limits seen Resume = tt
+quiet_own limits seen Stop = tt
 
 quiet_row : (limits : Limits) (m : ℕ) (call : Call) (waiting : Option Call) (h : List Event) → AllQuiet (own_row limits m call waiting h)
 quiet_row limits m Resume waiting h = (tt, tt)
+quiet_row limits m Stop waiting h = tt
 quiet_row limits m (LoopStart loop) waiting h = (tt, quiet_own limits (seen_of m h) (LoopStart loop))
 quiet_row limits m LoopNext waiting h = (tt, quiet_own limits (seen_of m h) LoopNext)
 quiet_row limits m LoopEnd waiting h = (tt, quiet_own limits (seen_of m h) LoopEnd)

@@ -2,9 +2,9 @@
 use Rattle.std.proofs.Common.{◌≡◌, ℕ, ◌+◌, Bool, true, false, List, [], ◌∷◌, ◌++◌, Option, Some, None, Result, Ok, Err, length, slice_get, slice_set, replicate, refl, ap, ◌∙◌, sym, subst, arith, suc, zero, inl, inr}
 use Rattle.std.specs.Prelude.{◌==◌, ◌≢◌, ℤ, ◌⊎◌, if◌then◌else◌}
 use Rattle.std.proofs.lemmas.Bool.Decides.{nat_tests}
-use Rattle.std.proofs.lemmas.List.{length-set}
+use Rattle.std.proofs.lemmas.List.{map-append, length-map, length-set}
 use Rattle.gomp_types.specs.declared.call.Call.{Call}
-use Rattle.gomp_types.specs.declared.call.Call.TheVariants.{LoopStart, LoopNext, LoopEnd, LoopEndNowait, Barrier, RegionEnd, Resume}
+use Rattle.gomp_types.specs.declared.call.Call.TheVariants.{LoopStart, LoopNext, LoopEnd, LoopEndNowait, Barrier, RegionEnd, Resume, Stop}
 use Rattle.gomp_types.specs.declared.call.Step.{Step}
 use Rattle.gomp_types.specs.declared.limits.Limits.{Limits}
 use Rattle.gomp_types.specs.declared.refusal.Clash.{Clash}
@@ -12,7 +12,7 @@ use Rattle.gomp_types.specs.declared.refusal.Place.{Place}
 use Rattle.gomp_types.specs.declared.refusal.Refusal.{Refusal}
 use Rattle.gomp_types.specs.declared.refusal.Refusal.TheVariants.{Mismatch, NoMemory}
 use Rattle.gomp_types.specs.declared.reply.Reply.{Reply}
-use Rattle.gomp_types.specs.declared.reply.Reply.TheVariants.{Chunk, NoChunk, Finished, Passed, Wait, Refused}
+use Rattle.gomp_types.specs.declared.reply.Reply.TheVariants.{Chunk, NoChunk, Finished, Passed, Wait, Stopped, Refused}
 use Rattle.gomp_types.specs.declared.shape.Shape.{Shape}
 use Rattle.gomp_types.specs.declared.event.Arrival.{Arrival}
 use Rattle.gomp_types.specs.declared.event.Event.{Event}
@@ -27,6 +27,8 @@ use Rattle.gomp_core.specs.declared.waiting.Waiting.{Waiting}
 use Rattle.gomp_core.specs.declared.waiting.Waiting.TheVariants.{Start, Arrive}
 use Rattle.gomp_core.specs.Waits.{open_call, waiting_after, kept_for}
 use Rattle.gomp_core.specs.Answers.{IsReady, IsAnswer, reply_to, broken_after, PartsStand}
+use Rattle.gomp_icv.specs.Variables.{Variables}
+use Rattle.gomp_core.specs.Resolved.{resolved_step, resolved_steps}
 use Rattle.gomp_core.specs.Stands.{TeamView, MayBeRepeated, WaitStands, Stands, terms_of, members_of, standard, standard_terms, NoneForMemory}
 use Rattle.gomp_core.proofs.Rows.{alone, refused_alone, compared_last, whole, ready, quiet_alone, quiet_memory, quiet_adds}
 
@@ -74,10 +76,14 @@ waits_other k step reply before other = at_other step.member k (waits_after repl
 
 -- A refusal by a test that the member can make alone
 
-pub stands_refused : {S : Type 0} (stands : S → List Event → Type 0) (members : S → ℕ) (team : TeamView S) (before : Record) (step : Step) (refusal : Refusal) → Stands stands members team before →
-    MayAnswer (terms_of team) before step (Refused refusal) →
-    first_refusal (alone (terms_of team) step (waits_of step.member before).open_call (events before)) ≡ Some refusal → Stands stands members team ((step, Refused refusal) ∷ before)
-stands_refused stands members team before step refusal st may is =
+-- the first of the tests that a member can make alone
+abbrev pub IsFirst : Terms → Step → Record → Option Refusal → Type 0
+IsFirst terms step before found = found ≡ first_refusal (alone terms step (waits_of step.member before).open_call (events before))
+
+pub stands_refused : {S : Type 0} (stands : S → List Event → Type 0) (members : S → ℕ) (team : TeamView S) (before : Record) (step : Step) (found : Option Refusal) (refusal : Refusal) → Stands stands members team before →
+    MayAnswer (terms_of team) before step (Refused refusal) → IsFirst (terms_of team) step before found → found ≡ Some refusal → Stands stands members team ((step, Refused refusal) ∷ before)
+stands_refused stands members team before step found refusal st may first some =
+    let is = sym first ∙ some in
     let same : events ((step, Refused refusal) ∷ before) ≡ events before = quiet_adds refusal step.member _ (events before) (quiet_alone (terms_of team) step (waits_of step.member before).open_call (events before) refusal is) in
     record {
       caused = (may, st.caused);
@@ -93,10 +99,10 @@ stands_refused stands members team before step refusal st may is =
       barriers_size = st.barriers_size;
     }
 
-pub answer_refused : {S : Type 0} (stands : S → List Event → Type 0) (members : S → ℕ) (team : TeamView S) (before : Record) (step : Step) (refusal : Refusal) → Stands stands members team before →
-    first_refusal (alone (terms_of team) step (waits_of step.member before).open_call (events before)) ≡ Some refusal →
+pub answer_refused : {S : Type 0} (stands : S → List Event → Type 0) (members : S → ℕ) (team : TeamView S) (before : Record) (step : Step) (found : Option Refusal) (refusal : Refusal) → Stands stands members team before →
+    IsFirst (terms_of team) step before found → found ≡ Some refusal →
     refusal_of (terms_of team) step (waits_of step.member before).open_call (events before) ≡ Some refusal
-answer_refused stands members team before step refusal st is = refused_alone (terms_of team) step (waits_of step.member before).open_call (events before) refusal st.limits_are is
+answer_refused stands members team before step found refusal st first some = refused_alone (terms_of team) step (waits_of step.member before).open_call (events before) refusal st.limits_are (sym first ∙ some)
 
 -- The cause of an answer
 
@@ -112,6 +118,7 @@ no_refusal members again m LoopEndNowait refusal h may = absurd (cc)
 no_refusal members again m Barrier refusal h may = may
 no_refusal members again m RegionEnd refusal h may = may
 no_refusal members again m Resume refusal h may = may
+no_refusal members again m Stop refusal h may = absurd (cc)
 
 answered_ok : (terms : Terms) (before : Record) (step : Step) (reply : Reply) → refusal_of terms step (waits_of step.member before).open_call (events before) ≡ None →
     MayReply terms.members (is_resume step.call) step.member (meant step.call (waits_of step.member before).open_call) reply (events before) → MayAnswer terms before step reply
@@ -168,6 +175,7 @@ same_place again k m shares NoChunk _ h other = record { number = refl; share = 
 same_place again k m shares Finished call h other = same_since again k m shares call h other
 same_place again k m shares Passed call h other = same_passed k m _ (arrival_kind call) h (since_begun again m shares call h) (same_since again k m shares call h other)
 same_place again k m shares Wait call h other = same_since again k m shares call h other
+same_place again k m shares Stopped call h other = record { number = refl; share = refl }
 same_place again k m shares (Refused refusal) call h other = same_refused k m (place_of call m shares h) refusal h
 
 tested_kept : (limits : Limits) (k : ℕ) (waiting : Option Call) (h after : List Event) → SamePlace k h after → MayBeRepeated limits k waiting h → MayBeRepeated limits k waiting after
@@ -179,6 +187,7 @@ tested_kept limits k (Some LoopEndNowait) h after same tested = tested
 tested_kept limits k (Some Barrier) h after same tested = tt
 tested_kept limits k (Some RegionEnd) h after same tested = tt
 tested_kept limits k (Some Resume) h after same tested = tested
+tested_kept limits k (Some Stop) h after same tested = tested
 
 -- What the member's own call leaves
 
@@ -197,6 +206,7 @@ waits_tested limits members again m shares LoopEndNowait h ready may = absurd (c
 waits_tested limits members again m shares Barrier h ready may = tt
 waits_tested limits members again m shares RegionEnd h ready may = tt
 waits_tested limits members again m shares Resume h ready may = absurd may
+waits_tested limits members again m shares Stop h ready may = absurd (cc)
 
 -- and it is what is kept
 some_meant : (waiting : Waiting) → Some (meant Resume (open_call (Some waiting))) ≡ open_call (Some waiting)
@@ -211,6 +221,7 @@ kept_is members again m LoopEnd waiting h may = refl
 kept_is members again m LoopEndNowait waiting h may = absurd (cc)
 kept_is members again m Barrier waiting h may = refl
 kept_is members again m RegionEnd waiting h may = refl
+kept_is members again m Stop waiting h may = absurd (cc)
 kept_is members again m Resume None h may = absurd may
 kept_is members again m Resume (Some waiting) h may = some_meant waiting
 
@@ -227,6 +238,10 @@ own_wait limits members step Wait waiting before is tested ready may =
     }
 own_wait limits members step (Refused refusal) waiting before is tested ready may =
     absurd (no_refusal members (is_resume step.call) step.member (meant step.call (open_call waiting)) refusal (events before) may)
+own_wait limits members step Stopped waiting before is tested ready may = record {
+  call_is = ap (λ (w : Waits). w.open_call) (waits_own step Stopped before) ∙ is;
+  tested = tested_kept limits step.member (open_call waiting) (events before) (events ((step, Stopped) ∷ before)) (record { number = refl; share = refl }) tested;
+}
 own_wait limits members step reply waiting before is tested ready may = record { call_is = ap (λ (w : Waits). w.open_call) (waits_own step reply before); tested = tt }
 
 clash_arrived : (m shares : ℕ) (kind : Option Arrival) (h : List Event) → clash_of (arrived kind m shares h) ≡ clash_of h
@@ -249,22 +264,24 @@ clash_piece : (m : ℕ) (own : Option (ℕ × Shape)) (first : ℤ) (count : ℕ
 clash_piece m None first count h = refl
 clash_piece m (Some share) first count h = refl
 
--- a reply that is no refusal leaves the team as whole as it was
-clash_kept : (members : ℕ) (again : Bool) (m shares : ℕ) (call : Call) (reply : Reply) (h : List Event) → MayReply members again m call reply h → clash_of (added again m shares reply call h) ≡ clash_of h
-clash_kept members again m shares (LoopStart loop) (Chunk first count) h may = refl
-clash_kept members again m shares LoopNext (Chunk first count) h may = clash_piece m (open_share m h) first count h
-clash_kept members again m shares _ (Chunk first count) h may = refl
-clash_kept members again m shares (LoopStart loop) NoChunk h may = refl
-clash_kept members again m shares LoopNext NoChunk h may = refl
-clash_kept members again m shares _ NoChunk h may = refl
-clash_kept members again m shares call Finished h may = clash_since again m shares call h
-clash_kept members again m shares call Passed h may = clash_passed m _ (arrival_kind call) (since_begun again m shares call h) ∙ clash_since again m shares call h
-clash_kept members again m shares call Wait h may = clash_since again m shares call h
-clash_kept members again m shares call (Refused refusal) h may = absurd (no_refusal members again m call refusal h may)
+-- a reply that is no refusal and no stop leaves the team as whole as it was
+clash_kept : (members : ℕ) (again : Bool) (m shares : ℕ) (call : Call) (reply : Reply) (h : List Event) → (reply ≡ Stopped → ⊥) → MayReply members again m call reply h → clash_of (added again m shares reply call h) ≡ clash_of h
+clash_kept members again m shares (LoopStart loop) (Chunk first count) h goes may = refl
+clash_kept members again m shares LoopNext (Chunk first count) h goes may = clash_piece m (open_share m h) first count h
+clash_kept members again m shares _ (Chunk first count) h goes may = refl
+clash_kept members again m shares (LoopStart loop) NoChunk h goes may = refl
+clash_kept members again m shares LoopNext NoChunk h goes may = refl
+clash_kept members again m shares _ NoChunk h goes may = refl
+clash_kept members again m shares call Finished h goes may = clash_since again m shares call h
+clash_kept members again m shares call Passed h goes may = clash_passed m _ (arrival_kind call) (since_begun again m shares call h) ∙ clash_since again m shares call h
+clash_kept members again m shares call Wait h goes may = clash_since again m shares call h
+clash_kept members again m shares call Stopped h goes may = absurd (goes refl)
+clash_kept members again m shares call (Refused refusal) h goes may = absurd (no_refusal members again m call refusal h may)
 
 clash_after : (members : ℕ) (again : Bool) (m : ℕ) (call : Call) (result : Result Reply Place) (broken : Option Clash) (h : List Event) → IsAnswer members again m call result h → broken ≡ clash_of h → clash_of h ≡ None →
     broken_after broken m result ≡ clash_of (added again m (entered m h) (reply_to result) call h)
-clash_after members again m call (Ok reply) broken h is same sound = same ∙ sym (clash_kept members again m (entered m h) call reply h is.1)
+clash_after members again m call (Ok Stopped) broken h is same sound = rw sound refl
+clash_after members again m call (Ok reply) broken h is same sound = same ∙ sym (clash_kept members again m (entered m h) call reply h (λ e. cc) is.1)
 clash_after members again m call (Err place) broken h is same sound = rw (is.1, sound) refl
 
 -- what is kept of the member's wait, after its answer
@@ -323,7 +340,7 @@ pub stands_answered : {S : Type 0} (stands : S → List Event → Type 0) (membe
     Admitted stands members team before step waiting result → RefusedFirst (terms_of team) before step →
     PartsStand stands shares barriers (added (is_resume step.call) step.member (entered step.member (events before)) (reply_to result) (meant step.call (open_call waiting)) (events before)) →
     members shares ≡ members team.shares → length barriers.seats ≡ length team.barriers.seats →
-    Stands stands members (record { limits = team.limits; broken = broken_after team.broken step.member result; waiting = slice_set team.waiting step.member (waiting_after (reply_to result) step.call waiting); barriers = barriers; shares = shares }) ((step, reply_to result) ∷ before)
+    Stands stands members (record { icv = team.icv; limits = team.limits; broken = broken_after team.broken step.member result; waiting = slice_set team.waiting step.member (waiting_after (reply_to result) step.call waiting); barriers = barriers; shares = shares }) ((step, reply_to result) ∷ before)
 stands_answered stands members team shares barriers before step waiting result admitted law parts shares_same barriers_same =
     let st = admitted.stand in
     let own = st.wait step.member waiting admitted.at in
@@ -331,7 +348,7 @@ stands_answered stands members team shares barriers before step waiting result a
     ap (λ (w : Option Call). added (is_resume step.call) step.member (entered step.member (events before)) (reply_to result) (meant step.call w) (events before)) own.call_is in
     let size : length (slice_set team.waiting step.member (waiting_after (reply_to result) step.call waiting)) ≡ length team.waiting = length-set team.waiting step.member (waiting_after (reply_to result) step.call waiting) in
     record {
-      caused = subst (λ (n : ℕ). Caused (record { members = n; limits = team.limits; cancellation = false }) ((step, reply_to result) ∷ before)) (sym size)
+      caused = subst (λ (n : ℕ). Caused (record { members = n; limits = team.limits; cancellation = team.icv.cancellation }) ((step, reply_to result) ∷ before)) (sym size)
           (step_answered stands members team before step waiting result admitted law, st.caused);
       shares_are = subst (stands shares) (sym adds) parts.0;
       barriers_are = subst (BarriersStand barriers.seats barriers.front) (sym adds) parts.1;
@@ -358,6 +375,12 @@ record_grows [] (r ∷ replies) step reply before e = absurd (omega arith)
 record_grows (s ∷ steps) [] step reply before e = absurd (omega arith)
 record_grows (s ∷ steps) (r ∷ replies) step reply before e = record_grows steps replies step reply ((s, r) ∷ before) (omega arith)
 
+pub resolved_grows : (icv : Variables) (steps : List Step) (replies : List Reply) (step : Step) (reply : Reply) → length replies ≡ length steps →
+    record_after (resolved_steps icv (steps ++ step ∷ [])) (replies ++ reply ∷ []) [] ≡ (resolved_step icv step, reply) ∷ record_after (resolved_steps icv steps) replies []
+resolved_grows icv steps replies step reply each =
+    ap (λ (all : List Step). record_after all (replies ++ reply ∷ []) []) (map-append (resolved_step icv) steps (step ∷ []))
+    ∙ record_grows (resolved_steps icv steps) replies (resolved_step icv step) reply [] (each ∙ sym (length-map steps (resolved_step icv)))
+
 pub moved_on : (yielded rest : List Step) (step : Step) → yielded ++ (step ∷ rest) ≡ (yielded ++ step ∷ []) ++ rest
 moved_on [] rest step = refl
 moved_on (s ∷ yielded) rest step = ap (λ (xs : List Step). s ∷ xs) (moved_on yielded rest step)
@@ -372,8 +395,8 @@ all_done (s ∷ yielded) [] (t ∷ steps) e none =
 all_done yielded (s ∷ rest) steps e none = absurd (omega arith)
 
 -- the terms of a team of this size with the standard limits
-pub terms_are : {S : Type 0} (team : TeamView S) (count : ℕ) → length team.waiting ≡ count → team.limits ≡ standard → terms_of team ≡ standard_terms count
-terms_are team count members limits = rw (members, limits) refl
+pub terms_are : {S : Type 0} (team : TeamView S) (count : ℕ) (icv : Variables) → length team.waiting ≡ count → team.icv ≡ icv → team.limits ≡ standard → terms_of team ≡ standard_terms count icv
+terms_are team count icv members same limits = rw (members, same, limits) refl
 
 -- No reply for want of memory
 
@@ -385,10 +408,10 @@ pub answer_memory : (members : ℕ) (again : Bool) (m : ℕ) (call : Call) (resu
 answer_memory members again m call (Ok reply) h is = no_refusal_kept reply members again m call h is.1
 answer_memory members again m call (Err place) h is = λ same. absurd (cc)
 
-pub refused_memory : (terms : Terms) (step : Step) (waiting : Option Call) (h : List Event) (refusal : Refusal) → first_refusal (alone terms step waiting h) ≡ Some refusal → Refused refusal ≢ Refused NoMemory
-refused_memory terms step waiting h refusal is same =
+pub refused_memory : (terms : Terms) (step : Step) (before : Record) (found : Option Refusal) (refusal : Refusal) → IsFirst terms step before found → found ≡ Some refusal → Refused refusal ≢ Refused NoMemory
+refused_memory terms step before found refusal first some same =
     let one : refusal ≡ NoMemory = cc in
-    absurd (quiet_memory refusal (quiet_alone terms step waiting h refusal is) one)
+    absurd (quiet_memory refusal (quiet_alone terms step (waits_of step.member before).open_call (events before) refusal (sym first ∙ some)) one)
 
 pub memory_more : (replies : List Reply) (reply : Reply) → NoneForMemory replies → reply ≢ Refused NoMemory → NoneForMemory (replies ++ reply ∷ [])
 memory_more [] reply all one = (one, tt)

@@ -1,14 +1,15 @@
 -- What a member's call is answered once no test that it can make alone holds, and what the parts of the team then stand for. OpenMP API 5.2, chapters 11 and 15.
 use Rattle.std.specs.Prelude.{ℕ, ◌≡◌, Bool, true, false, List, [], ◌∷◌, Option, Some, None, Result, Ok, Err, is_some, is_none}
 use Rattle.gomp_types.specs.declared.call.Call.{Call}
-use Rattle.gomp_types.specs.declared.call.Call.TheVariants.{LoopStart, LoopEnd, Barrier, RegionEnd, Resume}
+use Rattle.gomp_types.specs.declared.call.Call.TheVariants.{LoopStart, LoopEnd, Barrier, RegionEnd, Resume, Stop}
 use Rattle.gomp_types.specs.declared.loop_desc.EndKind.TheVariants.{Wait as WaitEnd}
 use Rattle.gomp_types.specs.declared.limits.Limits.{Limits}
 use Rattle.gomp_types.specs.declared.refusal.Refusal.TheVariants.{Waiting, NotInside, Mismatch}
 use Rattle.gomp_types.specs.declared.refusal.Place.{Place}
+use Rattle.gomp_types.specs.declared.refusal.Place.TheVariants.{Stopped as AtStop}
 use Rattle.gomp_types.specs.declared.refusal.Clash.{Clash}
 use Rattle.gomp_types.specs.declared.reply.Reply.{Reply}
-use Rattle.gomp_types.specs.declared.reply.Reply.TheVariants.{Passed, Refused}
+use Rattle.gomp_types.specs.declared.reply.Reply.TheVariants.{Passed, Stopped, Refused}
 use Rattle.gomp_types.specs.declared.event.Arrival.{Arrival}
 use Rattle.gomp_types.specs.declared.event.Arrival.TheVariants.{Barrier as BarrierArrival, ShareEnd, RegionEnd as RegionEndArrival}
 use Rattle.gomp_types.specs.declared.event.Event.{Event}
@@ -27,6 +28,7 @@ use Rattle.gomp_barrier.specs.Stands.{BarriersView, Stands as BarriersStand}
 -- by what the member sees alone: whether it waits, and its place among the shares
 abbrev pub own_row : Limits → ℕ → Call → Option Call → List Event → List Test
 own_row limits m Resume waiting h = (is_none waiting, NotInside) ∷ []
+own_row limits m Stop waiting h = []
 own_row limits m call waiting h = (is_some waiting, Waiting) ∷ own_tests limits (seen_of m h) call
 
 -- an arrival is compared with those of the other members once, when it is made
@@ -73,9 +75,10 @@ abbrev pub reply_to : Result Reply Place → Reply
 reply_to (Ok reply) = reply
 reply_to (Err place) = Refused Mismatch
 
--- the cause by which the team is broken after this answer to a member
+-- the cause by which the team is broken after this answer to a member: its stop, or the place where its construct differs
 abbrev pub broken_after : Option Clash → ℕ → Result Reply Place → Option Clash
-broken_after broken m (Ok reply) = broken
+broken_after broken m (Ok Stopped) = Some (record { member = m; place = AtStop })
+broken_after broken m (Ok _) = broken
 broken_after broken m (Err place) = Some (record { member = m; place = place })
 
 -- the events after a turn at the barrier

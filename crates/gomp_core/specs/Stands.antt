@@ -1,5 +1,5 @@
 -- When a team stands for a record. (own)
-use Rattle.std.specs.Prelude.{ℕ, ◌≡◌, ◌≢◌, true, false, List, [], ◌∷◌, Option, Some, None, length, slice_get}
+use Rattle.std.specs.Prelude.{ℕ, ◌≡◌, ◌≢◌, true, List, [], ◌∷◌, Option, Some, None, length, slice_get}
 use Rattle.gomp_types.specs.declared.call.Call.{Call}
 use Rattle.gomp_types.specs.declared.limits.Limits.{Limits}
 use Rattle.gomp_types.specs.declared.refusal.Clash.{Clash}
@@ -11,6 +11,7 @@ use Rattle.gomp_types.specs.Limits.{capped}
 use Rattle.gomp_types.specs.Events.{clash_of}
 use Rattle.gomp_types.specs.Record.{Record, waits_of, events}
 use Rattle.gomp_types.specs.Causes.{Terms, Caused}
+use Rattle.gomp_icv.specs.Variables.{Variables}
 use Rattle.gomp_barrier.specs.Stands.{BarriersView, Stands as BarriersStand}
 use Rattle.gomp_core.specs.declared.waiting.Waiting.{Waiting}
 use Rattle.gomp_core.specs.Waits.{open_call}
@@ -18,6 +19,7 @@ use Rattle.gomp_core.specs.Answers.{IsReady}
 
 -- what a team keeps
 pub record TeamView (S : Type 0) : Type 0 where
+  pub icv : Variables
   pub limits : Limits
   pub broken : Option Clash
   -- what each member waits for
@@ -42,9 +44,9 @@ pub record WaitStands (limits : Limits) (m : ℕ) (waiting : Option Waiting) (be
 abbrev pub members_of : {S : Type 0} → TeamView S → ℕ
 members_of team = length team.waiting
 
--- what the team was made with; it has no cancellation yet
+-- what the team was made with
 abbrev pub terms_of : {S : Type 0} → TeamView S → Terms
-terms_of team = record { members = members_of team; limits = team.limits; cancellation = false }
+terms_of team = record { members = members_of team; limits = team.limits; cancellation = team.icv.cancellation }
 
 -- a team is as the record leaves it
 pub record Stands {S : Type 0} (stands : S → List Event → Type 0) (members : S → ℕ) (team : TeamView S) (before : Record) : Type 0 where
@@ -61,9 +63,9 @@ pub record Stands {S : Type 0} (stands : S → List Event → Type 0) (members :
   pub shares_size : members team.shares ≡ members_of team
   pub barriers_size : length team.barriers.seats ≡ members_of team
 
--- what a team of this many members is made with where no limits are given
-abbrev pub standard_terms : ℕ → Terms
-standard_terms count = record { members = count; limits = standard; cancellation = false }
+-- what a team of this many members is made with, by these control variables, where no limits are given
+abbrev pub standard_terms : ℕ → Variables → Terms
+standard_terms count icv = record { members = count; limits = standard; cancellation = icv.cancellation }
 
 -- no reply is for want of memory
 abbrev pub NoneForMemory : List Reply → Type 0

@@ -50,6 +50,7 @@ pub fn answer<S: Shares>(
             // Not where the call is ready: this is the first test of its row.
             None => Ok(Reply::Refused(Refusal::NotInside)),
         },
+        Call::Stop => Ok(Reply::Stopped),
     }
 }
 
@@ -63,7 +64,8 @@ pub fn reply_to(answer: Result<Reply, Place>) -> Reply
     }
 }
 
-/// Why the team is broken after an answer to this member: by it, where the answer is a place.
+/// Why the team is broken after an answer to this member: by it, where it stopped the team or the
+/// answer is a place.
 pub fn broken_after(
     broken: Option<Clash>,
     member: u16,
@@ -72,6 +74,10 @@ pub fn broken_after(
     ensures { result ≡ broken_after broken member answer.now }
 {
     match answer {
+        Ok(Reply::Stopped) => Some(Clash {
+            member,
+            place: Place::Stopped,
+        }),
         Ok(_) => broken,
         Err(place) => Some(Clash {
             member,

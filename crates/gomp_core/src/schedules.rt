@@ -2,6 +2,7 @@
 //! schedule says.
 
 use crate::Team;
+use gomp_icv::{Icv, read_env};
 use gomp_share_plain::PlainShares;
 use gomp_types::{Call, EndKind, LoopDesc, Refusal, Reply, Sched};
 use std::alloc::Global;
@@ -52,7 +53,7 @@ fn deals(
         taken: 0,
     };
     for order in 0..ORDERS {
-        let mut team: Team<PlainShares> = Team::new(alloc, members)?;
+        let mut team: Team<PlainShares> = Team::new(alloc, members, Icv::initial())?;
         let mut each = vec![in alloc; new; members as usize]?;
         let mut all: usize = 0;
         let mut seed = order;
@@ -148,7 +149,7 @@ fn runtime_is_dynamic_where_nothing_sets_it(rt: HostRuntime) -> Result<(), Fail>
         of(Sched::Runtime, 0, 3),
         &[&[(0, 1), (1, 1), (2, 1)]],
     )?;
-    let mut team: Team<PlainShares> = Team::new(alloc, 2)?;
+    let mut team: Team<PlainShares> = Team::new(alloc, 2, Icv::initial())?;
     let refused = Reply::Refused(Refusal::BadChunk);
     assert_eq!(rt;
         team.step(0, Call::LoopStart(of(Sched::Runtime, 5, 10))),
@@ -166,6 +167,26 @@ fn runtime_is_dynamic_where_nothing_sets_it(rt: HostRuntime) -> Result<(), Fail>
 }
 
 #[test]
+fn runtime_loops_take_the_schedule_of_the_variables(rt: HostRuntime) -> Result<(), Fail> {
+    let alloc = rt.alloc();
+    let (icv, ignored) = read_env(alloc, &[("OMP_SCHEDULE", "guided,7")])?;
+    assert!(rt; ignored.is_empty());
+    let mut team: Team<PlainShares> = Team::new(alloc, 4, icv)?;
+    for (member, sched, chunk, reply) in [
+        (0, Sched::Runtime, 0, chunk(0, 7)),
+        (1, Sched::Runtime, 0, chunk(7, 3)),
+        (2, Sched::Runtime, 0, Reply::NoChunk),
+        (3, Sched::Guided, 7, Reply::NoChunk),
+    ] {
+        assert_eq!(rt;
+            team.step(member, Call::LoopStart(of(sched, chunk, 10))),
+            reply
+        );
+    }
+    Ok(())
+}
+
+#[test]
 fn kinds_are_compared(rt: HostRuntime) -> Result<(), Fail> {
     let schedules = [
         of(Sched::Static, 0, 8),
@@ -175,7 +196,7 @@ fn kinds_are_compared(rt: HostRuntime) -> Result<(), Fail> {
     ];
     for (i, first) in schedules.iter().enumerate() {
         for (j, second) in schedules.iter().enumerate() {
-            let mut team: Team<PlainShares> = Team::new(rt.alloc(), 2)?;
+            let mut team: Team<PlainShares> = Team::new(rt.alloc(), 2, Icv::initial())?;
             team.step(0, Call::LoopStart(*first));
             let differs = team.step(1, Call::LoopStart(*second))
                 == Reply::Refused(Refusal::Mismatch);
@@ -230,7 +251,7 @@ fn longest_loops(rt: HostRuntime) -> Result<(), Fail> {
         ),
     ];
     for (sched, chunk, member, reply) in rows {
-        let mut team: Team<PlainShares> = Team::new(alloc, 64)?;
+        let mut team: Team<PlainShares> = Team::new(alloc, 64, Icv::initial())?;
         assert_eq!(rt;
             team.step(member, Call::LoopStart(of(sched, chunk, longest))),
             reply

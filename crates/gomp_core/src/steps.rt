@@ -9,14 +9,17 @@ ghost use Rattle.gomp_types.specs.Deals.{schedule};
 ghost use Rattle.gomp_types.specs.Rules.{Always};
 ghost use Rattle.gomp_types.specs.Laws.{TakenOnce, WholeWhereOver, SameShares, SameArrivals, TellsShares, PassesLast};
 ghost use Rattle.gomp_core.specs.Stands.{Stands, terms_of, standard_terms, NoneForMemory};
+ghost use Rattle.gomp_core.specs.Resolved.{resolved_steps};
 
 use crate::team::Team;
+use gomp_icv::Icv;
 use gomp_share_plain::Shares;
 use gomp_types::{Refusal, Reply, Step, laws};
 use std::alloc::Global;
 
-/// The replies of a new team of `count` members to these steps, in order, one for each, and the team
-/// after them. The steps are dropped.
+/// The replies of a new team of `count` members, by these control variables, to these steps, in
+/// order, one for each, and the team after them. The steps are dropped. In the record of what was
+/// asked a loop whose schedule is left to the control variables has theirs.
 ///
 /// **The headline**, of all that these steps and replies give: for every team size and list of
 /// steps no iteration is taken twice, a loop that all members end had every iteration taken, all
@@ -28,24 +31,26 @@ use std::alloc::Global;
 pub fn run<S: Shares + Drop>(
     alloc: Global,
     count: u16,
+    icv: Icv,
     steps: Vec<Step>,
 ) -> Result<(Team<S>, Vec<Reply>), Refusal>
     ensures size { result ≡ Err BadTeam ↔ ((1 ≤ count) × (count ≤ 64) → ⊥) }
     ensures refused { (refusal : Refusal) → result ≡ Err refusal → (refusal ≡ BadTeam) ⊎ (refusal ≡ NoMemory) }
     ensures each { IfOk result (λ ran. vec_len ran.1 ≡ length steps.items) }
-    ensures terms { IfOk result (λ ran. terms_of ran.0 ≡ standard_terms count) }
+    ensures terms { IfOk result (λ ran. terms_of ran.0 ≡ standard_terms count icv) }
+    ensures icv { IfOk result (λ ran. ran.0.icv ≡ icv) }
     ensures memory { IfOk result (λ ran. NoneForMemory ran.1.items) }
-    ensures caused { IfOk result (λ ran. Caused (standard_terms count) (record_after steps.items ran.1.items [])) }
-    ensures stands { IfOk result (λ ran. Stands S.stands S.members ran.0 (record_after steps.items ran.1.items [])) }
-    ensures taken_once { IfOk result (λ ran. TakenOnce (schedule count) (events (record_after steps.items ran.1.items []))) }
-    ensures whole { IfOk result (λ ran. WholeWhereOver count (events (record_after steps.items ran.1.items []))) }
-    ensures same_shares { IfOk result (λ ran. SameShares count (events (record_after steps.items ran.1.items []))) }
-    ensures same_arrivals { IfOk result (λ ran. SameArrivals (events (record_after steps.items ran.1.items []))) }
-    ensures one_order { IfOk result (λ ran. Always TellsShares (events (record_after steps.items ran.1.items []))) }
-    ensures passes { IfOk result (λ ran. Always (PassesLast count) (events (record_after steps.items ran.1.items []))) }
+    ensures caused { IfOk result (λ ran. Caused (standard_terms count icv) (record_after (resolved_steps icv steps.items) ran.1.items [])) }
+    ensures stands { IfOk result (λ ran. Stands S.stands S.members ran.0 (record_after (resolved_steps icv steps.items) ran.1.items [])) }
+    ensures taken_once { IfOk result (λ ran. TakenOnce (schedule count) (events (record_after (resolved_steps icv steps.items) ran.1.items []))) }
+    ensures whole { IfOk result (λ ran. WholeWhereOver count (events (record_after (resolved_steps icv steps.items) ran.1.items []))) }
+    ensures same_shares { IfOk result (λ ran. SameShares count (events (record_after (resolved_steps icv steps.items) ran.1.items []))) }
+    ensures same_arrivals { IfOk result (λ ran. SameArrivals (events (record_after (resolved_steps icv steps.items) ran.1.items []))) }
+    ensures one_order { IfOk result (λ ran. Always TellsShares (events (record_after (resolved_steps icv steps.items) ran.1.items []))) }
+    ensures passes { IfOk result (λ ran. Always (PassesLast count) (events (record_after (resolved_steps icv steps.items) ran.1.items []))) }
 {
     laws::headline();
-    let mut team = Team::new(alloc, count)?;
+    let mut team = Team::new(alloc, count, icv)?;
     match Vec::with_capacity(alloc, steps.len()) {
         Ok(mut replies) => {
             for step in steps {

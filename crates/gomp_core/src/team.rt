@@ -12,10 +12,12 @@ ghost use Rattle.gomp_types.specs.Causes.{MayAnswer};
 ghost use Rattle.gomp_types.specs.Headline.{Headline};
 ghost use Rattle.gomp_core.specs.Answers.{own_row};
 ghost use Rattle.gomp_core.specs.Stands.{Stands, standard, terms_of, members_of};
+ghost use Rattle.gomp_core.specs.Resolved.{resolved_call, resolved_step};
 
 use crate::answer::{answer, broken_after, reply_to};
 use crate::waiting::{Waiting, waiting_after};
 use gomp_barrier::Barriers;
+use gomp_icv::Icv;
 use gomp_share_plain::Shares;
 use gomp_types::{Call, Clash, Limits, Refusal, Reply, is_team_size, laws};
 use std::alloc::{AllocError, Global};
@@ -27,6 +29,7 @@ use std::marker::Model;
 /// anywhere, and be stepped with nothing to prove.
 #[derive(Drop)]
 pub struct Team<S: Shares> {
+    icv: Icv,
     limits: Limits,
     broken: Option<Clash>,
     waiting: Vec<Option<Waiting>>,
@@ -40,54 +43,64 @@ impl<S: Shares> Model for Team<S> {
 
     ghost Value = { TeamView S };
 
-    ghost view = { λ t. record { limits = t.limits; broken = t.broken; waiting = t.waiting.items; barriers = t.barriers; shares = t.shares } };
+    ghost view = { λ t. record { icv = t.icv; limits = t.limits; broken = t.broken; waiting = t.waiting.items; barriers = t.barriers; shares = t.shares } };
 
-    ghost invariant = { λ t. (before : Record) × Stands S.stands S.members (record { limits = t.limits; broken = t.broken; waiting = t.waiting.items; barriers = t.barriers; shares = t.shares }) before };
+    ghost invariant = { λ t. (before : Record) × Stands S.stands S.members (record { icv = t.icv; limits = t.limits; broken = t.broken; waiting = t.waiting.items; barriers = t.barriers; shares = t.shares }) before };
 }
 
 impl<S: Shares> Team<S> {
-    /// A new team of this many members, with the standard limits.
+    /// A new team of this many members, by these control variables, with the standard limits. Runtime
+    /// schedules are those of the variables.
     ///
     /// Refused with `BadTeam` (E38) where the number is not 1 to 64, and with `NoMemory` (E37) where
     /// memory is refused.
-    pub fn new(alloc: Global, count: u16) -> Result<Team<S>, Refusal>
+    pub fn new(alloc: Global, count: u16, icv: Icv) -> Result<Team<S>, Refusal>
         ensures size { result ≡ Err BadTeam ↔ ((1 ≤ count) × (count ≤ 64) → ⊥) }
         ensures refused { (refusal : Refusal) → result ≡ Err refusal → (refusal ≡ BadTeam) ⊎ (refusal ≡ NoMemory) }
         ensures members { IfOk result (λ team. members_of team ≡ count) }
+        ensures icv { IfOk result (λ team. team.icv ≡ icv) }
         ensures limits { IfOk result (λ team. team.limits ≡ standard) }
         ensures stands { IfOk result (λ team. Stands S.stands S.members team []) }
     {
-        Team::with_limits(alloc, count, Limits::STANDARD)
+        Team::with_limits(alloc, count, icv, Limits::STANDARD)
     }
 
     /// A new team with these limits, each lowered to the standard one where it is larger.
     ///
     /// Refused as [`new`](Team::new) is.
-    pub fn with_limits(alloc: Global, count: u16, limits: Limits) -> Result<Team<S>, Refusal>
+    pub fn with_limits(
+        alloc: Global,
+        count: u16,
+        icv: Icv,
+        limits: Limits,
+    ) -> Result<Team<S>, Refusal>
         ensures size { result ≡ Err BadTeam ↔ ((1 ≤ count) × (count ≤ 64) → ⊥) }
         ensures refused { (refusal : Refusal) → result ≡ Err refusal → (refusal ≡ BadTeam) ⊎ (refusal ≡ NoMemory) }
         ensures members { IfOk result (λ team. members_of team ≡ count) }
+        ensures icv { IfOk result (λ team. team.icv ≡ icv) }
         ensures limits { IfOk result (λ team. team.limits ≡ capped limits) }
         ensures stands { IfOk result (λ team. Stands S.stands S.members team []) }
     {
         if !is_team_size(count) {
             return Err(Refusal::BadTeam);
         }
-        match Team::make(alloc, count, limits.capped()) {
+        match Team::make(alloc, count, icv, limits.capped()) {
             Ok(team) => Ok(team),
             Err(_) => Err(Refusal::NoMemory),
         }
     }
 
-    fn make(alloc: Global, count: u16, limits: Limits) -> Result<Team<S>, AllocError>
+    fn make(alloc: Global, count: u16, icv: Icv, limits: Limits) -> Result<Team<S>, AllocError>
         requires size { 0 < count }
         requires capped { capped limits ≡ limits }
         ensures members { IfOk result (λ team. members_of team ≡ count) }
+        ensures icv { IfOk result (λ team. team.icv ≡ icv) }
         ensures limits { IfOk result (λ team. team.limits ≡ limits) }
         ensures stands { IfOk result (λ team. Stands S.stands S.members team []) }
     {
         let none: Option<Waiting> = None;
         Ok(Team {
+            icv,
             limits,
             broken: None,
             waiting: vec![in alloc; none; count as usize]?,
@@ -100,11 +113,28 @@ impl<S: Shares> Team<S> {
     /// asked and answered before. [`Call`] says what each call is, [`Refusal`] when each refusal
     /// comes; after one the team is as before, save that `Mismatch` (E35) breaks it.
     ///
+    /// A loop whose schedule is left to the control variables counts as one with theirs: the record
+    /// has it so (`Resolved.antt`).
+    ///
     /// It takes no memory, so `NoMemory` (E37) is no answer to any call here. Which replies have a
     /// cause is `MayAnswer` in specs/Causes.antt of gomp_types (OpenMP API 5.2, chapters 11 and 15).
     pub fn step(&mut self, member: u16, call: Call) -> Reply
         ensures known { (before : Record) × Stands S.stands S.members self.old before }
         ensures members { members_of self.new ≡ members_of self.old }
+        ensures icv { self.new.icv ≡ self.old.icv }
+        ensures limits { self.new.limits ≡ self.old.limits }
+        ensures memory { result ≢ Refused NoMemory }
+        ensures answer { (before : Record) → Stands S.stands S.members self.old before → MayAnswer (terms_of self.old) before (resolved_step self.old.icv (record { member = member; call = call })) result }
+        ensures stands { (before : Record) → Stands S.stands S.members self.old before → Stands S.stands S.members self.new ((resolved_step self.old.icv (record { member = member; call = call }), result) ∷ before) }
+    {
+        let call = resolved(&self.icv, call);
+        self.resolved_step(member, call)
+    }
+
+    /// The reply to a call that has the schedule which counts.
+    fn resolved_step(&mut self, member: u16, call: Call) -> Reply
+        ensures members { members_of self.new ≡ members_of self.old }
+        ensures icv { self.new.icv ≡ self.old.icv }
         ensures limits { self.new.limits ≡ self.old.limits }
         ensures memory { result ≢ Refused NoMemory }
         ensures answer { (before : Record) → Stands S.stands S.members self.old before → MayAnswer (terms_of self.old) before (record { member = member; call = call }) result }
@@ -153,6 +183,9 @@ impl<S: Shares> Team<S> {
         if let Some(clash) = self.broken {
             return Some(Refusal::Broken(clash));
         }
+        if let Call::Stop = call {
+            return None;
+        }
         let waits = self.waiting[member as usize].is_some();
         if let Call::Resume = call {
             return if waits {
@@ -165,5 +198,16 @@ impl<S: Shares> Team<S> {
             return Some(Refusal::Waiting);
         }
         gomp_loops::first_refusal(&self.shares, member, &self.limits, call)
+    }
+}
+
+/// The call with the schedule of these control variables, where it is the start of a loop that
+/// leaves its schedule to them.
+fn resolved(icv: &Icv, call: Call) -> Call
+    ensures { result ≡ resolved_call icv.now call }
+{
+    match call {
+        Call::LoopStart(desc) => Call::LoopStart(desc.resolved(icv.sched(), icv.chunk())),
+        call => call,
     }
 }

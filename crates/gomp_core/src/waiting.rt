@@ -14,8 +14,8 @@ pub enum Waiting {
     Arrive(Arrival),
 }
 
-/// What a member waits for after this reply to its call: a refusal leaves its wait as it is, `Wait`
-/// opens one or keeps it open, every other reply closes it.
+/// What a member waits for after this reply to its call: a refusal and a stop leave its wait as it is,
+/// `Wait` opens one or keeps it open, every other reply closes it.
 pub fn waiting_after(reply: &Reply, call: &Call, waiting: Option<Waiting>) -> Option<Waiting>
     ensures { result ≡ waiting_after reply.now call.now waiting }
 {
@@ -27,9 +27,9 @@ pub fn waiting_after(reply: &Reply, call: &Call, waiting: Option<Waiting>) -> Op
             Call::RegionEnd => Some(Waiting::Arrive(Arrival::RegionEnd)),
             Call::Resume => waiting,
             // These never wait.
-            Call::LoopNext | Call::LoopEndNowait => None,
+            Call::LoopNext | Call::LoopEndNowait | Call::Stop => None,
         },
-        Reply::Refused(_) => waiting,
+        Reply::Refused(_) | Reply::Stopped => waiting,
         _ => None,
     }
 }

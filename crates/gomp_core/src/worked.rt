@@ -2,6 +2,7 @@
 //! a team can lie anywhere.
 
 use crate::{Team, run};
+use gomp_icv::Icv;
 use gomp_share_plain::PlainShares;
 use gomp_types::{Call, Clash, EndKind, Limits, LoopDesc, Place, Refusal, Reply, Sched, Step};
 use std::alloc::Global;
@@ -41,7 +42,7 @@ fn gives(
     steps: Vec<Step>,
     expected: Vec<Reply>,
 ) -> Result<(), Fail> {
-    let (_team, replies) = run::<PlainShares>(alloc, count, steps)?;
+    let (_team, replies) = run::<PlainShares>(alloc, count, Icv::initial(), steps)?;
     assert_eq!(rt; replies, expected);
     Ok(())
 }
@@ -229,7 +230,7 @@ fn one_share_too_many(rt: HostRuntime) -> Result<(), Fail> {
         tasks: 0,
         events: 0,
     };
-    let mut team: Team<PlainShares> = Team::with_limits(rt.alloc(), 1, limits)?;
+    let mut team: Team<PlainShares> = Team::with_limits(rt.alloc(), 1, Icv::initial(), limits)?;
     assert_eq!(rt;
         team.step(0, dynamic(1, 0, 1, 1, EndKind::Nowait)),
         chunk(0, 1)
@@ -272,13 +273,53 @@ impl Pool {
 fn stepped_in_a_vec_a_box_and_a_mutex(rt: HostRuntime) -> Result<(), Fail> {
     let alloc = rt.alloc();
     let mut pool = Pool {
-        listed: vec![in alloc; Team::new(alloc, 1)?]?,
-        boxed: Some(Box::new(alloc, Team::new(alloc, 2)?)?),
+        listed: vec![in alloc; Team::new(alloc, 1, Icv::initial())?]?,
+        boxed: Some(Box::new(alloc, Team::new(alloc, 2, Icv::initial())?)?),
     };
     assert_eq!(rt; pool.step(0, 0, Call::Barrier), Some(Reply::Passed));
     assert_eq!(rt; pool.step(1, 0, Call::Barrier), Some(Reply::Wait));
-    let locked: Mutex<Team<PlainShares>> = Mutex::new(Team::new(alloc, 1)?);
+    let locked: Mutex<Team<PlainShares>> = Mutex::new(Team::new(alloc, 1, Icv::initial())?);
     let mut guard = locked.lock(&rt);
     assert_eq!(rt; guard.step(0, Call::RegionEnd), Reply::Passed);
     Ok(())
+}
+
+#[test]
+fn a_stop_breaks_the_team(rt: HostRuntime) -> Result<(), Fail> {
+    let alloc = rt.alloc();
+    let by_stop = Refusal::Broken(Clash {
+        member: 1,
+        place: Place::Stopped,
+    });
+    let steps = vec![in alloc;
+        by(0, Call::Barrier),
+        by(1, Call::Stop),
+        by(0, Call::Resume),
+    ]?;
+    let expected = vec![in alloc; Reply::Wait, Reply::Stopped, Reply::Refused(by_stop)]?;
+    gives(&rt, alloc, 2, steps, expected)
+}
+
+#[test]
+fn a_member_that_waits_or_is_in_a_loop_may_stop(rt: HostRuntime) -> Result<(), Fail> {
+    let alloc = rt.alloc();
+    let steps = vec![in alloc; by(0, Call::Barrier), by(0, Call::Stop)]?;
+    gives(
+        &rt,
+        alloc,
+        2,
+        steps,
+        vec![in alloc; Reply::Wait, Reply::Stopped]?,
+    )?;
+    let steps = vec![in alloc;
+        by(0, dynamic(1, 0, 1, 1, EndKind::Wait)),
+        by(0, Call::Stop),
+    ]?;
+    gives(
+        &rt,
+        alloc,
+        1,
+        steps,
+        vec![in alloc; chunk(0, 1), Reply::Stopped]?,
+    )
 }

@@ -1,7 +1,7 @@
 -- The tests of the loop calls that a member can make by what it sees of its own place, in the order of their numbers. (own)
 use Rattle.std.specs.Prelude.{nat_le, not, is_some, List, [], ◌∷◌, ◌++◌}
 use Rattle.gomp_types.specs.declared.call.Call.{Call}
-use Rattle.gomp_types.specs.declared.call.Call.TheVariants.{LoopStart, LoopNext, LoopEnd, LoopEndNowait, Barrier, RegionEnd, Resume}
+use Rattle.gomp_types.specs.declared.call.Call.TheVariants.{LoopStart, LoopNext, LoopEnd, LoopEndNowait, Barrier, RegionEnd, Resume, Stop}
 use Rattle.gomp_types.specs.declared.loop_desc.LoopDesc.{LoopDesc}
 use Rattle.gomp_types.specs.declared.loop_desc.EndKind.{EndKind}
 use Rattle.gomp_types.specs.declared.loop_desc.EndKind.TheVariants.{Wait, Nowait}
@@ -40,3 +40,4 @@ own_tests limits seen LoopEndNowait = own_end_tests Nowait seen
 own_tests limits seen Barrier = (is_some seen.current, InsideShare) ∷ []
 own_tests limits seen RegionEnd = (is_some seen.current, InsideShare) ∷ []
 own_tests limits seen Resume = []
+own_tests limits seen Stop = []

@@ -25,7 +25,7 @@ pub fn own_refusal(seen: &Seen, limits: &Limits, call: &Call) -> Option<Refusal>
         Call::LoopEnd => end_refusal(seen, EndKind::Wait),
         Call::LoopEndNowait => end_refusal(seen, EndKind::Nowait),
         Call::Barrier | Call::RegionEnd if seen.current.is_some() => Some(Refusal::InsideShare),
-        Call::Barrier | Call::RegionEnd | Call::Resume => None,
+        Call::Barrier | Call::RegionEnd | Call::Resume | Call::Stop => None,
     }
 }
 

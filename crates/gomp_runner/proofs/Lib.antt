@@ -1,3 +1,4 @@
 mod AnswerLemmas
 mod CommandLemmas
 mod ServeLemmas
+mod SettingLemmas

@@ -1,39 +1,87 @@
 -- The command line, and how the program ends. (own)
-use Rattle.std.specs.Prelude.{◌≡◌, ◌≢◌, ◌⊎◌, ℕ, true, List, [], ◌∷◌, Option, codes}
+use Rattle.std.specs.Prelude.{◌≡◌, ◌≢◌, ◌⊎◌, ℕ, true, List, [], ◌∷◌, Option, Some, None, codes, find}
+use Rattle.std.specs.Option.{option_map_or}
+use Rattle.std.specs.Str.{bytes_eq}
 use Rattle.std.specs.Io.KnownBytes.{Appends}
-use Rattle.clap.specs.Words.{App, Kinds, IsAmong, Text, fault_of, new_app, with_subcommand}
+use Rattle.clap.specs.Lexer.{usize_max}
+use Rattle.clap.specs.Words.{App, Kinds, IsAmong, Row, Rule, Text, fault_of, new_app, new_rule, subcommand_of, with_rule, with_subcommand}
 use Rattle.clap.specs.declared.error.kind.ErrorKind.{ErrorKind}
 use Rattle.clap.specs.declared.error.kind.ErrorKind.TheVariants as kinds
+use Rattle.gomp_types.specs.declared.refusal.Refusal.{Refusal}
+use Rattle.gomp_icv.specs.Variables.{Variables}
 use Rattle.gomp_runner.specs.Serving.{Serves}
+use Rattle.gomp_runner.specs.Settings.{read_settings}
 use Rattle.gomp_runner.specs.declared.serve.Ending.{Ending}
 use Rattle.gomp_runner.specs.declared.serve.Ending.TheVariants as ending
 use Rattle.gomp_runner.specs.declared.command.Notes.{Notes}
 use Rattle.gomp_runner.specs.declared.command.Notes.TheVariants as notes
 use Rattle.gomp_runner.specs.declared.command.Status.{Status}
 
--- the command `ompteam`, which has a version and wants its subcommand `steps`
-abbrev pub ompteam : App
-ompteam = with_subcommand (record (new_app (codes "ompteam")) {
+-- the words `NAME=VALUE` behind the subcommand, any number of them
+abbrev pub settings_rule : Rule
+settings_rule = record (new_rule (codes "NAME=VALUE")) { range = Some (record { start_inclusive = 0; end_inclusive = usize_max }) }
+
+-- the subcommand `steps`
+abbrev pub steps_app : App
+steps_app = with_rule (new_app (codes "steps")) settings_rule
+
+-- the command `ompteam`, which has a version and wants a subcommand
+abbrev pub ompteam_alone : App
+ompteam_alone = record (new_app (codes "ompteam")) {
   top = record (new_app (codes "ompteam")).top { has_version = true; subcommand_required = true };
-}) (new_app (codes "steps")).top
+}
+
+-- the command with its subcommand
+abbrev pub ompteam : App
+ompteam = with_subcommand ompteam_alone steps_app.top
 
 -- why the words of a command line, of which the first is the program's name, are not served; none
 -- where they are
 abbrev pub faults_of : List Text → Kinds
 faults_of words = fault_of ompteam words
 
--- the status in which a text of steps ends that was served so
-abbrev pub status_of : Ending → Status
-status_of (ending.Answered code) = record { code = code; notes = notes.Nothing }
-status_of ending.NoMemory = record { code = 3; notes = notes.NoMemory }
-status_of ending.InputFault = record { code = 1; notes = notes.InputFault }
-status_of ending.OutputFault = record { code = 1; notes = notes.OutputFault }
+-- the values of the settings among what was found for a subcommand
+abbrev pub settings_in : Option (Text × List Row) → List Text
+settings_in None = []
+settings_in (Some found) = option_map_or (λ row. row.values) (find (λ row. bytes_eq row.id (codes "NAME=VALUE")) found.1) []
 
--- the program ends as a text of steps does that was served
-pub record Stepped (remaining before after : Option (List ℕ)) (status : Status) : Type 0 where
+-- the settings of a command line
+abbrev pub settings_of : List Text → List Text
+settings_of words = settings_in (subcommand_of ompteam words)
+
+-- the ignored words are named
+abbrev pub Names : List Refusal → Notes → Type 0
+Names ignored (notes.Ignored words) = words.items ≡ ignored
+Names ignored _ = ⊥
+
+-- the status in which a text of steps ends that was served so, where these words were ignored: they are named beside whatever was answered
+abbrev pub IsStatus : Ending → List Refusal → Status → Type 0
+IsStatus (ending.Answered code) [] status = status ≡ record { code = code; notes = notes.Nothing }
+IsStatus (ending.Answered code) (word ∷ words) status = (status.code ≡ code) × Names (word ∷ words) status.notes
+IsStatus ending.NoMemory ignored status = status ≡ record { code = 3; notes = notes.NoMemory }
+IsStatus ending.InputFault ignored status = status ≡ record { code = 1; notes = notes.InputFault }
+IsStatus ending.OutputFault ignored status = status ≡ record { code = 1; notes = notes.OutputFault }
+
+-- the program ends as a text of steps does that was served by these variables, where these words were ignored
+pub record ServedBy (icv : Variables) (ignored : List Refusal) (remaining before after : Option (List ℕ)) (status : Status) : Type 0 where
   pub ending : Ending
-  pub serves : Serves remaining before after ending
-  pub status_is : status ≡ status_of ending
+  pub serves : Serves icv remaining before after ending
+  pub status_is : IsStatus ending ignored status
+
+-- a fault of the command line is noted, or want of memory
+abbrev pub IsFault : Notes → ℕ → Type 0
+IsFault (notes.Command text) code = code ≡ 1
+IsFault notes.NoMemory code = code ≡ 3
+IsFault _ code = ⊥
+
+-- the program ends so where the settings were read as these variables and ignored words, or a word of them has no `=`
+abbrev pub SteppedBy : Option (Variables × List Refusal) → Option (List ℕ) → Option (List ℕ) → Option (List ℕ) → Status → Type 0
+SteppedBy None remaining before after status = IsFault status.notes status.code × (after ≡ before)
+SteppedBy (Some read) remaining before after status = ServedBy read.0 read.1 remaining before after status
+
+-- how the program ends on the word `steps` and these settings
+abbrev pub Stepped : List Text → Option (List ℕ) → Option (List ℕ) → Option (List ℕ) → Status → Type 0
+Stepped settings remaining before after status = SteppedBy (read_settings settings) remaining before after status
 
 -- an error of this kind asks for help or for the version
 abbrev pub Asks : ErrorKind → Type 0
@@ -45,6 +93,7 @@ Told kind before after notes.Nothing code = Asks kind × (code ≡ 0) × ((shown
 Told kind before after notes.NoMemory code = (code ≡ 3) × (after ≡ before)
 Told kind before after (notes.Command text) code = (Asks kind → ⊥) × (kind ≢ kinds.OutOfMemory) × (code ≡ 1) × (after ≡ before)
 Told kind before after notes.InputFault code = ⊥
+Told kind before after (notes.Ignored words) code = ⊥
 Told kind before after notes.OutputFault code = Asks kind × (code ≡ 1)
 
 -- the words were refused, for one of their faults or for want of memory
@@ -53,7 +102,7 @@ pub record Refused (faults : Kinds) (before after : Option (List ℕ)) (status :
   pub fault : (kind ≡ kinds.OutOfMemory) ⊎ IsAmong kind faults
   pub told : Told kind before after status.notes status.code
 
--- how the program ends on words with these faults
-abbrev pub Ends : Kinds → Option (List ℕ) → Option (List ℕ) → Option (List ℕ) → Status → Type 0
-Ends [] remaining before after status = Stepped remaining before after status
-Ends (fault ∷ others) remaining before after status = Refused (fault ∷ others) before after status
+-- how the program ends on words with these faults and settings
+abbrev pub Ends : Kinds → List Text → Option (List ℕ) → Option (List ℕ) → Option (List ℕ) → Status → Type 0
+Ends [] settings remaining before after status = Stepped settings remaining before after status
+Ends (fault ∷ others) settings remaining before after status = Refused (fault ∷ others) before after status

@@ -1,3 +1,4 @@
 pub mod Answers
 pub mod CommandLine
 pub mod Serving
+pub mod Settings

@@ -4,6 +4,7 @@ use Rattle.std.specs.Io.KnownBytes.{Appends}
 use Rattle.std.specs.declared.io.ErrorKind.{ErrorKind}
 use Rattle.std.specs.declared.io.ErrorKind.TheVariants as kind
 use Rattle.gomp_script.specs.StepText.{steps_of}
+use Rattle.gomp_icv.specs.Variables.{Variables}
 use Rattle.gomp_runner.specs.Answers.{AnswerTo}
 use Rattle.gomp_runner.specs.declared.serve.Ending.{Ending}
 use Rattle.gomp_runner.specs.declared.serve.Ending.TheVariants.{Answered, NoMemory, InputFault, OutputFault}
@@ -17,19 +18,19 @@ abbrev pub max_text : ℕ
 max_text = 16777216
 
 -- a text was read whole, and the answer to it was written, and nothing else; what a reader has and a writer holds is known of some, of a process's input and output it is not
-pub record Served (remaining before after : Option (List ℕ)) (code : ℕ) : Type 0 where
+pub record Served (icv : Variables) (remaining before after : Option (List ℕ)) (code : ℕ) : Type 0 where
   pub text : List ℕ
   pub whole : Whole max_text remaining text
   pub output : List ℕ
-  pub answer : AnswerTo (steps_of text) output code
+  pub answer : AnswerTo icv (steps_of text) output code
   pub written : Appends before after output
 
 -- what became of the reader's text: before and after are what the writer holds
-abbrev pub Serves : Option (List ℕ) → Option (List ℕ) → Option (List ℕ) → Ending → Type 0
-Serves remaining before after (Answered code) = Served remaining before after code
-Serves remaining before after NoMemory = after ≡ before
-Serves remaining before after InputFault = after ≡ before
-Serves remaining before after OutputFault = ⊤
+abbrev pub Serves : Variables → Option (List ℕ) → Option (List ℕ) → Option (List ℕ) → Ending → Type 0
+Serves icv remaining before after (Answered code) = Served icv remaining before after code
+Serves icv remaining before after NoMemory = after ≡ before
+Serves icv remaining before after InputFault = after ≡ before
+Serves icv remaining before after OutputFault = ⊤
 
 -- the end after a read that failed
 abbrev pub unread_as : ErrorKind → Ending

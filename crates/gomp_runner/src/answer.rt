@@ -5,6 +5,7 @@ ghost use Rattle.gomp_script.specs.StepText.{steps_of};
 ghost use Rattle.gomp_runner.specs.Answers.{AnswerTo};
 
 use gomp_core::run;
+use gomp_icv::Icv;
 use gomp_script::{ParseError, parse_steps, print_bad_line, print_refusal, print_replies};
 use gomp_share_plain::PlainShares;
 use gomp_types::Refusal;
@@ -18,10 +19,10 @@ pub struct Answer {
     pub code: u8,
 }
 
-/// The replies to a text of steps, a line for each; or why the text or its team is refused. The
-/// error is want of memory outside of the steps.
-pub fn answer_steps(alloc: Global, text: &[u8]) -> Result<Answer, AllocError>
-    ensures { IfOk result (λ answer. AnswerTo (steps_of text.now) (string_bytes answer.text) answer.code) }
+/// The replies to a text of steps, a line for each, of a team by these control variables; or why the
+/// text or its team is refused. The error is want of memory outside of the steps.
+pub fn answer_steps(alloc: Global, icv: Icv, text: &[u8]) -> Result<Answer, AllocError>
+    ensures { IfOk result (λ answer. AnswerTo icv (steps_of text.now) (string_bytes answer.text) answer.code) }
 {
     let (count, steps) = match parse_steps(alloc, text) {
         Ok(found) => found,
@@ -33,7 +34,7 @@ pub fn answer_steps(alloc: Global, text: &[u8]) -> Result<Answer, AllocError>
         }
         Err(ParseError::Memory) => return Err(AllocError),
     };
-    match run::<PlainShares>(alloc, team_size(count), steps) {
+    match run::<PlainShares>(alloc, team_size(count), icv, steps) {
         Ok((_, replies)) => Ok(Answer {
             text: print_replies(alloc, replies.as_slice())?,
             code: 0,

@@ -1,12 +1,16 @@
 //! The command line, and how the program ends.
 
-ghost use Rattle.std.specs.Prelude.{◌≡◌, ℕ, List, [], ◌∷◌, IfOk, map, codes};
-ghost use Rattle.clap.specs.Words.{FailsBy, app_of, kind_of};
-ghost use Rattle.gomp_runner.specs.CommandLine.{Ends, Stepped, Told, faults_of, ompteam, status_of};
+ghost use Rattle.std.specs.Prelude.{◌≡◌, ℕ, false, List, [], ◌∷◌, IfOk, map, codes};
+ghost use Rattle.std.specs.Option.{option_map_or};
+ghost use Rattle.clap.specs.Words.{FailsBy, app_of, kind_of, rule_of, subcommand_rows_of};
+ghost use Rattle.gomp_runner.specs.CommandLine.{Ends, Stepped, Told, IsStatus, IsFault, faults_of, settings_of, settings_in, settings_rule, ompteam};
+ghost use Rattle.gomp_runner.specs.declared.command.Notes.TheVariants.{NoMemory, OutputFault};
 
 use crate::serve::{Ending, serve_steps};
+use crate::settings::{Unset, read_settings};
 use clap::error::ErrorKind;
-use clap::{Command, Error};
+use clap::{Arg, ArgMatches, Command, Error};
+use gomp_types::Refusal;
 use std::alloc::{AllocError, Global};
 use std::convert::AsStr;
 use std::io::{self, Read, Write};
@@ -19,6 +23,8 @@ pub enum Notes {
     NoMemory,
     /// The command line is refused, for this reason.
     Command(String),
+    /// These words of the environment were ignored, at least one, each with `BadEnv` (E41).
+    Ignored(Vec<Refusal>),
     /// The text could not be read, or is too long.
     InputFault,
     /// The output could not be written whole.
@@ -41,32 +47,73 @@ pub fn serve<S: AsStr, R: Read + Drop, W: Write>(
     reader: R,
     writer: &mut W,
 ) -> Status
-    ensures ends { Ends (faults_of (map S.text words.now)) (R.remaining reader) (W.contents writer.old) (W.contents writer.new) result }
-    ensures steps { (name : List ℕ) → map S.text words.now ≡ name ∷ codes "steps" ∷ [] → Stepped (R.remaining reader) (W.contents writer.old) (W.contents writer.new) result }
+    ensures ends { Ends (faults_of (map S.text words.now)) (settings_of (map S.text words.now)) (R.remaining reader) (W.contents writer.old) (W.contents writer.new) result }
+    ensures steps { (name : List ℕ) → map S.text words.now ≡ name ∷ codes "steps" ∷ [] → Stepped [] (R.remaining reader) (W.contents writer.old) (W.contents writer.new) result }
 {
     match accepted(alloc, words) {
-        Ok(()) => ended(serve_steps(alloc, reader, writer)),
+        Ok(matches) => match settings(&matches) {
+            Some(settings) => steps(alloc, settings, reader, writer),
+            None => steps(alloc, &[], reader, writer),
+        },
         Err(error) => told(alloc, &error, writer),
     }
 }
 
-/// Nothing where the words are those of `ompteam steps`, or why they are refused.
-fn accepted<S: AsStr>(alloc: Global, words: &[S]) -> Result<(), Error>
-    ensures { FailsBy (faults_of (map S.text words.now)) result }
+/// Does what the words `steps` and these settings say.
+fn steps<R: Read + Drop, W: Write>(
+    alloc: Global,
+    settings: &[&str],
+    reader: R,
+    writer: &mut W,
+) -> Status
+    ensures { Stepped (map (λ word. word.now) settings.now) (R.remaining reader) (W.contents writer.old) (W.contents writer.new) result }
 {
-    match ompteam(alloc)?.try_get_matches_from(words) {
-        Ok(_) => Ok(()),
-        Err(error) => Err(error),
+    match read_settings(alloc, settings) {
+        Ok((icv, ignored)) => ended(serve_steps(alloc, icv, reader, writer), ignored),
+        Err(Unset::NoMemory) => no_memory(),
+        Err(Unset::NoEquals(word)) => no_equals(alloc, word),
     }
 }
+
+/// The end where this word has no `=`.
+fn no_equals(alloc: Global, word: &str) -> Status
+    ensures { IsFault result.notes result.code }
+{
+    match format!(in alloc; "error: the word '{word}' is not NAME=VALUE\n") {
+        Ok(text) => Status {
+            code: 1,
+            notes: Notes::Command(text),
+        },
+        Err(_) => no_memory(),
+    }
+}
+
+/// What the words say where they are those of `ompteam steps`, or why they are refused.
+fn accepted<'a, S: AsStr>(alloc: Global, words: &'a [S]) -> Result<ArgMatches<'a>, Error>
+    ensures faults { FailsBy (faults_of (map S.text words.now)) result }
+    ensures settings { IfOk result (λ matches. settings_in (subcommand_rows_of matches) ≡ settings_of (map S.text words.now)) }
+{
+    ompteam(alloc)?.try_get_matches_from(words)
+}
+
+/// The settings among the words, where there are any.
+fn settings<'m, 'a>(matches: &'m ArgMatches<'a>) -> Option<&'m [&'a str]>
+    ensures { option_map_or (λ words. map (λ word. word.now) words.now) result [] ≡ settings_in (subcommand_rows_of matches.now) }
+{
+    let (_, steps) = matches.subcommand()?;
+    steps.get_strs(SETTINGS)
+}
+
+/// What the help calls a setting.
+const SETTINGS: &str = "NAME=VALUE";
 
 /// The command, as its words are read and as its help shows it.
 fn ompteam<'a>(alloc: Global) -> Result<Command<'a>, AllocError>
     ensures { IfOk result (λ command. app_of command ≡ ompteam) }
 {
-    let steps = Command::new(alloc, "steps").about(
-        "Run the text of steps on standard input and print each reply",
-    );
+    let steps = Command::new(alloc, "steps")
+        .about("Run the text of steps on standard input and print each reply")
+        .arg(settings_arg(alloc))?;
     Command::new(alloc, "ompteam")
         .version("0.1.0")
         .about("An OpenMP team, step by step")
@@ -74,41 +121,68 @@ fn ompteam<'a>(alloc: Global) -> Result<Command<'a>, AllocError>
         .subcommand(steps)
 }
 
+fn settings_arg<'a>(alloc: Global) -> Arg<'a>
+    ensures rule { rule_of result ≡ settings_rule }
+    ensures local { result.global ≡ false }
+{
+    Arg::new(alloc, SETTINGS)
+        .help("Set a control variable, as this word does in the environment")
+        .num_args(..)
+}
+
 /// The end where the words of the command line cannot be had.
 pub fn without_words(alloc: Global, error: &io::Error) -> Status {
     if let io::ErrorKind::OutOfMemory = error.kind() {
-        return ended(Ending::NoMemory);
+        return no_memory();
     }
     match String::from_str(alloc, "error: a word of the command line is not UTF-8\n") {
         Ok(text) => Status {
             code: 1,
             notes: Notes::Command(text),
         },
-        Err(_) => ended(Ending::NoMemory),
+        Err(_) => no_memory(),
     }
 }
 
-/// The end where the text of steps was served.
-fn ended(ending: Ending) -> Status
-    ensures { result ≡ status_of ending }
+/// The end where the text of steps was served, and these words were ignored before.
+fn ended(ending: Ending, ignored: Vec<Refusal>) -> Status
+    ensures { IsStatus ending ignored.items result }
 {
     match ending {
-        Ending::Answered(code) => Status {
+        Ending::Answered(code) if ignored.is_empty() => Status {
             code,
             notes: Notes::Nothing,
         },
-        Ending::NoMemory => Status {
-            code: 3,
-            notes: Notes::NoMemory,
+        Ending::Answered(code) => Status {
+            code,
+            notes: Notes::Ignored(ignored),
         },
+        Ending::NoMemory => no_memory(),
         Ending::InputFault => Status {
             code: 1,
             notes: Notes::InputFault,
         },
-        Ending::OutputFault => Status {
-            code: 1,
-            notes: Notes::OutputFault,
-        },
+        Ending::OutputFault => output_fault(),
+    }
+}
+
+/// The end where memory was refused outside of the steps.
+fn no_memory() -> Status
+    ensures { result ≡ record { code = 3; notes = NoMemory } }
+{
+    Status {
+        code: 3,
+        notes: Notes::NoMemory,
+    }
+}
+
+/// The end where the output could not be written whole.
+fn output_fault() -> Status
+    ensures { result ≡ record { code = 1; notes = OutputFault } }
+{
+    Status {
+        code: 1,
+        notes: Notes::OutputFault,
     }
 }
 
@@ -117,10 +191,10 @@ fn told<W: Write>(alloc: Global, error: &Error, writer: &mut W) -> Status
     ensures { Told (kind_of error.now) (W.contents writer.old) (W.contents writer.new) result.notes result.code }
 {
     if let ErrorKind::OutOfMemory = error.kind() {
-        return ended(Ending::NoMemory);
+        return no_memory();
     }
     let Ok(text) = error.to_string(alloc) else {
-        return ended(Ending::NoMemory);
+        return no_memory();
     };
     if error.use_stderr() {
         return Status {
@@ -129,7 +203,10 @@ fn told<W: Write>(alloc: Global, error: &Error, writer: &mut W) -> Status
         };
     }
     match writer.write_all(text.as_bytes()) {
-        Ok(()) => ended(Ending::Answered(0)),
-        Err(_) => ended(Ending::OutputFault),
+        Ok(()) => Status {
+            code: 0,
+            notes: Notes::Nothing,
+        },
+        Err(_) => output_fault(),
     }
 }

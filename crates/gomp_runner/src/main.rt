@@ -8,10 +8,14 @@
 mod answer;
 mod command;
 mod serve;
+mod settings;
 #[cfg(test)]
 mod worked;
+#[cfg(test)]
+mod worked_settings;
 
 use command::{Notes, Status, serve, without_words};
+use gomp_types::Refusal;
 use std::io;
 use std::process::ExitCode;
 
@@ -29,10 +33,21 @@ fn main(rt: HostRuntime) -> io::Result<ExitCode> {
         Notes::Nothing => {}
         Notes::NoMemory => eprintln!(rt; "no memory")?,
         Notes::Command(text) => eprint!(rt; "{text}")?,
+        Notes::Ignored(words) => name_ignored(&rt, words)?,
         Notes::InputFault => eprintln!(rt; "input fault")?,
         Notes::OutputFault => eprintln!(rt; "output fault")?,
     }
     Ok(ExitCode::from(status.code))
+}
+
+/// Names each word of the environment that was ignored.
+fn name_ignored(rt: &HostRuntime, words: &[Refusal]) -> io::Result<()> {
+    for word in words {
+        if let Refusal::BadEnv(name) = word {
+            eprintln!(rt; "ignored {name}")?;
+        }
+    }
+    Ok(())
 }
 
 /// The words of the command line, the program's name first.

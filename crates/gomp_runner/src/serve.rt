@@ -5,6 +5,7 @@ ghost use Rattle.std.specs.IoError.{error_kind};
 ghost use Rattle.gomp_runner.specs.Serving.{Whole, IsUnread, Serves, unread_as};
 
 use crate::answer::answer_steps;
+use gomp_icv::Icv;
 use std::alloc::Global;
 use std::io::{self, ErrorKind, Read, Write};
 
@@ -24,15 +25,21 @@ pub enum Ending {
     OutputFault,
 }
 
-/// Reads a text of steps, and writes the answer to it and nothing else.
-pub fn serve_steps<R: Read + Drop, W: Write>(alloc: Global, reader: R, writer: &mut W) -> Ending
-    ensures { Serves (R.remaining reader) (W.contents writer.old) (W.contents writer.new) result }
+/// Reads a text of steps, and writes the answer of a team by these control variables to it and nothing
+/// else.
+pub fn serve_steps<R: Read + Drop, W: Write>(
+    alloc: Global,
+    icv: Icv,
+    reader: R,
+    writer: &mut W,
+) -> Ending
+    ensures { Serves icv (R.remaining reader) (W.contents writer.old) (W.contents writer.new) result }
 {
     let text = match read_text(alloc, reader, MAX_TEXT) {
         Ok(text) => text,
         Err(ending) => return ending,
     };
-    let Ok(answer) = answer_steps(alloc, text.as_slice()) else {
+    let Ok(answer) = answer_steps(alloc, icv, text.as_slice()) else {
         return Ending::NoMemory;
     };
     if writer.write_all(answer.text.as_bytes()).is_err() {

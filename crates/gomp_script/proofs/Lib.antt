@@ -1,3 +1,1 @@
-mod WordLemmas
-mod NumberLemmas
 mod TextLemmas

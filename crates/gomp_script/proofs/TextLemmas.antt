@@ -1,35 +1,22 @@
 -- Texts, line by line.
-use Rattle.std.proofs.Common.{◌≡◌, ℕ, ◌+◌, ◌<◌, suc, List, [], ◌∷◌, ◌++◌, Option, Some, None, Result, Ok, Err, length, refl, ap, ◌∙◌, arith, inl, inr}
-use Rattle.std.specs.Prelude.{◌==◌}
-use Rattle.std.proofs.lemmas.Bool.{cases_Bool}
+use Rattle.std.proofs.Common.{◌≡◌, ℕ, ◌+◌, ◌<◌, suc, List, [], ◌∷◌, ◌++◌, Option, Some, None, Result, Ok, Err, length, Bor, refl, ap, ◌∙◌, arith}
+use Rattle.std.specs.Prelude.{IfSome, option_copied}
 use Rattle.gomp_types.specs.declared.call.Step.{Step}
 use Rattle.gomp_types.specs.Record.{shown}
 use Rattle.gomp_script.specs.declared.parse.BadLine.{BadLine}
 use Rattle.gomp_script.specs.declared.parse.ParseError.{ParseError}
 use Rattle.gomp_script.specs.declared.parse.ParseError.TheVariants.{Memory, Bad}
-use Rattle.gomp_script.specs.Words.{lines_of, cut}
+use Rattle.gomp_text.specs.Words.{lines_of}
 use Rattle.gomp_script.specs.StepText.{lines_left, with_front, steps_from, step_line, step_of, team_of, team_line, text_from, read_line, kept, with_team, Fails}
-use Rattle.gomp_script.proofs.WordLemmas.{parts_cut, parts_from}
-
-lines_from : (found : List ℕ × Option (List ℕ)) → parts_from 10 found ≡ found.0 ∷ lines_left found.1
-lines_from (front, None) = refl
-lines_from (front, Some rest) = refl
-
--- the first line of a text is what stands before the first line feed
-pub lines_cut : (text : List ℕ) → lines_of text ≡ (cut 10 text).0 ∷ lines_left (cut 10 text).1
-lines_cut text = parts_cut 10 text ∙ lines_from (cut 10 text)
 
 -- how much is left
 abbrev pub left : Option (List ℕ) → ℕ
 left None = 0
 left (Some text) = suc (length text)
 
-pub cut_less : (text : List ℕ) → left (cut 10 text).1 < suc (length text)
-cut_less [] = omega arith
-cut_less (b ∷ text) = elim (cases_Bool (b == 10)) [
-  | inl here ↦ rw here (omega arith)
-  | inr other ↦ let rest = cut_less text in rw other (omega arith)
-]
+pub left_less : (rest : Option (Bor (List ℕ))) (n : ℕ) → IfSome rest (λ text. length text.now < n) → left (option_copied rest) < suc n
+left_less None n less = omega arith
+left_less (Some text) n less = omega (arith, less)
 
 -- these steps, and those that are read later
 abbrev pub with_fronts : List Step → Result (List Step) BadLine → Result (List Step) BadLine
@@ -53,15 +40,12 @@ pub line_kept : (steps : List Step) (number : ℕ) (said : Option Step) (later :
 line_kept steps number None later = refl
 line_kept steps number (Some step) later = one_more steps step later
 
--- what is read from here on, where this is the text that is left
-pub from_here : (number : ℕ) (text : List ℕ) → steps_from number (lines_of text) ≡ step_line number (read_line step_of (cut 10 text).0) (steps_from (shown (number + 1)) (lines_left (cut 10 text).1))
-from_here number text = ap (steps_from number) (lines_cut text)
+-- what is read from here on, by the first line of the text that is left, and what is left after it
+pub from_here : (number : ℕ) (text line : List ℕ) (before rest : Option (List ℕ)) → before ≡ Some text → lines_of text ≡ line ∷ lines_left rest → steps_from number (lines_left before) ≡ step_line number (read_line step_of line) (steps_from (shown (number + 1)) (lines_left rest))
+from_here number text line before rest is parts = ap (λ (found : Option (List ℕ)). steps_from number (lines_left found)) is ∙ ap (steps_from number) parts
 
-pub team_from_here : (number : ℕ) (text : List ℕ) → text_from number (lines_of text) ≡ team_line number (read_line team_of (cut 10 text).0) (text_from (shown (number + 1)) (lines_left (cut 10 text).1)) (steps_from (shown (number + 1)) (lines_left (cut 10 text).1))
-team_from_here number text = ap (text_from number) (lines_cut text)
-
-pub pair : {A B : Type 0} {a c : A} {b d : B} → a ≡ c → b ≡ d → ◌≡◌ {A = A × B} (a, b) (c, d)
-pair e f = rw (e, f) refl
+pub team_from_here : (number : ℕ) (text line : List ℕ) (before rest : Option (List ℕ)) → before ≡ Some text → lines_of text ≡ line ∷ lines_left rest → text_from number (lines_left before) ≡ team_line number (read_line team_of line) (text_from (shown (number + 1)) (lines_left rest)) (steps_from (shown (number + 1)) (lines_left rest))
+team_from_here number text line before rest is parts = ap (λ (found : Option (List ℕ)). text_from number (lines_left found)) is ∙ ap (text_from number) parts
 
 -- an error of the steps is the text's
 pub gives_team : (count : ℕ) (error : ParseError) (read : Result (List Step) BadLine) → Fails error read → Fails error (with_team count read)

@@ -2,7 +2,7 @@
 use Rattle.std.specs.Prelude.{List, ◌++◌, codes, ℕ}
 use Rattle.std.specs.Fmt.{decimal, signed_decimal}
 use Rattle.gomp_types.specs.declared.reply.Reply.{Reply}
-use Rattle.gomp_types.specs.declared.reply.Reply.TheVariants.{Chunk, NoChunk, Finished, Passed, Wait, Refused}
+use Rattle.gomp_types.specs.declared.reply.Reply.TheVariants.{Chunk, NoChunk, Finished, Passed, Wait, Stopped, Refused}
 use Rattle.gomp_types.specs.declared.refusal.Refusal.{Refusal}
 use Rattle.gomp_script.specs.declared.parse.Why.{Why}
 use Rattle.gomp_script.specs.declared.parse.Why.TheVariants.{NotAscii, FirstLine, UnknownWord, MissingWord, BadNumber, ExtraWord}
@@ -19,6 +19,7 @@ reply_text NoChunk = codes "none"
 reply_text Finished = codes "ok"
 reply_text Passed = codes "passed"
 reply_text Wait = codes "wait"
+reply_text Stopped = codes "stopped"
 reply_text (Refused refusal) = refused_text refusal
 
 -- a line ends with one line feed

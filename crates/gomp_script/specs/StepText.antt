@@ -1,7 +1,7 @@
 -- The text of steps: a line `team N`, and then a line `MEMBER CALL` for each step. (own)
-use Rattle.std.specs.Prelude.{ℕ, ◌≡◌, ◌+◌, ◌++◌, if◌then◌else◌, List, [], ◌∷◌, Option, Some, None, Result, Ok, Err, codes}
+use Rattle.std.specs.Prelude.{ℕ, ◌≡◌, ◌+◌, ◌++◌, ◌==◌, Bool, false, if◌then◌else◌, List, [], ◌∷◌, Option, Some, None, Result, Ok, Err, codes}
 use Rattle.gomp_types.specs.declared.call.Call.{Call}
-use Rattle.gomp_types.specs.declared.call.Call.TheVariants.{LoopStart, LoopNext, LoopEnd, LoopEndNowait, Barrier, RegionEnd, Resume}
+use Rattle.gomp_types.specs.declared.call.Call.TheVariants.{LoopStart, LoopNext, LoopEnd, LoopEndNowait, Barrier, RegionEnd, Resume, Stop}
 use Rattle.gomp_types.specs.declared.call.Step.{Step}
 use Rattle.gomp_types.specs.declared.loop_desc.Sched.{Sched}
 use Rattle.gomp_types.specs.declared.loop_desc.Sched.TheVariants.{Static, Dynamic, Guided, Runtime}
@@ -13,8 +13,8 @@ use Rattle.gomp_script.specs.declared.parse.Why.TheVariants.{NotAscii, FirstLine
 use Rattle.gomp_script.specs.declared.parse.BadLine.{BadLine}
 use Rattle.gomp_script.specs.declared.parse.ParseError.{ParseError}
 use Rattle.gomp_script.specs.declared.parse.ParseError.TheVariants.{Memory, Bad}
-use Rattle.gomp_script.specs.Words.{lines_of, words_of, is_ascii, begins_comment, same_word}
-use Rattle.gomp_script.specs.Numbers.{unsigned, signed}
+use Rattle.gomp_text.specs.Words.{lines_of, words_of, parts_left, is_ascii, same_word}
+use Rattle.gomp_text.specs.Numbers.{unsigned, signed}
 
 -- Reading: a value, or why the line is bad; the first fault is told
 infixl 10 ◌>>=◌
@@ -59,6 +59,7 @@ call_of word =
     else if same_word word (codes "barrier") then Some Barrier
     else if same_word word (codes "region_end") then Some RegionEnd
     else if same_word word (codes "resume") then Some Resume
+    else if same_word word (codes "stop") then Some Stop
     else None
 
 -- Steps
@@ -106,6 +107,11 @@ team_of words = do
   Ok number
 
 -- Lines: an empty one and a comment say nothing; bytes that are not ASCII are a fault in those too
+
+-- a word that begins a comment begins with `#`
+abbrev pub begins_comment : List ℕ → Bool
+begins_comment [] = false
+begins_comment (b ∷ bytes) = b == 35
 
 abbrev pub said : {A : Type 0} → Result A Why → Result (Option A) Why
 said (Ok value) = Ok (Some value)
@@ -169,8 +175,7 @@ Gives view (Err error) read = Fails error read
 
 -- the lines of what is left of a text
 abbrev pub lines_left : Option (List ℕ) → List (List ℕ)
-lines_left None = []
-lines_left (Some text) = lines_of text
+lines_left text = parts_left 10 text
 
 -- the steps so far, with what a line said
 abbrev pub kept : List Step → Option Step → List Step

@@ -4,10 +4,8 @@
 //! first bad line and its first fault; [`print_replies`] is the table of replies, byte for byte.
 #![tactic(auto)]
 
-mod numbers;
 mod parse;
 mod print;
-mod words;
 
 pub use parse::{BadLine, ParseError, Why, parse_steps};
-pub use print::{print_bad_line, print_refusal, print_replies};
+pub use print::{print_bad_line, print_refusal, print_replies, print_reply};

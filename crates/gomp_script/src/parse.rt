@@ -1,13 +1,12 @@
 //! From a text of steps to the size of the team and the steps.
 
 ghost use Rattle.std.specs.Prelude.{◌≡◌, ℕ, List, Ok, Err, Option, Some, None, ◌∷◌, option_copied, OnOk, MatchResult};
-ghost use Rattle.gomp_script.specs.Words.{words_of, same_word};
-ghost use Rattle.gomp_script.specs.StepText.{next, finished, wanted, sched_of, end_of, call_of, plain_step, loop_step, step_of, team_of, read_line, steps_from, steps_of, lines_left, kept, Gives};
-ghost use Rattle.gomp_script.specs.Numbers.{unsigned, signed};
+ghost use Rattle.gomp_text.specs.Words.{words_of};
+ghost use Rattle.gomp_text.specs.Numbers.{unsigned, signed};
+ghost use Rattle.gomp_script.specs.StepText.{next, finished, wanted, sched_of, end_of, call_of, plain_step, loop_step, step_of, team_of, read_line, steps_from, steps_of, lines_left, kept, begins_comment, Gives};
 ghost use Rattle.gomp_script.specs.declared.parse.Why.TheVariants.{BadNumber};
 
-use crate::numbers::{signed, unsigned};
-use crate::words::{begins_comment, cut, is_ascii, next_word};
+use gomp_text::{cut, is_ascii, is_word, next_word, signed, unsigned};
 use gomp_types::{Call, EndKind, LoopDesc, Sched, Step};
 use std::alloc::{AllocError, AllocFailed, Global};
 
@@ -158,6 +157,13 @@ fn read_step(line: &[u8]) -> Result<Option<Step>, Why>
     Ok(Some(step))
 }
 
+/// Whether a line that begins with this word is a comment.
+fn begins_comment(word: &[u8]) -> bool
+    ensures { result ≡ begins_comment word.now }
+{
+    matches!(word, [b'#', ..])
+}
+
 /// `team N`, by its first word and what follows it.
 #[tactic(auto, unfolding(crate::specs::StepText::team_of))]
 fn team_words(first: &[u8], rest: &[u8]) -> Result<u32, Why>
@@ -201,13 +207,6 @@ fn finish(line: &[u8]) -> Result<(), Why>
         Some(_) => Err(Why::ExtraWord),
         None => Ok(()),
     }
-}
-
-/// Whether a word is this one.
-fn is_word(word: &[u8], name: &[u8]) -> bool
-    ensures { result ≡ same_word word.now name.now }
-{
-    word == name
 }
 
 fn sched_of(word: &[u8]) -> Option<Sched>
@@ -261,6 +260,9 @@ fn call_of(word: &[u8]) -> Option<Call>
     }
     if is_word(word, b"resume") {
         return Some(Call::Resume);
+    }
+    if is_word(word, b"stop") {
+        return Some(Call::Stop);
     }
     None
 }

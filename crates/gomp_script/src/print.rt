@@ -22,6 +22,7 @@ impl fmt::Display for Printed<'_> {
             Reply::Finished => write!(f, "ok"),
             Reply::Passed => write!(f, "passed"),
             Reply::Wait => write!(f, "wait"),
+            Reply::Stopped => write!(f, "stopped"),
             Reply::Refused(refusal) => write!(f, "refused {refusal}"),
         }
     }
@@ -68,7 +69,7 @@ pub fn print_replies(alloc: Global, replies: &[Reply]) -> Result<String, AllocEr
 }
 
 /// Appends the line of this reply to a text. On want of memory the text may have a part of it.
-fn print_reply(reply: &Reply, text: &mut String) -> Result<(), AllocError>
+pub fn print_reply(reply: &Reply, text: &mut String) -> Result<(), AllocError>
     ensures { OnOk result (string_bytes text.new ≡ string_bytes text.old ++ reply_line reply.now) }
 {
     writeln!(text, "{}", Printed(reply))

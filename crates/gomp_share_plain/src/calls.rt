@@ -61,10 +61,12 @@ pub fn make_call<S: Shares>(shares: &mut S, count: u16, step: &ShareStep) -> Sha
         return ShareAnswer::NotMade;
     }
     match step.call {
-        ShareCall::Open(desc) => match desc.shape() {
-            Ok(shape) => ShareAnswer::Opened(shares.try_open(step.member, &shape)),
-            Err(_) => ShareAnswer::NotMade,
-        },
+        ShareCall::Open(desc) => {
+            let Ok(shape) = desc.shape() else {
+                return ShareAnswer::NotMade;
+            };
+            ShareAnswer::Opened(shares.try_open(step.member, &shape))
+        }
         ShareCall::Claim => ShareAnswer::Claimed(shares.claim(step.member)),
         ShareCall::Leave => {
             shares.leave(step.member);

@@ -6,7 +6,7 @@ use Rattle.std.proofs.lemmas.Bool.{cases_Bool}
 use Rattle.std.proofs.lemmas.Int.{ints}
 use Rattle.std.specs.Ordering.{int_eq}
 use Rattle.gomp_types.specs.declared.call.Call.{Call}
-use Rattle.gomp_types.specs.declared.call.Call.TheVariants.{LoopStart, LoopNext, LoopEnd, LoopEndNowait, Barrier, RegionEnd, Resume}
+use Rattle.gomp_types.specs.declared.call.Call.TheVariants.{LoopStart, LoopNext, LoopEnd, LoopEndNowait, Barrier, RegionEnd, Resume, Stop}
 use Rattle.gomp_types.specs.declared.call.Step.{Step}
 use Rattle.gomp_types.specs.declared.loop_desc.LoopDesc.{LoopDesc}
 use Rattle.gomp_types.specs.declared.limits.Limits.{Limits}
@@ -14,7 +14,7 @@ use Rattle.gomp_types.specs.declared.refusal.Place.{Place}
 use Rattle.gomp_types.specs.declared.refusal.Refusal.{Refusal}
 use Rattle.gomp_types.specs.declared.refusal.Refusal.TheVariants.{Mismatch}
 use Rattle.gomp_types.specs.declared.reply.Reply.{Reply}
-use Rattle.gomp_types.specs.declared.reply.Reply.TheVariants.{Chunk, NoChunk, Finished, Passed, Wait, Refused}
+use Rattle.gomp_types.specs.declared.reply.Reply.TheVariants.{Chunk, NoChunk, Finished, Passed, Wait, Stopped, Refused}
 use Rattle.gomp_types.specs.declared.shape.Shape.{Shape}
 use Rattle.gomp_types.specs.declared.event.Arrival.{Arrival}
 use Rattle.gomp_types.specs.declared.event.Event.{Event}
@@ -89,6 +89,7 @@ Pending m (Some (LoopStart loop)) h = (open_share m h ≡ None) × (loop.incr �
 Pending m (Some LoopNext) h = ⊥
 Pending m (Some LoopEndNowait) h = ⊥
 Pending m (Some Resume) h = ⊥
+Pending m (Some Stop) h = ⊥
 Pending m _ h = Unit {0}
 
 nonzero : (incr : ℤ) → ◌≡◌ {A = Bool} (int_eq incr (pos 0)) false → incr ≢ pos 0
@@ -114,11 +115,13 @@ call_tested limits members m LoopEndNowait waiting h lt pending fail = record {
 }
 call_tested limits members m Barrier waiting h lt pending fail = record { ready = tt; beginning = (tt, fail.1.1.0) }
 call_tested limits members m RegionEnd waiting h lt pending fail = record { ready = tt; beginning = (tt, fail.1.1.0) }
+call_tested limits members m Stop waiting h lt pending fail = record { ready = tt; beginning = (tt, tt) }
 call_tested limits members m Resume None h lt pending fail = absurd (let none = fail.0 in cc)
 call_tested limits members m Resume (Some (LoopStart loop)) h lt pending fail = record { ready = (lt, pending.0, pending.1, fail.1.0); beginning = tt }
 call_tested limits members m Resume (Some LoopNext) h lt pending fail = absurd pending
 call_tested limits members m Resume (Some LoopEndNowait) h lt pending fail = absurd pending
 call_tested limits members m Resume (Some Resume) h lt pending fail = absurd pending
+call_tested limits members m Resume (Some Stop) h lt pending fail = absurd pending
 call_tested limits members m Resume (Some LoopEnd) h lt pending fail = record { ready = tt; beginning = tt }
 call_tested limits members m Resume (Some Barrier) h lt pending fail = record { ready = tt; beginning = tt }
 call_tested limits members m Resume (Some RegionEnd) h lt pending fail = record { ready = tt; beginning = tt }
@@ -193,6 +196,7 @@ start_keeps again members m loop NoChunk h tested may all = (
 )
 start_keeps again members m loop Finished h tested may all = absurd may.1
 start_keeps again members m loop Passed h tested may all = absurd may.1
+start_keeps again members m loop Stopped h tested may all = absurd may.1
 start_keeps again members m loop (Refused refusal) h tested may all = absurd may.1
 
 -- A next
@@ -207,6 +211,7 @@ next_keeps again members m NoChunk h (Some share) at may all = rw at (record { s
 next_keeps again members m Finished h (Some share) at may all = absurd may
 next_keeps again members m Passed h (Some share) at may all = absurd may
 next_keeps again members m Wait h (Some share) at may all = absurd may
+next_keeps again members m Stopped h (Some share) at may all = absurd may
 next_keeps again members m (Refused refusal) h (Some share) at may all = absurd may
 
 -- An arrival
@@ -233,6 +238,7 @@ await_keeps again members m call Wait h beginning may all = since_keeps again me
 await_keeps again members m call (Chunk first count) h beginning may all = absurd may
 await_keeps again members m call NoChunk h beginning may all = absurd may
 await_keeps again members m call Finished h beginning may all = absurd may
+await_keeps again members m call Stopped h beginning may all = absurd may
 await_keeps again members m call (Refused refusal) h beginning may all = absurd may
 
 -- What each call and its reply add keeps the rule
@@ -246,6 +252,7 @@ call_keeps again members m LoopEndNowait reply h tested may all = rw may (since_
 call_keeps again members m Barrier reply h tested may all = await_keeps again members m Barrier reply h tested.beginning may all
 call_keeps again members m RegionEnd reply h tested may all = await_keeps again members m RegionEnd reply h tested.beginning may all
 call_keeps again members m Resume reply h tested may all = absurd may
+call_keeps again members m Stop reply h tested may all = rw may (tt, all)
 
 refused_keeps : (members m : ℕ) (place : Place) (h : List Event) (refusal : Refusal) → Always (TeamRule members) h → Always (TeamRule members) (refusal_added refusal m place h)
 refused_keeps members m place h Mismatch all = (tt, all)
@@ -286,6 +293,7 @@ open_other again k m shares NoChunk _ h e = refl
 open_other again k m shares Finished call h e = open_since again k m shares call h e
 open_other again k m shares Passed call h e = open_pass k m (passed m h) (arrival_kind call) (since_begun again m shares call h) ∙ open_since again k m shares call h e
 open_other again k m shares Wait call h e = open_since again k m shares call h e
+open_other again k m shares Stopped call h e = refl
 open_other again k m shares (Refused refusal) call h e = open_refused k m (place_of call m shares h) h refusal
 
 pending_same : (k : ℕ) (waiting : Option Call) (h after : List Event) → open_share k after ≡ open_share k h → Pending k waiting h → Pending k waiting after
@@ -297,6 +305,7 @@ pending_same k (Some LoopEndNowait) h after e pending = pending
 pending_same k (Some Barrier) h after e pending = tt
 pending_same k (Some RegionEnd) h after e pending = tt
 pending_same k (Some Resume) h after e pending = pending
+pending_same k (Some Stop) h after e pending = pending
 
 never_waits : (members m : ℕ) (own : Option (ℕ × Shape)) (h : List Event) → DealsOut members m own Wait h → ⊥
 never_waits members m None h may = may
@@ -311,6 +320,7 @@ pending_wait again members m shares LoopEndNowait h tested may = absurd (cc)
 pending_wait again members m shares Barrier h tested may = tt
 pending_wait again members m shares RegionEnd h tested may = tt
 pending_wait again members m shares Resume h tested may = may
+pending_wait again members m shares Stop h tested may = absurd (cc)
 
 -- One step of a record
 
@@ -330,6 +340,8 @@ answer_pending terms earlier step Wait may pending =
 answer_pending terms earlier step (Refused refusal) may pending =
     pending_same step.member (waits_of step.member earlier).open_call (events earlier) (events ((step, Refused refusal) ∷ earlier))
     (open_refused step.member step.member (place_of (meant step.call (waits_of step.member earlier).open_call) step.member (entered step.member (events earlier)) (events earlier)) (events earlier) refusal) pending
+answer_pending terms earlier step Stopped may pending =
+    pending_same step.member (waits_of step.member earlier).open_call (events earlier) (events ((step, Stopped) ∷ earlier)) refl pending
 answer_pending terms earlier step _ may pending = tt
 
 pub pending_holds : (terms : Terms) (run : Record) (k : ℕ) → Caused terms run → Pending k (waits_of k run).open_call (events run)

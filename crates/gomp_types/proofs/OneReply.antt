@@ -2,12 +2,12 @@
 use Rattle.std.proofs.Common.{◌≡◌, ℕ, Bool, true, false, List, Option, Some, None, refl, ap, ◌∙◌, sym, arith, ◌⊎◌, inl, inr}
 use Rattle.std.specs.Prelude.{ℤ}
 use Rattle.gomp_types.specs.declared.call.Call.{Call}
-use Rattle.gomp_types.specs.declared.call.Call.TheVariants.{LoopStart, LoopNext, LoopEnd, LoopEndNowait, Barrier, RegionEnd, Resume}
+use Rattle.gomp_types.specs.declared.call.Call.TheVariants.{LoopStart, LoopNext, LoopEnd, LoopEndNowait, Barrier, RegionEnd, Resume, Stop}
 use Rattle.gomp_types.specs.declared.call.Step.{Step}
 use Rattle.gomp_types.specs.declared.refusal.Refusal.{Refusal}
 use Rattle.gomp_types.specs.declared.refusal.Refusal.TheVariants.{NoMemory}
 use Rattle.gomp_types.specs.declared.reply.Reply.{Reply}
-use Rattle.gomp_types.specs.declared.reply.Reply.TheVariants.{Chunk, NoChunk, Finished, Passed, Wait, Refused}
+use Rattle.gomp_types.specs.declared.reply.Reply.TheVariants.{Chunk, NoChunk, Finished, Passed, Wait, Stopped, Refused}
 use Rattle.gomp_types.specs.declared.shape.Shape.{Shape}
 use Rattle.gomp_types.specs.declared.event.Event.{Event}
 use Rattle.gomp_types.specs.Pieces.{Piece, shape_of}
@@ -49,6 +49,7 @@ waits_or_not members m shape (Chunk first count) h x = inr (x.0, x.1)
 waits_or_not members m shape NoChunk h x = inr (x.0, x.1)
 waits_or_not members m shape Finished h x = absurd x.1
 waits_or_not members m shape Passed h x = absurd x.1
+waits_or_not members m shape Stopped h x = absurd x.1
 waits_or_not members m shape (Refused refusal) h x = absurd x.1
 
 one_start : (members m : ℕ) (shape : Shape) (a b : Reply) (h : List Event) → Starts members m shape a h → Starts members m shape b h → a ≡ b
@@ -81,6 +82,7 @@ decided members again m LoopEndNowait a b h x y = x ∙ sym y
 decided members again m Barrier a b h x y = one_await (is_met members again m Barrier h) a b x y
 decided members again m RegionEnd a b h x y = one_await (is_met members again m RegionEnd h) a b x y
 decided members again m Resume a b h x y = absurd x
+decided members again m Stop a b h x y = x ∙ sym y
 
 -- a refusal is want of memory, or the first test that holds
 refused_by : (first : Option Refusal) (refusal : Refusal) (call : Call) → MayRefuse first refusal call → (refusal ≡ NoMemory) ⊎ (first ≡ Some refusal)

@@ -3,7 +3,7 @@ use Rattle.std.proofs.Common.{subst, ◌≡◌, ◌≢◌, ℕ, ◌-◌, ◌<◌
 use Rattle.std.specs.Prelude.{is_some}
 use Rattle.std.proofs.lemmas.Bool.{cases_Bool}
 use Rattle.gomp_types.specs.declared.call.Call.{Call}
-use Rattle.gomp_types.specs.declared.call.Call.TheVariants.{LoopStart, LoopNext, LoopEnd, LoopEndNowait, Barrier, RegionEnd, Resume}
+use Rattle.gomp_types.specs.declared.call.Call.TheVariants.{LoopStart, LoopNext, LoopEnd, LoopEndNowait, Barrier, RegionEnd, Resume, Stop}
 use Rattle.gomp_types.specs.declared.call.Step.{Step}
 use Rattle.gomp_types.specs.declared.loop_desc.LoopDesc.{LoopDesc}
 use Rattle.gomp_types.specs.declared.limits.Limits.{Limits}
@@ -11,7 +11,7 @@ use Rattle.gomp_types.specs.declared.refusal.Clash.{Clash}
 use Rattle.gomp_types.specs.declared.refusal.Refusal.{Refusal}
 use Rattle.gomp_types.specs.declared.refusal.Refusal.TheVariants.{NoMemory}
 use Rattle.gomp_types.specs.declared.reply.Reply.{Reply}
-use Rattle.gomp_types.specs.declared.reply.Reply.TheVariants.{Chunk, NoChunk, Finished, Passed, Wait, Refused}
+use Rattle.gomp_types.specs.declared.reply.Reply.TheVariants.{Chunk, NoChunk, Finished, Passed, Wait, Stopped, Refused}
 use Rattle.gomp_types.specs.declared.shape.Shape.{Shape}
 use Rattle.gomp_types.specs.declared.event.Event.{Event}
 use Rattle.gomp_types.specs.Tests.{Test, first_refusal}
@@ -54,10 +54,12 @@ call_row limits m LoopEndNowait h = ((λ e. cc), ((λ e. cc), ((λ e. cc), tt)))
 call_row limits m Barrier h = ((λ e. cc), ((λ e. cc), tt))
 call_row limits m RegionEnd h = ((λ e. cc), ((λ e. cc), tt))
 call_row limits m Resume h = tt
+call_row limits m Stop h = tt
 
 step_row : (limits : Limits) (m : ℕ) (call : Call) (waiting : Option Call) (h : List Event) → NoneIsMemory (row_of limits m call waiting h)
 step_row limits m Resume (Some (LoopStart loop)) h = ((λ e. cc), ((λ e. cc), tt))
 step_row limits m Resume _ h = ((λ e. cc), tt)
+step_row limits m Stop waiting h = tt
 step_row limits m (LoopStart loop) waiting h = ((λ e. cc), call_row limits m (LoopStart loop) h)
 step_row limits m LoopNext waiting h = ((λ e. cc), call_row limits m LoopNext h)
 step_row limits m LoopEnd waiting h = ((λ e. cc), call_row limits m LoopEnd h)
@@ -137,6 +139,7 @@ call_some again members m LoopEndNowait h tested all = (Finished, refl)
 call_some again members m Barrier h tested all = await_some (is_met members again m Barrier h)
 call_some again members m RegionEnd h tested all = await_some (is_met members again m RegionEnd h)
 call_some again members m Resume h tested all = absurd tested.ready
+call_some again members m Stop h tested all = (Stopped, refl)
 
 not_refused : (members : ℕ) (again : Bool) (m : ℕ) (call : Call) (refusal : Refusal) (h : List Event) → MayReply members again m call (Refused refusal) h → ⊥
 not_refused members again m (LoopStart loop) refusal h may = may.1
@@ -150,6 +153,7 @@ not_refused members again m LoopEndNowait refusal h may = cc
 not_refused members again m Barrier refusal h may = may
 not_refused members again m RegionEnd refusal h may = may
 not_refused members again m Resume refusal h may = may
+not_refused members again m Stop refusal h may = cc
 
 may_answer : (terms : Terms) (run : Record) (step : Step) (reply : Reply) → refusal_of terms step (waits_of step.member run).open_call (events run) ≡ None →
     MayReply terms.members (is_resume step.call) step.member (meant step.call (waits_of step.member run).open_call) reply (events run) → MayAnswer terms run step reply

@@ -1,18 +1,18 @@
 -- Worked runs of a team, step by step, and answers that are wrong there. (own)
 use Rattle.std.specs.Prelude.{ℕ, ℤ, pos, negsuc, Result, false, List, [], ◌∷◌, ◌++◌}
 use Rattle.gomp_types.specs.declared.call.Call.{Call}
-use Rattle.gomp_types.specs.declared.call.Call.TheVariants.{LoopStart, LoopNext, LoopEnd, LoopEndNowait, Barrier, RegionEnd, Resume}
+use Rattle.gomp_types.specs.declared.call.Call.TheVariants.{LoopStart, LoopNext, LoopEnd, LoopEndNowait, Barrier, RegionEnd, Resume, Stop}
 use Rattle.gomp_types.specs.declared.call.Step.{Step}
 use Rattle.gomp_types.specs.declared.loop_desc.LoopDesc.{LoopDesc}
 use Rattle.gomp_types.specs.declared.loop_desc.Sched.{Sched}
 use Rattle.gomp_types.specs.declared.loop_desc.Sched.TheVariants.{Static, Dynamic, Guided, Runtime}
 use Rattle.gomp_types.specs.declared.loop_desc.EndKind.{EndKind}
 use Rattle.gomp_types.specs.declared.loop_desc.EndKind.TheVariants.{Wait as WaitEnd, Nowait}
-use Rattle.gomp_types.specs.declared.refusal.Place.TheVariants.{Share, Barrier as AtBarrier}
+use Rattle.gomp_types.specs.declared.refusal.Place.TheVariants.{Share, Barrier as AtBarrier, Stopped as AtStop}
 use Rattle.gomp_types.specs.declared.refusal.Refusal.{Refusal}
 use Rattle.gomp_types.specs.declared.refusal.Refusal.TheVariants.{BadMember, Ended, InsideShare, ZeroStep, BadChunk, LoopTooLong, NotInside, TooManyShares, NoMemory, Broken, Waiting, OutsideShare, EndDiffers, NotDrained, Drained, Mismatch}
 use Rattle.gomp_types.specs.declared.reply.Reply.{Reply}
-use Rattle.gomp_types.specs.declared.reply.Reply.TheVariants.{Chunk, NoChunk, Finished, Passed, Wait, Refused}
+use Rattle.gomp_types.specs.declared.reply.Reply.TheVariants.{Chunk, NoChunk, Finished, Passed, Wait, Stopped, Refused}
 use Rattle.gomp_types.specs.Tests.{first_refusal, outcome}
 use Rattle.gomp_types.specs.Iterations.{trip_count, loop_tests}
 use Rattle.gomp_types.specs.Record.{Record}
@@ -180,6 +180,22 @@ differing_barrier =
     ∷ (asks 1 RegionEnd, Refused Mismatch)
     ∷ (asks 0 Resume, Refused (Broken (record { member = 1; place = AtBarrier 0 })))
     ∷ []
+
+-- a member stops its team while another waits at a barrier, which is then told so
+abbrev pub stopped_team : Run
+stopped_team =
+    (asks 0 Barrier, Wait)
+    ∷ (asks 1 Stop, Stopped)
+    ∷ (asks 0 Resume, Refused (Broken (record { member = 1; place = AtStop })))
+    ∷ (asks 1 Stop, Refused (Broken (record { member = 1; place = AtStop })))
+    ∷ []
+
+-- a member that waits may stop its team, and so may one inside a loop
+abbrev pub stopped_waiting : Run
+stopped_waiting = (asks 0 Barrier, Wait) ∷ (asks 0 Stop, Stopped) ∷ []
+
+abbrev pub stopped_inside : Run
+stopped_inside = (asks 0 one_nowait, Chunk (pos 0) 1) ∷ (asks 0 Stop, Stopped) ∷ []
 
 -- a loop of step 1 from 0 on, with this schedule
 abbrev pub loop_with : Sched → ℤ → ℤ → Call

@@ -4,11 +4,11 @@ use Rattle.gomp_types.specs.declared.call.Call.{Call}
 use Rattle.gomp_types.specs.declared.call.Call.TheVariants.{LoopStart, LoopNext, LoopEnd, LoopEndNowait, Barrier, RegionEnd, Resume}
 use Rattle.gomp_types.specs.declared.call.Step.{Step}
 use Rattle.gomp_types.specs.declared.reply.Reply.{Reply}
-use Rattle.gomp_types.specs.declared.reply.Reply.TheVariants.{Chunk, NoChunk, Finished, Passed, Wait, Refused}
+use Rattle.gomp_types.specs.declared.reply.Reply.TheVariants.{Chunk, NoChunk, Finished, Passed, Wait, Stopped, Refused}
 use Rattle.gomp_types.specs.declared.refusal.Refusal.{Refusal}
 use Rattle.gomp_types.specs.declared.refusal.Refusal.TheVariants.{Mismatch}
 use Rattle.gomp_types.specs.declared.refusal.Place.{Place}
-use Rattle.gomp_types.specs.declared.refusal.Place.TheVariants.{Share, Barrier as AtBarrier}
+use Rattle.gomp_types.specs.declared.refusal.Place.TheVariants.{Share, Barrier as AtBarrier, Stopped as AtStop}
 use Rattle.gomp_types.specs.declared.shape.Shape.{Shape}
 use Rattle.gomp_types.specs.declared.event.Arrival.{Arrival}
 use Rattle.gomp_types.specs.declared.event.Arrival.TheVariants.{Barrier as BarrierArrival, ShareEnd, RegionEnd as RegionEndArrival}
@@ -43,9 +43,10 @@ abbrev pub meant : Call → Option Call → Call
 meant Resume (Some call) = call
 meant call waiting = call
 
--- the waits of a member after its call and reply: a refusal leaves them, Wait opens one, every other reply closes it
+-- the waits of a member after its call and reply: a refusal and a stop leave them, Wait opens one, every other reply closes it
 abbrev pub waits_after : Reply → Call → Waits → Waits
 waits_after (Refused refusal) call waits = waits
+waits_after Stopped call waits = waits
 waits_after Wait call waits = record { open_call = Some (meant call waits.open_call); beneath = waits.beneath }
 waits_after _ call waits = record { open_call = None; beneath = waits.beneath }
 
@@ -140,6 +141,7 @@ added again m shares NoChunk call h = none_added call m shares h
 added again m shares Finished call h = since_begun again m shares call h
 added again m shares Passed call h = pass_added (arrival_kind call) (passed m h) m (since_begun again m shares call h)
 added again m shares Wait call h = since_begun again m shares call h
+added again m shares Stopped call h = Break m AtStop ∷ h
 added again m shares (Refused refusal) call h = refusal_added refusal m (place_of call m shares h) h
 
 -- the events after a step and its reply, with the call that the member waits for

@@ -5,7 +5,7 @@ use Rattle.gomp_types.specs.declared.refusal.Place.{Place}
 use Rattle.gomp_types.specs.declared.refusal.Place.TheVariants.{Share, Barrier, Stopped}
 use Rattle.gomp_types.specs.declared.refusal.Clash.{Clash}
 use Rattle.gomp_types.specs.declared.refusal.Refusal.{Refusal}
-use Rattle.gomp_types.specs.declared.refusal.Refusal.TheVariants.{BadMember, Ended, Broken, Waiting, InsideShare, OutsideShare, ZeroStep, BadChunk, LoopTooLong, EndDiffers, NotDrained, Drained, NotInside, TooManyShares, Mismatch, NoMemory, BadTeam}
+use Rattle.gomp_types.specs.declared.refusal.Refusal.TheVariants.{BadMember, Ended, Broken, Waiting, InsideShare, OutsideShare, ZeroStep, BadChunk, LoopTooLong, EndDiffers, NotDrained, Drained, NotInside, TooManyShares, Mismatch, NoMemory, BadTeam, BadEnv}
 
 -- the number of a refusal, by which a call's tests are ordered
 abbrev pub number_of : Refusal → ℕ
@@ -26,6 +26,7 @@ number_of TooManyShares = 34
 number_of Mismatch = 35
 number_of NoMemory = 37
 number_of BadTeam = 38
+number_of (BadEnv name) = 41
 
 -- the name of a refusal
 abbrev pub name_of : Refusal → List ℕ
@@ -46,6 +47,7 @@ name_of TooManyShares = codes "TooManyShares"
 name_of Mismatch = codes "Mismatch"
 name_of NoMemory = codes "NoMemory"
 name_of BadTeam = codes "BadTeam"
+name_of (BadEnv name) = codes "BadEnv"
 
 -- where a team broke
 abbrev pub place_text : Place → List ℕ

@@ -1,7 +1,7 @@
 -- Which calls are refused, and by which test: for each call its row of tests, in the order of their numbers. (own; the constructs' rules are those of OpenMP API 5.2, chapters 11 and 15)
 use Rattle.std.specs.Prelude.{ℕ, nat_le, not, is_some, is_none, Bool, true, false, List, [], ◌∷◌, ◌++◌, Option, Some, None}
 use Rattle.gomp_types.specs.declared.call.Call.{Call}
-use Rattle.gomp_types.specs.declared.call.Call.TheVariants.{LoopStart, LoopNext, LoopEnd, LoopEndNowait, Barrier, RegionEnd, Resume}
+use Rattle.gomp_types.specs.declared.call.Call.TheVariants.{LoopStart, LoopNext, LoopEnd, LoopEndNowait, Barrier, RegionEnd, Resume, Stop}
 use Rattle.gomp_types.specs.declared.loop_desc.LoopDesc.{LoopDesc}
 use Rattle.gomp_types.specs.declared.loop_desc.EndKind.{EndKind}
 use Rattle.gomp_types.specs.declared.loop_desc.EndKind.TheVariants.{Wait as WaitEnd, Nowait}
@@ -64,15 +64,17 @@ call_tests limits m LoopEndNowait h = end_tests Nowait m h
 call_tests limits m Barrier h = (is_inside m h, InsideShare) ∷ arrival_tests BarrierArrival m h
 call_tests limits m RegionEnd h = (is_inside m h, InsideShare) ∷ arrival_tests RegionEndArrival m h
 call_tests limits m Resume h = []
+call_tests limits m Stop h = []
 
 -- the tests of the call that a resume repeats
 abbrev pub again_tests : ℕ → Option Call → List Event → List Test
 again_tests m (Some (LoopStart loop)) h = start_tests m loop h
 again_tests m _ h = []
 
--- while a wait is open only a resume is answered, and a resume only then
+-- while a wait is open only a resume and a stop are answered, and a resume only then
 abbrev pub row_of : Limits → ℕ → Call → Option Call → List Event → List Test
 row_of limits m Resume waiting h = (is_none waiting, NotInside) ∷ again_tests m waiting h
+row_of limits m Stop waiting h = []
 row_of limits m call waiting h = (is_some waiting, Waiting) ∷ call_tests limits m call h
 
 -- a broken team answers nothing else

@@ -1,9 +1,9 @@
 -- Where a call that is not refused gives which reply. No reply but those that stand here has a cause. OpenMP API 5.2, chapters 11 and 15.
 use Rattle.std.specs.Prelude.{ℕ, ℤ, ◌+◌, ◌≡◌, Bool, true, false, List, Option, Some, None}
 use Rattle.gomp_types.specs.declared.call.Call.{Call}
-use Rattle.gomp_types.specs.declared.call.Call.TheVariants.{LoopStart, LoopNext, LoopEnd, LoopEndNowait, Barrier, RegionEnd, Resume}
+use Rattle.gomp_types.specs.declared.call.Call.TheVariants.{LoopStart, LoopNext, LoopEnd, LoopEndNowait, Barrier, RegionEnd, Resume, Stop}
 use Rattle.gomp_types.specs.declared.reply.Reply.{Reply}
-use Rattle.gomp_types.specs.declared.reply.Reply.TheVariants.{Chunk, NoChunk, Finished, Passed, Wait}
+use Rattle.gomp_types.specs.declared.reply.Reply.TheVariants.{Chunk, NoChunk, Finished, Passed, Wait, Stopped}
 use Rattle.gomp_types.specs.declared.shape.Shape.{Shape}
 use Rattle.gomp_types.specs.declared.event.Event.{Event}
 use Rattle.gomp_types.specs.Values.{value_at}
@@ -48,3 +48,4 @@ MayReply members again m LoopEndNowait reply h = reply ≡ Finished
 MayReply members again m Barrier reply h = Awaits (is_met members again m Barrier h) reply
 MayReply members again m RegionEnd reply h = Awaits (is_met members again m RegionEnd h) reply
 MayReply members again m Resume reply h = ⊥
+MayReply members again m Stop reply h = reply ≡ Stopped

@@ -20,6 +20,8 @@ pub enum Call {
     RegionEnd,
     /// Repeats the call whose answer was to wait.
     Resume,
+    /// Stops the team, whatever its members are doing: it is broken from then on (own).
+    Stop,
 }
 
 /// A call with the member that makes it.

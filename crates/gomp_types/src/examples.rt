@@ -2,14 +2,14 @@
 //! wrong is computed, and checked with every proof.
 
 ghost use Rattle.std.specs.Prelude.{pos, negsuc, take, ◌≡◌, [], ◌∷◌};
-ghost use Rattle.gomp_types.specs.declared.call.Call.TheVariants.{Barrier, LoopNext, LoopEnd, LoopEndNowait, RegionEnd, Resume};
+ghost use Rattle.gomp_types.specs.declared.call.Call.TheVariants.{Barrier, LoopNext, LoopEnd, LoopEndNowait, RegionEnd, Resume, Stop};
 ghost use Rattle.gomp_types.specs.declared.loop_desc.Sched.TheVariants.{Static, Guided, Runtime};
 ghost use Rattle.gomp_types.specs.declared.loop_desc.EndKind.TheVariants.{Wait as WaitEnd};
-ghost use Rattle.gomp_types.specs.declared.refusal.Refusal.TheVariants.{ZeroStep, LoopTooLong, TooManyShares, Ended, NotDrained, Drained, NoMemory, Mismatch};
-ghost use Rattle.gomp_types.specs.declared.reply.Reply.TheVariants.{Chunk, NoChunk, Passed, Wait, Refused};
+ghost use Rattle.gomp_types.specs.declared.refusal.Refusal.TheVariants.{ZeroStep, LoopTooLong, TooManyShares, Ended, NotDrained, Drained, NoMemory, Mismatch, Waiting, InsideShare, BadMember};
+ghost use Rattle.gomp_types.specs.declared.reply.Reply.TheVariants.{Chunk, NoChunk, Passed, Wait, Stopped, Refused};
 ghost use Rattle.gomp_types.specs.Causes.{MayAnswer};
 ghost use Rattle.gomp_types.specs.Pieces.{resolved};
-ghost use Rattle.gomp_types.specs.Examples.{loop_with, owned_pieces, even_pieces_of_four, shrinking_pieces, runtime_pieces, IsRunOf, one_share, second_share, whole_region, over_all_values, down_all_values, trips_of, IsRun, IsWrong, asks, dynamic_loop, one_nowait, loop_of_two, empty_loops, refused_ends, eight_ahead, ninth_share, differing_loop, differing_barrier};
+ghost use Rattle.gomp_types.specs.Examples.{loop_with, owned_pieces, even_pieces_of_four, shrinking_pieces, runtime_pieces, IsRunOf, one_share, second_share, whole_region, over_all_values, down_all_values, trips_of, IsRun, IsWrong, asks, dynamic_loop, one_nowait, loop_of_two, empty_loops, refused_ends, eight_ahead, ninth_share, differing_loop, differing_barrier, stopped_team, stopped_waiting, stopped_inside};
 
 /// Each reply of these runs has its cause.
 pub fn worked_runs()
@@ -21,6 +21,9 @@ pub fn worked_runs()
     ensures whole_region { IsRun 1 whole_region }
     ensures differing_loop { IsRun 2 differing_loop }
     ensures differing_barrier { IsRun 2 differing_barrier }
+    ensures stopped_team { IsRun 2 stopped_team }
+    ensures stopped_waiting { IsRun 2 stopped_waiting }
+    ensures stopped_inside { IsRun 1 stopped_inside }
 {}
 
 /// Loops over all values of an `i64` count without a wrap: by the largest step, the least one, 1, 0
@@ -63,8 +66,14 @@ pub fn wrong_answers()
 
     // Constructs that differ, let in.
     ensures other_loop { IsWrong 2 (take 1 differing_loop) (asks 1 (dynamic_loop (pos 2) (pos 0) (pos 10) WaitEnd)) (Chunk (pos 3) 2) }
-    ensures other_barrier { IsWrong 2 (take 1 differing_barrier) (asks 1 RegionEnd) Passed }
     ensures like_loop { IsWrong 2 (take 1 loop_of_two) (asks 1 (dynamic_loop (pos 3) (pos 0) (pos 10) WaitEnd)) (Refused Mismatch) }
+    ensures other_barrier { IsWrong 2 (take 1 differing_barrier) (asks 1 RegionEnd) Passed }
+
+    // A stop that has to wait, or is no stop; a team that goes on after one; and a stop by no member.
+    ensures stop_waits { IsWrong 2 (take 1 stopped_waiting) (asks 0 Stop) (Refused Waiting) }
+    ensures stop_inside { IsWrong 1 (take 1 stopped_inside) (asks 0 Stop) (Refused InsideShare) }
+    ensures goes_on { IsWrong 2 (take 2 stopped_team) (asks 0 Resume) Wait }
+    ensures stopped_by_none { IsWrong 2 [] (asks 2 Stop) Stopped }
 {}
 
 /// Loops of the other schedules: each reply has its cause.

@@ -6,6 +6,7 @@ ghost use Rattle.std.specs.Prelude.{◌≡◌, ◌∷◌, ◌++◌, Some};
 ghost use Rattle.std.specs.Fmt.{decimal};
 ghost use Rattle.gomp_types.specs.RefusalTexts.{number_of, name_of, text_of, clash_text, place_text};
 
+use crate::name::Name;
 use std::fmt;
 use thiserror::Error;
 
@@ -38,7 +39,7 @@ pub enum Refusal {
     Ended,
     /// E3: the team is broken, by this first cause.
     Broken(Clash),
-    /// E4: the member's wait is open, and the call is not `resume`.
+    /// E4: the member's wait is open, and the call is neither `resume` nor `stop`.
     Waiting,
     /// E8: the member is in a work-share.
     InsideShare,
@@ -66,6 +67,8 @@ pub enum Refusal {
     NoMemory,
     /// E38: a team has 1 to 64 members.
     BadTeam,
+    /// E41: this word of the environment is ignored: no variable has its name, or its value is bad.
+    BadEnv(Name),
 }
 
 impl Refusal {
@@ -91,6 +94,7 @@ impl Refusal {
             Refusal::Mismatch => 35,
             Refusal::NoMemory => 37,
             Refusal::BadTeam => 38,
+            Refusal::BadEnv(_) => 41,
         }
     }
 
@@ -116,6 +120,7 @@ impl Refusal {
             Refusal::Mismatch => "Mismatch",
             Refusal::NoMemory => "NoMemory",
             Refusal::BadTeam => "BadTeam",
+            Refusal::BadEnv(_) => "BadEnv",
         }
     }
 }

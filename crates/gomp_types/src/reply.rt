@@ -15,6 +15,8 @@ pub enum Reply {
     Passed,
     /// Not yet: the call stands, and `Resume` asks again.
     Wait,
+    /// The team is stopped.
+    Stopped,
     /// The call changed nothing, save that `Mismatch` broke the team.
     Refused(Refusal),
 }

@@ -4,7 +4,8 @@ use Rattle.gomp_types.specs.Record.{record_after, events}
 use Rattle.gomp_types.specs.Causes.{Terms, Caused}
 use Rattle.gomp_types.specs.Headline.{Headline}
 use Rattle.gomp_core.specs.Stands.{Stands, standard_terms}
-use Rattle.gomp_core.proofs.Stepping.{record_grows, moved_on, all_done, terms_are, memory_more}
+use Rattle.gomp_core.specs.Resolved.{resolved_steps}
+use Rattle.gomp_core.proofs.Stepping.{resolved_grows, moved_on, all_done, terms_are, memory_more}
 use Rattle.gomp_core.proofs.steps.run.Given.{Over}
 use Rattle.gomp_core.proofs.steps.run.Goals as goal
 
@@ -14,6 +15,7 @@ loop-step-init g c = record {
   each = rw c.in-Ok.ensures.items refl;
   room = let room = c.in-Ok.ensures.capacity in let len = c.len.ensures in let ok = c.args.steps.ok in omega arith;
   members = c.in_ok-team.ensures.members;
+  icv = c.in_ok-team.ensures.icv;
   limits = c.in_ok-team.ensures.limits;
   memory = rw c.in-Ok.ensures.items tt;
   stands = c.in_ok-team.ensures.stands;
@@ -29,16 +31,17 @@ push_reserved-requires g c =
 pub loop-step-preserved : goal.loop-step-preserved
 loop-step-preserved g c =
     let inv = c.loop-step.invariant in
-    let before = record_after c.loop-step.yielded c.loop-step.replies.items [] in
-    let more = record_grows c.loop-step.yielded c.loop-step.replies.items c.in-Some.step c.step.result [] inv.each in
+    let before = record_after (resolved_steps c.args.icv c.loop-step.yielded) c.loop-step.replies.items [] in
+    let more = resolved_grows c.args.icv c.loop-step.yielded c.loop-step.replies.items c.in-Some.step c.step.result inv.each in
     record {
       all = sym (moved_on c.loop-step.yielded c.next.new.self.rest.items c.in-Some.step) ∙ ap (λ (xs : List Step). c.loop-step.yielded ++ xs) (sym c.in-Some.ensures.steps.0) ∙ inv.all;
       each = let each = inv.each in rw c.push_reserved.ensures.items (simp length-append (omega arith));
       room = let kept = c.push_reserved.ensures.capacity in let room = inv.room in omega arith;
       members = c.step.ensures.members ∙ inv.members;
+      icv = c.step.ensures.icv ∙ inv.icv;
       limits = c.step.ensures.limits ∙ inv.limits;
       memory = rw c.push_reserved.ensures.items (memory_more c.loop-step.replies.items c.step.result inv.memory c.step.ensures.memory);
-      stands = rw (c.push_reserved.ensures.items, more) (c.step.ensures.stands before inv.stands);
+      stands = rw (c.push_reserved.ensures.items, more) (rw inv.icv at (c.step.ensures.stands before inv.stands));
     }
 
 -- Where no step is left
@@ -54,7 +57,10 @@ pub returns-in-None-clause-each : goal.returns-in-None-clause-each
 returns-in-None-clause-each g c = let inv = c.loop-step.invariant in let ok = c.loop-step.replies.ok in let same = ap length (steps_done g c) in let each = inv.each in omega arith
 
 pub returns-in-None-clause-terms : goal.returns-in-None-clause-terms
-returns-in-None-clause-terms g c = terms_are c.loop-step.team c.args.count c.loop-step.invariant.members c.loop-step.invariant.limits
+returns-in-None-clause-terms g c = terms_are c.loop-step.team c.args.count c.args.icv c.loop-step.invariant.members c.loop-step.invariant.icv c.loop-step.invariant.limits
+
+pub returns-in-None-clause-icv : goal.returns-in-None-clause-icv
+returns-in-None-clause-icv g c = c.loop-step.invariant.icv
 
 pub returns-in-None-clause-memory : goal.returns-in-None-clause-memory
 returns-in-None-clause-memory g c = c.loop-step.invariant.memory
@@ -62,15 +68,15 @@ returns-in-None-clause-memory g c = c.loop-step.invariant.memory
 pub returns-in-None-clause-stands : goal.returns-in-None-clause-stands
 returns-in-None-clause-stands g c =
     let inv = c.loop-step.invariant in
-    subst (λ (steps : List Step). Stands g.S.Shares.stands g.S.Shares.members c.loop-step.team (record_after steps c.loop-step.replies.items [])) (steps_done g c) inv.stands
+    subst (λ (steps : List Step). Stands g.S.Shares.stands g.S.Shares.members c.loop-step.team (record_after (resolved_steps c.args.icv steps) c.loop-step.replies.items [])) (steps_done g c) inv.stands
 
 pub returns-in-None-clause-caused : goal.returns-in-None-clause-caused
 returns-in-None-clause-caused g c =
     let stands = returns-in-None-clause-stands g c in
-    subst (λ (terms : Terms). Caused terms (record_after c.args.steps.items c.loop-step.replies.items [])) (returns-in-None-clause-terms g c) stands.caused
+    subst (λ (terms : Terms). Caused terms (record_after (resolved_steps c.args.icv c.args.steps.items) c.loop-step.replies.items [])) (returns-in-None-clause-terms g c) stands.caused
 
-the_headline : (g : Over) (c : goal.After-drop-step-iterator g) → Headline c.args.count (events (record_after c.args.steps.items c.loop-step.replies.items []))
-the_headline g c = c.headline.ensures (standard_terms c.args.count) (record_after c.args.steps.items c.loop-step.replies.items []) (returns-in-None-clause-caused g c)
+the_headline : (g : Over) (c : goal.After-drop-step-iterator g) → Headline c.args.count (events (record_after (resolved_steps c.args.icv c.args.steps.items) c.loop-step.replies.items []))
+the_headline g c = c.headline.ensures (standard_terms c.args.count c.args.icv) (record_after (resolved_steps c.args.icv c.args.steps.items) c.loop-step.replies.items []) (returns-in-None-clause-caused g c)
 
 pub returns-in-None-clause-taken_once : goal.returns-in-None-clause-taken_once
 returns-in-None-clause-taken_once g c = (the_headline g c).taken_once

@@ -2,6 +2,7 @@ use Rattle.std.proofs.Common.{◌≡◌, ◌≤◌, ◌++◌, [], length}
 use Rattle.std.specs.Vec.{vec_capacity}
 use Rattle.gomp_types.specs.Record.{record_after}
 use Rattle.gomp_core.specs.Stands.{Stands, members_of, standard, NoneForMemory}
+use Rattle.gomp_core.specs.Resolved.{resolved_steps}
 use Rattle.gomp_core.proofs.steps.run.Given as goal
 
 -- the team stands for the steps so far and their replies, one for each
@@ -11,7 +12,8 @@ invariant-loop-step g l = record {
   each : length l.replies.items ≡ length l.yielded;
   room : length l.fn.steps.items ≤ vec_capacity l.replies;
   members : members_of l.team ≡ l.fn.count;
+  icv : l.team.icv ≡ l.fn.icv;
   limits : l.team.limits ≡ standard;
   memory : NoneForMemory l.replies.items;
-  stands : Stands g.S.Shares.stands g.S.Shares.members l.team (record_after l.yielded l.replies.items []);
+  stands : Stands g.S.Shares.stands g.S.Shares.members l.team (record_after (resolved_steps l.fn.icv l.yielded) l.replies.items []);
 }

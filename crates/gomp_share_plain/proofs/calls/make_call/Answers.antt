@@ -7,10 +7,10 @@ use Rattle.gomp_share_plain.specs.Runs.{may_make}
 use Rattle.gomp_share_plain.proofs.CallRuns.{made, open_fits, outcome_value, opens_loop, can_open}
 use Rattle.gomp_share_plain.proofs.calls.make_call.Goals as goal
 
-pub returns-in-Err-clause-answer : goal.returns-in-Err-clause-answer
-returns-in-Err-clause-answer g c =
+pub returns-in_default-clause-answer : goal.returns-in_default-clause-answer
+returns-in_default-clause-answer g c =
     let may : may_make c.look-seen.result (Open c.in-Open.desc) ≡ true = ap (may_make c.look-seen.result) (sym c.in-Open.is) ∙ sym c.may_make.ensures ∙ c.if-not-may_make.false in
-    absurd (open_fits c.look-seen.result c.in-Open.desc (shape_of c.in-Open.desc) c.in-Err.field-0 may (sym c.shape.ensures.shape ∙ c.in-Err.is))
+    absurd (open_fits c.look-seen.result c.in-Open.desc (shape_of c.in-Open.desc) c.in_default.field-0 may (sym c.shape.ensures.shape ∙ c.in_default.is))
 
 pub returns-in-Claim-clause-answer : goal.returns-in-Claim-clause-answer
 returns-in-Claim-clause-answer g c = λ h st.

@@ -17,7 +17,7 @@ returns-then-waits g c = λ before st0.
     let sound : clash_of (events before) ≡ None = sym st.broken_is ∙ c.in_default.is in
     let at = slice_get_read c.self.inside.waiting.items _ c.args.member _ refl lt c.index.ensures in
     let waits : is_some (waits_of c.args.member before).open_call ≡ c.is_some-waits.result = ap is_some (st.wait c.args.member _ at).call_is ∙ some_open c.index.result.now ∙ sym c.is_some-waits.ensures in
-    rw (← c.self.view_is) (alone_is (record { members = length c.self.inside.waiting.items; limits = c.self.inside.limits; cancellation = false }) (record { member = c.args.member; call = c.args.call.now }) (waits_of c.args.member before).open_call (events before) None lt stays sound
+    rw (← c.self.view_is) (alone_is (record { members = length c.self.inside.waiting.items; limits = c.self.inside.limits; cancellation = c.self.inside.icv.cancellation }) (record { member = c.args.member; call = c.args.call.now }) (waits_of c.args.member before).open_call (events before) None lt stays sound
     (rw c.in-Resume.is (resume_open c.self.inside.limits c.args.member (waits_of c.args.member before).open_call (events before) (waits ∙ c.if-waits.true))))
 
 pub returns-else-waits : goal.returns-else-waits
@@ -28,7 +28,7 @@ returns-else-waits g c = λ before st0.
     let sound : clash_of (events before) ≡ None = sym st.broken_is ∙ c.in_default.is in
     let at = slice_get_read c.self.inside.waiting.items _ c.args.member _ refl lt c.index.ensures in
     let waits : is_some (waits_of c.args.member before).open_call ≡ c.is_some-waits.result = ap is_some (st.wait c.args.member _ at).call_is ∙ some_open c.index.result.now ∙ sym c.is_some-waits.ensures in
-    rw (← c.self.view_is) (alone_is (record { members = length c.self.inside.waiting.items; limits = c.self.inside.limits; cancellation = false }) (record { member = c.args.member; call = c.args.call.now }) (waits_of c.args.member before).open_call (events before) (Some NotInside) lt stays sound
+    rw (← c.self.view_is) (alone_is (record { members = length c.self.inside.waiting.items; limits = c.self.inside.limits; cancellation = c.self.inside.icv.cancellation }) (record { member = c.args.member; call = c.args.call.now }) (waits_of c.args.member before).open_call (events before) (Some NotInside) lt stays sound
     (rw c.in-Resume.is (resume_closed c.self.inside.limits c.args.member (waits_of c.args.member before).open_call (events before) (waits ∙ c.if-waits.false))))
 
 pub returns-then-waits-2 : goal.returns-then-waits-2
@@ -39,8 +39,8 @@ returns-then-waits-2 g c = λ before st0.
     let sound : clash_of (events before) ≡ None = sym st.broken_is ∙ c.in_default.is in
     let at = slice_get_read c.self.inside.waiting.items _ c.args.member _ refl lt c.index.ensures in
     let waits : is_some (waits_of c.args.member before).open_call ≡ c.is_some-waits.result = ap is_some (st.wait c.args.member _ at).call_is ∙ some_open c.index.result.now ∙ sym c.is_some-waits.ensures in
-    rw (← c.self.view_is) (alone_is (record { members = length c.self.inside.waiting.items; limits = c.self.inside.limits; cancellation = false }) (record { member = c.args.member; call = c.args.call.now }) (waits_of c.args.member before).open_call (events before) (Some Waiting) lt stays sound
-    (call_waits c.self.inside.limits c.args.member c.args.call.now (waits_of c.args.member before).open_call (events before) c.in_default-call.not-Resume (waits ∙ c.if-waits-2.true)))
+    rw (← c.self.view_is) (alone_is (record { members = length c.self.inside.waiting.items; limits = c.self.inside.limits; cancellation = c.self.inside.icv.cancellation }) (record { member = c.args.member; call = c.args.call.now }) (waits_of c.args.member before).open_call (events before) (Some Waiting) lt stays sound
+    (call_waits c.self.inside.limits c.args.member c.args.call.now (waits_of c.args.member before).open_call (events before) c.in_default-call-2.not-Resume c.in_default-call.not-Stop (waits ∙ c.if-waits-2.true)))
 
 pub returns : goal.returns
 returns g c = λ before st0.
@@ -50,5 +50,5 @@ returns g c = λ before st0.
     let sound : clash_of (events before) ≡ None = sym st.broken_is ∙ c.in_default.is in
     let at = slice_get_read c.self.inside.waiting.items _ c.args.member _ refl lt c.index.ensures in
     let waits : is_some (waits_of c.args.member before).open_call ≡ c.is_some-waits.result = ap is_some (st.wait c.args.member _ at).call_is ∙ some_open c.index.result.now ∙ sym c.is_some-waits.ensures in
-    rw (← c.self.view_is) (alone_is (record { members = length c.self.inside.waiting.items; limits = c.self.inside.limits; cancellation = false }) (record { member = c.args.member; call = c.args.call.now }) (waits_of c.args.member before).open_call (events before) c.first_refusal.result lt stays sound
-    (c.first_refusal.ensures.first (events before) st.shares_are ∙ call_goes_on c.self.inside.limits c.args.member c.args.call.now (waits_of c.args.member before).open_call (events before) c.in_default-call.not-Resume (waits ∙ c.if-waits-2.false)))
+    rw (← c.self.view_is) (alone_is (record { members = length c.self.inside.waiting.items; limits = c.self.inside.limits; cancellation = c.self.inside.icv.cancellation }) (record { member = c.args.member; call = c.args.call.now }) (waits_of c.args.member before).open_call (events before) c.first_refusal.result lt stays sound
+    (c.first_refusal.ensures.first (events before) st.shares_are ∙ call_goes_on c.self.inside.limits c.args.member c.args.call.now (waits_of c.args.member before).open_call (events before) c.in_default-call-2.not-Resume c.in_default-call.not-Stop (waits ∙ c.if-waits-2.false)))

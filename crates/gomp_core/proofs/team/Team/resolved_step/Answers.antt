@@ -1,0 +1,77 @@
+use Rattle.std.proofs.Common.{◌≡◌, ◌∙◌, ◌<◌, sym, subst, refl, length, None}
+use Rattle.std.proofs.lemmas.Option.{slice_get_read}
+use Rattle.gomp_types.specs.declared.call.Step.{Step}
+use Rattle.gomp_types.specs.Tests.{first_refusal}
+use Rattle.gomp_types.specs.Record.{Record, events, waits_of}
+use Rattle.gomp_core.specs.Stands.{TeamView, Stands, terms_of}
+use Rattle.gomp_core.proofs.Rows.{alone, below}
+use Rattle.gomp_core.proofs.Stepping.{Admitted, stands_refused, answer_refused, refused_memory, answer_memory, step_ready, step_answered, stands_answered}
+use Rattle.gomp_core.proofs.team.Team.resolved_step.Given.{Over}
+use Rattle.gomp_core.proofs.team.Team.resolved_step.Goals as goal
+
+-- A refusal by a test before the comparison
+
+pub returns-in-Some-clause-answer : goal.returns-in-Some-clause-answer
+returns-in-Some-clause-answer g c = λ before st.
+    let step : Step = record { member = c.args.member; call = c.args.call } in
+    c.first_refused.ensures (terms_of c.args.self.now) before step c.in-Some.refusal
+    (answer_refused g.S.Shares.stands g.S.Shares.members c.args.self.now before step c.refusal.result c.in-Some.refusal st (c.refusal.ensures before st) c.in-Some.is)
+
+pub returns-in-Some-clause-stands : goal.returns-in-Some-clause-stands
+returns-in-Some-clause-stands g c = λ before st.
+    let step : Step = record { member = c.args.member; call = c.args.call } in
+    stands_refused g.S.Shares.stands g.S.Shares.members c.args.self.now before step c.refusal.result c.in-Some.refusal st (returns-in-Some-clause-answer g c before st) (c.refusal.ensures before st) c.in-Some.is
+
+pub returns-in-Some-clause-memory : goal.returns-in-Some-clause-memory
+returns-in-Some-clause-memory g c =
+    let (before, st0) = c.self.invariant in
+    let st = subst (λ (t : TeamView g.row.S.Denot). Stands g.S.Shares.stands g.S.Shares.members t before) c.self.view_is st0 in
+    let step : Step = record { member = c.args.member; call = c.args.call } in
+    refused_memory (terms_of c.args.self.now) step before c.refusal.result c.in-Some.refusal (c.refusal.ensures before st) c.in-Some.is
+
+-- Else
+
+abbrev step_of : (g : Over) → goal.After-self-2-1 g → Step
+step_of g c = record { member = c.args.member; call = c.args.call }
+
+abbrev team_of : (g : Over) → goal.After-self-2-1 g → TeamView g.row.S.Denot
+team_of g c = record { icv = c.self.inside.icv; limits = c.self.inside.limits; broken = c.self.inside.broken; waiting = c.self.inside.waiting.items; barriers = c.self.inside.barriers; shares = c.self.inside.shares }
+
+admitted : (g : Over) (c : goal.After-self-2-1 g) (before : Record) → Stands g.S.Shares.stands g.S.Shares.members (team_of g c) before →
+    Admitted g.S.Shares.stands g.S.Shares.members (team_of g c) before (step_of g c) c.index.result.now c.answer-outcome.result
+admitted g c before st =
+    let seen = subst (λ (t : TeamView g.row.S.Denot). Stands g.S.Shares.stands g.S.Shares.members t before) c.self.view_is st in
+    let none : first_refusal (alone (terms_of (team_of g c)) (step_of g c) (waits_of c.args.member before).open_call (events before)) ≡ None =
+    subst (λ (t : TeamView g.row.S.Denot). first_refusal (alone (terms_of t) (step_of g c) (waits_of c.args.member before).open_call (events before)) ≡ None) (sym c.self.view_is) (sym (c.refusal.ensures before seen) ∙ c.in_default.is) in
+    let lt : c.args.member < length c.self.inside.waiting.items = below (terms_of (team_of g c)) (step_of g c) (waits_of c.args.member before).open_call (events before) none in
+    let at = slice_get_read c.self.inside.waiting.items _ c.args.member _ refl lt c.index.ensures in
+    let may = step_ready g.S.Shares.stands g.S.Shares.members (team_of g c) before (step_of g c) c.index.result.now st at none in
+    record {
+      stand = st;
+      at = at;
+      none = none;
+      may = may;
+      answer = rw st.shares_size at (c.answer-outcome.ensures.answer (events before) st.shares_are st.barriers_are may);
+    }
+
+pub returns-clause-answer : goal.returns-clause-answer
+returns-clause-answer g c = λ before st0.
+    let st = subst (λ (t : TeamView g.row.S.Denot). Stands g.S.Shares.stands g.S.Shares.members t before) (sym c.self.view_is) st0 in
+    rw (← c.self.view_is, c.reply_to-reply.ensures) (step_answered g.S.Shares.stands g.S.Shares.members (team_of g c) before (step_of g c) c.index.result.now c.answer-outcome.result (admitted g c before st) (c.first_refused.ensures (terms_of (team_of g c)) before (step_of g c)))
+
+pub returns-clause-stands : goal.returns-clause-stands
+returns-clause-stands g c = λ before st0.
+    let st = subst (λ (t : TeamView g.row.S.Denot). Stands g.S.Shares.stands g.S.Shares.members t before) (sym c.self.view_is) st0 in
+    let known = admitted g c before st in
+    rw (c.waiting_after.ensures, c.broken_after-self-inside.ensures, c.reply_to-reply.ensures) (stands_answered g.S.Shares.stands g.S.Shares.members (team_of g c) c.answer-outcome.new.shares c.answer-outcome.new.barriers before (step_of g c) c.index.result.now c.answer-outcome.result known
+    (c.first_refused.ensures (terms_of (team_of g c)) before (step_of g c)) (c.answer-outcome.ensures.stands (events before) st.shares_are st.barriers_are known.may) c.answer-outcome.ensures.members c.answer-outcome.ensures.seats)
+
+pub returns-clause-memory : goal.returns-clause-memory
+returns-clause-memory g c =
+    let (before, st) = c.self.invariant in
+    rw c.reply_to-reply.ensures (answer_memory _ _ _ _ c.answer-outcome.result (events before) (admitted g c before st).answer)
+
+pub invariant_of-self : goal.invariant_of-self
+invariant_of-self g c =
+    let (before, st) = c.self.invariant in
+    (_, returns-clause-stands g c before (subst (λ (t : TeamView g.row.S.Denot). Stands g.S.Shares.stands g.S.Shares.members t before) c.self.view_is st))

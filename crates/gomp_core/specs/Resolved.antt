@@ -1,0 +1,18 @@
+-- Runtime schedules: a team takes the kind and the chunk of such a loop from its control variables. OpenMP API 5.2, section 11.5.3.
+use Rattle.std.specs.Prelude.{List, map}
+use Rattle.gomp_types.specs.declared.call.Call.{Call}
+use Rattle.gomp_types.specs.declared.call.Call.TheVariants.{LoopStart}
+use Rattle.gomp_types.specs.declared.call.Step.{Step}
+use Rattle.gomp_types.specs.Pieces.{resolved}
+use Rattle.gomp_icv.specs.Variables.{Variables}
+
+-- the call with the schedule that counts, where it is the start of a loop
+abbrev pub resolved_call : Variables → Call → Call
+resolved_call icv (LoopStart loop) = LoopStart (resolved icv.sched icv.chunk loop)
+resolved_call icv call = call
+
+abbrev pub resolved_step : Variables → Step → Step
+resolved_step icv step = record { member = step.member; call = resolved_call icv step.call }
+
+abbrev pub resolved_steps : Variables → List Step → List Step
+resolved_steps icv steps = map (resolved_step icv) steps

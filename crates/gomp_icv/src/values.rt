@@ -1,0 +1,105 @@
+//! The values of the environment's words: numbers, switches and schedules.
+//!
+//! OpenMP API 5.2, chapter 21. The case of letters is ignored, and so are spaces and tabs around
+//! each part of a value.
+
+ghost use Rattle.std.specs.Prelude.{◌≡◌, ◌≤◌, pos, int_lt, false, IfSome};
+ghost use Rattle.gomp_types.specs.Iterations.{max_chunk};
+ghost use Rattle.gomp_text.specs.Words.{cut};
+ghost use Rattle.gomp_icv.specs.Variables.{IsSchedule};
+ghost use Rattle.gomp_icv.specs.EnvValues.{number_of, is_named, switch_of, is_modifier, chosen, kind_and_chunk, schedule_of};
+
+use gomp_text::{cut, is_word_in_any_case, trimmed, unsigned};
+use gomp_types::{MAX_CHUNK, Sched};
+
+/// The largest number that a value may be, save a chunk (own).
+pub const MAX_NUMBER: u64 = 2_147_483_647;
+
+/// The decimal number that a part of a value is, from `least` to `most`; no sign stands before it.
+/// None where the part is no such number.
+pub fn number_of(part: &[u8], least: u64, most: u64) -> Option<u64>
+    ensures value { result ≡ number_of least most part.now }
+    ensures range { IfSome result (λ number. (least ≤ number) × (number ≤ most)) }
+{
+    match unsigned(trimmed(part), most) {
+        Some(number) if number >= least => Some(number),
+        _ => None,
+    }
+}
+
+/// Whether a part of a value is this word.
+fn is_named(part: &[u8], name: &[u8]) -> bool
+    ensures { result ≡ is_named part.now name.now }
+{
+    is_word_in_any_case(trimmed(part), name)
+}
+
+/// `true` or `false`. None where the value is neither.
+pub fn switch_of(value: &[u8]) -> Option<bool>
+    ensures { result ≡ switch_of value.now }
+{
+    if is_named(value, b"true") {
+        return Some(true);
+    }
+    if is_named(value, b"false") {
+        return Some(false);
+    }
+    None
+}
+
+/// `[monotonic:|nonmonotonic:]kind[,chunk]`, as the schedule and the chunk, which is 0 where there is
+/// none (OpenMP API 5.2, section 21.2.1). The modifiers change nothing (own). None where the value
+/// is no schedule.
+pub fn schedule_of(value: &[u8]) -> Option<(Sched, i64)>
+    ensures value { result ≡ schedule_of value.now }
+    ensures range { IfSome result (λ found. IsSchedule found.0 found.1) }
+{
+    let (front, rest) = cut(value, b':');
+    match rest {
+        Some(rest) if is_modifier(front) => kind_and_chunk(rest),
+        Some(_) => None,
+        None => kind_and_chunk(front),
+    }
+}
+
+fn is_modifier(part: &[u8]) -> bool
+    ensures { result ≡ is_modifier part.now }
+{
+    is_named(part, b"monotonic") || is_named(part, b"nonmonotonic")
+}
+
+/// `kind[,chunk]`, where a chunk is 1 to 2^39 iterations.
+fn kind_and_chunk(text: &[u8]) -> Option<(Sched, i64)>
+    ensures value { result ≡ kind_and_chunk (cut 44 text.now) }
+    ensures range { IfSome result (λ found. IsSchedule found.0 found.1) }
+{
+    let (kind, chunk) = cut(text, b',');
+    match chunk {
+        Some(chunk) => match number_of(chunk, 1, MAX_CHUNK as u64) {
+            Some(number) => chosen(kind, number as i64),
+            None => None,
+        },
+        None => chosen(kind, 0),
+    }
+}
+
+/// The schedule of this kind with this chunk. `auto` leaves the choice to the runtime, which takes
+/// a static schedule without a chunk, whatever chunk is given (own).
+fn chosen(kind: &[u8], chunk: i64) -> Option<(Sched, i64)>
+    ensures value { result ≡ chosen kind.now chunk }
+    ensures range { int_lt chunk (pos 0) ≡ false → int_lt (pos max_chunk) chunk ≡ false → IfSome result (λ found. IsSchedule found.0 found.1) }
+{
+    if is_named(kind, b"static") {
+        return Some((Sched::Static, chunk));
+    }
+    if is_named(kind, b"dynamic") {
+        return Some((Sched::Dynamic, chunk));
+    }
+    if is_named(kind, b"guided") {
+        return Some((Sched::Guided, chunk));
+    }
+    if is_named(kind, b"auto") {
+        return Some((Sched::Static, 0));
+    }
+    None
+}

@@ -1,0 +1,45 @@
+-- The words `NAME=VALUE` of the command line. (own)
+use Rattle.std.specs.Prelude.{◌≡◌, ◌==◌, ⊤, ℕ, Bool, nat_lt, if◌then◌else◌, List, [], ◌∷◌, length, Option, Some, None, Result, Ok, Err}
+use Rattle.std.specs.List.{position_or_len, before_first, after_first}
+use Rattle.std.specs.Option.{option_map}
+use Rattle.gomp_types.specs.declared.refusal.Refusal.{Refusal}
+use Rattle.gomp_icv.specs.Variables.{Variables}
+use Rattle.gomp_icv.specs.EnvWords.{read_env}
+use Rattle.gomp_runner.specs.declared.settings.Unset.{Unset}
+use Rattle.gomp_runner.specs.declared.settings.Unset.TheVariants.{NoMemory, NoEquals}
+
+abbrev pub Text : Type 0
+Text = List ℕ
+
+abbrev pub is_equals : ℕ → Bool
+is_equals b = b == 61
+
+-- what stands before the first `=` of a word, and what behind it; nothing where it has none
+abbrev pub pair_of : Text → Option (Text × Text)
+pair_of word =
+    if nat_lt (position_or_len is_equals word) (length word) then Some (before_first is_equals word, after_first is_equals word)
+    else None
+
+abbrev pub with_pair : Option (Text × Text) → Option (List (Text × Text)) → Option (List (Text × Text))
+with_pair None pairs = None
+with_pair (Some pair) None = None
+with_pair (Some pair) (Some pairs) = Some (pair ∷ pairs)
+
+-- the name and the value of each word; nothing where a word has no `=`
+abbrev pub pairs_of : List Text → Option (List (Text × Text))
+pairs_of [] = Some []
+pairs_of (word ∷ words) = with_pair (pair_of word) (pairs_of words)
+
+-- the control variables that these settings give, and the words that are ignored
+abbrev pub read_settings : List Text → Option (Variables × List Refusal)
+read_settings words = option_map read_env (pairs_of words)
+
+-- words are not read as settings: memory was refused, or one has no `=`
+abbrev pub IsUnset : {Y : Type 0} → Unset → Option Y → Type 0
+IsUnset NoMemory read = ⊤
+IsUnset (NoEquals word) read = read ≡ None
+
+-- what is given, seen by `view`, is what the words say
+abbrev pub Gives : {X Y : Type 0} → (X → Y) → Option Y → Result X Unset → Type 0
+Gives view read (Ok found) = read ≡ Some (view found)
+Gives view read (Err error) = IsUnset error read

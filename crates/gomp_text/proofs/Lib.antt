@@ -1,0 +1,3 @@
+mod WordLemmas
+mod NumberLemmas
+mod BlankLemmas

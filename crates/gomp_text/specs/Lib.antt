@@ -1,0 +1,3 @@
+pub mod Words
+pub mod Numbers
+pub mod Blanks

@@ -1,0 +1,59 @@
+//! The lines and words of a text.
+
+ghost use Rattle.std.specs.Prelude.{◌≡◌, ◌<◌, ◌==◌, ◌∷◌, [], length, IfSome, MatchOption, IsTrue, ◌↔◌, option_copied};
+ghost use Rattle.std.specs.List.{slice_split};
+ghost use Rattle.gomp_text.specs.Words.{words_of, is_ascii, cut, past_spaces, parts_left, same_word};
+
+/// The bytes before the first `separator`, which is any byte, and those after it. None in the place
+/// of those where no separator stands in the text.
+pub fn cut(text: &[u8], separator: u8) -> (&[u8], Option<&[u8]>)
+    ensures before { result.0.now ≡ (cut separator text.now).0 }
+    ensures after { option_copied result.1 ≡ (cut separator text.now).1 }
+    ensures parts { slice_split (λ b. b == separator) text.now ≡ result.0.now ∷ parts_left separator (option_copied result.1) }
+    ensures shorter { IfSome result.1 (λ rest. length rest.now < length text.now) }
+{
+    match text.iter().position(|&byte| byte == separator) {
+        Some(at) => (&text[..at], Some(&text[at + 1..])),
+        None => (text, None),
+    }
+}
+
+/// The bytes from the first on that is no space.
+fn past_spaces(mut text: &[u8]) -> &[u8]
+    ensures { result.now ≡ past_spaces text.entry.now }
+{
+    while let [b' ', rest @ ..] = text {
+        text = rest;
+    }
+    text
+}
+
+/// The first word of a line, and the rest of the line after it. None where there is no word: the
+/// line is empty, or has spaces alone.
+pub fn next_word(line: &[u8]) -> Option<(&[u8], &[u8])>
+    ensures { MatchOption result (words_of line.now ≡ []) (λ found. words_of line.now ≡ found.0.now ∷ words_of found.1.now) }
+{
+    let line = past_spaces(line);
+    if line.is_empty() {
+        return None;
+    }
+    let (word, after) = cut(line, b' ');
+    match after {
+        Some(rest) => Some((word, rest)),
+        None => Some((word, b"")),
+    }
+}
+
+/// Whether all bytes are ASCII, which is 0 to 127.
+pub fn is_ascii(line: &[u8]) -> bool
+    ensures { result ≡ is_ascii line.now }
+{
+    line.iter().all(|byte| *byte < 128)
+}
+
+/// Whether a word is this one, byte for byte.
+pub fn is_word(word: &[u8], name: &[u8]) -> bool
+    ensures { result ≡ same_word word.now name.now }
+{
+    word == name
+}
