@@ -238,10 +238,6 @@ own_wait limits members step Wait waiting before is tested ready may =
     }
 own_wait limits members step (Refused refusal) waiting before is tested ready may =
     absurd (no_refusal members (is_resume step.call) step.member (meant step.call (open_call waiting)) refusal (events before) may)
-own_wait limits members step Stopped waiting before is tested ready may = record {
-  call_is = ap (λ (w : Waits). w.open_call) (waits_own step Stopped before) ∙ is;
-  tested = tested_kept limits step.member (open_call waiting) (events before) (events ((step, Stopped) ∷ before)) (record { number = refl; share = refl }) tested;
-}
 own_wait limits members step reply waiting before is tested ready may = record { call_is = ap (λ (w : Waits). w.open_call) (waits_own step reply before); tested = tt }
 
 clash_arrived : (m shares : ℕ) (kind : Option Arrival) (h : List Event) → clash_of (arrived kind m shares h) ≡ clash_of h
@@ -416,3 +412,10 @@ refused_memory terms step before found refusal first some same =
 pub memory_more : (replies : List Reply) (reply : Reply) → NoneForMemory replies → reply ≢ Refused NoMemory → NoneForMemory (replies ++ reply ∷ [])
 memory_more [] reply all one = (one, tt)
 memory_more (first ∷ replies) reply all one = (all.0, memory_more replies reply all.1 one)
+
+-- A refusal that is no mismatch
+
+pub answer_breaks : (members : ℕ) (again : Bool) (m : ℕ) (call : Call) (result : Result Reply Place) (refusal : Refusal) (h : List Event) → IsAnswer members again m call result h → reply_to result ≡ Refused refusal → refusal ≡ Mismatch
+answer_breaks members again m call (Ok (Refused other)) refusal h is same = absurd (no_refusal members again m call other h is.1)
+answer_breaks members again m call (Ok reply) refusal h is same = absurd (cc)
+answer_breaks members again m call (Err place) refusal h is same = cc

@@ -3,7 +3,7 @@ use Rattle.std.specs.Prelude.{Option, Some, None}
 use Rattle.gomp_types.specs.declared.call.Call.{Call}
 use Rattle.gomp_types.specs.declared.call.Call.TheVariants.{LoopStart, LoopNext, LoopEnd, LoopEndNowait, Barrier, RegionEnd, Resume, Stop}
 use Rattle.gomp_types.specs.declared.reply.Reply.{Reply}
-use Rattle.gomp_types.specs.declared.reply.Reply.TheVariants.{Wait, Stopped, Refused}
+use Rattle.gomp_types.specs.declared.reply.Reply.TheVariants.{Wait, Refused}
 use Rattle.gomp_types.specs.declared.event.Arrival.{Arrival}
 use Rattle.gomp_types.specs.declared.event.Arrival.TheVariants.{Barrier as BarrierArrival, ShareEnd, RegionEnd as RegionEndArrival}
 use Rattle.gomp_core.specs.declared.waiting.Waiting.{Waiting}
@@ -32,9 +32,8 @@ kept_for RegionEnd waiting = Some (Arrive RegionEndArrival)
 kept_for Resume waiting = waiting
 kept_for Stop waiting = None
 
--- what is kept after a reply to this call: a refusal and a stop leave the wait as it is, Wait opens one, every other reply closes it
+-- what is kept after a reply to this call: a refusal leaves the wait as it is, Wait opens one, every other reply closes it
 abbrev pub waiting_after : Reply → Call → Option Waiting → Option Waiting
 waiting_after Wait call waiting = kept_for call waiting
 waiting_after (Refused refusal) call waiting = waiting
-waiting_after Stopped call waiting = waiting
 waiting_after _ call waiting = None

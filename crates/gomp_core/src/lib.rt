@@ -1,6 +1,8 @@
 //! A team of OpenMP members, as one state machine that is handed their steps.
 //!
 //! [`Team::step`] answers one call of one member; [`run`] makes a team and answers a list of steps.
+//! A team is made with the control variables of its members, from which runtime loops take their
+//! schedule, and any member may stop it.
 //! A team is generic in the body of its work-shares; its parts are reached through the contracts of
 //! `gomp_share_plain`, `gomp_loops` and `gomp_barrier`, and each of them stands for all of the
 //! team's events.
@@ -8,13 +10,13 @@
 
 mod answer;
 mod arrivals;
-#[cfg(test)]
-mod schedules;
 pub mod steps;
 pub mod team;
 mod waiting;
 #[cfg(test)]
 mod worked;
+#[cfg(test)]
+mod worked_schedules;
 
 pub use steps::run;
 pub use team::Team;

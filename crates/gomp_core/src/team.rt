@@ -2,7 +2,7 @@
 
 ghost use Rattle.std.specs.Prelude.{◌≡◌, ◌≢◌, ◌<◌, ◌≤◌, ◌↔◌, ◌⊎◌, ◌∷◌, ◌++◌, [], length, IfOk, Err};
 ghost use Rattle.gomp_types.specs.declared.refusal.Refusal.{Refusal};
-ghost use Rattle.gomp_types.specs.declared.refusal.Refusal.TheVariants.{BadTeam, NoMemory};
+ghost use Rattle.gomp_types.specs.declared.refusal.Refusal.TheVariants.{BadTeam, NoMemory, Mismatch};
 ghost use Rattle.gomp_types.specs.Limits.{capped};
 ghost use Rattle.gomp_types.specs.Tests.{first_refusal};
 ghost use Rattle.gomp_types.specs.Record.{Record, events, waits_of};
@@ -124,6 +124,7 @@ impl<S: Shares> Team<S> {
         ensures icv { self.new.icv ≡ self.old.icv }
         ensures limits { self.new.limits ≡ self.old.limits }
         ensures memory { result ≢ Refused NoMemory }
+        ensures refused { (refusal : Refusal) → result ≡ Refused refusal → refusal ≢ Mismatch → self.new ≡ self.old }
         ensures answer { (before : Record) → Stands S.stands S.members self.old before → MayAnswer (terms_of self.old) before (resolved_step self.old.icv (record { member = member; call = call })) result }
         ensures stands { (before : Record) → Stands S.stands S.members self.old before → Stands S.stands S.members self.new ((resolved_step self.old.icv (record { member = member; call = call }), result) ∷ before) }
     {
@@ -137,6 +138,7 @@ impl<S: Shares> Team<S> {
         ensures icv { self.new.icv ≡ self.old.icv }
         ensures limits { self.new.limits ≡ self.old.limits }
         ensures memory { result ≢ Refused NoMemory }
+        ensures refused { (refusal : Refusal) → result ≡ Refused refusal → refusal ≢ Mismatch → self.new ≡ self.old }
         ensures answer { (before : Record) → Stands S.stands S.members self.old before → MayAnswer (terms_of self.old) before (record { member = member; call = call }) result }
         ensures stands { (before : Record) → Stands S.stands S.members self.old before → Stands S.stands S.members self.new ((record { member = member; call = call }, result) ∷ before) }
     {

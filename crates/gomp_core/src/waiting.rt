@@ -14,8 +14,8 @@ pub enum Waiting {
     Arrive(Arrival),
 }
 
-/// What a member waits for after this reply to its call: a refusal and a stop leave its wait as it is,
-/// `Wait` opens one or keeps it open, every other reply closes it.
+/// What a member waits for after this reply to its call: a refusal leaves its wait as it is, `Wait`
+/// opens one or keeps it open, every other reply closes it.
 pub fn waiting_after(reply: &Reply, call: &Call, waiting: Option<Waiting>) -> Option<Waiting>
     ensures { result ≡ waiting_after reply.now call.now waiting }
 {
@@ -29,7 +29,7 @@ pub fn waiting_after(reply: &Reply, call: &Call, waiting: Option<Waiting>) -> Op
             // These never wait.
             Call::LoopNext | Call::LoopEndNowait | Call::Stop => None,
         },
-        Reply::Refused(_) | Reply::Stopped => waiting,
+        Reply::Refused(_) => waiting,
         _ => None,
     }
 }

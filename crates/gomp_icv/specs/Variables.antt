@@ -21,7 +21,7 @@ pub record Variables : Type 0 where
   -- active-levels-var
   pub active : ℕ
 
--- the largest number that a variable may have, save a chunk (own)
+-- the largest number that a variable may have, save a chunk and the active levels (own)
 abbrev pub max_number : ℕ
 max_number = 2147483647
 

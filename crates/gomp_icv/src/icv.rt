@@ -1,6 +1,6 @@
 //! The control variables of one data environment.
 //!
-//! OpenMP API 5.2, section 2.1 (the variables) and table 2.1 (what they begin with).
+//! OpenMP API 5.2, chapter 2.
 
 ghost use Rattle.std.specs.Prelude.{◌≡◌, ◌≤◌, pos, int_lt, false};
 ghost use Rattle.gomp_types.specs.Iterations.{is_runtime, max_chunk};

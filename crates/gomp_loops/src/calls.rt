@@ -37,6 +37,9 @@ pub fn first_refusal<S: Shares>(
 /// that are its to take, the least one that nobody took. `NoChunk` where there is none; the member is in the share all the same, and may
 /// end it.
 ///
+/// The loop's schedule is the one that counts: one that is still left to the control variables
+/// counts as dynamic.
+///
 /// `Wait` where some member has not left the share eight before, and nothing is entered: the layer
 /// above calls again on `Resume`. Refused with `InsideShare`, `ZeroStep`, `BadChunk`, `LoopTooLong`,
 /// `TooManyShares`, or with `Mismatch` where the team's share of this number is of another shape.

@@ -340,8 +340,6 @@ answer_pending terms earlier step Wait may pending =
 answer_pending terms earlier step (Refused refusal) may pending =
     pending_same step.member (waits_of step.member earlier).open_call (events earlier) (events ((step, Refused refusal) ∷ earlier))
     (open_refused step.member step.member (place_of (meant step.call (waits_of step.member earlier).open_call) step.member (entered step.member (events earlier)) (events earlier)) (events earlier) refusal) pending
-answer_pending terms earlier step Stopped may pending =
-    pending_same step.member (waits_of step.member earlier).open_call (events earlier) (events ((step, Stopped) ∷ earlier)) refl pending
 answer_pending terms earlier step _ may pending = tt
 
 pub pending_holds : (terms : Terms) (run : Record) (k : ℕ) → Caused terms run → Pending k (waits_of k run).open_call (events run)

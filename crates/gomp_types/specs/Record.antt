@@ -43,10 +43,9 @@ abbrev pub meant : Call → Option Call → Call
 meant Resume (Some call) = call
 meant call waiting = call
 
--- the waits of a member after its call and reply: a refusal and a stop leave them, Wait opens one, every other reply closes it
+-- the waits of a member after its call and reply: a refusal leaves them, Wait opens one, every other reply closes it
 abbrev pub waits_after : Reply → Call → Waits → Waits
 waits_after (Refused refusal) call waits = waits
-waits_after Stopped call waits = waits
 waits_after Wait call waits = record { open_call = Some (meant call waits.open_call); beneath = waits.beneath }
 waits_after _ call waits = record { open_call = None; beneath = waits.beneath }
 

@@ -64,7 +64,7 @@ pub enum Event {
         barrier: u64,
         member: u16,
     },
-    /// The member's construct differed from the team's there, and broke the team.
+    /// The member broke the team: its construct differed from the team's there, or it stopped it.
     Break {
         member: u16,
         place: Place,

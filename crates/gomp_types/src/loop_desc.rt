@@ -2,9 +2,9 @@
 //!
 //! OpenMP API 5.2, sections 4.4 (loops and their iterations) and 11.5 (worksharing loops).
 
-ghost use Rattle.std.specs.Prelude.{◌≡◌, ◌≢◌, ◌<◌, ◌↔◌, ℕ, pos, IfOk, IsTrue, OnOk};
+ghost use Rattle.std.specs.Prelude.{◌≡◌, ◌≢◌, ◌<◌, ◌↔◌, ℕ, pos, false, IfOk, IsTrue, OnOk};
 ghost use Rattle.gomp_types.specs.Tests.{first_refusal, outcome};
-ghost use Rattle.gomp_types.specs.Iterations.{trip_count, iteration_value, lies_before_end, loop_tests};
+ghost use Rattle.gomp_types.specs.Iterations.{trip_count, iteration_value, lies_before_end, loop_tests, is_runtime, is_bad_chunk};
 ghost use Rattle.gomp_types.specs.Pieces.{kind_of, resolved, shape_of};
 ghost use Rattle.gomp_types.specs.Values.{IsShape};
 
@@ -61,7 +61,10 @@ impl LoopDesc {
     /// The control variables have a schedule of their own, never `Runtime`, and a chunk from 0 to
     /// 2^39. A loop that is refused for a chunk of its own stays as it is.
     pub fn resolved(&self, sched: Sched, chunk: i64) -> LoopDesc
-        ensures { result ≡ resolved sched chunk self.now }
+        ensures schedule { result ≡ resolved sched chunk self.now }
+
+        // A loop that is not refused for its chunk is left to nobody.
+        ensures counts { is_runtime sched ≡ false → is_bad_chunk self.now ≡ false → is_runtime result.sched ≡ false }
     {
         match self.sched {
             Sched::Runtime if self.chunk == 0 => LoopDesc {

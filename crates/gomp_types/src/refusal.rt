@@ -10,12 +10,12 @@ use crate::name::Name;
 use std::fmt;
 use thiserror::Error;
 
-/// Where the constructs of two members differ. Shares and barriers are numbered from 0.
+/// Where a team broke. Shares and barriers are numbered from 0.
 #[derive(Clone, Copy, Debug, PartialEq, Eq)]
 pub enum Place {
-    /// At the start of this work-share.
+    /// At the start of this work-share, which differs from the team's.
     Share(u64),
-    /// At the arrival at this barrier.
+    /// At the arrival at this barrier, which differs from the other members'.
     Barrier(u64),
     /// Nowhere: a member stopped the team.
     Stopped,
@@ -24,13 +24,14 @@ pub enum Place {
 /// The first cause by which a team broke.
 #[derive(Clone, Copy, Debug, PartialEq, Eq)]
 pub struct Clash {
-    /// The member whose construct differed.
+    /// The member that broke the team: its construct differed, or it stopped the team.
     pub member: u16,
-    /// Where it did.
+    /// Where it did so.
     pub place: Place,
 }
 
-/// Why a call changed nothing. Each prints as its number and name, as in `E35 Mismatch`.
+/// Why a call is not served, or a word of the environment is ignored. Each prints as its number and
+/// name, as in `E35 Mismatch`.
 #[derive(Debug, Drop, PartialEq, Eq, Error)]
 pub enum Refusal {
     /// E1: the member's number is not below the team's size.

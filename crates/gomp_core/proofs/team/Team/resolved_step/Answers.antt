@@ -5,7 +5,7 @@ use Rattle.gomp_types.specs.Tests.{first_refusal}
 use Rattle.gomp_types.specs.Record.{Record, events, waits_of}
 use Rattle.gomp_core.specs.Stands.{TeamView, Stands, terms_of}
 use Rattle.gomp_core.proofs.Rows.{alone, below}
-use Rattle.gomp_core.proofs.Stepping.{Admitted, stands_refused, answer_refused, refused_memory, answer_memory, step_ready, step_answered, stands_answered}
+use Rattle.gomp_core.proofs.Stepping.{Admitted, stands_refused, answer_refused, refused_memory, answer_memory, answer_breaks, step_ready, step_answered, stands_answered}
 use Rattle.gomp_core.proofs.team.Team.resolved_step.Given.{Over}
 use Rattle.gomp_core.proofs.team.Team.resolved_step.Goals as goal
 
@@ -70,6 +70,11 @@ pub returns-clause-memory : goal.returns-clause-memory
 returns-clause-memory g c =
     let (before, st) = c.self.invariant in
     rw c.reply_to-reply.ensures (answer_memory _ _ _ _ c.answer-outcome.result (events before) (admitted g c before st).answer)
+
+pub returns-clause-refused : goal.returns-clause-refused
+returns-clause-refused g c = λ refusal same differ.
+    let (before, st) = c.self.invariant in
+    absurd (differ (answer_breaks _ _ _ _ c.answer-outcome.result refusal (events before) (admitted g c before st).answer (sym c.reply_to-reply.ensures ∙ same)))
 
 pub invariant_of-self : goal.invariant_of-self
 invariant_of-self g c =
