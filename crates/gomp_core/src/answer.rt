@@ -106,6 +106,7 @@ fn start<S: Shares>(
     Ok(reply)
 }
 
+/// Whether a reply tells that the construct differs from the team's.
 fn is_mismatch(reply: &Reply) -> bool
     ensures { IsTrue result ↔ reply.now ≡ Refused Mismatch }
 {

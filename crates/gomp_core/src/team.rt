@@ -90,6 +90,7 @@ impl<S: Shares> Team<S> {
         }
     }
 
+    /// A new team with these limits, of a size that a team may have. The error is want of memory.
     fn make(alloc: Global, count: u16, icv: Icv, limits: Limits) -> Result<Team<S>, AllocError>
         requires size { 0 < count }
         requires capped { capped limits ≡ limits }

@@ -65,19 +65,11 @@ impl Icv {
     }
 
     /// nthreads-var: the sizes of teams, the one for the next team first.
-    pub fn nthreads(&self) -> &[u32]
+    pub fn nthreads(&self) -> &NumThreads
         ensures sizes { result.now ≡ self.now.nthreads }
         ensures range { IsNumThreads result.now }
     {
-        self.nthreads.as_slice()
-    }
-
-    /// The size that nthreads-var asks for the next team, from 1.
-    pub fn next_size(&self) -> u32
-        ensures size { result ≡ first_of self.now.nthreads }
-        ensures range { 1 ≤ result }
-    {
-        self.nthreads.first()
+        &self.nthreads
     }
 
     /// run-sched-var: the schedule of a runtime loop, which is never `Runtime`.

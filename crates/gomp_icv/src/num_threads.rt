@@ -42,6 +42,7 @@ impl NumThreads {
         NumThreads::of(&[4])
     }
 
+    /// The list of these sizes.
     fn of(sizes: &[u32]) -> NumThreads
         requires { IsNumThreads sizes.now }
         ensures { result ≡ sizes.now }

@@ -25,7 +25,7 @@ pub fn team_size(icv: &Icv, requested: Option<u32>, if_clause: bool, busy: u32) 
     }
     let wanted = match requested {
         Some(number) => number.max(1),
-        None => icv.next_size(),
+        None => icv.nthreads().first(),
     };
     let available = (icv.thread_limit() + 1).saturating_sub(busy).max(1);
     wanted.min(available).min(MAX_MEMBERS as u32)

@@ -34,7 +34,7 @@ fn nothing_set() -> Expected<'static> {
 /// That these are the variables.
 fn shows(rt: &impl Abort, icv: &Icv, expected: &Expected<'_>, word: &str) {
     assert_eq!(rt; icv.dynamic(), expected.dynamic, "{word}");
-    assert_eq!(rt; icv.nthreads(), expected.nthreads, "{word}");
+    assert_eq!(rt; icv.nthreads().as_slice(), expected.nthreads, "{word}");
     assert_eq!(rt; icv.sched(), expected.sched, "{word}");
     assert_eq!(rt; icv.chunk(), expected.chunk, "{word}");
     assert_eq!(rt;
@@ -136,11 +136,11 @@ fn members_of_a_team(rt: HostRuntime) -> Result<(), Fail> {
     let alloc = rt.alloc();
     let (icv, _) = read_env(alloc, &[("OMP_NUM_THREADS", "4,2")])?;
     let inner = child_icv(&icv, 4);
-    assert_eq!(rt; inner.nthreads(), [2].as_slice());
+    assert_eq!(rt; inner.nthreads().as_slice(), [2].as_slice());
     assert_eq!(rt; inner.active(), 1);
     assert_eq!(rt; team_size(&inner, None, true, 1), 1);
     let innermost = child_icv(&inner, 1);
-    assert_eq!(rt; innermost.nthreads(), [2].as_slice());
+    assert_eq!(rt; innermost.nthreads().as_slice(), [2].as_slice());
     assert_eq!(rt; innermost.active(), 1);
     Ok(())
 }

@@ -62,6 +62,7 @@ pub fn schedule_of(value: &[u8]) -> Option<(Sched, i64)>
     }
 }
 
+/// Whether a part of a value is a modifier of a schedule.
 fn is_modifier(part: &[u8]) -> bool
     ensures { result ≡ is_modifier part.now }
 {
