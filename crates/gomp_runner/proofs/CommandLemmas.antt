@@ -12,9 +12,11 @@ use Rattle.clap.proofs.OnLiterals.{clap_on_literals}
 use Rattle.clap.specs.declared.error.kind.ErrorKind.{ErrorKind}
 use Rattle.clap.specs.declared.error.kind.ErrorKind.TheVariants as kinds
 use Rattle.gomp_types.specs.declared.refusal.Refusal.{Refusal}
+use Rattle.gomp_types.specs.declared.refusal.Refusal.TheVariants.{BadEnv}
 use Rattle.gomp_icv.specs.Variables.{Variables}
 use Rattle.gomp_runner.specs.CommandLine.{Asks, Ends, Stepped, SteppedBy, Told, faults_of, ompteam, settings_in, settings_of}
-use Rattle.gomp_runner.specs.Settings.{read_settings}
+use Rattle.gomp_runner.specs.Examples.{with_another_command, with_settings, with_two_faults}
+use Rattle.gomp_runner.specs.Settings.{first_without, read_settings}
 use Rattle.gomp_runner.specs.declared.serve.Ending.TheVariants as ending
 use Rattle.gomp_runner.specs.declared.command.Notes.{Notes}
 use Rattle.gomp_runner.specs.declared.command.Notes.TheVariants as notes
@@ -32,18 +34,42 @@ pub steps_has_no_settings : (name : Text) → settings_of (name ∷ codes "steps
 unfolding clap_on_literals
 steps_has_no_settings name = refl
 
+-- Worked command lines
+
+pub served_has_no_fault : faults_of with_settings ≡ []
+unfolding clap_on_literals
+served_has_no_fault = refl
+
+pub served_has_settings : settings_of with_settings ≡ codes "OMP_SCHEDULE=guided,7" ∷ codes "FOO=1" ∷ []
+unfolding clap_on_literals
+served_has_settings = refl
+
+pub another_has_faults : faults_of with_another_command ≡ [] → ⊥
+unfolding clap_on_literals
+another_has_faults none = let same : (kinds.UnknownArgument ∷ kinds.InvalidSubcommand ∷ []) ≡ [] = none in absurd (cc)
+
+pub served_is_read : option_map (λ read. read.1) (read_settings (settings_of with_settings)) ≡ Some (BadEnv (codes "FOO") ∷ [])
+unfolding clap_on_literals
+served_is_read = refl
+
+pub first_of_two : first_without (settings_of with_two_faults) ≡ Some (codes "FOO")
+unfolding clap_on_literals
+first_of_two = refl
+
+-- The end after an error
+
 no_asking : (kind : ErrorKind) → kind ≡ kinds.OutOfMemory → Asks kind → ⊥
 no_asking kind memory (inl help) = absurd (cc)
 no_asking kind memory (inr version) = absurd (cc)
 
 -- after an error for want of memory, the program ends as a text does whose serving wanted memory
-stepped_memory : (read : Option (Variables × List Refusal)) (remaining before after : Option (List ℕ)) → after ≡ before → SteppedBy read remaining before after (record { code = 3; notes = notes.NoMemory })
-stepped_memory None remaining before after same = (refl, same)
-stepped_memory (Some read) remaining before after same = record { ending = ending.NoMemory; serves = same; status_is = refl }
+stepped_memory : (settings : List Text) (read : Option (Variables × List Refusal)) (remaining before after : Option (List ℕ)) → after ≡ before → SteppedBy settings read remaining before after (record { code = 3; notes = notes.NoMemory })
+stepped_memory settings None remaining before after same = (refl, same)
+stepped_memory settings (Some read) remaining before after same = record { ending = ending.NoMemory; serves = same; status_is = refl }
 
 told_memory : (kind : ErrorKind) (settings : List Text) (remaining before after : Option (List ℕ)) (notes : Notes) (code : ℕ) → kind ≡ kinds.OutOfMemory → Told kind before after notes code → Stepped settings remaining before after (record { code = code; notes = notes })
 told_memory kind settings remaining before after notes.Nothing code memory told = absurd (no_asking kind memory told.0)
-told_memory kind settings remaining before after notes.NoMemory code memory told = rw told.0 (stepped_memory (read_settings settings) remaining before after told.1)
+told_memory kind settings remaining before after notes.NoMemory code memory told = rw told.0 (stepped_memory settings (read_settings settings) remaining before after told.1)
 told_memory kind settings remaining before after (notes.Command text) code memory told = absurd (told.1 memory)
 told_memory kind settings remaining before after (notes.Ignored words) code memory told = absurd told
 told_memory kind settings remaining before after notes.InputFault code memory told = absurd told

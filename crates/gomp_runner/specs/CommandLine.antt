@@ -1,6 +1,6 @@
 -- The command line, and how the program ends. (own)
-use Rattle.std.specs.Prelude.{◌≡◌, ◌≢◌, ◌⊎◌, ℕ, true, List, [], ◌∷◌, Option, Some, None, codes, find}
-use Rattle.std.specs.Option.{option_map_or}
+use Rattle.std.specs.Prelude.{◌≡◌, ◌≢◌, ◌⊎◌, ℕ, true, List, [], ◌∷◌, ◌++◌, Option, Some, None, codes, find, flat_map, string_bytes}
+use Rattle.std.specs.Option.{option_map, option_map_or}
 use Rattle.std.specs.Str.{bytes_eq}
 use Rattle.std.specs.Io.KnownBytes.{Appends}
 use Rattle.clap.specs.Lexer.{usize_max}
@@ -8,9 +8,10 @@ use Rattle.clap.specs.Words.{App, Kinds, IsAmong, Row, Rule, Text, fault_of, new
 use Rattle.clap.specs.declared.error.kind.ErrorKind.{ErrorKind}
 use Rattle.clap.specs.declared.error.kind.ErrorKind.TheVariants as kinds
 use Rattle.gomp_types.specs.declared.refusal.Refusal.{Refusal}
+use Rattle.gomp_types.specs.declared.refusal.Refusal.TheVariants.{BadEnv}
 use Rattle.gomp_icv.specs.Variables.{Variables}
 use Rattle.gomp_runner.specs.Serving.{Serves}
-use Rattle.gomp_runner.specs.Settings.{read_settings}
+use Rattle.gomp_runner.specs.Settings.{first_without, read_settings}
 use Rattle.gomp_runner.specs.declared.serve.Ending.{Ending}
 use Rattle.gomp_runner.specs.declared.serve.Ending.TheVariants as ending
 use Rattle.gomp_runner.specs.declared.command.Notes.{Notes}
@@ -54,6 +55,24 @@ abbrev pub Names : List Refusal → Notes → Type 0
 Names ignored (notes.Ignored words) = words.items ≡ ignored
 Names ignored _ = ⊥
 
+-- the line that names an ignored word; nothing for another refusal, which is never among the ignored words
+abbrev pub ignored_line : Refusal → List ℕ
+ignored_line (BadEnv name) = codes "ignored " ++ (name ++ codes "\n")
+ignored_line _ = []
+
+-- the lines that name ignored words, in their order
+abbrev pub lines_of : List Refusal → List ℕ
+lines_of words = flat_map ignored_line words
+
+-- what standard error gets: nothing, one line, or one line for each ignored word, in order
+abbrev pub notes_text : Notes → List ℕ
+notes_text notes.Nothing = []
+notes_text notes.NoMemory = codes "no memory\n"
+notes_text (notes.Command text) = string_bytes text
+notes_text (notes.Ignored words) = lines_of words.items
+notes_text notes.InputFault = codes "input fault\n"
+notes_text notes.OutputFault = codes "output fault\n"
+
 -- the status in which a text of steps ends that was served so, where these words were ignored: they are named beside whatever was answered
 abbrev pub IsStatus : Ending → List Refusal → Status → Type 0
 IsStatus (ending.Answered code) [] status = status ≡ record { code = code; notes = notes.Nothing }
@@ -68,20 +87,24 @@ pub record ServedBy (icv : Variables) (ignored : List Refusal) (remaining before
   pub serves : Serves icv remaining before after ending
   pub status_is : IsStatus ending ignored status
 
--- a fault of the command line is noted, or want of memory
-abbrev pub IsFault : Notes → ℕ → Type 0
-IsFault (notes.Command text) code = code ≡ 1
-IsFault notes.NoMemory code = code ≡ 3
-IsFault _ code = ⊥
+-- what is told of a word that has no `=`
+abbrev pub no_equals_text : Text → List ℕ
+no_equals_text word = codes "error: the word '" ++ (word ++ codes "' is not NAME=VALUE\n")
 
--- the program ends so where the settings were read as these variables and ignored words, or a word of them has no `=`
-abbrev pub SteppedBy : Option (Variables × List Refusal) → Option (List ℕ) → Option (List ℕ) → Option (List ℕ) → Status → Type 0
-SteppedBy None remaining before after status = IsFault status.notes status.code × (after ≡ before)
-SteppedBy (Some read) remaining before after status = ServedBy read.0 read.1 remaining before after status
+-- it is noted that this word has no `=`, or want of memory is
+abbrev pub IsFault : Option Text → Notes → ℕ → Type 0
+IsFault word (notes.Command text) code = (Some (string_bytes text) ≡ option_map no_equals_text word) × (code ≡ 1)
+IsFault word notes.NoMemory code = code ≡ 3
+IsFault word _ code = ⊥
+
+-- the program ends so where these settings were read as these variables and ignored words, or a word of them has no `=`: the first of those is named
+abbrev pub SteppedBy : List Text → Option (Variables × List Refusal) → Option (List ℕ) → Option (List ℕ) → Option (List ℕ) → Status → Type 0
+SteppedBy settings None remaining before after status = IsFault (first_without settings) status.notes status.code × (after ≡ before)
+SteppedBy settings (Some read) remaining before after status = ServedBy read.0 read.1 remaining before after status
 
 -- how the program ends on the word `steps` and these settings
 abbrev pub Stepped : List Text → Option (List ℕ) → Option (List ℕ) → Option (List ℕ) → Status → Type 0
-Stepped settings remaining before after status = SteppedBy (read_settings settings) remaining before after status
+Stepped settings remaining before after status = SteppedBy settings (read_settings settings) remaining before after status
 
 -- an error of this kind asks for help or for the version
 abbrev pub Asks : ErrorKind → Type 0

@@ -1,4 +1,5 @@
 pub mod Answers
 pub mod CommandLine
+pub mod Examples
 pub mod Serving
 pub mod Settings

@@ -1,5 +1,5 @@
 -- The words `NAME=VALUE` of the command line. (own)
-use Rattle.std.specs.Prelude.{◌≡◌, ◌==◌, ⊤, ℕ, Bool, nat_lt, if◌then◌else◌, List, [], ◌∷◌, length, Option, Some, None, Result, Ok, Err}
+use Rattle.std.specs.Prelude.{◌≡◌, ◌==◌, ⊤, ℕ, Bool, nat_lt, not, if◌then◌else◌, List, [], ◌∷◌, length, Option, Some, None, Result, Ok, Err, find}
 use Rattle.std.specs.List.{position_or_len, before_first, after_first}
 use Rattle.std.specs.Option.{option_map}
 use Rattle.gomp_types.specs.declared.refusal.Refusal.{Refusal}
@@ -14,10 +14,18 @@ Text = List ℕ
 abbrev pub is_equals : ℕ → Bool
 is_equals b = b == 61
 
+-- whether a word has an `=`
+abbrev pub has_equals : Text → Bool
+has_equals word = nat_lt (position_or_len is_equals word) (length word)
+
+-- the first word that has no `=`; nothing where each has one
+abbrev pub first_without : List Text → Option Text
+first_without words = find (λ word. not (has_equals word)) words
+
 -- what stands before the first `=` of a word, and what behind it; nothing where it has none
 abbrev pub pair_of : Text → Option (Text × Text)
 pair_of word =
-    if nat_lt (position_or_len is_equals word) (length word) then Some (before_first is_equals word, after_first is_equals word)
+    if has_equals word then Some (before_first is_equals word, after_first is_equals word)
     else None
 
 abbrev pub with_pair : Option (Text × Text) → Option (List (Text × Text)) → Option (List (Text × Text))
@@ -34,12 +42,12 @@ pairs_of (word ∷ words) = with_pair (pair_of word) (pairs_of words)
 abbrev pub read_settings : List Text → Option (Variables × List Refusal)
 read_settings words = option_map read_env (pairs_of words)
 
--- words are not read as settings: memory was refused, or one has no `=`
-abbrev pub IsUnset : {Y : Type 0} → Unset → Option Y → Type 0
-IsUnset NoMemory read = ⊤
-IsUnset (NoEquals word) read = read ≡ None
+-- words are not read as settings: memory was refused, or this is the first that has no `=`
+abbrev pub IsUnset : {Y : Type 0} → (List Text → Option Y) → List Text → Unset → Type 0
+IsUnset read words NoMemory = ⊤
+IsUnset read words (NoEquals word) = (first_without words ≡ Some word.now) × (read words ≡ None)
 
--- what is given, seen by `view`, is what the words say
-abbrev pub Gives : {X Y : Type 0} → (X → Y) → Option Y → Result X Unset → Type 0
-Gives view read (Ok found) = read ≡ Some (view found)
-Gives view read (Err error) = IsUnset error read
+-- what is given, seen by `view`, is what is read of the words
+abbrev pub Gives : {X Y : Type 0} → (X → Y) → (List Text → Option Y) → List Text → Result X Unset → Type 0
+Gives view read words (Ok found) = read words ≡ Some (view found)
+Gives view read words (Err error) = IsUnset read words error

@@ -1,6 +1,6 @@
 //! The command line, and how the program ends.
 
-ghost use Rattle.std.specs.Prelude.{◌≡◌, ℕ, false, List, [], ◌∷◌, IfOk, map, codes};
+ghost use Rattle.std.specs.Prelude.{◌≡◌, ℕ, false, Some, List, [], ◌∷◌, IfOk, map, codes};
 ghost use Rattle.std.specs.Option.{option_map_or};
 ghost use Rattle.clap.specs.Words.{FailsBy, app_of, kind_of, rule_of, subcommand_rows_of};
 ghost use Rattle.gomp_runner.specs.CommandLine.{Ends, Stepped, Told, IsStatus, IsFault, faults_of, settings_of, settings_in, settings_rule, ompteam};
@@ -41,6 +41,11 @@ pub struct Status {
 }
 
 /// Does what the words of the command line say, of which the first is the program's name.
+///
+/// The words behind `steps` are settings `NAME=VALUE`, which stand for words of the environment
+/// (OpenMP API 5.2, chapter 21). One without `=` is a fault, and nothing is read or written then. Those
+/// that set nothing are ignored, and in the notes where the text was answered. [`Status`] says which
+/// status each end has.
 pub fn serve<S: AsStr, R: Read + Drop, W: Write>(
     alloc: Global,
     words: &[S],
@@ -77,7 +82,7 @@ fn steps<R: Read + Drop, W: Write>(
 
 /// The end where this word has no `=`.
 fn no_equals(alloc: Global, word: &str) -> Status
-    ensures { IsFault result.notes result.code }
+    ensures { IsFault (Some word.now) result.notes result.code }
 {
     match format!(in alloc; "error: the word '{word}' is not NAME=VALUE\n") {
         Ok(text) => Status {

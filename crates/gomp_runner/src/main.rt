@@ -1,12 +1,14 @@
 //! `ompteam`: reads a text of steps of an OpenMP team, and prints the reply to each.
 //!
 //! [`command::serve`] does everything: it reads the command line, reads the text, runs it and writes
-//! the replies. `main` only hands it the process's words, input and output, prints what is noted
-//! beside the output and ends with the status.
+//! the replies. `main` only hands it the process's words, input and output, writes what is noted
+//! beside the output to standard error by [`notes::write_notes`], and ends with the status.
 #![tactic(auto)]
 
 mod answer;
 mod command;
+mod examples;
+mod notes;
 mod serve;
 mod settings;
 #[cfg(test)]
@@ -14,8 +16,8 @@ mod worked;
 #[cfg(test)]
 mod worked_settings;
 
-use command::{Notes, Status, serve, without_words};
-use gomp_types::Refusal;
+use command::{serve, without_words};
+use notes::write_notes;
 use std::io;
 use std::process::ExitCode;
 
@@ -29,25 +31,8 @@ fn main(rt: HostRuntime) -> io::Result<ExitCode> {
         ),
         Err(error) => without_words(rt.alloc(), &error),
     };
-    match &status.notes {
-        Notes::Nothing => {}
-        Notes::NoMemory => eprintln!(rt; "no memory")?,
-        Notes::Command(text) => eprint!(rt; "{text}")?,
-        Notes::Ignored(words) => name_ignored(&rt, words)?,
-        Notes::InputFault => eprintln!(rt; "input fault")?,
-        Notes::OutputFault => eprintln!(rt; "output fault")?,
-    }
+    write_notes(&status.notes, &mut rt.stderr())?;
     Ok(ExitCode::from(status.code))
-}
-
-/// Names each word of the environment that was ignored.
-fn name_ignored(rt: &HostRuntime, words: &[Refusal]) -> io::Result<()> {
-    for word in words {
-        if let Refusal::BadEnv(name) = word {
-            eprintln!(rt; "ignored {name}")?;
-        }
-    }
-    Ok(())
 }
 
 /// The words of the command line, the program's name first.

@@ -1,4 +1,5 @@
-//! The words `NAME=VALUE` of the command line, which stand for those of the environment.
+//! The words `NAME=VALUE` of the command line, which stand for those of the environment (OpenMP API
+//! 5.2, chapter 21).
 
 ghost use Rattle.std.specs.Prelude.{◌≡◌, map};
 ghost use Rattle.std.specs.Option.{option_map};
@@ -39,7 +40,7 @@ impl<T: Drop> From<AllocFailed<T>> for Unset<'_> {
 
 /// The control variables that these words give, and a refusal for each word that is ignored.
 pub fn read_settings<'a>(alloc: Global, words: &[&'a str]) -> Result<(Icv, Vec<Refusal>), Unset<'a>>
-    ensures { Gives (λ read. (read.0, read.1.items)) (read_settings (map (λ word. word.now) words.now)) result }
+    ensures { Gives (λ read. (read.0, read.1.items)) read_settings (map (λ word. word.now) words.now) result }
 {
     let pairs = split_all(alloc, words)?;
     let (icv, ignored) = read_env(alloc, pairs.as_slice())?;
@@ -48,7 +49,7 @@ pub fn read_settings<'a>(alloc: Global, words: &[&'a str]) -> Result<(Icv, Vec<R
 
 /// The name and the value of each word, cut at its first `=`.
 fn split_all<'a>(alloc: Global, words: &[&'a str]) -> Result<Vec<(&'a str, &'a str)>, Unset<'a>>
-    ensures { Gives (λ pairs. map (λ pair. (pair.0.now, pair.1.now)) pairs.items) (pairs_of (map (λ word. word.now) words.now)) result }
+    ensures { Gives (λ pairs. map (λ pair. (pair.0.now, pair.1.now)) pairs.items) pairs_of (map (λ word. word.now) words.now) result }
 {
     let mut pairs = Vec::new(alloc);
     for word in words {

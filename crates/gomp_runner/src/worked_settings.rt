@@ -1,6 +1,7 @@
 //! Words `NAME=VALUE` on the command line, what the program makes of them, and a team that is stopped.
 
 use crate::command::{Notes, Status, serve};
+use crate::notes::write_notes;
 use gomp_types::Refusal;
 use std::alloc::Global;
 use std::io::{self, ErrorKind, Read};
@@ -143,6 +144,37 @@ fn a_value_begins_behind_the_first_equals_sign(rt: HostRuntime) -> Result<(), Fa
         &status.notes,
         &["OMP_SCHEDULE", "OMP_SCHEDULE", "OMP_SCHEDULE "],
     );
+    Ok(())
+}
+
+/// That these notes write this text.
+fn writes(rt: &impl Abort, alloc: Global, notes: &Notes, text: &str) -> Result<(), Fail> {
+    let mut written = Vec::new(alloc);
+    write_notes(notes, &mut written)?;
+    assert_eq!(rt; str::from_utf8(written.as_slice()), Ok(text));
+    Ok(())
+}
+
+#[test]
+fn notes_are_written_as_lines(rt: HostRuntime) -> Result<(), Fail> {
+    let words = ["ompteam", "steps", "FOO=1", "omp_dynamic=true"];
+    let status = served(&rt, rt.alloc(), &words, "team 1\n0 barrier\n", "passed\n")?;
+    let lines = "ignored FOO\nignored omp_dynamic\n";
+    writes(&rt, rt.alloc(), &status.notes, lines)?;
+    let told = String::from_str(rt.alloc(), "error: the word 'FOO' is not NAME=VALUE\n")?;
+    let rows = [
+        (Notes::Nothing, ""),
+        (Notes::NoMemory, "no memory\n"),
+        (
+            Notes::Command(told),
+            "error: the word 'FOO' is not NAME=VALUE\n",
+        ),
+        (Notes::InputFault, "input fault\n"),
+        (Notes::OutputFault, "output fault\n"),
+    ];
+    for (notes, text) in rows {
+        writes(&rt, rt.alloc(), &notes, text)?;
+    }
     Ok(())
 }
 
