@@ -6,7 +6,7 @@ use Rattle.std.proofs.lemmas.List.{length-set, get_or-replicate, length-replicat
 use Rattle.std.proofs.lemmas.Option.{slice_get-get_or, slice_get_within, get_or_from_slice_get}
 use Rattle.gomp_types.specs.declared.event.Tag.{Tag}
 use Rattle.gomp_types.specs.declared.event.Event.{Event}
-use Rattle.gomp_types.specs.declared.event.Event.TheVariants.{Enter, Take, Drained, End, Arrive, Pass, Break}
+use Rattle.gomp_types.specs.declared.event.Event.TheVariants.{Arrive, Pass}
 use Rattle.gomp_types.specs.Events.{passed, arrival, tag_at, has_left_region, was_region_end, is_region_end, barrier_met}
 use Rattle.gomp_types.specs.Record.{shown}
 use Rattle.gomp_types.specs.Refusals.{tag_differs}
@@ -48,12 +48,9 @@ look_is seats front m seat h st at =
 -- Aside
 
 aside_place : (front : Front) (least m : ℕ) (seat : Seat) (event : Event) (h : List Event) → IsAside event → SeatStands front least m seat h → SeatStands front least m seat (event ∷ h)
-aside_place front least m seat (Enter share k shape) h is p = record { passed_is = p.passed_is; here = p.here; behind = p.behind; beyond = p.beyond; left_is = p.left_is }
-aside_place front least m seat (Take share k low high) h is p = record { passed_is = p.passed_is; here = p.here; behind = p.behind; beyond = p.beyond; left_is = p.left_is }
-aside_place front least m seat (Drained share k) h is p = record { passed_is = p.passed_is; here = p.here; behind = p.behind; beyond = p.beyond; left_is = p.left_is }
-aside_place front least m seat (End share k) h is p = record { passed_is = p.passed_is; here = p.here; behind = p.behind; beyond = p.beyond; left_is = p.left_is }
-aside_place front least m seat (Break k where') h is p = record { passed_is = p.passed_is; here = p.here; behind = p.behind; beyond = p.beyond; left_is = p.left_is }
-aside_place front least m seat _ h is p = absurd is
+aside_place front least m seat (Arrive barrier k tag) h is p = absurd is
+aside_place front least m seat (Pass barrier k) h is p = absurd is
+aside_place front least m seat _ h is p = record { passed_is = p.passed_is; here = p.here; behind = p.behind; beyond = p.beyond; left_is = p.left_is }
 
 aside_tag : (event : Event) (h : List Event) → IsAside event → (g : ℕ) → tag_at g (event ∷ h) ≡ tag_at g h
 aside_tag (Arrive barrier k tag) h is g = absurd is

@@ -1,7 +1,7 @@
 //! Pieces asked for one after another.
 
 ghost use Rattle.std.specs.Prelude.{◌≡◌, ◌<◌, ◌≤◌, IfSome, slice_get};
-ghost use Rattle.gomp_chunks.specs.Plans.{next_piece, pieces};
+ghost use Rattle.gomp_chunks.specs.Plans.{next_piece, piece_at, pieces};
 
 use crate::Plan;
 use crate::guided::{Spot, forward};
@@ -55,6 +55,14 @@ impl Cursor {
         self.plan.piece_from(self.spot, j)
     }
 
+    /// What [`Plan::next_number`] gives.
+    pub fn next_number(&self, member: u16, own: u64, all: u64) -> Option<u64>
+        requires { member < self.now.plan.members }
+        ensures { next_piece self.now.plan member own all ≡ piece_at self.now.plan result }
+    {
+        self.plan.next_number(member, own, all)
+    }
+
     /// The piece that a member takes next, where it took `own` pieces and all members together took
     /// `all`: of a static loop its own next one, of others the next one of all.
     pub fn next_piece(&mut self, member: u16, own: u64, all: u64) -> Option<(u64, u64)>
@@ -63,7 +71,7 @@ impl Cursor {
         ensures piece { result ≡ next_piece self.old.plan member own all }
         ensures within { IfSome result (λ piece. (piece.0 < piece.1) × (piece.1 ≤ self.old.plan.shape.trips)) }
     {
-        let number = self.plan.next_number(member, own, all)?;
+        let number = self.next_number(member, own, all)?;
         self.advance_to(number)
     }
 }

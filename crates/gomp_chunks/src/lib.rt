@@ -2,13 +2,16 @@
 //!
 //! No list of pieces is kept and no memory is taken: a piece follows from the number of
 //! iterations, the chunk, the kind of the share and the team's size (OpenMP API 5.2, section
-//! 11.5.3).
+//! 11.5.3). Each section of a sections construct is a piece, and a `single` is one whole (sections
+//! 11.3 and 11.1).
 #![tactic(auto)]
 
 mod chunked;
 pub mod cursor;
 mod even;
 mod guided;
+mod sections;
+mod single;
 
 ghost use Rattle.std.specs.Prelude.{◌≡◌, ◌<◌, ◌≤◌, ◌^◌, ◌⊎◌, length, slice_get, IfSome, OnSome};
 ghost use Rattle.gomp_types.specs.declared.shape.ShareKind.TheVariants.{Guided};
@@ -24,6 +27,8 @@ use gomp_types::laws::pieces_tile;
 use gomp_types::{Shape, ShareKind};
 pub use guided::Spot;
 use guided::{forward, guided_count, guided_piece};
+use sections::{section_count, section_piece};
+use single::{whole_count, whole_piece};
 use std::marker::Model;
 
 /// The pieces of one work-share in the order of their iterations.
@@ -68,7 +73,7 @@ impl Plan {
         }
     }
 
-    /// How many pieces there are, 0 to 2^39; none where the loop has no iterations. Those of a guided
+    /// How many pieces there are, 0 to 2^39; none where the share has no iterations. Those of a guided
     /// loop are counted anew at each call.
     pub fn chunks(&self) -> u64
         ensures count { result ≡ length (pieces self.now) }
@@ -76,6 +81,8 @@ impl Plan {
     {
         match self.shape.kind {
             ShareKind::StaticChunked | ShareKind::Dynamic => chunked_count(&self.shape),
+            ShareKind::Sections => section_count(&self.shape),
+            ShareKind::Single | ShareKind::SingleCopy => whole_count(&self.shape),
             ShareKind::StaticEven => even_count(&self.shape, self.members),
             ShareKind::Guided => guided_count(&self.shape, self.members),
         }
@@ -107,7 +114,7 @@ impl Plan {
         match self.shape.kind {
             ShareKind::StaticChunked => Some((j % members as u64) as u16),
             ShareKind::StaticEven => Some(even_owner(members, j)),
-            ShareKind::Dynamic | ShareKind::Guided => None,
+            _ => None,
         }
     }
 
@@ -123,7 +130,7 @@ impl Plan {
             ShareKind::StaticChunked => Some(own * self.members as u64 + member as u64),
             ShareKind::StaticEven if own > 0 => None,
             ShareKind::StaticEven => Some(member as u64),
-            ShareKind::Dynamic | ShareKind::Guided => Some(all),
+            _ => Some(all),
         }
     }
 
@@ -152,6 +159,8 @@ impl Plan {
     {
         match self.shape.kind {
             ShareKind::StaticChunked | ShareKind::Dynamic => chunked_piece(&self.shape, j),
+            ShareKind::Sections => section_piece(&self.shape, j),
+            ShareKind::Single | ShareKind::SingleCopy => whole_piece(&self.shape, j),
             ShareKind::StaticEven => even_piece(&self.shape, self.members, j),
             ShareKind::Guided => guided_piece(&self.shape, self.members, spot, j),
         }

@@ -1,9 +1,9 @@
-//! The pieces of loops of each kind, at their ends and at the limits.
+//! The pieces of shares of each kind, at their ends and at the limits.
 
 ghost use Rattle.std.specs.Prelude.{◌≡◌, IfOk};
 
 use crate::{Cursor, Plan};
-use gomp_types::{EndKind, LoopDesc, Refusal, Sched};
+use gomp_types::{EndKind, LoopDesc, Refusal, Sched, sections_shape, single_shape};
 use std::process::Abort;
 use std::test::Fail;
 
@@ -23,6 +23,7 @@ fn plan(sched: Sched, trips: i64, chunk: i64, members: u16) -> Result<Plan, Refu
         incr: 1,
         sched,
         chunk,
+        ordered: false,
         end_kind: EndKind::Wait,
     };
     plan_of(&desc, members)
@@ -35,6 +36,16 @@ fn plan_of(desc: &LoopDesc, members: u16) -> Result<Plan, Refusal>
         return Err(Refusal::BadTeam);
     }
     Ok(Plan::of(&desc.shape()?, members))
+}
+
+/// The plan of a construct of so many sections.
+fn plan_of_sections(count: u32, members: u16) -> Result<Plan, Refusal>
+    ensures { IfOk result (λ plan. plan.members ≡ members) }
+{
+    if members == 0 {
+        return Err(Refusal::BadTeam);
+    }
+    Ok(Plan::of(&sections_shape(count, EndKind::Wait)?, members))
 }
 
 #[test]
@@ -109,6 +120,53 @@ fn answers_each_piece(rt: HostRuntime) -> Result<(), Fail> {
             piece,
             "piece {j} of {trips} iterations, chunk {chunk}"
         );
+    }
+    Ok(())
+}
+
+#[test]
+fn gives_each_section(rt: HostRuntime) -> Result<(), Fail> {
+    // How many sections; a number, and the piece that has it.
+    let table = [
+        (5, 0, Some((0, 1))),
+        (5, 1, Some((1, 2))),
+        (5, 2, Some((2, 3))),
+        (5, 3, Some((3, 4))),
+        (5, 4, Some((4, 5))),
+        (5, 5, None),
+        (5, u64::MAX, None),
+        (1, 0, Some((0, 1))),
+        (1, 1, None),
+        (0, 0, None),
+        (65_536, 65_535, Some((65_535, 65_536))),
+        (65_536, 65_536, None),
+    ];
+    for (count, j, piece) in table {
+        let plan = plan_of_sections(count, 2)?;
+        assert_eq!(rt; plan.chunks(), count as u64, "{count} sections");
+        assert_eq!(rt; plan.chunk(j), piece, "piece {j} of {count} sections");
+        assert_eq!(rt; plan.owner(j), None, "piece {j} of {count} sections");
+        assert_eq!(rt;
+            plan.next_number(1, 0, j),
+            Some(j),
+            "after {j} of {count} sections"
+        );
+        follows(&rt, plan, &[0, 1, 2, 3, 4, 5, 2, 0, u64::MAX, 1]);
+    }
+    Ok(())
+}
+
+#[test]
+fn gives_a_single_once(rt: HostRuntime) -> Result<(), Fail> {
+    for copies in [false, true] {
+        let plan = Plan::of(&single_shape(copies), 4);
+        assert_eq!(rt; plan.chunks(), 1);
+        for (j, piece) in [(0, Some((0, 1))), (1, None), (2, None), (u64::MAX, None)] {
+            assert_eq!(rt; plan.chunk(j), piece, "piece {j}");
+            assert_eq!(rt; plan.owner(j), None, "piece {j}");
+            assert_eq!(rt; plan.next_number(3, 0, j), Some(j), "after {j}");
+        }
+        follows(&rt, plan, &[0, 1, 0, u64::MAX]);
     }
     Ok(())
 }

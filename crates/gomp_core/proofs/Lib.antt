@@ -1,4 +1,6 @@
+mod Kept
+mod Words
 mod Parts
-mod Answered
 mod Rows
+mod Answered
 mod Stepping

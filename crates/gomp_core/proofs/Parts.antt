@@ -1,103 +1,126 @@
 -- What a call and its reply add, seen by the part of the team that they do not concern.
-use Rattle.std.proofs.Common.{◌≡◌, ℕ, Bool, true, false, List, ◌∷◌, Option, Some, None}
-use Rattle.std.specs.Prelude.{ℤ}
+use Rattle.std.proofs.Common.{◌≡◌, ℕ, Bool, true, false, List, ◌∷◌, None, refl}
 use Rattle.gomp_types.specs.declared.call.Call.{Call}
-use Rattle.gomp_types.specs.declared.call.Call.TheVariants.{LoopStart, LoopNext, LoopEnd, LoopEndNowait, Barrier, RegionEnd, Resume, Stop}
 use Rattle.gomp_types.specs.declared.reply.Reply.{Reply}
-use Rattle.gomp_types.specs.declared.reply.Reply.TheVariants.{Chunk, NoChunk, Finished, Passed, Wait, Stopped, Refused}
-use Rattle.gomp_types.specs.declared.refusal.Refusal.{Refusal}
-use Rattle.gomp_types.specs.declared.refusal.Refusal.TheVariants.{Mismatch}
-use Rattle.gomp_types.specs.declared.refusal.Place.{Place}
-use Rattle.gomp_types.specs.declared.shape.Shape.{Shape}
-use Rattle.gomp_types.specs.declared.event.Arrival.{Arrival}
-use Rattle.gomp_types.specs.declared.event.Arrival.TheVariants.{Barrier as BarrierArrival, ShareEnd, RegionEnd as RegionEndArrival}
+use Rattle.gomp_types.specs.declared.reply.Reply.TheVariants.{Passed, Wait}
 use Rattle.gomp_types.specs.declared.event.Event.{Event}
-use Rattle.gomp_types.specs.declared.event.Event.TheVariants.{End}
+use Rattle.gomp_types.specs.declared.event.Event.TheVariants.{End, Put, Arrive, Pass, Break}
 use Rattle.gomp_types.specs.declared.event.Tag.{Tag}
-use Rattle.gomp_types.specs.Events.{open_share, open_number}
-use Rattle.gomp_types.specs.Record.{added, begun, since_begun, piece_taken, refusal_added, share_left, ends_share, arrival_kind, place_of, tag_with}
+use Rattle.gomp_types.specs.Events.{open_number}
+use Rattle.gomp_types.specs.Record.{added, begun, share_left, ends_share, arrival_kind, tag_with}
 use Rattle.gomp_types.specs.Replies.{Awaits}
 use Rattle.gomp_share_plain.specs.Calls.{IsAside as SharesAside}
 use Rattle.gomp_barrier.specs.Calls.{IsAside as BarriersAside, arrived_after}
-use Rattle.gomp_core.specs.Waits.{arriving}
-use Rattle.gomp_core.specs.Answers.{passed_after}
+use Rattle.gomp_core.specs.declared.waiting.Starting.{Starting}
+use Rattle.gomp_core.specs.declared.waiting.Starting.TheVariants.{Loop, Sections, Single, SingleCopy}
+use Rattle.gomp_core.specs.declared.waiting.Turning.{Turning}
+use Rattle.gomp_core.specs.declared.waiting.Turning.TheVariants.{Next, Part}
+use Rattle.gomp_core.specs.declared.waiting.Arriving.{Arriving}
+use Rattle.gomp_core.specs.declared.waiting.Arriving.TheVariants.{LoopEnd as AtLoopEnd, SectionsEnd as AtSectionsEnd, Barrier as AtBarrier, RegionEnd as AtRegionEnd}
+use Rattle.gomp_core.specs.Waits.{starting, turning, arriving, arrival_of}
+use Rattle.gomp_core.specs.Answers.{passed_after, is_at_once}
+use Rattle.gomp_types.specs.declared.call.Call.TheVariants.{LoopEnd, SectionsEnd, Barrier, RegionEnd}
+use Rattle.gomp_core.proofs.Kept.{IsOwn, puts_words, added_kept}
 
--- The barriers do not see what a loop call adds
+abbrev pub KeepsAside : (Event → Type 0) → (List Event → Type 0) → Type 0
+KeepsAside IsAside P = (h : List Event) (event : Event) → IsAside event → P h → P (event ∷ h)
 
-abbrev pub Keeps : (Event → Type 0) → (List Event → Type 0) → Type 0
-Keeps IsAside P = (h : List Event) (event : Event) → IsAside event → P h → P (event ∷ h)
+-- The barriers do not see what a call adds that does not arrive
 
-piece_kept : (P : List Event → Type 0) → Keeps BarriersAside P → (m : ℕ) (own : Option (ℕ × Shape)) (first : ℤ) (count : ℕ) (h : List Event) → P h → P (piece_taken own m first count h)
-piece_kept P keeps m None first count h p = p
-piece_kept P keeps m (Some share) first count h p = keeps _ _ tt p
+own_aside : (m : ℕ) (event : Event) → IsOwn m event → BarriersAside event
+own_aside m (Arrive barrier n tag) own = own
+own_aside m (Pass barrier n) own = own
+own_aside m _ own = tt
 
-pub refusal_kept : (P : List Event → Type 0) → ((h : List Event) (m : ℕ) (place : Place) → P h → P (refusal_added Mismatch m place h)) → (m : ℕ) (place : Place) (refusal : Refusal) (h : List Event) → P h → P (refusal_added refusal m place h)
-refusal_kept P keeps m place Mismatch h p = keeps h m place p
-refusal_kept P keeps m place _ h p = p
+pub aloof_kept : (P : List Event → Type 0) → KeepsAside BarriersAside P → (again : Bool) (m shares : ℕ) (reply : Reply) (call : Call) (h : List Event) → arrival_kind call ≡ None → P h → P (added again m shares reply call h)
+aloof_kept P keeps again m shares reply call h aloof p =
+    added_kept P again m shares reply call h (record {
+      own = λ h event own p. keeps h event (own_aside m event own) p;
+      put = λ some h share words p. keeps h (Put share m words) tt p;
+      arrive = λ some. absurd (some aloof);
+      pass = λ some. absurd (some aloof);
+      break = λ is h place p. keeps h (Break m place) tt p;
+    }) p
 
-since_kept : (P : List Event → Type 0) → Keeps BarriersAside P → (again : Bool) (m shares : ℕ) (call : Call) (h : List Event) → arrival_kind call ≡ None → P h → P (since_begun again m shares call h)
-since_kept P keeps true m shares call h aloof p = p
-since_kept P keeps false m shares (LoopStart loop) h aloof p = p
-since_kept P keeps false m shares LoopNext h aloof p = p
-since_kept P keeps false m shares LoopEnd h aloof p = absurd (cc)
-since_kept P keeps false m shares LoopEndNowait h aloof p = keeps _ _ tt p
-since_kept P keeps false m shares Barrier h aloof p = absurd (cc)
-since_kept P keeps false m shares RegionEnd h aloof p = absurd (cc)
-since_kept P keeps false m shares Resume h aloof p = p
-since_kept P keeps false m shares Stop h aloof p = p
+pub start_aloof : (what : Starting) → arrival_kind (starting what) ≡ None
+start_aloof (Loop loop) = refl
+start_aloof (Sections count end_kind) = refl
+start_aloof Single = refl
+start_aloof SingleCopy = refl
 
-pub loop_kept : (P : List Event → Type 0) → Keeps BarriersAside P → (again : Bool) (m shares : ℕ) (reply : Reply) (call : Call) (h : List Event) → arrival_kind call ≡ None → P h → P (added again m shares reply call h)
-loop_kept P keeps again m shares (Chunk first count) (LoopStart loop) h aloof p = keeps _ _ tt (keeps _ _ tt p)
-loop_kept P keeps again m shares (Chunk first count) LoopNext h aloof p = piece_kept P keeps m (open_share m h) first count h p
-loop_kept P keeps again m shares (Chunk first count) _ h aloof p = p
-loop_kept P keeps again m shares NoChunk (LoopStart loop) h aloof p = keeps _ _ tt (keeps _ _ tt p)
-loop_kept P keeps again m shares NoChunk LoopNext h aloof p = keeps _ _ tt p
-loop_kept P keeps again m shares NoChunk _ h aloof p = p
-loop_kept P keeps again m shares Finished call h aloof p = since_kept P keeps again m shares call h aloof p
-loop_kept P keeps again m shares Passed call h aloof p = rw aloof (since_kept P keeps again m shares call h aloof p)
-loop_kept P keeps again m shares Wait call h aloof p = since_kept P keeps again m shares call h aloof p
-loop_kept P keeps again m shares Stopped call h aloof p = keeps _ _ tt p
-loop_kept P keeps again m shares (Refused refusal) call h aloof p = refusal_kept P (λ h m place p. keeps h _ tt p) m (place_of call m shares h) refusal h p
+pub turn_aloof : (what : Turning) → arrival_kind (turning what) ≡ None
+turn_aloof Next = refl
+turn_aloof (Part value) = refl
 
--- The shares do not see what an arrival adds, save that a loop is left
+pub at_once_aloof : (call : Call) → is_at_once call ≡ true → arrival_kind call ≡ None
+at_once_aloof LoopEnd e = absurd (cc)
+at_once_aloof SectionsEnd e = absurd (cc)
+at_once_aloof Barrier e = absurd (cc)
+at_once_aloof RegionEnd e = absurd (cc)
+at_once_aloof _ e = refl
+
+-- which calls put no words
+pub start_puts : (what : Starting) → puts_words (starting what) ≡ false
+start_puts (Loop loop) = refl
+start_puts (Sections count end_kind) = refl
+start_puts Single = refl
+start_puts SingleCopy = refl
+
+pub turn_puts : (what : Turning) → puts_words (turning what) ≡ false
+turn_puts Next = refl
+turn_puts (Part value) = refl
+
+pub arrival_puts : (how : Arriving) → puts_words (arriving how) ≡ false
+arrival_puts AtLoopEnd = refl
+arrival_puts AtSectionsEnd = refl
+arrival_puts AtBarrier = refl
+arrival_puts AtRegionEnd = refl
+
+-- The shares do not see what an arrival adds, save that a construct is left
 
 -- the turn after an arrival
-pub turn_kept : (P : List Event → Type 0) → Keeps SharesAside P → (m shares : ℕ) (kind : Arrival) (reply : Reply) (met : Bool) (h : List Event) → Awaits met reply → P h → P (added true m shares reply (arriving kind) h)
-turn_kept P keeps m shares ShareEnd Passed met h may p = keeps _ _ tt p
-turn_kept P keeps m shares BarrierArrival Passed met h may p = keeps _ _ tt p
-turn_kept P keeps m shares RegionEndArrival Passed met h may p = keeps _ _ tt p
-turn_kept P keeps m shares kind Wait met h may p = p
-turn_kept P keeps m shares kind _ met h may p = absurd may
+pub turn_kept : (P : List Event → Type 0) → KeepsAside SharesAside P → (m shares : ℕ) (how : Arriving) (reply : Reply) (met : Bool) (h : List Event) → Awaits met reply → P h → P (added true m shares reply (arriving how) h)
+turn_kept P keeps m shares AtLoopEnd Passed met h may p = keeps _ _ tt p
+turn_kept P keeps m shares AtSectionsEnd Passed met h may p = keeps _ _ tt p
+turn_kept P keeps m shares AtBarrier Passed met h may p = keeps _ _ tt p
+turn_kept P keeps m shares AtRegionEnd Passed met h may p = keeps _ _ tt p
+turn_kept P keeps m shares how Wait met h may p = p
+turn_kept P keeps m shares how _ met h may p = absurd may
 
-pub arrival_kept : (P : List Event → Type 0) → Keeps SharesAside P → (m shares : ℕ) (kind : Arrival) (reply : Reply) (met : Bool) (h : List Event) → Awaits met reply → P (share_left (ends_share (arriving kind)) m h) →
-    P (added false m shares reply (arriving kind) h)
-arrival_kept P keeps m shares ShareEnd Passed met h may p = keeps _ _ tt (keeps _ _ tt p)
-arrival_kept P keeps m shares BarrierArrival Passed met h may p = keeps _ _ tt (keeps _ _ tt p)
-arrival_kept P keeps m shares RegionEndArrival Passed met h may p = keeps _ _ tt (keeps _ _ tt p)
-arrival_kept P keeps m shares ShareEnd Wait met h may p = keeps _ _ tt p
-arrival_kept P keeps m shares BarrierArrival Wait met h may p = keeps _ _ tt p
-arrival_kept P keeps m shares RegionEndArrival Wait met h may p = keeps _ _ tt p
-arrival_kept P keeps m shares kind _ met h may p = absurd may
+pub arrival_kept : (P : List Event → Type 0) → KeepsAside SharesAside P → (m shares : ℕ) (how : Arriving) (reply : Reply) (met : Bool) (h : List Event) → Awaits met reply → P (share_left (ends_share (arriving how)) m h) →
+    P (added false m shares reply (arriving how) h)
+arrival_kept P keeps m shares AtLoopEnd Passed met h may p = keeps _ _ tt (keeps _ _ tt p)
+arrival_kept P keeps m shares AtSectionsEnd Passed met h may p = keeps _ _ tt (keeps _ _ tt p)
+arrival_kept P keeps m shares AtBarrier Passed met h may p = keeps _ _ tt (keeps _ _ tt p)
+arrival_kept P keeps m shares AtRegionEnd Passed met h may p = keeps _ _ tt (keeps _ _ tt p)
+arrival_kept P keeps m shares AtLoopEnd Wait met h may p = keeps _ _ tt p
+arrival_kept P keeps m shares AtSectionsEnd Wait met h may p = keeps _ _ tt p
+arrival_kept P keeps m shares AtBarrier Wait met h may p = keeps _ _ tt p
+arrival_kept P keeps m shares AtRegionEnd Wait met h may p = keeps _ _ tt p
+arrival_kept P keeps m shares how _ met h may p = absurd may
 
 -- The barriers see the arrival, and the turn
 
-pub arrival_made : (P Q : List Event → Type 0) → Keeps BarriersAside P → (m shares : ℕ) (kind : Arrival) (tag : Tag) (answer : Bool) (h : List Event) → tag ≡ tag_with kind shares → answer ≡ true →
-    ((h : List Event) → P h → Q (arrived_after answer m tag h)) → P h → Q (begun m shares (arriving kind) h)
-arrival_made P Q keeps m shares ShareEnd tag answer h is accepted adds p = rw (accepted, is) at (adds (share_left true m h) (keeps h (End (open_number m h) m) tt p))
-arrival_made P Q keeps m shares BarrierArrival tag answer h is accepted adds p = rw (accepted, is) at (adds h p)
-arrival_made P Q keeps m shares RegionEndArrival tag answer h is accepted adds p = rw (accepted, is) at (adds h p)
+pub arrival_made : (P Q : List Event → Type 0) → KeepsAside BarriersAside P → (m shares : ℕ) (how : Arriving) (tag : Tag) (answer : Bool) (h : List Event) → tag ≡ tag_with (arrival_of how) shares → answer ≡ true →
+    ((h : List Event) → P h → Q (arrived_after answer m tag h)) → P h → Q (begun m shares (arriving how) h)
+arrival_made P Q keeps m shares AtLoopEnd tag answer h is accepted adds p = rw (accepted, is) at (adds (share_left true m h) (keeps h (End (open_number m h) m) tt p))
+arrival_made P Q keeps m shares AtSectionsEnd tag answer h is accepted adds p = rw (accepted, is) at (adds (share_left true m h) (keeps h (End (open_number m h) m) tt p))
+arrival_made P Q keeps m shares AtBarrier tag answer h is accepted adds p = rw (accepted, is) at (adds h p)
+arrival_made P Q keeps m shares AtRegionEnd tag answer h is accepted adds p = rw (accepted, is) at (adds h p)
 
-pub arrival_turned : (P : List Event → Type 0) (m shares : ℕ) (kind : Arrival) (reply : Reply) (met : Bool) (h : List Event) → Awaits met reply → P (passed_after reply m (begun m shares (arriving kind) h)) →
-    P (added false m shares reply (arriving kind) h)
-arrival_turned P m shares ShareEnd Passed met h may p = p
-arrival_turned P m shares BarrierArrival Passed met h may p = p
-arrival_turned P m shares RegionEndArrival Passed met h may p = p
-arrival_turned P m shares kind Wait met h may p = p
-arrival_turned P m shares kind _ met h may p = absurd may
+pub arrival_turned : (P : List Event → Type 0) (m shares : ℕ) (how : Arriving) (reply : Reply) (met : Bool) (h : List Event) → Awaits met reply → P (passed_after reply m (begun m shares (arriving how) h)) →
+    P (added false m shares reply (arriving how) h)
+arrival_turned P m shares AtLoopEnd Passed met h may p = p
+arrival_turned P m shares AtSectionsEnd Passed met h may p = p
+arrival_turned P m shares AtBarrier Passed met h may p = p
+arrival_turned P m shares AtRegionEnd Passed met h may p = p
+arrival_turned P m shares how Wait met h may p = p
+arrival_turned P m shares how _ met h may p = absurd may
 
-pub turned : (P : List Event → Type 0) (m shares : ℕ) (kind : Arrival) (reply : Reply) (met : Bool) (h : List Event) → Awaits met reply → P (passed_after reply m h) → P (added true m shares reply (arriving kind) h)
-turned P m shares ShareEnd Passed met h may p = p
-turned P m shares BarrierArrival Passed met h may p = p
-turned P m shares RegionEndArrival Passed met h may p = p
-turned P m shares kind Wait met h may p = p
-turned P m shares kind _ met h may p = absurd may
+pub turned : (P : List Event → Type 0) (m shares : ℕ) (how : Arriving) (reply : Reply) (met : Bool) (h : List Event) → Awaits met reply → P (passed_after reply m h) → P (added true m shares reply (arriving how) h)
+turned P m shares AtLoopEnd Passed met h may p = p
+turned P m shares AtSectionsEnd Passed met h may p = p
+turned P m shares AtBarrier Passed met h may p = p
+turned P m shares AtRegionEnd Passed met h may p = p
+turned P m shares how Wait met h may p = p
+turned P m shares how _ met h may p = absurd may

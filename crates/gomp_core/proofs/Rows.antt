@@ -1,9 +1,9 @@
 -- The tests of a step: those that the member can make alone, and then the comparison with the other members.
 use Rattle.std.proofs.Common.{◌≡◌, ℕ, ◌<◌, Bool, true, false, List, [], ◌∷◌, ◌++◌, Option, Some, None, refl, ap, ◌∙◌, subst, arith}
-use Rattle.std.specs.Prelude.{nat_le, ◌≢◌, is_some}
+use Rattle.std.specs.Prelude.{nat_le, ◌≢◌, is_some, is_none}
 use Rattle.std.proofs.lemmas.Bool.Decides.{nat_tests}
 use Rattle.gomp_types.specs.declared.call.Call.{Call}
-use Rattle.gomp_types.specs.declared.call.Call.TheVariants.{LoopStart, LoopNext, LoopEnd, LoopEndNowait, Barrier, RegionEnd, Resume, Stop}
+use Rattle.gomp_types.specs.declared.call.Call.TheVariants.{LoopStart, LoopNext, LoopEnd, LoopEndNowait, SectionsStart, SectionsNext, SectionsEnd, SectionsEndNowait, SingleStart, SingleCopyStart, SingleCopyEnd, OrderedStart, OrderedEnd, Barrier, RegionEnd, Resume, Stop}
 use Rattle.gomp_types.specs.declared.call.Step.{Step}
 use Rattle.gomp_types.specs.declared.limits.Limits.{Limits}
 use Rattle.gomp_types.specs.declared.refusal.Clash.{Clash}
@@ -13,17 +13,19 @@ use Rattle.gomp_types.specs.declared.refusal.Refusal.TheVariants.{Mismatch, NoMe
 use Rattle.gomp_types.specs.declared.event.Event.{Event}
 use Rattle.gomp_types.specs.Limits.{capped}
 use Rattle.gomp_types.specs.Tests.{Test, first_refusal}
-use Rattle.gomp_types.specs.Events.{clash_of, has_left_region}
+use Rattle.gomp_types.specs.Events.{clash_of, has_left_region, open_number, payload_at}
 use Rattle.gomp_types.specs.Record.{meant, is_resume, refusal_added}
 use Rattle.gomp_types.specs.Refusals.{row_of, member_tests, broken_tests}
 use Rattle.gomp_types.specs.Causes.{Terms, tests_of}
 use Rattle.gomp_share_plain.specs.declared.Seen.{Seen}
 use Rattle.gomp_share_plain.specs.Calls.{seen_of}
-use Rattle.gomp_loops.specs.OwnTests.{own_tests}
+use Rattle.gomp_loops.specs.OwnTests.{own_tests as loop_tests}
+use Rattle.gomp_sections.specs.OwnTests.{own_tests as sections_tests}
+use Rattle.gomp_ordered.specs.OwnTests.{own_tests as ordered_tests}
 use Rattle.gomp_core.specs.declared.waiting.Waiting.{Waiting as Kept}
-use Rattle.gomp_core.specs.declared.waiting.Waiting.TheVariants.{Start, Arrive}
+use Rattle.gomp_core.specs.declared.waiting.Waiting.TheVariants.{Start, Turn, Arrive}
 use Rattle.gomp_core.specs.Waits.{open_call}
-use Rattle.gomp_core.specs.Answers.{own_row, comparison_tests, IsReady}
+use Rattle.gomp_core.specs.Answers.{team_tests, own_row, comparison_tests, IsReady}
 use Rattle.gomp_core.specs.Stands.{MayBeRepeated}
 
 pub front_holds : (tests more : List Test) (refusal : Refusal) → first_refusal tests ≡ Some refusal → first_refusal (tests ++ more) ≡ Some refusal
@@ -53,6 +55,15 @@ row_splits limits m (LoopStart loop) waiting h = refl
 row_splits limits m LoopNext waiting h = refl
 row_splits limits m LoopEnd waiting h = refl
 row_splits limits m LoopEndNowait waiting h = refl
+row_splits limits m (SectionsStart count end_kind) waiting h = refl
+row_splits limits m SectionsNext waiting h = refl
+row_splits limits m SectionsEnd waiting h = refl
+row_splits limits m SectionsEndNowait waiting h = refl
+row_splits limits m SingleStart waiting h = refl
+row_splits limits m SingleCopyStart waiting h = refl
+row_splits limits m (SingleCopyEnd words) waiting h = refl
+row_splits limits m (OrderedStart value) waiting h = refl
+row_splits limits m OrderedEnd waiting h = refl
 row_splits limits m Barrier waiting h = refl
 row_splits limits m RegionEnd waiting h = refl
 row_splits limits m Stop waiting h = refl
@@ -61,6 +72,15 @@ row_splits limits m Resume (Some (LoopStart loop)) h = refl
 row_splits limits m Resume (Some LoopNext) h = refl
 row_splits limits m Resume (Some LoopEnd) h = refl
 row_splits limits m Resume (Some LoopEndNowait) h = refl
+row_splits limits m Resume (Some (SectionsStart count end_kind)) h = refl
+row_splits limits m Resume (Some SectionsNext) h = refl
+row_splits limits m Resume (Some SectionsEnd) h = refl
+row_splits limits m Resume (Some SectionsEndNowait) h = refl
+row_splits limits m Resume (Some SingleStart) h = refl
+row_splits limits m Resume (Some SingleCopyStart) h = refl
+row_splits limits m Resume (Some (SingleCopyEnd words)) h = refl
+row_splits limits m Resume (Some (OrderedStart value)) h = refl
+row_splits limits m Resume (Some OrderedEnd) h = refl
 row_splits limits m Resume (Some Barrier) h = refl
 row_splits limits m Resume (Some RegionEnd) h = refl
 row_splits limits m Resume (Some Resume) h = refl
@@ -116,18 +136,36 @@ row_ready : (limits : Limits) (m : ℕ) (call : Call) (waiting : Option Call) (h
     IsReady limits (is_resume call) m (meant call waiting) h
 row_ready limits m Resume None h none tested = absurd (cc)
 row_ready limits m Resume (Some call) h none tested = tested
-row_ready limits m (LoopStart loop) None h none tested = none
-row_ready limits m LoopNext None h none tested = none
-row_ready limits m LoopEnd None h none tested = none
-row_ready limits m LoopEndNowait None h none tested = none
-row_ready limits m Barrier None h none tested = none
-row_ready limits m RegionEnd None h none tested = none
 row_ready limits m Stop waiting h none tested = refl
+row_ready limits m (LoopStart loop) None h none tested = none
 row_ready limits m (LoopStart loop) (Some call) h none tested = absurd (cc)
+row_ready limits m LoopNext None h none tested = none
 row_ready limits m LoopNext (Some call) h none tested = absurd (cc)
+row_ready limits m LoopEnd None h none tested = none
 row_ready limits m LoopEnd (Some call) h none tested = absurd (cc)
+row_ready limits m LoopEndNowait None h none tested = none
 row_ready limits m LoopEndNowait (Some call) h none tested = absurd (cc)
+row_ready limits m (SectionsStart count end_kind) None h none tested = none
+row_ready limits m (SectionsStart count end_kind) (Some call) h none tested = absurd (cc)
+row_ready limits m SectionsNext None h none tested = none
+row_ready limits m SectionsNext (Some call) h none tested = absurd (cc)
+row_ready limits m SectionsEnd None h none tested = none
+row_ready limits m SectionsEnd (Some call) h none tested = absurd (cc)
+row_ready limits m SectionsEndNowait None h none tested = none
+row_ready limits m SectionsEndNowait (Some call) h none tested = absurd (cc)
+row_ready limits m SingleStart None h none tested = none
+row_ready limits m SingleStart (Some call) h none tested = absurd (cc)
+row_ready limits m SingleCopyStart None h none tested = none
+row_ready limits m SingleCopyStart (Some call) h none tested = absurd (cc)
+row_ready limits m (SingleCopyEnd words) None h none tested = none
+row_ready limits m (SingleCopyEnd words) (Some call) h none tested = absurd (cc)
+row_ready limits m (OrderedStart value) None h none tested = none
+row_ready limits m (OrderedStart value) (Some call) h none tested = absurd (cc)
+row_ready limits m OrderedEnd None h none tested = none
+row_ready limits m OrderedEnd (Some call) h none tested = absurd (cc)
+row_ready limits m Barrier None h none tested = none
 row_ready limits m Barrier (Some call) h none tested = absurd (cc)
+row_ready limits m RegionEnd None h none tested = none
 row_ready limits m RegionEnd (Some call) h none tested = absurd (cc)
 
 pub ready : (terms : Terms) (step : Step) (waiting : Option Call) (h : List Event) → first_refusal (alone terms step waiting h) ≡ None → MayBeRepeated terms.limits step.member waiting h →
@@ -157,24 +195,43 @@ call_waits limits m (LoopStart loop) waiting h other goes e = rw e refl
 call_waits limits m LoopNext waiting h other goes e = rw e refl
 call_waits limits m LoopEnd waiting h other goes e = rw e refl
 call_waits limits m LoopEndNowait waiting h other goes e = rw e refl
+call_waits limits m (SectionsStart count end_kind) waiting h other goes e = rw e refl
+call_waits limits m SectionsNext waiting h other goes e = rw e refl
+call_waits limits m SectionsEnd waiting h other goes e = rw e refl
+call_waits limits m SectionsEndNowait waiting h other goes e = rw e refl
+call_waits limits m SingleStart waiting h other goes e = rw e refl
+call_waits limits m SingleCopyStart waiting h other goes e = rw e refl
+call_waits limits m (SingleCopyEnd words) waiting h other goes e = rw e refl
+call_waits limits m (OrderedStart value) waiting h other goes e = rw e refl
+call_waits limits m OrderedEnd waiting h other goes e = rw e refl
 call_waits limits m Barrier waiting h other goes e = rw e refl
 call_waits limits m RegionEnd waiting h other goes e = rw e refl
 
 pub call_goes_on : (limits : Limits) (m : ℕ) (call : Call) (waiting : Option Call) (h : List Event) → (call ≡ Resume → ⊥) → (call ≡ Stop → ⊥) → is_some waiting ≡ false →
-    first_refusal (own_tests limits (seen_of m h) call) ≡ first_refusal (own_row limits m call waiting h)
+    first_refusal (team_tests limits m h call) ≡ first_refusal (own_row limits m call waiting h)
 call_goes_on limits m Resume waiting h other goes e = absurd (other refl)
 call_goes_on limits m Stop waiting h other goes e = absurd (goes refl)
 call_goes_on limits m (LoopStart loop) waiting h other goes e = rw e refl
 call_goes_on limits m LoopNext waiting h other goes e = rw e refl
 call_goes_on limits m LoopEnd waiting h other goes e = rw e refl
 call_goes_on limits m LoopEndNowait waiting h other goes e = rw e refl
+call_goes_on limits m (SectionsStart count end_kind) waiting h other goes e = rw e refl
+call_goes_on limits m SectionsNext waiting h other goes e = rw e refl
+call_goes_on limits m SectionsEnd waiting h other goes e = rw e refl
+call_goes_on limits m SectionsEndNowait waiting h other goes e = rw e refl
+call_goes_on limits m SingleStart waiting h other goes e = rw e refl
+call_goes_on limits m SingleCopyStart waiting h other goes e = rw e refl
+call_goes_on limits m (SingleCopyEnd words) waiting h other goes e = rw e refl
+call_goes_on limits m (OrderedStart value) waiting h other goes e = rw e refl
+call_goes_on limits m OrderedEnd waiting h other goes e = rw e refl
 call_goes_on limits m Barrier waiting h other goes e = rw e refl
 call_goes_on limits m RegionEnd waiting h other goes e = rw e refl
 
 pub some_open : (kept : Option Kept) → is_some (open_call kept) ≡ is_some kept
 some_open None = refl
-some_open (Some (Start loop)) = refl
-some_open (Some (Arrive kind)) = refl
+some_open (Some (Start what)) = refl
+some_open (Some (Turn what)) = refl
+some_open (Some (Arrive how)) = refl
 
 -- A refusal by those tests changes nothing
 
@@ -201,25 +258,53 @@ quiet_broken : (clash : Option Clash) → AllQuiet (broken_tests clash)
 quiet_broken None = tt
 quiet_broken (Some clash) = (tt, tt)
 
-quiet_own : (limits : Limits) (seen : Seen) (call : Call) → AllQuiet (own_tests limits seen call)
-quiet_own limits seen (LoopStart loop) = (tt, (tt, (tt, (tt, (tt, tt)))))
-quiet_own limits seen LoopNext = (tt, (tt, tt))
-quiet_own limits seen LoopEnd = (tt, (tt, (tt, tt)))
-quiet_own limits seen LoopEndNowait = (tt, (tt, (tt, tt)))
-quiet_own limits seen Barrier = (tt, tt)
-quiet_own limits seen RegionEnd = (tt, tt)
-quiet_own limits seen Resume = tt
-quiet_own limits seen Stop = tt
+quiet_loop : (limits : Limits) (seen : Seen) (call : Call) → AllQuiet (loop_tests limits seen call)
+quiet_loop limits seen (LoopStart loop) = (tt, (tt, (tt, (tt, (tt, tt)))))
+quiet_loop limits seen LoopNext = (tt, (tt, (tt, tt)))
+quiet_loop limits seen LoopEnd = (tt, (tt, (tt, (tt, tt))))
+quiet_loop limits seen LoopEndNowait = (tt, (tt, (tt, (tt, tt))))
+quiet_loop limits seen Barrier = (tt, tt)
+quiet_loop limits seen RegionEnd = (tt, tt)
+quiet_loop limits seen _ = tt
+
+quiet_sections : (limits : Limits) (seen : Seen) (unput : Bool) (call : Call) → AllQuiet (sections_tests limits seen unput call)
+quiet_sections limits seen unput (SectionsStart count end_kind) = (tt, (tt, (tt, tt)))
+quiet_sections limits seen unput SectionsNext = (tt, (tt, tt))
+quiet_sections limits seen unput SectionsEnd = (tt, (tt, (tt, tt)))
+quiet_sections limits seen unput SectionsEndNowait = (tt, (tt, (tt, tt)))
+quiet_sections limits seen unput SingleStart = (tt, (tt, tt))
+quiet_sections limits seen unput SingleCopyStart = (tt, (tt, tt))
+quiet_sections limits seen unput (SingleCopyEnd words) = (tt, tt)
+quiet_sections limits seen unput _ = tt
+
+quiet_ordered : (seen : Seen) (call : Call) → AllQuiet (ordered_tests seen call)
+quiet_ordered seen (OrderedStart value) = (tt, (tt, (tt, (tt, tt))))
+quiet_ordered seen OrderedEnd = (tt, tt)
+quiet_ordered seen _ = tt
+
+quiet_own : (limits : Limits) (m : ℕ) (h : List Event) (call : Call) → AllQuiet (team_tests limits m h call)
+quiet_own limits m h call =
+    all_quiet (loop_tests limits (seen_of m h) call) _ (quiet_loop limits (seen_of m h) call)
+    (all_quiet (sections_tests limits (seen_of m h) (is_none (payload_at (open_number m h) h)) call) (ordered_tests (seen_of m h) call) (quiet_sections limits (seen_of m h) _ call) (quiet_ordered (seen_of m h) call))
 
 quiet_row : (limits : Limits) (m : ℕ) (call : Call) (waiting : Option Call) (h : List Event) → AllQuiet (own_row limits m call waiting h)
 quiet_row limits m Resume waiting h = (tt, tt)
 quiet_row limits m Stop waiting h = tt
-quiet_row limits m (LoopStart loop) waiting h = (tt, quiet_own limits (seen_of m h) (LoopStart loop))
-quiet_row limits m LoopNext waiting h = (tt, quiet_own limits (seen_of m h) LoopNext)
-quiet_row limits m LoopEnd waiting h = (tt, quiet_own limits (seen_of m h) LoopEnd)
-quiet_row limits m LoopEndNowait waiting h = (tt, quiet_own limits (seen_of m h) LoopEndNowait)
-quiet_row limits m Barrier waiting h = (tt, quiet_own limits (seen_of m h) Barrier)
-quiet_row limits m RegionEnd waiting h = (tt, quiet_own limits (seen_of m h) RegionEnd)
+quiet_row limits m (LoopStart loop) waiting h = (tt, quiet_own limits m h (LoopStart loop))
+quiet_row limits m LoopNext waiting h = (tt, quiet_own limits m h LoopNext)
+quiet_row limits m LoopEnd waiting h = (tt, quiet_own limits m h LoopEnd)
+quiet_row limits m LoopEndNowait waiting h = (tt, quiet_own limits m h LoopEndNowait)
+quiet_row limits m (SectionsStart count end_kind) waiting h = (tt, quiet_own limits m h (SectionsStart count end_kind))
+quiet_row limits m SectionsNext waiting h = (tt, quiet_own limits m h SectionsNext)
+quiet_row limits m SectionsEnd waiting h = (tt, quiet_own limits m h SectionsEnd)
+quiet_row limits m SectionsEndNowait waiting h = (tt, quiet_own limits m h SectionsEndNowait)
+quiet_row limits m SingleStart waiting h = (tt, quiet_own limits m h SingleStart)
+quiet_row limits m SingleCopyStart waiting h = (tt, quiet_own limits m h SingleCopyStart)
+quiet_row limits m (SingleCopyEnd words) waiting h = (tt, quiet_own limits m h (SingleCopyEnd words))
+quiet_row limits m (OrderedStart value) waiting h = (tt, quiet_own limits m h (OrderedStart value))
+quiet_row limits m OrderedEnd waiting h = (tt, quiet_own limits m h OrderedEnd)
+quiet_row limits m Barrier waiting h = (tt, quiet_own limits m h Barrier)
+quiet_row limits m RegionEnd waiting h = (tt, quiet_own limits m h RegionEnd)
 
 pub quiet_alone : (terms : Terms) (step : Step) (waiting : Option Call) (h : List Event) (refusal : Refusal) → first_refusal (alone terms step waiting h) ≡ Some refusal → IsQuiet refusal
 quiet_alone terms step waiting h refusal is =

@@ -1,10 +1,10 @@
 -- A step leaves the team standing for the record with this step and its reply.
-use Rattle.std.proofs.Common.{◌≡◌, ℕ, ◌+◌, Bool, true, false, List, [], ◌∷◌, ◌++◌, Option, Some, None, Result, Ok, Err, length, slice_get, slice_set, replicate, refl, ap, ◌∙◌, sym, subst, arith, suc, zero, inl, inr}
-use Rattle.std.specs.Prelude.{◌==◌, ◌≢◌, ℤ, ◌⊎◌, if◌then◌else◌}
+use Rattle.std.proofs.Common.{◌≡◌, ℕ, Bool, true, false, List, [], ◌∷◌, ◌++◌, Option, Some, None, Result, Ok, Err, length, slice_get, slice_set, replicate, refl, ap, ◌∙◌, sym, subst, arith, suc, zero, inl, inr}
+use Rattle.std.specs.Prelude.{◌==◌, ◌≢◌, if◌then◌else◌}
 use Rattle.std.proofs.lemmas.Bool.Decides.{nat_tests}
 use Rattle.std.proofs.lemmas.List.{map-append, length-map, length-set}
 use Rattle.gomp_types.specs.declared.call.Call.{Call}
-use Rattle.gomp_types.specs.declared.call.Call.TheVariants.{LoopStart, LoopNext, LoopEnd, LoopEndNowait, Barrier, RegionEnd, Resume, Stop}
+use Rattle.gomp_types.specs.declared.call.Call.TheVariants.{LoopStart, LoopNext, LoopEnd, LoopEndNowait, SectionsStart, SectionsNext, SectionsEnd, SectionsEndNowait, SingleStart, SingleCopyStart, SingleCopyEnd, OrderedStart, OrderedEnd, Barrier, RegionEnd, Resume, Stop}
 use Rattle.gomp_types.specs.declared.call.Step.{Step}
 use Rattle.gomp_types.specs.declared.limits.Limits.{Limits}
 use Rattle.gomp_types.specs.declared.refusal.Clash.{Clash}
@@ -12,24 +12,28 @@ use Rattle.gomp_types.specs.declared.refusal.Place.{Place}
 use Rattle.gomp_types.specs.declared.refusal.Refusal.{Refusal}
 use Rattle.gomp_types.specs.declared.refusal.Refusal.TheVariants.{Mismatch, NoMemory}
 use Rattle.gomp_types.specs.declared.reply.Reply.{Reply}
-use Rattle.gomp_types.specs.declared.reply.Reply.TheVariants.{Chunk, NoChunk, Finished, Passed, Wait, Stopped, Refused}
+use Rattle.gomp_types.specs.declared.reply.Reply.TheVariants.{Wait, Stopped, Refused}
 use Rattle.gomp_types.specs.declared.shape.Shape.{Shape}
-use Rattle.gomp_types.specs.declared.event.Arrival.{Arrival}
 use Rattle.gomp_types.specs.declared.event.Event.{Event}
+use Rattle.gomp_types.specs.declared.event.Event.TheVariants.{Enter, Take, Drained, End, HandOn, Part, PartEnd, Got, Break}
 use Rattle.gomp_types.specs.Limits.{capped}
 use Rattle.gomp_types.specs.Tests.{first_refusal}
-use Rattle.gomp_types.specs.Events.{entered, open_share, clash_of}
-use Rattle.gomp_types.specs.Record.{Record, record_after, Waits, waits_of, waits_after, events, added, meant, is_resume, piece_taken, pass_added, refusal_added, since_begun, arrived, share_left, arrival_kind, ends_share, place_of}
-use Rattle.gomp_types.specs.Replies.{MayReply, DealsOut}
+use Rattle.gomp_types.specs.Events.{entered, open_share, has_drained, last_piece, parted, in_part, clash_of}
+use Rattle.gomp_types.specs.Record.{Record, record_after, Waits, waits_of, waits_after, events, added, meant, is_resume, since_begun}
+use Rattle.gomp_types.specs.Replies.{MayReply, DealsNext, DealsSections, BeginsPart}
 use Rattle.gomp_types.specs.Causes.{Terms, refusal_of, MayAnswer, Caused}
 use Rattle.gomp_barrier.specs.Stands.{BarriersView, Stands as BarriersStand}
 use Rattle.gomp_core.specs.declared.waiting.Waiting.{Waiting}
-use Rattle.gomp_core.specs.declared.waiting.Waiting.TheVariants.{Start, Arrive}
+use Rattle.gomp_core.specs.declared.waiting.Waiting.TheVariants.{Start, Turn, Arrive}
+use Rattle.gomp_core.specs.declared.payloads.Put.{Put}
+use Rattle.gomp_core.specs.Payloads.{PayloadsStand}
 use Rattle.gomp_core.specs.Waits.{open_call, waiting_after, kept_for}
 use Rattle.gomp_core.specs.Answers.{IsReady, IsAnswer, reply_to, broken_after, PartsStand}
 use Rattle.gomp_icv.specs.Variables.{Variables}
 use Rattle.gomp_core.specs.Resolved.{resolved_step, resolved_steps}
 use Rattle.gomp_core.specs.Stands.{TeamView, MayBeRepeated, WaitStands, Stands, terms_of, members_of, standard, standard_terms, NoneForMemory}
+use Rattle.gomp_types.proofs.Lists.{slice_get-set}
+use Rattle.gomp_core.proofs.Kept.{IsOwn, IsBreak, added_kept}
 use Rattle.gomp_core.proofs.Rows.{alone, refused_alone, compared_last, whole, ready, quiet_alone, quiet_memory, quiet_adds}
 
 -- A new team
@@ -89,6 +93,7 @@ stands_refused stands members team before step found refusal st may first some =
       caused = (may, st.caused);
       shares_are = subst (stands team.shares) (sym same) st.shares_are;
       barriers_are = subst (BarriersStand team.barriers.seats team.barriers.front) (sym same) st.barriers_are;
+      payloads_are = subst (PayloadsStand (members_of team) team.payloads) (sym same) st.payloads_are;
       broken_is = st.broken_is ∙ ap clash_of (sym same);
       wait = λ k waiting at. let old = st.wait k waiting at in record {
         call_is = ap (λ (w : Waits). w.open_call) (waits_refused k step refusal before) ∙ old.call_is;
@@ -106,15 +111,32 @@ answer_refused stands members team before step found refusal st first some = ref
 
 -- The cause of an answer
 
-deals_no_refusal : (members m : ℕ) (share : Option (ℕ × Shape)) (refusal : Refusal) (h : List Event) → DealsOut members m share (Refused refusal) h → ⊥
-deals_no_refusal members m None refusal h may = may
-deals_no_refusal members m (Some share) refusal h may = may
+sections_no_refusal : (members m : ℕ) (share : Option (ℕ × Shape)) (refusal : Refusal) (h : List Event) → DealsSections members m share (Refused refusal) h → ⊥
+sections_no_refusal members m None refusal h may = may
+sections_no_refusal members m (Some share) refusal h may = may
+
+next_no_refusal : (members m : ℕ) (share : Option (ℕ × Shape)) (refusal : Refusal) (h : List Event) → DealsNext members m share (Refused refusal) h → ⊥
+next_no_refusal members m None refusal h may = may
+next_no_refusal members m (Some share) refusal h may = may.1
+
+part_no_refusal : (members m : ℕ) (share : Option (ℕ × Shape)) (refusal : Refusal) (h : List Event) → BeginsPart members m share (Refused refusal) h → ⊥
+part_no_refusal members m None refusal h may = may
+part_no_refusal members m (Some share) refusal h may = may
 
 no_refusal : (members : ℕ) (again : Bool) (m : ℕ) (call : Call) (refusal : Refusal) (h : List Event) → MayReply members again m call (Refused refusal) h → ⊥
 no_refusal members again m (LoopStart loop) refusal h may = may.1
-no_refusal members again m LoopNext refusal h may = deals_no_refusal members m (open_share m h) refusal h may
+no_refusal members again m LoopNext refusal h may = next_no_refusal members m (open_share m h) refusal h may
 no_refusal members again m LoopEnd refusal h may = may
 no_refusal members again m LoopEndNowait refusal h may = absurd (cc)
+no_refusal members again m (SectionsStart count end_kind) refusal h may = may.1
+no_refusal members again m SectionsNext refusal h may = sections_no_refusal members m (open_share m h) refusal h may
+no_refusal members again m SectionsEnd refusal h may = may
+no_refusal members again m SectionsEndNowait refusal h may = absurd (cc)
+no_refusal members again m SingleStart refusal h may = may
+no_refusal members again m SingleCopyStart refusal h may = may
+no_refusal members again m (SingleCopyEnd words) refusal h may = absurd (cc)
+no_refusal members again m (OrderedStart value) refusal h may = part_no_refusal members m (open_share m h) refusal h may
+no_refusal members again m OrderedEnd refusal h may = absurd (cc)
 no_refusal members again m Barrier refusal h may = may
 no_refusal members again m RegionEnd refusal h may = may
 no_refusal members again m Resume refusal h may = may
@@ -136,54 +158,76 @@ answered terms before step (Err place) small law none is =
 
 -- What another member's call leaves as it is
 
--- of a member's place among the shares, what the tests of a start read
+-- a member's place among the shares
 record SamePlace (k : ℕ) (h after : List Event) : Type 0 where
   pub number : entered k after ≡ entered k h
   pub share : open_share k after ≡ open_share k h
+  pub drained : has_drained k after ≡ has_drained k h
+  pub piece : last_piece k after ≡ last_piece k h
+  pub parts : parted k after ≡ parted k h
+  pub within : in_part k after ≡ in_part k h
 
-same_arrived : (k m shares : ℕ) (kind : Option Arrival) (h after : List Event) → SamePlace k h after → SamePlace k h (arrived kind m shares after)
-same_arrived k m shares None h after same = same
-same_arrived k m shares (Some kind) h after same = record { number = same.number; share = same.share }
+-- it is where it was
+here : (k : ℕ) (h : List Event) → SamePlace k h h
+here k h = record { number = refl; share = refl; drained = refl; piece = refl; parts = refl; within = refl }
 
-same_left : (k m : ℕ) (ends : Bool) (h : List Event) → k ≢ m → SamePlace k h (share_left ends m h)
-same_left k m false h other = record { number = refl; share = refl }
-same_left k m true h other = record { number = refl; share = at_other m k None (open_share k h) other }
-
-same_since : (again : Bool) (k m shares : ℕ) (call : Call) (h : List Event) → k ≢ m → SamePlace k h (since_begun again m shares call h)
-same_since true k m shares call h other = record { number = refl; share = refl }
-same_since false k m shares call h other = same_arrived k m shares (arrival_kind call) h (share_left (ends_share call) m h) (same_left k m (ends_share call) h other)
-
-same_passed : (k m barrier : ℕ) (kind : Option Arrival) (h after : List Event) → SamePlace k h after → SamePlace k h (pass_added kind barrier m after)
-same_passed k m barrier None h after same = same
-same_passed k m barrier (Some kind) h after same = record { number = same.number; share = same.share }
-
-same_piece : (k m : ℕ) (own : Option (ℕ × Shape)) (first : ℤ) (count : ℕ) (h : List Event) → SamePlace k h (piece_taken own m first count h)
-same_piece k m None first count h = record { number = refl; share = refl }
-same_piece k m (Some share) first count h = record { number = refl; share = refl }
-
-same_refused : (k m : ℕ) (place : Place) (refusal : Refusal) (h : List Event) → SamePlace k h (refusal_added refusal m place h)
-same_refused k m place Mismatch h = record { number = refl; share = refl }
-same_refused k m place _ h = record { number = refl; share = refl }
+own_same : (k m : ℕ) (h after : List Event) (event : Event) → k ≢ m → IsOwn m event → SamePlace k h after → SamePlace k h (event ∷ after)
+own_same k m h after (Enter share n shape) other is same = record {
+  number = rw is (at_other m k _ (entered k after) other) ∙ same.number;
+  share = rw is (at_other m k _ (open_share k after) other) ∙ same.share;
+  drained = rw is (at_other m k _ (has_drained k after) other) ∙ same.drained;
+  piece = rw is (at_other m k _ (last_piece k after) other) ∙ same.piece;
+  parts = rw is (at_other m k _ (parted k after) other) ∙ same.parts;
+  within = rw is (at_other m k _ (in_part k after) other) ∙ same.within;
+}
+own_same k m h after (End share n) other is same = record { number = same.number; share = rw is (at_other m k _ (open_share k after) other) ∙ same.share; drained = same.drained; piece = same.piece; parts = same.parts; within = same.within }
+own_same k m h after (Take share n low high) other is same = record { number = same.number; share = same.share; drained = same.drained; piece = rw is (at_other m k _ (last_piece k after) other) ∙ same.piece; parts = same.parts; within = same.within }
+own_same k m h after (Drained share n) other is same = record {
+  number = same.number;
+  share = same.share;
+  drained = rw is (at_other m k _ (has_drained k after) other) ∙ same.drained;
+  piece = rw is (at_other m k _ (last_piece k after) other) ∙ same.piece;
+  parts = same.parts;
+  within = same.within;
+}
+own_same k m h after (Got share n words) other is same = record { number = same.number; share = same.share; drained = same.drained; piece = same.piece; parts = same.parts; within = same.within }
+own_same k m h after (HandOn share n piece) other is same = record { number = same.number; share = same.share; drained = same.drained; piece = same.piece; parts = same.parts; within = same.within }
+own_same k m h after (Part share n iteration) other is same = record {
+  number = same.number;
+  share = same.share;
+  drained = same.drained;
+  piece = same.piece;
+  parts = rw is (at_other m k _ (parted k after) other) ∙ same.parts;
+  within = rw is (at_other m k _ (in_part k after) other) ∙ same.within;
+}
+own_same k m h after (PartEnd share n) other is same = record { number = same.number; share = same.share; drained = same.drained; piece = same.piece; parts = same.parts; within = rw is (at_other m k _ (in_part k after) other) ∙ same.within }
+own_same k m h after _ other is same = absurd is
 
 same_place : (again : Bool) (k m shares : ℕ) (reply : Reply) (call : Call) (h : List Event) → k ≢ m → SamePlace k h (added again m shares reply call h)
-same_place again k m shares (Chunk first count) (LoopStart loop) h other = record { number = at_other m k (entered k h + 1) (entered k h) other; share = at_other m k _ (open_share k h) other }
-same_place again k m shares (Chunk first count) LoopNext h other = same_piece k m (open_share m h) first count h
-same_place again k m shares (Chunk first count) _ h other = record { number = refl; share = refl }
-same_place again k m shares NoChunk (LoopStart loop) h other = record { number = at_other m k (entered k h + 1) (entered k h) other; share = at_other m k _ (open_share k h) other }
-same_place again k m shares NoChunk LoopNext h other = record { number = refl; share = refl }
-same_place again k m shares NoChunk _ h other = record { number = refl; share = refl }
-same_place again k m shares Finished call h other = same_since again k m shares call h other
-same_place again k m shares Passed call h other = same_passed k m _ (arrival_kind call) h (since_begun again m shares call h) (same_since again k m shares call h other)
-same_place again k m shares Wait call h other = same_since again k m shares call h other
-same_place again k m shares Stopped call h other = record { number = refl; share = refl }
-same_place again k m shares (Refused refusal) call h other = same_refused k m (place_of call m shares h) refusal h
+same_place again k m shares reply call h other =
+    added_kept (SamePlace k h) again m shares reply call h (record {
+      own = λ after event is same. own_same k m h after event other is same;
+      put = λ some after share words same. record { number = same.number; share = same.share; drained = same.drained; piece = same.piece; parts = same.parts; within = same.within };
+      arrive = λ some after barrier tag same. record { number = same.number; share = same.share; drained = same.drained; piece = same.piece; parts = same.parts; within = same.within };
+      pass = λ some after barrier same. record { number = same.number; share = same.share; drained = same.drained; piece = same.piece; parts = same.parts; within = same.within };
+      break = λ is after place same. record { number = same.number; share = same.share; drained = same.drained; piece = same.piece; parts = same.parts; within = same.within };
+    }) (here k h)
 
 tested_kept : (limits : Limits) (k : ℕ) (waiting : Option Call) (h after : List Event) → SamePlace k h after → MayBeRepeated limits k waiting h → MayBeRepeated limits k waiting after
 tested_kept limits k None h after same tested = tt
 tested_kept limits k (Some (LoopStart loop)) h after same tested = rw (same.number, same.share) tested
-tested_kept limits k (Some LoopNext) h after same tested = tested
+tested_kept limits k (Some LoopNext) h after same tested = rw (same.share, same.within, same.drained) tested
 tested_kept limits k (Some LoopEnd) h after same tested = tt
 tested_kept limits k (Some LoopEndNowait) h after same tested = tested
+tested_kept limits k (Some (SectionsStart count end_kind)) h after same tested = rw (same.number, same.share) tested
+tested_kept limits k (Some SectionsNext) h after same tested = tested
+tested_kept limits k (Some SectionsEnd) h after same tested = tt
+tested_kept limits k (Some SectionsEndNowait) h after same tested = tested
+tested_kept limits k (Some SingleStart) h after same tested = rw (same.number, same.share) tested
+tested_kept limits k (Some SingleCopyStart) h after same tested = rw (same.number, same.share) tested
+tested_kept limits k (Some (SingleCopyEnd words)) h after same tested = tested
+tested_kept limits k (Some (OrderedStart value)) h after same tested = rw (same.share, same.within, same.piece, same.parts) tested
+tested_kept limits k (Some OrderedEnd) h after same tested = tested
 tested_kept limits k (Some Barrier) h after same tested = tt
 tested_kept limits k (Some RegionEnd) h after same tested = tt
 tested_kept limits k (Some Resume) h after same tested = tested
@@ -191,18 +235,32 @@ tested_kept limits k (Some Stop) h after same tested = tested
 
 -- What the member's own call leaves
 
-no_wait : (members m : ℕ) (share : Option (ℕ × Shape)) (h : List Event) → DealsOut members m share Wait h → ⊥
-no_wait members m None h may = may
-no_wait members m (Some share) h may = may
+no_sections_wait : (members m : ℕ) (share : Option (ℕ × Shape)) (h : List Event) → DealsSections members m share Wait h → ⊥
+no_sections_wait members m None h may = may
+no_sections_wait members m (Some share) h may = may
 
 -- a call that waits may be repeated
 waits_tested : (limits : Limits) (members : ℕ) (again : Bool) (m shares : ℕ) (call : Call) (h : List Event) → IsReady limits again m call h → MayReply members again m call Wait h →
     MayBeRepeated limits m (Some call) (since_begun again m shares call h)
 waits_tested limits members true m shares (LoopStart loop) h ready may = ready
 waits_tested limits members false m shares (LoopStart loop) h ready may = ready
-waits_tested limits members again m shares LoopNext h ready may = absurd (no_wait members m (open_share m h) h may)
+waits_tested limits members true m shares LoopNext h ready may = ready
+waits_tested limits members false m shares LoopNext h ready may = ready
+waits_tested limits members true m shares (OrderedStart value) h ready may = ready
+waits_tested limits members false m shares (OrderedStart value) h ready may = ready
+waits_tested limits members again m shares OrderedEnd h ready may = absurd (cc)
 waits_tested limits members again m shares LoopEnd h ready may = tt
 waits_tested limits members again m shares LoopEndNowait h ready may = absurd (cc)
+waits_tested limits members true m shares (SectionsStart count end_kind) h ready may = ready
+waits_tested limits members false m shares (SectionsStart count end_kind) h ready may = ready
+waits_tested limits members again m shares SectionsNext h ready may = absurd (no_sections_wait members m (open_share m h) h may)
+waits_tested limits members again m shares SectionsEnd h ready may = tt
+waits_tested limits members again m shares SectionsEndNowait h ready may = absurd (cc)
+waits_tested limits members true m shares SingleStart h ready may = ready
+waits_tested limits members false m shares SingleStart h ready may = ready
+waits_tested limits members true m shares SingleCopyStart h ready may = ready
+waits_tested limits members false m shares SingleCopyStart h ready may = ready
+waits_tested limits members again m shares (SingleCopyEnd words) h ready may = absurd (cc)
 waits_tested limits members again m shares Barrier h ready may = tt
 waits_tested limits members again m shares RegionEnd h ready may = tt
 waits_tested limits members again m shares Resume h ready may = absurd may
@@ -210,20 +268,30 @@ waits_tested limits members again m shares Stop h ready may = absurd (cc)
 
 -- and it is what is kept
 some_meant : (waiting : Waiting) → Some (meant Resume (open_call (Some waiting))) ≡ open_call (Some waiting)
-some_meant (Start loop) = refl
-some_meant (Arrive kind) = refl
+some_meant (Start what) = refl
+some_meant (Turn what) = refl
+some_meant (Arrive how) = refl
 
 kept_is : (members : ℕ) (again : Bool) (m : ℕ) (call : Call) (waiting : Option Waiting) (h : List Event) → MayReply members again m (meant call (open_call waiting)) Wait h →
     Some (meant call (open_call waiting)) ≡ open_call (kept_for call waiting)
 kept_is members again m (LoopStart loop) waiting h may = refl
-kept_is members again m LoopNext waiting h may = absurd (no_wait members m (open_share m h) h may)
+kept_is members again m LoopNext waiting h may = refl
+kept_is members again m (OrderedStart value) waiting h may = refl
+kept_is members again m OrderedEnd waiting h may = absurd (cc)
 kept_is members again m LoopEnd waiting h may = refl
 kept_is members again m LoopEndNowait waiting h may = absurd (cc)
+kept_is members again m (SectionsStart count end_kind) waiting h may = refl
+kept_is members again m SectionsNext waiting h may = absurd (no_sections_wait members m (open_share m h) h may)
+kept_is members again m SectionsEnd waiting h may = refl
+kept_is members again m SectionsEndNowait waiting h may = absurd (cc)
+kept_is members again m SingleStart waiting h may = refl
+kept_is members again m SingleCopyStart waiting h may = refl
+kept_is members again m (SingleCopyEnd words) waiting h may = absurd (cc)
 kept_is members again m Barrier waiting h may = refl
 kept_is members again m RegionEnd waiting h may = refl
-kept_is members again m Stop waiting h may = absurd (cc)
 kept_is members again m Resume None h may = absurd may
 kept_is members again m Resume (Some waiting) h may = some_meant waiting
+kept_is members again m Stop waiting h may = absurd (cc)
 
 own_wait : (limits : Limits) (members : ℕ) (step : Step) (reply : Reply) (waiting : Option Waiting) (before : Record) → (waits_of step.member before).open_call ≡ open_call waiting → MayBeRepeated limits step.member (open_call waiting) (events before) →
     IsReady limits (is_resume step.call) step.member (meant step.call (open_call waiting)) (events before) →
@@ -240,44 +308,30 @@ own_wait limits members step (Refused refusal) waiting before is tested ready ma
     absurd (no_refusal members (is_resume step.call) step.member (meant step.call (open_call waiting)) refusal (events before) may)
 own_wait limits members step reply waiting before is tested ready may = record { call_is = ap (λ (w : Waits). w.open_call) (waits_own step reply before); tested = tt }
 
-clash_arrived : (m shares : ℕ) (kind : Option Arrival) (h : List Event) → clash_of (arrived kind m shares h) ≡ clash_of h
-clash_arrived m shares None h = refl
-clash_arrived m shares (Some kind) h = refl
-
-clash_left : (m : ℕ) (ends : Bool) (h : List Event) → clash_of (share_left ends m h) ≡ clash_of h
-clash_left m false h = refl
-clash_left m true h = refl
-
-clash_since : (again : Bool) (m shares : ℕ) (call : Call) (h : List Event) → clash_of (since_begun again m shares call h) ≡ clash_of h
-clash_since true m shares call h = refl
-clash_since false m shares call h = clash_arrived m shares (arrival_kind call) (share_left (ends_share call) m h) ∙ clash_left m (ends_share call) h
-
-clash_passed : (m barrier : ℕ) (kind : Option Arrival) (h : List Event) → clash_of (pass_added kind barrier m h) ≡ clash_of h
-clash_passed m barrier None h = refl
-clash_passed m barrier (Some kind) h = refl
-
-clash_piece : (m : ℕ) (own : Option (ℕ × Shape)) (first : ℤ) (count : ℕ) (h : List Event) → clash_of (piece_taken own m first count h) ≡ clash_of h
-clash_piece m None first count h = refl
-clash_piece m (Some share) first count h = refl
-
 -- a reply that is no refusal and no stop leaves the team as whole as it was
-clash_kept : (members : ℕ) (again : Bool) (m shares : ℕ) (call : Call) (reply : Reply) (h : List Event) → (reply ≡ Stopped → ⊥) → MayReply members again m call reply h → clash_of (added again m shares reply call h) ≡ clash_of h
-clash_kept members again m shares (LoopStart loop) (Chunk first count) h goes may = refl
-clash_kept members again m shares LoopNext (Chunk first count) h goes may = clash_piece m (open_share m h) first count h
-clash_kept members again m shares _ (Chunk first count) h goes may = refl
-clash_kept members again m shares (LoopStart loop) NoChunk h goes may = refl
-clash_kept members again m shares LoopNext NoChunk h goes may = refl
-clash_kept members again m shares _ NoChunk h goes may = refl
-clash_kept members again m shares call Finished h goes may = clash_since again m shares call h
-clash_kept members again m shares call Passed h goes may = clash_passed m _ (arrival_kind call) (since_begun again m shares call h) ∙ clash_since again m shares call h
-clash_kept members again m shares call Wait h goes may = clash_since again m shares call h
-clash_kept members again m shares call Stopped h goes may = absurd (goes refl)
-clash_kept members again m shares call (Refused refusal) h goes may = absurd (no_refusal members again m call refusal h may)
+own_clash : (m : ℕ) (event : Event) (h : List Event) → IsOwn m event → clash_of (event ∷ h) ≡ clash_of h
+own_clash m (Break n place) h is = absurd is
+own_clash m _ h is = refl
+
+clash_kept : (members : ℕ) (again : Bool) (m shares : ℕ) (call : Call) (reply : Reply) (h : List Event) → (IsBreak reply → ⊥) → clash_of (added again m shares reply call h) ≡ clash_of h
+clash_kept members again m shares call reply h goes =
+    added_kept (λ (after : List Event). clash_of after ≡ clash_of h) again m shares reply call h (record {
+      own = λ after event is same. own_clash m event after is ∙ same;
+      put = λ some after share words same. same;
+      arrive = λ some after barrier tag same. same;
+      pass = λ some after barrier same. same;
+      break = λ is. absurd (goes is);
+    }) refl
+
+breaks_not : (members : ℕ) (again : Bool) (m : ℕ) (call : Call) (reply : Reply) (h : List Event) → (reply ≡ Stopped → ⊥) → MayReply members again m call reply h → IsBreak reply → ⊥
+breaks_not members again m call Stopped h goes may is = goes refl
+breaks_not members again m call (Refused refusal) h goes may is = no_refusal members again m call refusal h may
+breaks_not members again m call _ h goes may is = is
 
 clash_after : (members : ℕ) (again : Bool) (m : ℕ) (call : Call) (result : Result Reply Place) (broken : Option Clash) (h : List Event) → IsAnswer members again m call result h → broken ≡ clash_of h → clash_of h ≡ None →
     broken_after broken m result ≡ clash_of (added again m (entered m h) (reply_to result) call h)
 clash_after members again m call (Ok Stopped) broken h is same sound = rw sound refl
-clash_after members again m call (Ok reply) broken h is same sound = same ∙ sym (clash_kept members again m (entered m h) call reply h (λ e. cc) is.1)
+clash_after members again m call (Ok reply) broken h is same sound = same ∙ sym (clash_kept members again m (entered m h) call reply h (breaks_not members again m call reply h (λ e. cc) is.1))
 clash_after members again m call (Err place) broken h is same sound = rw (is.1, sound) refl
 
 -- what is kept of the member's wait, after its answer
@@ -288,20 +342,8 @@ wait_after : (limits : Limits) (members : ℕ) (step : Step) (result : Result Re
 wait_after limits members step (Ok reply) waiting before is tested ready answer = own_wait limits members step reply waiting before is tested ready answer.1
 wait_after limits members step (Err place) waiting before is tested ready answer = record {
   call_is = ap (λ (w : Waits). w.open_call) (waits_own step (Refused Mismatch) before) ∙ is;
-  tested = tested_kept limits step.member (open_call waiting) (events before) (events ((step, Refused Mismatch) ∷ before)) (record { number = refl; share = refl }) tested;
+  tested = tested_kept limits step.member (open_call waiting) (events before) (events ((step, Refused Mismatch) ∷ before)) (record { number = refl; share = refl; drained = refl; piece = refl; parts = refl; within = refl }) tested;
 }
-
--- A place in a list
-
-slice_get-set : {A : Type 0} (xs : List A) (i k : ℕ) (x y : A) → slice_get (slice_set xs i x) k ≡ Some y → ((k ≡ i) × (y ≡ x)) ⊎ ((k ≢ i) × (slice_get xs k ≡ Some y))
-slice_get-set [] i k x y at = absurd (cc)
-slice_get-set (z ∷ xs) zero zero x y at = inl (refl, cc)
-slice_get-set (z ∷ xs) zero (suc k) x y at = inr ((λ e. absurd (omega arith)), at)
-slice_get-set (z ∷ xs) (suc i) zero x y at = inr ((λ e. absurd (omega arith)), at)
-slice_get-set (z ∷ xs) (suc i) (suc k) x y at = elim (slice_get-set xs i k x y at) [
-  | inl e ↦ inl (ap suc e.0, e.1)
-  | inr e ↦ inr ((λ same. e.0 (omega arith)), e.1)
-]
 
 -- A step that none of those tests refuses, and its answer
 
@@ -332,12 +374,12 @@ step_answered stands members team before step waiting result admitted law =
     answered (terms_of team) before step result admitted.stand.limits_are law admitted.none
     (subst (λ (w : Option Call). IsAnswer (members_of team) (is_resume step.call) step.member (meant step.call w) result (events before)) (sym (admitted.stand.wait step.member waiting admitted.at).call_is) admitted.answer)
 
-pub stands_answered : {S : Type 0} (stands : S → List Event → Type 0) (members : S → ℕ) (team : TeamView S) (shares : S) (barriers : BarriersView) (before : Record) (step : Step) (waiting : Option Waiting) (result : Result Reply Place) →
+pub stands_answered : {S : Type 0} (stands : S → List Event → Type 0) (members : S → ℕ) (team : TeamView S) (shares : S) (barriers : BarriersView) (payloads : List (Option Put)) (before : Record) (step : Step) (waiting : Option Waiting) (result : Result Reply Place) →
     Admitted stands members team before step waiting result → RefusedFirst (terms_of team) before step →
-    PartsStand stands shares barriers (added (is_resume step.call) step.member (entered step.member (events before)) (reply_to result) (meant step.call (open_call waiting)) (events before)) →
+    PartsStand stands (members_of team) shares barriers payloads (added (is_resume step.call) step.member (entered step.member (events before)) (reply_to result) (meant step.call (open_call waiting)) (events before)) →
     members shares ≡ members team.shares → length barriers.seats ≡ length team.barriers.seats →
-    Stands stands members (record { icv = team.icv; limits = team.limits; broken = broken_after team.broken step.member result; waiting = slice_set team.waiting step.member (waiting_after (reply_to result) step.call waiting); barriers = barriers; shares = shares }) ((step, reply_to result) ∷ before)
-stands_answered stands members team shares barriers before step waiting result admitted law parts shares_same barriers_same =
+    Stands stands members (record { icv = team.icv; limits = team.limits; broken = broken_after team.broken step.member result; waiting = slice_set team.waiting step.member (waiting_after (reply_to result) step.call waiting); barriers = barriers; payloads = payloads; shares = shares }) ((step, reply_to result) ∷ before)
+stands_answered stands members team shares barriers payloads before step waiting result admitted law parts shares_same barriers_same =
     let st = admitted.stand in
     let own = st.wait step.member waiting admitted.at in
     let adds : events ((step, reply_to result) ∷ before) ≡ added (is_resume step.call) step.member (entered step.member (events before)) (reply_to result) (meant step.call (open_call waiting)) (events before) =
@@ -346,8 +388,9 @@ stands_answered stands members team shares barriers before step waiting result a
     record {
       caused = subst (λ (n : ℕ). Caused (record { members = n; limits = team.limits; cancellation = team.icv.cancellation }) ((step, reply_to result) ∷ before)) (sym size)
           (step_answered stands members team before step waiting result admitted law, st.caused);
-      shares_are = subst (stands shares) (sym adds) parts.0;
-      barriers_are = subst (BarriersStand barriers.seats barriers.front) (sym adds) parts.1;
+      shares_are = subst (stands shares) (sym adds) parts.0.0;
+      barriers_are = subst (BarriersStand barriers.seats barriers.front) (sym adds) parts.0.1;
+      payloads_are = subst (λ (n : ℕ). PayloadsStand n payloads (events ((step, reply_to result) ∷ before))) (sym size) (subst (PayloadsStand (members_of team) payloads) (sym adds) parts.1);
       broken_is = clash_after (members_of team) (is_resume step.call) step.member (meant step.call (open_call waiting)) result team.broken (events before) admitted.answer st.broken_is (whole (terms_of team) step (waits_of step.member before).open_call (events before) admitted.none) ∙ ap clash_of (sym adds);
       wait = λ k other there. elim (slice_get-set team.waiting step.member k (waiting_after (reply_to result) step.call waiting) other there) [
         | inl e ↦ rw (e.0, e.1) (wait_after team.limits (members_of team) step result waiting before own.call_is own.tested admitted.may admitted.answer)

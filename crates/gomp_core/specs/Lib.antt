@@ -1,3 +1,4 @@
+pub mod Payloads
 pub mod Waits
 pub mod Answers
 pub mod Stands

@@ -14,6 +14,8 @@ use Rattle.gomp_types.specs.Causes.{Terms, Caused}
 use Rattle.gomp_icv.specs.Variables.{Variables}
 use Rattle.gomp_barrier.specs.Stands.{BarriersView, Stands as BarriersStand}
 use Rattle.gomp_core.specs.declared.waiting.Waiting.{Waiting}
+use Rattle.gomp_core.specs.declared.payloads.Put.{Put}
+use Rattle.gomp_core.specs.Payloads.{PayloadsStand}
 use Rattle.gomp_core.specs.Waits.{open_call}
 use Rattle.gomp_core.specs.Answers.{IsReady}
 
@@ -25,6 +27,8 @@ pub record TeamView (S : Type 0) : Type 0 where
   -- what each member waits for
   pub waiting : List (Option Waiting)
   pub barriers : BarriersView
+  -- the words that executors of singles put
+  pub payloads : List (Option Put)
   pub shares : S
 
 -- the limits of a team for which none are given
@@ -52,9 +56,10 @@ terms_of team = record { members = members_of team; limits = team.limits; cancel
 pub record Stands {S : Type 0} (stands : S → List Event → Type 0) (members : S → ℕ) (team : TeamView S) (before : Record) : Type 0 where
   -- every reply of the record has its cause
   pub caused : Caused (terms_of team) before
-  -- the shares and the barriers stand for the record's events
+  -- the shares, the barriers and the words stand for the record's events
   pub shares_are : stands team.shares (events before)
   pub barriers_are : BarriersStand team.barriers.seats team.barriers.front (events before)
+  pub payloads_are : PayloadsStand (members_of team) team.payloads (events before)
   pub broken_is : team.broken ≡ clash_of (events before)
   pub wait : (m : ℕ) (waiting : Option Waiting) → slice_get team.waiting m ≡ Some waiting → WaitStands team.limits m waiting before
   -- no limit is above the standard one

@@ -1,21 +1,25 @@
 //! What a member is answered where no test before the comparison with other members holds.
 
-ghost use Rattle.std.specs.Prelude.{◌≡◌, ◌<◌, ℕ, List, length, false, IsTrue, ◌↔◌};
-ghost use Rattle.gomp_types.specs.declared.call.Call.TheVariants.{LoopStart};
-ghost use Rattle.gomp_types.specs.declared.reply.Reply.TheVariants.{Refused};
-ghost use Rattle.gomp_types.specs.declared.refusal.Refusal.TheVariants.{Mismatch};
-ghost use Rattle.gomp_types.specs.declared.refusal.Place.TheVariants.{Share};
+ghost use Rattle.std.specs.Prelude.{◌≡◌, ◌<◌, ℕ, List, length, true, false, Ok};
+ghost use Rattle.gomp_types.specs.declared.event.Event.{Event};
+ghost use Rattle.gomp_types.specs.declared.limits.Limits.{Limits};
+ghost use Rattle.gomp_types.specs.declared.call.Call.TheVariants.{SingleCopyEnd};
 ghost use Rattle.gomp_types.specs.Events.{entered};
-ghost use Rattle.gomp_types.specs.Record.{added, shown, meant, is_resume};
+ghost use Rattle.gomp_types.specs.Causes.{IsReply};
+ghost use Rattle.gomp_types.specs.Record.{added, meant, is_resume};
+ghost use Rattle.gomp_core.specs.Waits.{open_call, turning};
 ghost use Rattle.gomp_share_plain.specs.Calls.{EachStands};
-ghost use Rattle.gomp_core.specs.Waits.{open_call};
-ghost use Rattle.gomp_core.specs.Answers.{EachPartsStand, PartsStand, IsReady, IsAnswer, reply_to, broken_after};
+ghost use Rattle.gomp_core.specs.Payloads.{PayloadsStand};
+ghost use Rattle.gomp_core.specs.Answers.{EachPartsStand, EachWordsStand, PartsStand, IsReady, IsAnswer, is_at_once, reply_to, broken_after};
 
 use crate::arrivals::{arrive, turn};
-use crate::waiting::Waiting;
+use crate::own::is_unput;
+use crate::payloads::Payloads;
+use crate::starts::start;
+use crate::waiting::{Turning, Waiting, kept_for};
 use gomp_barrier::Barriers;
 use gomp_share_plain::Shares;
-use gomp_types::{Arrival, Call, Clash, Limits, LoopDesc, Place, Refusal, Reply};
+use gomp_types::{Call, Clash, Limits, Payload, Place, Refusal, Reply, laws};
 
 /// Answers a call, or goes on with the one that waits.
 ///
@@ -24,33 +28,105 @@ use gomp_types::{Arrival, Call, Clash, Limits, LoopDesc, Place, Refusal, Reply};
 pub fn answer<S: Shares>(
     shares: &mut S,
     barriers: &mut Barriers,
+    payloads: &mut Payloads,
     limits: &Limits,
     member: u16,
     call: &Call,
-    waiting: &Option<Waiting>,
+    waiting: Option<Waiting>,
 ) -> Result<Reply, Place>
     requires shares { member < S.members shares.old }
     requires team { length barriers.old.seats ≡ S.members shares.old }
     ensures members { S.members shares.new ≡ S.members shares.old }
     ensures seats { length barriers.new.seats ≡ length barriers.old.seats }
-    ensures answer { EachPartsStand S.stands shares.old barriers.old (λ h. IsReady limits.now (is_resume call.now) member (meant call.now (open_call waiting.now)) h → IsAnswer (S.members shares.old) (is_resume call.now) member (meant call.now (open_call waiting.now)) result h) }
-    ensures stands { EachPartsStand S.stands shares.old barriers.old (λ h. IsReady limits.now (is_resume call.now) member (meant call.now (open_call waiting.now)) h → PartsStand S.stands shares.new barriers.new (added (is_resume call.now) member (entered member h) (reply_to result) (meant call.now (open_call waiting.now)) h)) }
+    ensures answer { EachPartsStand S.stands (S.members shares.old) shares.old barriers.old payloads.old (λ h. IsReady limits.now (is_resume call.now) member (meant call.now (open_call waiting)) h → IsAnswer (S.members shares.old) (is_resume call.now) member (meant call.now (open_call waiting)) result h) }
+    ensures stands { EachPartsStand S.stands (S.members shares.old) shares.old barriers.old payloads.old (λ h. IsReady limits.now (is_resume call.now) member (meant call.now (open_call waiting)) h → PartsStand S.stands (S.members shares.old) shares.new barriers.new payloads.new (added (is_resume call.now) member (entered member h) (reply_to result) (meant call.now (open_call waiting)) h)) }
 {
     gomp_barrier::aside();
+    match kept_for(call, waiting) {
+        Some(Waiting::Start(what)) => start(shares, payloads, member, limits, &what),
+        Some(Waiting::Turn(what)) => Ok(answer_turn(shares, member, &what)),
+        Some(Waiting::Arrive(how)) => {
+            if is_resume(call) {
+                Ok(turn(barriers, member))
+            } else {
+                arrive(shares, barriers, member, how)
+            }
+        }
+        None => Ok(answer_at_once(shares, payloads, member, call)),
+    }
+}
+
+/// Whether the call repeats one that waits.
+fn is_resume(call: &Call) -> bool
+    ensures { result ≡ is_resume call.now }
+{
+    matches!(call, Call::Resume)
+}
+
+/// Answers a call that waits for the turn of an ordered loop, or asks again.
+fn answer_turn<S: Shares>(shares: &mut S, member: u16, what: &Turning) -> Reply
+    requires { member < S.members shares.old }
+    ensures members { S.members shares.new ≡ S.members shares.old }
+    ensures answer { (limits : Limits) → EachStands (S.stands shares.old) (IsReply limits (S.members shares.old) member (turning what.now) result) }
+    ensures stands { EachStands (S.stands shares.old) (λ h. S.stands shares.new (added false member (entered member h) result (turning what.now) h)) }
+{
+    match what {
+        Turning::Next => gomp_loops::loop_next(shares, member),
+        Turning::Part(value) => gomp_ordered::ordered_start(shares, member, *value),
+    }
+}
+
+/// Answers a call that never waits.
+fn answer_at_once<S: Shares>(
+    shares: &mut S,
+    payloads: &mut Payloads,
+    member: u16,
+    call: &Call,
+) -> Reply
+    requires { member < S.members shares.old }
+    ensures members { S.members shares.new ≡ S.members shares.old }
+    ensures answer { (limits : Limits) → EachWordsStand S.stands (S.members shares.old) shares.old payloads.old (λ h. is_at_once call.now ≡ true → IsReady limits false member call.now h → IsAnswer (S.members shares.old) false member call.now (Ok result) h) }
+    ensures shares { (limits : Limits) → EachWordsStand S.stands (S.members shares.old) shares.old payloads.old (λ h. is_at_once call.now ≡ true → IsReady limits false member call.now h → S.stands shares.new (added false member (entered member h) result call.now h)) }
+    ensures payloads { (limits : Limits) → EachWordsStand S.stands (S.members shares.old) shares.old payloads.old (λ h. is_at_once call.now ≡ true → IsReady limits false member call.now h → PayloadsStand (S.members shares.old) payloads.new (added false member (entered member h) result call.now h)) }
+{
     match call {
-        Call::LoopStart(desc) => start(shares, member, limits, desc),
-        Call::LoopNext => Ok(gomp_loops::loop_next(shares, member)),
-        Call::LoopEnd => arrive(shares, barriers, member, Arrival::ShareEnd),
-        Call::LoopEndNowait => Ok(gomp_loops::loop_end_nowait(shares, member)),
-        Call::Barrier => arrive(shares, barriers, member, Arrival::Barrier),
-        Call::RegionEnd => arrive(shares, barriers, member, Arrival::RegionEnd),
-        Call::Resume => match waiting {
-            Some(Waiting::Start(desc)) => start(shares, member, limits, desc),
-            Some(Waiting::Arrive(_)) => Ok(turn(barriers, member)),
-            // Not where the call is ready: this is the first test of its row.
-            None => Ok(Reply::Refused(Refusal::NotInside)),
-        },
-        Call::Stop => Ok(Reply::Stopped),
+        Call::LoopEndNowait => gomp_loops::loop_end_nowait(shares, member),
+        Call::SectionsNext => gomp_sections::sections_next(shares, member),
+        Call::SectionsEndNowait => gomp_sections::sections_end_nowait(shares, member),
+        Call::SingleCopyEnd(words) => put_words(shares, payloads, member, words),
+        Call::OrderedEnd => gomp_ordered::ordered_end(shares, member),
+        Call::Stop => Reply::Stopped,
+        // Not here: the others can wait, or repeat a call that does.
+        _ => Reply::Refused(Refusal::NotInside),
+    }
+}
+
+/// The executor of a `single` puts its words, and leaves it.
+fn put_words<S: Shares>(
+    shares: &mut S,
+    payloads: &mut Payloads,
+    member: u16,
+    words: &Payload,
+) -> Reply
+    requires { member < S.members shares.old }
+    ensures members { S.members shares.new ≡ S.members shares.old }
+    ensures answer { (limits : Limits) → EachWordsStand S.stands (S.members shares.old) shares.old payloads.old (λ h. IsReady limits false member (SingleCopyEnd words.now) h → IsAnswer (S.members shares.old) false member (SingleCopyEnd words.now) (Ok result) h) }
+    ensures shares { (limits : Limits) → EachWordsStand S.stands (S.members shares.old) shares.old payloads.old (λ h. IsReady limits false member (SingleCopyEnd words.now) h → S.stands shares.new (added false member (entered member h) result (SingleCopyEnd words.now) h)) }
+    ensures payloads { (limits : Limits) → EachWordsStand S.stands (S.members shares.old) shares.old payloads.old (λ h. IsReady limits false member (SingleCopyEnd words.now) h → PayloadsStand (S.members shares.old) payloads.new (added false member (entered member h) result (SingleCopyEnd words.now) h)) }
+{
+    laws::inside_is_open();
+    laws::eight_before();
+    let Some((number, _)) = shares.look(member).current else {
+        // Not where the call is ready: this is its own test.
+        return Reply::Refused(Refusal::NotInside);
+    };
+    let unput = is_unput(shares, payloads, member);
+    match gomp_sections::single_copy_end(shares, member, unput) {
+        Ok(()) => {
+            payloads.put(number, words.copied());
+            Reply::Finished
+        }
+        Err(refusal) => Reply::Refused(refusal),
     }
 }
 
@@ -84,38 +160,4 @@ pub fn broken_after(
             place: *place,
         }),
     }
-}
-
-/// Starts a loop, or asks again whether there is room for it. The error is the share that the
-/// team has there, where it is another loop.
-fn start<S: Shares>(
-    shares: &mut S,
-    member: u16,
-    limits: &Limits,
-    desc: &LoopDesc,
-) -> Result<Reply, Place>
-    requires { member < S.members shares.old }
-    ensures members { S.members shares.new ≡ S.members shares.old }
-    ensures answer { EachStands (S.stands shares.old) (λ h. IsReady limits.now false member (LoopStart desc.now) h → IsAnswer (S.members shares.old) false member (LoopStart desc.now) result h) }
-    ensures stands { EachStands (S.stands shares.old) (λ h. IsReady limits.now false member (LoopStart desc.now) h → S.stands shares.new (added false member (entered member h) (reply_to result) (LoopStart desc.now) h)) }
-{
-    let reply = gomp_loops::loop_start(shares, member, limits, desc);
-    if is_mismatch(&reply) {
-        return Err(at_share(shares.look(member).entered));
-    }
-    Ok(reply)
-}
-
-/// Whether a reply tells that the construct differs from the team's.
-fn is_mismatch(reply: &Reply) -> bool
-    ensures { IsTrue result ↔ reply.now ≡ Refused Mismatch }
-{
-    matches!(reply, Reply::Refused(Refusal::Mismatch))
-}
-
-/// The place of this share. A place shows a number up to the largest `u64`, and so this one as it is.
-fn at_share(number: u64) -> Place
-    ensures { result ≡ Share (shown number) }
-{
-    Place::Share(number)
 }

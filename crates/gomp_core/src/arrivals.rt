@@ -1,7 +1,8 @@
-//! Arrivals: the `barrier` construct, the end of a loop with a barrier, and the end of the region.
+//! Arrivals: the `barrier` construct, the end of a loop or of sections with a barrier, and the end of
+//! the region.
 //!
-//! OpenMP API 5.2, sections 15.3.1 and 15.3.2; libgomp's `GOMP_barrier`, `GOMP_loop_end` and
-//! `GOMP_parallel_end`.
+//! OpenMP API 5.2, sections 15.3.1 and 15.3.2; libgomp's `GOMP_barrier`, `GOMP_loop_end`,
+//! `GOMP_sections_end` and `GOMP_parallel_end`.
 
 ghost use Rattle.std.specs.Prelude.{◌≡◌, ◌<◌, ℕ, List, length, false, Ok};
 ghost use Rattle.gomp_types.specs.declared.event.Event.{Event};
@@ -11,54 +12,56 @@ ghost use Rattle.gomp_types.specs.Replies.{Awaits};
 ghost use Rattle.gomp_share_plain.specs.Calls.{EachStands};
 ghost use Rattle.gomp_barrier.specs.Stands.{Stands as BarriersStand};
 ghost use Rattle.gomp_core.specs.Waits.{arriving};
-ghost use Rattle.gomp_core.specs.Answers.{EachPartsStand, PartsStand, MayLeave, IsAnswer, reply_to, passed_after};
+ghost use Rattle.gomp_core.specs.Answers.{EachBothStand, BothStand, MayLeave, IsAnswer, reply_to, passed_after};
 
+use crate::waiting::Arriving;
 use gomp_barrier::Barriers;
 use gomp_share_plain::Shares;
-use gomp_types::{Arrival, Place, Refusal, Reply, Tag};
+use gomp_types::{Place, Refusal, Reply, Tag};
 
-/// The member arrives at its next barrier, and passes it where all have arrived. Where a loop ends
-/// there, the member has left it before it arrives.
+/// The member arrives at its next barrier, and passes it where all have arrived. Where a
+/// construct ends there, the member has left it before it arrives.
 ///
 /// The error is the place where its arrival differs from those of other members; then it stays where
-/// it is, in its loop too, and so the arrival is compared before the loop is left.
+/// it is, in its construct too, and so the arrival is compared before that is left.
 pub fn arrive<S: Shares>(
     shares: &mut S,
     barriers: &mut Barriers,
     member: u16,
-    kind: Arrival,
+    how: Arriving,
 ) -> Result<Reply, Place>
     requires shares { member < S.members shares.old }
     requires barriers { member < length barriers.old.seats }
     ensures members { S.members shares.new ≡ S.members shares.old }
     ensures seats { length barriers.new.seats ≡ length barriers.old.seats }
-    ensures answer { EachPartsStand S.stands shares.old barriers.old (λ h. MayLeave kind member h → IsAnswer (length barriers.old.seats) false member (arriving kind) result h) }
-    ensures stands { EachPartsStand S.stands shares.old barriers.old (λ h. MayLeave kind member h → PartsStand S.stands shares.new barriers.new (added false member (entered member h) (reply_to result) (arriving kind) h)) }
+    ensures answer { EachBothStand S.stands shares.old barriers.old (λ h. MayLeave how member h → IsAnswer (length barriers.old.seats) false member (arriving how) result h) }
+    ensures stands { EachBothStand S.stands shares.old barriers.old (λ h. MayLeave how member h → BothStand S.stands shares.new barriers.new (added false member (entered member h) (reply_to result) (arriving how) h)) }
 {
     gomp_barrier::aside();
     let tag = Tag {
-        kind,
+        kind: how.kind(),
         shares: shares.look(member).entered,
     };
     if !barriers.arrive(member, tag) {
         return Err(Place::Barrier(barriers.look(member).number));
     }
-    match leave(shares, member, kind) {
+    match leave(shares, member, how) {
         Ok(()) => Ok(turn(barriers, member)),
         // Not where `MayLeave` holds, as `answer` sees to.
         Err(refusal) => Ok(Reply::Refused(refusal)),
     }
 }
 
-/// Leaves the loop that ends with an arrival of this kind, where one does.
-fn leave<S: Shares>(shares: &mut S, member: u16, kind: Arrival) -> Result<(), Refusal>
+/// Leaves the construct that ends with this arrival, where one does.
+fn leave<S: Shares>(shares: &mut S, member: u16, how: Arriving) -> Result<(), Refusal>
     requires { member < S.members shares.old }
     ensures members { S.members shares.new ≡ S.members shares.old }
-    ensures left { EachStands (S.stands shares.old) (λ h. MayLeave kind member h → (result ≡ Ok tt) × S.stands shares.new (share_left (ends_share (arriving kind)) member h)) }
+    ensures left { EachStands (S.stands shares.old) (λ h. MayLeave how member h → (result ≡ Ok tt) × S.stands shares.new (share_left (ends_share (arriving how)) member h)) }
 {
-    match kind {
-        Arrival::ShareEnd => gomp_loops::loop_end(shares, member),
-        Arrival::Barrier | Arrival::RegionEnd => Ok(()),
+    match how {
+        Arriving::LoopEnd => gomp_loops::loop_end(shares, member),
+        Arriving::SectionsEnd => gomp_sections::sections_end(shares, member),
+        Arriving::Barrier | Arriving::RegionEnd => Ok(()),
     }
 }
 

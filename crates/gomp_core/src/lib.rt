@@ -4,12 +4,15 @@
 //! A team is made with the control variables of its members, from which runtime loops take their
 //! schedule, and any member may stop it.
 //! A team is generic in the body of its work-shares; its parts are reached through the contracts of
-//! `gomp_share_plain`, `gomp_loops` and `gomp_barrier`, and each of them stands for all of the
-//! team's events.
+//! `gomp_share_plain`, `gomp_loops`, `gomp_sections` and `gomp_barrier`, and each of them stands for
+//! all of the team's events. The words that executors of `single` constructs put are kept here.
 #![tactic(auto)]
 
 mod answer;
 mod arrivals;
+mod own;
+mod payloads;
+mod starts;
 pub mod steps;
 pub mod team;
 mod waiting;
@@ -17,6 +20,8 @@ mod waiting;
 mod worked;
 #[cfg(test)]
 mod worked_schedules;
+#[cfg(test)]
+mod worked_shares;
 
 pub use steps::run;
 pub use team::Team;

@@ -7,7 +7,7 @@ ghost use Rattle.gomp_types.specs.Record.{record_after, events};
 ghost use Rattle.gomp_types.specs.Causes.{Caused};
 ghost use Rattle.gomp_types.specs.Deals.{schedule};
 ghost use Rattle.gomp_types.specs.Rules.{Always};
-ghost use Rattle.gomp_types.specs.Laws.{TakenOnce, WholeWhereOver, SameShares, SameArrivals, TellsShares, PassesLast};
+ghost use Rattle.gomp_types.specs.Laws.{TakenOnce, WholeWhereOver, OrderedLaws, PutsOnce, GetsWhatWasPut, SameShares, SameArrivals, TellsShares, PassesLast};
 ghost use Rattle.gomp_core.specs.Stands.{Stands, terms_of, standard_terms, NoneForMemory};
 ghost use Rattle.gomp_core.specs.Resolved.{resolved_steps};
 
@@ -22,9 +22,10 @@ use std::alloc::Global;
 /// asked a loop whose schedule is left to the control variables has theirs.
 ///
 /// **The headline**, of all that these steps and replies give: for every team size and list of
-/// steps no iteration is taken twice, a loop that all members end had every iteration taken, all
-/// members go through the same constructs in the same order, and no member passes a barrier before
-/// all arrived.
+/// steps no iteration, section or single is taken twice; a loop or sections construct that all members
+/// end had every iteration or section taken; the words that a member copies are those that the
+/// executor of the single put; all members go through the same constructs in the same order; and no
+/// member passes a barrier before all arrived.
 ///
 /// Refused with `BadTeam` (E38) where the size is not 1 to 64, and with `NoMemory` (E37) where the
 /// memory of the team or of the replies is refused; then the steps are dropped and nothing is kept.
@@ -44,6 +45,9 @@ pub fn run<S: Shares + Drop>(
     ensures stands { IfOk result (λ ran. Stands S.stands S.members ran.0 (record_after (resolved_steps icv steps.items) ran.1.items [])) }
     ensures taken_once { IfOk result (λ ran. TakenOnce (schedule count) (events (record_after (resolved_steps icv steps.items) ran.1.items []))) }
     ensures whole { IfOk result (λ ran. WholeWhereOver count (events (record_after (resolved_steps icv steps.items) ran.1.items []))) }
+    ensures ordered { IfOk result (λ ran. OrderedLaws count (events (record_after (resolved_steps icv steps.items) ran.1.items []))) }
+    ensures puts { IfOk result (λ ran. Always PutsOnce (events (record_after (resolved_steps icv steps.items) ran.1.items []))) }
+    ensures gets { IfOk result (λ ran. Always GetsWhatWasPut (events (record_after (resolved_steps icv steps.items) ran.1.items []))) }
     ensures same_shares { IfOk result (λ ran. SameShares count (events (record_after (resolved_steps icv steps.items) ran.1.items []))) }
     ensures same_arrivals { IfOk result (λ ran. SameArrivals (events (record_after (resolved_steps icv steps.items) ran.1.items []))) }
     ensures one_order { IfOk result (λ ran. Always TellsShares (events (record_after (resolved_steps icv steps.items) ran.1.items []))) }

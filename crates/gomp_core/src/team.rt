@@ -15,6 +15,8 @@ ghost use Rattle.gomp_core.specs.Stands.{Stands, standard, terms_of, members_of}
 ghost use Rattle.gomp_core.specs.Resolved.{resolved_call, resolved_step};
 
 use crate::answer::{answer, broken_after, reply_to};
+use crate::own::own_refusal;
+use crate::payloads::Payloads;
 use crate::waiting::{Waiting, waiting_after};
 use gomp_barrier::Barriers;
 use gomp_icv::Icv;
@@ -34,6 +36,7 @@ pub struct Team<S: Shares> {
     broken: Option<Clash>,
     waiting: Vec<Option<Waiting>>,
     barriers: Barriers,
+    payloads: Payloads,
     shares: S,
 }
 
@@ -43,9 +46,9 @@ impl<S: Shares> Model for Team<S> {
 
     ghost Value = { TeamView S };
 
-    ghost view = { λ t. record { icv = t.icv; limits = t.limits; broken = t.broken; waiting = t.waiting.items; barriers = t.barriers; shares = t.shares } };
+    ghost view = { λ t. record { icv = t.icv; limits = t.limits; broken = t.broken; waiting = t.waiting.items; barriers = t.barriers; payloads = t.payloads; shares = t.shares } };
 
-    ghost invariant = { λ t. (before : Record) × Stands S.stands S.members (record { icv = t.icv; limits = t.limits; broken = t.broken; waiting = t.waiting.items; barriers = t.barriers; shares = t.shares }) before };
+    ghost invariant = { λ t. (before : Record) × Stands S.stands S.members (record { icv = t.icv; limits = t.limits; broken = t.broken; waiting = t.waiting.items; barriers = t.barriers; payloads = t.payloads; shares = t.shares }) before };
 }
 
 impl<S: Shares> Team<S> {
@@ -106,6 +109,7 @@ impl<S: Shares> Team<S> {
             broken: None,
             waiting: vec![in alloc; none; count as usize]?,
             barriers: Barriers::make(alloc, count)?,
+            payloads: Payloads::new(),
             shares: S::make(alloc, count)?,
         })
     }
@@ -151,10 +155,11 @@ impl<S: Shares> Team<S> {
         let outcome = answer(
             &mut self.shares,
             &mut self.barriers,
+            &mut self.payloads,
             &self.limits,
             member,
             &call,
-            &waiting,
+            waiting,
         );
         self.broken = broken_after(self.broken, member, &outcome);
         let reply = reply_to(outcome);
@@ -162,9 +167,10 @@ impl<S: Shares> Team<S> {
         reply
     }
 
-    /// Whatever was asked: no iteration is taken twice, a loop that all members end had every
-    /// iteration taken, all members go through the same constructs in the same order, and no member
-    /// passes a barrier before all arrived.
+    /// Whatever was asked: no iteration, section or single is taken twice; a loop or sections construct
+    /// that all members end had every iteration or section taken; the words that a member copies are
+    /// those that the executor of the single put; all members go through the same constructs in the
+    /// same order; and no member passes a barrier before all arrived.
     pub fn laws(&self)
         ensures known { (before : Record) × Stands S.stands S.members self.now before }
         ensures laws { (before : Record) → Stands S.stands S.members self.now before → Headline (members_of self.now) (events before) }
@@ -200,7 +206,7 @@ impl<S: Shares> Team<S> {
         if waits {
             return Some(Refusal::Waiting);
         }
-        gomp_loops::first_refusal(&self.shares, member, &self.limits, call)
+        own_refusal(&self.shares, &self.payloads, member, &self.limits, call)
     }
 }
 

@@ -11,31 +11,32 @@ use std::sync::Mutex;
 use std::test::Fail;
 
 /// A loop in chunks of this size, from `start` to `end`, `end` excluded, by `incr`.
-fn dynamic(chunk: i64, start: i64, end: i64, incr: i64, end_kind: EndKind) -> Call {
+pub fn dynamic(chunk: i64, start: i64, end: i64, incr: i64, end_kind: EndKind) -> Call {
     Call::LoopStart(LoopDesc {
         start,
         end,
         incr,
         sched: Sched::Dynamic,
         chunk,
+        ordered: false,
         end_kind,
     })
 }
 
-fn by(member: u16, call: Call) -> Step {
+pub fn by(member: u16, call: Call) -> Step {
     Step { member, call }
 }
 
-fn chunk(first: i64, count: u64) -> Reply {
+pub fn chunk(first: i64, count: u64) -> Reply {
     Reply::Chunk { first, count }
 }
 
-fn broken(member: u16, place: Place) -> Reply {
+pub fn broken(member: u16, place: Place) -> Reply {
     Reply::Refused(Refusal::Broken(Clash { member, place }))
 }
 
 /// That `run` gives these replies.
-fn gives(
+pub fn gives(
     rt: &impl Abort,
     alloc: Global,
     count: u16,

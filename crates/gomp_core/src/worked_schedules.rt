@@ -21,6 +21,7 @@ fn of(sched: Sched, chunk: i64, end: i64) -> LoopDesc {
         incr: 1,
         sched,
         chunk,
+        ordered: false,
         end_kind: EndKind::Nowait,
     }
 }

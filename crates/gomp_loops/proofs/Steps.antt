@@ -1,36 +1,49 @@
 -- What a member sees, and the piece that it was given, in the words of the events.
-use Rattle.std.proofs.Common.{◌≡◌, ℕ, ◌+◌, ◌-◌, ◌<◌, ◌≤◌, Bool, true, false, List, [], ◌∷◌, ◌++◌, Option, Some, None, Ok, Err, refl, ap, ◌∙◌, sym, subst, arith}
+use Rattle.std.proofs.Common.{◌≡◌, ℕ, ℤ, ◌+◌, ◌-◌, ◌<◌, ◌≤◌, Bool, true, false, List, [], ◌∷◌, ◌++◌, Option, Some, None, Ok, Err, refl, ap, ◌∙◌, sym, subst, arith}
 use Rattle.std.proofs.lemmas.Bool.Decides.{nat_tests}
-use Rattle.std.specs.Prelude.{pos, ◌≢◌, ◌==◌, nat_le, is_some}
+use Rattle.std.specs.Prelude.{pos, not, if◌then◌else◌, ◌≢◌, ◌==◌, ◌&&◌, nat_le, is_some}
+use Rattle.std.specs.Ordering.{int_eq}
 use Rattle.gomp_types.specs.declared.call.Call.TheVariants.{LoopStart, LoopNext}
+use Rattle.gomp_types.specs.declared.loop_desc.Sched.{Sched}
+use Rattle.gomp_types.specs.declared.loop_desc.Sched.TheVariants as sched
+use Rattle.gomp_types.specs.declared.shape.ShareKind.TheVariants.{StaticEven, StaticChunked}
+use Rattle.gomp_types.specs.declared.reply.Reply.TheVariants.{Wait}
 use Rattle.gomp_types.specs.declared.loop_desc.LoopDesc.{LoopDesc}
 use Rattle.gomp_types.specs.declared.loop_desc.EndKind.{EndKind}
 use Rattle.gomp_types.specs.declared.limits.Limits.{Limits}
 use Rattle.gomp_types.specs.declared.refusal.Refusal.{Refusal}
-use Rattle.gomp_types.specs.declared.refusal.Refusal.TheVariants.{InsideShare, TooManyShares, Mismatch}
+use Rattle.gomp_types.specs.declared.refusal.Refusal.TheVariants.{InsideShare, OutsideShare, InOrdered, Drained as DrainedTest, TooManyShares, Mismatch}
 use Rattle.gomp_types.specs.declared.shape.Shape.{Shape}
 use Rattle.gomp_types.specs.declared.event.Event.{Event}
-use Rattle.gomp_types.specs.declared.event.Event.TheVariants.{Enter}
+use Rattle.gomp_types.specs.declared.event.Event.TheVariants.{Enter, HandOn}
 use Rattle.gomp_types.specs.Tests.{Test, first_refusal, outcome}
 use Rattle.gomp_types.specs.Iterations.{loop_tests}
-use Rattle.gomp_types.specs.Pieces.{Piece, shape_of}
+use Rattle.gomp_types.specs.Pieces.{Piece, kind_of, shape_of}
 use Rattle.gomp_types.specs.Values.{IsShape, value_at, iteration_at}
-use Rattle.gomp_types.specs.Events.{entered, open_share, has_drained, shape_at, has_room}
-use Rattle.gomp_types.specs.Record.{added}
-use Rattle.gomp_types.specs.Refusals.{end_tests, call_tests, shape_differs}
+use Rattle.gomp_types.specs.Events.{entered, open_share, open_number, share_number, in_kind, has_drained, in_part, turn, shape_at, has_room}
+use Rattle.gomp_types.specs.Ordered.{has_turn, must_wait}
+use Rattle.gomp_types.specs.Record.{handed_in, handed_on, added}
+use Rattle.gomp_types.specs.Refusals.{loop_end_tests, call_tests, shape_differs}
 use Rattle.gomp_types.specs.Replies.{DealsOut}
+use Rattle.gomp_types.specs.Causes.{IsReply}
+use Rattle.gomp_types.specs.Shapes.{is_loop}
 use Rattle.gomp_share_plain.specs.declared.Seen.{Seen}
-use Rattle.gomp_share_plain.specs.Calls.{seen_of, Claims, claimed}
-use Rattle.gomp_loops.specs.OwnTests.{own_start_tests, own_next_tests, own_end_tests}
-use Rattle.gomp_loops.specs.Answers.{reply_of, IsReply}
+use Rattle.gomp_share_plain.specs.declared.own.Construct.TheVariants.{Loop}
+use Rattle.gomp_share_plain.specs.Calls.{seen_of, CanClaim, Claims, claimed, own_turn, piece_handed}
+use Rattle.gomp_share_plain.specs.Own.{next_tests_of, end_tests_of}
+use Rattle.gomp_loops.specs.OwnTests.{own_start_tests}
+use Rattle.gomp_loops.specs.Answers.{reply_of}
 
 -- The tests
 
-pub end_is : (kind : EndKind) (m : ℕ) (seen : Seen) (h : List Event) (found : Option Refusal) → seen ≡ seen_of m h → found ≡ first_refusal (own_end_tests kind seen) → first_refusal (end_tests kind m h) ≡ found
-end_is kind m seen h found e is = sym (is ∙ ap (λ (s : Seen). first_refusal (own_end_tests kind s)) e)
+pub end_is : (kind : EndKind) (m : ℕ) (seen : Seen) (h : List Event) (found : Option Refusal) → seen ≡ seen_of m h → found ≡ first_refusal (end_tests_of Loop kind seen) → first_refusal (loop_end_tests kind m h) ≡ found
+end_is kind m seen h found e is = sym (is ∙ ap (λ (s : Seen). first_refusal (end_tests_of Loop kind s)) e)
 
-pub next_is : (limits : Limits) (m : ℕ) (seen : Seen) (h : List Event) (found : Option Refusal) → seen ≡ seen_of m h → found ≡ first_refusal (own_next_tests seen) → first_refusal (call_tests limits m LoopNext h) ≡ found
-next_is limits m seen h found e is = sym (is ∙ ap (λ (s : Seen). first_refusal (own_next_tests s)) e)
+pub next_own : (m : ℕ) (seen : Seen) (h : List Event) (found : Option Refusal) → seen ≡ seen_of m h → found ≡ first_refusal (next_tests_of Loop seen) → first_refusal (next_tests_of Loop (seen_of m h)) ≡ found
+next_own m seen h found e is = sym (is ∙ ap (λ (s : Seen). first_refusal (next_tests_of Loop s)) e)
+
+pub next_is : (limits : Limits) (m : ℕ) (seen : Seen) (h : List Event) (found : Option Refusal) → seen ≡ seen_of m h → found ≡ first_refusal (next_tests_of Loop seen) → first_refusal (call_tests limits m LoopNext h) ≡ found
+next_is limits m seen h found e is = next_own m seen h found e is
 
 -- of tests in a row the first of the front, and else of the rest
 front_holds : (tests more : List Test) (refusal : Refusal) → first_refusal tests ≡ Some refusal → first_refusal (tests ++ more) ≡ Some refusal
@@ -79,11 +92,26 @@ outcome_value (Some refusal) value found e = absurd (cc)
 
 -- Replies
 
--- a next whose tests fail is answered what the share deals out
+-- a next whose tests fail is answered what the share deals out, once the turn is the member's
 pub next_reply : (limits : Limits) (members m i : ℕ) (shape : Shape) (answer : Option Piece) (h : List Event) → open_share m h ≡ Some (i, shape) → first_refusal (call_tests limits m LoopNext h) ≡ None →
-    DealsOut members m (Some (i, shape)) (reply_of shape answer) h → IsReply limits members m LoopNext (reply_of shape answer) h
-next_reply limits members m i shape None h there none dealt = (none, rw there dealt)
-next_reply limits members m i shape (Some piece) h there none dealt = (none, rw there dealt)
+    must_wait members (i, shape) m h ≡ false → DealsOut members m (Some (i, shape)) (reply_of shape answer) h → IsReply limits members m LoopNext (reply_of shape answer) h
+next_reply limits members m i shape None h there none turn dealt = (none, rw there (turn, dealt))
+next_reply limits members m i shape (Some piece) h there none turn dealt = (none, rw there (turn, dealt))
+
+-- and waits before that
+must_by : (ordered turn : Bool) → ordered ≡ true → turn ≡ false → (ordered && not turn) ≡ true
+must_by ordered turn p q = rw (p, q) refl
+
+may_by : (ordered turn : Bool) → turn ≡ true → (ordered && not turn) ≡ false
+may_by true turn e = rw e refl
+may_by false turn e = refl
+
+pub next_waits : (limits : Limits) (members m i : ℕ) (shape : Shape) (h : List Event) → open_share m h ≡ Some (i, shape) → first_refusal (call_tests limits m LoopNext h) ≡ None →
+    shape.ordered ≡ true → false ≡ own_turn members m h → IsReply limits members m LoopNext Wait h
+next_waits limits members m i shape h there none ordered e =
+    let last : has_turn members (i, shape) m h ≡ false = sym (rw there at e) in
+    let waits : must_wait members (i, shape) m h ≡ true = must_by shape.ordered (has_turn members (i, shape) m h) ordered last in
+    (none, rw there waits)
 
 -- and so is a start, where there is room
 pub start_reply : (limits : Limits) (members m : ℕ) (loop : LoopDesc) (answer : Option Piece) (h : List Event) → first_refusal (call_tests limits m (LoopStart loop) h) ≡ None → has_room members (entered m h) h ≡ true →
@@ -130,16 +158,99 @@ deals_by members m share (Some piece) h claims same =
 pub deals : (members m i : ℕ) (shape : Shape) (answer : Option Piece) (h : List Event) → open_share m h ≡ Some (i, shape) → Claims members m answer h → DealsOut members m (Some (i, shape)) (reply_of shape answer) h
 deals members m i shape answer h there claims = deals_by members m (i, shape) answer h claims (claim_here members m i shape answer h there claims)
 
+-- A next piece
+
+-- a next whose tests fail is in no ordered part, and was not told that nothing is left
+next_by : (loop part drained : Bool) → first_refusal ((not loop, OutsideShare) ∷ (part, InOrdered) ∷ (drained, DrainedTest) ∷ []) ≡ None → (part ≡ false) × (drained ≡ false)
+next_by true false false e = (refl, refl)
+next_by true false true e = absurd (cc)
+next_by true true drained e = absurd (cc)
+next_by false part drained e = absurd (cc)
+
+-- that a piece is handed on changes nothing of what the member sees
+handed_by : (m i n : ℕ) (ordered : Bool) (h : List Event) → seen_of m (if ordered then HandOn i m n ∷ h else h) ≡ seen_of m h
+handed_by m i n true h = refl
+handed_by m i n false h = refl
+
+handed_sees : (m : ℕ) (current : Option (ℕ × Shape)) (h : List Event) → seen_of m (handed_in current m h) ≡ seen_of m h
+handed_sees m None h = refl
+handed_sees m (Some share) h = handed_by m share.0 (turn share.0 h) share.1.ordered h
+
+pub handed_seen : (m : ℕ) (h : List Event) → seen_of m (handed_on m h) ≡ seen_of m h
+handed_seen m h = handed_sees m (open_share m h) h
+
+pub handed_there : (m i : ℕ) (shape : Shape) (h : List Event) → open_share m h ≡ Some (i, shape) → open_share m (handed_on m h) ≡ Some (i, shape)
+handed_there m i shape h there = ap (λ (s : Seen). s.current) (handed_seen m h) ∙ there
+
+-- nor of what is dealt out
+handed_deals_by : (members m j n : ℕ) (ordered : Bool) (share : ℕ × Shape) (answer : Option Piece) (h : List Event) → DealsOut members m (Some share) (reply_of share.1 answer) (if ordered then HandOn j m n ∷ h else h) →
+    DealsOut members m (Some share) (reply_of share.1 answer) h
+handed_deals_by members m j n true share None h dealt = dealt
+handed_deals_by members m j n true share (Some piece) h dealt = dealt
+handed_deals_by members m j n false share answer h dealt = dealt
+
+handed_deals : (members m : ℕ) (current : Option (ℕ × Shape)) (share : ℕ × Shape) (answer : Option Piece) (h : List Event) → DealsOut members m (Some share) (reply_of share.1 answer) (handed_in current m h) →
+    DealsOut members m (Some share) (reply_of share.1 answer) h
+handed_deals members m None share answer h dealt = dealt
+handed_deals members m (Some own) share answer h dealt = handed_deals_by members m own.0 (turn own.0 h) own.1.ordered share answer h dealt
+
+-- what a next has of the shares before it claims: they stand for the events in which its piece was handed on, and the turn was the member's
+pub record Handed (Stand : List Event → Type 0) (members now m i : ℕ) (shape : Shape) (h : List Event) : Type 0 where
+  pub stands : Stand (handed_on m h)
+  pub turn : must_wait members (i, shape) m h ≡ false
+  pub same : now ≡ members
+
+pub handed : (stands : List Event → Type 0) (members now m i : ℕ) (shape : Shape) (h : List Event) → open_share m h ≡ Some (i, shape) → shape.ordered ≡ true →
+    true ≡ own_turn members m h → now ≡ members → stands (piece_handed m true h) → Handed stands members now m i shape h
+handed stands members now m i shape h there ordered e same st =
+    let last : has_turn members (i, shape) m h ≡ true = sym (rw there at e) in
+    let is : piece_handed m true h ≡ handed_on m h = rw (there, ordered) refl in
+    record {
+      stands = subst stands is st;
+      turn = may_by shape.ordered (has_turn members (i, shape) m h) last;
+      same = same;
+    }
+
+-- a piece of another loop is not handed on
+pub kept : (stands : List Event → Type 0) (members now m i : ℕ) (shape : Shape) (h : List Event) → open_share m h ≡ Some (i, shape) → shape.ordered ≡ false →
+    now ≡ members → stands h → Handed stands members now m i shape h
+kept stands members now m i shape h there ordered same st =
+    let is : h ≡ handed_on m h = rw (there, ordered) refl in
+    record {
+      stands = subst stands is st;
+      turn = rw ordered refl;
+      same = same;
+    }
+
+pub next_claims : (members m i : ℕ) (shape : Shape) (seen : Seen) (h : List Event) → m < members → seen ≡ seen_of m (handed_on m h) → open_share m h ≡ Some (i, shape) → first_refusal (next_tests_of Loop (seen_of m h)) ≡ None →
+    CanClaim members m seen
+next_claims members m i shape seen h lt e there none =
+    let tests = next_by (in_kind is_loop (open_share m h)) (in_part m h) (has_drained m h) none in
+    rw (e, handed_seen m h) (record {
+      member = lt;
+      inside = rw there refl;
+      more = tests.1;
+      apart = tests.0;
+    })
+
+pub next_deals : (members m i : ℕ) (shape : Shape) (answer : Option Piece) (h : List Event) → open_share m h ≡ Some (i, shape) → Claims members m answer (handed_on m h) → DealsOut members m (Some (i, shape)) (reply_of shape answer) h
+next_deals members m i shape answer h there claims =
+    handed_deals members m (open_share m h) (i, shape) answer h (deals members m i shape answer (handed_on m h) (handed_there m i shape h there) claims)
+
 -- and it adds what the shares add
-pub next_adds : (members m i shares : ℕ) (shape : Shape) (answer : Option Piece) (h : List Event) → ValuesTell → open_share m h ≡ Some (i, shape) → Claims members m answer h →
-    added false m shares (reply_of shape answer) LoopNext h ≡ claimed m answer h
-next_adds members m i shares shape None h tell there claims = refl
+pub next_adds : (members m i shares : ℕ) (shape : Shape) (answer : Option Piece) (h : List Event) → ValuesTell → open_share m h ≡ Some (i, shape) → Claims members m answer (handed_on m h) →
+    added false m shares (reply_of shape answer) LoopNext h ≡ claimed m answer (handed_on m h)
+next_adds members m i shares shape None h tell there claims =
+    let same : open_number m (handed_on m h) ≡ open_number m h = ap (λ (s : Seen). share_number s.current) (handed_seen m h) in
+    rw same refl
 next_adds members m i shares shape (Some piece) h tell there claims =
-    let valid = claim_valid members m i shape (Some piece) h there claims in
-    let within = claim_within members m i shape (Some piece) h there claims piece refl in
+    let here = handed_there m i shape h there in
+    let valid = claim_valid members m i shape (Some piece) (handed_on m h) here claims in
+    let within = claim_within members m i shape (Some piece) (handed_on m h) here claims piece refl in
     let some = within.0 in
     let back : piece.0 + (piece.1 - piece.0) ≡ piece.1 = omega arith in
-    rw (there, tell shape piece.0 valid.moves, back) refl
+    let same : open_number m (handed_on m h) ≡ i = ap share_number here in
+    rw (same, there, tell shape piece.0 valid.moves, back) refl
 
 -- A start
 
@@ -151,6 +262,20 @@ open_entered m i shape h = rw (same_number m) refl
 
 pub drained_entered : (m i : ℕ) (shape : Shape) (h : List Event) → has_drained m (Enter i m shape ∷ h) ≡ false
 drained_entered m i shape h = rw (same_number m) refl
+
+pub part_entered : (m i : ℕ) (shape : Shape) (h : List Event) → in_part m (Enter i m shape ∷ h) ≡ false
+part_entered m i shape h = rw (same_number m) refl
+
+-- a loop's share is a loop
+static_kind : (even : Bool) → is_loop (if even then StaticEven else StaticChunked) ≡ true
+static_kind true = refl
+static_kind false = refl
+
+pub loop_kind : (kind : Sched) (chunk : ℤ) → is_loop (kind_of kind chunk) ≡ true
+loop_kind sched.Static chunk = static_kind (int_eq chunk (pos 0))
+loop_kind sched.Dynamic chunk = refl
+loop_kind sched.Guided chunk = refl
+loop_kind sched.Runtime chunk = refl
 
 -- what is dealt out after an entry is dealt out before it
 pub start_deals : (members m i : ℕ) (shape : Shape) (answer : Option Piece) (h : List Event) → Claims members m answer (Enter i m shape ∷ h) → DealsOut members m (Some (i, shape)) (reply_of shape answer) h

@@ -8,17 +8,19 @@ ghost use Rattle.gomp_types.specs.declared.limits.Limits.{Limits};
 ghost use Rattle.gomp_types.specs.Tests.{first_refusal, outcome};
 ghost use Rattle.gomp_types.specs.Events.{entered};
 ghost use Rattle.gomp_types.specs.Record.{added};
-ghost use Rattle.gomp_types.specs.Refusals.{end_tests};
-ghost use Rattle.gomp_share_plain.specs.Calls.{EachStands, seen_of};
+ghost use Rattle.gomp_types.specs.Refusals.{loop_end_tests};
+ghost use Rattle.gomp_types.specs.Causes.{IsReply};
+ghost use Rattle.gomp_share_plain.specs.Calls.{EachStands, left_unless_refused, seen_of};
 ghost use Rattle.gomp_loops.specs.OwnTests.{own_tests};
-ghost use Rattle.gomp_loops.specs.Answers.{IsReply, left_unless_refused};
 
-use crate::own::{end_refusal, next_refusal, own_refusal, piece_reply, start_refusal};
-use gomp_share_plain::{Opening, Shares};
+use crate::own::{own_refusal, piece_reply, start_refusal};
+use gomp_share_plain::own::{end_refusal, next_refusal};
+use gomp_share_plain::{Construct, Opening, Shares};
 use gomp_types::{Call, EndKind, Limits, LoopDesc, Refusal, Reply, laws};
 
 /// Why the member may not make this call: the first test that holds of those that its place among
-/// the shares decides. `Mismatch`, which compares it with other members, is not among them.
+/// the shares decides. `Mismatch`, which compares it with other members, is not among them, and a
+/// call on another construct has none here.
 pub fn first_refusal<S: Shares>(
     shares: &S,
     member: u16,
@@ -67,9 +69,12 @@ pub fn loop_start<S: Shares>(shares: &mut S, member: u16, limits: &Limits, desc:
 }
 
 /// Answers the next chunk of the member's loop, `NoChunk` where none is left for it: then it may end
-/// the loop, and not ask again.
+/// the loop, and not ask again. Of an ordered loop the member's piece is handed on first.
 ///
-/// Refused with `OutsideShare` or `Drained`.
+/// `Wait` where the loop is ordered and some piece before the member's was not handed on, and nothing
+/// is handed on or taken: the layer above calls again on `Resume`. Refused with `OutsideShare` where
+/// the member is in no loop, though it may be in sections, with `InOrdered` where it is in an ordered
+/// part, or with `Drained`.
 pub fn loop_next<S: Shares>(shares: &mut S, member: u16) -> Reply
     requires { member < S.members shares.old }
     ensures members { S.members shares.new ≡ S.members shares.old }
@@ -79,12 +84,15 @@ pub fn loop_next<S: Shares>(shares: &mut S, member: u16) -> Reply
 {
     laws::values_tell();
     let seen = shares.look(member);
-    if let Some(refusal) = next_refusal(&seen) {
+    if let Some(refusal) = next_refusal(&seen, Construct::Loop) {
         return Reply::Refused(refusal);
     }
     let Some((_, shape)) = seen.current else {
         return Reply::Refused(Refusal::OutsideShare);
     };
+    if shape.ordered && !shares.hand_on(member) {
+        return Reply::Wait;
+    }
     piece_reply(&shape, shares.claim(member))
 }
 
@@ -94,16 +102,17 @@ pub fn loop_next<S: Shares>(shares: &mut S, member: u16) -> Reply
 /// members, since a `Mismatch` there leaves the member in its loop, and calls this last; then the
 /// member arrives. So the answer is not a reply yet.
 ///
-/// Refused with `OutsideShare`, `EndDiffers` or `NotDrained`.
+/// Refused with `OutsideShare` where the member is in no loop, though it may be in sections, with
+/// `InOrdered`, `EndDiffers` or `NotDrained`.
 pub fn loop_end<S: Shares>(shares: &mut S, member: u16) -> Result<(), Refusal>
     requires { member < S.members shares.old }
     ensures members { S.members shares.new ≡ S.members shares.old }
     ensures known { (h : List Event) × S.stands shares.old h }
-    ensures answer { EachStands (S.stands shares.old) (λ h. result ≡ outcome (first_refusal (end_tests WaitEnd member h)) tt) }
+    ensures answer { EachStands (S.stands shares.old) (λ h. result ≡ outcome (first_refusal (loop_end_tests WaitEnd member h)) tt) }
     ensures stands { EachStands (S.stands shares.old) (λ h. S.stands shares.new (left_unless_refused result member h)) }
 {
     let seen = shares.look(member);
-    if let Some(refusal) = end_refusal(&seen, EndKind::Wait) {
+    if let Some(refusal) = end_refusal(&seen, Construct::Loop, EndKind::Wait) {
         return Err(refusal);
     }
     shares.leave(member);
@@ -112,7 +121,8 @@ pub fn loop_end<S: Shares>(shares: &mut S, member: u16) -> Result<(), Refusal>
 
 /// Leaves the member's loop, which has no barrier at its end.
 ///
-/// Refused with `OutsideShare`, `EndDiffers` or `NotDrained`.
+/// Refused with `OutsideShare` where the member is in no loop, though it may be in sections, with
+/// `InOrdered`, `EndDiffers` or `NotDrained`.
 pub fn loop_end_nowait<S: Shares>(shares: &mut S, member: u16) -> Reply
     requires { member < S.members shares.old }
     ensures members { S.members shares.new ≡ S.members shares.old }
@@ -121,7 +131,7 @@ pub fn loop_end_nowait<S: Shares>(shares: &mut S, member: u16) -> Reply
     ensures stands { EachStands (S.stands shares.old) (λ h. S.stands shares.new (added false member (entered member h) result LoopEndNowait h)) }
 {
     let seen = shares.look(member);
-    if let Some(refusal) = end_refusal(&seen, EndKind::Nowait) {
+    if let Some(refusal) = end_refusal(&seen, Construct::Loop, EndKind::Nowait) {
         return Reply::Refused(refusal);
     }
     shares.leave(member);

@@ -5,7 +5,13 @@
 //! team is broken, the member has left the region or has a wait open, and how it arrives at a
 //! barrier, is tested by the layer above.
 //!
+//! The pieces of an ordered loop are handed on in their order: a member that asks for its next chunk
+//! waits until every piece before its own was handed on, and hands its own on first. The ordered parts
+//! themselves are in `gomp_ordered`.
+//!
 //! [`own`] has what does not ask the shares: a member's own tests, and the reply that a piece gives.
+//! The tests of a next chunk and of an end are those of `gomp_share_plain::own`, which sections have
+//! in common; a call here on a member in sections finds it outside of every loop.
 //!
 //! OpenMP API 5.2, section 11.5. The calls have the form of libgomp's `GOMP_loop_*_start`, `_next`,
 //! `GOMP_loop_end` and `GOMP_loop_end_nowait` (libgomp manual, the ABI chapter).

@@ -5,27 +5,28 @@ ghost use Rattle.std.specs.Prelude.{◌≡◌, ◌<◌, ◌≤◌, ◌^◌, IfNo
 ghost use Rattle.std.specs.Option.{ForSome};
 ghost use Rattle.gomp_types.specs.Tests.{first_refusal};
 ghost use Rattle.gomp_types.specs.Values.{IsShape};
-ghost use Rattle.gomp_loops.specs.OwnTests.{own_start_tests, own_next_tests, own_end_tests, own_tests};
+ghost use Rattle.gomp_loops.specs.OwnTests.{own_start_tests, own_tests};
 ghost use Rattle.gomp_loops.specs.Answers.{reply_of};
 
-use gomp_share_plain::Seen;
+use gomp_share_plain::own::{end_refusal, next_refusal};
+use gomp_share_plain::{Construct, Seen};
 use gomp_types::{Call, EndKind, Limits, LoopDesc, Refusal, Reply, Shape, trips};
 
 /// Why a member that sees this of its place may not make this call: the first test that holds of
 /// those that its place among the shares decides.
 ///
 /// `Mismatch`, which compares it with other members, is not among them, nor are the tests on the
-/// team and on an open wait.
+/// team and on an open wait. A call on another construct has none here.
 pub fn own_refusal(seen: &Seen, limits: &Limits, call: &Call) -> Option<Refusal>
     ensures { result ≡ first_refusal (own_tests limits.now seen.now call.now) }
 {
     match call {
         Call::LoopStart(desc) => start_refusal(seen, limits, desc),
-        Call::LoopNext => next_refusal(seen),
-        Call::LoopEnd => end_refusal(seen, EndKind::Wait),
-        Call::LoopEndNowait => end_refusal(seen, EndKind::Nowait),
+        Call::LoopNext => next_refusal(seen, Construct::Loop),
+        Call::LoopEnd => end_refusal(seen, Construct::Loop, EndKind::Wait),
+        Call::LoopEndNowait => end_refusal(seen, Construct::Loop, EndKind::Nowait),
         Call::Barrier | Call::RegionEnd if seen.current.is_some() => Some(Refusal::InsideShare),
-        Call::Barrier | Call::RegionEnd | Call::Resume | Call::Stop => None,
+        _ => None,
     }
 }
 
@@ -43,36 +44,6 @@ pub fn start_refusal(seen: &Seen, limits: &Limits, desc: &LoopDesc) -> Option<Re
     }
     if seen.entered >= limits.shares as u64 {
         return Some(Refusal::TooManyShares);
-    }
-    None
-}
-
-/// Why a member may not ask for the next chunk: `OutsideShare` or `Drained`.
-pub fn next_refusal(seen: &Seen) -> Option<Refusal>
-    ensures { result ≡ first_refusal (own_next_tests seen.now) }
-{
-    if seen.current.is_none() {
-        return Some(Refusal::OutsideShare);
-    }
-    if seen.drained {
-        return Some(Refusal::Drained);
-    }
-    None
-}
-
-/// Why a member may not end its loop by the call for this end kind: `OutsideShare`, `EndDiffers` or
-/// `NotDrained`.
-pub fn end_refusal(seen: &Seen, end_kind: EndKind) -> Option<Refusal>
-    ensures { result ≡ first_refusal (own_end_tests end_kind seen.now) }
-{
-    let Some((_, shape)) = seen.current else {
-        return Some(Refusal::OutsideShare);
-    };
-    if shape.end_kind != end_kind {
-        return Some(Refusal::EndDiffers);
-    }
-    if !seen.drained {
-        return Some(Refusal::NotDrained);
     }
     None
 }

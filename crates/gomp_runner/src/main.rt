@@ -15,6 +15,8 @@ mod settings;
 mod worked;
 #[cfg(test)]
 mod worked_settings;
+#[cfg(test)]
+mod worked_shares;
 
 use command::{serve, without_words};
 use notes::write_notes;

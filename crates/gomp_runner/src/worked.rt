@@ -7,7 +7,13 @@ use std::process::Abort;
 use std::test::Fail;
 
 /// That `ompteam steps` writes this for the text, and ends with this status.
-fn writes(rt: &impl Abort, alloc: Global, text: &str, output: &str, code: u8) -> Result<(), Fail> {
+pub(crate) fn writes(
+    rt: &impl Abort,
+    alloc: Global,
+    text: &str,
+    output: &str,
+    code: u8,
+) -> Result<(), Fail> {
     let mut written = Vec::new(alloc);
     let status = serve(alloc, &["ompteam", "steps"], text.as_bytes(), &mut written);
     if status.notes == Notes::NoMemory {
@@ -343,7 +349,7 @@ fn texts(rt: HostRuntime) -> Result<(), Fail> {
 
 #[test]
 fn bad_lines(rt: HostRuntime) -> Result<(), Fail> {
-    let rows: [(&str, &str); 20] = [
+    let rows: [(&str, &str); 19] = [
         ("# a comment\n\ntea 2\n", "bad line 3: first line\n"),
         ("team\n", "bad line 1: missing word\n"),
         ("team x\n", "bad line 1: bad number\n"),
@@ -371,10 +377,6 @@ fn bad_lines(rt: HostRuntime) -> Result<(), Fail> {
         ),
         ("team 1\n65536 next\n", "bad line 2: bad number\n"),
         ("team 1\n-0 next\n", "bad line 2: bad number\n"),
-        (
-            "team 1\n0 loop dynamic 1 0 1 1 wait ordered\n",
-            "bad line 2: extra word\n",
-        ),
         ("team 1\n0\tnext\n", "bad line 2: missing word\n"),
         ("team 1\n0 next\r\n", "bad line 2: unknown word\n"),
         ("team 1\n0 next now", "bad line 2: extra word\n"),

@@ -1,1 +1,2 @@
 mod TextLemmas
+mod PayloadLemmas

@@ -1,8 +1,8 @@
 -- How a reply is printed. (own)
-use Rattle.std.specs.Prelude.{List, ◌++◌, codes, ℕ}
+use Rattle.std.specs.Prelude.{List, ◌++◌, codes, ℕ, Bool, true, false, flat_map}
 use Rattle.std.specs.Fmt.{decimal, signed_decimal}
 use Rattle.gomp_types.specs.declared.reply.Reply.{Reply}
-use Rattle.gomp_types.specs.declared.reply.Reply.TheVariants.{Chunk, NoChunk, Finished, Passed, Wait, Stopped, Refused}
+use Rattle.gomp_types.specs.declared.reply.Reply.TheVariants.{Chunk, NoChunk, Section, Executor, Copied, Finished, Passed, Wait, Stopped, Refused}
 use Rattle.gomp_types.specs.declared.refusal.Refusal.{Refusal}
 use Rattle.gomp_script.specs.declared.parse.Why.{Why}
 use Rattle.gomp_script.specs.declared.parse.Why.TheVariants.{NotAscii, FirstLine, UnknownWord, MissingWord, BadNumber, ExtraWord}
@@ -12,10 +12,21 @@ use Rattle.gomp_types.specs.RefusalTexts.{text_of}
 abbrev pub refused_text : Refusal → List ℕ
 refused_text refusal = codes "refused " ++ text_of refusal
 
+abbrev pub executor_text : Bool → List ℕ
+executor_text true = codes "executor yes"
+executor_text false = codes "executor no"
+
+-- a word of a payload, after a space
+abbrev pub word_text : ℕ → List ℕ
+word_text word = codes " " ++ decimal word
+
 -- the text of a reply; its numbers are decimal
 abbrev pub reply_text : Reply → List ℕ
 reply_text (Chunk first count) = codes "chunk " ++ (signed_decimal first ++ (codes " " ++ decimal count))
 reply_text NoChunk = codes "none"
+reply_text (Section number) = codes "section " ++ decimal number
+reply_text (Executor executes) = executor_text executes
+reply_text (Copied payload) = codes "copied" ++ flat_map word_text payload
 reply_text Finished = codes "ok"
 reply_text Passed = codes "passed"
 reply_text Wait = codes "wait"

@@ -1,7 +1,7 @@
 -- The text of steps: a line `team N`, and then a line `MEMBER CALL` for each step. (own)
-use Rattle.std.specs.Prelude.{ℕ, ◌≡◌, ◌+◌, ◌++◌, ◌==◌, Bool, false, if◌then◌else◌, List, [], ◌∷◌, Option, Some, None, Result, Ok, Err, codes}
+use Rattle.std.specs.Prelude.{ℕ, ◌≡◌, ◌+◌, ◌++◌, ◌==◌, Bool, true, false, if◌then◌else◌, List, [], ◌∷◌, take, drop, Option, Some, None, Result, Ok, Err, codes}
 use Rattle.gomp_types.specs.declared.call.Call.{Call}
-use Rattle.gomp_types.specs.declared.call.Call.TheVariants.{LoopStart, LoopNext, LoopEnd, LoopEndNowait, Barrier, RegionEnd, Resume, Stop}
+use Rattle.gomp_types.specs.declared.call.Call.TheVariants.{LoopStart, LoopNext, LoopEnd, LoopEndNowait, SectionsStart, SectionsNext, SectionsEnd, SectionsEndNowait, SingleStart, SingleCopyStart, SingleCopyEnd, OrderedStart, OrderedEnd, Barrier, RegionEnd, Resume, Stop}
 use Rattle.gomp_types.specs.declared.call.Step.{Step}
 use Rattle.gomp_types.specs.declared.loop_desc.Sched.{Sched}
 use Rattle.gomp_types.specs.declared.loop_desc.Sched.TheVariants.{Static, Dynamic, Guided, Runtime}
@@ -50,17 +50,28 @@ sched_of word =
 abbrev pub end_of : List ℕ → Option EndKind
 end_of word = if same_word word (codes "wait") then Some Wait else if same_word word (codes "nowait") then Some Nowait else None
 
--- the calls that stand alone
-abbrev pub call_of : List ℕ → Option Call
-call_of word =
+-- the calls of a work-share that stand alone
+abbrev pub share_call_of : List ℕ → Option Call
+share_call_of word =
     if same_word word (codes "next") then Some LoopNext
     else if same_word word (codes "end") then Some LoopEnd
     else if same_word word (codes "end_nowait") then Some LoopEndNowait
+    else if same_word word (codes "section_next") then Some SectionsNext
+    else if same_word word (codes "sections_end") then Some SectionsEnd
+    else if same_word word (codes "sections_end_nowait") then Some SectionsEndNowait
+    else if same_word word (codes "single") then Some SingleStart
+    else if same_word word (codes "single_copy") then Some SingleCopyStart
+    else None
+
+-- the calls that stand alone
+abbrev pub call_of : List ℕ → Option Call
+call_of word =
+    if same_word word (codes "ordered_end") then Some OrderedEnd
     else if same_word word (codes "barrier") then Some Barrier
     else if same_word word (codes "region_end") then Some RegionEnd
     else if same_word word (codes "resume") then Some Resume
     else if same_word word (codes "stop") then Some Stop
-    else None
+    else share_call_of word
 
 -- Steps
 
@@ -72,7 +83,13 @@ plain_step member call words = do
   done ← finished words
   Ok (record { member = number; call = made })
 
--- `MEMBER loop KIND CHUNK START END INCR ENDKIND`
+-- the end of a loop's line: nothing, or the one word `ordered`
+abbrev pub ordered_of : List (List ℕ) → Result Bool Why
+ordered_of [] = Ok false
+ordered_of (word ∷ []) = if same_word word (codes "ordered") then Ok true else Err ExtraWord
+ordered_of (word ∷ other ∷ words) = Err ExtraWord
+
+-- `MEMBER loop KIND CHUNK START END INCR ENDKIND [ordered]`
 unfoldable pub loop_step : List ℕ → List (List ℕ) → Result Step Why
 loop_step member words = do
   kind ← next words
@@ -88,13 +105,67 @@ loop_step member words = do
   first ← wanted BadNumber (signed start.0)
   bound ← wanted BadNumber (signed end.0)
   step ← wanted BadNumber (signed incr.0)
+  ordered ← ordered_of ending.1
+  Ok (record { member = number; call = LoopStart (record { start = first; end = bound; incr = step; sched = sched; chunk = size; ordered = ordered; end_kind = end_kind }) })
+
+-- `MEMBER sections COUNT ENDKIND`
+unfoldable pub sections_step : List ℕ → List (List ℕ) → Result Step Why
+sections_step member words = do
+  count ← next words
+  ending ← next count.1
+  end_kind ← wanted UnknownWord (end_of ending.0)
+  number ← wanted BadNumber (unsigned 65535 member)
+  sections ← wanted BadNumber (unsigned 4294967295 count.0)
   done ← finished ending.1
-  Ok (record { member = number; call = LoopStart (record { start = first; end = bound; incr = step; sched = sched; chunk = size; end_kind = end_kind }) })
+  Ok (record { member = number; call = SectionsStart sections end_kind })
+
+-- a word of a payload, a u64
+abbrev pub payload_word : List ℕ → Result ℕ Why
+payload_word word = wanted BadNumber (unsigned 18446744073709551615 word)
+
+abbrev pub payload_words : List (List ℕ) → Result (List ℕ) Why
+payload_words [] = Ok []
+payload_words (word ∷ words) = do
+  first ← payload_word word
+  later ← payload_words words
+  Ok (first ∷ later)
+
+-- the numbers of the first words, at most so many, and then nothing more
+abbrev pub payload_of : ℕ → List (List ℕ) → Result (List ℕ) Why
+payload_of most words = do
+  payload ← payload_words (take most words)
+  done ← finished (drop most words)
+  Ok payload
+
+-- `MEMBER single_copy_end [W]..`
+unfoldable pub copy_end_step : List ℕ → List (List ℕ) → Result Step Why
+copy_end_step member words = do
+  number ← wanted BadNumber (unsigned 65535 member)
+  payload ← payload_of 8 words
+  Ok (record { member = number; call = SingleCopyEnd payload })
+
+-- `MEMBER ordered VALUE`
+unfoldable pub ordered_step : List ℕ → List (List ℕ) → Result Step Why
+ordered_step member words = do
+  value ← next words
+  number ← wanted BadNumber (unsigned 65535 member)
+  iteration ← wanted BadNumber (signed value.0)
+  done ← finished value.1
+  Ok (record { member = number; call = OrderedStart iteration })
+
+-- the step of a member, by the word of its call and those that follow
+abbrev pub call_step : List ℕ → List ℕ → List (List ℕ) → Result Step Why
+call_step member call words =
+    if same_word call (codes "loop") then loop_step member words
+    else if same_word call (codes "sections") then sections_step member words
+    else if same_word call (codes "single_copy_end") then copy_end_step member words
+    else if same_word call (codes "ordered") then ordered_step member words
+    else plain_step member call words
 
 abbrev pub step_of : List (List ℕ) → Result Step Why
 step_of [] = Err MissingWord
 step_of (member ∷ []) = Err MissingWord
-step_of (member ∷ call ∷ words) = if same_word call (codes "loop") then loop_step member words else plain_step member call words
+step_of (member ∷ call ∷ words) = call_step member call words
 
 -- `team N`
 unfoldable pub team_of : List (List ℕ) → Result ℕ Why

@@ -1,14 +1,25 @@
 //! From a text of steps to the size of the team and the steps.
 
-ghost use Rattle.std.specs.Prelude.{◌≡◌, ℕ, List, Ok, Err, Option, Some, None, ◌∷◌, option_copied, OnOk, MatchResult};
+ghost use Rattle.std.specs.Prelude.{◌≡◌, ℕ, List, Ok, Err, Option, Some, None, ◌∷◌, option_copied, OnOk};
 ghost use Rattle.gomp_text.specs.Words.{words_of};
-ghost use Rattle.gomp_text.specs.Numbers.{unsigned, signed};
-ghost use Rattle.gomp_script.specs.StepText.{next, finished, wanted, sched_of, end_of, call_of, plain_step, loop_step, step_of, team_of, read_line, steps_from, steps_of, lines_left, kept, begins_comment, Gives};
-ghost use Rattle.gomp_script.specs.declared.parse.Why.TheVariants.{BadNumber};
+ghost use Rattle.gomp_script.specs.StepText.{call_step, step_of, team_of, read_line, steps_from, steps_of, lines_left, kept, begins_comment, Gives};
 
-use gomp_text::{cut, is_ascii, is_word, next_word, signed, unsigned};
-use gomp_types::{Call, EndKind, LoopDesc, Sched, Step};
+mod loops;
+mod ordered;
+mod payload;
+mod plain;
+mod sections;
+mod words;
+
+use gomp_text::{cut, is_ascii, is_word, next_word, unsigned};
+use gomp_types::Step;
+use loops::loop_step;
+use ordered::ordered_step;
+use payload::copy_end_step;
+use plain::plain_step;
+use sections::sections_step;
 use std::alloc::{AllocError, AllocFailed, Global};
+use words::{finish, take_word};
 
 /// Why a line is bad. A line is tested for these in this order.
 #[derive(Clone, Copy, Debug, PartialEq, Eq)]
@@ -186,139 +197,24 @@ fn step_words(member: &[u8], rest: &[u8]) -> Result<Step, Why>
     ensures { result ≡ step_of (member.now ∷ words_of rest.now) }
 {
     let (call, rest) = take_word(rest)?;
+    call_step(member, call, rest)
+}
+
+/// The same, by the word of the call and what follows it.
+fn call_step(member: &[u8], call: &[u8], rest: &[u8]) -> Result<Step, Why>
+    ensures { result ≡ call_step member.now call.now (words_of rest.now) }
+{
     if is_word(call, b"loop") {
         return loop_step(member, rest);
     }
+    if is_word(call, b"sections") {
+        return sections_step(member, rest);
+    }
+    if is_word(call, b"single_copy_end") {
+        return copy_end_step(member, rest);
+    }
+    if is_word(call, b"ordered") {
+        return ordered_step(member, rest);
+    }
     plain_step(member, call, rest)
-}
-
-/// The next word of a line, and what follows it.
-fn take_word(line: &[u8]) -> Result<(&[u8], &[u8]), Why>
-    ensures { MatchResult result (λ taken. next (words_of line.now) ≡ Ok (taken.0.now, words_of taken.1.now)) (λ why. next (words_of line.now) ≡ Err why) }
-{
-    next_word(line).ok_or(Why::MissingWord)
-}
-
-/// That the line ends here.
-fn finish(line: &[u8]) -> Result<(), Why>
-    ensures { result ≡ finished (words_of line.now) }
-{
-    match next_word(line) {
-        Some(_) => Err(Why::ExtraWord),
-        None => Ok(()),
-    }
-}
-
-fn sched_of(word: &[u8]) -> Option<Sched>
-    ensures { result ≡ sched_of word.now }
-{
-    if is_word(word, b"static") {
-        return Some(Sched::Static);
-    }
-    if is_word(word, b"dynamic") {
-        return Some(Sched::Dynamic);
-    }
-    if is_word(word, b"guided") {
-        return Some(Sched::Guided);
-    }
-    if is_word(word, b"runtime") {
-        return Some(Sched::Runtime);
-    }
-    None
-}
-
-fn end_of(word: &[u8]) -> Option<EndKind>
-    ensures { result ≡ end_of word.now }
-{
-    if is_word(word, b"wait") {
-        return Some(EndKind::Wait);
-    }
-    if is_word(word, b"nowait") {
-        return Some(EndKind::Nowait);
-    }
-    None
-}
-
-/// The call that this word is alone.
-fn call_of(word: &[u8]) -> Option<Call>
-    ensures { result ≡ call_of word.now }
-{
-    if is_word(word, b"next") {
-        return Some(Call::LoopNext);
-    }
-    if is_word(word, b"end") {
-        return Some(Call::LoopEnd);
-    }
-    if is_word(word, b"end_nowait") {
-        return Some(Call::LoopEndNowait);
-    }
-    if is_word(word, b"barrier") {
-        return Some(Call::Barrier);
-    }
-    if is_word(word, b"region_end") {
-        return Some(Call::RegionEnd);
-    }
-    if is_word(word, b"resume") {
-        return Some(Call::Resume);
-    }
-    if is_word(word, b"stop") {
-        return Some(Call::Stop);
-    }
-    None
-}
-
-fn member_of(word: &[u8]) -> Result<u16, Why>
-    ensures { result ≡ wanted BadNumber (unsigned 65535 word.now) }
-{
-    match unsigned(word, u16::MAX as u64) {
-        Some(number) => Ok(number as u16),
-        None => Err(Why::BadNumber),
-    }
-}
-
-fn number_of(word: &[u8]) -> Result<i64, Why>
-    ensures { result ≡ wanted BadNumber (signed word.now) }
-{
-    signed(word).ok_or(Why::BadNumber)
-}
-
-#[tactic(auto, unfolding(crate::specs::StepText::plain_step))]
-fn plain_step(member: &[u8], call: &[u8], rest: &[u8]) -> Result<Step, Why>
-    ensures { result ≡ plain_step member.now call.now (words_of rest.now) }
-{
-    let call = call_of(call).ok_or(Why::UnknownWord)?;
-    let member = member_of(member)?;
-    finish(rest)?;
-    Ok(Step { member, call })
-}
-
-#[tactic(auto, unfolding(crate::specs::StepText::loop_step))]
-fn loop_step(member: &[u8], rest: &[u8]) -> Result<Step, Why>
-    ensures { result ≡ loop_step member.now (words_of rest.now) }
-{
-    let (kind, rest) = take_word(rest)?;
-    let sched = sched_of(kind).ok_or(Why::UnknownWord)?;
-    let (chunk, rest) = take_word(rest)?;
-    let (start, rest) = take_word(rest)?;
-    let (end, rest) = take_word(rest)?;
-    let (incr, rest) = take_word(rest)?;
-    let (ending, rest) = take_word(rest)?;
-    let end_kind = end_of(ending).ok_or(Why::UnknownWord)?;
-    let member = member_of(member)?;
-    let chunk = number_of(chunk)?;
-    let start = number_of(start)?;
-    let end = number_of(end)?;
-    let incr = number_of(incr)?;
-    finish(rest)?;
-    Ok(Step {
-        member,
-        call: Call::LoopStart(LoopDesc {
-            start,
-            end,
-            incr,
-            sched,
-            chunk,
-            end_kind,
-        }),
-    })
 }

@@ -1,7 +1,7 @@
 //! How replies are printed.
 
 ghost use Rattle.std.specs.Prelude.{◌≡◌, ◌++◌, Some, string_bytes, IfOk, OnOk, flat_map};
-ghost use Rattle.gomp_script.specs.Printing.{reply_text, reply_line, refusal_line, why_text, bad_line_text};
+ghost use Rattle.gomp_script.specs.Printing.{reply_text, reply_line, word_text, refusal_line, why_text, bad_line_text};
 
 use crate::parse::{BadLine, Why};
 use gomp_types::{Refusal, Reply};
@@ -19,12 +19,31 @@ impl fmt::Display for Printed<'_> {
         match self.0 {
             Reply::Chunk { first, count } => write!(f, "chunk {first} {count}"),
             Reply::NoChunk => write!(f, "none"),
+            Reply::Section(number) => write!(f, "section {number}"),
+            Reply::Executor(true) => write!(f, "executor yes"),
+            Reply::Executor(false) => write!(f, "executor no"),
+            Reply::Copied(payload) => write!(f, "copied{}", Words(payload.as_slice())),
             Reply::Finished => write!(f, "ok"),
             Reply::Passed => write!(f, "passed"),
             Reply::Wait => write!(f, "wait"),
             Reply::Stopped => write!(f, "stopped"),
             Reply::Refused(refusal) => write!(f, "refused {refusal}"),
         }
+    }
+}
+
+/// The words of a payload, each after a space.
+#[derive(Clone, Copy)]
+struct Words<'a>(&'a [u64]);
+
+impl fmt::Display for Words<'_> {
+    ghost output = { λ words. Some (flat_map word_text words.0.now) };
+
+    fn fmt<W: fmt::Write>(&self, f: &mut fmt::Formatter<W>) -> fmt::Result {
+        for word in self.0 {
+            write!(f, " {word}")?;
+        }
+        Ok(())
     }
 }
 

@@ -1,8 +1,15 @@
 -- A list of calls, one by one.
 use Rattle.std.proofs.Common.{◌≡◌, ℕ, ◌<◌, Bool, true, false, List, [], ◌∷◌, ◌++◌, length, Some, None, Ok, Err, refl, arith}
-use Rattle.std.specs.Prelude.{Option, ◌&&◌, ◌^◌, nat_lt, is_none, is_some, is_ok}
+use Rattle.std.specs.Prelude.{ℤ, pos, if◌then◌else◌, Option, ◌&&◌, ◌^◌, nat_lt, not, is_none, is_some, is_ok}
 use Rattle.std.proofs.lemmas.Bool.Decides.{nat_tests}
 use Rattle.gomp_types.specs.declared.loop_desc.LoopDesc.{LoopDesc}
+use Rattle.gomp_types.specs.declared.loop_desc.Sched.{Sched}
+use Rattle.gomp_types.specs.declared.loop_desc.Sched.TheVariants.{Static, Dynamic, Guided, Runtime}
+use Rattle.gomp_types.specs.declared.shape.ShareKind.TheVariants.{StaticEven, StaticChunked}
+use Rattle.gomp_types.specs.Pieces.{kind_of}
+use Rattle.gomp_types.specs.Shapes.{is_loop}
+use Rattle.gomp_types.specs.Ordered.{is_ordered, is_in_rest}
+use Rattle.std.specs.Ordering.{int_eq}
 use Rattle.gomp_types.specs.declared.refusal.Refusal.{Refusal}
 use Rattle.gomp_types.specs.declared.shape.Shape.{Shape}
 use Rattle.gomp_types.specs.Values.{IsShape}
@@ -11,10 +18,10 @@ use Rattle.gomp_types.specs.Tests.{first_refusal, outcome}
 use Rattle.gomp_types.specs.Iterations.{loop_tests}
 use Rattle.gomp_types.proofs.Booleans.{and_left, and_right}
 use Rattle.gomp_share_plain.specs.declared.Seen.{Seen}
-use Rattle.gomp_share_plain.specs.declared.calls.ShareCall.TheVariants.{Open}
+use Rattle.gomp_share_plain.specs.declared.calls.ShareCall.TheVariants.{Open, Claim, Leave, Begin, HandOn}
 use Rattle.gomp_share_plain.specs.declared.calls.ShareStep.{ShareStep}
 use Rattle.gomp_share_plain.specs.declared.calls.ShareAnswer.{ShareAnswer}
-use Rattle.gomp_share_plain.specs.Calls.{CanOpen, seen_of}
+use Rattle.gomp_share_plain.specs.Calls.{CanOpen, CanClaim, CanLeave, CanBeginPart, CanHandOn, seen_of, is_done}
 use Rattle.gomp_share_plain.specs.Runs.{may_make, is_made, IsAnswer, answered, events_after, AreAnswers}
 
 -- a loop is fine where none of its tests holds
@@ -37,12 +44,13 @@ outcome_value (Some refusal) value found e = absurd (cc)
 pub opens_loop : (seen : Seen) (loop : LoopDesc) → may_make seen (Open loop) ≡ true → (is_none seen.current && nat_lt seen.entered (2 ^ 48)) ≡ true
 opens_loop seen loop e = and_left _ (is_none (first_refusal (loop_tests loop))) e
 
-pub can_open : (members m : ℕ) (shape : Shape) (seen : Seen) → m < members → IsShape shape → (is_none seen.current && nat_lt seen.entered (2 ^ 48)) ≡ true → CanOpen members m shape seen
-can_open members m shape seen lt valid may =
+pub can_open : (members m : ℕ) (shape : Shape) (seen : Seen) → m < members → IsShape shape → (shape.ordered ≡ true → is_loop shape.kind ≡ true) → (is_none seen.current && nat_lt seen.entered (2 ^ 48)) ≡ true → CanOpen members m shape seen
+can_open members m shape seen lt valid ordered may =
     let few = and_right (is_none seen.current) (nat_lt seen.entered (2 ^ 48)) may in
     record {
       member = lt;
       valid = valid;
+      ordered = ordered;
       outside = outside_is seen.current (and_left (is_none seen.current) (nat_lt seen.entered (2 ^ 48)) may);
       few = grind (arith, nat_tests, few);
     }
@@ -50,6 +58,17 @@ can_open members m shape seen lt valid may =
     outside_is : {A : Type 0} (own : Option A) → is_none own ≡ true → is_some own ≡ false
     outside_is None e = refl
     outside_is (Some x) e = absurd (cc)
+
+-- a loop is a loop
+pub loop_is : (sched : Sched) (chunk : ℤ) → is_loop (kind_of sched chunk) ≡ true
+loop_is Static chunk = even (int_eq chunk (pos 0))
+  where
+    even : (b : Bool) → is_loop (if b then StaticEven else StaticChunked) ≡ true
+    even true = refl
+    even false = refl
+loop_is Guided chunk = refl
+loop_is Dynamic chunk = refl
+loop_is Runtime chunk = refl
 
 never_err : {A : Type 0} (first : Option Refusal) (value : A) (refusal : Refusal) → first ≡ None → outcome first value ≡ Err refusal → ⊥
 never_err None value refusal fine e = absurd (cc)
@@ -85,3 +104,46 @@ are_answers_more members [] [] step answer h e are is = (is, tt)
 are_answers_more members [] (a ∷ answers) step answer h e are is = absurd (omega arith)
 are_answers_more members (s ∷ steps) [] step answer h e are is = absurd (omega arith)
 are_answers_more members (s ∷ steps) (a ∷ answers) step answer h e are is = (are.0, are_answers_more members steps answers step answer (answered s a h) (omega arith) are.1 is)
+
+-- What a call asks, where it may be made
+
+not_true : (b : Bool) → not b ≡ true → b ≡ false
+not_true true e = absurd (cc)
+not_true false e = refl
+
+pub can_claim : (members m : ℕ) (seen : Seen) → m < members → may_make seen Claim ≡ true → CanClaim members m seen
+can_claim members m seen lt may =
+    let both = and_left (is_some seen.current && not seen.drained) (not seen.in_part) may in
+    record {
+      member = lt;
+      inside = and_left (is_some seen.current) (not seen.drained) both;
+      more = not_true seen.drained (and_right (is_some seen.current) (not seen.drained) both);
+      apart = not_true seen.in_part (and_right (is_some seen.current && not seen.drained) (not seen.in_part) may);
+    }
+
+pub can_leave : (members m : ℕ) (seen : Seen) → m < members → may_make seen Leave ≡ true → CanLeave members m seen
+can_leave members m seen lt may =
+    let both = and_left (is_some seen.current && is_done seen) (not seen.in_part) may in
+    record {
+      member = lt;
+      inside = and_left (is_some seen.current) (is_done seen) both;
+      done = and_right (is_some seen.current) (is_done seen) both;
+      apart = not_true seen.in_part (and_right (is_some seen.current && is_done seen) (not seen.in_part) may);
+    }
+
+pub can_begin : (members m iteration : ℕ) (seen : Seen) → m < members → may_make seen (Begin iteration) ≡ true → CanBeginPart members m iteration seen
+can_begin members m iteration seen lt may =
+    let both = and_left (is_ordered seen.current && not seen.in_part) (is_in_rest seen.piece seen.parted (Some iteration)) may in
+    record {
+      member = lt;
+      ordered = and_left (is_ordered seen.current) (not seen.in_part) both;
+      apart = not_true seen.in_part (and_right (is_ordered seen.current) (not seen.in_part) both);
+      rest = and_right (is_ordered seen.current && not seen.in_part) (is_in_rest seen.piece seen.parted (Some iteration)) may;
+    }
+
+pub can_hand : (members m : ℕ) (seen : Seen) → m < members → may_make seen HandOn ≡ true → CanHandOn members m seen
+can_hand members m seen lt may = record {
+  member = lt;
+  ordered = and_left (is_ordered seen.current) (not seen.in_part) may;
+  apart = not_true seen.in_part (and_right (is_ordered seen.current) (not seen.in_part) may);
+}

@@ -6,7 +6,7 @@ use Rattle.std.proofs.lemmas.Bool.Decides.{nat_tests}
 use Rattle.std.proofs.lemmas.Option.{slice_get_past}
 use Rattle.gomp_types.specs.declared.shape.Shape.{Shape}
 use Rattle.gomp_types.specs.declared.shape.ShareKind.{ShareKind}
-use Rattle.gomp_types.specs.declared.shape.ShareKind.TheVariants.{StaticChunked, StaticEven, Dynamic, Guided}
+use Rattle.gomp_types.specs.declared.shape.ShareKind.TheVariants.{StaticChunked, StaticEven, Dynamic, Guided, Sections, Single, SingleCopy}
 use Rattle.gomp_types.specs.declared.event.Event.{Event}
 use Rattle.gomp_types.specs.declared.event.Event.TheVariants.{Take}
 use Rattle.gomp_types.specs.Record.{shown}
@@ -15,7 +15,8 @@ use Rattle.gomp_types.specs.Pieces.{Piece, Tiles, pieces_of, kind_pieces, owner_
 use Rattle.gomp_types.specs.Deals.{deal_of, schedule, owned_from, taken_in, next_for}
 use Rattle.gomp_types.proofs.Booleans.{same_number}
 use Rattle.gomp_chunks.specs.Plans.{count_for, next_piece, own_queue}
-use Rattle.gomp_share_plain.specs.Plain.{taken_by, taken_of}
+use Rattle.gomp_share_plain.specs.Calls.{taken_of}
+use Rattle.gomp_share_plain.specs.Plain.{taken_by}
 
 -- the takes that count for a member are its own of a static share, and else all
 counts_by : (members : ℕ) (kind : ShareKind) (shape : Shape) (i m : ℕ) (h : List Event) →
@@ -24,6 +25,9 @@ counts_by members StaticChunked shape i m h = refl
 counts_by members StaticEven shape i m h = refl
 counts_by members Dynamic shape i m h = refl
 counts_by members Guided shape i m h = refl
+counts_by members Sections shape i m h = refl
+counts_by members Single shape i m h = refl
+counts_by members SingleCopy shape i m h = refl
 
 -- so the next piece for it is the one after those
 pub next_is_for : (members : ℕ) (shape : Shape) (i m : ℕ) (h : List Event) → next_for (schedule members) shape i m h ≡ next_piece (record { members = members; shape = shape }) m (taken_by i m h) (taken_of i h)
@@ -49,6 +53,9 @@ queue_few members StaticChunked shape m tiles = let few = tiles_few 0 shape.trip
 queue_few members StaticEven shape m tiles = let few = tiles_few 0 shape.trips _ tiles in let own = owned_few (λ j. j) m 0 (kind_pieces members StaticEven shape) in omega arith
 queue_few members Dynamic shape m tiles = let few = tiles_few 0 shape.trips _ tiles in omega arith
 queue_few members Guided shape m tiles = let few = tiles_few 0 shape.trips _ tiles in omega arith
+queue_few members Sections shape m tiles = let few = tiles_few 0 shape.trips _ tiles in omega arith
+queue_few members Single shape m tiles = let few = tiles_few 0 shape.trips _ tiles in omega arith
+queue_few members SingleCopy shape m tiles = let few = tiles_few 0 shape.trips _ tiles in omega arith
 
 slice_get-shown : (xs : List Piece) (n : ℕ) → length xs ≤ 2 ^ 39 → slice_get xs (shown n) ≡ slice_get xs n
 slice_get-shown xs n few = elim (cases_lt n 18446744073709551615) [

@@ -3,11 +3,13 @@ use Rattle.std.specs.Prelude.{ℕ, ◌+◌, ◌%◌, ◌^◌, ◌<◌, ◌≤◌
 use Rattle.gomp_types.specs.declared.shape.Shape.{Shape}
 use Rattle.gomp_types.specs.declared.event.Event.{Event}
 use Rattle.gomp_types.specs.Values.{IsShape}
-use Rattle.gomp_types.specs.Events.{entered, open_share, has_ended, has_drained, shape_at}
+use Rattle.gomp_types.specs.Pieces.{Piece, pieces_of}
+use Rattle.gomp_types.specs.Events.{entered, open_share, has_ended, has_drained, last_piece, turn, parted, in_part, shape_at}
 use Rattle.gomp_types.specs.Record.{shown}
 use Rattle.gomp_types.specs.Deals.{schedule, taken_in}
 use Rattle.gomp_types.specs.Rules.{Always, ShareRule}
 use Rattle.gomp_share_plain.specs.declared.Seen.{Seen}
+use Rattle.gomp_share_plain.specs.Calls.{taken_of}
 use Rattle.gomp_share_plain.specs.declared.plain.Seat.{Seat}
 use Rattle.gomp_share_plain.specs.declared.plain.OpenShare.{OpenShare}
 
@@ -17,18 +19,26 @@ pub record PlainView : Type 0 where
   pub opened : ℕ
   pub places : List (Option OpenShare)
 
--- how many pieces of a share were taken, and how many of them by one member
-abbrev pub taken_of : ℕ → List Event → ℕ
-taken_of share h = taken_in (λ m. 0) share 0 h
+-- the seat of a member that has entered no share
+abbrev pub new_seat : Seat
+new_seat = record { started = 0; ended = 0; drained = false; piece = None; taken = 0; number = 0; parted = 0; in_part = false }
 
+-- how many pieces of a share were taken by one member
 abbrev pub taken_by : ℕ → ℕ → List Event → ℕ
 taken_by share m h = taken_in (λ k. k) share m h
 
 -- a member's seat says what it entered and left, and it is near the newest share
-pub record SeatStands (m : ℕ) (seat : Seat) (opened : ℕ) (h : List Event) : Type 0 where
+pub record SeatStands (members m : ℕ) (seat : Seat) (opened : ℕ) (h : List Event) : Type 0 where
   pub started : entered m h ≡ seat.started
   pub ended : (i : ℕ) → has_ended i m h ≡ nat_lt i seat.ended
   pub drained : has_drained m h ≡ seat.drained
+  pub piece : last_piece m h ≡ seat.piece
+  -- its piece has this number among the pieces of the share that it is in
+  pub number : (share : ℕ × Shape) (piece : Piece) → open_share m h ≡ Some share → seat.piece ≡ Some piece → slice_get (pieces_of members share.1) seat.number ≡ Some piece
+  pub parted : parted m h ≡ seat.parted
+  pub in_part : in_part m h ≡ seat.in_part
+  -- outside a share it is in no part
+  pub apart : seat.started ≡ seat.ended → seat.in_part ≡ false
   -- how many pieces it took of the share that it is in, and none of those that it has not entered
   pub taken : seat.started ≡ seat.ended + 1 → shown (taken_by seat.ended m h) ≡ seat.taken
   pub fresh : (i : ℕ) → seat.started ≤ i → taken_by i m h ≡ 0
@@ -39,12 +49,13 @@ pub record SeatStands (m : ℕ) (seat : Seat) (opened : ℕ) (h : List Event) : 
   pub outside : seat.started ≡ seat.ended → open_share m h ≡ None
   pub inside : seat.started ≡ seat.ended + 1 → (shape : Shape) × (open_share m h ≡ Some (seat.ended, shape)) × (shape_at seat.ended h ≡ Some shape)
 
--- the place of a share has its shape, a cursor in its pieces, and how many of them were taken
+-- the place of a share has its shape, a cursor in its pieces, and how many of them were taken and handed on
 pub record PlaceStands (members i : ℕ) (place : Option (Option OpenShare)) (h : List Event) : Type 0 where
   pub share : OpenShare
   pub there : place ≡ Some (Some share)
   pub shape : shape_at i h ≡ Some share.shape
   pub taken_is : shown (taken_of i h) ≡ share.taken
+  pub turn_is : turn i h ≡ share.turn
   pub cursor_is : share.cursor.plan ≡ record { members = members; shape = share.shape }
   pub valid : IsShape share.shape
 
@@ -52,9 +63,9 @@ pub record StandsFor (members : ℕ) (seats : List Seat) (opened : ℕ) (places 
   pub size : length seats ≡ members
   pub team : members < 2 ^ 16
   pub eight : length places ≡ 8
-  pub seat : (m : ℕ) (seat : Seat) → slice_get seats m ≡ Some seat → SeatStands m seat opened h
+  pub seat : (m : ℕ) (seat : Seat) → slice_get seats m ≡ Some seat → SeatStands members m seat opened h
   pub place : (i : ℕ) → i < opened → opened ≤ i + 8 → PlaceStands members i (slice_get places (i % 8)) h
-  pub beyond : (i : ℕ) → opened ≤ i → (shape_at i h ≡ None) × ((queue_of : ℕ → ℕ) (q : ℕ) → taken_in queue_of i q h ≡ 0)
+  pub beyond : (i : ℕ) → opened ≤ i → (shape_at i h ≡ None) × ((queue_of : ℕ → ℕ) (q : ℕ) → taken_in queue_of i q h ≡ 0) × (turn i h ≡ 0)
   pub rule : Always (ShareRule (schedule members) members) h
 
 -- the share at a place
@@ -65,11 +76,14 @@ share_there i None = None
 
 -- what a member sees of its place
 abbrev pub seat_seen : List (Option OpenShare) → Option Seat → Seen
-seat_seen places None = record { entered = 0; current = None; drained = false }
+seat_seen places None = record { entered = 0; current = None; drained = false; piece = None; parted = 0; in_part = false }
 seat_seen places (Some seat) = record {
   entered = seat.started;
   current = if nat_lt seat.ended seat.started then share_there seat.ended (slice_get places (seat.ended % 8)) else None;
   drained = seat.drained;
+  piece = seat.piece;
+  parted = seat.parted;
+  in_part = seat.in_part;
 }
 
 abbrev pub plain_seen : List Seat → List (Option OpenShare) → ℕ → Seen

@@ -1,15 +1,16 @@
 //! A list of calls on the work-shares of a team, whatever body they have: what it keeps is the
 //! contract of one function.
 
-ghost use Rattle.std.specs.Prelude.{◌≡◌, ◌<◌, ℕ, List, [], length, IfOk, vec_len};
+ghost use Rattle.std.specs.Prelude.{◌≡◌, ◌<◌, ℕ, List, [], length, IfOk, Some, vec_len};
 ghost use Rattle.gomp_types.specs.declared.event.Event.{Event};
 ghost use Rattle.gomp_types.specs.Deals.{schedule};
-ghost use Rattle.gomp_types.specs.Laws.{ShareLaws};
-ghost use Rattle.gomp_share_plain.specs.Calls.{EachStands};
+ghost use Rattle.gomp_types.specs.Laws.{OrderedLaws, ShareLaws};
+ghost use Rattle.gomp_types.specs.Ordered.{is_ordered, is_in_rest};
+ghost use Rattle.gomp_share_plain.specs.Calls.{EachStands, is_done};
 ghost use Rattle.gomp_share_plain.specs.Runs.{may_make, IsAnswer, answered, AreAnswers, events_after};
 
 use crate::{Opening, Seen, Shares};
-use gomp_types::{LoopDesc, laws, trips};
+use gomp_types::{EndKind, LoopDesc, MAX_SECTIONS, laws, sections_shape, single_shape, trips};
 use std::alloc::{AllocError, Global};
 
 /// One call of a member on its shares.
@@ -17,10 +18,21 @@ use std::alloc::{AllocError, Global};
 pub enum ShareCall {
     /// Enters the next share, for this loop.
     Open(LoopDesc),
-    /// Takes a piece.
+    /// Enters the next share, for this sections construct.
+    OpenSections { count: u32, end_kind: EndKind },
+    /// Enters the next share, for a `single` construct, with words for the others or without.
+    OpenSingle { copies: bool },
+    /// Takes a piece: of a loop some iterations, of a sections construct a section, and of a `single`
+    /// the whole.
     Claim,
     /// Leaves the share.
     Leave,
+    /// Begins the ordered part of this iteration.
+    Begin(u64),
+    /// Ends the ordered part.
+    EndPart,
+    /// Hands the piece of an ordered loop on.
+    HandOn,
 }
 
 /// A call with the member that makes it.
@@ -35,12 +47,17 @@ pub struct ShareStep {
 /// The answer to one call.
 #[derive(Clone, Copy, Debug, PartialEq, Eq)]
 pub enum ShareAnswer {
-    /// To `Open`.
+    /// To the calls that enter.
     Opened(Opening),
-    /// To `Claim`: the first iteration and the one after the last, or none.
+    /// To `Claim`: the first iteration and the one after the last, or none. Sections count as
+    /// iterations, from 0, and a `single` as one.
     Claimed(Option<(u64, u64)>),
     /// To `Leave`.
     Left,
+    /// To `Begin` and `HandOn`: whether every piece before the member's was handed on, and so it did.
+    Turned(bool),
+    /// To `EndPart`.
+    Ended,
     /// The call was not made, since its premise does not hold.
     NotMade,
 }
@@ -67,11 +84,28 @@ pub fn make_call<S: Shares>(shares: &mut S, count: u16, step: &ShareStep) -> Sha
             };
             ShareAnswer::Opened(shares.try_open(step.member, &shape))
         }
+        ShareCall::OpenSections { count, end_kind } => {
+            let Ok(shape) = sections_shape(count, end_kind) else {
+                return ShareAnswer::NotMade;
+            };
+            ShareAnswer::Opened(shares.try_open(step.member, &shape))
+        }
+        ShareCall::OpenSingle { copies } => {
+            ShareAnswer::Opened(shares.try_open(step.member, &single_shape(copies)))
+        }
         ShareCall::Claim => ShareAnswer::Claimed(shares.claim(step.member)),
         ShareCall::Leave => {
             shares.leave(step.member);
             ShareAnswer::Left
         }
+        ShareCall::Begin(iteration) => {
+            ShareAnswer::Turned(shares.try_turn(step.member, iteration))
+        }
+        ShareCall::EndPart => {
+            shares.end_part(step.member);
+            ShareAnswer::Ended
+        }
+        ShareCall::HandOn => ShareAnswer::Turned(shares.hand_on(step.member)),
     }
 }
 
@@ -83,22 +117,60 @@ const MOST_SHARES: u64 = 1 << 48;
 fn may_make(seen: &Seen, call: &ShareCall) -> bool
     ensures { result ≡ may_make seen.now call.now }
 {
+    let enters = seen.current.is_none() && seen.entered < MOST_SHARES;
     match call {
         ShareCall::Open(desc) => {
             let is_loop = trips(desc).is_ok();
-            seen.current.is_none() && seen.entered < MOST_SHARES && is_loop
+            enters && is_loop
         }
-        ShareCall::Claim => seen.current.is_some() && !seen.drained,
-        ShareCall::Leave => seen.current.is_some() && seen.drained,
+        ShareCall::OpenSections { count, .. } => enters && *count <= MAX_SECTIONS,
+        ShareCall::OpenSingle { .. } => enters,
+        ShareCall::Claim => seen.current.is_some() && !seen.drained && !seen.in_part,
+        ShareCall::Leave => seen.current.is_some() && is_done(seen) && !seen.in_part,
+        ShareCall::Begin(iteration) => {
+            is_ordered(seen) && !seen.in_part && is_in_rest(seen, *iteration)
+        }
+        ShareCall::EndPart => seen.in_part,
+        ShareCall::HandOn => is_ordered(seen) && !seen.in_part,
     }
+}
+
+/// Whether a member that sees this of its place is in an ordered loop.
+fn is_ordered(seen: &Seen) -> bool
+    ensures { result ≡ is_ordered seen.now.current }
+{
+    let Some((_, shape)) = seen.current else {
+        return false;
+    };
+    shape.ordered
+}
+
+/// Whether the iteration lies in its piece, after those whose parts it has begun.
+fn is_in_rest(seen: &Seen, iteration: u64) -> bool
+    ensures { result ≡ is_in_rest seen.now.piece seen.now.parted (Some iteration) }
+{
+    let Some((low, high)) = seen.piece else {
+        return false;
+    };
+    low <= iteration && iteration < high && seen.parted <= iteration
+}
+
+/// Whether nothing is left for a member that sees this of its place.
+fn is_done(seen: &Seen) -> bool
+    ensures { result ≡ is_done seen.now }
+{
+    let Some((_, shape)) = seen.current else {
+        return seen.drained;
+    };
+    seen.drained || shape.kind.is_single() && seen.piece.is_some()
 }
 
 /// Makes these calls, in order, on the shares of a new team of `count` members, and gives an answer
 /// for each. Calls of members that the team does not have are not made.
 ///
-/// Whatever the body `S` and whatever the calls: no iteration is taken twice, a share that every
-/// member left had every iteration taken, all members go through the same shares, and no more
-/// than eight are open.
+/// Whatever the body `S` and whatever the calls: no iteration, section or `single` is taken twice, a
+/// share that every member left had each of its own taken, ordered parts of a loop run in the order of
+/// its iterations, all members go through the same shares, and no more than eight are open.
 pub fn make_calls<S: Shares>(
     alloc: Global,
     count: u16,
@@ -109,8 +181,10 @@ pub fn make_calls<S: Shares>(
     ensures answers { IfOk result (λ made. AreAnswers count steps.now made.1.items []) }
     ensures stands { IfOk result (λ made. S.stands made.0 (events_after steps.now made.1.items [])) }
     ensures laws { IfOk result (λ made. ShareLaws (schedule count) count (events_after steps.now made.1.items [])) }
+    ensures ordered { IfOk result (λ made. OrderedLaws count (events_after steps.now made.1.items [])) }
 {
     laws::share_laws();
+    laws::ordered_laws();
     let mut answers = Vec::with_capacity(alloc, steps.len())?;
     let mut shares = S::make(alloc, count)?;
     for step in steps {

@@ -1,22 +1,31 @@
 //! The work-shares of a team: which members entered which, and which pieces they took.
 //!
+//! A share is a loop, a sections construct or a `single`. Each section counts as an iteration, from 0
+//! on, and a `single` as one.
+//!
 //! [`Shares`] is what the layers above ask; its meaning is stated over the list of events that its
 //! calls gave, and names nothing of how they are kept. [`PlainShares`] is the body for one thread.
 //! OpenMP API 5.2, chapter 11.
 #![tactic(auto)]
 
 pub mod calls;
+pub mod own;
 pub mod plain;
 
-ghost use Rattle.std.specs.Prelude.{◌≡◌, ◌<◌, ℕ, List, [], ◌∷◌, IfOk};
+ghost use Rattle.std.specs.Prelude.{◌≡◌, ◌<◌, ℕ, List, [], ◌∷◌, IfOk, Some};
 ghost use Rattle.gomp_types.specs.declared.event.Event.{Event};
 ghost use Rattle.gomp_types.specs.Rules.{Always, ShareRule};
 ghost use Rattle.gomp_types.specs.Deals.{schedule};
-ghost use Rattle.gomp_share_plain.specs.Calls.{seen_of, CanOpen, MayOpen, opened, CanClaim, Claims, claimed, CanLeave, left, IsAside, EachStands};
+ghost use Rattle.gomp_types.specs.declared.shape.Shape.{Shape};
+ghost use Rattle.gomp_types.specs.Values.{IsShape};
+ghost use Rattle.gomp_types.specs.Events.{entered, open_share, shape_at};
+ghost use Rattle.gomp_types.specs.Refusals.{shape_differs};
+ghost use Rattle.gomp_share_plain.specs.Calls.{seen_of, was_taken, CanOpen, MayOpen, opened, CanClaim, Claims, claimed, CanLeave, left, CanBeginPart, CanEndPart, CanHandOn, own_turn, part_begun, part_ended, piece_handed, IsAside, EachStands};
 ghost use Rattle.gomp_share_plain.specs.declared.Seen.{Seen};
 
 pub use calls::{ShareAnswer, ShareCall, ShareStep, make_call, make_calls};
 use gomp_types::Shape;
+pub use own::Construct;
 pub use plain::PlainShares;
 use std::alloc::{AllocError, Global};
 
@@ -40,6 +49,13 @@ pub struct Seen {
     pub current: Option<(u64, Shape)>,
     /// Whether it was told that nothing is left for it of the share that it entered last.
     pub drained: bool,
+    /// The piece that it took last of that share, by its first iteration and the one after its last;
+    /// none before it took one, and none once it was told that nothing is left.
+    pub piece: Option<(u64, u64)>,
+    /// The iteration after that of its last ordered part in that share, 0 before its first.
+    pub parted: u64,
+    /// Whether it is in an ordered part.
+    pub in_part: bool,
 }
 
 /// The work-shares of one team. Members are numbered from 0, and each member's shares from 0 in
@@ -69,6 +85,18 @@ pub trait Shares: Sized {
         ensures known { (h : List Event) × stands self.now h }
         ensures value { result ≡ seen self.now member };
 
+    /// Whether the share that this member enters next is of another shape, by those that entered it.
+    fn next_differs(&self, member: u16, shape: &Shape) -> bool
+        requires { member < members self.now }
+        ensures known { (h : List Event) × stands self.now h }
+        ensures value { EachStands (stands self.now) (λ h. result ≡ shape_differs shape.now (shape_at (entered member h) h)) };
+
+    /// Whether some member took a piece of the share that this member enters next.
+    fn next_is_taken(&self, member: u16) -> bool
+        requires { member < members self.now }
+        ensures known { (h : List Event) × stands self.now h }
+        ensures value { EachStands (stands self.now) (λ h. result ≡ was_taken (entered member h) h) };
+
     /// Enters the member's next share, which is opened where no other member has.
     fn try_open(&mut self, member: u16, shape: &Shape) -> Opening
         requires { CanOpen (members self.old) member shape.now (seen self.old member) }
@@ -86,18 +114,46 @@ pub trait Shares: Sized {
         ensures answer { EachStands (stands self.old) (Claims (members self.old) member result) }
         ensures stands { EachStands (stands self.old) (λ h. stands self.new (claimed member result h)) };
 
-    /// Leaves the member's share, of which nothing is left for it.
+    /// Begins the ordered part of this iteration of the member's piece, where every piece before its own
+    /// was handed on: whether it did.
+    fn try_turn(&mut self, member: u16, iteration: u64) -> bool
+        requires { CanBeginPart (members self.old) member iteration (seen self.old member) }
+        ensures members { members self.new ≡ members self.old }
+        ensures known { (h : List Event) × stands self.old h }
+        ensures answer { EachStands (stands self.old) (λ h. result ≡ own_turn (members self.old) member h) }
+        ensures stands { EachStands (stands self.old) (λ h. stands self.new (part_begun member iteration result h)) };
+
+    /// Ends the member's ordered part.
+    fn end_part(&mut self, member: u16)
+        requires { CanEndPart (members self.old) member (seen self.old member) }
+        ensures members { members self.new ≡ members self.old }
+        ensures known { (h : List Event) × stands self.old h }
+        ensures stands { EachStands (stands self.old) (λ h. stands self.new (part_ended member h)) };
+
+    /// Hands the member's piece of an ordered loop on, where every piece before it was: whether it did.
+    fn hand_on(&mut self, member: u16) -> bool
+        requires { CanHandOn (members self.old) member (seen self.old member) }
+        ensures members { members self.new ≡ members self.old }
+        ensures known { (h : List Event) × stands self.old h }
+        ensures answer { EachStands (stands self.old) (λ h. result ≡ own_turn (members self.old) member h) }
+        ensures stands { EachStands (stands self.old) (λ h. stands self.new (piece_handed member result h)) };
+
+    /// Leaves the member's share, of which nothing is left for it: it was told so, or it took the one
+    /// piece of a `single`.
     fn leave(&mut self, member: u16)
         requires { CanLeave (members self.old) member (seen self.old member) }
         ensures members { members self.new ≡ members self.old }
         ensures known { (h : List Event) × stands self.old h }
         ensures stands { EachStands (stands self.old) (λ h. stands self.new (left member h)) };
 
-    /// Arrivals and the like change nothing.
+    /// Arrivals, payloads and the like change nothing.
     ghost aside: { (s : Self) (h : List Event) (event : Event) → IsAside event → stands s h → stands s (event ∷ h) };
 
     /// A member sees of its place what the events say.
     ghost agrees: { (s : Self) (h : List Event) (m : ℕ) → stands s h → m < members s → seen s m ≡ seen_of m h };
+
+    /// The shape of a share that a member is in is one that a construct has.
+    ghost valid: { (s : Self) (h : List Event) (m i : ℕ) (shape : Shape) → stands s h → open_share m h ≡ Some (i, shape) → IsShape shape };
 
     /// Each event keeps the rule of the work-shares.
     ghost ruled: { (s : Self) (h : List Event) → stands s h → Always (ShareRule (schedule (members s)) (members s)) h };

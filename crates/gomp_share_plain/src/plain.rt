@@ -1,9 +1,10 @@
 //! The work-shares of a team that one thread steps: a seat for each member, and a place for each
 //! of the eight shares that may be open.
 
-ghost use Rattle.std.specs.Prelude.{◌≡◌, ◌<◌, ◌+◌, ◌%◌, ◌↔◌, IsTrue, All, length, slice_get};
+ghost use Rattle.std.specs.Prelude.{◌≡◌, ◌<◌, ◌≤◌, ◌+◌, ◌%◌, ◌↔◌, ◌==◌, ◌&&◌, IsTrue, All, length, slice_get, option_map, IfSome, Some, is_some};
+ghost use Rattle.gomp_chunks.specs.Plans.{next_piece, pieces};
 ghost use Rattle.gomp_share_plain.specs.Plain.{StandsFor, plain_seen, share_there};
-ghost use Rattle.gomp_share_plain.specs.PlainLaws.{plain_aside, plain_agrees};
+ghost use Rattle.gomp_share_plain.specs.PlainLaws.{plain_aside, plain_agrees, plain_valid};
 
 use crate::{Opening, Seen, Shares};
 use gomp_chunks::{Cursor, Plan};
@@ -20,8 +21,30 @@ pub struct Seat {
     ended: u64,
     /// Whether it was told that nothing is left of the last.
     drained: bool,
+    /// The piece that it took last of the last, until it was told that nothing is left.
+    piece: Option<(u64, u64)>,
     /// How many pieces it took of the last; the count stays at the largest number.
     taken: u64,
+    /// The number of `piece` among the pieces of the share.
+    number: u64,
+    /// The iteration after that of its last ordered part in the last, 0 before its first.
+    parted: u64,
+    /// Whether it is in an ordered part.
+    in_part: bool,
+}
+
+impl Seat {
+    /// A member that has entered no share.
+    const NEW: Seat = Seat {
+        started: 0,
+        ended: 0,
+        drained: false,
+        piece: None,
+        taken: 0,
+        number: 0,
+        parted: 0,
+        in_part: false,
+    };
 }
 
 /// A share that some member may still be in.
@@ -30,6 +53,9 @@ pub struct OpenShare {
     shape: Shape,
     /// How many of its pieces were taken; the count stays at the largest number.
     taken: u64,
+    /// How many of its pieces were handed on; so it is the number of the piece whose ordered parts
+    /// are next.
+    turn: u64,
     /// Its pieces, with the place of the last one of a guided loop that was taken.
     cursor: Cursor,
 }
@@ -67,17 +93,13 @@ impl Shares for PlainShares {
 
     ghost agrees = { λ shares h m. plain_agrees (length shares.seats) shares.seats shares.opened shares.places h m };
 
+    ghost valid = { λ shares h m i shape. plain_valid (length shares.seats) shares.seats shares.opened shares.places h m i shape };
+
     ghost ruled = { λ shares h stands. stands.rule };
 
     fn make(alloc: Global, count: u16) -> Result<Self, AllocError> {
-        let seat = Seat {
-            started: 0,
-            ended: 0,
-            drained: false,
-            taken: 0,
-        };
         Ok(PlainShares {
-            seats: vec![in alloc; seat; count as usize]?,
+            seats: vec![in alloc; Seat::NEW; count as usize]?,
             opened: 0,
             places: [None; 8],
         })
@@ -94,11 +116,37 @@ impl Shares for PlainShares {
             entered: seat.started,
             current,
             drained: seat.drained,
+            piece: seat.piece,
+            parted: seat.parted,
+            in_part: seat.in_part,
+        }
+    }
+
+    fn next_differs(&self, member: u16, shape: &Shape) -> bool {
+        let next = self.seats[member as usize].started;
+        if next >= self.opened {
+            return false;
+        }
+        match self.places[(next % 8) as usize] {
+            Some(share) => !share.shape.is_same(shape),
+            None => false,
+        }
+    }
+
+    fn next_is_taken(&self, member: u16) -> bool {
+        let number = self.seats[member as usize].started;
+        if number >= self.opened {
+            return false;
+        }
+        match self.places[(number % 8) as usize] {
+            Some(share) => share.taken > 0,
+            None => false,
         }
     }
 
     fn try_open(&mut self, member: u16, shape: &Shape) -> Opening {
         laws::fair_schedule();
+        laws::pieces_tile();
         let members = self.seats.len() as u16;
         let seat = self.seats[member as usize];
         let number = seat.started;
@@ -113,8 +161,7 @@ impl Shares for PlainShares {
             self.seats[member as usize] = Seat {
                 started: number + 1,
                 ended: seat.ended,
-                drained: false,
-                taken: 0,
+                ..Seat::NEW
             };
             return Opening::Entered;
         }
@@ -124,14 +171,14 @@ impl Shares for PlainShares {
         self.places[place] = Some(OpenShare {
             shape: *shape,
             taken: 0,
+            turn: 0,
             cursor: Cursor::new(Plan::of(shape, members)),
         });
         self.opened = number + 1;
         self.seats[member as usize] = Seat {
             started: number + 1,
             ended: seat.ended,
-            drained: false,
-            taken: 0,
+            ..Seat::NEW
         };
         Opening::Entered
     }
@@ -144,27 +191,69 @@ impl Shares for PlainShares {
             return None;
         };
         let mut cursor = share.cursor;
-        let Some(piece) = cursor.next_piece(member, seat.taken, share.taken) else {
+        let Some((number, piece)) = take_next(&mut cursor, member, seat.taken, share.taken) else {
             self.seats[member as usize] = Seat {
                 drained: true,
+                piece: None,
                 ..seat
             };
             return None;
         };
         self.seats[member as usize] = Seat {
             taken: seat.taken.saturating_add(1),
+            piece: Some(piece),
+            number,
             ..seat
         };
         self.places[place] = Some(OpenShare {
-            shape: share.shape,
             taken: share.taken.saturating_add(1),
             cursor,
+            ..share
         });
         Some(piece)
     }
 
+    fn try_turn(&mut self, member: u16, iteration: u64) -> bool {
+        laws::pieces_tile();
+        let seat = self.seats[member as usize];
+        let Some(share) = self.places[(seat.ended % 8) as usize] else {
+            return false;
+        };
+        if !is_next(&seat, &share) {
+            return false;
+        }
+        self.seats[member as usize] = Seat {
+            parted: iteration + 1,
+            in_part: true,
+            ..seat
+        };
+        true
+    }
+
+    fn end_part(&mut self, member: u16) {
+        self.seats[member as usize].in_part = false;
+    }
+
+    fn hand_on(&mut self, member: u16) -> bool {
+        laws::pieces_tile();
+        let seat = self.seats[member as usize];
+        let place = (seat.ended % 8) as usize;
+        let Some(share) = self.places[place] else {
+            return false;
+        };
+        if !is_next(&seat, &share) {
+            return false;
+        }
+        self.places[place] = Some(OpenShare {
+            turn: seat.number + 1,
+            ..share
+        });
+        true
+    }
+
     fn leave(&mut self, member: u16) {
         laws::told_none();
+        laws::single_done();
         self.seats[member as usize].ended += 1;
     }
 }
@@ -174,6 +263,27 @@ fn has_room(seats: &[Seat], number: u64) -> bool
     ensures { IsTrue result ↔ All (λ seat. number < seat.ended + 8) seats.now }
 {
     seats.iter().all(|seat| number < OPEN_SHARES || number - OPEN_SHARES < seat.ended)
+}
+
+/// The piece that a member takes next, with its number, where it took `own` pieces and all members
+/// together took `all`.
+fn take_next(cursor: &mut Cursor, member: u16, own: u64, all: u64) -> Option<(u64, (u64, u64))>
+    requires { member < cursor.old.plan.members }
+    ensures plan { cursor.new.plan ≡ cursor.old.plan }
+    ensures piece { option_map (λ taken. taken.1) result ≡ next_piece cursor.old.plan member own all }
+    ensures number { IfSome result (λ taken. slice_get (pieces cursor.old.plan) taken.0 ≡ Some taken.1) }
+    ensures within { IfSome result (λ taken. (taken.1.0 < taken.1.1) × (taken.1.1 ≤ cursor.old.plan.shape.trips)) }
+{
+    let number = cursor.next_number(member, own, all)?;
+    let piece = cursor.advance_to(number)?;
+    Some((number, piece))
+}
+
+/// Whether the ordered parts of the member's piece are next in its share.
+fn is_next(seat: &Seat, share: &OpenShare) -> bool
+    ensures { result ≡ (is_some seat.now.piece && seat.now.number == share.now.turn) }
+{
+    seat.piece.is_some() && seat.number == share.turn
 }
 
 /// The share of this number, which lies at its place.
@@ -189,8 +299,8 @@ fn share_at(places: &[Option<OpenShare>; 8], number: u64) -> Option<(u64, Shape)
 #[cfg(test)]
 mod tests {
     use super::*;
-    use crate::ShareAnswer::{Claimed, Left, NotMade, Opened};
-    use crate::ShareCall::{Claim, Leave, Open};
+    use crate::ShareAnswer::{Claimed, Ended, Left, NotMade, Opened, Turned};
+    use crate::ShareCall::{Begin, Claim, EndPart, HandOn, Leave, Open, OpenSections, OpenSingle};
     use crate::{ShareAnswer, ShareCall, ShareStep, make_calls};
     use gomp_types::{EndKind, LoopDesc, Sched};
     use std::process::Abort;
@@ -226,7 +336,20 @@ mod tests {
             incr: 1,
             sched,
             chunk,
+            ordered: false,
             end_kind,
+        })
+    }
+
+    fn ordered(end: i64, chunk: i64) -> ShareCall {
+        Open(LoopDesc {
+            start: 0,
+            end,
+            incr: 1,
+            sched: Sched::Dynamic,
+            chunk,
+            ordered: true,
+            end_kind: EndKind::Wait,
         })
     }
 
@@ -319,5 +442,163 @@ mod tests {
             (0, open, Opened(Opening::Entered)),
         ])?;
         walk(&rt, rt.alloc(), &lines)
+    }
+
+    #[test]
+    fn hands_out_each_section(rt: HostRuntime) -> Result<(), Fail> {
+        let end_kind = EndKind::Wait;
+        let open = OpenSections { count: 3, end_kind };
+        let lines = [
+            (0, open, Opened(Opening::Entered)),
+            (0, Claim, Claimed(Some((0, 1)))),
+            (
+                1,
+                OpenSections { count: 4, end_kind },
+                Opened(Opening::Differs),
+            ),
+            (1, open, Opened(Opening::Entered)),
+            (1, Claim, Claimed(Some((1, 2)))),
+            (0, Leave, NotMade),
+            (0, Claim, Claimed(Some((2, 3)))),
+            (1, Claim, Claimed(None)),
+            (0, Claim, Claimed(None)),
+            (1, Leave, Left),
+            (0, Leave, Left),
+            (
+                0,
+                OpenSections {
+                    count: 65_537,
+                    end_kind,
+                },
+                NotMade,
+            ),
+            (
+                0,
+                OpenSections { count: 0, end_kind },
+                Opened(Opening::Entered),
+            ),
+            (0, Claim, Claimed(None)),
+            (0, Leave, Left),
+        ];
+        walk(&rt, rt.alloc(), &lines)
+    }
+
+    #[test]
+    fn gives_a_single_to_one_member(rt: HostRuntime) -> Result<(), Fail> {
+        for copies in [false, true] {
+            let open = OpenSingle { copies };
+            let lines = [
+                (0, open, Opened(Opening::Entered)),
+                (0, Leave, NotMade),
+                (0, Claim, Claimed(Some((0, 1)))),
+                (0, Leave, Left),
+                (0, Leave, NotMade),
+                (1, OpenSingle { copies: !copies }, Opened(Opening::Differs)),
+                (1, open, Opened(Opening::Entered)),
+                (1, Leave, NotMade),
+                (1, Claim, Claimed(None)),
+                (1, Claim, NotMade),
+                (1, Leave, Left),
+                (1, open, Opened(Opening::Entered)),
+                (1, Claim, Claimed(Some((0, 1)))),
+            ];
+            walk(&rt, rt.alloc(), &lines)?;
+        }
+        Ok(())
+    }
+
+    #[test]
+    fn parts_wait_for_the_pieces_before(rt: HostRuntime) -> Result<(), Fail> {
+        let open = ordered(2, 1);
+        let lines = [
+            (0, open, Opened(Opening::Entered)),
+            (1, open, Opened(Opening::Entered)),
+            (0, Claim, Claimed(Some((0, 1)))),
+            (1, Claim, Claimed(Some((1, 2)))),
+            (1, Begin(1), Turned(false)),
+            (1, HandOn, Turned(false)),
+            (0, Begin(0), Turned(true)),
+            (0, HandOn, NotMade),
+            (0, Claim, NotMade),
+            (1, Begin(1), Turned(false)),
+            (0, EndPart, Ended),
+            (1, Begin(1), Turned(false)),
+            (0, HandOn, Turned(true)),
+            (0, HandOn, Turned(false)),
+            (1, Begin(1), Turned(true)),
+            (0, Claim, Claimed(None)),
+            (0, HandOn, Turned(false)),
+            (0, Leave, Left),
+            (1, Leave, NotMade),
+            (1, EndPart, Ended),
+            (1, HandOn, Turned(true)),
+            (1, Claim, Claimed(None)),
+            (1, Leave, Left),
+            (1, HandOn, NotMade),
+        ];
+        walk(&rt, rt.alloc(), &lines)
+    }
+
+    #[test]
+    fn parts_rise_in_a_piece(rt: HostRuntime) -> Result<(), Fail> {
+        let lines = [
+            (0, ordered(4, 2), Opened(Opening::Entered)),
+            (0, Begin(0), NotMade),
+            (0, HandOn, Turned(false)),
+            (0, Claim, Claimed(Some((0, 2)))),
+            (0, EndPart, NotMade),
+            (0, Begin(0), Turned(true)),
+            (0, Begin(1), NotMade),
+            (0, EndPart, Ended),
+            (0, Begin(0), NotMade),
+            (0, Begin(2), NotMade),
+            (0, Begin(1), Turned(true)),
+            (0, EndPart, Ended),
+            (0, HandOn, Turned(true)),
+            (0, Claim, Claimed(Some((2, 4)))),
+            (0, Begin(3), Turned(true)),
+            (0, EndPart, Ended),
+            (0, Begin(2), NotMade),
+            (0, HandOn, Turned(true)),
+            (0, Claim, Claimed(None)),
+            (0, Leave, Left),
+            (0, dynamic(4, 2, EndKind::Wait), Opened(Opening::Entered)),
+            (0, Claim, Claimed(Some((0, 2)))),
+            (0, Begin(0), NotMade),
+            (0, HandOn, NotMade),
+        ];
+        walk(&rt, rt.alloc(), &lines)
+    }
+
+    #[test]
+    fn tells_whether_the_next_is_taken(rt: HostRuntime) -> Result<(), Fail> {
+        let open = OpenSingle { copies: true };
+        // A member, what it calls, and whether the next share of each member is taken then.
+        let lines = [
+            (1, open, (false, false)),
+            (1, Claim, (true, false)),
+            (1, Leave, (true, false)),
+            (1, open, (true, false)),
+            (0, open, (false, false)),
+            (1, Claim, (true, false)),
+            (0, Claim, (true, false)),
+            (0, Leave, (true, false)),
+            (0, open, (false, false)),
+            (1, Leave, (false, false)),
+        ];
+        let mut steps = Vec::new(rt.alloc());
+        for (number, (member, call, taken)) in lines.iter().enumerate() {
+            steps.push(ShareStep {
+                member: *member,
+                call: *call,
+            })?;
+            let (shares, _) = make_calls::<PlainShares>(rt.alloc(), 2, &steps)?;
+            assert_eq!(rt;
+                (shares.next_is_taken(0), shares.next_is_taken(1)),
+                *taken,
+                "after line {number}"
+            );
+        }
+        Ok(())
     }
 }

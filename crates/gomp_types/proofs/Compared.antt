@@ -1,15 +1,15 @@
 -- Constructs that compare as one are one.
-use Rattle.std.proofs.Common.{◌≡◌, true, false, Option, Some, None, refl}
+use Rattle.std.proofs.Common.{◌≡◌, Bool, true, false, Option, Some, None, refl, sym}
 use Rattle.std.proofs.lemmas.Bool.Decides.{Decides-int_eq, Decides-eqb}
 use Rattle.gomp_types.specs.declared.shape.ShareKind.{ShareKind}
-use Rattle.gomp_types.specs.declared.shape.ShareKind.TheVariants.{StaticChunked, StaticEven, Dynamic, Guided}
+use Rattle.gomp_types.specs.declared.shape.ShareKind.TheVariants.{StaticChunked, StaticEven, Dynamic, Guided, Sections, Single, SingleCopy}
 use Rattle.gomp_types.specs.declared.loop_desc.EndKind.{EndKind}
 use Rattle.gomp_types.specs.declared.loop_desc.EndKind.TheVariants.{Wait, Nowait}
 use Rattle.gomp_types.specs.declared.shape.Shape.{Shape}
 use Rattle.gomp_types.specs.declared.event.Arrival.{Arrival}
 use Rattle.gomp_types.specs.declared.event.Arrival.TheVariants.{Barrier, ShareEnd, RegionEnd}
 use Rattle.gomp_types.specs.declared.event.Tag.{Tag}
-use Rattle.gomp_types.specs.Shapes.{same_kind, same_end, same_shape, same_arrival, same_tag}
+use Rattle.gomp_types.specs.Shapes.{same_kind, same_end, same_bool, same_shape, same_arrival, same_tag}
 use Rattle.gomp_types.specs.Refusals.{shape_differs, tag_differs}
 use Rattle.gomp_types.proofs.Booleans.{and_left, and_right, not_false}
 
@@ -18,6 +18,9 @@ same_kind_is StaticChunked StaticChunked e = refl
 same_kind_is StaticEven StaticEven e = refl
 same_kind_is Dynamic Dynamic e = refl
 same_kind_is Guided Guided e = refl
+same_kind_is Sections Sections e = refl
+same_kind_is Single Single e = refl
+same_kind_is SingleCopy SingleCopy e = refl
 same_kind_is _ _ e = absurd (cc)
 
 same_end_is : (a b : EndKind) → same_end a b ≡ true → a ≡ b
@@ -31,9 +34,15 @@ same_arrival_is ShareEnd ShareEnd e = refl
 same_arrival_is RegionEnd RegionEnd e = refl
 same_arrival_is _ _ e = absurd (cc)
 
+same_bool_is : (a b : Bool) → same_bool a b ≡ true → a ≡ b
+same_bool_is true b e = sym e
+same_bool_is false true e = absurd (cc)
+same_bool_is false false e = refl
+
 pub same_shape_is : (a b : Shape) → same_shape a b ≡ true → a ≡ b
 same_shape_is a b e =
-    let e5 = and_left _ _ e in
+    let e6 = and_left _ _ e in
+    let e5 = and_left _ _ e6 in
     let e4 = and_left _ _ e5 in
     let e3 = and_left _ _ e4 in
     let e2 = and_left _ _ e3 in
@@ -42,8 +51,9 @@ same_shape_is a b e =
     let trips : a.trips ≡ b.trips = (Decides-eqb a.trips b.trips).0 (and_right _ _ e3) in
     let kind : a.kind ≡ b.kind = same_kind_is a.kind b.kind (and_right _ _ e4) in
     let chunk : a.chunk ≡ b.chunk = (Decides-eqb a.chunk b.chunk).0 (and_right _ _ e5) in
+    let ordered : a.ordered ≡ b.ordered = same_bool_is a.ordered b.ordered (and_right _ _ e6) in
     let end : a.end_kind ≡ b.end_kind = same_end_is a.end_kind b.end_kind (and_right _ _ e) in
-    rw (start, incr, trips, kind, chunk, end) refl
+    rw (start, incr, trips, kind, chunk, ordered, end) refl
 
 pub same_tag_is : (a b : Tag) → same_tag a b ≡ true → a ≡ b
 same_tag_is a b e =

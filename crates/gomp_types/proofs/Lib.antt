@@ -9,7 +9,13 @@ pub mod Owned
 pub mod Dealing
 pub mod Compared
 pub mod SharesKeep
+pub mod SinglesKeep
+pub mod CopiesKeep
+pub mod Windows
+pub mod OrderedKeep
 pub mod TeamKeeps
+pub mod PartsKeep
+pub mod Places
 pub mod CausesKeep
 pub mod OneReply
 pub mod SomeReply

@@ -66,7 +66,7 @@ inside deal members m i shape (End share member ∷ earlier) all at =
 inside deal members m i shape (_ ∷ earlier) all at = inside deal members m i shape earlier all.1 at
 
 -- the member has entered the share that it is in
-inside_stands : (m i : ℕ) (shape : Shape) (h : List Event) → open_share m h ≡ Some (i, shape) → Happened (Enter i m shape) h
+pub inside_stands : (m i : ℕ) (shape : Shape) (h : List Event) → open_share m h ≡ Some (i, shape) → Happened (Enter i m shape) h
 inside_stands m i shape [] at = absurd (cc)
 inside_stands m i shape (Enter share member other ∷ earlier) at =
     elim (tells (member == m) (Some (share, other)) (open_share m earlier) (Some (i, shape)) at) [

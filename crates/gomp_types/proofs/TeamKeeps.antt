@@ -4,14 +4,16 @@ use Rattle.std.specs.Prelude.{◌&&◌, ◌==◌, is_some}
 use Rattle.std.proofs.lemmas.Bool.{cases_Bool}
 use Rattle.gomp_types.specs.declared.event.Tag.{Tag}
 use Rattle.gomp_types.specs.declared.event.Event.{Event}
-use Rattle.gomp_types.specs.declared.event.Event.TheVariants.{Enter, Take, Drained, End, Arrive, Pass}
+use Rattle.gomp_types.specs.declared.event.Event.TheVariants.{Enter, Take, Drained, End, HandOn, Part, PartEnd, Put, Got, Arrive, Pass}
 use Rattle.gomp_types.specs.Events.{arrival, tag_at}
 use Rattle.gomp_types.specs.Deals.{schedule}
-use Rattle.gomp_types.specs.Rules.{Always, ShareRule, ArrivalRule, TeamRule}
-use Rattle.gomp_types.specs.Laws.{Happened, BarriersInTurn, PassesLast, SameArrivals, TellsShares, ArrivalLaws}
+use Rattle.gomp_types.specs.Rules.{Always, ShareRule, CopyRule, ArrivalRule, TeamRule}
+use Rattle.gomp_types.specs.Laws.{Happened, PutsOnce, GetsWhatWasPut, BarriersInTurn, PassesLast, SameArrivals, TellsShares, CopyLaws, ArrivalLaws}
 use Rattle.gomp_types.specs.Headline.{Headline}
 use Rattle.gomp_types.proofs.Booleans.{tells, is_equal, same_number, and_left, and_right, some_of, every_tells}
 use Rattle.gomp_types.proofs.SharesKeep.{always, shares_keep}
+use Rattle.gomp_types.proofs.OrderedKeep.{ordered_keep}
+use Rattle.gomp_types.proofs.CopiesKeep.{puts_once, gets_what_was_put}
 
 -- the rule of the team has that of the shares
 share_rule : (members : ℕ) (event : Event) (earlier : List Event) → TeamRule members event earlier → Always (TeamRule members) earlier → ShareRule (schedule members) members event earlier
@@ -19,10 +21,28 @@ share_rule members (Enter share m shape) earlier rule all = rule
 share_rule members (Take share m low high) earlier rule all = rule
 share_rule members (Drained share m) earlier rule all = rule
 share_rule members (End share m) earlier rule all = rule
+share_rule members (HandOn share m piece) earlier rule all = rule
+share_rule members (Part share m iteration) earlier rule all = rule
+share_rule members (PartEnd share m) earlier rule all = rule
 share_rule members _ earlier rule all = tt
 
 pub share_rules : (members : ℕ) (h : List Event) → Always (TeamRule members) h → Always (ShareRule (schedule members) members) h
 share_rules members h all = always (TeamRule members) (ShareRule (schedule members) members) (share_rule members) h all
+
+-- Payloads
+
+-- and that of the payloads
+copy_rule : (members : ℕ) (event : Event) (earlier : List Event) → TeamRule members event earlier → CopyRule event earlier
+copy_rule members (Put share m payload) earlier rule = rule
+copy_rule members (Got share m payload) earlier rule = rule
+copy_rule members _ earlier rule = tt
+
+-- the laws of the payloads, from the rule of the team
+pub copies_keep : (members : ℕ) (h : List Event) → Always (TeamRule members) h → CopyLaws h
+copies_keep members h all = record {
+  puts = always (TeamRule members) PutsOnce (λ event earlier rule before. puts_once (schedule members) members event earlier (copy_rule members event earlier rule) (share_rules members earlier before)) h all;
+  gets = always (TeamRule members) GetsWhatWasPut (λ event earlier rule before. gets_what_was_put event earlier (copy_rule members event earlier rule)) h all;
+}
 
 -- Arrivals
 
@@ -95,9 +115,13 @@ tells_shares members _ earlier rule all = tt
 pub team_keeps : (members : ℕ) (h : List Event) → Always (TeamRule members) h → Headline members h
 team_keeps members h all =
     let shares = shares_keep (schedule members) members h (share_rules members h all) in
+    let copies = copies_keep members h all in
     let arrivals = arrivals_keep members h (arrival_rules members h all) in record {
       taken_once = shares.taken_once;
       whole = shares.whole;
+      ordered = ordered_keep members h (share_rules members h all);
+      puts = copies.puts;
+      gets = copies.gets;
       same_shares = shares.same_shares;
       same_arrivals = arrivals.same_arrivals;
       one_order = always (TeamRule members) TellsShares (tells_shares members) h all;

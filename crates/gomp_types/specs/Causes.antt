@@ -1,7 +1,7 @@
 -- Cause: the record before a step decides its reply, and nothing else does, save that memory may be refused. (own)
 use Rattle.std.specs.Prelude.{ℕ, ◌≡◌, ◌≢◌, ◌⊎◌, Bool, true, false, IsTrue, List, [], ◌∷◌, ◌++◌, Option, Some, None}
 use Rattle.gomp_types.specs.declared.call.Call.{Call}
-use Rattle.gomp_types.specs.declared.call.Call.TheVariants.{LoopStart, Barrier}
+use Rattle.gomp_types.specs.declared.call.Call.TheVariants.{LoopStart, SectionsStart, SingleCopyStart, Barrier}
 use Rattle.gomp_types.specs.declared.call.Step.{Step}
 use Rattle.gomp_types.specs.declared.limits.Limits.{Limits}
 use Rattle.gomp_types.specs.declared.reply.Reply.{Reply}
@@ -12,7 +12,7 @@ use Rattle.gomp_types.specs.declared.event.Event.{Event}
 use Rattle.gomp_types.specs.Limits.{capped}
 use Rattle.gomp_types.specs.Tests.{Test, first_refusal}
 use Rattle.gomp_types.specs.Record.{Record, waits_of, meant, is_resume, events}
-use Rattle.gomp_types.specs.Refusals.{member_tests, row_of}
+use Rattle.gomp_types.specs.Refusals.{call_tests, member_tests, row_of}
 use Rattle.gomp_types.specs.Replies.{MayReply}
 
 -- what a team is made with; a limit above the standard one counts as that
@@ -33,6 +33,8 @@ refusal_of terms step waiting h = first_refusal (tests_of terms step waiting h)
 -- the calls that may find no memory; a resume never asks for any
 abbrev pub asks_memory : Call → Bool
 asks_memory (LoopStart loop) = true
+asks_memory (SectionsStart count end_kind) = true
+asks_memory SingleCopyStart = true
 asks_memory Barrier = true
 asks_memory _ = false
 
@@ -48,6 +50,11 @@ MayAnswer terms earlier step (Refused refusal) =
 MayAnswer terms earlier step reply =
     (refusal_of terms step (waits_of step.member earlier).open_call (events earlier) ≡ None)
     × MayReply terms.members (is_resume step.call) step.member (meant step.call (waits_of step.member earlier).open_call) reply (events earlier)
+
+-- a call by itself, apart from the tests on the team and on an open wait: a refusal is the first of the call's own tests that holds, and any other reply is one that it may be given where none holds
+abbrev pub IsReply : Limits → ℕ → ℕ → Call → Reply → List Event → Type 0
+IsReply limits members m call (Refused refusal) h = first_refusal (call_tests limits m call h) ≡ Some refusal
+IsReply limits members m call reply h = (first_refusal (call_tests limits m call h) ≡ None) × MayReply members false m call reply h
 
 -- every reply of a record has its cause
 abbrev pub Caused : Terms → Record → Type 0

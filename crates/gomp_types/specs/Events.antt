@@ -2,12 +2,13 @@
 use Rattle.std.specs.Prelude.{ℕ, ◌+◌, ◌-◌, ◌==◌, ◌&&◌, ◌||◌, nat_le, nat_lt, Bool, true, false, if◌then◌else◌, List, [], ◌∷◌, Option, Some, None, is_some}
 use Rattle.std.proofs.Common.{zero, suc}
 use Rattle.gomp_types.specs.declared.shape.Shape.{Shape}
+use Rattle.gomp_types.specs.declared.shape.ShareKind.{ShareKind}
 use Rattle.gomp_types.specs.declared.refusal.Clash.{Clash}
 use Rattle.gomp_types.specs.declared.event.Arrival.{Arrival}
 use Rattle.gomp_types.specs.declared.event.Arrival.TheVariants.{RegionEnd}
 use Rattle.gomp_types.specs.declared.event.Tag.{Tag}
 use Rattle.gomp_types.specs.declared.event.Event.{Event}
-use Rattle.gomp_types.specs.declared.event.Event.TheVariants.{Enter, Take, Drained, End, Arrive, Pass, Break}
+use Rattle.gomp_types.specs.declared.event.Event.TheVariants.{Enter, Take, Drained, End, HandOn, Part, PartEnd, Put, Arrive, Pass, Break}
 
 -- whether each member of a team of this size passes the test
 abbrev pub every_member : ℕ → (ℕ → Bool) → Bool
@@ -49,6 +50,19 @@ has_drained m (Enter share member shape ∷ earlier) = if member == m then false
 has_drained m (Drained share member ∷ earlier) = if member == m then true else has_drained m earlier
 has_drained m (_ ∷ earlier) = has_drained m earlier
 
+-- the piece that the member took last of the share that it entered last; none once it was told that nothing is left
+abbrev pub last_piece : ℕ → List Event → Option (ℕ × ℕ)
+last_piece m [] = None
+last_piece m (Enter share member shape ∷ earlier) = if member == m then None else last_piece m earlier
+last_piece m (Take share member low high ∷ earlier) = if member == m then Some (low, high) else last_piece m earlier
+last_piece m (Drained share member ∷ earlier) = if member == m then None else last_piece m earlier
+last_piece m (_ ∷ earlier) = last_piece m earlier
+
+-- whether a member's share is of such a kind
+abbrev pub in_kind : (ShareKind → Bool) → Option (ℕ × Shape) → Bool
+in_kind is None = false
+in_kind is (Some share) = is share.1.kind
+
 -- what the share is, by those that entered it
 abbrev pub shape_at : ℕ → List Event → Option Shape
 shape_at share [] = None
@@ -79,6 +93,44 @@ times_taken share k [] = 0
 times_taken share k (Take i member low high ∷ earlier) =
     if i == share && has_iteration k low high then times_taken share k earlier + 1 else times_taken share k earlier
 times_taken share k (_ ∷ earlier) = times_taken share k earlier
+
+-- Ordered parts (OpenMP API 5.2, section 15.10.2)
+
+-- how many pieces of the share were handed on; so it is the number of the piece whose ordered parts are next
+abbrev pub turn : ℕ → List Event → ℕ
+turn share [] = 0
+turn share (HandOn i member piece ∷ earlier) = if i == share then turn share earlier + 1 else turn share earlier
+turn share (_ ∷ earlier) = turn share earlier
+
+-- the iteration after that of the member's last ordered part, in the share that it entered last; 0 before its first
+abbrev pub parted : ℕ → List Event → ℕ
+parted m [] = 0
+parted m (Enter share member shape ∷ earlier) = if member == m then 0 else parted m earlier
+parted m (Part share member iteration ∷ earlier) = if member == m then iteration + 1 else parted m earlier
+parted m (_ ∷ earlier) = parted m earlier
+
+-- whether the member is in an ordered part
+abbrev pub in_part : ℕ → List Event → Bool
+in_part m [] = false
+in_part m (Enter share member shape ∷ earlier) = if member == m then false else in_part m earlier
+in_part m (Part share member iteration ∷ earlier) = if member == m then true else in_part m earlier
+in_part m (PartEnd share member ∷ earlier) = if member == m then false else in_part m earlier
+in_part m (_ ∷ earlier) = in_part m earlier
+
+-- whether an ordered part of the share is open
+abbrev pub part_open : ℕ → List Event → Bool
+part_open share [] = false
+part_open share (Part i member iteration ∷ earlier) = if i == share then true else part_open share earlier
+part_open share (PartEnd i member ∷ earlier) = if i == share then false else part_open share earlier
+part_open share (_ ∷ earlier) = part_open share earlier
+
+-- Payloads (OpenMP API 5.2, section 5.7.2)
+
+-- the words that the executor of the share put, once it has
+abbrev pub payload_at : ℕ → List Event → Option (List ℕ)
+payload_at share [] = None
+payload_at share (Put i member payload ∷ earlier) = if i == share then Some payload else payload_at share earlier
+payload_at share (_ ∷ earlier) = payload_at share earlier
 
 -- Barriers (OpenMP API 5.2, section 15.3)
 

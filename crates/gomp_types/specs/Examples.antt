@@ -51,7 +51,7 @@ asks m call = record { member = m; call = call }
 -- a dynamic loop of step 1
 abbrev pub dynamic_loop : ℤ → ℤ → ℤ → EndKind → Call
 dynamic_loop chunk start end end_kind =
-    LoopStart (record { start = start; end = end; incr = pos 1; sched = Dynamic; chunk = chunk; end_kind = end_kind })
+    LoopStart (record { start = start; end = end; incr = pos 1; sched = Dynamic; chunk = chunk; ordered = false; end_kind = end_kind })
 
 -- ten iterations in chunks of three
 abbrev pub ten_by_three : Call
@@ -133,7 +133,7 @@ second_share = loop_alone ++ (asks 0 one_nowait, Refused TooManyShares) ∷ []
 -- a loop that is refused for itself
 abbrev pub loop_by : ℤ → ℤ → ℤ → Call
 loop_by incr end chunk =
-    LoopStart (record { start = pos 0; end = end; incr = incr; sched = Dynamic; chunk = chunk; end_kind = WaitEnd })
+    LoopStart (record { start = pos 0; end = end; incr = incr; sched = Dynamic; chunk = chunk; ordered = false; end_kind = WaitEnd })
 
 -- a member alone in its team goes through a region, and asks what it may not
 abbrev pub whole_region : Run
@@ -155,10 +155,10 @@ whole_region =
 
 -- the loop of all values of an i64, upwards and downwards
 abbrev pub over_all_values : ℤ → LoopDesc
-over_all_values incr = record { start = negsuc 9223372036854775807; end = pos 9223372036854775807; incr = incr; sched = Dynamic; chunk = pos 0; end_kind = WaitEnd }
+over_all_values incr = record { start = negsuc 9223372036854775807; end = pos 9223372036854775807; incr = incr; sched = Dynamic; chunk = pos 0; ordered = false; end_kind = WaitEnd }
 
 abbrev pub down_all_values : ℤ → LoopDesc
-down_all_values incr = record { start = pos 9223372036854775807; end = negsuc 9223372036854775807; incr = incr; sched = Dynamic; chunk = pos 0; end_kind = WaitEnd }
+down_all_values incr = record { start = pos 9223372036854775807; end = negsuc 9223372036854775807; incr = incr; sched = Dynamic; chunk = pos 0; ordered = false; end_kind = WaitEnd }
 
 -- what becomes of a loop: its number of iterations, or why it is refused
 abbrev pub trips_of : LoopDesc → Result ℕ Refusal
@@ -199,7 +199,7 @@ stopped_inside = (asks 0 one_nowait, Chunk (pos 0) 1) ∷ (asks 0 Stop, Stopped)
 
 -- a loop of step 1 from 0 on, with this schedule
 abbrev pub loop_with : Sched → ℤ → ℤ → Call
-loop_with sched chunk end = LoopStart (record { start = pos 0; end = end; incr = pos 1; sched = sched; chunk = chunk; end_kind = Nowait })
+loop_with sched chunk end = LoopStart (record { start = pos 0; end = end; incr = pos 1; sched = sched; chunk = chunk; ordered = false; end_kind = Nowait })
 
 -- a static loop with a chunk, of two members, whoever asks when
 abbrev pub owned_pieces : Run

@@ -1,15 +1,20 @@
--- The headline: for every team size and list of member steps, no iteration is taken twice; a loop that all members end had every iteration taken; all members go through the same constructs in one order; no member passes a barrier before all arrived. OpenMP API 5.2, sections 11.5 and 15.3.
+-- The headline: for every team size and list of member steps, no iteration, section or single is taken twice; a loop or sections construct that all members end had every iteration or section taken; ordered parts of a loop run in the order of its iterations; the words that a member copies are those that the executor of the single put; all members go through the same constructs in one order; no member passes a barrier before all arrived. OpenMP API 5.2, chapter 11 and sections 5.7.2, 15.3 and 15.10.2.
 use Rattle.std.specs.Prelude.{ℕ, List}
 use Rattle.gomp_types.specs.declared.event.Event.{Event}
 use Rattle.gomp_types.specs.Deals.{schedule}
 use Rattle.gomp_types.specs.Rules.{Always}
-use Rattle.gomp_types.specs.Laws.{TakenOnce, WholeWhereOver, SameShares, SameArrivals, TellsShares, PassesLast}
+use Rattle.gomp_types.specs.Laws.{TakenOnce, WholeWhereOver, SameShares, OrderedLaws, PutsOnce, GetsWhatWasPut, SameArrivals, TellsShares, PassesLast}
 
 pub record Headline (members : ℕ) (h : List Event) : Type 0 where
-  -- no iteration is taken twice
+  -- no iteration, section or single is taken twice
   pub taken_once : TakenOnce (schedule members) h
-  -- a loop that all members end had every iteration taken
+  -- a loop or sections construct that all members end had every iteration or section taken
   pub whole : WholeWhereOver members h
+  -- ordered parts of a loop run in the order of its iterations, one after another
+  pub ordered : OrderedLaws members h
+  -- the executor of a single puts its words once, and the others are given these
+  pub puts : Always PutsOnce h
+  pub gets : Always GetsWhatWasPut h
   -- all members go through the same shares, and arrive alike
   pub same_shares : SameShares members h
   pub same_arrivals : SameArrivals h

@@ -1,10 +1,11 @@
 -- The laws of a team's events, each clause in the words of the promise that it keeps.
-use Rattle.std.specs.Prelude.{ℕ, ◌+◌, ◌<◌, ◌≤◌, ◌≡◌, List, [], ◌∷◌, Some, ◌⊎◌, take}
+use Rattle.std.specs.Prelude.{ℕ, ◌+◌, ◌<◌, ◌≤◌, ◌≡◌, false, slice_get, List, [], ◌∷◌, Some, ◌⊎◌, take}
 use Rattle.gomp_types.specs.declared.shape.Shape.{Shape}
 use Rattle.gomp_types.specs.declared.event.Tag.{Tag}
 use Rattle.gomp_types.specs.declared.event.Event.{Event}
-use Rattle.gomp_types.specs.declared.event.Event.TheVariants.{Enter, Take, End, Arrive, Pass}
-use Rattle.gomp_types.specs.Events.{entered, passed, times_taken}
+use Rattle.gomp_types.specs.declared.event.Event.TheVariants.{Enter, Take, End, HandOn, Part, Put, Got, Arrive, Pass}
+use Rattle.gomp_types.specs.Pieces.{pieces_of}
+use Rattle.gomp_types.specs.Events.{entered, last_piece, turn, part_open, passed, times_taken}
 use Rattle.gomp_types.specs.Deals.{Deal, taken_in, takes_in, next_for}
 use Rattle.gomp_types.specs.Rules.{Always}
 
@@ -88,11 +89,66 @@ abbrev pub PassesLast : ℕ → Event → List Event → Type 0
 PassesLast members (Pass barrier m) earlier = (x : ℕ) → x < members → (tag : Tag) × Happened (Arrive barrier x tag) earlier
 PassesLast members _ earlier = Unit {0}
 
+-- Ordered (OpenMP API 5.2, section 15.10.2): ordered parts of a loop begin in the order of their iterations.
+abbrev pub PartsRise : Event → List Event → Type 0
+PartsRise (Part share m iteration) earlier = (n other : ℕ) → Happened (Part share n other) earlier → other < iteration
+PartsRise _ earlier = Unit {0}
+
+-- a part lies in the piece that its member took last, and every piece before that one was handed on: its number is that of the turn
+abbrev pub PartsInTurn : ℕ → Event → List Event → Type 0
+PartsInTurn members (Part share m iteration) earlier =
+    (shape : Shape) × (low high : ℕ)
+    × Happened (Enter share m shape) earlier
+    × Happened (Take share m low high) earlier
+    × (last_piece m earlier ≡ Some (low, high))
+    × (low ≤ iteration)
+    × (iteration < high)
+    × (slice_get (pieces_of members shape) (turn share earlier) ≡ Some (low, high))
+PartsInTurn members _ earlier = Unit {0}
+
+-- the pieces of an ordered loop are handed on in order, each by the member that took it last
+abbrev pub HandsOnInTurn : ℕ → Event → List Event → Type 0
+HandsOnInTurn members (HandOn share m piece) earlier =
+    (shape : Shape) × (low high : ℕ)
+    × Happened (Enter share m shape) earlier
+    × (last_piece m earlier ≡ Some (low, high))
+    × (piece ≡ turn share earlier)
+    × (slice_get (pieces_of members shape) piece ≡ Some (low, high))
+HandsOnInTurn members _ earlier = Unit {0}
+
+-- no part of a loop begins while one is open
+abbrev pub PartsApart : Event → List Event → Type 0
+PartsApart (Part share m iteration) earlier = part_open share earlier ≡ false
+PartsApart _ earlier = Unit {0}
+
+-- Copied once (OpenMP API 5.2, section 5.7.2): words are put by the member that took the piece of their single, and only once.
+abbrev pub PutsOnce : Event → List Event → Type 0
+PutsOnce (Put share m payload) earlier =
+    ((low high : ℕ) × Happened (Take share m low high) earlier) × ((n : ℕ) (other : List ℕ) → Happened (Put share n other) earlier → ⊥)
+PutsOnce _ earlier = Unit {0}
+
+-- and the words that a member is given are those that were put before
+abbrev pub GetsWhatWasPut : Event → List Event → Type 0
+GetsWhatWasPut (Got share m payload) earlier = (n : ℕ) × Happened (Put share n payload) earlier
+GetsWhatWasPut _ earlier = Unit {0}
+
+-- what the ordered parts keep
+pub record OrderedLaws (members : ℕ) (h : List Event) : Type 0 where
+  pub rise : Always PartsRise h
+  pub in_turn : Always (PartsInTurn members) h
+  pub handed_on : Always (HandsOnInTurn members) h
+  pub apart : Always PartsApart h
+
 -- what the work-shares alone keep, however they are kept
 pub record ShareLaws (deal : Deal) (members : ℕ) (h : List Event) : Type 0 where
   pub taken_once : TakenOnce deal h
   pub whole : WholeWhereOver members h
   pub same_shares : SameShares members h
+
+-- what the payloads keep, however they are kept
+pub record CopyLaws (h : List Event) : Type 0 where
+  pub puts : Always PutsOnce h
+  pub gets : Always GetsWhatWasPut h
 
 -- what the arrivals alone keep, however they are kept
 pub record ArrivalLaws (members : ℕ) (h : List Event) : Type 0 where

@@ -4,8 +4,12 @@ pub mod RefusalTexts
 pub mod Iterations
 pub mod Pieces
 pub mod Values
+pub mod Sections
+pub mod Singles
+pub mod Starts
 pub mod Shapes
 pub mod Events
+pub mod Ordered
 pub mod Record
 pub mod Deals
 pub mod Refusals
@@ -15,3 +19,4 @@ pub mod Rules
 pub mod Laws
 pub mod Headline
 pub mod Examples
+pub mod ShareExamples

@@ -5,7 +5,7 @@ use Rattle.gomp_types.specs.declared.refusal.Place.{Place}
 use Rattle.gomp_types.specs.declared.refusal.Place.TheVariants.{Share, Barrier, Stopped}
 use Rattle.gomp_types.specs.declared.refusal.Clash.{Clash}
 use Rattle.gomp_types.specs.declared.refusal.Refusal.{Refusal}
-use Rattle.gomp_types.specs.declared.refusal.Refusal.TheVariants.{BadMember, Ended, Broken, Waiting, InsideShare, OutsideShare, ZeroStep, BadChunk, LoopTooLong, EndDiffers, NotDrained, Drained, NotInside, TooManyShares, Mismatch, NoMemory, BadTeam, BadEnv}
+use Rattle.gomp_types.specs.declared.refusal.Refusal.TheVariants.{BadMember, Ended, Broken, Waiting, InsideShare, OutsideShare, InOrdered, ZeroStep, BadChunk, LoopTooLong, BadSections, EndDiffers, NotDrained, Drained, NotOrdered, OrderedBackwards, NotInside, TooManyShares, Mismatch, NoMemory, BadTeam, BadEnv}
 
 -- the number of a refusal, by which a call's tests are ordered
 abbrev pub number_of : Refusal → ℕ
@@ -15,12 +15,16 @@ number_of (Broken clash) = 3
 number_of Waiting = 4
 number_of InsideShare = 8
 number_of OutsideShare = 9
+number_of InOrdered = 10
 number_of ZeroStep = 12
 number_of BadChunk = 13
 number_of LoopTooLong = 14
+number_of BadSections = 15
 number_of EndDiffers = 17
 number_of NotDrained = 18
 number_of Drained = 19
+number_of NotOrdered = 20
+number_of OrderedBackwards = 21
 number_of NotInside = 22
 number_of TooManyShares = 34
 number_of Mismatch = 35
@@ -36,12 +40,16 @@ name_of (Broken clash) = codes "Broken"
 name_of Waiting = codes "Waiting"
 name_of InsideShare = codes "InsideShare"
 name_of OutsideShare = codes "OutsideShare"
+name_of InOrdered = codes "InOrdered"
 name_of ZeroStep = codes "ZeroStep"
 name_of BadChunk = codes "BadChunk"
 name_of LoopTooLong = codes "LoopTooLong"
+name_of BadSections = codes "BadSections"
 name_of EndDiffers = codes "EndDiffers"
 name_of NotDrained = codes "NotDrained"
 name_of Drained = codes "Drained"
+name_of NotOrdered = codes "NotOrdered"
+name_of OrderedBackwards = codes "OrderedBackwards"
 name_of NotInside = codes "NotInside"
 name_of TooManyShares = codes "TooManyShares"
 name_of Mismatch = codes "Mismatch"

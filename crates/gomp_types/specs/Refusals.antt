@@ -1,13 +1,12 @@
 -- Which calls are refused, and by which test: for each call its row of tests, in the order of their numbers. (own; the constructs' rules are those of OpenMP API 5.2, chapters 11 and 15)
-use Rattle.std.specs.Prelude.{ℕ, nat_le, not, is_some, is_none, Bool, true, false, List, [], ◌∷◌, ◌++◌, Option, Some, None}
+use Rattle.std.specs.Prelude.{ℕ, nat_le, not, is_some, is_none, Bool, true, false, ◌&&◌, List, [], ◌∷◌, ◌++◌, Option, Some, None}
 use Rattle.gomp_types.specs.declared.call.Call.{Call}
-use Rattle.gomp_types.specs.declared.call.Call.TheVariants.{LoopStart, LoopNext, LoopEnd, LoopEndNowait, Barrier, RegionEnd, Resume, Stop}
-use Rattle.gomp_types.specs.declared.loop_desc.LoopDesc.{LoopDesc}
+use Rattle.gomp_types.specs.declared.call.Call.TheVariants.{LoopStart, LoopNext, LoopEnd, LoopEndNowait, SectionsStart, SectionsNext, SectionsEnd, SectionsEndNowait, SingleStart, SingleCopyStart, SingleCopyEnd, OrderedStart, OrderedEnd, Barrier, RegionEnd, Resume, Stop}
 use Rattle.gomp_types.specs.declared.loop_desc.EndKind.{EndKind}
 use Rattle.gomp_types.specs.declared.loop_desc.EndKind.TheVariants.{Wait as WaitEnd, Nowait}
 use Rattle.gomp_types.specs.declared.limits.Limits.{Limits}
 use Rattle.gomp_types.specs.declared.refusal.Clash.{Clash}
-use Rattle.gomp_types.specs.declared.refusal.Refusal.TheVariants.{BadMember, Ended, Broken, Waiting, InsideShare, OutsideShare, EndDiffers, NotDrained, Drained, NotInside, TooManyShares, Mismatch}
+use Rattle.gomp_types.specs.declared.refusal.Refusal.TheVariants.{BadMember, Ended, Broken, Waiting, InsideShare, OutsideShare, InOrdered, EndDiffers, NotDrained, Drained, NotOrdered, OrderedBackwards, NotInside, TooManyShares, Mismatch}
 use Rattle.gomp_types.specs.declared.shape.Shape.{Shape}
 use Rattle.gomp_types.specs.declared.event.Arrival.{Arrival}
 use Rattle.gomp_types.specs.declared.event.Arrival.TheVariants.{Barrier as BarrierArrival, ShareEnd, RegionEnd as RegionEndArrival}
@@ -15,9 +14,12 @@ use Rattle.gomp_types.specs.declared.event.Tag.{Tag}
 use Rattle.gomp_types.specs.declared.event.Event.{Event}
 use Rattle.gomp_types.specs.Tests.{Test}
 use Rattle.gomp_types.specs.Iterations.{loop_tests}
-use Rattle.gomp_types.specs.Shapes.{same_shape, same_tag, same_end}
+use Rattle.gomp_types.specs.Sections.{sections_shape, sections_tests}
+use Rattle.gomp_types.specs.Singles.{single_shape}
+use Rattle.gomp_types.specs.Shapes.{is_loop, is_sections, is_copy, same_shape, same_tag, same_end}
 use Rattle.gomp_types.specs.Pieces.{shape_of}
-use Rattle.gomp_types.specs.Events.{entered, open_share, is_inside, has_drained, shape_at, passed, tag_at, has_left_region, clash_of}
+use Rattle.gomp_types.specs.Events.{entered, open_share, open_number, is_inside, in_kind, has_drained, last_piece, parted, in_part, shape_at, payload_at, passed, tag_at, has_left_region, clash_of}
+use Rattle.gomp_types.specs.Ordered.{is_ordered, comes_next}
 use Rattle.gomp_types.specs.Record.{tag_with}
 
 -- whether the team's share is of another shape
@@ -35,21 +37,34 @@ abbrev pub end_differs : EndKind → Option (ℕ × Shape) → Bool
 end_differs kind None = false
 end_differs kind (Some share) = not (same_end share.1.end_kind kind)
 
--- the construct at a start is compared with the team's share of the same number, at a resume too
-abbrev pub start_tests : ℕ → LoopDesc → List Event → List Test
-start_tests m loop h = (shape_differs (shape_of loop) (shape_at (entered m h) h), Mismatch) ∷ []
+-- the share of a start is compared with the team's of the same number, at a resume too
+abbrev pub start_tests : ℕ → Shape → List Event → List Test
+start_tests m shape h = (shape_differs shape (shape_at (entered m h) h), Mismatch) ∷ []
 
 -- an arrival is compared once with those of the other members at the same barrier
 abbrev pub arrival_tests : Arrival → ℕ → List Event → List Test
 arrival_tests kind m h = (tag_differs (tag_with kind (entered m h)) (tag_at (passed m h) h), Mismatch) ∷ []
 
--- the end of a share, which ends so
-abbrev pub end_tests : EndKind → ℕ → List Event → List Test
-end_tests kind m h =
-    (not (is_inside m h), OutsideShare)
+-- the end of a loop, which ends so
+abbrev pub loop_end_tests : EndKind → ℕ → List Event → List Test
+loop_end_tests kind m h =
+    (not (in_kind is_loop (open_share m h)), OutsideShare)
+    ∷ (in_part m h, InOrdered)
     ∷ (end_differs kind (open_share m h), EndDiffers)
     ∷ (not (has_drained m h), NotDrained)
     ∷ []
+
+-- the end of a sections construct, which ends so
+abbrev pub sections_end_tests : EndKind → ℕ → List Event → List Test
+sections_end_tests kind m h =
+    (not (in_kind is_sections (open_share m h)), OutsideShare)
+    ∷ (end_differs kind (open_share m h), EndDiffers)
+    ∷ (not (has_drained m h), NotDrained)
+    ∷ []
+
+-- whether the member executes a single whose words are still to be put
+abbrev pub is_executor : ℕ → List Event → Bool
+is_executor m h = in_kind is_copy (open_share m h) && is_some (last_piece m h) && is_none (payload_at (open_number m h) h)
 
 -- each call's own tests
 abbrev pub call_tests : Limits → ℕ → Call → List Event → List Test
@@ -57,10 +72,31 @@ call_tests limits m (LoopStart loop) h =
     (is_inside m h, InsideShare)
     ∷ loop_tests loop
     ++ (nat_le limits.shares (entered m h), TooManyShares)
-    ∷ start_tests m loop h
-call_tests limits m LoopNext h = (not (is_inside m h), OutsideShare) ∷ (has_drained m h, Drained) ∷ []
-call_tests limits m LoopEnd h = end_tests WaitEnd m h ++ arrival_tests ShareEnd m h
-call_tests limits m LoopEndNowait h = end_tests Nowait m h
+    ∷ start_tests m (shape_of loop) h
+call_tests limits m LoopNext h =
+    (not (in_kind is_loop (open_share m h)), OutsideShare) ∷ (in_part m h, InOrdered) ∷ (has_drained m h, Drained) ∷ []
+call_tests limits m LoopEnd h = loop_end_tests WaitEnd m h ++ arrival_tests ShareEnd m h
+call_tests limits m LoopEndNowait h = loop_end_tests Nowait m h
+call_tests limits m (SectionsStart count end_kind) h =
+    (is_inside m h, InsideShare)
+    ∷ sections_tests count
+    ++ (nat_le limits.shares (entered m h), TooManyShares)
+    ∷ start_tests m (sections_shape count end_kind) h
+call_tests limits m SectionsNext h = (not (in_kind is_sections (open_share m h)), OutsideShare) ∷ (has_drained m h, Drained) ∷ []
+call_tests limits m SectionsEnd h = sections_end_tests WaitEnd m h ++ arrival_tests ShareEnd m h
+call_tests limits m SectionsEndNowait h = sections_end_tests Nowait m h
+call_tests limits m SingleStart h =
+    (is_inside m h, InsideShare) ∷ (nat_le limits.shares (entered m h), TooManyShares) ∷ start_tests m (single_shape false) h
+call_tests limits m SingleCopyStart h =
+    (is_inside m h, InsideShare) ∷ (nat_le limits.shares (entered m h), TooManyShares) ∷ start_tests m (single_shape true) h
+call_tests limits m (SingleCopyEnd payload) h = (not (is_executor m h), NotInside) ∷ []
+call_tests limits m (OrderedStart value) h =
+    (not (in_kind is_loop (open_share m h)), OutsideShare)
+    ∷ (in_part m h, InOrdered)
+    ∷ (not (is_ordered (open_share m h)), NotOrdered)
+    ∷ (not (comes_next (open_share m h) (last_piece m h) (parted m h) value), OrderedBackwards)
+    ∷ []
+call_tests limits m OrderedEnd h = (not (in_part m h), NotInside) ∷ []
 call_tests limits m Barrier h = (is_inside m h, InsideShare) ∷ arrival_tests BarrierArrival m h
 call_tests limits m RegionEnd h = (is_inside m h, InsideShare) ∷ arrival_tests RegionEndArrival m h
 call_tests limits m Resume h = []
@@ -68,7 +104,10 @@ call_tests limits m Stop h = []
 
 -- the tests of the call that a resume repeats
 abbrev pub again_tests : ℕ → Option Call → List Event → List Test
-again_tests m (Some (LoopStart loop)) h = start_tests m loop h
+again_tests m (Some (LoopStart loop)) h = start_tests m (shape_of loop) h
+again_tests m (Some (SectionsStart count end_kind)) h = start_tests m (sections_shape count end_kind) h
+again_tests m (Some SingleStart) h = start_tests m (single_shape false) h
+again_tests m (Some SingleCopyStart) h = start_tests m (single_shape true) h
 again_tests m _ h = []
 
 -- while a wait is open only a resume and a stop are answered, and a resume only then

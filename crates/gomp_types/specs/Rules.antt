@@ -1,10 +1,13 @@
 -- When an event may happen in a team, given the events before it: a rule for each kind of event. (own)
-use Rattle.std.specs.Prelude.{ℕ, pos, ◌<◌, ◌≡◌, ◌≢◌, true, List, [], ◌∷◌, Some, None}
+use Rattle.std.specs.Prelude.{ℕ, pos, ◌<◌, ◌≤◌, ◌≡◌, ◌≢◌, true, false, is_some, List, [], ◌∷◌, Some, None}
 use Rattle.gomp_types.specs.declared.shape.Shape.{Shape}
 use Rattle.gomp_types.specs.declared.event.Tag.{Tag}
 use Rattle.gomp_types.specs.declared.event.Event.{Event}
-use Rattle.gomp_types.specs.declared.event.Event.TheVariants.{Enter, Take, Drained, End, Arrive, Pass}
-use Rattle.gomp_types.specs.Events.{entered, open_share, shape_at, has_room, passed, tag_at, barrier_met}
+use Rattle.gomp_types.specs.declared.event.Event.TheVariants.{Enter, Take, Drained, End, HandOn, Part, PartEnd, Put, Got, Arrive, Pass}
+use Rattle.gomp_types.specs.Shapes.{is_copy, is_loop}
+use Rattle.gomp_types.specs.Events.{entered, open_share, last_piece, turn, parted, in_part, shape_at, has_room, payload_at, passed, tag_at, barrier_met}
+use Rattle.gomp_types.specs.Pieces.{Tiles, pieces_of}
+use Rattle.gomp_types.specs.Ordered.{has_turn}
 use Rattle.gomp_types.specs.Deals.{Deal, IsDealt, next_for, schedule}
 
 -- a law holds of each event, given the events before it
@@ -18,7 +21,10 @@ pub record MayEnter (deal : Deal) (members share m : ℕ) (shape : Shape) (earli
   pub number : share ≡ entered m earlier
   pub outside : open_share m earlier ≡ None
   pub dealt : IsDealt deal members shape
+  pub tiles : Tiles 0 (pieces_of members shape) shape.trips
   pub moves : shape.incr ≢ pos 0
+  -- only a loop is ordered
+  pub ordered : shape.ordered ≡ true → is_loop shape.kind ≡ true
   pub same : (other : Shape) → shape_at share earlier ≡ Some other → other ≡ shape
   pub room : has_room members share earlier ≡ true
 
@@ -27,12 +33,43 @@ pub record MayTake (deal : Deal) (share m low high : ℕ) (earlier : List Event)
   pub shape : Shape
   pub inside : open_share m earlier ≡ Some (share, shape)
   pub next : next_for deal shape share m earlier ≡ Some (low, high)
+  pub apart : in_part m earlier ≡ false
 
 -- nothing is left for a member of the share that it is in: it may be told so, and it may leave, whether it was told or not
 pub record HasNone (deal : Deal) (share m : ℕ) (earlier : List Event) : Type 0 where
   pub shape : Shape
   pub inside : open_share m earlier ≡ Some (share, shape)
   pub none : next_for deal shape share m earlier ≡ None
+  pub apart : in_part m earlier ≡ false
+
+-- a member hands its piece of an ordered loop on: it is the next one that is handed on, and no part of it is open
+pub record MayHandOn (members share m piece : ℕ) (earlier : List Event) : Type 0 where
+  pub shape : Shape
+  pub inside : open_share m earlier ≡ Some (share, shape)
+  pub ordered : shape.ordered ≡ true
+  pub apart : in_part m earlier ≡ false
+  pub number : piece ≡ turn share earlier
+  pub next : has_turn members (share, shape) m earlier ≡ true
+
+-- a member begins the ordered part of an iteration of its piece, after those whose parts it has begun, where every piece before its own was handed on
+pub record MayPart (members share m iteration : ℕ) (earlier : List Event) : Type 0 where
+  pub shape : Shape
+  pub inside : open_share m earlier ≡ Some (share, shape)
+  pub ordered : shape.ordered ≡ true
+  pub apart : in_part m earlier ≡ false
+  pub next : has_turn members (share, shape) m earlier ≡ true
+  pub low : ℕ
+  pub high : ℕ
+  pub piece : last_piece m earlier ≡ Some (low, high)
+  pub from : low ≤ iteration
+  pub before : iteration < high
+  pub after : parted m earlier ≤ iteration
+
+-- and it ends the part that it is in
+pub record MayEndPart (share m : ℕ) (earlier : List Event) : Type 0 where
+  pub shape : Shape
+  pub inside : open_share m earlier ≡ Some (share, shape)
+  pub within : in_part m earlier ≡ true
 
 -- the rule of the work-shares alone
 abbrev pub ShareRule : Deal → ℕ → Event → List Event → Type 0
@@ -40,7 +77,24 @@ ShareRule deal members (Enter share m shape) earlier = MayEnter deal members sha
 ShareRule deal members (Take share m low high) earlier = MayTake deal share m low high earlier
 ShareRule deal members (Drained share m) earlier = HasNone deal share m earlier
 ShareRule deal members (End share m) earlier = HasNone deal share m earlier
+ShareRule deal members (HandOn share m piece) earlier = MayHandOn members share m piece earlier
+ShareRule deal members (Part share m iteration) earlier = MayPart members share m iteration earlier
+ShareRule deal members (PartEnd share m) earlier = MayEndPart share m earlier
 ShareRule deal members _ earlier = Unit {0}
+
+-- the executor of a single puts its words, once
+pub record MayPut (share m : ℕ) (earlier : List Event) : Type 0 where
+  pub shape : Shape
+  pub inside : open_share m earlier ≡ Some (share, shape)
+  pub copies : is_copy shape.kind ≡ true
+  pub executor : is_some (last_piece m earlier) ≡ true
+  pub once : payload_at share earlier ≡ None
+
+-- the rule of the payloads alone
+abbrev pub CopyRule : Event → List Event → Type 0
+CopyRule (Put share m payload) earlier = MayPut share m earlier
+CopyRule (Got share m payload) earlier = payload_at share earlier ≡ Some payload
+CopyRule _ earlier = Unit {0}
 
 -- a member arrives at its next barrier, with the tag of all that arrived there before
 pub record MayArrive (barrier m : ℕ) (tag : Tag) (earlier : List Event) : Type 0 where
@@ -62,4 +116,6 @@ ArrivalRule members _ earlier = Unit {0}
 abbrev pub TeamRule : ℕ → Event → List Event → Type 0
 TeamRule members (Arrive barrier m tag) earlier = MayArrive barrier m tag earlier × (tag.shares ≡ entered m earlier)
 TeamRule members (Pass barrier m) earlier = MayPass members barrier m earlier
+TeamRule members (Put share m payload) earlier = MayPut share m earlier
+TeamRule members (Got share m payload) earlier = payload_at share earlier ≡ Some payload
 TeamRule members event earlier = ShareRule (schedule members) members event earlier

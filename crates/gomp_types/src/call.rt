@@ -1,6 +1,7 @@
 //! What a member of a team asks.
 
-use crate::loop_desc::LoopDesc;
+use crate::loop_desc::{EndKind, LoopDesc};
+use crate::payload::Payload;
 
 /// One call of a member, in the form that does not wait: where it would, the answer is
 /// [`Reply::Wait`](crate::Reply::Wait), and `Resume` asks again.
@@ -14,6 +15,35 @@ pub enum Call {
     LoopEnd,
     /// Ends the member's loop, which has no barrier.
     LoopEndNowait,
+    /// Begins a sections construct, and asks for the first section (libgomp manual, the ABI of
+    /// `sections`; OpenMP API 5.2, section 11.3).
+    SectionsStart {
+        /// How many sections it has, 0 to 65,536.
+        count: u32,
+        /// What stands at its end.
+        end_kind: EndKind,
+    },
+    /// Asks for the next section of the member's construct.
+    SectionsNext,
+    /// Ends the member's sections construct, and waits at its barrier.
+    SectionsEnd,
+    /// Ends the member's sections construct, which has no barrier.
+    SectionsEndNowait,
+    /// Goes through a `single` construct: one member of the team is told to execute it. Its body has
+    /// no end call, and a barrier at its end is a call of its own (libgomp manual, the ABI of
+    /// `single`; OpenMP API 5.2, section 11.1).
+    SingleStart,
+    /// Begins a `single` construct with a `copyprivate` clause: one member is told to execute it, the
+    /// others wait for the words that it puts (OpenMP API 5.2, section 5.7.2).
+    SingleCopyStart,
+    /// The executor's end of such a construct: every other member is given these words.
+    SingleCopyEnd(Payload),
+    /// Begins the ordered part of the iteration with this value, in the member's ordered loop, once
+    /// every earlier piece is handed on (libgomp manual, the ABI of `ordered`; OpenMP API 5.2, section
+    /// 15.10.2).
+    OrderedStart(i64),
+    /// Ends the member's ordered part.
+    OrderedEnd,
     /// Waits for all members (OpenMP API 5.2, section 15.3.1).
     Barrier,
     /// Ends the parallel region for this member (OpenMP API 5.2, section 10.1).

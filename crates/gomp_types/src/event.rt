@@ -3,6 +3,7 @@
 ghost use Rattle.std.specs.Prelude.{◌≡◌};
 ghost use Rattle.gomp_types.specs.Shapes.{same_tag};
 
+use crate::payload::Payload;
 use crate::refusal::Place;
 use crate::shape::Shape;
 
@@ -52,6 +53,35 @@ pub enum Event {
     End {
         share: u64,
         member: u16,
+    },
+    /// The member handed on a piece of an ordered loop, by its number from 0: its ordered parts are done.
+    HandOn {
+        share: u64,
+        member: u16,
+        piece: u64,
+    },
+    /// The member began the ordered part of an iteration.
+    Part {
+        share: u64,
+        member: u16,
+        iteration: u64,
+    },
+    /// The member ended its ordered part.
+    PartEnd {
+        share: u64,
+        member: u16,
+    },
+    /// The executor of a `single` construct put these words for the other members.
+    Put {
+        share: u64,
+        member: u16,
+        payload: Payload,
+    },
+    /// The member was given the words that the executor put.
+    Got {
+        share: u64,
+        member: u16,
+        payload: Payload,
     },
     /// The member arrived at a barrier.
     Arrive {

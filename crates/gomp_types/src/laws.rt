@@ -4,7 +4,7 @@
 //! proved by the gate, which the crates above have by calling it. No program state stands behind
 //! them, so whatever body answers as the definitions say keeps these laws.
 
-ghost use Rattle.std.specs.Prelude.{ℕ, List, Some, None, true, pos, ◌<◌, ◌≡◌, ◌≢◌};
+ghost use Rattle.std.specs.Prelude.{ℕ, List, Some, None, true, false, is_some, suc, ◌+◌, ◌*◌, pos, ◌<◌, ◌≡◌, ◌≢◌};
 ghost use Rattle.gomp_types.specs.declared.call.Step.{Step};
 ghost use Rattle.gomp_types.specs.declared.reply.Reply.{Reply};
 ghost use Rattle.gomp_types.specs.declared.event.Event.{Event};
@@ -16,14 +16,17 @@ ghost use Rattle.gomp_types.specs.declared.shape.Shape.{Shape};
 ghost use Rattle.gomp_types.specs.Pieces.{pieces_of, Tiles};
 ghost use Rattle.gomp_types.specs.Values.{IsShape, value_at, iteration_at};
 ghost use Rattle.gomp_types.specs.Deals.{Deal, IsDealt, schedule, next_for};
-ghost use Rattle.gomp_types.specs.Events.{open_share, has_drained};
-ghost use Rattle.gomp_types.specs.Rules.{Always, ArrivalRule, ShareRule};
-ghost use Rattle.gomp_types.specs.Laws.{ArrivalLaws, ShareLaws};
+ghost use Rattle.gomp_types.specs.Shapes.{is_loop, is_single};
+ghost use Rattle.gomp_types.specs.Events.{entered, open_share, has_drained, last_piece, shape_at, is_over, in_part};
+ghost use Rattle.gomp_types.specs.Rules.{Always, ArrivalRule, ShareRule, TeamRule};
+ghost use Rattle.gomp_types.specs.Laws.{ArrivalLaws, CopyLaws, OrderedLaws, ShareLaws};
 ghost use Rattle.gomp_types.specs.Headline.{Headline};
 
-/// **The headline**: for every team size and list of member steps, no iteration is taken twice, a
-/// loop that all members end had every iteration taken, all members go through the same
-/// constructs in the same order, and no member passes a barrier before all arrived.
+/// **The headline**: for every team size and list of member steps, no iteration, section or single
+/// is taken twice, a loop or sections construct that all members end had every iteration or section
+/// taken, ordered parts of a loop run in the order of its iterations, the words that a member copies are those that the executor of the single put, all members
+/// go through the same constructs in the same order, and no member passes a barrier before all
+/// arrived.
 pub fn headline()
     ensures { (terms : Terms) → (run : Record) → Caused terms run → Headline terms.members (events run) }
 {}
@@ -66,6 +69,18 @@ pub fn share_laws()
     ensures { (deal : Deal) → (members : ℕ) → (h : List Event) → Always (ShareRule deal members) h → ShareLaws deal members h }
 {}
 
+/// However the shares are kept, events that keep their rule keep the order of ordered parts: they rise
+/// along a loop, each in its member's last piece once every earlier one is handed on, one after another.
+pub fn ordered_laws()
+    ensures { (members : ℕ) → (h : List Event) → Always (ShareRule (schedule members) members) h → OrderedLaws members h }
+{}
+
+/// However the payloads are kept, events that keep their rule keep their laws: words are put once, by
+/// the member that took the piece of their single, and the others are given these.
+pub fn copy_laws()
+    ensures { (members : ℕ) → (h : List Event) → Always (TeamRule members) h → CopyLaws h }
+{}
+
 /// However the arrivals are kept, events that keep their rule keep their laws: all members arrive
 /// alike, at one barrier after another, and none passes before all arrived.
 pub fn arrival_laws()
@@ -75,4 +90,30 @@ pub fn arrival_laws()
 /// What a member was told stays so: nothing is left for it of the share that it is in.
 pub fn told_none()
     ensures { (deal : Deal) → (members : ℕ) → (m : ℕ) → (i : ℕ) → (shape : Shape) → (h : List Event) → Always (ShareRule deal members) h → open_share m h ≡ Some (i, shape) → has_drained m h ≡ true → next_for deal shape i m h ≡ None }
+{}
+
+/// A member that took the piece of the single that it is in finds nothing left there.
+pub fn single_done()
+    ensures { (members : ℕ) → (m : ℕ) → (i : ℕ) → (shape : Shape) → (h : List Event) → Always (ShareRule (schedule members) members) h → open_share m h ≡ Some (i, shape) → is_single shape.kind ≡ true → is_some (last_piece m h) ≡ true → next_for (schedule members) shape i m h ≡ None }
+{}
+
+/// A share that a member is in was entered in its shape, and is not over.
+pub fn inside_is_open()
+    ensures { (members : ℕ) → (m : ℕ) → (i : ℕ) → (shape : Shape) → (h : List Event) → Always (ShareRule (schedule members) members) h → open_share m h ≡ Some (i, shape) → (shape_at i h ≡ Some shape) × (is_over members i h ≡ false) }
+{}
+
+/// Nor is the share that a member enters next.
+pub fn next_is_open()
+    ensures { (members : ℕ) → (m : ℕ) → (h : List Event) → Always (ShareRule (schedule members) members) h → m < members → is_over members (entered m h) h ≡ false }
+{}
+
+/// Of the shares whose numbers differ by a multiple of eight all but the last that was entered are
+/// over: so eight places serve them.
+pub fn eight_before()
+    ensures { (members : ℕ) → (i : ℕ) → (j : ℕ) → (k : ℕ) → (shape : Shape) → (h : List Event) → Always (ShareRule (schedule members) members) h → shape_at i h ≡ Some shape → i ≡ 8 * suc k + j → is_over members j h ≡ true }
+{}
+
+/// A member in an ordered part is in a loop.
+pub fn part_inside()
+    ensures { (members : ℕ) → (m : ℕ) → (h : List Event) → Always (ShareRule (schedule members) members) h → in_part m h ≡ true → (i : ℕ) × (shape : Shape) × (open_share m h ≡ Some (i, shape)) × (is_loop shape.kind ≡ true) }
 {}

@@ -12,15 +12,24 @@ pub mod laws;
 pub mod limits;
 pub mod loop_desc;
 pub mod name;
+pub mod payload;
 pub mod refusal;
 pub mod reply;
+pub mod sections;
 pub mod shape;
+pub mod share_examples;
+pub mod single;
 
 pub use call::{Call, Step};
 pub use event::{Arrival, Event, Tag};
-pub use limits::{Limits, MAX_CHUNK, MAX_MEMBERS, MAX_TRIPS, OPEN_SHARES, is_team_size};
+pub use limits::{
+    Limits, MAX_CHUNK, MAX_MEMBERS, MAX_SECTIONS, MAX_TRIPS, OPEN_SHARES, is_team_size,
+};
 pub use loop_desc::{EndKind, LoopDesc, Sched, trips};
 pub use name::Name;
+pub use payload::Payload;
 pub use refusal::{Clash, Place, Refusal};
 pub use reply::Reply;
+pub use sections::sections_shape;
 pub use shape::{Shape, ShareKind};
+pub use single::single_shape;

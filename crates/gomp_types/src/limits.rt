@@ -22,6 +22,9 @@ pub const MAX_TRIPS: u64 = 549_755_813_888;
 /// The largest chunk that a loop may ask for, in iterations, 2^39 (own).
 pub const MAX_CHUNK: i64 = 549_755_813_888;
 
+/// The most sections that a construct has (own).
+pub const MAX_SECTIONS: u32 = 65_536;
+
 /// The limits of one team, each for the length of its region (own).
 #[derive(Clone, Copy, Debug, PartialEq, Eq)]
 pub struct Limits {

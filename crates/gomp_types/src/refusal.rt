@@ -46,18 +46,26 @@ pub enum Refusal {
     InsideShare,
     /// E9: the member is in no work-share of the call's kind.
     OutsideShare,
+    /// E10: the member is in an ordered part.
+    InOrdered,
     /// E12: the loop's step is 0.
     ZeroStep,
     /// E13: the chunk is negative, above 2^39, or given with a runtime schedule.
     BadChunk,
     /// E14: the loop has more than 2^39 iterations.
     LoopTooLong,
+    /// E15: the construct has more than 65,536 sections.
+    BadSections,
     /// E17: the share ends otherwise.
     EndDiffers,
     /// E18: the member has not been told that nothing is left.
     NotDrained,
     /// E19: the member has been told that nothing is left.
     Drained,
+    /// E20: the loop is not ordered.
+    NotOrdered,
+    /// E21: the iteration is not in the member's piece, or not after its last ordered one.
+    OrderedBackwards,
     /// E22: no such part is open, or `resume` with no wait open.
     NotInside,
     /// E34: the member has started as many shares as the limit.
@@ -84,12 +92,16 @@ impl Refusal {
             Refusal::Waiting => 4,
             Refusal::InsideShare => 8,
             Refusal::OutsideShare => 9,
+            Refusal::InOrdered => 10,
             Refusal::ZeroStep => 12,
             Refusal::BadChunk => 13,
             Refusal::LoopTooLong => 14,
+            Refusal::BadSections => 15,
             Refusal::EndDiffers => 17,
             Refusal::NotDrained => 18,
             Refusal::Drained => 19,
+            Refusal::NotOrdered => 20,
+            Refusal::OrderedBackwards => 21,
             Refusal::NotInside => 22,
             Refusal::TooManyShares => 34,
             Refusal::Mismatch => 35,
@@ -110,12 +122,16 @@ impl Refusal {
             Refusal::Waiting => "Waiting",
             Refusal::InsideShare => "InsideShare",
             Refusal::OutsideShare => "OutsideShare",
+            Refusal::InOrdered => "InOrdered",
             Refusal::ZeroStep => "ZeroStep",
             Refusal::BadChunk => "BadChunk",
             Refusal::LoopTooLong => "LoopTooLong",
+            Refusal::BadSections => "BadSections",
             Refusal::EndDiffers => "EndDiffers",
             Refusal::NotDrained => "NotDrained",
             Refusal::Drained => "Drained",
+            Refusal::NotOrdered => "NotOrdered",
+            Refusal::OrderedBackwards => "OrderedBackwards",
             Refusal::NotInside => "NotInside",
             Refusal::TooManyShares => "TooManyShares",
             Refusal::Mismatch => "Mismatch",

@@ -1,5 +1,6 @@
 //! What a member is answered.
 
+use crate::payload::Payload;
 use crate::refusal::Refusal;
 
 /// The answer to one call.
@@ -9,6 +10,12 @@ pub enum Reply {
     Chunk { first: i64, count: u64 },
     /// No iterations are left for this member.
     NoChunk,
+    /// The section to do, numbered from 1; 0 where none is left.
+    Section(u64),
+    /// Whether the member is the one that executes the `single` construct.
+    Executor(bool),
+    /// The words that the executor of the `single` construct put.
+    Copied(Payload),
     /// Done, with nothing to wait for.
     Finished,
     /// The barrier is passed.

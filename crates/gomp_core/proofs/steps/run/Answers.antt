@@ -84,6 +84,15 @@ returns-in-None-clause-taken_once g c = (the_headline g c).taken_once
 pub returns-in-None-clause-whole : goal.returns-in-None-clause-whole
 returns-in-None-clause-whole g c = (the_headline g c).whole
 
+pub returns-in-None-clause-ordered : goal.returns-in-None-clause-ordered
+returns-in-None-clause-ordered g c = (the_headline g c).ordered
+
+pub returns-in-None-clause-puts : goal.returns-in-None-clause-puts
+returns-in-None-clause-puts g c = (the_headline g c).puts
+
+pub returns-in-None-clause-gets : goal.returns-in-None-clause-gets
+returns-in-None-clause-gets g c = (the_headline g c).gets
+
 pub returns-in-None-clause-same_shares : goal.returns-in-None-clause-same_shares
 returns-in-None-clause-same_shares g c = (the_headline g c).same_shares
 

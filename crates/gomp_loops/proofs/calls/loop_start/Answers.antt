@@ -5,7 +5,7 @@ use Rattle.gomp_types.specs.Iterations.{loop_tests}
 use Rattle.gomp_types.specs.Pieces.{shape_of}
 use Rattle.gomp_types.specs.Values.{IsShape}
 use Rattle.gomp_types.specs.Events.{entered}
-use Rattle.gomp_loops.proofs.Steps.{compared, start_compared, start_deals, start_refused, start_reply, start_outside, outcome_value, open_entered, drained_entered, start_adds}
+use Rattle.gomp_loops.proofs.Steps.{compared, start_compared, start_deals, start_refused, start_reply, start_outside, outcome_value, open_entered, drained_entered, part_entered, loop_kind, start_adds}
 use Rattle.gomp_loops.proofs.calls.loop_start.Goals as goal
 
 pub try_open-requires : goal.try_open-requires
@@ -17,6 +17,7 @@ try_open-requires g c =
     record {
       member = c.requires;
       valid = valid;
+      ordered = λ ordered. rw is (loop_kind c.args.desc.now.sched c.args.desc.now.chunk);
       outside = rw (← c.look-seen.ensures.value) out;
       few = rw (← c.look-seen.ensures.value) (omega arith);
     }
@@ -31,6 +32,7 @@ claim-requires g c =
       member = lt;
       inside = rw (e, open_entered c.args.member (entered c.args.member h) c.in-Ok.shape h) refl;
       more = rw e (drained_entered c.args.member (entered c.args.member h) c.in-Ok.shape h);
+      apart = rw e (part_entered c.args.member (entered c.args.member h) c.in-Ok.shape h);
     }
 
 pub returns-in-Entered-clause-stands : goal.returns-in-Entered-clause-stands

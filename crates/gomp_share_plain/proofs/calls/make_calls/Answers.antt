@@ -1,4 +1,4 @@
-use Rattle.std.proofs.Common.{◌≡◌, ◌<◌, [], length, take, arith}
+use Rattle.std.proofs.Common.{◌≡◌, ◌<◌, [], length, take, arith, false}
 use Rattle.std.specs.Prelude.{pos}
 use Rattle.std.proofs.lemmas.List.{take_more, length-take}
 use Rattle.std.proofs.lemmas.Grind.{common_steps}
@@ -12,7 +12,7 @@ use Rattle.gomp_share_plain.proofs.CallRuns.{events_after_more, are_answers_more
 use Rattle.gomp_share_plain.proofs.calls.make_calls.Goals as goal
 
 abbrev some_step : ShareStep
-some_step = record { member = 0; call = Open (record { start = pos 0; end = pos 0; incr = pos 0; sched = Static; chunk = pos 0; end_kind = Wait }) }
+some_step = record { member = 0; call = Open (record { start = pos 0; end = pos 0; incr = pos 0; sched = Static; chunk = pos 0; ordered = false; end_kind = Wait }) }
 
 pub loop-step-preserved : goal.loop-step-preserved
 loop-step-preserved g c =
@@ -36,3 +36,10 @@ returns-clause-laws g c =
     let now : g.S.Shares.stands c.loop-step.shares (events_after c.args.steps.now c.loop-step.answers.items []) = rw whole at c.loop-step.invariant.now in
     let rule = rw c.loop-step.invariant.team at (g.met.S.Shares.ruled c.loop-step.shares _ now) in
     c.share_laws.ensures (schedule c.args.count) c.args.count _ rule
+
+pub returns-clause-ordered : goal.returns-clause-ordered
+returns-clause-ordered g c =
+    let whole : take c.loop-step.step-index c.args.steps.now ≡ c.args.steps.now = grind (arith, common_steps) in
+    let now : g.S.Shares.stands c.loop-step.shares (events_after c.args.steps.now c.loop-step.answers.items []) = rw whole at c.loop-step.invariant.now in
+    let rule = rw c.loop-step.invariant.team at (g.met.S.Shares.ruled c.loop-step.shares _ now) in
+    c.ordered_laws.ensures c.args.count _ rule

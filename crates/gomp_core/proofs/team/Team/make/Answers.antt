@@ -1,4 +1,5 @@
 use Rattle.std.proofs.Common.{◌≡◌, ◌∙◌, [], length, refl, sym, arith}
+use Rattle.gomp_core.proofs.Words.{none_stand}
 use Rattle.gomp_core.proofs.Stepping.{fresh, all_none}
 use Rattle.gomp_core.proofs.team.Team.make.Goals as goal
 
@@ -9,6 +10,7 @@ returns-clause-stands g c =
       caused = tt;
       shares_are = c.in_ok-make-2.ensures.stands;
       barriers_are = c.in_ok-make.ensures.stands;
+      payloads_are = none_stand (length c.in_ok-vec.field-0.items) c.new.result c.new.ensures;
       broken_is = refl;
       wait = λ m waiting at. fresh c.args.limits c.in_ok-vec.field-0.items c.args.count m waiting (all_none _ c.in_ok-vec.field-0.items c.args.count c.in_ok-vec.ensures.items_if_clones_equal (λ x never. never)) at;
       limits_are = c.requires.capped;

@@ -9,7 +9,7 @@ pub returns-clause-stands : goal.returns-clause-stands
 returns-clause-stands c = λ h st0.
     let (can, st) = told _ _ c.args.member h (λ n seen. CanLeave n c.args.member seen) c.self.view_is c.requires c.requires.member st0 in
     let at = slice_get_read c.self.inside.seats.items _ c.args.member c.index_mut.result.now refl can.member c.index_mut.ensures.value in
-    let none = leave_rule _ _ _ _ h c.args.member st can c.told_none.ensures in
+    let none = leave_rule _ _ _ _ h c.args.member st can c.told_none.ensures c.single_done.ensures in
     rw (length-set c.self.inside.seats.items c.args.member _) (leaves _ _ _ _ h c.args.member c.index_mut.result.now st at can.inside none)
 
 pub invariant_of-self : goal.invariant_of-self
@@ -21,7 +21,7 @@ overflow_add-index_mut c =
     let (can, st) = told _ _ c.args.member h (λ n seen. CanLeave n c.args.member seen) c.self.view_is c.requires c.requires.member st0 in
     let at = slice_get_read c.self.inside.seats.items _ c.args.member c.index_mut.result.now refl can.member c.index_mut.ensures.value in
     let s = st.seat c.args.member _ at in
-    let full = inside c.args.member c.index_mut.result.now _ h s can.inside in
+    let full = inside _ c.args.member c.index_mut.result.now _ h s can.inside in
     let known = s.known in
     let most : c.self.inside.opened < 2 ^ 64 = search rules in
     grind (arith, full, known, most)

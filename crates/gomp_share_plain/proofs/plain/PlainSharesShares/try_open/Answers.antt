@@ -5,7 +5,7 @@ use Rattle.std.proofs.lemmas.Option.{slice_get_read}
 use Rattle.gomp_types.specs.Events.{has_room, shape_at}
 use Rattle.gomp_types.specs.Refusals.{shape_differs}
 use Rattle.gomp_share_plain.specs.Calls.{CanOpen}
-use Rattle.gomp_share_plain.proofs.PlainKeeps.{enters, opens, told, known_by, place_is, known_place, not_empty, same_here, differs_here, next_is, fresh, room_by, no_room, room_before, each_room, is_fair}
+use Rattle.gomp_share_plain.proofs.PlainKeeps.{enters, opens, told, known_by, place_is, known_place, not_empty, same_here, differs_here, next_is, fresh, room_by, no_room, room_before, each_room, can_enter}
 use Rattle.gomp_share_plain.proofs.plain.PlainSharesShares.try_open.Goals as goal
 
 pub returns-then-not-is_same-clause-answer : goal.returns-then-not-is_same-clause-answer
@@ -41,8 +41,8 @@ returns-then-number-self-clause-stands c = λ h st0.
     let within : c.index-seat.result.now.started % 8 < length c.self.inside.places = omega arith in
     let there = place_is c.self.inside.places (c.index-seat.result.now.started % 8) _ _ within c.in-Some.is in
     let here = known_place _ _ _ _ h c.args.member c.index-seat.result.now st at can.outside c.if-number-self.true in
-    let fair = is_fair _ _ c.args.member can.member can.valid c.fair_schedule.ensures in
-    rw (length-set c.self.inside.seats.items c.args.member _) (enters _ _ _ _ h c.args.member c.index-seat.result.now c.args.shape.now st at can.outside c.if-number-self.true can.valid fair
+    let fine = can_enter _ c.args.member c.args.shape.now _ can c.fair_schedule.ensures c.pieces_tile.ensures in
+    rw (length-set c.self.inside.seats.items c.args.member _) (enters _ _ _ _ h c.args.member c.index-seat.result.now c.args.shape.now st at can.outside c.if-number-self.true fine
     (same_here _ _ _ c.in-Some.share c.args.shape.now h here there (sym c.is_same.ensures ∙ c.if-not-is_same.false)))
 
 pub invariant_of-self : goal.invariant_of-self
@@ -95,13 +95,13 @@ pub returns-clause-stands : goal.returns-clause-stands
 returns-clause-stands c = λ h st0.
     let (can, st) = told _ _ c.args.member h (λ n seen. CanOpen n c.args.member c.args.shape.now seen) c.self.view_is c.requires c.requires.member st0 in
     let at = slice_get_read c.self.inside.seats.items _ c.args.member c.index-seat.result.now refl can.member c.index-seat.ensures in
-    let fair = is_fair _ _ c.args.member can.member can.valid c.fair_schedule.ensures in
+    let fine = can_enter _ c.args.member c.args.shape.now _ can c.fair_schedule.ensures c.pieces_tile.ensures in
     let now = next_is _ _ _ _ h c.args.member c.index-seat.result.now st at c.if-number-self.false in
     let size : c.len-members.result ≡ length c.self.inside.seats.items = search rules in
     let all = each_room c.self.inside.seats.items c.index-seat.result.now.started (
     let seats : c.deref.result.now ≡ c.self.inside.seats.items = c.deref.ensures.value in
     rw seats at (c.has_room.ensures.0 (grind (arith, c.if-not-has_room.false)))) in
-    rw (length-set c.self.inside.seats.items c.args.member _, now) (opens _ _ _ _ h c.args.member c.index-seat.result.now c.args.shape.now c.new.result (c.new.ensures ∙ c.of.ensures.plan ∙ ap (λ n. record { members = n; shape = c.args.shape.now }) size) st at can.outside now can.valid fair (rw now at all))
+    rw (length-set c.self.inside.seats.items c.args.member _, now) (opens _ _ _ _ h c.args.member c.index-seat.result.now c.args.shape.now c.new.result (c.new.ensures ∙ c.of.ensures.plan ∙ ap (λ n. record { members = n; shape = c.args.shape.now }) size) st at can.outside now fine (rw now at all))
 
 pub invariant_of-self-2 : goal.invariant_of-self-2
 invariant_of-self-2 c = let (h, st0) = known_by _ _ c.self.view_is c.self.invariant in (_, returns-clause-stands c h st0)

@@ -1,0 +1,224 @@
+-- The places of the words that executors of singles put stand for the events that follow.
+use Rattle.std.proofs.Common.{Bor, ◌≡◌, ◌≢◌, ℕ, ◌+◌, ◌*◌, ◌-◌, ◌%◌, ◌/◌, ◌<◌, Bool, true, false, List, [], ◌∷◌, ◌++◌, Option, Some, None, length, slice_get, slice_set, replicate, refl, ap, ◌∙◌, sym, subst, arith, suc, zero, inl, inr}
+use Rattle.std.specs.Prelude.{◌==◌, ◌&&◌, not, is_some, is_none, if◌then◌else◌, option_copied}
+use Rattle.std.proofs.lemmas.Bool.{cases_Bool, cases_lt}
+use Rattle.std.proofs.lemmas.List.{length-set}
+use Rattle.std.proofs.Math.Nat.{div-add-mod}
+use Rattle.gomp_types.specs.declared.call.Call.{Call}
+use Rattle.gomp_types.specs.declared.call.Call.TheVariants.{SingleCopyEnd}
+use Rattle.gomp_types.specs.declared.limits.Limits.{Limits}
+use Rattle.gomp_types.specs.declared.refusal.Refusal.{Refusal}
+use Rattle.gomp_types.specs.declared.reply.Reply.{Reply}
+use Rattle.gomp_types.specs.declared.reply.Reply.TheVariants.{Finished}
+use Rattle.gomp_types.specs.declared.shape.Shape.{Shape}
+use Rattle.gomp_types.specs.declared.event.Event.{Event}
+use Rattle.gomp_types.specs.declared.event.Event.TheVariants.{Enter, End, Put, Arrive, Pass, Break}
+use Rattle.gomp_types.specs.Events.{open_share, open_number, share_number, shape_at, has_ended, is_over, payload_at}
+use Rattle.gomp_types.specs.Record.{added}
+use Rattle.gomp_types.specs.Tests.{first_refusal}
+use Rattle.gomp_share_plain.specs.Calls.{seen_of}
+use Rattle.gomp_loops.specs.OwnTests.{own_tests as loop_tests}
+use Rattle.gomp_ordered.specs.OwnTests.{own_tests as ordered_tests}
+use Rattle.gomp_sections.specs.OwnTests.{own_tests as sections_tests, own_copy_end_tests}
+use Rattle.gomp_core.specs.Answers.{team_tests, IsReady}
+use Rattle.gomp_core.proofs.Rows.{front_holds, front_fails}
+use Rattle.gomp_types.proofs.Booleans.{tells, is_equal, differs, same_number, or_right, not_both, some_of, every_tells, every_by}
+use Rattle.gomp_types.proofs.Lists.{slice_get-set_same, slice_get-set_other}
+use Rattle.gomp_core.specs.declared.payloads.Put.{Put as Kept}
+use Rattle.gomp_core.specs.Payloads.{there, PayloadsStand}
+use Rattle.gomp_core.proofs.Kept.{IsOwn, puts_words, added_kept}
+
+-- No words
+
+nowhere : (i count k : ℕ) → there i (slice_get (replicate {A = Option Kept} count None) k) ≡ None
+nowhere i zero k = refl
+nowhere i (suc count) zero = refl
+nowhere i (suc count) (suc k) = nowhere i count k
+
+pub none_stand : (members : ℕ) (places : List (Option Kept)) → places ≡ replicate 8 None → PayloadsStand members places []
+none_stand members places is = rw is (record {
+  eight = refl;
+  words = λ i open_. nowhere i 8 (i % 8);
+  entered = λ i words e. cc;
+})
+
+-- Any event but words
+
+abbrev IsAside : Event → Type 0
+IsAside (Put share m words) = ⊥
+IsAside _ = Unit {0}
+
+own_aside : (m : ℕ) (event : Event) → IsOwn m event → IsAside event
+own_aside m (Put share n words) own = own
+own_aside m _ own = tt
+
+-- what is over stays so
+ended_stays : (i m : ℕ) (event : Event) (h : List Event) → has_ended i m h ≡ true → has_ended i m (event ∷ h) ≡ true
+ended_stays i m (End share member) h e = or_right (share == i && member == m) (has_ended i m h) e
+ended_stays i m _ h e = e
+
+over_stays : (members i : ℕ) (event : Event) (h : List Event) → is_over members i h ≡ true → is_over members i (event ∷ h) ≡ true
+over_stays members i event h over = every_by members (λ m. has_ended i m (event ∷ h)) (λ m lt. ended_stays i m event h (every_tells members (λ x. has_ended i x h) m over lt))
+
+open_before : (members i : ℕ) (event : Event) (h : List Event) → is_over members i (event ∷ h) ≡ false → is_over members i h ≡ false
+open_before members i event h open_ =
+    elim (cases_Bool (is_over members i h)) [
+      | inl over ↦ absurd (not_both (is_over members i (event ∷ h)) (over_stays members i event h over) open_)
+      | inr was ↦ was
+    ]
+
+some_either : {A : Type 0} (b : Bool) (x : A) (y : Option A) → is_some y ≡ true → is_some (if b then Some x else y) ≡ true
+some_either true x y e = refl
+some_either false x y e = e
+
+-- what was entered stays so
+entered_stays : (i : ℕ) (event : Event) (h : List Event) → is_some (shape_at i h) ≡ true → is_some (shape_at i (event ∷ h)) ≡ true
+entered_stays i (Enter share m shape) h e = some_either (share == i) shape (shape_at i h) e
+entered_stays i _ h e = e
+
+words_stay : (i : ℕ) (event : Event) (h : List Event) → IsAside event → payload_at i (event ∷ h) ≡ payload_at i h
+words_stay i (Put share m words) h aside = absurd aside
+words_stay i _ h aside = refl
+
+pub aside_stands : (members : ℕ) (places : List (Option Kept)) (event : Event) (h : List Event) → IsAside event → PayloadsStand members places h → PayloadsStand members places (event ∷ h)
+aside_stands members places event h aside st = record {
+  eight = st.eight;
+  words = λ i open_. st.words i (open_before members i event h open_) ∙ sym (words_stay i event h aside);
+  entered = λ i words at. entered_stays i event h (st.entered i words (sym (words_stay i event h aside) ∙ at));
+}
+
+-- and so whatever a call that puts none adds
+pub rest_stands : (members : ℕ) (places : List (Option Kept)) (again : Bool) (m shares : ℕ) (reply : Reply) (call : Call) (h : List Event) → puts_words call ≡ false → PayloadsStand members places h →
+    PayloadsStand members places (added again m shares reply call h)
+rest_stands members places again m shares reply call h none st =
+    added_kept (PayloadsStand members places) again m shares reply call h (record {
+      own = λ h event own st. aside_stands members places event h (own_aside m event own) st;
+      put = λ some. absurd (not_both (puts_words call) some none);
+      arrive = λ some h barrier tag st. aside_stands members places (Arrive barrier m tag) h tt st;
+      pass = λ some h barrier st. aside_stands members places (Pass barrier m) h tt st;
+      break = λ is h place st. aside_stands members places (Break m place) h tt st;
+    }) st
+
+-- A look at a share
+
+is_some_copied : {A : Type 0} (x : Option (Bor A)) → is_some (option_copied x) ≡ is_some x
+is_some_copied None = refl
+is_some_copied (Some x) = refl
+
+none_told : {A : Type 0} (test : Bool) (x : Option A) → is_some x ≡ not test → test ≡ is_none x
+none_told true None e = refl
+none_told false None e = absurd (cc)
+none_told true (Some x) e = absurd (cc)
+none_told false (Some x) e = refl
+
+-- whether words lie there tells whether some were put, in a share that is not over
+pub look_tells : (members : ℕ) (places : List (Option Kept)) (i : ℕ) (h : List Event) (found : Option (Bor (List ℕ))) (test : Bool) → PayloadsStand members places h → is_over members i h ≡ false →
+    option_copied found ≡ there i (slice_get places (i % 8)) → is_some found ≡ not test → test ≡ is_none (payload_at i h)
+look_tells members places i h found test st open_ is told =
+    none_told test (payload_at i h) (ap is_some (sym (st.words i open_)) ∙ ap is_some (sym is) ∙ is_some_copied found ∙ told)
+
+pub in_no_share : (own : Option (ℕ × Shape)) (i : ℕ) (shape : Shape) → own ≡ None → own ≡ Some (i, shape) → ⊥
+in_no_share own i shape none at = cc
+
+-- a member that is in no share executes no single
+pub needs_share : (limits : Limits) (m : ℕ) (words : List ℕ) (h : List Event) → open_share m h ≡ None → IsReady limits false m (SingleCopyEnd words) h → ⊥
+needs_share limits m words h outside ready = let none = rw outside at ready in cc
+
+-- the tests of a call do not see what was put elsewhere
+copy_asked : (m : ℕ) (h : List Event) (unput : Bool) (own : Option (ℕ × Shape)) → open_share m h ≡ own → ((i : ℕ) (shape : Shape) → own ≡ Some (i, shape) → unput ≡ is_none (payload_at i h)) →
+    first_refusal (own_copy_end_tests (seen_of m h) unput) ≡ first_refusal (own_copy_end_tests (seen_of m h) (is_none (payload_at (open_number m h) h)))
+copy_asked m h unput None at told = rw at refl
+copy_asked m h unput (Some share) at told =
+    ap (λ (b : Bool). first_refusal (own_copy_end_tests (seen_of m h) b)) (told share.0 share.1 refl ∙ ap (λ (own : Option (ℕ × Shape)). is_none (payload_at (share_number own) h)) (sym at))
+
+-- whether words were put in the member's share, where it is in one
+abbrev pub IsUnput : ℕ → Bool → List Event → Type 0
+IsUnput m unput h = (i : ℕ) (shape : Shape) → open_share m h ≡ Some (i, shape) → unput ≡ is_none (payload_at i h)
+
+pub copy_end_asked : (m : ℕ) (h : List Event) (unput : Bool) → IsUnput m unput h →
+    first_refusal (own_copy_end_tests (seen_of m h) unput) ≡ first_refusal (own_copy_end_tests (seen_of m h) (is_none (payload_at (open_number m h) h)))
+copy_end_asked m h unput told = copy_asked m h unput (open_share m h) refl told
+
+unput_asked : (limits : Limits) (m : ℕ) (h : List Event) (unput : Bool) (call : Call) → IsUnput m unput h →
+    first_refusal (sections_tests limits (seen_of m h) unput call) ≡ first_refusal (sections_tests limits (seen_of m h) (is_none (payload_at (open_number m h) h)) call)
+unput_asked limits m h unput (SingleCopyEnd words) told = copy_end_asked m h unput told
+unput_asked limits m h unput _ told = refl
+
+-- the tests of a call are those of its own crate
+pub asked_there : (limits : Limits) (m : ℕ) (h : List Event) (unput : Bool) (call : Call) (first second found : Option Refusal) → IsUnput m unput h → first ≡ first_refusal (loop_tests limits (seen_of m h) call) → first ≡ None →
+    second ≡ first_refusal (sections_tests limits (seen_of m h) unput call) → second ≡ None → found ≡ first_refusal (ordered_tests (seen_of m h) call) → found ≡ first_refusal (team_tests limits m h call)
+asked_there limits m h unput call first second found told is none asked neither later =
+    let rest = sections_tests limits (seen_of m h) (is_none (payload_at (open_number m h) h)) call in
+    later
+    ∙ sym (front_fails rest (ordered_tests (seen_of m h) call) (sym (asked ∙ unput_asked limits m h unput call told) ∙ neither))
+    ∙ sym (front_fails (loop_tests limits (seen_of m h) call) (rest ++ ordered_tests (seen_of m h) call) (sym is ∙ none))
+
+-- or those of sections and singles refuse it
+pub asked_second : (limits : Limits) (m : ℕ) (h : List Event) (unput : Bool) (call : Call) (first : Option Refusal) (refusal : Refusal) → IsUnput m unput h → first ≡ first_refusal (loop_tests limits (seen_of m h) call) → first ≡ None →
+    Some refusal ≡ first_refusal (sections_tests limits (seen_of m h) unput call) → Some refusal ≡ first_refusal (team_tests limits m h call)
+asked_second limits m h unput call first refusal told is none later =
+    let rest = sections_tests limits (seen_of m h) (is_none (payload_at (open_number m h) h)) call in
+    sym (front_holds rest (ordered_tests (seen_of m h) call) refusal (sym (later ∙ unput_asked limits m h unput call told)))
+    ∙ sym (front_fails (loop_tests limits (seen_of m h) call) (rest ++ ordered_tests (seen_of m h) call) (sym is ∙ none))
+
+-- Words in the share that the member is in
+
+-- two numbers with one place are a multiple of eight apart
+apart : (i j : ℕ) → j < i → i % 8 ≡ j % 8 → (k : ℕ) × (i ≡ 8 * suc k + j)
+apart i j lt same = (i / 8 - j / 8 - 1, let a = div-add-mod i 8 in let b = div-add-mod j 8 in omega arith)
+
+not_some : {A : Type 0} (x : Option A) → ((y : A) → x ≡ Some y → ⊥) → x ≡ None
+not_some None never = refl
+not_some (Some y) never = absurd (never y refl)
+
+-- of the shares with one place all but the last that was entered are over
+abbrev pub EightBefore : ℕ → List Event → Type 0
+EightBefore members h = (i j k : ℕ) (shape : Shape) → shape_at i h ≡ Some shape → i ≡ 8 * suc k + j → is_over members j h ≡ true
+
+-- no words are kept of another share that is not over
+none_at : (members : ℕ) (places : List (Option Kept)) (i j : ℕ) (shape : Shape) (h : List Event) → EightBefore members h → PayloadsStand members places h →
+    shape_at i h ≡ Some shape → is_over members i h ≡ false → is_over members j h ≡ false → j ≢ i → i % 8 ≡ j % 8 → payload_at j h ≡ None
+none_at members places i j shape h before st at open_ still other same =
+    not_some (payload_at j h) (λ words is. elim (cases_lt j i) [
+      | inl below ↦ let far = apart i j below same in not_both (is_over members j h) (before i j far.0 shape at far.1) still
+      | inr past ↦
+          let far = apart j i (omega arith) (sym same) in
+          let was = some_of (shape_at j h) (st.entered j words is) in
+          not_both (is_over members i h) (before j i far.0 was.0 was.1 far.1) open_
+    ])
+
+pub put_stands : (members : ℕ) (places : List (Option Kept)) (i m : ℕ) (shape : Shape) (words : List ℕ) (h : List Event) → EightBefore members h → PayloadsStand members places h →
+    shape_at i h ≡ Some shape → is_over members i h ≡ false →
+    PayloadsStand members (slice_set places (i % 8) (Some (record { share = i; words = words }))) (Put i m words ∷ h)
+put_stands members places i m shape words h before st at open_ = record {
+  eight = length-set places (i % 8) _ ∙ st.eight;
+  words = λ j still. elim (cases_Bool (i == j)) [
+    | inl one ↦
+        let same : i ≡ j = is_equal i j one in
+        let within : i % 8 < length places = rw st.eight (omega arith) in
+        rw (← same, slice_get-set_same places (i % 8) _ within) (rw (same_number i) refl)
+    | inr two ↦
+        let other : j ≢ i = λ same. differs i j two (sym same) in
+        elim (cases_Bool (i % 8 == j % 8)) [
+          | inl near ↦
+              let same : i % 8 ≡ j % 8 = is_equal (i % 8) (j % 8) near in
+              let within : i % 8 < length places = rw st.eight (omega arith) in
+              rw (← same, slice_get-set_same places (i % 8) _ within, two) (sym (none_at members places i j shape h before st at open_ still other same))
+          | inr far ↦
+              let away : j % 8 ≢ i % 8 = λ same. differs (i % 8) (j % 8) far (sym same) in
+              rw (slice_get-set_other places (i % 8) (j % 8) _ away, two) (st.words j still)
+        ]
+  ];
+  entered = λ j others is. elim (tells (i == j) (Some words) (payload_at j h) (Some others) is) [
+    | inl e ↦ subst (λ (k : ℕ). is_some (shape_at k h) ≡ true) (is_equal i j e.0) (ap is_some at)
+    | inr e ↦ st.entered j others e.1
+  ];
+}
+
+pub words_stand : (members : ℕ) (places after : List (Option Kept)) (i m shares : ℕ) (shape : Shape) (words : List ℕ) (h : List Event) → EightBefore members h → PayloadsStand members places h →
+    open_share m h ≡ Some (i, shape) → (shape_at i h ≡ Some shape) × (is_over members i h ≡ false) → after ≡ slice_set places (i % 8) (Some (record { share = i; words = words })) →
+    PayloadsStand members after (added false m shares Finished (SingleCopyEnd words) h)
+words_stand members places after i m shares shape words h before st own known is =
+    let number : open_number m h ≡ i = ap share_number own in
+    aside_stands members after (End (open_number m (Put (open_number m h) m words ∷ h)) m) (Put (open_number m h) m words ∷ h) tt
+    (rw (number, is) (put_stands members places i m shape words h before st known.0 known.1))

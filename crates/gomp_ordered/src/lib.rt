@@ -1,0 +1,18 @@
+//! The calls of a member on the ordered parts of its team's loops.
+//!
+//! The pieces of an ordered loop are handed on in their order: a member begins the part of an
+//! iteration of its piece once every piece before it was handed on, and hands its own on when it
+//! asks for the next (`gomp_loops`). Each call makes the tests of its row (`call_tests`), so it has no
+//! premise but a member of the team, and answers what `MayReply` allows where none of them holds.
+//! Whether the team is broken, the member has left the region or has a wait open is tested by the
+//! layer above.
+//!
+//! OpenMP API 5.2, section 15.10.2. The calls have the form of libgomp's `GOMP_ordered_start` and
+//! `GOMP_ordered_end` (libgomp manual, the ABI chapter); that the call names the iteration's value is
+//! this project's choice.
+#![tactic(auto)]
+
+pub mod calls;
+pub mod own;
+
+pub use calls::{first_refusal, ordered_end, ordered_start};

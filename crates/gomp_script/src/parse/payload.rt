@@ -1,0 +1,48 @@
+//! The step that puts the words of a `single` construct: `MEMBER single_copy_end [W]..`.
+
+ghost use Rattle.std.specs.Prelude.{◌≡◌};
+ghost use Rattle.gomp_text.specs.Words.{words_of};
+ghost use Rattle.gomp_script.specs.StepText.{payload_word, payload_of, copy_end_step};
+
+use crate::parse::Why;
+use crate::parse::words::{finish, member_of};
+use gomp_text::{next_word, unsigned};
+use gomp_types::{Call, Payload, Step};
+
+/// How many words of a payload are read; what follows them is a word too many.
+const MAX_WORDS: usize = 8;
+
+fn payload_word(word: &[u8]) -> Result<u64, Why>
+    ensures { result ≡ payload_word word.now }
+{
+    unsigned(word, u64::MAX).ok_or(Why::BadNumber)
+}
+
+/// The payload of all words of the rest of a line.
+fn payload_of(words: &[u8]) -> Result<Payload, Why>
+    ensures { result ≡ payload_of 8 (words_of words.now) }
+{
+    let mut payload = Payload::new();
+    let mut rest = words;
+    for _i in 0..MAX_WORDS {
+        let Some((word, after)) = next_word(rest) else {
+            return Ok(payload);
+        };
+        payload.push(payload_word(word)?);
+        rest = after;
+    }
+    finish(rest)?;
+    Ok(payload)
+}
+
+#[tactic(auto, unfolding(crate::specs::StepText::copy_end_step))]
+pub(crate) fn copy_end_step(member: &[u8], rest: &[u8]) -> Result<Step, Why>
+    ensures { result ≡ copy_end_step member.now (words_of rest.now) }
+{
+    let member = member_of(member)?;
+    let payload = payload_of(rest)?;
+    Ok(Step {
+        member,
+        call: Call::SingleCopyEnd(payload),
+    })
+}

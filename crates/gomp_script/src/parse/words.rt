@@ -1,0 +1,55 @@
+//! The words of a line: taking them one by one, and those that several kinds of step share.
+
+ghost use Rattle.std.specs.Prelude.{◌≡◌, Ok, Err, MatchResult};
+ghost use Rattle.gomp_text.specs.Words.{words_of};
+ghost use Rattle.gomp_text.specs.Numbers.{signed, unsigned};
+ghost use Rattle.gomp_script.specs.StepText.{next, finished, wanted, end_of};
+ghost use Rattle.gomp_script.specs.declared.parse.Why.TheVariants.{BadNumber};
+
+use crate::parse::Why;
+use gomp_text::{is_word, next_word, signed, unsigned};
+use gomp_types::EndKind;
+
+/// The next word of a line, and what follows it.
+pub(crate) fn take_word(line: &[u8]) -> Result<(&[u8], &[u8]), Why>
+    ensures { MatchResult result (λ taken. next (words_of line.now) ≡ Ok (taken.0.now, words_of taken.1.now)) (λ why. next (words_of line.now) ≡ Err why) }
+{
+    next_word(line).ok_or(Why::MissingWord)
+}
+
+/// That the line ends here.
+pub(crate) fn finish(line: &[u8]) -> Result<(), Why>
+    ensures { result ≡ finished (words_of line.now) }
+{
+    match next_word(line) {
+        Some(_) => Err(Why::ExtraWord),
+        None => Ok(()),
+    }
+}
+
+pub(crate) fn end_of(word: &[u8]) -> Option<EndKind>
+    ensures { result ≡ end_of word.now }
+{
+    if is_word(word, b"wait") {
+        return Some(EndKind::Wait);
+    }
+    if is_word(word, b"nowait") {
+        return Some(EndKind::Nowait);
+    }
+    None
+}
+
+pub(crate) fn member_of(word: &[u8]) -> Result<u16, Why>
+    ensures { result ≡ wanted BadNumber (unsigned 65535 word.now) }
+{
+    match unsigned(word, u16::MAX as u64) {
+        Some(number) => Ok(number as u16),
+        None => Err(Why::BadNumber),
+    }
+}
+
+pub(crate) fn number_of(word: &[u8]) -> Result<i64, Why>
+    ensures { result ≡ wanted BadNumber (signed word.now) }
+{
+    signed(word).ok_or(Why::BadNumber)
+}

@@ -1,0 +1,2 @@
+pub mod OwnTests
+pub mod Answers

@@ -1,0 +1,21 @@
+//! The calls of a member on the sections and `single` constructs of its team.
+//!
+//! Each construct is one work-share: sections are its pieces, one each, and a `single` has one piece,
+//! whose taker executes it. Each call makes the tests of its row (`call_tests`), so it has no premise
+//! but a member of the team, and answers what `MayReply` allows where none of them holds. Whether the
+//! team is broken, the member has left the region or has a wait open, and how it arrives at a
+//! barrier, is tested by the layer above, which also keeps the words of a `single` with
+//! `copyprivate`.
+//!
+//! OpenMP API 5.2, sections 11.1, 11.3 and 5.7.2. The calls have the form of libgomp's
+//! `GOMP_sections_*`, `GOMP_single_start`, `GOMP_single_copy_start` and `GOMP_single_copy_end`
+//! (libgomp manual, the ABI chapter).
+#![tactic(auto)]
+
+pub mod own;
+pub mod sections;
+pub mod single;
+
+pub use own::first_refusal;
+pub use sections::{sections_end, sections_end_nowait, sections_next, sections_start};
+pub use single::{single_copy_end, single_copy_start, single_start};

@@ -1,0 +1,127 @@
+//! The calls of libgomp's sections, over any body of the shares.
+//!
+//! OpenMP API 5.2, section 11.3.
+
+ghost use Rattle.std.specs.Prelude.{◌≡◌, ◌<◌, ℕ, List, false};
+ghost use Rattle.gomp_types.specs.declared.event.Event.{Event};
+ghost use Rattle.gomp_types.specs.declared.call.Call.TheVariants.{SectionsStart, SectionsNext, SectionsEndNowait};
+ghost use Rattle.gomp_types.specs.declared.loop_desc.EndKind.TheVariants.{Wait as WaitEnd};
+ghost use Rattle.gomp_types.specs.declared.limits.Limits.{Limits};
+ghost use Rattle.gomp_types.specs.Tests.{first_refusal, outcome};
+ghost use Rattle.gomp_types.specs.Events.{entered};
+ghost use Rattle.gomp_types.specs.Record.{added};
+ghost use Rattle.gomp_types.specs.Refusals.{sections_end_tests};
+ghost use Rattle.gomp_types.specs.Causes.{IsReply};
+ghost use Rattle.std.specs.Option.{ForSome};
+ghost use Rattle.gomp_share_plain.specs.Calls.{EachStands, left_unless_refused};
+ghost use Rattle.gomp_sections.specs.Answers.{section_of};
+
+use crate::own::start_refusal;
+use gomp_share_plain::own::{end_refusal, next_refusal};
+use gomp_share_plain::{Construct, Opening, Shares};
+use gomp_types::{EndKind, Limits, Refusal, Reply, laws, sections_shape};
+
+/// Enters the member's next share for a construct of `count` sections, 0 to 65,536, and answers the
+/// first section that nobody took, numbered from 1, or 0 where none is left; the member is in the
+/// construct all the same, and may end it.
+///
+/// `Wait` where some member has not left the share eight before, and nothing is entered: the layer
+/// above calls again on `Resume`. Refused with `InsideShare`, `BadSections`, `TooManyShares`, or with
+/// `Mismatch` where the team's share of this number is of another shape.
+pub fn sections_start<S: Shares>(
+    shares: &mut S,
+    member: u16,
+    limits: &Limits,
+    count: u32,
+    end_kind: EndKind,
+) -> Reply
+    requires { member < S.members shares.old }
+    ensures members { S.members shares.new ≡ S.members shares.old }
+    ensures known { (h : List Event) × S.stands shares.old h }
+    ensures answer { EachStands (S.stands shares.old) (IsReply limits.now (S.members shares.old) member (SectionsStart count end_kind) result) }
+    ensures stands { EachStands (S.stands shares.old) (λ h. S.stands shares.new (added false member (entered member h) result (SectionsStart count end_kind) h)) }
+{
+    let seen = shares.look(member);
+    if let Some(refusal) = start_refusal(&seen, limits, count) {
+        return Reply::Refused(refusal);
+    }
+    let shape = match sections_shape(count, end_kind) {
+        Ok(shape) => shape,
+        Err(refusal) => return Reply::Refused(refusal),
+    };
+    match shares.try_open(member, &shape) {
+        Opening::Differs => Reply::Refused(Refusal::Mismatch),
+        Opening::NotYet => Reply::Wait,
+        Opening::Entered => Reply::Section(section_number(shares.claim(member))),
+    }
+}
+
+/// Answers the next section of the member's construct, numbered from 1, or 0 where none is left: then
+/// it may end the construct, and not ask again.
+///
+/// Refused with `OutsideShare` or `Drained`.
+pub fn sections_next<S: Shares>(shares: &mut S, member: u16) -> Reply
+    requires { member < S.members shares.old }
+    ensures members { S.members shares.new ≡ S.members shares.old }
+    ensures known { (h : List Event) × S.stands shares.old h }
+    ensures answer { (limits : Limits) → EachStands (S.stands shares.old) (IsReply limits (S.members shares.old) member SectionsNext result) }
+    ensures stands { EachStands (S.stands shares.old) (λ h. S.stands shares.new (added false member (entered member h) result SectionsNext h)) }
+{
+    laws::part_inside();
+    let seen = shares.look(member);
+    if let Some(refusal) = next_refusal(&seen, Construct::Sections) {
+        return Reply::Refused(refusal);
+    }
+    Reply::Section(section_number(shares.claim(member)))
+}
+
+/// Leaves the member's sections, at the end of which a barrier stands: this crate's part of that
+/// call, as for a loop. The layer above asks [`first_refusal`](crate::first_refusal) first, compares
+/// the arrival with those of the other members, and calls this last; then the member arrives.
+///
+/// Refused with `OutsideShare`, `EndDiffers` or `NotDrained`.
+pub fn sections_end<S: Shares>(shares: &mut S, member: u16) -> Result<(), Refusal>
+    requires { member < S.members shares.old }
+    ensures members { S.members shares.new ≡ S.members shares.old }
+    ensures known { (h : List Event) × S.stands shares.old h }
+    ensures answer { EachStands (S.stands shares.old) (λ h. result ≡ outcome (first_refusal (sections_end_tests WaitEnd member h)) tt) }
+    ensures stands { EachStands (S.stands shares.old) (λ h. S.stands shares.new (left_unless_refused result member h)) }
+{
+    laws::part_inside();
+    let seen = shares.look(member);
+    if let Some(refusal) = end_refusal(&seen, Construct::Sections, EndKind::Wait) {
+        return Err(refusal);
+    }
+    shares.leave(member);
+    Ok(())
+}
+
+/// Leaves the member's sections, which have no barrier at their end.
+///
+/// Refused with `OutsideShare`, `EndDiffers` or `NotDrained`.
+pub fn sections_end_nowait<S: Shares>(shares: &mut S, member: u16) -> Reply
+    requires { member < S.members shares.old }
+    ensures members { S.members shares.new ≡ S.members shares.old }
+    ensures known { (h : List Event) × S.stands shares.old h }
+    ensures answer { (limits : Limits) → EachStands (S.stands shares.old) (IsReply limits (S.members shares.old) member SectionsEndNowait result) }
+    ensures stands { EachStands (S.stands shares.old) (λ h. S.stands shares.new (added false member (entered member h) result SectionsEndNowait h)) }
+{
+    laws::part_inside();
+    let seen = shares.look(member);
+    if let Some(refusal) = end_refusal(&seen, Construct::Sections, EndKind::Nowait) {
+        return Reply::Refused(refusal);
+    }
+    shares.leave(member);
+    Reply::Finished
+}
+
+/// The number of the section that a member was given, 0 where it was given none.
+fn section_number(piece: Option<(u64, u64)>) -> u64
+    requires { ForSome piece (λ p. p.0 < p.1) }
+    ensures { result ≡ section_of piece }
+{
+    match piece {
+        Some((low, _)) => low + 1,
+        None => 0,
+    }
+}

@@ -1,0 +1,329 @@
+-- The calls of ordered parts keep the plain shares in step with the events.
+use Rattle.std.proofs.Common.{◌≡◌, ◌≢◌, ℕ, ◌+◌, ◌%◌, ◌^◌, ◌<◌, ◌≤◌, true, false, nat_lt, nat_le, List, ◌∷◌, length, slice_get, slice_set, Option, Some, None, inl, inr, refl, ap, ◌∙◌, sym, subst, arith}
+use Rattle.std.specs.Prelude.{◌==◌, ◌&&◌, is_some}
+use Rattle.std.proofs.lemmas.Bool.Decides.{nat_tests, eqb_tells}
+use Rattle.std.proofs.lemmas.List.{length-set}
+use Rattle.gomp_types.specs.declared.shape.Shape.{Shape}
+use Rattle.gomp_types.specs.declared.event.Event.{Event}
+use Rattle.gomp_types.specs.declared.event.Event.TheVariants.{HandOn, Part, PartEnd}
+use Rattle.gomp_types.specs.Pieces.{Piece, Tiles, pieces_of}
+use Rattle.gomp_types.specs.Events.{open_share, open_number, share_number, last_piece, has_iteration, turn, parted, in_part, is_inside, shape_at}
+use Rattle.gomp_types.specs.Ordered.{is_ordered, is_in_rest}
+use Rattle.gomp_types.specs.Record.{shown}
+use Rattle.gomp_types.specs.Rules.{MayHandOn, MayPart, MayEndPart}
+use Rattle.gomp_types.proofs.Booleans.{some_of, and_left, and_right, same_number}
+use Rattle.gomp_types.proofs.Lists.{slice_get-set, slice_get-set_same, slice_get-set_other}
+use Rattle.gomp_share_plain.specs.Calls.{CanBeginPart, CanEndPart, CanHandOn, own_turn, seen_of, taken_of}
+use Rattle.gomp_share_plain.specs.declared.plain.Seat.{Seat}
+use Rattle.gomp_share_plain.specs.declared.plain.OpenShare.{OpenShare}
+use Rattle.gomp_share_plain.specs.Plain.{SeatStands, PlaceStands, StandsFor}
+use Rattle.gomp_share_plain.proofs.Turns.{lies, turn_of}
+use Rattle.gomp_share_plain.proofs.PlainKeeps.{inside, inside_number, own_place, own_share, here_is, here_valid, shape_here, places_apart, PiecesTile}
+
+-- The turn
+
+-- the pieces of the share that a member is in
+tiled : (members : ℕ) (seats : List Seat) (count : ℕ) (places : List (Option OpenShare)) (h : List Event) (m : ℕ) (seat : Seat) (share : OpenShare) →
+    StandsFor members seats count places h → slice_get seats m ≡ Some seat → is_inside m h ≡ true → slice_get places (seat.ended % 8) ≡ Some (Some share) → m < members → PiecesTile →
+    Tiles 0 (pieces_of members share.shape) share.shape.trips
+tiled members seats count places h m seat share st at within found lt tile =
+    let valid = here_valid members seat.ended (slice_get places (seat.ended % 8)) share h (own_place members seats count places h m seat st at within) found in
+    tile members share.shape (omega arith) valid
+
+-- a member has the turn where its piece has its number
+pub next_tells : (members : ℕ) (seats : List Seat) (count : ℕ) (places : List (Option OpenShare)) (h : List Event) (m : ℕ) (seat : Seat) (share : OpenShare) →
+    StandsFor members seats count places h → slice_get seats m ≡ Some seat → is_inside m h ≡ true → slice_get places (seat.ended % 8) ≡ Some (Some share) → m < members → PiecesTile →
+    own_turn members m h ≡ (is_some seat.piece && seat.number == share.turn)
+next_tells members seats count places h m seat share st at within found lt tile =
+    let s : SeatStands members m seat count h = st.seat m seat at in
+    let there = own_share members seats count places h m seat share st at within found in
+    let p = own_place members seats count places h m seat st at within in
+    let same = here_is members seat.ended (slice_get places (seat.ended % 8)) share h p found in
+    let now : turn seat.ended h ≡ share.turn = rw (← same) p.turn_is in
+    rw (there, s.piece, now) (turn_of share.shape.trips (pieces_of members share.shape) seat.number share.turn seat.piece
+    (tiled members seats count places h m seat share st at within found lt tile)
+    (λ piece is. s.number (seat.ended, share.shape) piece there is))
+
+-- the number of its piece is below that of its iterations
+pub number_below : (members : ℕ) (seats : List Seat) (count : ℕ) (places : List (Option OpenShare)) (h : List Event) (m : ℕ) (seat : Seat) (share : OpenShare) (piece : Piece) →
+    StandsFor members seats count places h → slice_get seats m ≡ Some seat → is_inside m h ≡ true → slice_get places (seat.ended % 8) ≡ Some (Some share) → m < members → PiecesTile →
+    seat.piece ≡ Some piece → (seat.number < 2 ^ 39) × (piece.1 ≤ 2 ^ 39)
+number_below members seats count places h m seat share piece st at within found lt tile is =
+    let s : SeatStands members m seat count h = st.seat m seat at in
+    let there = own_share members seats count places h m seat share st at within found in
+    let valid = here_valid members seat.ended (slice_get places (seat.ended % 8)) share h (own_place members seats count places h m seat st at within) found in
+    let tiles = tiled members seats count places h m seat share st at within found lt tile in
+    let lie = lies 0 share.shape.trips (pieces_of members share.shape) seat.number piece tiles (s.number (seat.ended, share.shape) piece there is) in
+    let from = lie.from in let some = lie.some in let most = lie.within in let few = valid.trips in
+    (omega arith, omega arith)
+
+-- The rules
+
+ordered_some : (own : Option (ℕ × Shape)) → is_ordered own ≡ true → is_some own ≡ true
+ordered_some None e = absurd (cc)
+ordered_some (Some share) e = refl
+
+pub begins_inside : (members m iteration : ℕ) (h : List Event) → CanBeginPart members m iteration (seen_of m h) → is_inside m h ≡ true
+begins_inside members m iteration h can = ordered_some (open_share m h) can.ordered
+
+pub hands_inside : (members m : ℕ) (h : List Event) → CanHandOn members m (seen_of m h) → is_inside m h ≡ true
+hands_inside members m h can = ordered_some (open_share m h) can.ordered
+
+-- what the test of an iteration tells
+pub record InRest (own : Option Piece) (least k : ℕ) : Type 0 where
+  pub piece : Piece
+  pub is : own ≡ Some piece
+  pub from : piece.0 ≤ k
+  pub before : k < piece.1
+  pub after : least ≤ k
+
+pub in_rest : (own : Option Piece) (after k : ℕ) → is_in_rest own after (Some k) ≡ true → InRest own after k
+in_rest None after k e = absurd (cc)
+in_rest (Some piece) after k e =
+    let both = and_left (has_iteration k piece.0 piece.1) (nat_le after k) e in
+    let last = and_right (has_iteration k piece.0 piece.1) (nat_le after k) e in
+    let low = and_left (nat_le piece.0 k) (nat_lt k piece.1) both in
+    let high = and_right (nat_le piece.0 k) (nat_lt k piece.1) both in
+    record { piece = piece; is = refl; from = grind (arith, nat_tests, low); before = grind (arith, nat_tests, high); after = grind (arith, nat_tests, last) }
+
+begin_rule : (members m iteration : ℕ) (h : List Event) → CanBeginPart members m iteration (seen_of m h) → own_turn members m h ≡ true → MayPart members (open_number m h) m iteration h
+begin_rule members m iteration h can next =
+    let own = some_of (open_share m h) (begins_inside members m iteration h can) in
+    let number : open_number m h ≡ own.0.0 = ap share_number own.1 in
+    let rest = in_rest (last_piece m h) (parted m h) iteration can.rest in
+    rw number (record {
+      shape = own.0.1;
+      inside = own.1;
+      ordered = rw own.1 at can.ordered;
+      apart = can.apart;
+      next = rw own.1 at next;
+      low = rest.piece.0;
+      high = rest.piece.1;
+      piece = rest.is;
+      from = rest.from;
+      before = rest.before;
+      after = rest.after;
+    })
+
+hand_rule : (members m : ℕ) (h : List Event) → CanHandOn members m (seen_of m h) → own_turn members m h ≡ true → MayHandOn members (open_number m h) m (turn (open_number m h) h) h
+hand_rule members m h can next =
+    let own = some_of (open_share m h) (hands_inside members m h can) in
+    let number : open_number m h ≡ own.0.0 = ap share_number own.1 in
+    rw number (record {
+      shape = own.0.1;
+      inside = own.1;
+      ordered = rw own.1 at can.ordered;
+      apart = can.apart;
+      number = refl;
+      next = rw own.1 at next;
+    })
+
+-- a member that is in a part is in a share
+end_rule : (members m : ℕ) (seat : Seat) (opened : ℕ) (h : List Event) → SeatStands members m seat opened h → in_part m h ≡ true → MayEndPart (open_number m h) m h
+end_rule members m seat opened h s within =
+    elim (eqb_tells seat.started seat.ended) [
+      | inl e ↦ absurd (let out = s.apart e.1 in let shown = s.in_part in cc)
+      | inr e ↦ let in_order = s.in_order in let one = s.one in
+          let own = s.inside (omega (arith, e.1)) in
+          let number : open_number m h ≡ seat.ended = ap share_number own.1 in
+          rw number (record { shape = own.0; inside = own.1; within = within })
+    ]
+
+-- Beginning and ending a part
+
+-- a member begins a part
+pub begins : (members : ℕ) (seats : List Seat) (count : ℕ) (places : List (Option OpenShare)) (h : List Event) (m : ℕ) (seat : Seat) (iteration : ℕ) →
+    StandsFor members seats count places h → slice_get seats m ≡ Some seat → CanBeginPart members m iteration (seen_of m h) → own_turn members m h ≡ true →
+    StandsFor members (slice_set seats m (record seat { parted = iteration + 1; in_part = true })) count places (Part (open_number m h) m iteration ∷ h)
+begins members seats count places h m seat iteration st at can next =
+    let s : SeatStands members m seat count h = st.seat m seat at in
+    let one : seat.started ≡ seat.ended + 1 = inside members m seat count h s (begins_inside members m iteration h can) in
+    record {
+      size = length-set seats m _ ∙ st.size;
+      team = st.team;
+      eight = st.eight;
+      seat = λ k other at_k. elim (slice_get-set seats m k _ other at_k) [
+        | inl e ↦ rw (e.0, e.1) (record {
+          started = s.started;
+          ended = s.ended;
+          drained = s.drained;
+          piece = s.piece;
+          number = s.number;
+          parted = grind (arith, nat_tests);
+          in_part = grind (arith, nat_tests);
+          apart = λ e. absurd (omega arith);
+          taken = s.taken;
+          fresh = s.fresh;
+          in_order = s.in_order;
+          one = s.one;
+          known = s.known;
+          near = s.near;
+          outside = s.outside;
+          inside = s.inside;
+        })
+        | inr e ↦ let o : SeatStands members k other count h = st.seat k other e.1 in record {
+          started = o.started;
+          ended = o.ended;
+          drained = o.drained;
+          piece = o.piece;
+          number = o.number;
+          parted = grind (arith, nat_tests, o.parted, e.0);
+          in_part = grind (arith, nat_tests, o.in_part, e.0);
+          apart = o.apart;
+          taken = o.taken;
+          fresh = o.fresh;
+          in_order = o.in_order;
+          one = o.one;
+          known = o.known;
+          near = o.near;
+          outside = o.outside;
+          inside = o.inside;
+        }
+      ];
+      place = λ i low high. let p : PlaceStands members i (slice_get places (i % 8)) h = st.place i low high in record {
+        share = p.share;
+        there = p.there;
+        shape = p.shape;
+        taken_is = p.taken_is;
+        turn_is = p.turn_is;
+        cursor_is = p.cursor_is;
+        valid = p.valid;
+      };
+      beyond = st.beyond;
+      rule = (begin_rule members m iteration h can next, st.rule);
+    }
+
+-- and ends it
+pub ends : (members : ℕ) (seats : List Seat) (count : ℕ) (places : List (Option OpenShare)) (h : List Event) (m : ℕ) (seat : Seat) →
+    StandsFor members seats count places h → slice_get seats m ≡ Some seat → CanEndPart members m (seen_of m h) →
+    StandsFor members (slice_set seats m (record seat { in_part = false })) count places (PartEnd (open_number m h) m ∷ h)
+ends members seats count places h m seat st at can =
+    let s : SeatStands members m seat count h = st.seat m seat at in
+    record {
+      size = length-set seats m _ ∙ st.size;
+      team = st.team;
+      eight = st.eight;
+      seat = λ k other at_k. elim (slice_get-set seats m k _ other at_k) [
+        | inl e ↦ rw (e.0, e.1) (record {
+          started = s.started;
+          ended = s.ended;
+          drained = s.drained;
+          piece = s.piece;
+          number = s.number;
+          parted = s.parted;
+          in_part = grind (arith, nat_tests);
+          apart = λ e. refl;
+          taken = s.taken;
+          fresh = s.fresh;
+          in_order = s.in_order;
+          one = s.one;
+          known = s.known;
+          near = s.near;
+          outside = s.outside;
+          inside = s.inside;
+        })
+        | inr e ↦ let o : SeatStands members k other count h = st.seat k other e.1 in record {
+          started = o.started;
+          ended = o.ended;
+          drained = o.drained;
+          piece = o.piece;
+          number = o.number;
+          parted = o.parted;
+          in_part = grind (arith, nat_tests, o.in_part, e.0);
+          apart = o.apart;
+          taken = o.taken;
+          fresh = o.fresh;
+          in_order = o.in_order;
+          one = o.one;
+          known = o.known;
+          near = o.near;
+          outside = o.outside;
+          inside = o.inside;
+        }
+      ];
+      place = λ i low high. let p : PlaceStands members i (slice_get places (i % 8)) h = st.place i low high in record {
+        share = p.share;
+        there = p.there;
+        shape = p.shape;
+        taken_is = p.taken_is;
+        turn_is = p.turn_is;
+        cursor_is = p.cursor_is;
+        valid = p.valid;
+      };
+      beyond = st.beyond;
+      rule = (end_rule members m seat count h s can.within, st.rule);
+    }
+
+-- Handing on
+
+-- it counts for its share alone
+turn_here : (i m piece : ℕ) (h : List Event) → turn i (HandOn i m piece ∷ h) ≡ turn i h + 1
+turn_here i m piece h = rw (same_number i) refl
+
+turn_else : (i j m piece : ℕ) (h : List Event) → i ≢ j → turn i (HandOn j m piece ∷ h) ≡ turn i h
+turn_else i j m piece h other = grind (arith, nat_tests)
+
+-- a member hands its piece on
+pub hands : (members : ℕ) (seats : List Seat) (count : ℕ) (places : List (Option OpenShare)) (h : List Event) (m : ℕ) (seat : Seat) (share : OpenShare) →
+    StandsFor members seats count places h → slice_get seats m ≡ Some seat → slice_get places (seat.ended % 8) ≡ Some (Some share) → CanHandOn members m (seen_of m h) → own_turn members m h ≡ true → seat.number ≡ share.turn →
+    StandsFor members seats count (slice_set places (seat.ended % 8) (Some (record share { turn = seat.number + 1 }))) (HandOn (open_number m h) m (turn (open_number m h) h) ∷ h)
+hands members seats count places h m seat share st at found can next is =
+    let within = hands_inside members m h can in
+    let s : SeatStands members m seat count h = st.seat m seat at in
+    let here : open_number m h ≡ seat.ended = inside_number members m seat count h s within in
+    let one : seat.started ≡ seat.ended + 1 = inside members m seat count h s within in
+    let room : (seat.ended % 8) < length places = rw st.eight (omega arith) in
+    let now = own_place members seats count places h m seat st at within in
+    let same = here_is members seat.ended (slice_get places (seat.ended % 8)) share h now found in
+    let before : turn seat.ended h ≡ share.turn = rw (← same) now.turn_is in
+    let taken : shown (taken_of seat.ended h) ≡ share.taken = rw (← same) now.taken_is in
+    record {
+      size = st.size;
+      team = st.team;
+      eight = length-set places (seat.ended % 8) _ ∙ st.eight;
+      seat = λ k other at_k. let o : SeatStands members k other count h = st.seat k other at_k in record {
+        started = o.started;
+        ended = o.ended;
+        drained = o.drained;
+        piece = o.piece;
+        number = o.number;
+        parted = o.parted;
+        in_part = o.in_part;
+        apart = o.apart;
+        taken = o.taken;
+        fresh = o.fresh;
+        in_order = o.in_order;
+        one = o.one;
+        known = o.known;
+        near = o.near;
+        outside = o.outside;
+        inside = o.inside;
+      };
+      place = λ i low high. elim (eqb_tells i seat.ended) [
+        | inl e ↦ record {
+          share = record share { turn = seat.number + 1 };
+          there = rw e.1 (slice_get-set_same places (seat.ended % 8) _ room);
+          shape = ap (λ n. shape_at n h) e.1 ∙ shape_here members seat.ended (slice_get places (seat.ended % 8)) share h now found;
+          taken_is = ap (λ n. shown (taken_of n h)) e.1 ∙ taken;
+          turn_is = subst (λ (n : ℕ). turn n (HandOn (open_number m h) m (turn (open_number m h) h) ∷ h) ≡ seat.number + 1) (sym e.1)
+              (rw here (turn_here seat.ended m (turn seat.ended h) h ∙ ap (λ (n : ℕ). n + 1) (before ∙ sym is)));
+          cursor_is = rw (← same) now.cursor_is;
+          valid = rw (← same) now.valid;
+        }
+        | inr e ↦
+            let p : PlaceStands members i (slice_get places (i % 8)) h = st.place i low high in
+            let apart : (i % 8) ≢ (seat.ended % 8) = places_apart i seat.ended count e.1 (omega arith) (let k = s.known in omega arith) (omega arith) (let k = s.near in omega arith) in
+            record {
+              share = p.share;
+              there = slice_get-set_other places (seat.ended % 8) (i % 8) _ apart ∙ p.there;
+              shape = p.shape;
+              taken_is = p.taken_is;
+              turn_is = rw here (turn_else i seat.ended m (turn seat.ended h) h e.1 ∙ p.turn_is);
+              cursor_is = p.cursor_is;
+              valid = p.valid;
+            }
+      ];
+      beyond = λ i past. let b = st.beyond i past in
+          (b.0, b.1, rw here (turn_else i seat.ended m (turn seat.ended h) h (λ same. let k = s.known in omega arith) ∙ b.2));
+      rule = (hand_rule members m h can next, st.rule);
+    }

@@ -1,0 +1,70 @@
+use Rattle.std.proofs.Common.{◌≡◌, ◌%◌, ◌<◌, arith, refl, ◌∙◌, sym, length, Some}
+use Rattle.std.specs.Prelude.{is_some}
+use Rattle.std.proofs.lemmas.List.{length-set}
+use Rattle.std.proofs.lemmas.Option.{slice_get_read}
+use Rattle.gomp_types.proofs.Booleans.{some_of, and_left}
+use Rattle.gomp_share_plain.specs.Calls.{CanBeginPart}
+use Rattle.gomp_share_plain.proofs.PlainKeeps.{place_is, told, known_by, own_place, not_empty}
+use Rattle.gomp_share_plain.proofs.PartsKeep.{next_tells, number_below, begins_inside, begins, in_rest}
+use Rattle.gomp_share_plain.proofs.plain.PlainSharesShares.try_turn.Goals as goal
+
+pub returns-in_default-clause-answer : goal.returns-in_default-clause-answer
+returns-in_default-clause-answer c = λ h st0.
+    let (can, st) = told _ _ c.args.member h (λ n seen. CanBeginPart n c.args.member c.args.iteration seen) c.self.view_is c.requires c.requires.member st0 in
+    let at = slice_get_read c.self.inside.seats.items _ c.args.member c.index.result.now refl can.member c.index.ensures in
+    let eight = st.eight in
+    let within : c.index.result.now.ended % 8 < length c.self.inside.places = omega arith in
+    absurd (not_empty _ _ _ h (own_place _ _ _ _ h c.args.member c.index.result.now st at (begins_inside _ c.args.member c.args.iteration h can)) (place_is c.self.inside.places (c.index.result.now.ended % 8) _ _ within c.in_default.is))
+
+pub returns-then-not-is_next-clause-answer : goal.returns-then-not-is_next-clause-answer
+returns-then-not-is_next-clause-answer c = λ h st0.
+    let (can, st) = told _ _ c.args.member h (λ n seen. CanBeginPart n c.args.member c.args.iteration seen) c.self.view_is c.requires c.requires.member st0 in
+    let at = slice_get_read c.self.inside.seats.items _ c.args.member c.index.result.now refl can.member c.index.ensures in
+    let eight = st.eight in
+    let within : c.index.result.now.ended % 8 < length c.self.inside.places = omega arith in
+    let there = place_is c.self.inside.places (c.index.result.now.ended % 8) _ _ within c.in-Some.is in
+    let tells = next_tells _ _ _ _ h c.args.member c.index.result.now c.in-Some.share st at (begins_inside _ c.args.member c.args.iteration h can) there can.member c.pieces_tile.ensures in
+    rw (← c.self.view_is) (sym (tells ∙ sym c.is_next.ensures ∙ c.if-not-is_next.true))
+
+pub returns-clause-answer : goal.returns-clause-answer
+returns-clause-answer c = λ h st0.
+    let (can, st) = told _ _ c.args.member h (λ n seen. CanBeginPart n c.args.member c.args.iteration seen) c.self.view_is c.requires c.requires.member st0 in
+    let at = slice_get_read c.self.inside.seats.items _ c.args.member c.index.result.now refl can.member c.index.ensures in
+    let eight = st.eight in
+    let within : c.index.result.now.ended % 8 < length c.self.inside.places = omega arith in
+    let there = place_is c.self.inside.places (c.index.result.now.ended % 8) _ _ within c.in-Some.is in
+    let tells = next_tells _ _ _ _ h c.args.member c.index.result.now c.in-Some.share st at (begins_inside _ c.args.member c.args.iteration h can) there can.member c.pieces_tile.ensures in
+    rw (← c.self.view_is) (sym (tells ∙ sym c.is_next.ensures ∙ c.if-not-is_next.false))
+
+pub returns-clause-stands : goal.returns-clause-stands
+returns-clause-stands c = λ h st0.
+    let (can, st) = told _ _ c.args.member h (λ n seen. CanBeginPart n c.args.member c.args.iteration seen) c.self.view_is c.requires c.requires.member st0 in
+    let at = slice_get_read c.self.inside.seats.items _ c.args.member c.index.result.now refl can.member c.index.ensures in
+    let eight = st.eight in
+    let within : c.index.result.now.ended % 8 < length c.self.inside.places = omega arith in
+    let there = place_is c.self.inside.places (c.index.result.now.ended % 8) _ _ within c.in-Some.is in
+    let tells = next_tells _ _ _ _ h c.args.member c.index.result.now c.in-Some.share st at (begins_inside _ c.args.member c.args.iteration h can) there can.member c.pieces_tile.ensures in
+    let next = tells ∙ sym c.is_next.ensures ∙ c.if-not-is_next.false in
+    rw (length-set c.self.inside.seats.items c.args.member _) (begins _ _ _ _ h c.args.member c.index.result.now c.args.iteration st at can next)
+
+pub invariant_of-self : goal.invariant_of-self
+invariant_of-self c = let (h, st0) = known_by _ _ c.self.view_is c.self.invariant in (_, returns-clause-stands c h st0)
+
+pub overflow_add-iteration : goal.overflow_add-iteration
+overflow_add-iteration c =
+    let (h, st0) = known_by _ _ c.self.view_is c.self.invariant in
+    let (can, st) = told _ _ c.args.member h (λ n seen. CanBeginPart n c.args.member c.args.iteration seen) c.self.view_is c.requires c.requires.member st0 in
+    let at = slice_get_read c.self.inside.seats.items _ c.args.member c.index.result.now refl can.member c.index.ensures in
+    let eight = st.eight in
+    let within : c.index.result.now.ended % 8 < length c.self.inside.places = omega arith in
+    let there = place_is c.self.inside.places (c.index.result.now.ended % 8) _ _ within c.in-Some.is in
+    let piece = some_of c.index.result.now.piece (and_left (is_some c.index.result.now.piece) _ (sym c.is_next.ensures ∙ c.if-not-is_next.false)) in
+    let few = number_below _ _ _ _ h c.args.member c.index.result.now c.in-Some.share piece.0 st at (begins_inside _ c.args.member c.args.iteration h can) there can.member c.pieces_tile.ensures piece.1 in
+    let s = st.seat c.args.member _ at in
+    let rest = in_rest _ _ c.args.iteration can.rest in
+    let before = rest.before in
+    let same : Some rest.piece ≡ Some piece.0 = sym rest.is ∙ s.piece ∙ piece.1 in
+    let one : rest.piece ≡ piece.0 = let e = same in cc in
+    let below : c.args.iteration < piece.0.1 = rw one at before in
+    let most = few.1 in
+    omega arith
