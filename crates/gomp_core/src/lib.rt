@@ -4,8 +4,9 @@
 //! A team is made with the control variables of its members, from which runtime loops take their
 //! schedule, and any member may stop it.
 //! A team is generic in the body of its work-shares; its parts are reached through the contracts of
-//! `gomp_share_plain`, `gomp_loops`, `gomp_sections` and `gomp_barrier`, and each of them stands for
-//! all of the team's events. The words that executors of `single` constructs put are kept here.
+//! `gomp_share_plain`, `gomp_loops`, `gomp_sections`, `gomp_ordered` and `gomp_barrier`, and each of
+//! them stands for all of the team's events. The words that executors of `single` constructs put are
+//! kept here.
 #![tactic(auto)]
 
 mod answer;

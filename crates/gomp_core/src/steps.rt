@@ -23,9 +23,10 @@ use std::alloc::Global;
 ///
 /// **The headline**, of all that these steps and replies give: for every team size and list of
 /// steps no iteration, section or single is taken twice; a loop or sections construct that all members
-/// end had every iteration or section taken; the words that a member copies are those that the
-/// executor of the single put; all members go through the same constructs in the same order; and no
-/// member passes a barrier before all arrived.
+/// end had every iteration or section taken; ordered parts of a loop run in the order of its
+/// iterations; the words that a member copies are those that the executor of the single put; all
+/// members go through the same constructs in the same order; and no member passes a barrier before
+/// all arrived.
 ///
 /// Refused with `BadTeam` (E38) where the size is not 1 to 64, and with `NoMemory` (E37) where the
 /// memory of the team or of the replies is refused; then the steps are dropped and nothing is kept.

@@ -168,9 +168,10 @@ impl<S: Shares> Team<S> {
     }
 
     /// Whatever was asked: no iteration, section or single is taken twice; a loop or sections construct
-    /// that all members end had every iteration or section taken; the words that a member copies are
-    /// those that the executor of the single put; all members go through the same constructs in the
-    /// same order; and no member passes a barrier before all arrived.
+    /// that all members end had every iteration or section taken; ordered parts of a loop run in the
+    /// order of its iterations; the words that a member copies are those that the executor of the
+    /// single put; all members go through the same constructs in the same order; and no member passes
+    /// a barrier before all arrived.
     pub fn laws(&self)
         ensures known { (before : Record) × Stands S.stands S.members self.now before }
         ensures laws { (before : Record) → Stands S.stands S.members self.now before → Headline (members_of self.now) (events before) }

@@ -224,3 +224,45 @@ fn ordered_parts_of_a_member_alone(rt: HostRuntime) -> Result<(), Fail> {
     ]?;
     gives(&rt, alloc, 1, steps, expected)
 }
+
+#[test]
+fn a_next_waits_for_the_turn(rt: HostRuntime) -> Result<(), Fail> {
+    let alloc = rt.alloc();
+    let steps = vec![in alloc;
+        by(0, ordered(1, 3)),
+        by(1, ordered(1, 3)),
+        by(1, Call::LoopNext),
+        by(1, Call::OrderedStart(1)),
+        by(1, Call::Resume),
+        by(0, Call::LoopNext),
+        by(1, Call::Resume),
+        by(0, Call::OrderedStart(2)),
+    ]?;
+    let expected = vec![in alloc;
+        chunk(0, 1),
+        chunk(1, 1),
+        Reply::Wait,
+        Reply::Refused(Refusal::Waiting),
+        Reply::Wait,
+        chunk(2, 1),
+        Reply::NoChunk,
+        Reply::Finished,
+    ]?;
+    gives(&rt, alloc, 2, steps, expected)
+}
+
+#[test]
+fn a_loop_without_ordered_parts(rt: HostRuntime) -> Result<(), Fail> {
+    let alloc = rt.alloc();
+    let steps = vec![in alloc;
+        by(0, dynamic(1, 0, 4, 1, EndKind::Wait)),
+        by(0, Call::OrderedStart(0)),
+        by(0, Call::OrderedEnd),
+    ]?;
+    let expected = vec![in alloc;
+        chunk(0, 1),
+        Reply::Refused(Refusal::NotOrdered),
+        Reply::Refused(Refusal::NotInside),
+    ]?;
+    gives(&rt, alloc, 1, steps, expected)
+}

@@ -36,8 +36,8 @@ pub fn first_refusal<S: Shares>(
 }
 
 /// Enters the member's next share for this loop, and answers the first chunk for it: of the pieces
-/// that are its to take, the least one that nobody took. `NoChunk` where there is none; the member is in the share all the same, and may
-/// end it.
+/// that are its to take, the least one that nobody took. `NoChunk` where there is none; the member is
+/// in the share all the same, and may end it.
 ///
 /// The loop's schedule is the one that counts: one that is still left to the control variables
 /// counts as dynamic.

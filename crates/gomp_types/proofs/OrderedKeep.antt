@@ -1,19 +1,19 @@
 -- Events that keep the rule of the work-shares keep the order of ordered parts.
 use Rattle.std.proofs.Common.{◌≡◌, ℕ, ◌+◌, ◌<◌, ◌≤◌, Bool, true, false, List, [], ◌∷◌, Option, Some, None, slice_get, refl, ap, ◌∙◌, sym, subst, arith, suc, zero, ◌⊎◌, inl, inr}
-use Rattle.std.specs.Prelude.{if◌then◌else◌, ◌==◌, ◌&&◌}
+use Rattle.std.specs.Prelude.{if◌then◌else◌, ◌==◌, ◌&&◌, is_some}
 use Rattle.std.proofs.lemmas.Bool.{cases_Bool, cases_lt}
 use Rattle.gomp_types.specs.declared.shape.Shape.{Shape}
 use Rattle.gomp_types.specs.declared.event.Event.{Event}
 use Rattle.gomp_types.specs.declared.event.Event.TheVariants.{Enter, Take, Drained, End, HandOn, Part, PartEnd}
 use Rattle.gomp_types.specs.Pieces.{Piece, Tiles, pieces_of}
-use Rattle.gomp_types.specs.Events.{open_share, last_piece, shape_at, has_iteration, times_taken, turn, parted, in_part, part_open}
+use Rattle.gomp_types.specs.Events.{open_share, last_piece, shape_at, has_ended, has_iteration, times_taken, turn, parted, in_part, open_part}
 use Rattle.gomp_types.specs.Ordered.{same_piece, has_turn}
 use Rattle.gomp_types.specs.Deals.{Deal, schedule}
 use Rattle.gomp_types.specs.Rules.{Always, MayPart, MayHandOn, ShareRule}
 use Rattle.gomp_types.specs.Laws.{Happened, PartsRise, PartsInTurn, HandsOnInTurn, PartsApart, OrderedLaws}
-use Rattle.gomp_types.proofs.Booleans.{tells, is_equal, differs, same_number, share_is, and_left, and_right, not_both}
+use Rattle.gomp_types.proofs.Booleans.{tells, is_equal, differs, same_number, share_is, and_left, and_right, not_both, none_of}
 use Rattle.gomp_types.proofs.Tiling.{has_it, piece_some}
-use Rattle.gomp_types.proofs.SharesKeep.{always, shape_stays, inside, inside_stands, taken_once}
+use Rattle.gomp_types.proofs.SharesKeep.{always, shape_stays, inside, inside_stands, not_ended, stands_ended, taken_once}
 
 -- The pieces of a share
 
@@ -321,7 +321,7 @@ either_true true b e = refl
 either_true false b e = e
 
 -- whose part is open
-open_within : (deal : Deal) (members i : ℕ) (h : List Event) → Always (ShareRule deal members) h → part_open i h ≡ true → Within members i h
+open_within : (deal : Deal) (members i : ℕ) (h : List Event) → Always (ShareRule deal members) h → is_some (open_part i h) ≡ true → Within members i h
 open_within deal members i [] all is_open = absurd (cc)
 open_within deal members i (Enter share member other ∷ earlier) all is_open =
     let w = open_within deal members i earlier all.1 is_open in
@@ -381,6 +381,72 @@ open_within deal members i (_ ∷ earlier) all is_open =
     let w = open_within deal members i earlier all.1 is_open in
     record { who = w.who; shape = w.shape; there = w.there; part = w.part; next = w.next }
 
+-- a member in a part of its share has the turn, and the part that is open there is its own
+part_is : (deal : Deal) (members m i : ℕ) (shape : Shape) (h : List Event) → Always (ShareRule deal members) h → open_share m h ≡ Some (i, shape) → in_part m h ≡ true →
+    (has_turn members (i, shape) m h ≡ true) × (open_part i h ≡ Some m)
+part_is deal members m i shape [] all at within = absurd (cc)
+part_is deal members m i shape (Enter share member other ∷ earlier) all at within =
+    elim (cases_Bool (member == m)) [
+      | inl e ↦ absurd (let no = rw e at within in cc)
+      | inr e ↦ let p = part_is deal members m i shape earlier all.1 (rw e at at) (rw e at within) in (rw e p.0, p.1)
+    ]
+part_is deal members m i shape (Take share member low high ∷ earlier) all at within =
+    let p = part_is deal members m i shape earlier all.1 at within in
+    elim (cases_Bool (member == m)) [
+      | inl e ↦ absurd (not_both (in_part m earlier) within (rw (← is_equal member m e) all.0.apart))
+      | inr e ↦ (rw e p.0, p.1)
+    ]
+part_is deal members m i shape (Drained share member ∷ earlier) all at within =
+    let p = part_is deal members m i shape earlier all.1 at within in
+    elim (cases_Bool (member == m)) [
+      | inl e ↦ absurd (not_both (in_part m earlier) within (rw (← is_equal member m e) all.0.apart))
+      | inr e ↦ (rw e p.0, p.1)
+    ]
+part_is deal members m i shape (End share member ∷ earlier) all at within =
+    elim (cases_Bool (member == m)) [
+      | inl e ↦ absurd (let none = rw e at at in cc)
+      | inr e ↦ part_is deal members m i shape earlier all.1 (rw e at at) within
+    ]
+part_is deal members m i shape (HandOn share member piece ∷ earlier) all at within =
+    let p = part_is deal members m i shape earlier all.1 at within in
+    elim (cases_Bool (share == i)) [
+      | inl e ↦
+          let may : MayHandOn members i member piece earlier = rw (is_equal share i e) at all.0 in
+          let same = one_turn deal members member m i may.shape shape earlier all.1 may.inside at (turned members member i may.shape earlier may.next) (turned members m i shape earlier p.0) in
+          absurd (not_both (in_part m earlier) within (rw (← same) may.apart))
+      | inr e ↦ (rw e p.0, p.1)
+    ]
+part_is deal members m i shape (Part share member iteration ∷ earlier) all at within =
+    elim (cases_Bool (member == m)) [
+      | inl e ↦
+          let who = is_equal member m e in
+          let there : open_share m earlier ≡ Some (share, all.0.shape) = rw (← who) all.0.inside in
+          let p = share_is share i all.0.shape shape (sym there ∙ at) in
+          ((rw (p.0, p.1, who) at all.0.next), rw (p.0, same_number i, who) refl)
+      | inr e ↦
+          let p = part_is deal members m i shape earlier all.1 at (rw e at within) in
+          elim (cases_Bool (share == i)) [
+            | inl f ↦
+                let may : MayPart members i member iteration earlier = rw (is_equal share i f) at all.0 in
+                absurd (differs member m e (one_turn deal members member m i may.shape shape earlier all.1 may.inside at (turned members member i may.shape earlier may.next) (turned members m i shape earlier p.0)))
+            | inr f ↦ (p.0, rw f p.1)
+          ]
+    ]
+part_is deal members m i shape (PartEnd share member ∷ earlier) all at within =
+    elim (cases_Bool (member == m)) [
+      | inl e ↦ absurd (let no = rw e at within in cc)
+      | inr e ↦
+          let p = part_is deal members m i shape earlier all.1 at (rw e at within) in
+          elim (cases_Bool (share == i)) [
+            | inl f ↦
+                let q = part_is deal members member i all.0.shape earlier all.1 (rw (is_equal share i f) at all.0.inside) all.0.within in
+                let both : Some member ≡ Some m = sym q.1 ∙ p.1 in
+                absurd (differs member m e (let same : member ≡ m = cc in same))
+            | inr f ↦ (p.0, rw f p.1)
+          ]
+    ]
+part_is deal members m i shape (_ ∷ earlier) all at within = part_is deal members m i shape earlier all.1 at within
+
 -- The laws
 
 rises : (deal : Deal) (members : ℕ) (event : Event) (earlier : List Event) → ShareRule deal members event earlier → Always (ShareRule deal members) earlier → PartsRise event earlier
@@ -398,6 +464,7 @@ parts_in_turn deal members (Part share m iteration) earlier rule all = (
   rule.high,
   inside_stands m share rule.shape earlier rule.inside,
   took deal members m share rule.low rule.high rule.shape earlier all rule.inside rule.piece,
+  (λ stands. not_both (has_ended share m earlier) (stands_ended share m earlier stands) (not_ended deal members m share rule.shape earlier all rule.inside)),
   rule.piece,
   rule.from,
   rule.before,
@@ -408,18 +475,19 @@ parts_in_turn deal members _ earlier rule all = tt
 handed_on : (deal : Deal) (members : ℕ) (event : Event) (earlier : List Event) → ShareRule deal members event earlier → Always (ShareRule deal members) earlier → HandsOnInTurn members event earlier
 handed_on deal members (HandOn share m piece) earlier rule all =
     let own = turned members m share rule.shape earlier rule.next in
-    (rule.shape, own.0, own.1, inside_stands m share rule.shape earlier rule.inside, own.3, rule.number, rw rule.number own.2)
+    (rule.shape, own.0, own.1, inside_stands m share rule.shape earlier rule.inside, (λ stands. not_both (has_ended share m earlier) (stands_ended share m earlier stands) (not_ended deal members m share rule.shape earlier all rule.inside)), own.3, rule.number, rw rule.number own.2)
 handed_on deal members _ earlier rule all = tt
 
 apart : (deal : Deal) (members : ℕ) (event : Event) (earlier : List Event) → ShareRule deal members event earlier → Always (ShareRule deal members) earlier → PartsApart event earlier
 apart deal members (Part share m iteration) earlier rule all =
-    elim (cases_Bool (part_open share earlier)) [
+    elim (cases_Bool (is_some (open_part share earlier))) [
       | inl e ↦
           let w = open_within deal members share earlier all e in
           let same = one_turn deal members m w.who share rule.shape w.shape earlier all rule.inside w.there (turned members m share rule.shape earlier rule.next) (turned members w.who share w.shape earlier w.next) in
           absurd (not_both (in_part w.who earlier) w.part (rw (← same) rule.apart))
-      | inr e ↦ e
+      | inr e ↦ none_of (open_part share earlier) e
     ]
+apart deal members (PartEnd share m) earlier rule all = (part_is deal members m share rule.shape earlier all rule.inside rule.within).1
 apart deal members _ earlier rule all = tt
 
 pub ordered_keep : (members : ℕ) (h : List Event) → Always (ShareRule (schedule members) members) h → OrderedLaws members h

@@ -117,12 +117,12 @@ in_part m (Part share member iteration ∷ earlier) = if member == m then true e
 in_part m (PartEnd share member ∷ earlier) = if member == m then false else in_part m earlier
 in_part m (_ ∷ earlier) = in_part m earlier
 
--- whether an ordered part of the share is open
-abbrev pub part_open : ℕ → List Event → Bool
-part_open share [] = false
-part_open share (Part i member iteration ∷ earlier) = if i == share then true else part_open share earlier
-part_open share (PartEnd i member ∷ earlier) = if i == share then false else part_open share earlier
-part_open share (_ ∷ earlier) = part_open share earlier
+-- the member whose ordered part of the share is open, if one is
+abbrev pub open_part : ℕ → List Event → Option ℕ
+open_part share [] = None
+open_part share (Part i member iteration ∷ earlier) = if i == share then Some member else open_part share earlier
+open_part share (PartEnd i member ∷ earlier) = if i == share then None else open_part share earlier
+open_part share (_ ∷ earlier) = open_part share earlier
 
 -- Payloads (OpenMP API 5.2, section 5.7.2)
 

@@ -1,11 +1,11 @@
 -- The laws of a team's events, each clause in the words of the promise that it keeps.
-use Rattle.std.specs.Prelude.{ℕ, ◌+◌, ◌<◌, ◌≤◌, ◌≡◌, false, slice_get, List, [], ◌∷◌, Some, ◌⊎◌, take}
+use Rattle.std.specs.Prelude.{ℕ, ◌+◌, ◌<◌, ◌≤◌, ◌≡◌, slice_get, List, [], ◌∷◌, Some, None, ◌⊎◌, take}
 use Rattle.gomp_types.specs.declared.shape.Shape.{Shape}
 use Rattle.gomp_types.specs.declared.event.Tag.{Tag}
 use Rattle.gomp_types.specs.declared.event.Event.{Event}
-use Rattle.gomp_types.specs.declared.event.Event.TheVariants.{Enter, Take, End, HandOn, Part, Put, Got, Arrive, Pass}
+use Rattle.gomp_types.specs.declared.event.Event.TheVariants.{Enter, Take, End, HandOn, Part, PartEnd, Put, Got, Arrive, Pass}
 use Rattle.gomp_types.specs.Pieces.{pieces_of}
-use Rattle.gomp_types.specs.Events.{entered, last_piece, turn, part_open, passed, times_taken}
+use Rattle.gomp_types.specs.Events.{entered, last_piece, turn, open_part, passed, times_taken}
 use Rattle.gomp_types.specs.Deals.{Deal, taken_in, takes_in, next_for}
 use Rattle.gomp_types.specs.Rules.{Always}
 
@@ -100,6 +100,7 @@ PartsInTurn members (Part share m iteration) earlier =
     (shape : Shape) × (low high : ℕ)
     × Happened (Enter share m shape) earlier
     × Happened (Take share m low high) earlier
+    × (Happened (End share m) earlier → ⊥)
     × (last_piece m earlier ≡ Some (low, high))
     × (low ≤ iteration)
     × (iteration < high)
@@ -111,14 +112,16 @@ abbrev pub HandsOnInTurn : ℕ → Event → List Event → Type 0
 HandsOnInTurn members (HandOn share m piece) earlier =
     (shape : Shape) × (low high : ℕ)
     × Happened (Enter share m shape) earlier
+    × (Happened (End share m) earlier → ⊥)
     × (last_piece m earlier ≡ Some (low, high))
     × (piece ≡ turn share earlier)
     × (slice_get (pieces_of members shape) piece ≡ Some (low, high))
 HandsOnInTurn members _ earlier = Unit {0}
 
--- no part of a loop begins while one is open
+-- no part of a loop begins while one is open, and the one that is open is ended by its member
 abbrev pub PartsApart : Event → List Event → Type 0
-PartsApart (Part share m iteration) earlier = part_open share earlier ≡ false
+PartsApart (Part share m iteration) earlier = open_part share earlier ≡ None
+PartsApart (PartEnd share m) earlier = open_part share earlier ≡ Some m
 PartsApart _ earlier = Unit {0}
 
 -- Copied once (OpenMP API 5.2, section 5.7.2): words are put by the member that took the piece of their single, and only once.

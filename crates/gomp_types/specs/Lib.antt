@@ -6,7 +6,6 @@ pub mod Pieces
 pub mod Values
 pub mod Sections
 pub mod Singles
-pub mod Starts
 pub mod Shapes
 pub mod Events
 pub mod Ordered

@@ -24,9 +24,9 @@ ghost use Rattle.gomp_types.specs.Headline.{Headline};
 
 /// **The headline**: for every team size and list of member steps, no iteration, section or single
 /// is taken twice, a loop or sections construct that all members end had every iteration or section
-/// taken, ordered parts of a loop run in the order of its iterations, the words that a member copies are those that the executor of the single put, all members
-/// go through the same constructs in the same order, and no member passes a barrier before all
-/// arrived.
+/// taken, ordered parts of a loop run in the order of its iterations, the words that a member copies
+/// are those that the executor of the single put, all members go through the same constructs in the
+/// same order, and no member passes a barrier before all arrived.
 pub fn headline()
     ensures { (terms : Terms) → (run : Record) → Caused terms run → Headline terms.members (events run) }
 {}
@@ -75,8 +75,8 @@ pub fn ordered_laws()
     ensures { (members : ℕ) → (h : List Event) → Always (ShareRule (schedule members) members) h → OrderedLaws members h }
 {}
 
-/// However the payloads are kept, events that keep their rule keep their laws: words are put once, by
-/// the member that took the piece of their single, and the others are given these.
+/// Events that keep the rule of a team keep the laws of payloads: words are put once, by the member
+/// that took the piece of their single, and the others are given these.
 pub fn copy_laws()
     ensures { (members : ℕ) → (h : List Event) → Always (TeamRule members) h → CopyLaws h }
 {}
