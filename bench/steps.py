@@ -69,7 +69,7 @@ def main():
     print("construct         members    lines   seconds  steps/s  ns/step   memory/text")
     for name, calls_of in CONSTRUCTS:
         for members in (1, 8, 64):
-            for lines in (10_000, 100_000, 1_000_000):
+            for lines in (10_000, 100_000, 900_000):
                 row(name, calls_of, members, lines)
 
 
