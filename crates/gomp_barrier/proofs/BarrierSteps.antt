@@ -19,20 +19,21 @@ use Rattle.gomp_barrier.specs.declared.front.Front.{Front}
 use Rattle.gomp_barrier.specs.declared.barriers.AtBarrier.{AtBarrier}
 use Rattle.gomp_barrier.specs.Seats.{differ, is_ahead, tag_for, number_for, IsThere, arrived_at, passed_by, advanced, barrier_of, SeatStands, BarrierStands, SomeBehind}
 use Rattle.gomp_barrier.specs.Calls.{at_barrier, IsAside}
-use Rattle.gomp_barrier.specs.Stands.{BarriersView, Stands}
+use Rattle.gomp_barrier.specs.Stands.{BarriersView, Stands, members_of}
 use Rattle.gomp_barrier.proofs.BarrierKeeps.{tag_is, number_is, arrives, turn_arrived, passes, moves_on, behind_again, met_by, met_all, not_met_ahead}
 
 -- The value of a team's barriers, and their fields
 
-pub within : (view now : BarriersView) (h : List Event) → view ≡ now → Stands now.seats now.front h → Stands view.seats view.front h
+pub within : (view now : BarriersView) (h : List Event) → view ≡ now → Stands now h → Stands view h
 within view now h e st = rw e st
 
-pub known_by : (view now : BarriersView) → view ≡ now → (h : List Event) × Stands view.seats view.front h → (h : List Event) × Stands now.seats now.front h
-known_by view now e (h, st) = (h, rw (← e) st)
+-- barriers with these seats and this front stand for the events
+abbrev pub StandAt : List Seat → Front → List Event → Type 0
+StandAt seats front h = Stands (record { seats = seats; front = front }) h
 
 -- Looking
 
-pub look_is : (seats : List Seat) (front : Front) (m : ℕ) (seat : Seat) (h : List Event) → Stands seats front h → slice_get seats m ≡ Some seat →
+pub look_is : (seats : List Seat) (front : Front) (m : ℕ) (seat : Seat) (h : List Event) → StandAt seats front h → slice_get seats m ≡ Some seat →
     record { number = number_for front seat; tag = tag_for front seat; arrived = seat.arrived; left = seat.left } ≡ at_barrier m h
 look_is seats front m seat h st at =
     let p = st.barrier.seat m seat at in
@@ -62,23 +63,23 @@ aside_rule members (Arrive barrier k tag) h is = absurd is
 aside_rule members (Pass barrier k) h is = absurd is
 aside_rule members _ h is = tt
 
-pub aside_keeps : (seats : List Seat) (front : Front) (h : List Event) (event : Event) → IsAside event → Stands seats front h → Stands seats front (event ∷ h)
-aside_keeps seats front h event is st = record {
+pub aside_keeps : (barriers : BarriersView) (h : List Event) (event : Event) → IsAside event → Stands barriers h → Stands barriers (event ∷ h)
+aside_keeps barriers h event is st = record {
   least = st.least;
   barrier = record {
     number = st.barrier.number;
     tag = aside_tag event h is st.least ∙ st.barrier.tag;
     next = aside_tag event h is (st.least + 1) ∙ st.barrier.next;
     beyond = λ g le. aside_tag event h is g ∙ st.barrier.beyond g le;
-    seat = λ m seat at. aside_place front st.least m seat event h is (st.barrier.seat m seat at);
+    seat = λ m seat at. aside_place barriers.front st.least m seat event h is (st.barrier.seat m seat at);
   };
   behind = st.behind;
-  rule = (aside_rule (length seats) event h is, st.rule);
+  rule = (aside_rule (members_of barriers) event h is, st.rule);
 }
 
 -- Arriving
 
-pub tag_here : (seats : List Seat) (front : Front) (m : ℕ) (seat : Seat) (h : List Event) → Stands seats front h → slice_get seats m ≡ Some seat → tag_at (passed m h) h ≡ tag_for front seat
+pub tag_here : (seats : List Seat) (front : Front) (m : ℕ) (seat : Seat) (h : List Event) → StandAt seats front h → slice_get seats m ≡ Some seat → tag_at (passed m h) h ≡ tag_for front seat
 tag_here seats front m seat h st at =
     ap (λ g. tag_at g h) (st.barrier.seat m seat at).passed_is ∙ tag_is seats front st.least seat h st.barrier
 
@@ -102,8 +103,8 @@ ahead_stays front after m seat new seats at odd turn behind = λ all. behind (λ
     same_ahead : (one other : Seat) → one.odd ≡ other.odd → is_ahead after one ≡ true → is_ahead front other ≡ true
     same_ahead one other e is = subst (λ odd. differ odd front.odd ≡ true) e (subst (λ odd. differ one.odd odd ≡ true) turn is)
 
-pub arrive_keeps : (seats : List Seat) (front : Front) (m : ℕ) (seat : Seat) (tag : Tag) (h : List Event) → Stands seats front h → slice_get seats m ≡ Some seat → tag_differs tag (tag_for front seat) ≡ false →
-    Stands (slice_set seats m (record { odd = seat.odd; arrived = Some tag; left = seat.left })) (arrived_at front seat tag) (Arrive (passed m h) m tag ∷ h)
+pub arrive_keeps : (seats : List Seat) (front : Front) (m : ℕ) (seat : Seat) (tag : Tag) (h : List Event) → StandAt seats front h → slice_get seats m ≡ Some seat → tag_differs tag (tag_for front seat) ≡ false →
+    StandAt (slice_set seats m (record { odd = seat.odd; arrived = Some tag; left = seat.left })) (arrived_at front seat tag) (Arrive (passed m h) m tag ∷ h)
 arrive_keeps seats front m seat tag h st at fine =
     let new : Seat = record { odd = seat.odd; arrived = Some tag; left = seat.left } in
     let p = st.barrier.seat m seat at in
@@ -118,22 +119,22 @@ arrive_keeps seats front m seat tag h st at fine =
     }
 
 -- whether a tag differs from those of the others, by what the seat shows of them
-pub differs_is : (seats : List Seat) (front : Front) (m : ℕ) (seat : Seat) (tag : Tag) (others : Option Tag) (differs : Bool) (h : List Event) → Stands seats front h → slice_get seats m ≡ Some seat → others ≡ tag_for front seat → differs ≡ tag_differs tag others →
+pub differs_is : (seats : List Seat) (front : Front) (m : ℕ) (seat : Seat) (tag : Tag) (others : Option Tag) (differs : Bool) (h : List Event) → StandAt seats front h → slice_get seats m ≡ Some seat → others ≡ tag_for front seat → differs ≡ tag_differs tag others →
     tag_differs tag (tag_at (passed m h) h) ≡ differs
 differs_is seats front m seat tag others differs h st at seen is = ap (tag_differs tag) (tag_here seats front m seat h st at ∙ sym seen) ∙ sym is
 
 -- Passing
 
-pub met_ahead : (seats : List Seat) (front : Front) (m : ℕ) (seat : Seat) (h : List Event) → Stands seats front h → slice_get seats m ≡ Some seat → is_ahead front seat ≡ true → barrier_met (length seats) (passed m h) h ≡ false
+pub met_ahead : (seats : List Seat) (front : Front) (m : ℕ) (seat : Seat) (h : List Event) → StandAt seats front h → slice_get seats m ≡ Some seat → is_ahead front seat ≡ true → barrier_met (length seats) (passed m h) h ≡ false
 met_ahead seats front m seat h st at ahead =
     let next : barrier_of front st.least seat ≡ st.least + 1 = rw ahead refl in
     subst (λ g. barrier_met (length seats) g h ≡ false) (sym ((st.barrier.seat m seat at).passed_is ∙ next)) (not_met_ahead seats front st.least h st.barrier st.behind)
 
-at_least : (seats : List Seat) (front : Front) (m : ℕ) (seat : Seat) (h : List Event) (st : Stands seats front h) → slice_get seats m ≡ Some seat → is_ahead front seat ≡ false → passed m h ≡ st.least
+at_least : (seats : List Seat) (front : Front) (m : ℕ) (seat : Seat) (h : List Event) (st : StandAt seats front h) → slice_get seats m ≡ Some seat → is_ahead front seat ≡ false → passed m h ≡ st.least
 at_least seats front m seat h st at behind =
     let same : barrier_of front st.least seat ≡ st.least = rw behind refl in (st.barrier.seat m seat at).passed_is ∙ same
 
-pub met_not : (seats : List Seat) (front : Front) (m : ℕ) (seat : Seat) (h : List Event) → Stands seats front h → slice_get seats m ≡ Some seat → is_ahead front seat ≡ false → (All (IsThere front) seats → ⊥) →
+pub met_not : (seats : List Seat) (front : Front) (m : ℕ) (seat : Seat) (h : List Event) → StandAt seats front h → slice_get seats m ≡ Some seat → is_ahead front seat ≡ false → (All (IsThere front) seats → ⊥) →
     barrier_met (length seats) (passed m h) h ≡ false
 met_not seats front m seat h st at behind not_all =
     elim (cases_Bool (barrier_met (length seats) (passed m h) h)) [
@@ -141,7 +142,7 @@ met_not seats front m seat h st at behind not_all =
       | inr e ↦ e
     ]
 
-pub met_now : (seats : List Seat) (front : Front) (m : ℕ) (seat : Seat) (h : List Event) → Stands seats front h → slice_get seats m ≡ Some seat → is_ahead front seat ≡ false → All (IsThere front) seats →
+pub met_now : (seats : List Seat) (front : Front) (m : ℕ) (seat : Seat) (h : List Event) → StandAt seats front h → slice_get seats m ≡ Some seat → is_ahead front seat ≡ false → All (IsThere front) seats →
     barrier_met (length seats) (passed m h) h ≡ true
 met_now seats front m seat h st at behind all =
     subst (λ g. barrier_met (length seats) g h ≡ true) (sym (at_least seats front m seat h st at behind)) (met_by seats front st.least h st.barrier all)
@@ -164,7 +165,7 @@ decide_all test (x ∷ xs) =
 
 -- the front after members have passed
 pub settle_keeps : (seats : List Seat) (front settled : Front) (m : ℕ) (seat : Seat) (least : ℕ) (h : List Event) → BarrierStands seats front least h → slice_get seats m ≡ Some seat → Always (ArrivalRule (length seats)) h →
-    (All (λ p. is_ahead front p ≡ true) seats → settled ≡ advanced front) → ((All (λ p. is_ahead front p ≡ true) seats → ⊥) → settled ≡ front) → Stands seats settled h
+    (All (λ p. is_ahead front p ≡ true) seats → settled ≡ advanced front) → ((All (λ p. is_ahead front p ≡ true) seats → ⊥) → settled ≡ front) → StandAt seats settled h
 settle_keeps seats front settled m seat least h st at rule all some =
     elim (decide_all (is_ahead front) seats) [
       | inl every ↦ rw (all every) (record { least = least + 1; barrier = moves_on seats front least h st every; behind = behind_again seats front m seat at every; rule = rule })
@@ -174,10 +175,10 @@ settle_keeps seats front settled m seat least h st at rule all some =
 there_tag : (front : Front) (seat : Seat) → is_ahead front seat ≡ false → IsThere front seat → (tag : Tag) × (seat.arrived ≡ Some tag)
 there_tag front seat behind is = some_of seat.arrived (subst (λ b. (b || is_some seat.arrived) ≡ true) behind is)
 
-pub turn_keeps : (seats : List Seat) (front settled : Front) (m : ℕ) (seat : Seat) (h : List Event) → Stands seats front h → slice_get seats m ≡ Some seat → is_ahead front seat ≡ false → All (IsThere front) seats →
+pub turn_keeps : (seats : List Seat) (front settled : Front) (m : ℕ) (seat : Seat) (h : List Event) → StandAt seats front h → slice_get seats m ≡ Some seat → is_ahead front seat ≡ false → All (IsThere front) seats →
     (All (λ p. is_ahead front p ≡ true) (slice_set seats m (passed_by seat (was_region_end seat.arrived))) → settled ≡ advanced front) →
     ((All (λ p. is_ahead front p ≡ true) (slice_set seats m (passed_by seat (was_region_end seat.arrived))) → ⊥) → settled ≡ front) →
-    Stands (slice_set seats m (passed_by seat (was_region_end seat.arrived))) settled (Pass (passed m h) m ∷ h)
+    StandAt (slice_set seats m (passed_by seat (was_region_end seat.arrived))) settled (Pass (passed m h) m ∷ h)
 turn_keeps seats front settled m seat h st at behind all every some =
     let new : Seat = passed_by seat (was_region_end seat.arrived) in
     let is : IsThere front seat = rw (get_or_from_slice_get seats m seat seat at) at (all m seat (slice_get_within seats m seat at)) in
@@ -196,7 +197,7 @@ turn_keeps seats front settled m seat h st at behind all every some =
 
 -- New barriers stand for no events
 
-pub made : (seats : List Seat) (n : ℕ) → 0 < n → seats ≡ replicate n (record { odd = false; arrived = None; left = false }) → Stands seats (record { odd = false; number = 0; tag = None; next = None }) []
+pub made : (seats : List Seat) (n : ℕ) → 0 < n → seats ≡ replicate n (record { odd = false; arrived = None; left = false }) → StandAt seats (record { odd = false; number = 0; tag = None; next = None }) []
 made seats n some e =
     let new : Seat = record { odd = false; arrived = None; left = false } in
     let front : Front = record { odd = false; number = 0; tag = None; next = None } in

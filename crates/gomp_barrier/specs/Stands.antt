@@ -6,14 +6,18 @@ use Rattle.gomp_barrier.specs.declared.front.Seat.{Seat}
 use Rattle.gomp_barrier.specs.declared.front.Front.{Front}
 use Rattle.gomp_barrier.specs.Seats.{BarrierStands, SomeBehind}
 
--- the fields, as data
+-- the barriers of a team, as data
 pub record BarriersView : Type 0 where
   pub seats : List Seat
   pub front : Front
 
--- each seat and the front say what the events do, and some member has not passed the front
-pub record Stands (seats : List Seat) (front : Front) (h : List Event) : Type 0 where
+-- how many members the team has
+abbrev pub members_of : BarriersView → ℕ
+members_of barriers = length barriers.seats
+
+-- each seat and the front say what the events do, some member has not passed the front, and the events keep their rule
+pub record Stands (barriers : BarriersView) (h : List Event) : Type 0 where
   pub least : ℕ
-  pub barrier : BarrierStands seats front least h
-  pub behind : SomeBehind front seats
-  pub rule : Always (ArrivalRule (length seats)) h
+  pub barrier : BarrierStands barriers.seats barriers.front least h
+  pub behind : SomeBehind barriers.front barriers.seats
+  pub rule : Always (ArrivalRule (members_of barriers)) h

@@ -1,14 +1,12 @@
 //! The barriers of a team that one thread steps.
 
-ghost use Rattle.std.specs.Prelude.{◌≡◌, ◌<◌, ℕ, List, [], ◌∷◌, length, IfOk, not, false};
+ghost use Rattle.std.specs.Prelude.{◌≡◌, ◌<◌, List, [], ◌∷◌, IfOk, not, false};
 ghost use Rattle.gomp_types.specs.declared.event.Event.{Event};
-ghost use Rattle.gomp_barrier.specs.declared.front.Seat.{Seat};
-ghost use Rattle.gomp_barrier.specs.declared.front.Front.{Front};
 ghost use Rattle.gomp_types.specs.Events.{passed, tag_at, barrier_met};
 ghost use Rattle.gomp_types.specs.Refusals.{tag_differs};
 ghost use Rattle.gomp_types.specs.Laws.{ArrivalLaws};
 ghost use Rattle.gomp_barrier.specs.Calls.{at_barrier, arrived_after, turn_after, IsAside};
-ghost use Rattle.gomp_barrier.specs.Stands.{BarriersView, Stands};
+ghost use Rattle.gomp_barrier.specs.Stands.{BarriersView, Stands, members_of};
 
 use crate::front::{
     Front, Seat, all_there, arrived_at, ends_region, is_ahead, number_for, passed_by, settled,
@@ -47,16 +45,16 @@ impl Model for Barriers {
 
     ghost view = { λ b. record { seats = b.seats.items; front = b.front } };
 
-    ghost invariant = { λ b. (h : List Event) × Stands b.seats.items b.front h };
+    ghost invariant = { λ b. (h : List Event) × Stands (record { seats = b.seats.items; front = b.front }) h };
 }
 
 impl Barriers {
     /// The barriers of a new team of `count` members, at least 1 (a team has 1 to 64). It fails
     /// where their memory is refused.
     pub fn make(alloc: Global, count: u16) -> Result<Barriers, AllocError>
-        requires { 0 < count }
-        ensures members { IfOk result (λ barriers. length barriers.seats ≡ count) }
-        ensures stands { IfOk result (λ barriers. Stands barriers.seats barriers.front []) }
+        requires some { 0 < count }
+        ensures members { IfOk result (λ barriers. members_of barriers ≡ count) }
+        ensures stands { IfOk result (λ barriers. Stands barriers []) }
     {
         let seat = Seat {
             odd: false,
@@ -76,9 +74,9 @@ impl Barriers {
 
     /// What the member, numbered from 0, sees of its next barrier.
     pub fn look(&self, member: u16) -> AtBarrier
-        requires { member < length self.now.seats }
-        ensures known { (h : List Event) × Stands self.now.seats self.now.front h }
-        ensures value { (h : List Event) → Stands self.now.seats self.now.front h → result ≡ at_barrier member h }
+        requires member { member < members_of self.now }
+        ensures known { (h : List Event) × Stands self.now h }
+        ensures value { (h : List Event) → Stands self.now h → result ≡ at_barrier member h }
     {
         let seat = self.seats[member as usize];
         AtBarrier {
@@ -93,12 +91,12 @@ impl Barriers {
     /// arrived there with another one: then nothing changes, and the answer is false. It is asked
     /// once for each barrier, and not after the region's end: `look` tells both.
     pub fn arrive(&mut self, member: u16, tag: Tag) -> bool
-        requires { member < length self.old.seats }
-        ensures members { length self.new.seats ≡ length self.old.seats }
-        ensures known { (h : List Event) × Stands self.old.seats self.old.front h }
-        ensures answer { (h : List Event) → Stands self.old.seats self.old.front h → result ≡ not (tag_differs tag (tag_at (passed member h) h)) }
+        requires member { member < members_of self.old }
+        ensures members { members_of self.new ≡ members_of self.old }
+        ensures known { (h : List Event) × Stands self.old h }
+        ensures answer { (h : List Event) → Stands self.old h → result ≡ not (tag_differs tag (tag_at (passed member h) h)) }
         ensures kept { result ≡ false → self.new ≡ self.old }
-        ensures stands { (h : List Event) → Stands self.old.seats self.old.front h → Stands self.new.seats self.new.front (arrived_after result member tag h) }
+        ensures stands { (h : List Event) → Stands self.old h → Stands self.new (arrived_after result member tag h) }
     {
         let seat = self.seats[member as usize];
         if differs(tag, tag_for(&self.front, &seat)) {
@@ -116,12 +114,12 @@ impl Barriers {
     /// The member, numbered from 0, passes its next barrier where every member has arrived there; else nothing
     /// changes, and the answer is false.
     pub fn turn(&mut self, member: u16) -> bool
-        requires { member < length self.old.seats }
-        ensures members { length self.new.seats ≡ length self.old.seats }
-        ensures known { (h : List Event) × Stands self.old.seats self.old.front h }
-        ensures answer { (h : List Event) → Stands self.old.seats self.old.front h → result ≡ barrier_met (length self.old.seats) (passed member h) h }
+        requires member { member < members_of self.old }
+        ensures members { members_of self.new ≡ members_of self.old }
+        ensures known { (h : List Event) × Stands self.old h }
+        ensures answer { (h : List Event) → Stands self.old h → result ≡ barrier_met (members_of self.old) (passed member h) h }
         ensures kept { result ≡ false → self.new ≡ self.old }
-        ensures stands { (h : List Event) → Stands self.old.seats self.old.front h → Stands self.new.seats self.new.front (turn_after result member h) }
+        ensures stands { (h : List Event) → Stands self.old h → Stands self.new (turn_after result member h) }
     {
         let seat = self.seats[member as usize];
         if is_ahead(&self.front, &seat) {
@@ -138,8 +136,8 @@ impl Barriers {
     /// Whatever calls were made: all members arrive alike, at one barrier after another, and none
     /// passes before all arrived.
     pub fn laws(&self)
-        ensures known { (h : List Event) × Stands self.now.seats self.now.front h }
-        ensures laws { (h : List Event) → Stands self.now.seats self.now.front h → ArrivalLaws (length self.now.seats) h }
+        ensures known { (h : List Event) × Stands self.now h }
+        ensures laws { (h : List Event) → Stands self.now h → ArrivalLaws (members_of self.now) h }
     {
         let _ = &self.seats;
         gomp_types::laws::arrival_laws();
@@ -148,12 +146,12 @@ impl Barriers {
 
 /// Events of the work-shares, and a break, change nothing of the barriers.
 pub fn aside()
-    ensures { (seats : List Seat) → (front : Front) → (h : List Event) → (event : Event) → IsAside event → Stands seats front h → Stands seats front (event ∷ h) }
+    ensures stands { (barriers : BarriersView) → (h : List Event) → (event : Event) → IsAside event → Stands barriers h → Stands barriers (event ∷ h) }
 {}
 
 /// Whether some member arrived with another tag.
 fn differs(tag: Tag, others: Option<Tag>) -> bool
-    ensures { result ≡ tag_differs tag others }
+    ensures value { result ≡ tag_differs tag others }
 {
     match others {
         Some(other) => !other.is_same(&tag),

@@ -1,7 +1,8 @@
 //! Pieces asked for one after another.
 
-ghost use Rattle.std.specs.Prelude.{◌≡◌, ◌<◌, ◌≤◌, IfSome, slice_get};
-ghost use Rattle.gomp_chunks.specs.Plans.{next_piece, piece_at, pieces};
+ghost use Rattle.std.specs.Prelude.{◌≡◌, ◌<◌, ◌≤◌, ◌⊎◌, IfSome, Some, option_map, slice_get};
+ghost use Rattle.gomp_types.specs.declared.shape.ShareKind.TheVariants.{Guided};
+ghost use Rattle.gomp_chunks.specs.Plans.{next_piece, pieces};
 
 use crate::Plan;
 use crate::guided::{Spot, forward};
@@ -28,9 +29,9 @@ impl Model for Cursor {
 }
 
 impl Cursor {
-    /// A cursor that stands at the first piece of this plan.
+    /// A cursor of this plan, from which no piece was asked for yet.
     pub fn new(plan: Plan) -> Cursor
-        ensures { result.plan ≡ plan }
+        ensures plan { result.plan ≡ plan }
     {
         Cursor {
             plan,
@@ -45,6 +46,7 @@ impl Cursor {
         ensures plan { self.new.plan ≡ self.old.plan }
         ensures piece { result ≡ slice_get (pieces self.old.plan) j }
         ensures within { IfSome result (λ piece. (piece.0 < piece.1) × (piece.1 ≤ self.old.plan.shape.trips)) }
+        ensures spot { self.new.plan.shape.kind ≡ Guided → (self.new.spot.number ≡ j) ⊎ (self.new.spot.first ≡ self.new.plan.shape.trips) }
     {
         let start = if j < self.spot.number {
             Spot::START
@@ -55,23 +57,17 @@ impl Cursor {
         self.plan.piece_from(self.spot, j)
     }
 
-    /// What [`Plan::next_number`] gives.
-    pub fn next_number(&self, member: u16, own: u64, all: u64) -> Option<u64>
-        requires { member < self.now.plan.members }
-        ensures { next_piece self.now.plan member own all ≡ piece_at self.now.plan result }
-    {
-        self.plan.next_number(member, own, all)
-    }
-
-    /// The piece that a member takes next, where it took `own` pieces and all members together took
-    /// `all`: of a static loop its own next one, of others the next one of all.
-    pub fn next_piece(&mut self, member: u16, own: u64, all: u64) -> Option<(u64, u64)>
-        requires { member < self.old.plan.members }
+    /// The piece that a member takes next, with its number, where it took `own` pieces and all members
+    /// together took `all`: of a static loop its own next one, of others the next one of all.
+    pub fn next_piece(&mut self, member: u16, own: u64, all: u64) -> Option<(u64, (u64, u64))>
+        requires member { member < self.old.plan.members }
         ensures plan { self.new.plan ≡ self.old.plan }
-        ensures piece { result ≡ next_piece self.old.plan member own all }
-        ensures within { IfSome result (λ piece. (piece.0 < piece.1) × (piece.1 ≤ self.old.plan.shape.trips)) }
+        ensures piece { option_map (λ taken. taken.1) result ≡ next_piece self.old.plan member own all }
+        ensures number { IfSome result (λ taken. slice_get (pieces self.old.plan) taken.0 ≡ Some taken.1) }
+        ensures within { IfSome result (λ taken. (taken.1.0 < taken.1.1) × (taken.1.1 ≤ self.old.plan.shape.trips)) }
     {
-        let number = self.next_number(member, own, all)?;
-        self.advance_to(number)
+        let number = self.plan.next_number(member, own, all)?;
+        let piece = self.advance_to(number)?;
+        Some((number, piece))
     }
 }

@@ -31,7 +31,7 @@ use Rattle.gomp_core.specs.declared.waiting.Arriving.TheVariants.{LoopEnd as AtL
 use Rattle.gomp_core.specs.declared.waiting.Waiting.{Waiting}
 use Rattle.gomp_core.specs.declared.waiting.Waiting.TheVariants.{Start, Turn, Arrive}
 use Rattle.gomp_core.specs.Waits.{starting, turning, arriving, arrival_of, open_call, kept_for}
-use Rattle.gomp_core.specs.Answers.{team_tests, comparison_tests, IsReady, IsAnswer, MayLeave, is_at_once}
+use Rattle.gomp_core.specs.Answers.{place_tests, comparison_tests, IsReady, IsAnswer, MayLeave, is_at_once}
 use Rattle.gomp_core.proofs.Rows.{front_fails}
 
 -- Tests in a row
@@ -199,10 +199,10 @@ compared m SingleCopy h = refl
 -- the row of a start: what the member can test alone, and then the comparison
 start_row : (limits : Limits) (m : ℕ) (what : Starting) (h : List Event) → IsReady limits false m (starting what) h →
     first_refusal (call_tests limits m (starting what) h) ≡ first_refusal (comparison_tests false m (starting what) h)
-start_row limits m (Loop loop) h ready = front_fails (team_tests limits m h (LoopStart loop)) (start_tests m (shape_of loop) h) ready
-start_row limits m (Sections count end_kind) h ready = front_fails (team_tests limits m h (SectionsStart count end_kind)) (start_tests m (sections_shape count end_kind) h) ready
-start_row limits m Single h ready = front_fails (team_tests limits m h SingleStart) (start_tests m (single_shape false) h) ready
-start_row limits m SingleCopy h ready = front_fails (team_tests limits m h SingleCopyStart) (start_tests m (single_shape true) h) ready
+start_row limits m (Loop loop) h ready = front_fails (place_tests limits m h (LoopStart loop)) (start_tests m (shape_of loop) h) ready
+start_row limits m (Sections count end_kind) h ready = front_fails (place_tests limits m h (SectionsStart count end_kind)) (start_tests m (sections_shape count end_kind) h) ready
+start_row limits m Single h ready = front_fails (place_tests limits m h SingleStart) (start_tests m (single_shape false) h) ready
+start_row limits m SingleCopy h ready = front_fails (place_tests limits m h SingleCopyStart) (start_tests m (single_shape true) h) ready
 
 pub start_answers : (limits : Limits) (members m : ℕ) (what : Starting) (reply : Reply) (h : List Event) → (reply ≡ Refused Mismatch → ⊥) → IsReady limits false m (starting what) h →
     IsReply limits members m (starting what) reply h → IsAnswer members false m (starting what) (Ok reply) h

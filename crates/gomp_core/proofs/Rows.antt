@@ -1,5 +1,5 @@
 -- The tests of a step: those that the member can make alone, and then the comparison with the other members.
-use Rattle.std.proofs.Common.{◌≡◌, ℕ, ◌<◌, Bool, true, false, List, [], ◌∷◌, ◌++◌, Option, Some, None, refl, ap, ◌∙◌, subst, arith}
+use Rattle.std.proofs.Common.{◌≡◌, ℕ, ◌<◌, Bool, true, false, List, [], ◌∷◌, ◌++◌, Option, Some, None, refl, ap, ◌∙◌, subst, arith, sym}
 use Rattle.std.specs.Prelude.{nat_le, ◌≢◌, is_some, is_none}
 use Rattle.std.proofs.lemmas.Bool.Decides.{nat_tests}
 use Rattle.gomp_types.specs.declared.call.Call.{Call}
@@ -25,7 +25,7 @@ use Rattle.gomp_ordered.specs.OwnTests.{own_tests as ordered_tests}
 use Rattle.gomp_core.specs.declared.waiting.Waiting.{Waiting as Kept}
 use Rattle.gomp_core.specs.declared.waiting.Waiting.TheVariants.{Start, Turn, Arrive}
 use Rattle.gomp_core.specs.Waits.{open_call}
-use Rattle.gomp_core.specs.Answers.{team_tests, own_row, comparison_tests, IsReady}
+use Rattle.gomp_core.specs.Answers.{place_tests, own_row, comparison_tests, IsReady}
 use Rattle.gomp_core.specs.Stands.{MayBeRepeated}
 
 pub front_holds : (tests more : List Test) (refusal : Refusal) → first_refusal tests ≡ Some refusal → first_refusal (tests ++ more) ≡ Some refusal
@@ -47,6 +47,25 @@ none_later : (tests more : List Test) → first_refusal (tests ++ more) ≡ None
 none_later [] more e = e
 none_later ((true, found) ∷ tests) more e = absurd (cc)
 none_later ((false, found) ∷ tests) more e = none_later tests more e
+
+-- The tests of a call, in its parts: those of loops, of sections and singles, of ordered parts
+
+-- where the first two refuse nothing, the third tells
+pub asked_there : (limits : Limits) (m : ℕ) (h : List Event) (call : Call) (first second found : Option Refusal) → first ≡ first_refusal (loop_tests limits (seen_of m h) call) → first ≡ None →
+    second ≡ first_refusal (sections_tests limits (seen_of m h) call) → second ≡ None → found ≡ first_refusal (ordered_tests (seen_of m h) call) → found ≡ first_refusal (place_tests limits m h call)
+asked_there limits m h call first second found is none asked neither later =
+    let rest = sections_tests limits (seen_of m h) call in
+    later
+    ∙ sym (front_fails rest (ordered_tests (seen_of m h) call) (sym asked ∙ neither))
+    ∙ sym (front_fails (loop_tests limits (seen_of m h) call) (rest ++ ordered_tests (seen_of m h) call) (sym is ∙ none))
+
+-- or the second refuses the call
+pub asked_second : (limits : Limits) (m : ℕ) (h : List Event) (call : Call) (first : Option Refusal) (refusal : Refusal) → first ≡ first_refusal (loop_tests limits (seen_of m h) call) → first ≡ None →
+    Some refusal ≡ first_refusal (sections_tests limits (seen_of m h) call) → Some refusal ≡ first_refusal (place_tests limits m h call)
+asked_second limits m h call first refusal is none later =
+    let rest = sections_tests limits (seen_of m h) call in
+    sym (front_holds rest (ordered_tests (seen_of m h) call) refusal (sym later))
+    ∙ sym (front_fails (loop_tests limits (seen_of m h) call) (rest ++ ordered_tests (seen_of m h) call) (sym is ∙ none))
 
 -- The row of a call, in its two parts
 
@@ -208,7 +227,7 @@ call_waits limits m Barrier waiting h other goes e = rw e refl
 call_waits limits m RegionEnd waiting h other goes e = rw e refl
 
 pub call_goes_on : (limits : Limits) (m : ℕ) (call : Call) (waiting : Option Call) (h : List Event) → (call ≡ Resume → ⊥) → (call ≡ Stop → ⊥) → is_some waiting ≡ false →
-    first_refusal (team_tests limits m h call) ≡ first_refusal (own_row limits m call waiting h)
+    first_refusal (place_tests limits m h call) ≡ first_refusal (own_row limits m call waiting h)
 call_goes_on limits m Resume waiting h other goes e = absurd (other refl)
 call_goes_on limits m Stop waiting h other goes e = absurd (goes refl)
 call_goes_on limits m (LoopStart loop) waiting h other goes e = rw e refl
@@ -267,25 +286,25 @@ quiet_loop limits seen Barrier = (tt, tt)
 quiet_loop limits seen RegionEnd = (tt, tt)
 quiet_loop limits seen _ = tt
 
-quiet_sections : (limits : Limits) (seen : Seen) (unput : Bool) (call : Call) → AllQuiet (sections_tests limits seen unput call)
-quiet_sections limits seen unput (SectionsStart count end_kind) = (tt, (tt, (tt, tt)))
-quiet_sections limits seen unput SectionsNext = (tt, (tt, tt))
-quiet_sections limits seen unput SectionsEnd = (tt, (tt, (tt, tt)))
-quiet_sections limits seen unput SectionsEndNowait = (tt, (tt, (tt, tt)))
-quiet_sections limits seen unput SingleStart = (tt, (tt, tt))
-quiet_sections limits seen unput SingleCopyStart = (tt, (tt, tt))
-quiet_sections limits seen unput (SingleCopyEnd words) = (tt, tt)
-quiet_sections limits seen unput _ = tt
+quiet_sections : (limits : Limits) (seen : Seen) (call : Call) → AllQuiet (sections_tests limits seen call)
+quiet_sections limits seen (SectionsStart count end_kind) = (tt, (tt, (tt, tt)))
+quiet_sections limits seen SectionsNext = (tt, (tt, tt))
+quiet_sections limits seen SectionsEnd = (tt, (tt, (tt, tt)))
+quiet_sections limits seen SectionsEndNowait = (tt, (tt, (tt, tt)))
+quiet_sections limits seen SingleStart = (tt, (tt, tt))
+quiet_sections limits seen SingleCopyStart = (tt, (tt, tt))
+quiet_sections limits seen (SingleCopyEnd words) = (tt, tt)
+quiet_sections limits seen _ = tt
 
 quiet_ordered : (seen : Seen) (call : Call) → AllQuiet (ordered_tests seen call)
 quiet_ordered seen (OrderedStart value) = (tt, (tt, (tt, (tt, tt))))
 quiet_ordered seen OrderedEnd = (tt, tt)
 quiet_ordered seen _ = tt
 
-quiet_own : (limits : Limits) (m : ℕ) (h : List Event) (call : Call) → AllQuiet (team_tests limits m h call)
+quiet_own : (limits : Limits) (m : ℕ) (h : List Event) (call : Call) → AllQuiet (place_tests limits m h call)
 quiet_own limits m h call =
     all_quiet (loop_tests limits (seen_of m h) call) _ (quiet_loop limits (seen_of m h) call)
-    (all_quiet (sections_tests limits (seen_of m h) (is_none (payload_at (open_number m h) h)) call) (ordered_tests (seen_of m h) call) (quiet_sections limits (seen_of m h) _ call) (quiet_ordered (seen_of m h) call))
+    (all_quiet (sections_tests limits (seen_of m h) call) (ordered_tests (seen_of m h) call) (quiet_sections limits (seen_of m h) call) (quiet_ordered (seen_of m h) call))
 
 quiet_row : (limits : Limits) (m : ℕ) (call : Call) (waiting : Option Call) (h : List Event) → AllQuiet (own_row limits m call waiting h)
 quiet_row limits m Resume waiting h = (tt, tt)

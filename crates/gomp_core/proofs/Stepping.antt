@@ -22,16 +22,16 @@ use Rattle.gomp_types.specs.Events.{entered, open_share, has_drained, last_piece
 use Rattle.gomp_types.specs.Record.{Record, record_after, Waits, waits_of, waits_after, events, added, meant, is_resume, since_begun}
 use Rattle.gomp_types.specs.Replies.{MayReply, DealsNext, DealsSections, BeginsPart}
 use Rattle.gomp_types.specs.Causes.{Terms, refusal_of, MayAnswer, Caused}
-use Rattle.gomp_barrier.specs.Stands.{BarriersView, Stands as BarriersStand}
+use Rattle.gomp_barrier.specs.Stands.{BarriersView, Stands as BarriersStand, members_of as barrier_members}
 use Rattle.gomp_core.specs.declared.waiting.Waiting.{Waiting}
 use Rattle.gomp_core.specs.declared.waiting.Waiting.TheVariants.{Start, Turn, Arrive}
 use Rattle.gomp_core.specs.declared.payloads.Put.{Put}
 use Rattle.gomp_core.specs.Payloads.{PayloadsStand}
 use Rattle.gomp_core.specs.Waits.{open_call, waiting_after, kept_for}
-use Rattle.gomp_core.specs.Answers.{IsReady, IsAnswer, reply_to, broken_after, PartsStand}
+use Rattle.gomp_core.specs.Answers.{IsReady, IsAnswer, reply_to, broken_after, PartsStand, ArePartsKept}
 use Rattle.gomp_icv.specs.Variables.{Variables}
-use Rattle.gomp_core.specs.Resolved.{resolved_step, resolved_steps}
-use Rattle.gomp_core.specs.Stands.{TeamView, MayBeRepeated, WaitStands, Stands, terms_of, members_of, standard, standard_terms, NoneForMemory}
+use Rattle.gomp_core.specs.Resolved.{resolved_step, resolved_steps, record_of}
+use Rattle.gomp_core.specs.Stands.{TeamView, IsTeamSize, MayBeRepeated, WaitStands, Stands, terms_of, members_of, standard, standard_terms, NoneForMemory}
 use Rattle.gomp_types.proofs.Lists.{slice_get-set}
 use Rattle.gomp_core.proofs.Kept.{IsOwn, IsBreak, added_kept}
 use Rattle.gomp_core.proofs.Rows.{alone, refused_alone, compared_last, whole, ready, quiet_alone, quiet_memory, quiet_adds}
@@ -92,13 +92,14 @@ stands_refused stands members team before step found refusal st may first some =
     record {
       caused = (may, st.caused);
       shares_are = subst (stands team.shares) (sym same) st.shares_are;
-      barriers_are = subst (BarriersStand team.barriers.seats team.barriers.front) (sym same) st.barriers_are;
+      barriers_are = subst (BarriersStand team.barriers) (sym same) st.barriers_are;
       payloads_are = subst (PayloadsStand (members_of team) team.payloads) (sym same) st.payloads_are;
       broken_is = st.broken_is ∙ ap clash_of (sym same);
       wait = λ k waiting at. let old = st.wait k waiting at in record {
         call_is = ap (λ (w : Waits). w.open_call) (waits_refused k step refusal before) ∙ old.call_is;
         tested = subst (MayBeRepeated team.limits k (open_call waiting)) (sym same) old.tested;
       };
+      size = st.size;
       limits_are = st.limits_are;
       shares_size = st.shares_size;
       barriers_size = st.barriers_size;
@@ -377,7 +378,7 @@ step_answered stands members team before step waiting result admitted law =
 pub stands_answered : {S : Type 0} (stands : S → List Event → Type 0) (members : S → ℕ) (team : TeamView S) (shares : S) (barriers : BarriersView) (payloads : List (Option Put)) (before : Record) (step : Step) (waiting : Option Waiting) (result : Result Reply Place) →
     Admitted stands members team before step waiting result → RefusedFirst (terms_of team) before step →
     PartsStand stands (members_of team) shares barriers payloads (added (is_resume step.call) step.member (entered step.member (events before)) (reply_to result) (meant step.call (open_call waiting)) (events before)) →
-    members shares ≡ members team.shares → length barriers.seats ≡ length team.barriers.seats →
+    members shares ≡ members team.shares → barrier_members barriers ≡ barrier_members team.barriers →
     Stands stands members (record { icv = team.icv; limits = team.limits; broken = broken_after team.broken step.member result; waiting = slice_set team.waiting step.member (waiting_after (reply_to result) step.call waiting); barriers = barriers; payloads = payloads; shares = shares }) ((step, reply_to result) ∷ before)
 stands_answered stands members team shares barriers payloads before step waiting result admitted law parts shares_same barriers_same =
     let st = admitted.stand in
@@ -389,7 +390,7 @@ stands_answered stands members team shares barriers payloads before step waiting
       caused = subst (λ (n : ℕ). Caused (record { members = n; limits = team.limits; cancellation = team.icv.cancellation }) ((step, reply_to result) ∷ before)) (sym size)
           (step_answered stands members team before step waiting result admitted law, st.caused);
       shares_are = subst (stands shares) (sym adds) parts.0.0;
-      barriers_are = subst (BarriersStand barriers.seats barriers.front) (sym adds) parts.0.1;
+      barriers_are = subst (BarriersStand barriers) (sym adds) parts.0.1;
       payloads_are = subst (λ (n : ℕ). PayloadsStand n payloads (events ((step, reply_to result) ∷ before))) (sym size) (subst (PayloadsStand (members_of team) payloads) (sym adds) parts.1);
       broken_is = clash_after (members_of team) (is_resume step.call) step.member (meant step.call (open_call waiting)) result team.broken (events before) admitted.answer st.broken_is (whole (terms_of team) step (waits_of step.member before).open_call (events before) admitted.none) ∙ ap clash_of (sym adds);
       wait = λ k other there. elim (slice_get-set team.waiting step.member k (waiting_after (reply_to result) step.call waiting) other there) [
@@ -400,6 +401,7 @@ stands_answered stands members team shares barriers payloads before step waiting
               (tested_kept team.limits k (open_call other) (events before) _ (same_place (is_resume step.call) k step.member (entered step.member (events before)) (reply_to result) (meant step.call (open_call waiting)) (events before) e.0) old.tested);
         }
       ];
+      size = subst IsTeamSize (sym size) st.size;
       limits_are = st.limits_are;
       shares_size = shares_same ∙ st.shares_size ∙ sym size;
       barriers_size = barriers_same ∙ st.barriers_size ∙ sym size;
@@ -415,7 +417,7 @@ record_grows (s ∷ steps) [] step reply before e = absurd (omega arith)
 record_grows (s ∷ steps) (r ∷ replies) step reply before e = record_grows steps replies step reply ((s, r) ∷ before) (omega arith)
 
 pub resolved_grows : (icv : Variables) (steps : List Step) (replies : List Reply) (step : Step) (reply : Reply) → length replies ≡ length steps →
-    record_after (resolved_steps icv (steps ++ step ∷ [])) (replies ++ reply ∷ []) [] ≡ (resolved_step icv step, reply) ∷ record_after (resolved_steps icv steps) replies []
+    record_of icv (steps ++ step ∷ []) (replies ++ reply ∷ []) ≡ (resolved_step icv step, reply) ∷ record_of icv steps replies
 resolved_grows icv steps replies step reply each =
     ap (λ (all : List Step). record_after all (replies ++ reply ∷ []) []) (map-append (resolved_step icv) steps (step ∷ []))
     ∙ record_grows (resolved_steps icv steps) replies (resolved_step icv step) reply [] (each ∙ sym (length-map steps (resolved_step icv)))
@@ -462,3 +464,35 @@ pub answer_breaks : (members : ℕ) (again : Bool) (m : ℕ) (call : Call) (resu
 answer_breaks members again m call (Ok (Refused other)) refusal h is same = absurd (no_refusal members again m call other h is.1)
 answer_breaks members again m call (Ok reply) refusal h is same = absurd (cc)
 answer_breaks members again m call (Err place) refusal h is same = cc
+
+-- What stays as it was
+
+-- an item that is put where it lies changes nothing
+set_there : {A : Type 0} (items : List A) (i : ℕ) (item : A) → slice_get items i ≡ Some item → slice_set items i item ≡ items
+set_there [] i item at = absurd (cc)
+set_there (first ∷ items) zero item at = let same : first ≡ item = cc in ap (λ x. x ∷ items) (sym same)
+set_there (first ∷ items) (suc i) item at = ap (λ xs. first ∷ xs) (set_there items i item at)
+
+-- the team with what an answer to this step leaves
+abbrev pub team_after : {S : Type 0} → TeamView S → S → BarriersView → List (Option Put) → Step → Option Waiting → Result Reply Place → TeamView S
+team_after team shares barriers payloads step waiting result = record { icv = team.icv; limits = team.limits; broken = broken_after team.broken step.member result; waiting = slice_set team.waiting step.member (waiting_after (reply_to result) step.call waiting); barriers = barriers; payloads = payloads; shares = shares }
+
+-- where the construct differs, the team breaks, and no more
+pub only_broken : {S : Type 0} (team : TeamView S) (shares : S) (barriers : BarriersView) (payloads : List (Option Put)) (step : Step) (waiting : Option Waiting) (result : Result Reply Place) (members : ℕ) (again : Bool) (call : Call) (h : List Event) →
+    slice_get team.waiting step.member ≡ Some waiting → IsAnswer members again step.member call result h → ((place : Place) → result ≡ Err place → ArePartsKept team.shares team.barriers team.payloads shares barriers payloads) → reply_to result ≡ Refused Mismatch →
+    team_after team shares barriers payloads step waiting result ≡ record team { broken = broken_after team.broken step.member result }
+only_broken team shares barriers payloads step waiting (Ok reply) members again call h at is kept same =
+    let refused : MayReply members again step.member call (Refused Mismatch) h = rw same at is.1 in
+    absurd (no_refusal members again step.member call Mismatch h refused)
+only_broken team shares barriers payloads step waiting (Err place) members again call h at is kept same =
+    let parts = kept place refl in
+    rw (parts.0, parts.1, parts.2, set_there team.waiting step.member waiting at) refl
+
+-- where a call that waits is asked about again and waits on, nothing changes
+pub waits_on : {S : Type 0} (team : TeamView S) (shares : S) (barriers : BarriersView) (payloads : List (Option Put)) (step : Step) (waiting : Option Waiting) (result : Result Reply Place) →
+    slice_get team.waiting step.member ≡ Some waiting → (result ≡ Ok Wait → ArePartsKept team.shares team.barriers team.payloads shares barriers payloads) → reply_to result ≡ Wait → step.call ≡ Resume →
+    team_after team shares barriers payloads step waiting result ≡ team
+waits_on team shares barriers payloads step waiting (Ok reply) at kept same resume =
+    let parts = kept (ap Ok same) in
+    rw (same, resume, parts.0, parts.1, parts.2, set_there team.waiting step.member waiting at) refl
+waits_on team shares barriers payloads step waiting (Err place) at kept same resume = absurd (cc)

@@ -20,7 +20,7 @@ use Rattle.gomp_share_plain.specs.Calls.{seen_of}
 use Rattle.gomp_loops.specs.OwnTests.{own_tests as loop_tests}
 use Rattle.gomp_ordered.specs.OwnTests.{own_tests as ordered_tests}
 use Rattle.gomp_sections.specs.OwnTests.{own_tests as sections_tests, own_copy_end_tests}
-use Rattle.gomp_core.specs.Answers.{team_tests, IsReady}
+use Rattle.gomp_core.specs.Answers.{IsReady}
 use Rattle.gomp_core.proofs.Rows.{front_holds, front_fails}
 use Rattle.gomp_types.proofs.Booleans.{tells, is_equal, differs, same_number, or_right, not_both, some_of, every_tells, every_by}
 use Rattle.gomp_types.proofs.Lists.{slice_get-set_same, slice_get-set_other}
@@ -99,69 +99,11 @@ rest_stands members places again m shares reply call h none st =
       break = λ is h place st. aside_stands members places (Break m place) h tt st;
     }) st
 
--- A look at a share
-
-is_some_copied : {A : Type 0} (x : Option (Bor A)) → is_some (option_copied x) ≡ is_some x
-is_some_copied None = refl
-is_some_copied (Some x) = refl
-
-none_told : {A : Type 0} (test : Bool) (x : Option A) → is_some x ≡ not test → test ≡ is_none x
-none_told true None e = refl
-none_told false None e = absurd (cc)
-none_told true (Some x) e = absurd (cc)
-none_told false (Some x) e = refl
-
--- whether words lie there tells whether some were put, in a share that is not over
-pub look_tells : (members : ℕ) (places : List (Option Kept)) (i : ℕ) (h : List Event) (found : Option (Bor (List ℕ))) (test : Bool) → PayloadsStand members places h → is_over members i h ≡ false →
-    option_copied found ≡ there i (slice_get places (i % 8)) → is_some found ≡ not test → test ≡ is_none (payload_at i h)
-look_tells members places i h found test st open_ is told =
-    none_told test (payload_at i h) (ap is_some (sym (st.words i open_)) ∙ ap is_some (sym is) ∙ is_some_copied found ∙ told)
-
-pub in_no_share : (own : Option (ℕ × Shape)) (i : ℕ) (shape : Shape) → own ≡ None → own ≡ Some (i, shape) → ⊥
-in_no_share own i shape none at = cc
+-- The share that the member is in
 
 -- a member that is in no share executes no single
 pub needs_share : (limits : Limits) (m : ℕ) (words : List ℕ) (h : List Event) → open_share m h ≡ None → IsReady limits false m (SingleCopyEnd words) h → ⊥
 needs_share limits m words h outside ready = let none = rw outside at ready in cc
-
--- the tests of a call do not see what was put elsewhere
-copy_asked : (m : ℕ) (h : List Event) (unput : Bool) (own : Option (ℕ × Shape)) → open_share m h ≡ own → ((i : ℕ) (shape : Shape) → own ≡ Some (i, shape) → unput ≡ is_none (payload_at i h)) →
-    first_refusal (own_copy_end_tests (seen_of m h) unput) ≡ first_refusal (own_copy_end_tests (seen_of m h) (is_none (payload_at (open_number m h) h)))
-copy_asked m h unput None at told = rw at refl
-copy_asked m h unput (Some share) at told =
-    ap (λ (b : Bool). first_refusal (own_copy_end_tests (seen_of m h) b)) (told share.0 share.1 refl ∙ ap (λ (own : Option (ℕ × Shape)). is_none (payload_at (share_number own) h)) (sym at))
-
--- whether words were put in the member's share, where it is in one
-abbrev pub IsUnput : ℕ → Bool → List Event → Type 0
-IsUnput m unput h = (i : ℕ) (shape : Shape) → open_share m h ≡ Some (i, shape) → unput ≡ is_none (payload_at i h)
-
-pub copy_end_asked : (m : ℕ) (h : List Event) (unput : Bool) → IsUnput m unput h →
-    first_refusal (own_copy_end_tests (seen_of m h) unput) ≡ first_refusal (own_copy_end_tests (seen_of m h) (is_none (payload_at (open_number m h) h)))
-copy_end_asked m h unput told = copy_asked m h unput (open_share m h) refl told
-
-unput_asked : (limits : Limits) (m : ℕ) (h : List Event) (unput : Bool) (call : Call) → IsUnput m unput h →
-    first_refusal (sections_tests limits (seen_of m h) unput call) ≡ first_refusal (sections_tests limits (seen_of m h) (is_none (payload_at (open_number m h) h)) call)
-unput_asked limits m h unput (SingleCopyEnd words) told = copy_end_asked m h unput told
-unput_asked limits m h unput _ told = refl
-
--- the tests of a call are those of its own crate
-pub asked_there : (limits : Limits) (m : ℕ) (h : List Event) (unput : Bool) (call : Call) (first second found : Option Refusal) → IsUnput m unput h → first ≡ first_refusal (loop_tests limits (seen_of m h) call) → first ≡ None →
-    second ≡ first_refusal (sections_tests limits (seen_of m h) unput call) → second ≡ None → found ≡ first_refusal (ordered_tests (seen_of m h) call) → found ≡ first_refusal (team_tests limits m h call)
-asked_there limits m h unput call first second found told is none asked neither later =
-    let rest = sections_tests limits (seen_of m h) (is_none (payload_at (open_number m h) h)) call in
-    later
-    ∙ sym (front_fails rest (ordered_tests (seen_of m h) call) (sym (asked ∙ unput_asked limits m h unput call told) ∙ neither))
-    ∙ sym (front_fails (loop_tests limits (seen_of m h) call) (rest ++ ordered_tests (seen_of m h) call) (sym is ∙ none))
-
--- or those of sections and singles refuse it
-pub asked_second : (limits : Limits) (m : ℕ) (h : List Event) (unput : Bool) (call : Call) (first : Option Refusal) (refusal : Refusal) → IsUnput m unput h → first ≡ first_refusal (loop_tests limits (seen_of m h) call) → first ≡ None →
-    Some refusal ≡ first_refusal (sections_tests limits (seen_of m h) unput call) → Some refusal ≡ first_refusal (team_tests limits m h call)
-asked_second limits m h unput call first refusal told is none later =
-    let rest = sections_tests limits (seen_of m h) (is_none (payload_at (open_number m h) h)) call in
-    sym (front_holds rest (ordered_tests (seen_of m h) call) refusal (sym (later ∙ unput_asked limits m h unput call told)))
-    ∙ sym (front_fails (loop_tests limits (seen_of m h) call) (rest ++ ordered_tests (seen_of m h) call) (sym is ∙ none))
-
--- Words in the share that the member is in
 
 -- two numbers with one place are a multiple of eight apart
 apart : (i j : ℕ) → j < i → i % 8 ≡ j % 8 → (k : ℕ) × (i ≡ 8 * suc k + j)

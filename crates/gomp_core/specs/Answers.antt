@@ -34,17 +34,16 @@ use Rattle.gomp_core.specs.Payloads.{PayloadsStand}
 
 -- The tests of a step, in two parts: its row is the first part and then the second
 
--- of each call, those that the member's place among the shares decides, and the words that were put there
-abbrev pub team_tests : Limits → ℕ → List Event → Call → List Test
-team_tests limits m h call =
-    loop_tests limits (seen_of m h) call
-    ++ (sections_tests limits (seen_of m h) (is_none (payload_at (open_number m h) h)) call ++ ordered_tests (seen_of m h) call)
+-- of each call, those that the member's place among the shares decides
+abbrev pub place_tests : Limits → ℕ → List Event → Call → List Test
+place_tests limits m h call =
+    loop_tests limits (seen_of m h) call ++ (sections_tests limits (seen_of m h) call ++ ordered_tests (seen_of m h) call)
 
 -- by what the member sees alone: whether it waits, and its place
 abbrev pub own_row : Limits → ℕ → Call → Option Call → List Event → List Test
 own_row limits m Resume waiting h = (is_none waiting, NotInside) ∷ []
 own_row limits m Stop waiting h = []
-own_row limits m call waiting h = (is_some waiting, Waiting) ∷ team_tests limits m h call
+own_row limits m call waiting h = (is_some waiting, Waiting) ∷ place_tests limits m h call
 
 -- an arrival is compared with those of the other members once, when it is made
 abbrev pub arrival_comparison : Bool → Arrival → ℕ → List Event → List Test
@@ -67,12 +66,12 @@ comparison_tests again m _ h = []
 
 -- a call that can wait; where it is no arrival, none of its own tests holds
 abbrev pub MayWait : Limits → ℕ → Call → List Event → Type 0
-MayWait limits m (LoopStart loop) h = first_refusal (team_tests limits m h (LoopStart loop)) ≡ None
-MayWait limits m (SectionsStart count end_kind) h = first_refusal (team_tests limits m h (SectionsStart count end_kind)) ≡ None
-MayWait limits m SingleStart h = first_refusal (team_tests limits m h SingleStart) ≡ None
-MayWait limits m SingleCopyStart h = first_refusal (team_tests limits m h SingleCopyStart) ≡ None
-MayWait limits m LoopNext h = first_refusal (team_tests limits m h LoopNext) ≡ None
-MayWait limits m (OrderedStart value) h = first_refusal (team_tests limits m h (OrderedStart value)) ≡ None
+MayWait limits m (LoopStart loop) h = first_refusal (place_tests limits m h (LoopStart loop)) ≡ None
+MayWait limits m (SectionsStart count end_kind) h = first_refusal (place_tests limits m h (SectionsStart count end_kind)) ≡ None
+MayWait limits m SingleStart h = first_refusal (place_tests limits m h SingleStart) ≡ None
+MayWait limits m SingleCopyStart h = first_refusal (place_tests limits m h SingleCopyStart) ≡ None
+MayWait limits m LoopNext h = first_refusal (place_tests limits m h LoopNext) ≡ None
+MayWait limits m (OrderedStart value) h = first_refusal (place_tests limits m h (OrderedStart value)) ≡ None
 MayWait limits m LoopEnd h = Unit {0}
 MayWait limits m SectionsEnd h = Unit {0}
 MayWait limits m Barrier h = Unit {0}
@@ -91,7 +90,7 @@ is_at_once _ = false
 
 -- none of the tests that come before the comparison holds; `again` where a resume repeats a call that waits
 abbrev pub IsReady : Limits → Bool → ℕ → Call → List Event → Type 0
-IsReady limits false m call h = first_refusal (team_tests limits m h call) ≡ None
+IsReady limits false m call h = first_refusal (place_tests limits m h call) ≡ None
 IsReady limits true m call h = MayWait limits m call h
 
 -- the construct may be left, where one ends with this arrival
@@ -117,7 +116,7 @@ broken_after broken m (Ok Stopped) = Some (record { member = m; place = AtStop }
 broken_after broken m (Ok _) = broken
 broken_after broken m (Err place) = Some (record { member = m; place = place })
 
--- the events after a turn at the barrier
+-- the events after a member has passed its barrier, or waits on
 abbrev pub passed_after : Reply → ℕ → List Event → List Event
 passed_after Passed m h = Pass (passed m h) m ∷ h
 passed_after _ m h = h
@@ -126,11 +125,11 @@ passed_after _ m h = h
 
 -- the shares and the barriers stand for these events
 abbrev pub BothStand : {S : Type 0} → (S → List Event → Type 0) → S → BarriersView → List Event → Type 0
-BothStand stands shares barriers h = stands shares h × BarriersStand barriers.seats barriers.front h
+BothStand stands shares barriers h = stands shares h × BarriersStand barriers h
 
 -- of each list of events that both stand for, this holds
 abbrev pub EachBothStand : {S : Type 0} → (S → List Event → Type 0) → S → BarriersView → (List Event → Type 0) → Type 0
-EachBothStand stands shares barriers P = (h : List Event) → stands shares h → BarriersStand barriers.seats barriers.front h → P h
+EachBothStand stands shares barriers P = (h : List Event) → stands shares h → BarriersStand barriers h → P h
 
 -- the same of the shares and the words that were put, in a team of so many members
 abbrev pub EachWordsStand : {S : Type 0} → (S → List Event → Type 0) → ℕ → S → List (Option Put) → (List Event → Type 0) → Type 0
@@ -142,4 +141,8 @@ PartsStand stands members shares barriers payloads h = BothStand stands shares b
 
 abbrev pub EachPartsStand : {S : Type 0} → (S → List Event → Type 0) → ℕ → S → BarriersView → List (Option Put) → (List Event → Type 0) → Type 0
 EachPartsStand stands members shares barriers payloads P =
-    (h : List Event) → stands shares h → BarriersStand barriers.seats barriers.front h → PayloadsStand members payloads h → P h
+    (h : List Event) → stands shares h → BarriersStand barriers h → PayloadsStand members payloads h → P h
+
+-- none of them changes
+abbrev pub ArePartsKept : {S : Type 0} → S → BarriersView → List (Option Put) → S → BarriersView → List (Option Put) → Type 0
+ArePartsKept shares barriers payloads shares_after barriers_after payloads_after = (shares_after ≡ shares) × (barriers_after ≡ barriers) × (payloads_after ≡ payloads)

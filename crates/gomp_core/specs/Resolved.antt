@@ -1,9 +1,11 @@
 -- Runtime schedules: a team takes the kind and the chunk of such a loop from its control variables. OpenMP API 5.2, section 11.5.3.
-use Rattle.std.specs.Prelude.{List, map}
+use Rattle.std.specs.Prelude.{List, [], map}
 use Rattle.gomp_types.specs.declared.call.Call.{Call}
 use Rattle.gomp_types.specs.declared.call.Call.TheVariants.{LoopStart}
 use Rattle.gomp_types.specs.declared.call.Step.{Step}
+use Rattle.gomp_types.specs.declared.reply.Reply.{Reply}
 use Rattle.gomp_types.specs.Pieces.{resolved}
+use Rattle.gomp_types.specs.Record.{Record, record_after}
 use Rattle.gomp_icv.specs.Variables.{Variables}
 
 -- the call with the schedule that counts, where it is the start of a loop
@@ -16,3 +18,7 @@ resolved_step icv step = record { member = step.member; call = resolved_call icv
 
 abbrev pub resolved_steps : Variables → List Step → List Step
 resolved_steps icv steps = map (resolved_step icv) steps
+
+-- the record of these steps, each with the schedule that counts, and of their replies
+abbrev pub record_of : Variables → List Step → List Reply → Record
+record_of icv steps replies = record_after (resolved_steps icv steps) replies []

@@ -1,5 +1,5 @@
 -- When a team stands for a record. (own)
-use Rattle.std.specs.Prelude.{ℕ, ◌≡◌, ◌≢◌, true, List, [], ◌∷◌, Option, Some, None, length, slice_get}
+use Rattle.std.specs.Prelude.{ℕ, ◌≡◌, ◌≢◌, ◌≤◌, true, List, [], ◌∷◌, Option, Some, None, length, slice_get}
 use Rattle.gomp_types.specs.declared.call.Call.{Call}
 use Rattle.gomp_types.specs.declared.limits.Limits.{Limits}
 use Rattle.gomp_types.specs.declared.refusal.Clash.{Clash}
@@ -7,12 +7,13 @@ use Rattle.gomp_types.specs.declared.refusal.Refusal.TheVariants.{NoMemory}
 use Rattle.gomp_types.specs.declared.reply.Reply.{Reply}
 use Rattle.gomp_types.specs.declared.reply.Reply.TheVariants.{Refused}
 use Rattle.gomp_types.specs.declared.event.Event.{Event}
+use Rattle.gomp_types.specs.declared.limits.TheConstants.{MAX_MEMBERS}
 use Rattle.gomp_types.specs.Limits.{capped}
 use Rattle.gomp_types.specs.Events.{clash_of}
 use Rattle.gomp_types.specs.Record.{Record, waits_of, events}
 use Rattle.gomp_types.specs.Causes.{Terms, Caused}
 use Rattle.gomp_icv.specs.Variables.{Variables}
-use Rattle.gomp_barrier.specs.Stands.{BarriersView, Stands as BarriersStand}
+use Rattle.gomp_barrier.specs.Stands.{BarriersView, Stands as BarriersStand, members_of as barrier_members}
 use Rattle.gomp_core.specs.declared.waiting.Waiting.{Waiting}
 use Rattle.gomp_core.specs.declared.payloads.Put.{Put}
 use Rattle.gomp_core.specs.Payloads.{PayloadsStand}
@@ -48,6 +49,10 @@ pub record WaitStands (limits : Limits) (m : ℕ) (waiting : Option Waiting) (be
 abbrev pub members_of : {S : Type 0} → TeamView S → ℕ
 members_of team = length team.waiting
 
+-- a team may have so many members
+abbrev pub IsTeamSize : ℕ → Type 0
+IsTeamSize count = (1 ≤ count) × (count ≤ MAX_MEMBERS)
+
 -- what the team was made with
 abbrev pub terms_of : {S : Type 0} → TeamView S → Terms
 terms_of team = record { members = members_of team; limits = team.limits; cancellation = team.icv.cancellation }
@@ -58,15 +63,17 @@ pub record Stands {S : Type 0} (stands : S → List Event → Type 0) (members :
   pub caused : Caused (terms_of team) before
   -- the shares, the barriers and the words stand for the record's events
   pub shares_are : stands team.shares (events before)
-  pub barriers_are : BarriersStand team.barriers.seats team.barriers.front (events before)
+  pub barriers_are : BarriersStand team.barriers (events before)
   pub payloads_are : PayloadsStand (members_of team) team.payloads (events before)
   pub broken_is : team.broken ≡ clash_of (events before)
   pub wait : (m : ℕ) (waiting : Option Waiting) → slice_get team.waiting m ≡ Some waiting → WaitStands team.limits m waiting before
+  -- it has 1 to 64 members
+  pub size : IsTeamSize (members_of team)
   -- no limit is above the standard one
   pub limits_are : capped team.limits ≡ team.limits
   -- one place for each member in every part
   pub shares_size : members team.shares ≡ members_of team
-  pub barriers_size : length team.barriers.seats ≡ members_of team
+  pub barriers_size : barrier_members team.barriers ≡ members_of team
 
 -- what a team of this many members is made with, by these control variables, where no limits are given
 abbrev pub standard_terms : ℕ → Variables → Terms

@@ -1,19 +1,22 @@
 //! What a member is answered where no test before the comparison with other members holds.
 
-ghost use Rattle.std.specs.Prelude.{◌≡◌, ◌<◌, ℕ, List, length, true, false, Ok};
+ghost use Rattle.std.specs.Prelude.{◌≡◌, ◌<◌, ℕ, List, true, false, Ok, Err};
 ghost use Rattle.gomp_types.specs.declared.event.Event.{Event};
 ghost use Rattle.gomp_types.specs.declared.limits.Limits.{Limits};
-ghost use Rattle.gomp_types.specs.declared.call.Call.TheVariants.{SingleCopyEnd};
+ghost use Rattle.gomp_types.specs.declared.call.Call.TheVariants.{SingleCopyEnd, Resume};
+ghost use Rattle.gomp_types.specs.declared.refusal.Place.{Place};
+ghost use Rattle.gomp_types.specs.declared.refusal.Refusal.TheVariants.{NotInside};
+ghost use Rattle.gomp_types.specs.declared.reply.Reply.TheVariants.{Wait, Refused};
 ghost use Rattle.gomp_types.specs.Events.{entered};
 ghost use Rattle.gomp_types.specs.Causes.{IsReply};
 ghost use Rattle.gomp_types.specs.Record.{added, meant, is_resume};
 ghost use Rattle.gomp_core.specs.Waits.{open_call, turning};
 ghost use Rattle.gomp_share_plain.specs.Calls.{EachStands};
+ghost use Rattle.gomp_barrier.specs.Stands.{members_of as barrier_members};
 ghost use Rattle.gomp_core.specs.Payloads.{PayloadsStand};
-ghost use Rattle.gomp_core.specs.Answers.{EachPartsStand, EachWordsStand, PartsStand, IsReady, IsAnswer, is_at_once, reply_to, broken_after};
+ghost use Rattle.gomp_core.specs.Answers.{ArePartsKept, EachPartsStand, EachWordsStand, PartsStand, IsReady, IsAnswer, is_at_once, reply_to, broken_after};
 
-use crate::arrivals::{arrive, turn};
-use crate::own::is_unput;
+use crate::arrivals::{arrive, pass_or_wait};
 use crate::payloads::Payloads;
 use crate::starts::start;
 use crate::waiting::{Turning, Waiting, kept_for};
@@ -24,7 +27,8 @@ use gomp_types::{Call, Clash, Limits, Payload, Place, Refusal, Reply, laws};
 /// Answers a call, or goes on with the one that waits.
 ///
 /// The error is the place where the construct differs from the team's: this is E35, for which the
-/// team breaks.
+/// team breaks, and of its parts nothing changes then. Nor does it where a call that waits is asked about
+/// again and waits on.
 pub fn answer<S: Shares>(
     shares: &mut S,
     barriers: &mut Barriers,
@@ -35,9 +39,11 @@ pub fn answer<S: Shares>(
     waiting: Option<Waiting>,
 ) -> Result<Reply, Place>
     requires shares { member < S.members shares.old }
-    requires team { length barriers.old.seats ≡ S.members shares.old }
+    requires team { barrier_members barriers.old ≡ S.members shares.old }
     ensures members { S.members shares.new ≡ S.members shares.old }
-    ensures seats { length barriers.new.seats ≡ length barriers.old.seats }
+    ensures barriers { barrier_members barriers.new ≡ barrier_members barriers.old }
+    ensures kept { (place : Place) → result ≡ Err place → ArePartsKept shares.old barriers.old payloads.old shares.new barriers.new payloads.new }
+    ensures again { result ≡ Ok Wait → call.now ≡ Resume → ArePartsKept shares.old barriers.old payloads.old shares.new barriers.new payloads.new }
     ensures answer { EachPartsStand S.stands (S.members shares.old) shares.old barriers.old payloads.old (λ h. IsReady limits.now (is_resume call.now) member (meant call.now (open_call waiting)) h → IsAnswer (S.members shares.old) (is_resume call.now) member (meant call.now (open_call waiting)) result h) }
     ensures stands { EachPartsStand S.stands (S.members shares.old) shares.old barriers.old payloads.old (λ h. IsReady limits.now (is_resume call.now) member (meant call.now (open_call waiting)) h → PartsStand S.stands (S.members shares.old) shares.new barriers.new payloads.new (added (is_resume call.now) member (entered member h) (reply_to result) (meant call.now (open_call waiting)) h)) }
 {
@@ -47,7 +53,7 @@ pub fn answer<S: Shares>(
         Some(Waiting::Turn(what)) => Ok(answer_turn(shares, member, &what)),
         Some(Waiting::Arrive(how)) => {
             if is_resume(call) {
-                Ok(turn(barriers, member))
+                Ok(pass_or_wait(barriers, member))
             } else {
                 arrive(shares, barriers, member, how)
             }
@@ -67,6 +73,7 @@ fn is_resume(call: &Call) -> bool
 fn answer_turn<S: Shares>(shares: &mut S, member: u16, what: &Turning) -> Reply
     requires { member < S.members shares.old }
     ensures members { S.members shares.new ≡ S.members shares.old }
+    ensures waits { result ≡ Wait → shares.new ≡ shares.old }
     ensures answer { (limits : Limits) → EachStands (S.stands shares.old) (IsReply limits (S.members shares.old) member (turning what.now) result) }
     ensures stands { EachStands (S.stands shares.old) (λ h. S.stands shares.new (added false member (entered member h) result (turning what.now) h)) }
 {
@@ -85,6 +92,7 @@ fn answer_at_once<S: Shares>(
 ) -> Reply
     requires { member < S.members shares.old }
     ensures members { S.members shares.new ≡ S.members shares.old }
+    ensures resume { call.now ≡ Resume → result ≡ Refused NotInside }
     ensures answer { (limits : Limits) → EachWordsStand S.stands (S.members shares.old) shares.old payloads.old (λ h. is_at_once call.now ≡ true → IsReady limits false member call.now h → IsAnswer (S.members shares.old) false member call.now (Ok result) h) }
     ensures shares { (limits : Limits) → EachWordsStand S.stands (S.members shares.old) shares.old payloads.old (λ h. is_at_once call.now ≡ true → IsReady limits false member call.now h → S.stands shares.new (added false member (entered member h) result call.now h)) }
     ensures payloads { (limits : Limits) → EachWordsStand S.stands (S.members shares.old) shares.old payloads.old (λ h. is_at_once call.now ≡ true → IsReady limits false member call.now h → PayloadsStand (S.members shares.old) payloads.new (added false member (entered member h) result call.now h)) }
@@ -120,8 +128,7 @@ fn put_words<S: Shares>(
         // Not where the call is ready: this is its own test.
         return Reply::Refused(Refusal::NotInside);
     };
-    let unput = is_unput(shares, payloads, member);
-    match gomp_sections::single_copy_end(shares, member, unput) {
+    match gomp_sections::single_copy_end(shares, member) {
         Ok(()) => {
             payloads.put(number, words.copied());
             Reply::Finished

@@ -4,13 +4,15 @@
 //! OpenMP API 5.2, sections 15.3.1 and 15.3.2; libgomp's `GOMP_barrier`, `GOMP_loop_end`,
 //! `GOMP_sections_end` and `GOMP_parallel_end`.
 
-ghost use Rattle.std.specs.Prelude.{◌≡◌, ◌<◌, ℕ, List, length, false, Ok};
+ghost use Rattle.std.specs.Prelude.{◌≡◌, ◌<◌, ℕ, List, false, Ok, Err};
 ghost use Rattle.gomp_types.specs.declared.event.Event.{Event};
 ghost use Rattle.gomp_types.specs.Events.{entered, passed, barrier_met};
 ghost use Rattle.gomp_types.specs.Record.{added, share_left, ends_share};
 ghost use Rattle.gomp_types.specs.Replies.{Awaits};
+ghost use Rattle.gomp_types.specs.declared.reply.Reply.TheVariants.{Wait};
+ghost use Rattle.gomp_types.specs.declared.refusal.Place.{Place};
 ghost use Rattle.gomp_share_plain.specs.Calls.{EachStands};
-ghost use Rattle.gomp_barrier.specs.Stands.{Stands as BarriersStand};
+ghost use Rattle.gomp_barrier.specs.Stands.{Stands as BarriersStand, members_of as barrier_members};
 ghost use Rattle.gomp_core.specs.Waits.{arriving};
 ghost use Rattle.gomp_core.specs.Answers.{EachBothStand, BothStand, MayLeave, IsAnswer, reply_to, passed_after};
 
@@ -31,10 +33,12 @@ pub fn arrive<S: Shares>(
     how: Arriving,
 ) -> Result<Reply, Place>
     requires shares { member < S.members shares.old }
-    requires barriers { member < length barriers.old.seats }
+    requires barriers { member < barrier_members barriers.old }
     ensures members { S.members shares.new ≡ S.members shares.old }
-    ensures seats { length barriers.new.seats ≡ length barriers.old.seats }
-    ensures answer { EachBothStand S.stands shares.old barriers.old (λ h. MayLeave how member h → IsAnswer (length barriers.old.seats) false member (arriving how) result h) }
+    ensures barriers { barrier_members barriers.new ≡ barrier_members barriers.old }
+    ensures kept_shares { (place : Place) → result ≡ Err place → shares.new ≡ shares.old }
+    ensures kept_barriers { (place : Place) → result ≡ Err place → barriers.new ≡ barriers.old }
+    ensures answer { EachBothStand S.stands shares.old barriers.old (λ h. MayLeave how member h → IsAnswer (barrier_members barriers.old) false member (arriving how) result h) }
     ensures stands { EachBothStand S.stands shares.old barriers.old (λ h. MayLeave how member h → BothStand S.stands shares.new barriers.new (added false member (entered member h) (reply_to result) (arriving how) h)) }
 {
     gomp_barrier::aside();
@@ -46,7 +50,7 @@ pub fn arrive<S: Shares>(
         return Err(Place::Barrier(barriers.look(member).number));
     }
     match leave(shares, member, how) {
-        Ok(()) => Ok(turn(barriers, member)),
+        Ok(()) => Ok(pass_or_wait(barriers, member)),
         // Not where `MayLeave` holds, as `answer` sees to.
         Err(refusal) => Ok(Reply::Refused(refusal)),
     }
@@ -54,7 +58,7 @@ pub fn arrive<S: Shares>(
 
 /// Leaves the construct that ends with this arrival, where one does.
 fn leave<S: Shares>(shares: &mut S, member: u16, how: Arriving) -> Result<(), Refusal>
-    requires { member < S.members shares.old }
+    requires member { member < S.members shares.old }
     ensures members { S.members shares.new ≡ S.members shares.old }
     ensures left { EachStands (S.stands shares.old) (λ h. MayLeave how member h → (result ≡ Ok tt) × S.stands shares.new (share_left (ends_share (arriving how)) member h)) }
 {
@@ -65,12 +69,13 @@ fn leave<S: Shares>(shares: &mut S, member: u16, how: Arriving) -> Result<(), Re
     }
 }
 
-/// The member passes the barrier at which it has arrived, where every member has.
-pub fn turn(barriers: &mut Barriers, member: u16) -> Reply
-    requires { member < length barriers.old.seats }
-    ensures seats { length barriers.new.seats ≡ length barriers.old.seats }
-    ensures answer { (h : List Event) → BarriersStand barriers.old.seats barriers.old.front h → Awaits (barrier_met (length barriers.old.seats) (passed member h) h) result }
-    ensures stands { (h : List Event) → BarriersStand barriers.old.seats barriers.old.front h → BarriersStand barriers.new.seats barriers.new.front (passed_after result member h) }
+/// The member passes the barrier at which it has arrived, where every member has; else it waits on.
+pub fn pass_or_wait(barriers: &mut Barriers, member: u16) -> Reply
+    requires member { member < barrier_members barriers.old }
+    ensures barriers { barrier_members barriers.new ≡ barrier_members barriers.old }
+    ensures waits { result ≡ Wait → barriers.new ≡ barriers.old }
+    ensures answer { (h : List Event) → BarriersStand barriers.old h → Awaits (barrier_met (barrier_members barriers.old) (passed member h) h) result }
+    ensures stands { (h : List Event) → BarriersStand barriers.old h → BarriersStand barriers.new (passed_after result member h) }
 {
     if barriers.turn(member) {
         Reply::Passed

@@ -11,18 +11,12 @@
 
 mod answer;
 mod arrivals;
-mod own;
 mod payloads;
+mod refusals;
 mod starts;
 pub mod steps;
 pub mod team;
 mod waiting;
-#[cfg(test)]
-mod worked;
-#[cfg(test)]
-mod worked_schedules;
-#[cfg(test)]
-mod worked_shares;
 
 pub use steps::run;
 pub use team::Team;

@@ -2,9 +2,11 @@
 //!
 //! OpenMP API 5.2, sections 11.1, 11.3 and 11.5.
 
-ghost use Rattle.std.specs.Prelude.{◌≡◌, ◌<◌, ℕ, List, false, IsTrue, ◌↔◌};
+ghost use Rattle.std.specs.Prelude.{◌≡◌, ◌<◌, ℕ, List, false, Ok, Err, IsTrue, ◌↔◌};
 ghost use Rattle.gomp_types.specs.declared.event.Event.{Event};
-ghost use Rattle.gomp_types.specs.declared.reply.Reply.TheVariants.{Refused};
+ghost use Rattle.gomp_types.specs.declared.reply.Reply.TheVariants.{Wait, Refused};
+ghost use Rattle.gomp_types.specs.declared.refusal.Refusal.{Refusal};
+ghost use Rattle.gomp_types.specs.declared.refusal.Place.{Place};
 ghost use Rattle.gomp_types.specs.declared.refusal.Refusal.TheVariants.{Mismatch};
 ghost use Rattle.gomp_types.specs.declared.refusal.Place.TheVariants.{Share};
 ghost use Rattle.gomp_types.specs.Events.{entered};
@@ -30,6 +32,8 @@ pub fn start<S: Shares>(
 ) -> Result<Reply, Place>
     requires { member < S.members shares.old }
     ensures members { S.members shares.new ≡ S.members shares.old }
+    ensures kept { (place : Place) → result ≡ Err place → shares.new ≡ shares.old }
+    ensures waits { result ≡ Ok Wait → shares.new ≡ shares.old }
     ensures answer { EachWordsStand S.stands (S.members shares.old) shares.old payloads.now (λ h. IsReady limits.now false member (starting what.now) h → IsAnswer (S.members shares.old) false member (starting what.now) result h) }
     ensures stands { EachWordsStand S.stands (S.members shares.old) shares.old payloads.now (λ h. IsReady limits.now false member (starting what.now) h → S.stands shares.new (added false member (entered member h) (reply_to result) (starting what.now) h)) }
 {
@@ -51,6 +55,8 @@ fn start_reply<S: Shares>(
     requires { member < S.members shares.old }
     ensures members { S.members shares.new ≡ S.members shares.old }
     ensures known { (h : List Event) × S.stands shares.old h }
+    ensures kept { (refusal : Refusal) → result ≡ Refused refusal → shares.new ≡ shares.old }
+    ensures waits { result ≡ Wait → shares.new ≡ shares.old }
     ensures answer { EachWordsStand S.stands (S.members shares.old) shares.old payloads.now (λ h. IsReply limits.now (S.members shares.old) member (starting what.now) result h) }
     ensures stands { EachWordsStand S.stands (S.members shares.old) shares.old payloads.now (λ h. S.stands shares.new (added false member (entered member h) result (starting what.now) h)) }
 {

@@ -1,15 +1,15 @@
 //! A list of steps, answered by a new team.
 
-ghost use Rattle.std.specs.Prelude.{◌≡◌, ◌≤◌, ◌↔◌, ◌⊎◌, List, [], length, IfOk, Err, vec_len};
+ghost use Rattle.std.specs.Prelude.{◌≡◌, ◌↔◌, ◌⊎◌, length, IfOk, Err, vec_len};
 ghost use Rattle.gomp_types.specs.declared.refusal.Refusal.{Refusal};
 ghost use Rattle.gomp_types.specs.declared.refusal.Refusal.TheVariants.{BadTeam, NoMemory};
-ghost use Rattle.gomp_types.specs.Record.{record_after, events};
+ghost use Rattle.gomp_types.specs.Record.{events};
 ghost use Rattle.gomp_types.specs.Causes.{Caused};
 ghost use Rattle.gomp_types.specs.Deals.{schedule};
 ghost use Rattle.gomp_types.specs.Rules.{Always};
-ghost use Rattle.gomp_types.specs.Laws.{TakenOnce, WholeWhereOver, OrderedLaws, PutsOnce, GetsWhatWasPut, SameShares, SameArrivals, TellsShares, PassesLast};
-ghost use Rattle.gomp_core.specs.Stands.{Stands, terms_of, standard_terms, NoneForMemory};
-ghost use Rattle.gomp_core.specs.Resolved.{resolved_steps};
+ghost use Rattle.gomp_types.specs.Laws.{TakenOnce, WholeWhereOver, OrderedLaws, PutsOnce, GetsWhatWasPut, LeavesWithWords, SameShares, SameArrivals, ArrivesOnce, ArrivesOutside, HappensUnbroken, HappensInside, TellsShares, PassesLast, ClosesShares};
+ghost use Rattle.gomp_core.specs.Stands.{Stands, IsTeamSize, terms_of, standard_terms, NoneForMemory};
+ghost use Rattle.gomp_core.specs.Resolved.{record_of};
 
 use crate::team::Team;
 use gomp_icv::Icv;
@@ -23,10 +23,11 @@ use std::alloc::Global;
 ///
 /// **The headline**, of all that these steps and replies give: for every team size and list of
 /// steps no iteration, section or single is taken twice; a loop or sections construct that all members
-/// end had every iteration or section taken; ordered parts of a loop run in the order of its
-/// iterations; the words that a member copies are those that the executor of the single put; all
-/// members go through the same constructs in the same order; and no member passes a barrier before
-/// all arrived.
+/// end had every iteration or section taken, and a single that all members left was executed by one
+/// of them; ordered parts of a loop run in the order of its iterations; the words that a member copies
+/// are those that the executor of the single put; all members go through the same constructs in the
+/// same order; and no member passes a barrier before all arrived, and have left the constructs
+/// before it.
 ///
 /// Refused with `BadTeam` (E38) where the size is not 1 to 64, and with `NoMemory` (E37) where the
 /// memory of the team or of the replies is refused; then the steps are dropped and nothing is kept.
@@ -36,23 +37,29 @@ pub fn run<S: Shares + Drop>(
     icv: Icv,
     steps: Vec<Step>,
 ) -> Result<(Team<S>, Vec<Reply>), Refusal>
-    ensures size { result ≡ Err BadTeam ↔ ((1 ≤ count) × (count ≤ 64) → ⊥) }
+    ensures size { result ≡ Err BadTeam ↔ (IsTeamSize count → ⊥) }
     ensures refused { (refusal : Refusal) → result ≡ Err refusal → (refusal ≡ BadTeam) ⊎ (refusal ≡ NoMemory) }
     ensures each { IfOk result (λ ran. vec_len ran.1 ≡ length steps.items) }
     ensures terms { IfOk result (λ ran. terms_of ran.0 ≡ standard_terms count icv) }
     ensures icv { IfOk result (λ ran. ran.0.icv ≡ icv) }
     ensures memory { IfOk result (λ ran. NoneForMemory ran.1.items) }
-    ensures caused { IfOk result (λ ran. Caused (standard_terms count icv) (record_after (resolved_steps icv steps.items) ran.1.items [])) }
-    ensures stands { IfOk result (λ ran. Stands S.stands S.members ran.0 (record_after (resolved_steps icv steps.items) ran.1.items [])) }
-    ensures taken_once { IfOk result (λ ran. TakenOnce (schedule count) (events (record_after (resolved_steps icv steps.items) ran.1.items []))) }
-    ensures whole { IfOk result (λ ran. WholeWhereOver count (events (record_after (resolved_steps icv steps.items) ran.1.items []))) }
-    ensures ordered { IfOk result (λ ran. OrderedLaws count (events (record_after (resolved_steps icv steps.items) ran.1.items []))) }
-    ensures puts { IfOk result (λ ran. Always PutsOnce (events (record_after (resolved_steps icv steps.items) ran.1.items []))) }
-    ensures gets { IfOk result (λ ran. Always GetsWhatWasPut (events (record_after (resolved_steps icv steps.items) ran.1.items []))) }
-    ensures same_shares { IfOk result (λ ran. SameShares count (events (record_after (resolved_steps icv steps.items) ran.1.items []))) }
-    ensures same_arrivals { IfOk result (λ ran. SameArrivals (events (record_after (resolved_steps icv steps.items) ran.1.items []))) }
-    ensures one_order { IfOk result (λ ran. Always TellsShares (events (record_after (resolved_steps icv steps.items) ran.1.items []))) }
-    ensures passes { IfOk result (λ ran. Always (PassesLast count) (events (record_after (resolved_steps icv steps.items) ran.1.items []))) }
+    ensures caused { IfOk result (λ ran. Caused (standard_terms count icv) (record_of icv steps.items ran.1.items)) }
+    ensures stands { IfOk result (λ ran. Stands S.stands S.members ran.0 (record_of icv steps.items ran.1.items)) }
+    ensures taken_once { IfOk result (λ ran. TakenOnce (schedule count) (events (record_of icv steps.items ran.1.items))) }
+    ensures whole { IfOk result (λ ran. WholeWhereOver count (events (record_of icv steps.items ran.1.items))) }
+    ensures ordered { IfOk result (λ ran. OrderedLaws count (events (record_of icv steps.items ran.1.items))) }
+    ensures put_once { IfOk result (λ ran. Always PutsOnce (events (record_of icv steps.items ran.1.items))) }
+    ensures given_what_was_put { IfOk result (λ ran. Always GetsWhatWasPut (events (record_of icv steps.items ran.1.items))) }
+    ensures none_without_words { IfOk result (λ ran. Always LeavesWithWords (events (record_of icv steps.items ran.1.items))) }
+    ensures same_shares { IfOk result (λ ran. SameShares count (events (record_of icv steps.items ran.1.items))) }
+    ensures same_arrivals { IfOk result (λ ran. SameArrivals (events (record_of icv steps.items ran.1.items))) }
+    ensures arrive_once { IfOk result (λ ran. Always (ArrivesOnce count) (events (record_of icv steps.items ran.1.items))) }
+    ensures arrive_outside { IfOk result (λ ran. Always ArrivesOutside (events (record_of icv steps.items ran.1.items))) }
+    ensures one_order { IfOk result (λ ran. Always TellsShares (events (record_of icv steps.items ran.1.items))) }
+    ensures unbroken { IfOk result (λ ran. Always HappensUnbroken (events (record_of icv steps.items ran.1.items))) }
+    ensures in_region { IfOk result (λ ran. Always HappensInside (events (record_of icv steps.items ran.1.items))) }
+    ensures passes { IfOk result (λ ran. Always (PassesLast count) (events (record_of icv steps.items ran.1.items))) }
+    ensures closes { IfOk result (λ ran. Always (ClosesShares count) (events (record_of icv steps.items ran.1.items))) }
 {
     laws::headline();
     let mut team = Team::new(alloc, count, icv)?;

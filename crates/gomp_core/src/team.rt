@@ -1,22 +1,23 @@
 //! A team that one thread steps.
 
-ghost use Rattle.std.specs.Prelude.{◌≡◌, ◌≢◌, ◌<◌, ◌≤◌, ◌↔◌, ◌⊎◌, ◌∷◌, ◌++◌, [], length, IfOk, Err};
+ghost use Rattle.std.specs.Prelude.{◌≡◌, ◌≢◌, ◌<◌, ◌↔◌, ◌⊎◌, ◌∷◌, ◌++◌, [], IfOk, Err};
 ghost use Rattle.gomp_types.specs.declared.refusal.Refusal.{Refusal};
 ghost use Rattle.gomp_types.specs.declared.refusal.Refusal.TheVariants.{BadTeam, NoMemory, Mismatch};
 ghost use Rattle.gomp_types.specs.Limits.{capped};
 ghost use Rattle.gomp_types.specs.Tests.{first_refusal};
 ghost use Rattle.gomp_types.specs.Record.{Record, events, waits_of};
 ghost use Rattle.gomp_types.specs.Refusals.{member_tests};
-ghost use Rattle.gomp_types.specs.declared.reply.Reply.TheVariants.{Refused};
+ghost use Rattle.gomp_types.specs.declared.reply.Reply.TheVariants.{Wait, Refused};
+ghost use Rattle.gomp_types.specs.declared.call.Call.TheVariants.{Resume};
 ghost use Rattle.gomp_types.specs.Causes.{MayAnswer};
 ghost use Rattle.gomp_types.specs.Headline.{Headline};
 ghost use Rattle.gomp_core.specs.Answers.{own_row};
-ghost use Rattle.gomp_core.specs.Stands.{Stands, standard, terms_of, members_of};
+ghost use Rattle.gomp_core.specs.Stands.{Stands, IsTeamSize, standard, terms_of, members_of};
 ghost use Rattle.gomp_core.specs.Resolved.{resolved_call, resolved_step};
 
 use crate::answer::{answer, broken_after, reply_to};
-use crate::own::own_refusal;
 use crate::payloads::Payloads;
+use crate::refusals::own_refusal;
 use crate::waiting::{Waiting, waiting_after};
 use gomp_barrier::Barriers;
 use gomp_icv::Icv;
@@ -28,7 +29,9 @@ use std::marker::Model;
 /// A team of 1 to 64 members, numbered from 0, whose work-shares are kept by `S`.
 ///
 /// Every value stands for some record of steps and replies (its invariant), so a team may lie
-/// anywhere, and be stepped with nothing to prove.
+/// anywhere, and be stepped with nothing to prove. A record is the list of steps and replies, the newest
+/// first (specs/Record.antt of gomp_types); what it means that a team stands for one is `Stands` in
+/// specs/Stands.antt.
 #[derive(Drop)]
 pub struct Team<S: Shares> {
     icv: Icv,
@@ -58,7 +61,7 @@ impl<S: Shares> Team<S> {
     /// Refused with `BadTeam` (E38) where the number is not 1 to 64, and with `NoMemory` (E37) where
     /// memory is refused.
     pub fn new(alloc: Global, count: u16, icv: Icv) -> Result<Team<S>, Refusal>
-        ensures size { result ≡ Err BadTeam ↔ ((1 ≤ count) × (count ≤ 64) → ⊥) }
+        ensures size { result ≡ Err BadTeam ↔ (IsTeamSize count → ⊥) }
         ensures refused { (refusal : Refusal) → result ≡ Err refusal → (refusal ≡ BadTeam) ⊎ (refusal ≡ NoMemory) }
         ensures members { IfOk result (λ team. members_of team ≡ count) }
         ensures icv { IfOk result (λ team. team.icv ≡ icv) }
@@ -77,7 +80,7 @@ impl<S: Shares> Team<S> {
         icv: Icv,
         limits: Limits,
     ) -> Result<Team<S>, Refusal>
-        ensures size { result ≡ Err BadTeam ↔ ((1 ≤ count) × (count ≤ 64) → ⊥) }
+        ensures size { result ≡ Err BadTeam ↔ (IsTeamSize count → ⊥) }
         ensures refused { (refusal : Refusal) → result ≡ Err refusal → (refusal ≡ BadTeam) ⊎ (refusal ≡ NoMemory) }
         ensures members { IfOk result (λ team. members_of team ≡ count) }
         ensures icv { IfOk result (λ team. team.icv ≡ icv) }
@@ -95,7 +98,7 @@ impl<S: Shares> Team<S> {
 
     /// A new team with these limits, of a size that a team may have. The error is want of memory.
     fn make(alloc: Global, count: u16, icv: Icv, limits: Limits) -> Result<Team<S>, AllocError>
-        requires size { 0 < count }
+        requires size { IsTeamSize count }
         requires capped { capped limits ≡ limits }
         ensures members { IfOk result (λ team. members_of team ≡ count) }
         ensures icv { IfOk result (λ team. team.icv ≡ icv) }
@@ -116,20 +119,25 @@ impl<S: Shares> Team<S> {
 
     /// The reply to one call of one member, numbered from 0: the one that has its cause in what was
     /// asked and answered before. [`Call`] says what each call is, [`Refusal`] when each refusal
-    /// comes; after one the team is as before, save that `Mismatch` (E35) breaks it.
+    /// comes; after one the team is as before, save that `Mismatch` (E35) breaks it. Where a `Resume` is
+    /// answered `Wait`, nothing changes either.
     ///
     /// A loop whose schedule is left to the control variables counts as one with theirs: the record
-    /// has it so (`Resolved.antt`).
+    /// has it so (`resolved_step` in specs/Resolved.antt). Before and after the call the team stands for
+    /// a record, as `Stands` in specs/Stands.antt says.
     ///
     /// It takes no memory, so `NoMemory` (E37) is no answer to any call here. Which replies have a
     /// cause is `MayAnswer` in specs/Causes.antt of gomp_types (OpenMP API 5.2, chapters 11 and 15).
     pub fn step(&mut self, member: u16, call: Call) -> Reply
         ensures known { (before : Record) × Stands S.stands S.members self.old before }
+        ensures size { IsTeamSize (members_of self.old) }
         ensures members { members_of self.new ≡ members_of self.old }
         ensures icv { self.new.icv ≡ self.old.icv }
         ensures limits { self.new.limits ≡ self.old.limits }
         ensures memory { result ≢ Refused NoMemory }
-        ensures refused { (refusal : Refusal) → result ≡ Refused refusal → refusal ≢ Mismatch → self.new ≡ self.old }
+        ensures kept { (refusal : Refusal) → result ≡ Refused refusal → refusal ≢ Mismatch → self.new ≡ self.old }
+        ensures broken { result ≡ Refused Mismatch → self.new ≡ record self.old { broken = self.new.broken } }
+        ensures again { result ≡ Wait → call ≡ Resume → self.new ≡ self.old }
         ensures answer { (before : Record) → Stands S.stands S.members self.old before → MayAnswer (terms_of self.old) before (resolved_step self.old.icv (record { member = member; call = call })) result }
         ensures stands { (before : Record) → Stands S.stands S.members self.old before → Stands S.stands S.members self.new ((resolved_step self.old.icv (record { member = member; call = call }), result) ∷ before) }
     {
@@ -143,7 +151,9 @@ impl<S: Shares> Team<S> {
         ensures icv { self.new.icv ≡ self.old.icv }
         ensures limits { self.new.limits ≡ self.old.limits }
         ensures memory { result ≢ Refused NoMemory }
-        ensures refused { (refusal : Refusal) → result ≡ Refused refusal → refusal ≢ Mismatch → self.new ≡ self.old }
+        ensures kept { (refusal : Refusal) → result ≡ Refused refusal → refusal ≢ Mismatch → self.new ≡ self.old }
+        ensures broken { result ≡ Refused Mismatch → self.new ≡ record self.old { broken = self.new.broken } }
+        ensures again { result ≡ Wait → call ≡ Resume → self.new ≡ self.old }
         ensures answer { (before : Record) → Stands S.stands S.members self.old before → MayAnswer (terms_of self.old) before (record { member = member; call = call }) result }
         ensures stands { (before : Record) → Stands S.stands S.members self.old before → Stands S.stands S.members self.new ((record { member = member; call = call }, result) ∷ before) }
     {
@@ -168,12 +178,13 @@ impl<S: Shares> Team<S> {
     }
 
     /// Whatever was asked: no iteration, section or single is taken twice; a loop or sections construct
-    /// that all members end had every iteration or section taken; ordered parts of a loop run in the
-    /// order of its iterations; the words that a member copies are those that the executor of the
-    /// single put; all members go through the same constructs in the same order; and no member passes
-    /// a barrier before all arrived.
+    /// that all members end had every iteration or section taken, and a single that all members left
+    /// was executed by one of them; ordered parts of a loop run in the order of its iterations; the words
+    /// that a member copies are those that the executor of the single put; all members go through the
+    /// same constructs in the same order; and no member passes a barrier before all arrived.
     pub fn laws(&self)
         ensures known { (before : Record) × Stands S.stands S.members self.now before }
+        ensures size { IsTeamSize (members_of self.now) }
         ensures laws { (before : Record) → Stands S.stands S.members self.now before → Headline (members_of self.now) (events before) }
     {
         let _ = &self.waiting;
@@ -207,7 +218,7 @@ impl<S: Shares> Team<S> {
         if waits {
             return Some(Refusal::Waiting);
         }
-        own_refusal(&self.shares, &self.payloads, member, &self.limits, call)
+        own_refusal(&self.shares, member, &self.limits, call)
     }
 }
 

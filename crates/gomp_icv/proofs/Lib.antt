@@ -1,2 +1,2 @@
+mod EnvWordLemmas
 mod Sizes
-mod Words

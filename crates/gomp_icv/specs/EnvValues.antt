@@ -8,7 +8,7 @@ use Rattle.gomp_types.specs.Iterations.{max_chunk}
 use Rattle.gomp_text.specs.Words.{cut, same_word}
 use Rattle.gomp_text.specs.Numbers.{unsigned}
 use Rattle.gomp_text.specs.Blanks.{trimmed, lowered}
-use Rattle.gomp_icv.specs.Variables.{max_number}
+use Rattle.gomp_icv.specs.Variables.{max_number, most_sizes}
 
 -- a number from this one on
 abbrev pub from_on : ℕ → Option ℕ → Option ℕ
@@ -42,9 +42,9 @@ abbrev pub sizes_of : List (List ℕ) → Option (List ℕ)
 sizes_of [] = Some []
 sizes_of (part ∷ parts) = with_size (number_of 1 max_number part) (sizes_of parts)
 
--- the parts between commas; those after the fourth are dropped, and have to be good (own)
+-- the parts between commas; those beyond the most that are kept are dropped, and have to be good (own)
 abbrev pub threads_of : List ℕ → Option (List ℕ)
-threads_of value = option_map (take 4) (sizes_of (slice_split (λ b. b == 44) value))
+threads_of value = option_map (take most_sizes) (sizes_of (slice_split (λ b. b == 44) value))
 
 -- a schedule
 

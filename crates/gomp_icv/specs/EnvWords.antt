@@ -6,6 +6,8 @@ use Rattle.gomp_types.specs.declared.refusal.Refusal.TheVariants.{BadEnv}
 use Rattle.gomp_text.specs.Words.{same_word}
 use Rattle.gomp_icv.specs.Variables.{Variables, IsNumThreads, IsSchedule, initial, max_number}
 use Rattle.gomp_icv.specs.EnvValues.{number_of, switch_of, threads_of, schedule_of}
+use Rattle.gomp_icv.specs.declared.env.Variable.{Variable}
+use Rattle.gomp_icv.specs.declared.env.Variable.TheVariants as var
 use Rattle.gomp_icv.specs.declared.env.Setting.{Setting}
 use Rattle.gomp_icv.specs.declared.env.Setting.TheVariants as sets
 
@@ -18,16 +20,33 @@ IsSetting (sets.ThreadLimit limit) = (1 ≤ limit) × (limit ≤ max_number)
 IsSetting (sets.Dynamic on) = Unit {0}
 IsSetting (sets.Cancellation on) = Unit {0}
 
+-- the variable of this name; the case of a name counts
+abbrev pub variable_of : List ℕ → Option Variable
+variable_of name =
+    if same_word name (codes "OMP_NUM_THREADS") then Some var.NumThreads
+    else if same_word name (codes "OMP_DYNAMIC") then Some var.Dynamic
+    else if same_word name (codes "OMP_SCHEDULE") then Some var.Schedule
+    else if same_word name (codes "OMP_MAX_ACTIVE_LEVELS") then Some var.MaxActiveLevels
+    else if same_word name (codes "OMP_THREAD_LIMIT") then Some var.ThreadLimit
+    else if same_word name (codes "OMP_CANCELLATION") then Some var.Cancellation
+    else None
+
+-- what a value makes of a variable; nothing where it is bad
+abbrev pub value_for : Variable → List ℕ → Option Setting
+value_for var.NumThreads value = option_map sets.NumThreads (threads_of value)
+value_for var.Dynamic value = option_map sets.Dynamic (switch_of value)
+value_for var.Schedule value = option_map (λ schedule. sets.Schedule schedule.0 schedule.1) (schedule_of value)
+value_for var.MaxActiveLevels value = option_map sets.MaxActiveLevels (number_of 0 max_number value)
+value_for var.ThreadLimit value = option_map sets.ThreadLimit (number_of 1 max_number value)
+value_for var.Cancellation value = option_map sets.Cancellation (switch_of value)
+
+abbrev pub value_for_named : Option Variable → List ℕ → Option Setting
+value_for_named None value = None
+value_for_named (Some variable) value = value_for variable value
+
 -- what a word sets; nothing where its name is that of no variable that is read, or its value is bad
 abbrev pub setting_of : List ℕ → List ℕ → Option Setting
-setting_of name value =
-    if same_word name (codes "OMP_NUM_THREADS") then option_map sets.NumThreads (threads_of value)
-    else if same_word name (codes "OMP_DYNAMIC") then option_map sets.Dynamic (switch_of value)
-    else if same_word name (codes "OMP_SCHEDULE") then option_map (λ schedule. sets.Schedule schedule.0 schedule.1) (schedule_of value)
-    else if same_word name (codes "OMP_MAX_ACTIVE_LEVELS") then option_map sets.MaxActiveLevels (number_of 0 max_number value)
-    else if same_word name (codes "OMP_THREAD_LIMIT") then option_map sets.ThreadLimit (number_of 1 max_number value)
-    else if same_word name (codes "OMP_CANCELLATION") then option_map sets.Cancellation (switch_of value)
-    else None
+setting_of name value = value_for_named (variable_of name) value
 
 -- one variable is set, the others stay
 abbrev pub with_setting : Setting → Variables → Variables

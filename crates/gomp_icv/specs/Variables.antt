@@ -25,14 +25,18 @@ pub record Variables : Type 0 where
 abbrev pub max_number : ℕ
 max_number = 2147483647
 
+-- the most sizes of teams that are kept (own)
+abbrev pub most_sizes : ℕ
+most_sizes = 4
+
 -- each is the size of a team
 abbrev pub AreSizes : List ℕ → Type 0
 AreSizes [] = Unit {0}
 AreSizes (size ∷ sizes) = (1 ≤ size) × (size ≤ max_number) × AreSizes sizes
 
--- one to four sizes
+-- one size or more, and no more than are kept
 abbrev pub IsNumThreads : List ℕ → Type 0
-IsNumThreads sizes = (1 ≤ length sizes) × (length sizes ≤ 4) × AreSizes sizes
+IsNumThreads sizes = (1 ≤ length sizes) × (length sizes ≤ most_sizes) × AreSizes sizes
 
 -- a schedule that is not left to the control variables, and a chunk or none
 abbrev pub IsSchedule : Sched → ℤ → Type 0

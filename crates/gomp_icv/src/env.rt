@@ -3,7 +3,7 @@
 //! OpenMP API 5.2, chapter 21.
 
 ghost use Rattle.std.specs.Prelude.{◌≡◌, IfOk, IfSome, map};
-ghost use Rattle.gomp_icv.specs.EnvWords.{IsSetting, setting_of, read_env};
+ghost use Rattle.gomp_icv.specs.EnvWords.{IsSetting, variable_of, value_for, setting_of, read_env};
 
 use crate::icv::Icv;
 use crate::num_threads::NumThreads;
@@ -12,19 +12,35 @@ use gomp_text::is_word;
 use gomp_types::{Name, Refusal, Sched};
 use std::alloc::{AllocError, Global};
 
+/// The variables that words of the environment set.
+pub enum Variable {
+    /// nthreads-var, by `OMP_NUM_THREADS`.
+    NumThreads,
+    /// dyn-var, by `OMP_DYNAMIC`.
+    Dynamic,
+    /// run-sched-var, by `OMP_SCHEDULE`.
+    Schedule,
+    /// max-active-levels-var, by `OMP_MAX_ACTIVE_LEVELS`.
+    MaxActiveLevels,
+    /// thread-limit-var, by `OMP_THREAD_LIMIT`.
+    ThreadLimit,
+    /// cancel-var, by `OMP_CANCELLATION`.
+    Cancellation,
+}
+
 /// What a word of the environment sets.
 pub enum Setting {
-    /// nthreads-var, by `OMP_NUM_THREADS`.
+    /// nthreads-var.
     NumThreads(NumThreads),
-    /// dyn-var, by `OMP_DYNAMIC`.
+    /// dyn-var.
     Dynamic(bool),
-    /// run-sched-var, by `OMP_SCHEDULE`: the schedule, and the chunk or 0.
+    /// run-sched-var: the schedule, and the chunk or 0.
     Schedule(Sched, i64),
-    /// max-active-levels-var, by `OMP_MAX_ACTIVE_LEVELS`.
+    /// max-active-levels-var.
     MaxActiveLevels(u32),
-    /// thread-limit-var, by `OMP_THREAD_LIMIT`.
+    /// thread-limit-var.
     ThreadLimit(u32),
-    /// cancel-var, by `OMP_CANCELLATION`.
+    /// cancel-var.
     Cancellation(bool),
 }
 
@@ -54,24 +70,53 @@ fn setting_of(name: &[u8], value: &[u8]) -> Option<Setting>
     ensures value { result ≡ setting_of name.now value.now }
     ensures range { IfSome result IsSetting }
 {
+    match variable_of(name) {
+        Some(variable) => value_for(variable, value),
+        None => None,
+    }
+}
+
+/// The variable of this name. None where it is that of no variable that is read.
+fn variable_of(name: &[u8]) -> Option<Variable>
+    ensures { result ≡ variable_of name.now }
+{
     if is_word(name, b"OMP_NUM_THREADS") {
-        return Some(Setting::NumThreads(NumThreads::read(value)?));
+        return Some(Variable::NumThreads);
     }
     if is_word(name, b"OMP_DYNAMIC") {
-        return Some(Setting::Dynamic(switch_of(value)?));
+        return Some(Variable::Dynamic);
     }
     if is_word(name, b"OMP_SCHEDULE") {
-        let (sched, chunk) = schedule_of(value)?;
-        return Some(Setting::Schedule(sched, chunk));
+        return Some(Variable::Schedule);
     }
     if is_word(name, b"OMP_MAX_ACTIVE_LEVELS") {
-        return Some(Setting::MaxActiveLevels(number_of(value, 0, MAX_NUMBER)? as u32));
+        return Some(Variable::MaxActiveLevels);
     }
     if is_word(name, b"OMP_THREAD_LIMIT") {
-        return Some(Setting::ThreadLimit(number_of(value, 1, MAX_NUMBER)? as u32));
+        return Some(Variable::ThreadLimit);
     }
     if is_word(name, b"OMP_CANCELLATION") {
-        return Some(Setting::Cancellation(switch_of(value)?));
+        return Some(Variable::Cancellation);
     }
     None
+}
+
+/// What this value makes of a variable. None where the value is bad.
+fn value_for(variable: Variable, value: &[u8]) -> Option<Setting>
+    ensures value { result ≡ value_for variable value.now }
+    ensures range { IfSome result IsSetting }
+{
+    Some(match variable {
+        Variable::NumThreads => Setting::NumThreads(NumThreads::read(value)?),
+        Variable::Dynamic => Setting::Dynamic(switch_of(value)?),
+        Variable::Schedule => {
+            let (sched, chunk) = schedule_of(value)?;
+            Setting::Schedule(sched, chunk)
+        }
+        Variable::MaxActiveLevels => {
+            Setting::MaxActiveLevels(number_of(value, 0, MAX_NUMBER)? as u32)
+        }
+        Variable::ThreadLimit => Setting::ThreadLimit(number_of(value, 1, MAX_NUMBER)? as u32),
+        Variable::Cancellation => Setting::Cancellation(switch_of(value)?),
+    })
 }

@@ -14,13 +14,13 @@ use gomp_text::cut;
 use std::marker::Model;
 
 /// How many sizes are kept; what a list has beyond them is dropped (own).
-const KEPT: usize = 4;
+const MAX_SIZES: usize = 4;
 
 /// One to four sizes of teams, each from 1 to 2,147,483,647: the first for the next team, the second
 /// for a team in that one.
 #[derive(Debug, Drop)]
 pub struct NumThreads {
-    sizes: ArrayVec<u32, KEPT>,
+    sizes: ArrayVec<u32, MAX_SIZES>,
 }
 
 impl Model for NumThreads {
@@ -92,7 +92,7 @@ impl NumThreads {
     pub fn read(value: &[u8]) -> Option<NumThreads>
         ensures { result ≡ threads_of value.now }
     {
-        let mut sizes: ArrayVec<u32, KEPT> = ArrayVec::new();
+        let mut sizes: ArrayVec<u32, MAX_SIZES> = ArrayVec::new();
         let mut rest = Some(value);
         while let Some(parts) = rest {
             let (part, after) = cut(parts, b',');

@@ -13,13 +13,16 @@ use gomp_types::MAX_MEMBERS;
 ///
 /// `requested` is the number of the `num_threads` clause, 0 counting as 1 (own); without a clause the
 /// first size of nthreads-var counts. `busy` is how many threads of the program are busy, from 1,
-/// since the encountering one counts. The size is 1 where the `if` clause is false, or where as many active
-/// levels are around as max-active-levels-var allows; else it is the least of what is requested, of
-/// what thread-limit-var leaves, at least 1, and of 64. dyn-var changes nothing (own).
+/// since the encountering one counts; with 0, which no caller has, one thread above thread-limit-var
+/// may be given. The size is 1 where the `if` clause is false, or where as many active levels are
+/// around as max-active-levels-var allows; else it is the least of what is requested, of what
+/// thread-limit-var leaves, at least 1, and of 64. dyn-var changes nothing (own).
 pub fn team_size(icv: &Icv, requested: Option<u32>, if_clause: bool, busy: u32) -> u32
     ensures size { result ≡ team_size icv.now requested if_clause busy }
     ensures within { (1 ≤ result) × (result ≤ 64) }
+    ensures limit { 1 ≤ busy → result ≤ icv.now.thread_limit }
 {
+    let available = (icv.thread_limit() + 1).saturating_sub(busy).max(1);
     if !if_clause || icv.active() >= icv.max_active_levels() {
         return 1;
     }
@@ -27,13 +30,12 @@ pub fn team_size(icv: &Icv, requested: Option<u32>, if_clause: bool, busy: u32) 
         Some(number) => number.max(1),
         None => icv.nthreads().first(),
     };
-    let available = (icv.thread_limit() + 1).saturating_sub(busy).max(1);
     wanted.min(available).min(MAX_MEMBERS as u32)
 }
 
-/// The control variables of the members of a new team of `size` members, 1 to 64: nthreads-var has lost its
-/// first size, where it has more than one, and active-levels-var is one more where the team has more
-/// than one member; it stays at the largest number of its type (own). It takes no memory.
+/// The control variables of the members of a new team of `size` members, 1 to 64: nthreads-var has
+/// lost its first size, where it has more than one, and active-levels-var is one more where the team
+/// has more than one member; it stays at the largest number of its type (own). It takes no memory.
 pub fn child_icv(icv: &Icv, size: u32) -> Icv
     ensures { result ≡ child icv.now size }
 {

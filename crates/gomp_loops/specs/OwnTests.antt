@@ -20,7 +20,7 @@ own_start_tests limits seen loop =
     ++ (nat_le limits.shares seen.entered, TooManyShares)
     ∷ []
 
--- of each call, those that the member's place among the shares decides; `Mismatch` is not among them, and a call on another construct has none here
+-- of each call, those that the member's place among the shares decides; `Mismatch` is not among them. A barrier and the region's end have theirs here, whatever share the member is in; a call on sections, a single or an ordered part has none
 abbrev pub own_tests : Limits → Seen → Call → List Test
 own_tests limits seen (LoopStart loop) = own_start_tests limits seen loop
 own_tests limits seen LoopNext = next_tests_of Loop seen

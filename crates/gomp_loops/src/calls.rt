@@ -1,9 +1,11 @@
 //! The calls of libgomp's loops, over any body of the shares.
 
-ghost use Rattle.std.specs.Prelude.{◌≡◌, ◌<◌, ℕ, List, false};
+ghost use Rattle.std.specs.Prelude.{◌≡◌, ◌<◌, ℕ, List, Err, false};
 ghost use Rattle.gomp_types.specs.declared.event.Event.{Event};
 ghost use Rattle.gomp_types.specs.declared.call.Call.TheVariants.{LoopStart, LoopNext, LoopEndNowait};
 ghost use Rattle.gomp_types.specs.declared.loop_desc.EndKind.TheVariants.{Wait as WaitEnd};
+ghost use Rattle.gomp_types.specs.declared.reply.Reply.TheVariants.{Wait, Refused};
+ghost use Rattle.gomp_types.specs.declared.refusal.Refusal.{Refusal};
 ghost use Rattle.gomp_types.specs.declared.limits.Limits.{Limits};
 ghost use Rattle.gomp_types.specs.Tests.{first_refusal, outcome};
 ghost use Rattle.gomp_types.specs.Events.{entered};
@@ -19,8 +21,10 @@ use gomp_share_plain::{Construct, Opening, Shares};
 use gomp_types::{Call, EndKind, Limits, LoopDesc, Refusal, Reply, laws};
 
 /// Why the member may not make this call: the first test that holds of those that its place among
-/// the shares decides. `Mismatch`, which compares it with other members, is not among them, and a
-/// call on another construct has none here.
+/// the shares decides. `Mismatch`, which compares it with other members, is not among them.
+///
+/// A barrier and the region's end have theirs here, `InsideShare`, whatever share the member is in; a
+/// call on sections, a `single` or an ordered part has none.
 pub fn first_refusal<S: Shares>(
     shares: &S,
     member: u16,
@@ -51,6 +55,8 @@ pub fn loop_start<S: Shares>(shares: &mut S, member: u16, limits: &Limits, desc:
     ensures known { (h : List Event) × S.stands shares.old h }
     ensures answer { EachStands (S.stands shares.old) (IsReply limits.now (S.members shares.old) member (LoopStart desc.now) result) }
     ensures stands { EachStands (S.stands shares.old) (λ h. S.stands shares.new (added false member (entered member h) result (LoopStart desc.now) h)) }
+    ensures kept { (refusal : Refusal) → result ≡ Refused refusal → shares.new ≡ shares.old }
+    ensures waits { result ≡ Wait → shares.new ≡ shares.old }
 {
     laws::values_tell();
     let seen = shares.look(member);
@@ -81,6 +87,8 @@ pub fn loop_next<S: Shares>(shares: &mut S, member: u16) -> Reply
     ensures known { (h : List Event) × S.stands shares.old h }
     ensures answer { (limits : Limits) → EachStands (S.stands shares.old) (IsReply limits (S.members shares.old) member LoopNext result) }
     ensures stands { EachStands (S.stands shares.old) (λ h. S.stands shares.new (added false member (entered member h) result LoopNext h)) }
+    ensures kept { (refusal : Refusal) → result ≡ Refused refusal → shares.new ≡ shares.old }
+    ensures waits { result ≡ Wait → shares.new ≡ shares.old }
 {
     laws::values_tell();
     let seen = shares.look(member);
@@ -110,6 +118,7 @@ pub fn loop_end<S: Shares>(shares: &mut S, member: u16) -> Result<(), Refusal>
     ensures known { (h : List Event) × S.stands shares.old h }
     ensures answer { EachStands (S.stands shares.old) (λ h. result ≡ outcome (first_refusal (loop_end_tests WaitEnd member h)) tt) }
     ensures stands { EachStands (S.stands shares.old) (λ h. S.stands shares.new (left_unless_refused result member h)) }
+    ensures kept { (refusal : Refusal) → result ≡ Err refusal → shares.new ≡ shares.old }
 {
     let seen = shares.look(member);
     if let Some(refusal) = end_refusal(&seen, Construct::Loop, EndKind::Wait) {
@@ -129,6 +138,7 @@ pub fn loop_end_nowait<S: Shares>(shares: &mut S, member: u16) -> Reply
     ensures known { (h : List Event) × S.stands shares.old h }
     ensures answer { (limits : Limits) → EachStands (S.stands shares.old) (IsReply limits (S.members shares.old) member LoopEndNowait result) }
     ensures stands { EachStands (S.stands shares.old) (λ h. S.stands shares.new (added false member (entered member h) result LoopEndNowait h)) }
+    ensures kept { (refusal : Refusal) → result ≡ Refused refusal → shares.new ≡ shares.old }
 {
     let seen = shares.look(member);
     if let Some(refusal) = end_refusal(&seen, Construct::Loop, EndKind::Nowait) {

@@ -16,9 +16,10 @@ use gomp_types::{Call, EndKind, Limits, LoopDesc, Refusal, Reply, Shape, trips};
 /// those that its place among the shares decides.
 ///
 /// `Mismatch`, which compares it with other members, is not among them, nor are the tests on the
-/// team and on an open wait. A call on another construct has none here.
+/// team and on an open wait. A barrier and the region's end have theirs here, `InsideShare`, whatever
+/// share the member is in; a call on sections, a `single` or an ordered part has none.
 pub fn own_refusal(seen: &Seen, limits: &Limits, call: &Call) -> Option<Refusal>
-    ensures { result ≡ first_refusal (own_tests limits.now seen.now call.now) }
+    ensures first { result ≡ first_refusal (own_tests limits.now seen.now call.now) }
 {
     match call {
         Call::LoopStart(desc) => start_refusal(seen, limits, desc),
@@ -54,7 +55,7 @@ pub fn start_refusal(seen: &Seen, limits: &Limits, desc: &LoopDesc) -> Option<Re
 pub fn piece_reply(shape: &Shape, piece: Option<(u64, u64)>) -> Reply
     requires shape { IsShape shape.now }
     requires within { ForSome piece (λ p. (p.0 < p.1) × (p.1 ≤ shape.now.trips)) }
-    ensures { result ≡ reply_of shape.now piece }
+    ensures answer { result ≡ reply_of shape.now piece }
 {
     match piece {
         Some((low, high)) => Reply::Chunk {

@@ -13,7 +13,7 @@ use gomp_types::{Call, Refusal};
 /// those that its place among the shares decides. A call on another construct has none here.
 pub fn own_refusal(seen: &Seen, call: &Call) -> Option<Refusal>
     requires { HasShape seen.now }
-    ensures { result ≡ first_refusal (own_tests seen.now call.now) }
+    ensures first { result ≡ first_refusal (own_tests seen.now call.now) }
 {
     match call {
         Call::OrderedStart(value) => start_refusal(seen, *value),
@@ -26,7 +26,7 @@ pub fn own_refusal(seen: &Seen, call: &Call) -> Option<Refusal>
 /// `InOrdered`, `NotOrdered` or `OrderedBackwards`.
 pub fn start_refusal(seen: &Seen, value: i64) -> Option<Refusal>
     requires { HasShape seen.now }
-    ensures { result ≡ first_refusal (own_start_tests seen.now value) }
+    ensures first { result ≡ first_refusal (own_start_tests seen.now value) }
 {
     let Some((_, shape)) = seen.current else {
         return Some(Refusal::OutsideShare);
@@ -50,7 +50,7 @@ pub fn start_refusal(seen: &Seen, value: i64) -> Option<Refusal>
 /// begun.
 fn comes_next(seen: &Seen, value: i64) -> bool
     requires { HasShape seen.now }
-    ensures { result ≡ comes_next seen.now.current seen.now.piece seen.now.parted value }
+    ensures answer { result ≡ comes_next seen.now.current seen.now.piece seen.now.parted value }
 {
     let Some((low, high)) = seen.piece else {
         return false;
@@ -64,7 +64,7 @@ fn comes_next(seen: &Seen, value: i64) -> bool
 /// The iteration of the member's loop with this value; none where no iteration has it.
 pub fn iteration_of(seen: &Seen, value: i64) -> Option<u64>
     requires { HasShape seen.now }
-    ensures { result ≡ seen_iteration seen.now.current value }
+    ensures answer { result ≡ seen_iteration seen.now.current value }
 {
     let (_, shape) = seen.current?;
     shape.iteration_of(value)

@@ -3,7 +3,7 @@ use Rattle.std.proofs.Common.{◌≡◌, ℕ, ◌≤◌, true, refl, arith, inl,
 use Rattle.std.specs.Prelude.{nat_le}
 use Rattle.std.proofs.lemmas.Bool.{cases_Bool}
 use Rattle.std.proofs.lemmas.Bool.Decides.{nat_tests}
-use Rattle.gomp_runner.specs.Answers.{is_size}
+use Rattle.gomp_runner.specs.Output.{is_size}
 
 pub size_by : (n : ℕ) → (((1 ≤ n) × (n ≤ 64) → ⊥) → ⊥) → (1 ≤ n) × (n ≤ 64)
 size_by n wrong = elim (cases_Bool (nat_le 1 n)) [

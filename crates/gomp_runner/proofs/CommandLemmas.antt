@@ -1,6 +1,6 @@
 -- The words `ompteam steps` have no fault, and how the program ends on words that have.
-use Rattle.std.proofs.Common.{◌≡◌, ◌∙◌, ℕ, Bool, true, List, [], ◌∷◌, Option, Some, None, Result, Ok, Err, refl, ap, sym, codes, inl, inr, map}
-use Rattle.std.specs.Prelude.{IfOk, find, option_map}
+use Rattle.std.proofs.Common.{◌≡◌, ◌∙◌, ℕ, Bool, true, List, [], ◌∷◌, Option, Some, None, refl, ap, sym, codes, inl, inr, map}
+use Rattle.std.specs.Prelude.{find, option_map}
 use Rattle.std.specs.Option.{option_map_or}
 use Rattle.std.specs.Borrow.{Bor}
 use Rattle.std.specs.Str.{bytes_eq}
@@ -14,7 +14,7 @@ use Rattle.clap.specs.declared.error.kind.ErrorKind.TheVariants as kinds
 use Rattle.gomp_types.specs.declared.refusal.Refusal.{Refusal}
 use Rattle.gomp_types.specs.declared.refusal.Refusal.TheVariants.{BadEnv}
 use Rattle.gomp_icv.specs.Variables.{Variables}
-use Rattle.gomp_runner.specs.CommandLine.{Asks, Ends, Stepped, SteppedBy, Told, faults_of, ompteam, settings_in, settings_of}
+use Rattle.gomp_runner.specs.CommandLine.{Asks, Ends, EndsOnSteps, EndsWithRead, Told, faults_of, ompteam, settings_in, settings_name, settings_of}
 use Rattle.gomp_runner.specs.Examples.{with_another_command, with_settings, with_two_faults}
 use Rattle.gomp_runner.specs.Settings.{first_without, read_settings}
 use Rattle.gomp_runner.specs.declared.serve.Ending.TheVariants as ending
@@ -22,6 +22,7 @@ use Rattle.gomp_runner.specs.declared.command.Notes.{Notes}
 use Rattle.gomp_runner.specs.declared.command.Notes.TheVariants as notes
 use Rattle.gomp_runner.specs.declared.command.Status.{Status}
 
+-- clap's clauses on the kinds of errors speak of such commands alone
 pub is_covered : is_simple_and_free ompteam ≡ true
 unfolding clap_on_literals
 is_covered = refl
@@ -63,11 +64,11 @@ no_asking kind memory (inl help) = absurd (cc)
 no_asking kind memory (inr version) = absurd (cc)
 
 -- after an error for want of memory, the program ends as a text does whose serving wanted memory
-stepped_memory : (settings : List Text) (read : Option (Variables × List Refusal)) (remaining before after : Option (List ℕ)) → after ≡ before → SteppedBy settings read remaining before after (record { code = 3; notes = notes.NoMemory })
+stepped_memory : (settings : List Text) (read : Option (Variables × List Refusal)) (remaining before after : Option (List ℕ)) → after ≡ before → EndsWithRead settings read remaining before after (record { code = 3; notes = notes.NoMemory })
 stepped_memory settings None remaining before after same = (refl, same)
 stepped_memory settings (Some read) remaining before after same = record { ending = ending.NoMemory; serves = same; status_is = refl }
 
-told_memory : (kind : ErrorKind) (settings : List Text) (remaining before after : Option (List ℕ)) (notes : Notes) (code : ℕ) → kind ≡ kinds.OutOfMemory → Told kind before after notes code → Stepped settings remaining before after (record { code = code; notes = notes })
+told_memory : (kind : ErrorKind) (settings : List Text) (remaining before after : Option (List ℕ)) (notes : Notes) (code : ℕ) → kind ≡ kinds.OutOfMemory → Told kind before after notes code → EndsOnSteps settings remaining before after (record { code = code; notes = notes })
 told_memory kind settings remaining before after notes.Nothing code memory told = absurd (no_asking kind memory told.0)
 told_memory kind settings remaining before after notes.NoMemory code memory told = rw told.0 (stepped_memory settings (read_settings settings) remaining before after told.1)
 told_memory kind settings remaining before after (notes.Command text) code memory told = absurd (told.1 memory)
@@ -80,10 +81,6 @@ pub told_ends : (error : Error) (faults : Kinds) (settings : List Text) (remaini
 told_ends error [] settings remaining before after status (inl memory) told = told_memory (kind_of error) settings remaining before after status.notes status.code memory told
 told_ends error [] settings remaining before after status (inr none) told = absurd none
 told_ends error (fault ∷ others) settings remaining before after status among told = record { kind = kind_of error; fault = among; told = told }
-
-pub if_ok : {X E : Type 0} {P Q : X → Type 0} (result : Result X E) → ((x : X) → P x → Q x) → IfOk result P → IfOk result Q
-if_ok (Ok x) step ok = step x ok
-if_ok (Err e) step ok = tt
 
 -- The settings among what was found
 
@@ -107,17 +104,17 @@ mapped_or : {A V : Type 0} (v : A → List V) (found : Option A) → option_map_
 mapped_or v None = refl
 mapped_or v (Some a) = refl
 
-in_rows : (found : Option (Text × List Row)) (rows : List Row) → Some rows ≡ option_map (λ p. p.1) found → settings_in found ≡ option_map_or (λ row. row.values) (find (λ row. bytes_eq row.id (codes "NAME=VALUE")) rows) []
+in_rows : (found : Option (Text × List Row)) (rows : List Row) → Some rows ≡ option_map (λ p. p.1) found → settings_in found ≡ option_map_or (λ row. row.values) (find (λ row. bytes_eq row.id settings_name) rows) []
 in_rows None rows e = absurd (cc)
 in_rows (Some found) rows e = let same : rows ≡ found.1 = cc in rw same refl
 
 pub settings_given : (steps matches : ArgMatches) (given : Option (Bor (List (Bor Text)))) → Some (rows_of (found_of steps)) ≡ option_map (λ p. p.1) (subcommand_rows_of matches) →
-    option_map (λ s. map (λ v. v.now) s.now) given ≡ option_map raw_values (matched_of (found_of steps) (codes "NAME=VALUE")) →
+    option_map (λ s. map (λ v. v.now) s.now) given ≡ option_map raw_values (matched_of (found_of steps) settings_name) →
     option_map_or (λ words. map (λ word. word.now) words.now) given [] ≡ settings_in (subcommand_rows_of matches)
 settings_given steps matches given rows values =
     given_values given
     ∙ ap (λ (found : Option (List Text)). option_map_or (λ v. v) found []) (values ∙ by_second raw_values _ ∙ find_map {R = Row} (found_of steps).entries.items
-    (λ x. bytes_eq x.0.now (codes "NAME=VALUE")) (λ row. bytes_eq row.id (codes "NAME=VALUE"))
+    (λ x. bytes_eq x.0.now settings_name) (λ row. bytes_eq row.id settings_name)
     (λ x. record { id = x.0.now; values = raw_values x.1; count = x.1.count; source = x.1.source; reading = x.1.reading }) (λ x. raw_values x.1) (λ row. row.values) (λ e. refl) (λ e. refl))
-    ∙ mapped_or (λ row. row.values) (find (λ row. bytes_eq row.id (codes "NAME=VALUE")) (rows_of (found_of steps)))
+    ∙ mapped_or (λ row. row.values) (find (λ row. bytes_eq row.id settings_name) (rows_of (found_of steps)))
     ∙ sym (in_rows (subcommand_rows_of matches) (rows_of (found_of steps)) rows)

@@ -1,4 +1,5 @@
 mod AnswerLemmas
 mod CommandLemmas
+mod PlainSettings
 mod ServeLemmas
 mod SettingLemmas

@@ -3,6 +3,8 @@ use Rattle.std.specs.Prelude.{◌≡◌, ◌≢◌, ◌⊎◌, ℕ, true, List, 
 use Rattle.std.specs.Option.{option_map, option_map_or}
 use Rattle.std.specs.Str.{bytes_eq}
 use Rattle.std.specs.Io.KnownBytes.{Appends}
+use Rattle.std.specs.declared.io.ErrorKind.{ErrorKind as IoKind}
+use Rattle.std.specs.declared.io.ErrorKind.TheVariants as io_kinds
 use Rattle.clap.specs.Lexer.{usize_max}
 use Rattle.clap.specs.Words.{App, Kinds, IsAmong, Row, Rule, Text, fault_of, new_app, new_rule, subcommand_of, with_rule, with_subcommand}
 use Rattle.clap.specs.declared.error.kind.ErrorKind.{ErrorKind}
@@ -10,7 +12,7 @@ use Rattle.clap.specs.declared.error.kind.ErrorKind.TheVariants as kinds
 use Rattle.gomp_types.specs.declared.refusal.Refusal.{Refusal}
 use Rattle.gomp_types.specs.declared.refusal.Refusal.TheVariants.{BadEnv}
 use Rattle.gomp_icv.specs.Variables.{Variables}
-use Rattle.gomp_runner.specs.Serving.{Serves}
+use Rattle.gomp_runner.specs.Serving.{ServingEnds}
 use Rattle.gomp_runner.specs.Settings.{first_without, read_settings}
 use Rattle.gomp_runner.specs.declared.serve.Ending.{Ending}
 use Rattle.gomp_runner.specs.declared.serve.Ending.TheVariants as ending
@@ -18,9 +20,13 @@ use Rattle.gomp_runner.specs.declared.command.Notes.{Notes}
 use Rattle.gomp_runner.specs.declared.command.Notes.TheVariants as notes
 use Rattle.gomp_runner.specs.declared.command.Status.{Status}
 
+-- by which the settings are found
+abbrev pub settings_name : Text
+settings_name = codes "NAME=VALUE"
+
 -- the words `NAME=VALUE` behind the subcommand, any number of them
 abbrev pub settings_rule : Rule
-settings_rule = record (new_rule (codes "NAME=VALUE")) { range = Some (record { start_inclusive = 0; end_inclusive = usize_max }) }
+settings_rule = record (new_rule settings_name) { range = Some (record { start_inclusive = 0; end_inclusive = usize_max }) }
 
 -- the subcommand `steps`
 abbrev pub steps_app : App
@@ -44,11 +50,21 @@ faults_of words = fault_of ompteam words
 -- the values of the settings among what was found for a subcommand
 abbrev pub settings_in : Option (Text × List Row) → List Text
 settings_in None = []
-settings_in (Some found) = option_map_or (λ row. row.values) (find (λ row. bytes_eq row.id (codes "NAME=VALUE")) found.1) []
+settings_in (Some found) = option_map_or (λ row. row.values) (find (λ row. bytes_eq row.id settings_name) found.1) []
 
 -- the settings of a command line
 abbrev pub settings_of : List Text → List Text
 settings_of words = settings_in (subcommand_of ompteam words)
+
+-- the word begins with no hyphen
+abbrev pub IsPlain : Text → Type 0
+IsPlain [] = Unit {0}
+IsPlain (b ∷ word) = b ≢ 45
+
+-- none of the words begins with a hyphen
+abbrev pub ArePlain : List Text → Type 0
+ArePlain [] = Unit {0}
+ArePlain (word ∷ words) = IsPlain word × ArePlain words
 
 -- the ignored words are named
 abbrev pub Names : List Refusal → Notes → Type 0
@@ -82,9 +98,9 @@ IsStatus ending.InputFault ignored status = status ≡ record { code = 1; notes 
 IsStatus ending.OutputFault ignored status = status ≡ record { code = 1; notes = notes.OutputFault }
 
 -- the program ends as a text of steps does that was served by these variables, where these words were ignored
-pub record ServedBy (icv : Variables) (ignored : List Refusal) (remaining before after : Option (List ℕ)) (status : Status) : Type 0 where
+pub record EndsServedBy (icv : Variables) (ignored : List Refusal) (remaining before after : Option (List ℕ)) (status : Status) : Type 0 where
   pub ending : Ending
-  pub serves : Serves icv remaining before after ending
+  pub serves : ServingEnds icv remaining before after ending
   pub status_is : IsStatus ending ignored status
 
 -- what is told of a word that has no `=`
@@ -97,14 +113,24 @@ IsFault word (notes.Command text) code = (Some (string_bytes text) ≡ option_ma
 IsFault word notes.NoMemory code = code ≡ 3
 IsFault word _ code = ⊥
 
+-- what is told where a word of the command line is not UTF-8
+abbrev pub not_utf8_text : List ℕ
+not_utf8_text = codes "error: a word of the command line is not UTF-8\n"
+
+-- the words could not be had, by an error of this kind: that is noted, or want of memory is
+abbrev pub HasNoWords : IoKind → Notes → ℕ → Type 0
+HasNoWords kind (notes.Command text) code = (kind ≢ io_kinds.OutOfMemory) × (string_bytes text ≡ not_utf8_text) × (code ≡ 1)
+HasNoWords kind notes.NoMemory code = code ≡ 3
+HasNoWords kind _ code = ⊥
+
 -- the program ends so where these settings were read as these variables and ignored words, or a word of them has no `=`: the first of those is named
-abbrev pub SteppedBy : List Text → Option (Variables × List Refusal) → Option (List ℕ) → Option (List ℕ) → Option (List ℕ) → Status → Type 0
-SteppedBy settings None remaining before after status = IsFault (first_without settings) status.notes status.code × (after ≡ before)
-SteppedBy settings (Some read) remaining before after status = ServedBy read.0 read.1 remaining before after status
+abbrev pub EndsWithRead : List Text → Option (Variables × List Refusal) → Option (List ℕ) → Option (List ℕ) → Option (List ℕ) → Status → Type 0
+EndsWithRead settings None remaining before after status = IsFault (first_without settings) status.notes status.code × (after ≡ before)
+EndsWithRead settings (Some read) remaining before after status = EndsServedBy read.0 read.1 remaining before after status
 
 -- how the program ends on the word `steps` and these settings
-abbrev pub Stepped : List Text → Option (List ℕ) → Option (List ℕ) → Option (List ℕ) → Status → Type 0
-Stepped settings remaining before after status = SteppedBy settings (read_settings settings) remaining before after status
+abbrev pub EndsOnSteps : List Text → Option (List ℕ) → Option (List ℕ) → Option (List ℕ) → Status → Type 0
+EndsOnSteps settings remaining before after status = EndsWithRead settings (read_settings settings) remaining before after status
 
 -- an error of this kind asks for help or for the version
 abbrev pub Asks : ErrorKind → Type 0
@@ -127,5 +153,5 @@ pub record Refused (faults : Kinds) (before after : Option (List ℕ)) (status :
 
 -- how the program ends on words with these faults and settings
 abbrev pub Ends : Kinds → List Text → Option (List ℕ) → Option (List ℕ) → Option (List ℕ) → Status → Type 0
-Ends [] settings remaining before after status = Stepped settings remaining before after status
+Ends [] settings remaining before after status = EndsOnSteps settings remaining before after status
 Ends (fault ∷ others) settings remaining before after status = Refused (fault ∷ others) before after status

@@ -1,5 +1,5 @@
-pub mod Answers
 pub mod CommandLine
 pub mod Examples
+pub mod Output
 pub mod Serving
 pub mod Settings

@@ -5,7 +5,7 @@ use Rattle.std.specs.declared.io.ErrorKind.{ErrorKind}
 use Rattle.std.specs.declared.io.ErrorKind.TheVariants as kind
 use Rattle.gomp_script.specs.StepText.{steps_of}
 use Rattle.gomp_icv.specs.Variables.{Variables}
-use Rattle.gomp_runner.specs.Answers.{AnswerTo}
+use Rattle.gomp_runner.specs.Output.{AnswerTo}
 use Rattle.gomp_runner.specs.declared.serve.Ending.{Ending}
 use Rattle.gomp_runner.specs.declared.serve.Ending.TheVariants.{Answered, NoMemory, InputFault, OutputFault}
 
@@ -18,7 +18,7 @@ abbrev pub max_text : ℕ
 max_text = 16777216
 
 -- a text was read whole, and the answer to it was written, and nothing else; what a reader has and a writer holds is known of some, of a process's input and output it is not
-pub record Served (icv : Variables) (remaining before after : Option (List ℕ)) (code : ℕ) : Type 0 where
+pub record AnswerWritten (icv : Variables) (remaining before after : Option (List ℕ)) (code : ℕ) : Type 0 where
   pub text : List ℕ
   pub whole : Whole max_text remaining text
   pub output : List ℕ
@@ -26,11 +26,11 @@ pub record Served (icv : Variables) (remaining before after : Option (List ℕ))
   pub written : Appends before after output
 
 -- what became of the reader's text: before and after are what the writer holds
-abbrev pub Serves : Variables → Option (List ℕ) → Option (List ℕ) → Option (List ℕ) → Ending → Type 0
-Serves icv remaining before after (Answered code) = Served icv remaining before after code
-Serves icv remaining before after NoMemory = after ≡ before
-Serves icv remaining before after InputFault = after ≡ before
-Serves icv remaining before after OutputFault = ⊤
+abbrev pub ServingEnds : Variables → Option (List ℕ) → Option (List ℕ) → Option (List ℕ) → Ending → Type 0
+ServingEnds icv remaining before after (Answered code) = AnswerWritten icv remaining before after code
+ServingEnds icv remaining before after NoMemory = after ≡ before
+ServingEnds icv remaining before after InputFault = after ≡ before
+ServingEnds icv remaining before after OutputFault = ⊤
 
 -- the end after a read that failed
 abbrev pub unread_as : ErrorKind → Ending

@@ -5,8 +5,8 @@ use Rattle.std.specs.Option.{option_map}
 use Rattle.gomp_types.specs.declared.refusal.Refusal.{Refusal}
 use Rattle.gomp_icv.specs.Variables.{Variables}
 use Rattle.gomp_icv.specs.EnvWords.{read_env}
-use Rattle.gomp_runner.specs.declared.settings.Unset.{Unset}
-use Rattle.gomp_runner.specs.declared.settings.Unset.TheVariants.{NoMemory, NoEquals}
+use Rattle.gomp_runner.specs.declared.settings.SettingsError.{SettingsError}
+use Rattle.gomp_runner.specs.declared.settings.SettingsError.TheVariants.{NoMemory, NoEquals}
 
 abbrev pub Text : Type 0
 Text = List ℕ
@@ -43,11 +43,11 @@ abbrev pub read_settings : List Text → Option (Variables × List Refusal)
 read_settings words = option_map read_env (pairs_of words)
 
 -- words are not read as settings: memory was refused, or this is the first that has no `=`
-abbrev pub IsUnset : {Y : Type 0} → (List Text → Option Y) → List Text → Unset → Type 0
-IsUnset read words NoMemory = ⊤
-IsUnset read words (NoEquals word) = (first_without words ≡ Some word.now) × (read words ≡ None)
+abbrev pub IsSettingsError : {Y : Type 0} → (List Text → Option Y) → List Text → SettingsError → Type 0
+IsSettingsError read words NoMemory = ⊤
+IsSettingsError read words (NoEquals word) = (first_without words ≡ Some word.now) × (read words ≡ None)
 
 -- what is given, seen by `view`, is what is read of the words
-abbrev pub Gives : {X Y : Type 0} → (X → Y) → (List Text → Option Y) → List Text → Result X Unset → Type 0
+abbrev pub Gives : {X Y : Type 0} → (X → Y) → (List Text → Option Y) → List Text → Result X SettingsError → Type 0
 Gives view read words (Ok found) = read words ≡ Some (view found)
-Gives view read words (Err error) = IsUnset read words error
+Gives view read words (Err error) = IsSettingsError read words error

@@ -2,7 +2,7 @@
 
 ghost use Rattle.std.specs.Prelude.{◌≡◌, min, IfOk, string_bytes};
 ghost use Rattle.gomp_script.specs.StepText.{steps_of};
-ghost use Rattle.gomp_runner.specs.Answers.{AnswerTo};
+ghost use Rattle.gomp_runner.specs.Output.{AnswerTo};
 
 use gomp_core::run;
 use gomp_icv::Icv;
@@ -14,6 +14,7 @@ use std::alloc::{AllocError, Global};
 /// What is written for a text, and the exit status.
 #[derive(Drop)]
 pub struct Answer {
+    /// The lines that are written.
     pub text: String,
     /// 0 where the steps were answered, 1 where a line is bad, 2 where there is no such team.
     pub code: u8,

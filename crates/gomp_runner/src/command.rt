@@ -2,12 +2,13 @@
 
 ghost use Rattle.std.specs.Prelude.{◌≡◌, ℕ, false, Some, List, [], ◌∷◌, IfOk, map, codes};
 ghost use Rattle.std.specs.Option.{option_map_or};
+ghost use Rattle.std.specs.IoError.{error_kind};
 ghost use Rattle.clap.specs.Words.{FailsBy, app_of, kind_of, rule_of, subcommand_rows_of};
-ghost use Rattle.gomp_runner.specs.CommandLine.{Ends, Stepped, Told, IsStatus, IsFault, faults_of, settings_of, settings_in, settings_rule, ompteam};
+ghost use Rattle.gomp_runner.specs.CommandLine.{ArePlain, Ends, EndsOnSteps, Told, IsStatus, IsFault, HasNoWords, faults_of, settings_of, settings_in, settings_rule, ompteam};
 ghost use Rattle.gomp_runner.specs.declared.command.Notes.TheVariants.{NoMemory, OutputFault};
 
 use crate::serve::{Ending, serve_steps};
-use crate::settings::{Unset, read_settings};
+use crate::settings::{SettingsError, read_settings};
 use clap::error::ErrorKind;
 use clap::{Arg, ArgMatches, Command, Error};
 use gomp_types::Refusal;
@@ -37,6 +38,7 @@ pub struct Status {
     /// 0 where the text was answered; 1 where a line of it is bad, the command line is refused, or
     /// input or output failed; 2 where there is no such team; 3 for want of memory.
     pub code: u8,
+    /// What is told beside the output.
     pub notes: Notes,
 }
 
@@ -53,7 +55,8 @@ pub fn serve<S: AsStr, R: Read + Drop, W: Write>(
     writer: &mut W,
 ) -> Status
     ensures ends { Ends (faults_of (map S.text words.now)) (settings_of (map S.text words.now)) (R.remaining reader) (W.contents writer.old) (W.contents writer.new) result }
-    ensures steps { (name : List ℕ) → map S.text words.now ≡ name ∷ codes "steps" ∷ [] → Stepped [] (R.remaining reader) (W.contents writer.old) (W.contents writer.new) result }
+    ensures steps { (name : List ℕ) → map S.text words.now ≡ name ∷ codes "steps" ∷ [] → EndsOnSteps [] (R.remaining reader) (W.contents writer.old) (W.contents writer.new) result }
+    ensures settings { (name : List ℕ) (settings : List (List ℕ)) → map S.text words.now ≡ name ∷ codes "steps" ∷ settings → ArePlain settings → EndsOnSteps settings (R.remaining reader) (W.contents writer.old) (W.contents writer.new) result }
 {
     match accepted(alloc, words) {
         Ok(matches) => match settings(&matches) {
@@ -71,12 +74,12 @@ fn steps<R: Read + Drop, W: Write>(
     reader: R,
     writer: &mut W,
 ) -> Status
-    ensures { Stepped (map (λ word. word.now) settings.now) (R.remaining reader) (W.contents writer.old) (W.contents writer.new) result }
+    ensures { EndsOnSteps (map (λ word. word.now) settings.now) (R.remaining reader) (W.contents writer.old) (W.contents writer.new) result }
 {
     match read_settings(alloc, settings) {
         Ok((icv, ignored)) => ended(serve_steps(alloc, icv, reader, writer), ignored),
-        Err(Unset::NoMemory) => no_memory(),
-        Err(Unset::NoEquals(word)) => no_equals(alloc, word),
+        Err(SettingsError::NoMemory) => no_memory(),
+        Err(SettingsError::NoEquals(word)) => no_equals(alloc, word),
     }
 }
 
@@ -126,6 +129,7 @@ fn ompteam<'a>(alloc: Global) -> Result<Command<'a>, AllocError>
         .subcommand(steps)
 }
 
+/// The argument that takes the settings, any number of them.
 fn settings_arg<'a>(alloc: Global) -> Arg<'a>
     ensures rule { rule_of result ≡ settings_rule }
     ensures local { result.global ≡ false }
@@ -136,7 +140,9 @@ fn settings_arg<'a>(alloc: Global) -> Arg<'a>
 }
 
 /// The end where the words of the command line cannot be had.
-pub fn without_words(alloc: Global, error: &io::Error) -> Status {
+pub fn without_words(alloc: Global, error: &io::Error) -> Status
+    ensures { HasNoWords (error_kind error.now) result.notes result.code }
+{
     if let io::ErrorKind::OutOfMemory = error.kind() {
         return no_memory();
     }

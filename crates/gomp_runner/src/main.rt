@@ -14,9 +14,13 @@ mod settings;
 #[cfg(test)]
 mod worked;
 #[cfg(test)]
+mod worked_schedules;
+#[cfg(test)]
 mod worked_settings;
 #[cfg(test)]
 mod worked_shares;
+#[cfg(test)]
+mod worked_team;
 
 use command::{serve, without_words};
 use notes::write_notes;

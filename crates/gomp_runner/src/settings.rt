@@ -11,35 +11,38 @@ use std::alloc::{AllocError, AllocFailed, Global};
 
 /// Why words are not read as settings.
 #[derive(Clone, Copy, Debug, PartialEq, Eq)]
-pub enum Unset<'a> {
+pub enum SettingsError<'a> {
     /// Memory was refused.
     NoMemory,
     /// This word has no `=`, and none before it lacks one.
     NoEquals(&'a str),
 }
 
-impl From<AllocError> for Unset<'_> {
-    ghost use Rattle.gomp_runner.specs.declared.settings.Unset.TheVariants.{NoMemory};
+impl From<AllocError> for SettingsError<'_> {
+    ghost use Rattle.gomp_runner.specs.declared.settings.SettingsError.TheVariants.{NoMemory};
 
     ghost from_gives = { λ _ e. e ≡ NoMemory };
 
     fn from(_: AllocError) -> Self {
-        Unset::NoMemory
+        SettingsError::NoMemory
     }
 }
 
-impl<T: Drop> From<AllocFailed<T>> for Unset<'_> {
-    ghost use Rattle.gomp_runner.specs.declared.settings.Unset.TheVariants.{NoMemory};
+impl<T: Drop> From<AllocFailed<T>> for SettingsError<'_> {
+    ghost use Rattle.gomp_runner.specs.declared.settings.SettingsError.TheVariants.{NoMemory};
 
     ghost from_gives = { λ _ e. e ≡ NoMemory };
 
     fn from(_: AllocFailed<T>) -> Self {
-        Unset::NoMemory
+        SettingsError::NoMemory
     }
 }
 
 /// The control variables that these words give, and a refusal for each word that is ignored.
-pub fn read_settings<'a>(alloc: Global, words: &[&'a str]) -> Result<(Icv, Vec<Refusal>), Unset<'a>>
+pub fn read_settings<'a>(
+    alloc: Global,
+    words: &[&'a str],
+) -> Result<(Icv, Vec<Refusal>), SettingsError<'a>>
     ensures { Gives (λ read. (read.0, read.1.items)) read_settings (map (λ word. word.now) words.now) result }
 {
     let pairs = split_all(alloc, words)?;
@@ -48,14 +51,17 @@ pub fn read_settings<'a>(alloc: Global, words: &[&'a str]) -> Result<(Icv, Vec<R
 }
 
 /// The name and the value of each word, cut at its first `=`.
-fn split_all<'a>(alloc: Global, words: &[&'a str]) -> Result<Vec<(&'a str, &'a str)>, Unset<'a>>
+fn split_all<'a>(
+    alloc: Global,
+    words: &[&'a str],
+) -> Result<Vec<(&'a str, &'a str)>, SettingsError<'a>>
     ensures { Gives (λ pairs. map (λ pair. (pair.0.now, pair.1.now)) pairs.items) pairs_of (map (λ word. word.now) words.now) result }
 {
     let mut pairs = Vec::new(alloc);
     for word in words {
         match split(word) {
             Some(pair) => pairs.push(pair)?,
-            None => return Err(Unset::NoEquals(*word)),
+            None => return Err(SettingsError::NoEquals(*word)),
         }
     }
     Ok(pairs)

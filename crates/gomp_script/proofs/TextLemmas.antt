@@ -1,5 +1,5 @@
 -- Texts, line by line.
-use Rattle.std.proofs.Common.{◌≡◌, ℕ, ◌+◌, ◌<◌, suc, List, [], ◌∷◌, ◌++◌, Option, Some, None, Result, Ok, Err, length, Bor, refl, ap, ◌∙◌, arith}
+use Rattle.std.proofs.Common.{◌≡◌, ℕ, ◌+◌, ◌<◌, suc, List, [], ◌∷◌, ◌++◌, Option, Some, None, Result, Ok, Err, length, Bor, refl, ap, ◌∙◌, sym, append_assoc, arith}
 use Rattle.std.specs.Prelude.{IfSome, option_copied}
 use Rattle.gomp_types.specs.declared.call.Step.{Step}
 use Rattle.gomp_types.specs.Record.{shown}
@@ -23,16 +23,8 @@ abbrev pub with_fronts : List Step → Result (List Step) BadLine → Result (Li
 with_fronts steps (Ok later) = Ok (steps ++ later)
 with_fronts steps (Err bad) = Err bad
 
-pub no_fronts : (read : Result (List Step) BadLine) → with_fronts [] read ≡ read
-no_fronts (Ok later) = refl
-no_fronts (Err bad) = refl
-
 pub one_more : (steps : List Step) (step : Step) (read : Result (List Step) BadLine) → with_fronts steps (with_front step read) ≡ with_fronts (steps ++ step ∷ []) read
-one_more steps step (Ok later) = ap (λ (all : List Step). Ok all) (regrouped steps step later)
-  where
-    regrouped : (steps : List Step) (step : Step) (later : List Step) → steps ++ (step ∷ later) ≡ (steps ++ step ∷ []) ++ later
-    regrouped [] step later = refl
-    regrouped (s ∷ steps) step later = ap (λ (all : List Step). s ∷ all) (regrouped steps step later)
+one_more steps step (Ok later) = ap (λ (all : List Step). Ok all) (sym (append_assoc steps (step ∷ []) later))
 one_more steps step (Err bad) = refl
 
 -- a line that is no fault is kept

@@ -1,5 +1,5 @@
 -- The text of steps: a line `team N`, and then a line `MEMBER CALL` for each step. (own)
-use Rattle.std.specs.Prelude.{ℕ, ◌≡◌, ◌+◌, ◌++◌, ◌==◌, Bool, true, false, if◌then◌else◌, List, [], ◌∷◌, take, drop, Option, Some, None, Result, Ok, Err, codes}
+use Rattle.std.specs.Prelude.{ℕ, ℤ, ◌≡◌, ◌+◌, ◌++◌, ◌==◌, Bool, true, false, if◌then◌else◌, List, [], ◌∷◌, take, drop, Option, Some, None, Result, Ok, Err, codes}
 use Rattle.gomp_types.specs.declared.call.Call.{Call}
 use Rattle.gomp_types.specs.declared.call.Call.TheVariants.{LoopStart, LoopNext, LoopEnd, LoopEndNowait, SectionsStart, SectionsNext, SectionsEnd, SectionsEndNowait, SingleStart, SingleCopyStart, SingleCopyEnd, OrderedStart, OrderedEnd, Barrier, RegionEnd, Resume, Stop}
 use Rattle.gomp_types.specs.declared.call.Step.{Step}
@@ -36,6 +36,20 @@ next (word ∷ words) = Ok (word, words)
 abbrev pub finished : List (List ℕ) → Result (Unit {0}) Why
 finished [] = Ok tt
 finished (word ∷ words) = Err ExtraWord
+
+-- Numbers
+
+-- the number of a member, a u16
+abbrev pub member_of : List ℕ → Result ℕ Why
+member_of word = wanted BadNumber (unsigned 65535 word)
+
+-- a count, a u32
+abbrev pub count_of : List ℕ → Result ℕ Why
+count_of word = wanted BadNumber (unsigned 4294967295 word)
+
+-- a number of a loop, an i64
+abbrev pub number_of : List ℕ → Result ℤ Why
+number_of word = wanted BadNumber (signed word)
 
 -- The words of a list
 
@@ -79,7 +93,7 @@ call_of word =
 unfoldable pub plain_step : List ℕ → List ℕ → List (List ℕ) → Result Step Why
 plain_step member call words = do
   made ← wanted UnknownWord (call_of call)
-  number ← wanted BadNumber (unsigned 65535 member)
+  number ← member_of member
   done ← finished words
   Ok (record { member = number; call = made })
 
@@ -100,11 +114,11 @@ loop_step member words = do
   incr ← next end.1
   ending ← next incr.1
   end_kind ← wanted UnknownWord (end_of ending.0)
-  number ← wanted BadNumber (unsigned 65535 member)
-  size ← wanted BadNumber (signed chunk.0)
-  first ← wanted BadNumber (signed start.0)
-  bound ← wanted BadNumber (signed end.0)
-  step ← wanted BadNumber (signed incr.0)
+  number ← member_of member
+  size ← number_of chunk.0
+  first ← number_of start.0
+  bound ← number_of end.0
+  step ← number_of incr.0
   ordered ← ordered_of ending.1
   Ok (record { member = number; call = LoopStart (record { start = first; end = bound; incr = step; sched = sched; chunk = size; ordered = ordered; end_kind = end_kind }) })
 
@@ -114,8 +128,8 @@ sections_step member words = do
   count ← next words
   ending ← next count.1
   end_kind ← wanted UnknownWord (end_of ending.0)
-  number ← wanted BadNumber (unsigned 65535 member)
-  sections ← wanted BadNumber (unsigned 4294967295 count.0)
+  number ← member_of member
+  sections ← count_of count.0
   done ← finished ending.1
   Ok (record { member = number; call = SectionsStart sections end_kind })
 
@@ -140,7 +154,7 @@ payload_of most words = do
 -- `MEMBER single_copy_end [W]..`
 unfoldable pub copy_end_step : List ℕ → List (List ℕ) → Result Step Why
 copy_end_step member words = do
-  number ← wanted BadNumber (unsigned 65535 member)
+  number ← member_of member
   payload ← payload_of 8 words
   Ok (record { member = number; call = SingleCopyEnd payload })
 
@@ -148,8 +162,8 @@ copy_end_step member words = do
 unfoldable pub ordered_step : List ℕ → List (List ℕ) → Result Step Why
 ordered_step member words = do
   value ← next words
-  number ← wanted BadNumber (unsigned 65535 member)
-  iteration ← wanted BadNumber (signed value.0)
+  number ← member_of member
+  iteration ← number_of value.0
   done ← finished value.1
   Ok (record { member = number; call = OrderedStart iteration })
 
@@ -173,7 +187,7 @@ team_of words = do
   first ← next words
   named ← wanted FirstLine (if same_word first.0 (codes "team") then Some (tt {0}) else None)
   count ← next first.1
-  number ← wanted BadNumber (unsigned 4294967295 count.0)
+  number ← count_of count.0
   done ← finished count.1
   Ok number
 
@@ -188,12 +202,21 @@ abbrev pub said : {A : Type 0} → Result A Why → Result (Option A) Why
 said (Ok value) = Ok (Some value)
 said (Err why) = Err why
 
+-- these words, or none where they are a comment
+abbrev pub without_comment : List (List ℕ) → List (List ℕ)
+without_comment [] = []
+without_comment (word ∷ words) = if begins_comment word then [] else word ∷ words
+
+-- the words of a line, none of a comment
+abbrev pub line_words : List ℕ → Result (List (List ℕ)) Why
+line_words line = if is_ascii line then Ok (without_comment (words_of line)) else Err NotAscii
+
 abbrev pub read_words : {A : Type 0} → (List (List ℕ) → Result A Why) → List (List ℕ) → Result (Option A) Why
 read_words reads [] = Ok None
-read_words reads (word ∷ words) = if begins_comment word then Ok None else said (reads (word ∷ words))
+read_words reads (word ∷ words) = said (reads (word ∷ words))
 
 abbrev pub read_line : {A : Type 0} → (List (List ℕ) → Result A Why) → List ℕ → Result (Option A) Why
-read_line reads line = if is_ascii line then read_words reads (words_of line) else Err NotAscii
+read_line reads line = line_words line >>= read_words reads
 
 -- Texts
 

@@ -1,8 +1,9 @@
 //! From a text of steps to the size of the team and the steps.
 
-ghost use Rattle.std.specs.Prelude.{◌≡◌, ℕ, List, Ok, Err, Option, Some, None, ◌∷◌, option_copied, OnOk};
+ghost use Rattle.std.specs.Prelude.{◌≡◌, ℕ, List, Ok, Err, Option, Some, None, [], ◌∷◌, option_copied, MatchResult, OnOk};
+ghost use Rattle.std.specs.Option.{option_map_or};
 ghost use Rattle.gomp_text.specs.Words.{words_of};
-ghost use Rattle.gomp_script.specs.StepText.{call_step, step_of, team_of, read_line, steps_from, steps_of, lines_left, kept, begins_comment, Gives};
+ghost use Rattle.gomp_script.specs.StepText.{call_step, step_of, team_of, read_line, line_words, steps_from, steps_of, lines_left, kept, begins_comment, Gives};
 
 mod loops;
 mod ordered;
@@ -11,7 +12,7 @@ mod plain;
 mod sections;
 mod words;
 
-use gomp_text::{cut, is_ascii, is_word, next_word, unsigned};
+use gomp_text::{cut, is_ascii, is_word, next_word};
 use gomp_types::Step;
 use loops::loop_step;
 use ordered::ordered_step;
@@ -19,14 +20,14 @@ use payload::copy_end_step;
 use plain::plain_step;
 use sections::sections_step;
 use std::alloc::{AllocError, AllocFailed, Global};
-use words::{finish, take_word};
+use words::{count_of, finish, take_word};
 
 /// Why a line is bad. A line is tested for these in this order.
 #[derive(Clone, Copy, Debug, PartialEq, Eq)]
 pub enum Why {
     /// A byte above 127.
     NotAscii,
-    /// The first line that counts does not begin with `team`.
+    /// The first word of the first line that counts is not `team`, or no line counts.
     FirstLine,
     /// A word that should be one of a list, and is not.
     UnknownWord,
@@ -43,6 +44,7 @@ pub enum Why {
 pub struct BadLine {
     /// Its number, from 1; skipped lines count.
     pub line: u64,
+    /// The first of its faults.
     pub why: Why,
 }
 
@@ -75,7 +77,8 @@ impl<T: Drop> From<AllocFailed<T>> for ParseError {
     }
 }
 
-/// The size of the team that a text asks for, and its steps.
+/// The size of the team that a text asks for, and its steps. The size is the number that stands
+/// there, 0 to 2^32 - 1: whether a team may have it is not asked here.
 ///
 /// The error is the first bad line, with the first of its faults, or want of memory.
 pub fn parse_steps(alloc: Global, text: &[u8]) -> Result<(u32, Vec<Step>), ParseError>
@@ -138,15 +141,9 @@ fn keep(steps: &mut Vec<Step>, said: Option<Step>) -> Result<(), AllocError>
 fn read_team(line: &[u8]) -> Result<Option<u32>, Why>
     ensures { result ≡ read_line team_of line.now }
 {
-    if !is_ascii(line) {
-        return Err(Why::NotAscii);
-    }
-    let Some((word, rest)) = next_word(line) else {
+    let Some((word, rest)) = first_word(line)? else {
         return Ok(None);
     };
-    if begins_comment(word) {
-        return Ok(None);
-    }
     let count = team_words(word, rest)?;
     Ok(Some(count))
 }
@@ -154,6 +151,18 @@ fn read_team(line: &[u8]) -> Result<Option<u32>, Why>
 /// The step of a line, if it has one.
 fn read_step(line: &[u8]) -> Result<Option<Step>, Why>
     ensures { result ≡ read_line step_of line.now }
+{
+    let Some((word, rest)) = first_word(line)? else {
+        return Ok(None);
+    };
+    let step = step_words(word, rest)?;
+    Ok(Some(step))
+}
+
+/// The first word of a line, and the rest of the line after it. None where the line has no word, or
+/// is a comment.
+fn first_word(line: &[u8]) -> Result<Option<(&[u8], &[u8])>, Why>
+    ensures { MatchResult result (λ found. line_words line.now ≡ Ok (option_map_or (λ parts. parts.0.now ∷ words_of parts.1.now) found [])) (λ why. line_words line.now ≡ Err why) }
 {
     if !is_ascii(line) {
         return Err(Why::NotAscii);
@@ -164,8 +173,7 @@ fn read_step(line: &[u8]) -> Result<Option<Step>, Why>
     if begins_comment(word) {
         return Ok(None);
     }
-    let step = step_words(word, rest)?;
-    Ok(Some(step))
+    Ok(Some((word, rest)))
 }
 
 /// Whether a line that begins with this word is a comment.
@@ -184,10 +192,7 @@ fn team_words(first: &[u8], rest: &[u8]) -> Result<u32, Why>
         return Err(Why::FirstLine);
     }
     let (count, rest) = take_word(rest)?;
-    let count = match unsigned(count, u32::MAX as u64) {
-        Some(number) => number as u32,
-        None => return Err(Why::BadNumber),
-    };
+    let count = count_of(count)?;
     finish(rest)?;
     Ok(count)
 }

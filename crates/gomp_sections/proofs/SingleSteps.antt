@@ -99,11 +99,10 @@ copy_adds m i words None h e = rw (same_number m) refl
 copy_adds m i words (Some piece) h e = absurd (cc)
 
 -- a test that finds nothing tells what is so
-copy_tells : (inside some unput : Bool) → first_refusal ((not (inside && some && unput), NotInside) ∷ []) ≡ None → (inside ≡ true) × (some ≡ true)
-copy_tells true true true e = (refl, refl)
-copy_tells true true false e = absurd (cc)
-copy_tells true false unput e = absurd (cc)
-copy_tells false some unput e = absurd (cc)
+copy_tells : (inside some : Bool) → first_refusal ((not (inside && some), NotInside) ∷ []) ≡ None → (inside ≡ true) × (some ≡ true)
+copy_tells true true e = (refl, refl)
+copy_tells true false e = absurd (cc)
+copy_tells false some e = absurd (cc)
 
 copy_is_single : (kind : ShareKind) → is_copy kind ≡ true → is_single kind ≡ true
 copy_is_single kinds.SingleCopy e = refl
@@ -123,9 +122,9 @@ done_or true inside some e one = refl
 done_or false inside some e one = rw (e, one) refl
 
 -- who executes took the piece, and may leave: it is in no ordered part, since a single has none
-pub copy_may_leave : (members m : ℕ) (unput : Bool) (seen : Seen) (h : List Event) → m < members → seen ≡ seen_of m h → PartInLoop m h → first_refusal (own_copy_end_tests (seen_of m h) unput) ≡ None → CanLeave members m seen
-copy_may_leave members m unput seen h lt e law none =
-    let told = copy_tells (in_kind is_copy (open_share m h)) (is_some (last_piece m h)) unput none in
+pub copy_may_leave : (members m : ℕ) (seen : Seen) (h : List Event) → m < members → seen ≡ seen_of m h → PartInLoop m h → first_refusal (own_copy_end_tests (seen_of m h)) ≡ None → CanLeave members m seen
+copy_may_leave members m seen h lt e law none =
+    let told = copy_tells (in_kind is_copy (open_share m h)) (is_some (last_piece m h)) none in
     record {
       member = lt;
       inside = rw e (kind_inside is_copy (open_share m h) told.0);

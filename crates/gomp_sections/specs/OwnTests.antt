@@ -1,5 +1,5 @@
 -- The tests of the calls on sections and singles that a member can make by what it sees of its own place, in the order of their numbers. (own)
-use Rattle.std.specs.Prelude.{ℕ, nat_le, not, is_some, ◌&&◌, Bool, List, [], ◌∷◌, ◌++◌}
+use Rattle.std.specs.Prelude.{ℕ, nat_le, not, is_some, ◌&&◌, List, [], ◌∷◌, ◌++◌}
 use Rattle.gomp_types.specs.declared.call.Call.{Call}
 use Rattle.gomp_types.specs.declared.call.Call.TheVariants.{SectionsStart, SectionsNext, SectionsEnd, SectionsEndNowait, SingleStart, SingleCopyStart, SingleCopyEnd}
 use Rattle.gomp_types.specs.declared.loop_desc.EndKind.TheVariants.{Wait, Nowait}
@@ -20,17 +20,17 @@ own_start_tests limits seen count =
     ++ (nat_le limits.shares seen.entered, TooManyShares)
     ∷ []
 
--- the words of a single, where `unput` tells that none were put in the member's share
-abbrev pub own_copy_end_tests : Seen → Bool → List Test
-own_copy_end_tests seen unput = (not (seen_in is_copy seen && is_some seen.piece && unput), NotInside) ∷ []
+-- the words of a single, put by its executor
+abbrev pub own_copy_end_tests : Seen → List Test
+own_copy_end_tests seen = (not (seen_in is_copy seen && is_some seen.piece), NotInside) ∷ []
 
--- of each call, those that the member's place among the shares decides; a call on another construct has none here
-abbrev pub own_tests : Limits → Seen → Bool → Call → List Test
-own_tests limits seen unput (SectionsStart count end_kind) = own_start_tests limits seen count
-own_tests limits seen unput SectionsNext = next_tests_of Sections seen
-own_tests limits seen unput SectionsEnd = end_tests_of Sections Wait seen
-own_tests limits seen unput SectionsEndNowait = end_tests_of Sections Nowait seen
-own_tests limits seen unput SingleStart = outside_tests limits seen
-own_tests limits seen unput SingleCopyStart = outside_tests limits seen
-own_tests limits seen unput (SingleCopyEnd payload) = own_copy_end_tests seen unput
-own_tests limits seen unput _ = []
+-- of each call, those that the member's place among the shares decides; a call on another construct has none here, and the test of a barrier inside a share is in gomp_loops
+abbrev pub own_tests : Limits → Seen → Call → List Test
+own_tests limits seen (SectionsStart count end_kind) = own_start_tests limits seen count
+own_tests limits seen SectionsNext = next_tests_of Sections seen
+own_tests limits seen SectionsEnd = end_tests_of Sections Wait seen
+own_tests limits seen SectionsEndNowait = end_tests_of Sections Nowait seen
+own_tests limits seen SingleStart = outside_tests limits seen
+own_tests limits seen SingleCopyStart = outside_tests limits seen
+own_tests limits seen (SingleCopyEnd payload) = own_copy_end_tests seen
+own_tests limits seen _ = []

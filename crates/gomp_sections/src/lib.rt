@@ -1,10 +1,14 @@
 //! The calls of a member on the sections and `single` constructs of its team.
 //!
 //! Each construct is one work-share: sections are its pieces, one each, and a `single` has one piece,
-//! whose taker executes it. Each call makes the tests of its row (`call_tests`), so it has no premise
-//! but a member of the team, and answers what `MayReply` allows where none of them holds. Whether the
-//! team is broken, the member has left the region or has a wait open, and how it arrives at a
-//! barrier, is tested by the layer above, which also keeps the words of a `single` with
+//! whose taker executes it. Each call makes the tests of its row (`call_tests`) and asks for a member
+//! of the team alone. Where none of them holds it answers what `MayReply` allows, but for three calls:
+//! `single_copy_start` does so where the words that it is handed are those that were put, and the two
+//! ends that have a part above them (`sections_end`, whose arrival is compared there, and
+//! `single_copy_end`, whose words are kept there) answer that the member has left.
+//!
+//! Whether the team is broken, the member has left the region or has a wait open, and how it arrives
+//! at a barrier, is tested by the layer above, which also keeps the words of a `single` with
 //! `copyprivate`.
 //!
 //! OpenMP API 5.2, sections 11.1, 11.3 and 5.7.2. The calls have the form of libgomp's
@@ -12,10 +16,11 @@
 //! (libgomp manual, the ABI chapter).
 #![tactic(auto)]
 
+pub mod calls;
 pub mod own;
 pub mod sections;
 pub mod single;
 
-pub use own::first_refusal;
+pub use calls::first_refusal;
 pub use sections::{sections_end, sections_end_nowait, sections_next, sections_start};
 pub use single::{single_copy_end, single_copy_start, single_start};

@@ -2,10 +2,12 @@
 //!
 //! OpenMP API 5.2, section 11.3.
 
-ghost use Rattle.std.specs.Prelude.{◌≡◌, ◌<◌, ℕ, List, false};
+ghost use Rattle.std.specs.Prelude.{◌≡◌, ◌<◌, ℕ, List, Err, false};
 ghost use Rattle.gomp_types.specs.declared.event.Event.{Event};
 ghost use Rattle.gomp_types.specs.declared.call.Call.TheVariants.{SectionsStart, SectionsNext, SectionsEndNowait};
 ghost use Rattle.gomp_types.specs.declared.loop_desc.EndKind.TheVariants.{Wait as WaitEnd};
+ghost use Rattle.gomp_types.specs.declared.reply.Reply.TheVariants.{Wait, Refused};
+ghost use Rattle.gomp_types.specs.declared.refusal.Refusal.{Refusal};
 ghost use Rattle.gomp_types.specs.declared.limits.Limits.{Limits};
 ghost use Rattle.gomp_types.specs.Tests.{first_refusal, outcome};
 ghost use Rattle.gomp_types.specs.Events.{entered};
@@ -40,6 +42,8 @@ pub fn sections_start<S: Shares>(
     ensures known { (h : List Event) × S.stands shares.old h }
     ensures answer { EachStands (S.stands shares.old) (IsReply limits.now (S.members shares.old) member (SectionsStart count end_kind) result) }
     ensures stands { EachStands (S.stands shares.old) (λ h. S.stands shares.new (added false member (entered member h) result (SectionsStart count end_kind) h)) }
+    ensures kept { (refusal : Refusal) → result ≡ Refused refusal → shares.new ≡ shares.old }
+    ensures waits { result ≡ Wait → shares.new ≡ shares.old }
 {
     let seen = shares.look(member);
     if let Some(refusal) = start_refusal(&seen, limits, count) {
@@ -66,6 +70,7 @@ pub fn sections_next<S: Shares>(shares: &mut S, member: u16) -> Reply
     ensures known { (h : List Event) × S.stands shares.old h }
     ensures answer { (limits : Limits) → EachStands (S.stands shares.old) (IsReply limits (S.members shares.old) member SectionsNext result) }
     ensures stands { EachStands (S.stands shares.old) (λ h. S.stands shares.new (added false member (entered member h) result SectionsNext h)) }
+    ensures kept { (refusal : Refusal) → result ≡ Refused refusal → shares.new ≡ shares.old }
 {
     laws::part_inside();
     let seen = shares.look(member);
@@ -86,6 +91,7 @@ pub fn sections_end<S: Shares>(shares: &mut S, member: u16) -> Result<(), Refusa
     ensures known { (h : List Event) × S.stands shares.old h }
     ensures answer { EachStands (S.stands shares.old) (λ h. result ≡ outcome (first_refusal (sections_end_tests WaitEnd member h)) tt) }
     ensures stands { EachStands (S.stands shares.old) (λ h. S.stands shares.new (left_unless_refused result member h)) }
+    ensures kept { (refusal : Refusal) → result ≡ Err refusal → shares.new ≡ shares.old }
 {
     laws::part_inside();
     let seen = shares.look(member);
@@ -105,6 +111,7 @@ pub fn sections_end_nowait<S: Shares>(shares: &mut S, member: u16) -> Reply
     ensures known { (h : List Event) × S.stands shares.old h }
     ensures answer { (limits : Limits) → EachStands (S.stands shares.old) (IsReply limits (S.members shares.old) member SectionsEndNowait result) }
     ensures stands { EachStands (S.stands shares.old) (λ h. S.stands shares.new (added false member (entered member h) result SectionsEndNowait h)) }
+    ensures kept { (refusal : Refusal) → result ≡ Refused refusal → shares.new ≡ shares.old }
 {
     laws::part_inside();
     let seen = shares.look(member);
@@ -118,7 +125,7 @@ pub fn sections_end_nowait<S: Shares>(shares: &mut S, member: u16) -> Reply
 /// The number of the section that a member was given, 0 where it was given none.
 fn section_number(piece: Option<(u64, u64)>) -> u64
     requires { ForSome piece (λ p. p.0 < p.1) }
-    ensures { result ≡ section_of piece }
+    ensures answer { result ≡ section_of piece }
 {
     match piece {
         Some((low, _)) => low + 1,

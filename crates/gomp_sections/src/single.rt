@@ -3,12 +3,15 @@
 //!
 //! OpenMP API 5.2, sections 11.1 and 5.7.2 (the `copyprivate` clause).
 
-ghost use Rattle.std.specs.Prelude.{◌≡◌, ◌<◌, ℕ, List, false, option_copied};
+ghost use Rattle.std.specs.Prelude.{◌≡◌, ◌<◌, ◌↔◌, ℕ, List, Some, Err, false, option_copied};
 ghost use Rattle.gomp_types.specs.declared.event.Event.{Event};
 ghost use Rattle.gomp_types.specs.declared.call.Call.TheVariants.{SingleStart, SingleCopyStart};
 ghost use Rattle.gomp_types.specs.Tests.{first_refusal, outcome};
+ghost use Rattle.gomp_types.specs.declared.reply.Reply.TheVariants.{Wait, Refused};
+ghost use Rattle.gomp_types.specs.declared.refusal.Refusal.{Refusal};
 ghost use Rattle.gomp_types.specs.Events.{entered, payload_at};
 ghost use Rattle.gomp_types.specs.Record.{added};
+ghost use Rattle.gomp_types.specs.Refusals.{call_tests};
 ghost use Rattle.gomp_types.specs.Causes.{IsReply};
 ghost use Rattle.gomp_share_plain.specs.Calls.{EachStands, seen_of, left_unless_refused};
 ghost use Rattle.gomp_sections.specs.OwnTests.{own_copy_end_tests};
@@ -30,6 +33,8 @@ pub fn single_start<S: Shares>(shares: &mut S, member: u16, limits: &Limits) -> 
     ensures known { (h : List Event) × S.stands shares.old h }
     ensures answer { EachStands (S.stands shares.old) (IsReply limits.now (S.members shares.old) member SingleStart result) }
     ensures stands { EachStands (S.stands shares.old) (λ h. S.stands shares.new (added false member (entered member h) result SingleStart h)) }
+    ensures kept { (refusal : Refusal) → result ≡ Refused refusal → shares.new ≡ shares.old }
+    ensures waits { result ≡ Wait → shares.new ≡ shares.old }
 {
     let seen = shares.look(member);
     if let Some(refusal) = outside_refusal(&seen, limits) {
@@ -50,10 +55,10 @@ pub fn single_start<S: Shares>(shares: &mut S, member: u16, limits: &Limits) -> 
 /// and is in it until [`single_copy_end`]; else it is given the words that the executor put, and has
 /// then left it.
 ///
-/// `put` is what the executor of the member's next share put, None while nobody has. `Wait` where some
-/// member has not left the share eight before, or another member executes and has put no words;
-/// nothing is entered then. Refused with `InsideShare`, `TooManyShares`, or with `Mismatch` where the
-/// team's share of this number is another construct.
+/// `put` is what the executor of the member's next share put, None while nobody has; whether the call
+/// is refused does not depend on it. `Wait` where some member has not left the share eight before, or
+/// another member executes and has put no words; nothing is entered then. Refused with `InsideShare`,
+/// `TooManyShares`, or with `Mismatch` where the team's share of this number is another construct.
 pub fn single_copy_start<S: Shares>(
     shares: &mut S,
     member: u16,
@@ -63,8 +68,11 @@ pub fn single_copy_start<S: Shares>(
     requires { member < S.members shares.old }
     ensures members { S.members shares.new ≡ S.members shares.old }
     ensures known { (h : List Event) × S.stands shares.old h }
+    ensures refused { (refusal : Refusal) → EachStands (S.stands shares.old) (λ h. result ≡ Refused refusal ↔ first_refusal (call_tests limits.now member SingleCopyStart h) ≡ Some refusal) }
     ensures answer { EachStands (S.stands shares.old) (λ h. payload_at (entered member h) h ≡ option_copied put.entry → IsReply limits.now (S.members shares.old) member SingleCopyStart result h) }
-    ensures stands { EachStands (S.stands shares.old) (λ h. payload_at (entered member h) h ≡ option_copied put.entry → S.stands shares.new (added false member (entered member h) result SingleCopyStart h)) }
+    ensures stands { EachStands (S.stands shares.old) (λ h. S.stands shares.new (added false member (entered member h) result SingleCopyStart h)) }
+    ensures kept { (refusal : Refusal) → result ≡ Refused refusal → shares.new ≡ shares.old }
+    ensures waits { result ≡ Wait → shares.new ≡ shares.old }
 {
     let seen = shares.look(member);
     if let Some(refusal) = outside_refusal(&seen, limits) {
@@ -97,18 +105,18 @@ pub fn single_copy_start<S: Shares>(
 /// The executor of a `single` leaves it: this crate's part of putting its words, which the layer above
 /// then keeps.
 ///
-/// `unput` tells whether no words were put yet in the share that the member is in. Refused with
-/// `NotInside` where the member does not execute a `single` whose words are still to be put.
-pub fn single_copy_end<S: Shares>(shares: &mut S, member: u16, unput: bool) -> Result<(), Refusal>
+/// Refused with `NotInside` where the member does not execute a `single` with words.
+pub fn single_copy_end<S: Shares>(shares: &mut S, member: u16) -> Result<(), Refusal>
     requires { member < S.members shares.old }
     ensures members { S.members shares.new ≡ S.members shares.old }
     ensures known { (h : List Event) × S.stands shares.old h }
-    ensures answer { EachStands (S.stands shares.old) (λ h. result ≡ outcome (first_refusal (own_copy_end_tests (seen_of member h) unput)) tt) }
+    ensures answer { EachStands (S.stands shares.old) (λ h. result ≡ outcome (first_refusal (own_copy_end_tests (seen_of member h))) tt) }
     ensures stands { EachStands (S.stands shares.old) (λ h. S.stands shares.new (left_unless_refused result member h)) }
+    ensures kept { (refusal : Refusal) → result ≡ Err refusal → shares.new ≡ shares.old }
 {
     laws::part_inside();
     let seen = shares.look(member);
-    if let Some(refusal) = copy_end_refusal(&seen, unput) {
+    if let Some(refusal) = copy_end_refusal(&seen) {
         return Err(refusal);
     }
     shares.leave(member);

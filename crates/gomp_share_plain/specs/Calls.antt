@@ -99,7 +99,7 @@ pub record CanHandOn (members m : ℕ) (seen : Seen) : Type 0 where
   pub ordered : is_ordered seen.current ≡ true
   pub apart : seen.in_part ≡ false
 
--- whether the turn is the member's: every piece of its share before its own was handed on
+-- whether the turn is the member's: every piece of its share before its own was handed on, and its own was not
 abbrev pub turn_in : ℕ → Option (ℕ × Shape) → ℕ → List Event → Bool
 turn_in members None m h = false
 turn_in members (Some share) m h = has_turn members share m h

@@ -7,6 +7,7 @@ ghost use Rattle.gomp_types.specs.Deals.{schedule};
 ghost use Rattle.gomp_types.specs.Laws.{OrderedLaws, ShareLaws};
 ghost use Rattle.gomp_types.specs.Ordered.{is_ordered, is_in_rest};
 ghost use Rattle.gomp_share_plain.specs.Calls.{EachStands, is_done};
+ghost use Rattle.gomp_share_plain.specs.declared.calls.ShareAnswer.TheVariants.{NotMade};
 ghost use Rattle.gomp_share_plain.specs.Runs.{may_make, IsAnswer, answered, AreAnswers, events_after};
 
 use crate::{Opening, Seen, Shares};
@@ -54,7 +55,8 @@ pub enum ShareAnswer {
     Claimed(Option<(u64, u64)>),
     /// To `Leave`.
     Left,
-    /// To `Begin` and `HandOn`: whether every piece before the member's was handed on, and so it did.
+    /// To `Begin` and `HandOn`: whether every piece before the member's was handed on, and its own was
+    /// not, and so it did.
     Turned(bool),
     /// To `EndPart`.
     Ended,
@@ -67,6 +69,8 @@ pub enum ShareAnswer {
 pub fn make_call<S: Shares>(shares: &mut S, count: u16, step: &ShareStep) -> ShareAnswer
     requires { S.members shares.old ≡ count }
     ensures members { S.members shares.new ≡ count }
+    ensures known { step.now.member < count → (h : List Event) × S.stands shares.old h }
+    ensures kept { result ≡ NotMade → shares.new ≡ shares.old }
     ensures answer { EachStands (S.stands shares.old) (IsAnswer count step.now result) }
     ensures stands { EachStands (S.stands shares.old) (λ h. S.stands shares.new (answered step.now result h)) }
 {

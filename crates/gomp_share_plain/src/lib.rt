@@ -12,7 +12,7 @@ pub mod calls;
 pub mod own;
 pub mod plain;
 
-ghost use Rattle.std.specs.Prelude.{◌≡◌, ◌<◌, ℕ, List, [], ◌∷◌, IfOk, Some};
+ghost use Rattle.std.specs.Prelude.{◌≡◌, ◌<◌, ℕ, List, [], ◌∷◌, IfOk, Some, false};
 ghost use Rattle.gomp_types.specs.declared.event.Event.{Event};
 ghost use Rattle.gomp_types.specs.Rules.{Always, ShareRule};
 ghost use Rattle.gomp_types.specs.Deals.{schedule};
@@ -22,6 +22,7 @@ ghost use Rattle.gomp_types.specs.Events.{entered, open_share, shape_at};
 ghost use Rattle.gomp_types.specs.Refusals.{shape_differs};
 ghost use Rattle.gomp_share_plain.specs.Calls.{seen_of, was_taken, CanOpen, MayOpen, opened, CanClaim, Claims, claimed, CanLeave, left, CanBeginPart, CanEndPart, CanHandOn, own_turn, part_begun, part_ended, piece_handed, IsAside, EachStands};
 ghost use Rattle.gomp_share_plain.specs.declared.Seen.{Seen};
+ghost use Rattle.gomp_share_plain.specs.declared.Opening.TheVariants.{Entered};
 
 pub use calls::{ShareAnswer, ShareCall, ShareStep, make_call, make_calls};
 use gomp_types::Shape;
@@ -62,7 +63,7 @@ pub struct Seen {
 /// the order in which it enters them.
 ///
 /// Every value stands for some list of events, the newest first: each call says what it answers
-/// after such a list, and what list its value then stands for. A call's premise is what
+/// after such a list, and what list its value then stands for. A call's premise on the member is what
 /// [`look`](Shares::look) shows.
 pub trait Shares: Sized {
     /// How many members the team has.
@@ -89,24 +90,31 @@ pub trait Shares: Sized {
     fn next_differs(&self, member: u16, shape: &Shape) -> bool
         requires { member < members self.now }
         ensures known { (h : List Event) × stands self.now h }
-        ensures value { EachStands (stands self.now) (λ h. result ≡ shape_differs shape.now (shape_at (entered member h) h)) };
+        ensures answer { EachStands (stands self.now) (λ h. result ≡ shape_differs shape.now (shape_at (entered member h) h)) };
 
     /// Whether some member took a piece of the share that this member enters next.
     fn next_is_taken(&self, member: u16) -> bool
         requires { member < members self.now }
         ensures known { (h : List Event) × stands self.now h }
-        ensures value { EachStands (stands self.now) (λ h. result ≡ was_taken (entered member h) h) };
+        ensures answer { EachStands (stands self.now) (λ h. result ≡ was_taken (entered member h) h) };
 
-    /// Enters the member's next share, which is opened where no other member has.
+    /// Enters the member's next share, which is opened where no other member has. Where it does not,
+    /// nothing changes.
+    ///
+    /// `shape` is that of a construct that is not refused (`LoopDesc::shape`, `sections_shape`,
+    /// `single_shape`). The member is in no share, and has entered fewer than 2^48.
     fn try_open(&mut self, member: u16, shape: &Shape) -> Opening
         requires { CanOpen (members self.old) member shape.now (seen self.old member) }
         ensures members { members self.new ≡ members self.old }
         ensures known { (h : List Event) × stands self.old h }
         ensures answer { EachStands (stands self.old) (MayOpen (members self.old) member shape.now result) }
-        ensures stands { EachStands (stands self.old) (λ h. stands self.new (opened member shape.now result h)) };
+        ensures stands { EachStands (stands self.old) (λ h. stands self.new (opened member shape.now result h)) }
+        ensures kept { (result ≡ Entered → ⊥) → self.new ≡ self.old };
 
     /// Takes the next piece of the member's share that is its to take: its first iteration and the
     /// one after its last. None where nothing is left for the member.
+    ///
+    /// The member is in a share, in no ordered part, and was not told that nothing is left.
     fn claim(&mut self, member: u16) -> Option<(u64, u64)>
         requires { CanClaim (members self.old) member (seen self.old member) }
         ensures members { members self.new ≡ members self.old }
@@ -115,31 +123,41 @@ pub trait Shares: Sized {
         ensures stands { EachStands (stands self.old) (λ h. stands self.new (claimed member result h)) };
 
     /// Begins the ordered part of this iteration of the member's piece, where every piece before its own
-    /// was handed on: whether it did.
+    /// was handed on, and its own was not: whether it did. Where it did not, nothing changes.
+    ///
+    /// The iteration lies in the member's piece, after those whose parts it has begun; the member is in
+    /// an ordered loop, and in no part of it.
     fn try_turn(&mut self, member: u16, iteration: u64) -> bool
         requires { CanBeginPart (members self.old) member iteration (seen self.old member) }
         ensures members { members self.new ≡ members self.old }
         ensures known { (h : List Event) × stands self.old h }
         ensures answer { EachStands (stands self.old) (λ h. result ≡ own_turn (members self.old) member h) }
-        ensures stands { EachStands (stands self.old) (λ h. stands self.new (part_begun member iteration result h)) };
+        ensures stands { EachStands (stands self.old) (λ h. stands self.new (part_begun member iteration result h)) }
+        ensures kept { result ≡ false → self.new ≡ self.old };
 
-    /// Ends the member's ordered part.
+    /// Ends the member's ordered part, in which it is.
     fn end_part(&mut self, member: u16)
         requires { CanEndPart (members self.old) member (seen self.old member) }
         ensures members { members self.new ≡ members self.old }
         ensures known { (h : List Event) × stands self.old h }
         ensures stands { EachStands (stands self.old) (λ h. stands self.new (part_ended member h)) };
 
-    /// Hands the member's piece of an ordered loop on, where every piece before it was: whether it did.
+    /// Hands the member's piece of an ordered loop on, where every piece before it was, and it was not:
+    /// whether it did. Where it did not, nothing changes.
+    ///
+    /// The member is in an ordered loop, and in no part of it.
     fn hand_on(&mut self, member: u16) -> bool
         requires { CanHandOn (members self.old) member (seen self.old member) }
         ensures members { members self.new ≡ members self.old }
         ensures known { (h : List Event) × stands self.old h }
         ensures answer { EachStands (stands self.old) (λ h. result ≡ own_turn (members self.old) member h) }
-        ensures stands { EachStands (stands self.old) (λ h. stands self.new (piece_handed member result h)) };
+        ensures stands { EachStands (stands self.old) (λ h. stands self.new (piece_handed member result h)) }
+        ensures kept { result ≡ false → self.new ≡ self.old };
 
     /// Leaves the member's share, of which nothing is left for it: it was told so, or it took the one
     /// piece of a `single`.
+    ///
+    /// The member is in no ordered part.
     fn leave(&mut self, member: u16)
         requires { CanLeave (members self.old) member (seen self.old member) }
         ensures members { members self.new ≡ members self.old }

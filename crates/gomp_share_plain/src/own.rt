@@ -58,7 +58,7 @@ pub fn outside_refusal(seen: &Seen, limits: &Limits) -> Option<Refusal>
 /// Why a member may not ask for the next piece of such a construct: `OutsideShare`, `InOrdered`
 /// or `Drained`.
 pub fn next_refusal(seen: &Seen, construct: Construct) -> Option<Refusal>
-    ensures { result ≡ first_refusal (next_tests_of construct seen.now) }
+    ensures first { result ≡ first_refusal (next_tests_of construct seen.now) }
 {
     if !is_inside(seen, construct) {
         return Some(Refusal::OutsideShare);
@@ -75,7 +75,7 @@ pub fn next_refusal(seen: &Seen, construct: Construct) -> Option<Refusal>
 /// Why a member may not end such a construct by the call for this end kind: `OutsideShare`,
 /// `InOrdered`, `EndDiffers` or `NotDrained`.
 pub fn end_refusal(seen: &Seen, construct: Construct, end_kind: EndKind) -> Option<Refusal>
-    ensures { result ≡ first_refusal (end_tests_of construct end_kind seen.now) }
+    ensures first { result ≡ first_refusal (end_tests_of construct end_kind seen.now) }
 {
     let Some((_, shape)) = seen.current else {
         return Some(Refusal::OutsideShare);

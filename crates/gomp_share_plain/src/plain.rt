@@ -191,7 +191,7 @@ impl Shares for PlainShares {
             return None;
         };
         let mut cursor = share.cursor;
-        let Some((number, piece)) = take_next(&mut cursor, member, seat.taken, share.taken) else {
+        let Some((number, piece)) = cursor.next_piece(member, seat.taken, share.taken) else {
             self.seats[member as usize] = Seat {
                 drained: true,
                 piece: None,
@@ -263,20 +263,6 @@ fn has_room(seats: &[Seat], number: u64) -> bool
     ensures { IsTrue result ↔ All (λ seat. number < seat.ended + 8) seats.now }
 {
     seats.iter().all(|seat| number < OPEN_SHARES || number - OPEN_SHARES < seat.ended)
-}
-
-/// The piece that a member takes next, with its number, where it took `own` pieces and all members
-/// together took `all`.
-fn take_next(cursor: &mut Cursor, member: u16, own: u64, all: u64) -> Option<(u64, (u64, u64))>
-    requires { member < cursor.old.plan.members }
-    ensures plan { cursor.new.plan ≡ cursor.old.plan }
-    ensures piece { option_map (λ taken. taken.1) result ≡ next_piece cursor.old.plan member own all }
-    ensures number { IfSome result (λ taken. slice_get (pieces cursor.old.plan) taken.0 ≡ Some taken.1) }
-    ensures within { IfSome result (λ taken. (taken.1.0 < taken.1.1) × (taken.1.1 ≤ cursor.old.plan.shape.trips)) }
-{
-    let number = cursor.next_number(member, own, all)?;
-    let piece = cursor.advance_to(number)?;
-    Some((number, piece))
 }
 
 /// Whether the ordered parts of the member's piece are next in its share.

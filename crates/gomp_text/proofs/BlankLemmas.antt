@@ -1,6 +1,7 @@
 -- Blanks behind a text.
-use Rattle.std.proofs.Common.{◌≡◌, ℕ, ◌+◌, ◌-◌, ◌≤◌, Bool, true, false, List, [], ◌∷◌, ◌++◌, length, take, get_or, refl, ap, ◌∙◌, sym, arith}
-use Rattle.std.specs.Prelude.{◌==◌, ◌&&◌}
+use Rattle.std.proofs.Common.{◌≡◌, ℕ, ◌+◌, ◌-◌, ◌≤◌, true, false, List, [], ◌∷◌, ◌++◌, length, take, get_or, refl, ap, ◌∙◌, sym, arith}
+use Rattle.std.specs.Prelude.{◌==◌}
+use Rattle.std.proofs.lemmas.Bool.{and_right}
 use Rattle.std.proofs.lemmas.Bool.Decides.{nat_tests}
 use Rattle.std.proofs.lemmas.List.{take_more}
 use Rattle.std.proofs.Math.Seq.{take-length}
@@ -14,13 +15,9 @@ some_left : (bytes : List ℕ) (b : ℕ) → (length (bytes ++ b ∷ []) == 0) �
 some_left [] b = refl
 some_left (a ∷ bytes) b = grind (arith, nat_tests)
 
-and_false : (test : Bool) → (test && false) ≡ false
-and_false true = refl
-and_false false = refl
-
 none_behind : (bytes : List ℕ) (b : ℕ) → is_blank b ≡ false → before_blanks (bytes ++ b ∷ []) ≡ bytes ++ b ∷ []
 none_behind [] b other = rw other refl
-none_behind (a ∷ bytes) b other = rw (none_behind bytes b other, some_left bytes b, and_false (is_blank a)) refl
+none_behind (a ∷ bytes) b other = rw (none_behind bytes b other, some_left bytes b, and_right (is_blank a) false refl) refl
 
 -- a text, by its last byte
 by_last : (text : List ℕ) (n : ℕ) → n + 1 ≡ length text → text ≡ take n text ++ get_or text n 0 ∷ []

@@ -2,15 +2,9 @@
 use Rattle.std.proofs.Common.{◌≡◌, ℕ, ◌<◌, zero, suc, Bool, true, false, List, [], ◌∷◌, Option, Some, None, length, take, drop, get_or, slice_index_or, refl, ap, ◌∙◌, sym, arith, inl, inr}
 use Rattle.std.specs.Prelude.{◌==◌, ◌≢◌, nat_lt, All, IsTrue, ◌↔◌}
 use Rattle.std.specs.List.{slice_split, onto_first}
-use Rattle.std.proofs.lemmas.Bool.{cases_Bool}
+use Rattle.std.proofs.lemmas.Bool.{cases_Bool, eq-eqb, ne_eqb}
 use Rattle.std.proofs.lemmas.Bool.Decides.{nat_tests}
 use Rattle.gomp_text.specs.Words.{words_of, filled, is_ascii, cut, past_spaces, parts_left, same_word}
-
-equal_test : (a b : ℕ) → a ≡ b → (a == b) ≡ true
-equal_test a b e = grind (arith, nat_tests, e)
-
-other_test : (a b : ℕ) → a ≢ b → (a == b) ≡ false
-other_test a b e = grind (arith, nat_tests, e)
 
 -- Cutting
 
@@ -18,14 +12,14 @@ pub cut_none : (separator : ℕ) (text : List ℕ) → ((k : ℕ) → k < length
 cut_none separator [] all = refl
 cut_none separator (b ∷ text) all =
     let rest = cut_none separator text (λ k lt. all (suc k) (omega arith)) in
-    rw (other_test b separator (all 0 (omega arith)), rest) refl
+    rw (ne_eqb b separator (all 0 (omega arith)), rest) refl
 
 pub cut_at : (separator : ℕ) (text : List ℕ) (i : ℕ) → i < length text → get_or text i 0 ≡ separator → ((k : ℕ) → k < i → get_or text k 0 ≢ separator) → cut separator text ≡ (take i text, Some (drop (suc i) text))
 cut_at separator [] i inside here before = absurd (omega arith)
-cut_at separator (b ∷ text) zero inside here before = rw (equal_test b separator here) refl
+cut_at separator (b ∷ text) zero inside here before = rw (eq-eqb b separator here) refl
 cut_at separator (b ∷ text) (suc i) inside here before =
     let rest = cut_at separator text i (omega arith) here (λ k lt. before (suc k) (omega arith)) in
-    rw (other_test b separator (before 0 (omega arith)), rest) refl
+    rw (ne_eqb b separator (before 0 (omega arith)), rest) refl
 
 -- ASCII
 
@@ -65,10 +59,6 @@ parts_cut separator (b ∷ text) = elim (cases_Bool (b == separator)) [
 stays : (b : ℕ) (line : List ℕ) → (b == 32) ≡ false → past_spaces (b ∷ line) ≡ b ∷ line
 stays b line other = rw other refl
 
--- a first byte that is no separator goes onto the first part
-split_other : (b : ℕ) (line : List ℕ) → (b == 32) ≡ false → slice_split (λ x. x == 32) (b ∷ line) ≡ onto_first b (slice_split (λ x. x == 32) line)
-split_other b line other = rw other refl
-
 pub words_past : (line : List ℕ) → words_of (past_spaces line) ≡ words_of line
 words_past [] = refl
 words_past (b ∷ line) = go (b == 32) b line refl (words_past line)
@@ -102,15 +92,11 @@ words_first line rest begun after = words_begun line begun ∙ ap (λ (found : O
 pub words_last : (line : List ℕ) → Begins line → (cut 32 line).1 ≡ None → words_of line ≡ (cut 32 line).0 ∷ words_of []
 words_last line begun after = words_begun line begun ∙ ap (λ (found : Option (List ℕ)). (cut 32 line).0 ∷ filled (parts_left 32 found)) after
 
-pub empty_list : (line : List ℕ) → length line ≡ 0 → line ≡ []
-empty_list [] none = refl
-empty_list (b ∷ line) none = absurd (omega arith)
-
 -- Same words
 
 same_itself : (word : List ℕ) → same_word word word ≡ true
 same_itself [] = refl
-same_itself (b ∷ word) = rw (equal_test b b refl) (same_itself word)
+same_itself (b ∷ word) = rw (eq-eqb b b refl) (same_itself word)
 
 pub same_means : (one other : List ℕ) → same_word one other ≡ true → one ≡ other
 same_means [] [] same = refl

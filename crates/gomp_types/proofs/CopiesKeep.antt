@@ -1,18 +1,23 @@
 -- The words of a single are put once, by its executor, and the other members are given these.
-use Rattle.std.proofs.Common.{◌≡◌, ℕ, List, [], ◌∷◌, Some, None, refl, ◌∙◌, sym, inl, inr, true}
-use Rattle.std.specs.Prelude.{◌==◌, is_some}
+use Rattle.std.proofs.Common.{◌≡◌, ℕ, List, [], ◌∷◌, Some, None, refl, ◌∙◌, sym, inl, inr, true, false}
+use Rattle.std.specs.Prelude.{◌==◌, ◌&&◌, ◌⊎◌, is_some}
 use Rattle.std.proofs.lemmas.Bool.{cases_Bool}
 use Rattle.gomp_types.specs.declared.shape.Shape.{Shape}
 use Rattle.gomp_types.specs.declared.event.Event.{Event}
 use Rattle.gomp_types.specs.declared.event.Event.TheVariants.{Enter, Take, Drained, End, Put, Got}
-use Rattle.gomp_types.specs.Events.{open_share, last_piece, payload_at}
-use Rattle.gomp_types.specs.Deals.{Deal}
-use Rattle.gomp_types.specs.Rules.{Always, ShareRule, CopyRule}
-use Rattle.gomp_types.specs.Laws.{Happened, PutsOnce, GetsWhatWasPut}
-use Rattle.gomp_types.proofs.Booleans.{tells, is_equal, same_number, share_is}
+use Rattle.gomp_types.specs.Events.{open_share, last_piece, shape_at, has_ended, payload_at, has_piece, has_words}
+use Rattle.gomp_types.specs.Deals.{Deal, schedule}
+use Rattle.gomp_types.specs.Rules.{Always, ShareRule, TeamRule}
+use Rattle.gomp_types.specs.Laws.{Happened, PutsOnce, GetsWhatWasPut, LeavesWithWords}
+use Rattle.gomp_types.proofs.Booleans.{tells, is_equal, same_number, share_is, and_left, and_right, or_tells, or_right, not_both}
+use Rattle.gomp_types.proofs.SharesKeep.{inside, inside_stands, entry, not_ended, stands_ended}
+
+-- what was had is had still
+had_later : (share m : ℕ) (event : Event) (h : List Event) → ((payload : List ℕ) × (Happened (Put share m payload) h ⊎ Happened (Got share m payload) h)) → (payload : List ℕ) × (Happened (Put share m payload) (event ∷ h) ⊎ Happened (Got share m payload) (event ∷ h))
+had_later share m event h had = (had.0, elim had.1 [ inl put ↦ inl (inr put) | inr got ↦ inr (inr got) ])
 
 -- a member with a piece of its share took one
-took : (deal : Deal) (members m i : ℕ) (shape : Shape) (h : List Event) → Always (ShareRule deal members) h → open_share m h ≡ Some (i, shape) → is_some (last_piece m h) ≡ true →
+pub took : (deal : Deal) (members m i : ℕ) (shape : Shape) (h : List Event) → Always (ShareRule deal members) h → open_share m h ≡ Some (i, shape) → is_some (last_piece m h) ≡ true →
     (low high : ℕ) × Happened (Take i m low high) h
 took deal members m i shape [] all at piece = absurd (cc)
 took deal members m i shape (Enter share member other ∷ earlier) all at piece =
@@ -53,8 +58,27 @@ never_put share n words (Put i member payload ∷ earlier) none (inr put) =
 never_put share n words (_ ∷ earlier) none (inl e) = absurd (cc)
 never_put share n words (_ ∷ earlier) none (inr put) = never_put share n words earlier none put
 
+-- who took no piece has taken none
+never_took : (share m low high : ℕ) (h : List Event) → has_piece share m h ≡ false → Happened (Take share m low high) h → ⊥
+never_took share m low high [] none took = took
+never_took share m low high (Take i member from to ∷ earlier) none (inl e) =
+    let number : i ≡ share = cc in
+    let who : member ≡ m = cc in
+    absurd (let some = rw (number, who, same_number share, same_number m) at none in cc)
+never_took share m low high (Take i member from to ∷ earlier) none (inr took) =
+    elim (cases_Bool (has_piece share m earlier)) [
+      | inl e ↦ absurd (not_both _ (or_right (i == share && member == m) (has_piece share m earlier) e) none)
+      | inr e ↦ never_took share m low high earlier e took
+    ]
+never_took share m low high (_ ∷ earlier) none (inl e) = absurd (cc)
+never_took share m low high (_ ∷ earlier) none (inr took) = never_took share m low high earlier none took
+
+-- who is in a share has not left it
+not_left : (members m share : ℕ) (shape : Shape) (h : List Event) → Always (ShareRule (schedule members) members) h → open_share m h ≡ Some (share, shape) → Happened (End share m) h → ⊥
+not_left members m share shape h all at left = not_both (has_ended share m h) (stands_ended share m h left) (not_ended (schedule members) members m share shape h all at)
+
 -- where words are, they were put
-was_put : (share : ℕ) (words : List ℕ) (h : List Event) → payload_at share h ≡ Some words → (n : ℕ) × Happened (Put share n words) h
+pub was_put : (share : ℕ) (words : List ℕ) (h : List Event) → payload_at share h ≡ Some words → (n : ℕ) × Happened (Put share n words) h
 was_put share words [] at = absurd (cc)
 was_put share words (Put i member payload ∷ earlier) at =
     elim (tells (i == share) (Some payload) (payload_at share earlier) (Some words) at) [
@@ -63,11 +87,43 @@ was_put share words (Put i member payload ∷ earlier) at =
     ]
 was_put share words (_ ∷ earlier) at = let before = was_put share words earlier at in (before.0, inr before.1)
 
-pub puts_once : (deal : Deal) (members : ℕ) (event : Event) (earlier : List Event) → CopyRule event earlier → Always (ShareRule deal members) earlier → PutsOnce event earlier
-puts_once deal members (Put share m payload) earlier rule all =
-    (took deal members m share rule.shape earlier all rule.inside rule.executor, λ n other put. never_put share n other earlier rule.once put)
-puts_once deal members _ earlier rule all = tt
+-- who has words has put them, or was given them
+had_words : (share m : ℕ) (h : List Event) → has_words share m h ≡ true → (payload : List ℕ) × (Happened (Put share m payload) h ⊎ Happened (Got share m payload) h)
+had_words share m [] e = absurd (cc)
+had_words share m (Put i member payload ∷ earlier) e =
+    elim (or_tells (i == share && member == m) (has_words share m earlier) e) [
+      | inl own ↦ (payload, inl (inl (by_own i share member m own)))
+      | inr before ↦ had_later share m (Put i member payload) earlier (had_words share m earlier before)
+    ]
+  where
+    by_own : (i share member m : ℕ) → (i == share && member == m) ≡ true → ◌≡◌ {A = Event} (Put i member payload) (Put share m payload)
+    by_own i share member m own = rw (is_equal i share (and_left (i == share) (member == m) own), is_equal member m (and_right (i == share) (member == m) own)) refl
+had_words share m (Got i member payload ∷ earlier) e =
+    elim (or_tells (i == share && member == m) (has_words share m earlier) e) [
+      | inl own ↦ (payload, inr (inl (by_own i share member m own)))
+      | inr before ↦ had_later share m (Got i member payload) earlier (had_words share m earlier before)
+    ]
+  where
+    by_own : (i share member m : ℕ) → (i == share && member == m) ≡ true → ◌≡◌ {A = Event} (Got i member payload) (Got share m payload)
+    by_own i share member m own = rw (is_equal i share (and_left (i == share) (member == m) own), is_equal member m (and_right (i == share) (member == m) own)) refl
+had_words share m (event ∷ earlier) e = had_later share m event earlier (had_words share m earlier e)
 
-pub gets_what_was_put : (event : Event) (earlier : List Event) → CopyRule event earlier → GetsWhatWasPut event earlier
-gets_what_was_put (Got share m payload) earlier rule = was_put share payload earlier rule
-gets_what_was_put _ earlier rule = tt
+pub puts_once : (members : ℕ) (event : Event) (earlier : List Event) → TeamRule members event earlier → Always (ShareRule (schedule members) members) earlier → PutsOnce event earlier
+puts_once members (Put share m payload) earlier rule all =
+    let taken = took (schedule members) members m share rule.shape earlier all rule.inside rule.executor in
+    (rule.shape, taken.0, taken.1, rule.copies, inside_stands m share rule.shape earlier rule.inside, not_left members m share rule.shape earlier all rule.inside, taken.2, λ n other put. never_put share n other earlier rule.once put)
+puts_once members _ earlier rule all = tt
+
+pub gets_what_was_put : (members : ℕ) (event : Event) (earlier : List Event) → TeamRule members event earlier → Always (ShareRule (schedule members) members) earlier → GetsWhatWasPut event earlier
+gets_what_was_put members (Got share m payload) earlier rule all =
+    let put = was_put share payload earlier rule.words in
+    (rule.shape, put.0, inside_stands m share rule.shape earlier rule.inside, not_left members m share rule.shape earlier all rule.inside, (λ low high took. never_took share m low high earlier rule.other took), put.1)
+gets_what_was_put members _ earlier rule all = tt
+
+pub leaves_with_words : (members : ℕ) (event : Event) (earlier : List Event) → TeamRule members event earlier → Always (ShareRule (schedule members) members) earlier → LeavesWithWords event earlier
+leaves_with_words members (End share m) earlier rule all = λ shape stands copies.
+    let one : shape_at share earlier ≡ Some rule.done.shape = (inside (schedule members) members m share rule.done.shape earlier all rule.done.inside).0 in
+    let other : shape_at share earlier ≡ Some shape = (entry (schedule members) members share m shape earlier all stands).1 in
+    let same : rule.done.shape ≡ shape = let both = sym one ∙ other in cc in
+    had_words share m earlier (rule.words (rw same copies))
+leaves_with_words members _ earlier rule all = tt

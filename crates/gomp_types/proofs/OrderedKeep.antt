@@ -462,6 +462,7 @@ parts_in_turn deal members (Part share m iteration) earlier rule all = (
   rule.shape,
   rule.low,
   rule.high,
+  rule.ordered,
   inside_stands m share rule.shape earlier rule.inside,
   took deal members m share rule.low rule.high rule.shape earlier all rule.inside rule.piece,
   (λ stands. not_both (has_ended share m earlier) (stands_ended share m earlier stands) (not_ended deal members m share rule.shape earlier all rule.inside)),
@@ -475,18 +476,33 @@ parts_in_turn deal members _ earlier rule all = tt
 handed_on : (deal : Deal) (members : ℕ) (event : Event) (earlier : List Event) → ShareRule deal members event earlier → Always (ShareRule deal members) earlier → HandsOnInTurn members event earlier
 handed_on deal members (HandOn share m piece) earlier rule all =
     let own = turned members m share rule.shape earlier rule.next in
-    (rule.shape, own.0, own.1, inside_stands m share rule.shape earlier rule.inside, (λ stands. not_both (has_ended share m earlier) (stands_ended share m earlier stands) (not_ended deal members m share rule.shape earlier all rule.inside)), own.3, rule.number, rw rule.number own.2)
+    (rule.shape, own.0, own.1, rule.ordered, inside_stands m share rule.shape earlier rule.inside, (λ stands. not_both (has_ended share m earlier) (stands_ended share m earlier stands) (not_ended deal members m share rule.shape earlier all rule.inside)), own.3, rule.number, rw rule.number own.2)
 handed_on deal members _ earlier rule all = tt
 
-apart : (deal : Deal) (members : ℕ) (event : Event) (earlier : List Event) → ShareRule deal members event earlier → Always (ShareRule deal members) earlier → PartsApart event earlier
-apart deal members (Part share m iteration) earlier rule all =
+-- who may hand a piece on, or begin a part, finds no part open
+none_open : (deal : Deal) (members m share : ℕ) (shape : Shape) (earlier : List Event) → Always (ShareRule deal members) earlier → open_share m earlier ≡ Some (share, shape) → has_turn members (share, shape) m earlier ≡ true → in_part m earlier ≡ false →
+    open_part share earlier ≡ None
+none_open deal members m share shape earlier all at next away =
     elim (cases_Bool (is_some (open_part share earlier))) [
       | inl e ↦
           let w = open_within deal members share earlier all e in
-          let same = one_turn deal members m w.who share rule.shape w.shape earlier all rule.inside w.there (turned members m share rule.shape earlier rule.next) (turned members w.who share w.shape earlier w.next) in
-          absurd (not_both (in_part w.who earlier) w.part (rw (← same) rule.apart))
+          let same = one_turn deal members m w.who share shape w.shape earlier all at w.there (turned members m share shape earlier next) (turned members w.who share w.shape earlier w.next) in
+          absurd (not_both (in_part w.who earlier) w.part (rw (← same) away))
       | inr e ↦ none_of (open_part share earlier) e
     ]
+
+-- nor is the part of a member open that is in none
+not_its : (deal : Deal) (members m share : ℕ) (earlier : List Event) → Always (ShareRule deal members) earlier → in_part m earlier ≡ false → open_part share earlier ≡ Some m → ⊥
+not_its deal members m share earlier all away its =
+    let w = open_within deal members share earlier all (rw its refl) in
+    let own = (part_is deal members w.who share w.shape earlier all w.there w.part).1 in
+    let same : w.who ≡ m = let both = sym own ∙ its in cc in
+    not_both (in_part w.who earlier) w.part (rw same away)
+
+apart : (deal : Deal) (members : ℕ) (event : Event) (earlier : List Event) → ShareRule deal members event earlier → Always (ShareRule deal members) earlier → PartsApart event earlier
+apart deal members (Part share m iteration) earlier rule all = none_open deal members m share rule.shape earlier all rule.inside rule.next rule.apart
+apart deal members (HandOn share m piece) earlier rule all = none_open deal members m share rule.shape earlier all rule.inside rule.next rule.apart
+apart deal members (End share m) earlier rule all = not_its deal members m share earlier all rule.apart
 apart deal members (PartEnd share m) earlier rule all = (part_is deal members m share rule.shape earlier all rule.inside rule.within).1
 apart deal members _ earlier rule all = tt
 

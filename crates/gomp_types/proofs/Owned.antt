@@ -7,7 +7,7 @@ use Rattle.gomp_types.specs.declared.shape.Shape.{Shape}
 use Rattle.gomp_types.specs.Pieces.{Piece, Tiles}
 use Rattle.gomp_types.specs.Events.{has_iteration}
 use Rattle.gomp_types.specs.Deals.{IsDealt, own_queues, owned_from, times}
-use Rattle.gomp_types.proofs.Tiling.{times_below, times_most}
+use Rattle.gomp_types.proofs.Tiling.{times_below, times_most, piece_within}
 
 -- the number of the piece with an iteration, where the list begins with piece number j
 abbrev place_of : ℕ → ℕ → List Piece → ℕ
@@ -105,6 +105,20 @@ owned_some owner m j low high n piece (first ∷ pieces) tiles at =
     front zero first piece rest some later at = let same : first ≡ piece = let t = at in cc in rw (← same) some
     front (suc n) first piece rest some later at = later n at
 
+-- nor does one lead past the end
+owned_within : (owner : ℕ → ℕ) (m j low high n : ℕ) (piece : Piece) (pieces : List Piece) → Tiles low pieces high → slice_get (owned_from owner m j pieces) n ≡ Some piece → piece.1 ≤ high
+owned_within owner m j low high n piece [] tiles at = absurd (cc)
+owned_within owner m j low high n piece (first ∷ pieces) tiles at =
+    elim (cases_Bool (owner j == m)) [
+      | inl own ↦ front n first piece (owned_from owner m (j + 1) pieces) (piece_within low high (first ∷ pieces) 0 first tiles refl)
+          (λ rest. owned_within owner m (j + 1) first.1 high rest piece pieces tiles.2) (rw own at at)
+      | inr other ↦ owned_within owner m (j + 1) first.1 high n piece pieces tiles.2 (rw other at at)
+    ]
+  where
+    front : (n : ℕ) (first piece : Piece) (rest : List Piece) → first.1 ≤ high → ((i : ℕ) → slice_get rest i ≡ Some piece → piece.1 ≤ high) → slice_get (first ∷ rest) n ≡ Some piece → piece.1 ≤ high
+    front zero first piece rest ends later at = let same : first ≡ piece = let t = at in cc in rw (← same) ends
+    front (suc n) first piece rest ends later at = later n at
+
 -- queues by owner are fair where the pieces tile and their owners are members
 pub own_queues_deal : (owner : ℕ → ℕ) (pieces : Shape → List Piece) (members : ℕ) (shape : Shape) → ((j : ℕ) → j < length (pieces shape) → owner j < members) → Tiles 0 (pieces shape) shape.trips → IsDealt (own_queues owner pieces) members shape
 own_queues_deal owner pieces members shape owned tiles = record {
@@ -113,5 +127,6 @@ own_queues_deal owner pieces members shape owned tiles = record {
   most = λ k. let most = owned_most owner (owner (place_of k 0 (pieces shape))) k 0 (pieces shape) in let one = times_most k 0 shape.trips (pieces shape) tiles in omega arith;
   one = λ k lt. owned_once owner (owner (place_of k 0 (pieces shape))) k 0 0 shape.trips (pieces shape) tiles (omega arith) lt refl;
   some = λ m n piece lt at. owned_some owner m 0 0 shape.trips n piece (pieces shape) tiles at;
+  within = λ m n piece lt at. owned_within owner m 0 0 shape.trips n piece (pieces shape) tiles at;
   taker = λ k lt. (owner (place_of k 0 (pieces shape)), owned (place_of k 0 (pieces shape)) (let within = place_within k 0 0 shape.trips (pieces shape) tiles (omega arith) lt in omega arith), refl);
 }

@@ -10,7 +10,7 @@ use Rattle.gomp_types.specs.Pieces.{Piece}
 use Rattle.gomp_types.specs.Events.{entered, open_share, has_drained, has_ended, shape_at, is_over, has_room, has_iteration, times_taken}
 use Rattle.gomp_types.specs.Deals.{Deal, IsDealt, taken_in, takes_in, next_in, next_for, times}
 use Rattle.gomp_types.specs.Rules.{Always, MayTake, HasNone, ShareRule}
-use Rattle.gomp_types.specs.Laws.{Happened, IsOver, TakesNext, EntersInTurn, EndsInside, EntersWithRoom, ShareLaws}
+use Rattle.gomp_types.specs.Laws.{Happened, IsOver, TakesNext, TakesWithin, LeavesNothing, EntersInTurn, EndsInside, EntersWithRoom, ShareLaws}
 use Rattle.gomp_types.proofs.Booleans.{tells, is_equal, differs, same_number, share_is, and_left, and_right, or_tells, or_right, not_both, every_tells}
 use Rattle.gomp_types.proofs.Tiling.{still_past, later_none, times-append, times-take, take_next, take_past, none_has}
 
@@ -329,7 +329,7 @@ stands_ended share m (End i member ∷ earlier) (inr stands) = or_right (i == sh
 stands_ended share m (_ ∷ earlier) (inl e) = absurd (cc)
 stands_ended share m (_ ∷ earlier) (inr stands) = stands_ended share m earlier stands
 
-over_stands : (members share : ℕ) (h : List Event) → is_over members share h ≡ true → IsOver members share h
+pub over_stands : (members share : ℕ) (h : List Event) → is_over members share h ≡ true → IsOver members share h
 over_stands members share h over m lt = end_stands share m h (every_tells members (λ x. has_ended share x h) m over lt)
 
 room_over : (members share old : ℕ) (h : List Event) → share ≡ old + 8 → has_room members share h ≡ true → is_over members old h ≡ true
@@ -342,10 +342,10 @@ room_over members share old h e room =
 -- The laws
 
 -- who entered the share, and in which shape
-abbrev Entry : ℕ → ℕ → ℕ → Shape → List Event → Type 0
+abbrev pub Entry : ℕ → ℕ → ℕ → Shape → List Event → Type 0
 Entry members share m shape h = (m < members) × (shape_at share h ≡ Some shape)
 
-entry : (deal : Deal) (members share m : ℕ) (shape : Shape) (h : List Event) → Always (ShareRule deal members) h → Happened (Enter share m shape) h → Entry members share m shape h
+pub entry : (deal : Deal) (members share m : ℕ) (shape : Shape) (h : List Event) → Always (ShareRule deal members) h → Happened (Enter share m shape) h → Entry members share m shape h
 entry deal members share m shape [] all stands = absurd stands
 entry deal members share m shape (Enter i member other ∷ earlier) all (inl e) =
     let number : i ≡ share = cc in
@@ -367,8 +367,63 @@ takes_next deal members (Take share m low high) earlier rule all = (
 )
 takes_next deal members _ earlier rule all = tt
 
+-- the share that a member entered is the one that it is in, or it has left it
+entered_left : (deal : Deal) (members i m : ℕ) (shape : Shape) (h : List Event) → Always (ShareRule deal members) h → Happened (Enter i m shape) h → (open_share m h ≡ Some (i, shape)) ⊎ Happened (End i m) h
+entered_left deal members i m shape [] all stands = absurd stands
+entered_left deal members i m shape (Enter share member other ∷ earlier) all (inl e) =
+    let number : share ≡ i = cc in
+    let who : member ≡ m = cc in
+    let what : other ≡ shape = cc in
+    inl (rw (number, who, what, same_number m) refl)
+entered_left deal members i m shape (_ ∷ earlier) all (inl e) = absurd (cc)
+entered_left deal members i m shape (Enter share member other ∷ earlier) all (inr stands) =
+    elim (entered_left deal members i m shape earlier all.1 stands) [
+      | inl at ↦ elim (cases_Bool (member == m)) [
+        | inl e ↦ absurd (let none : open_share m earlier ≡ None = rw (← is_equal member m e) all.0.outside in let both = sym at ∙ none in cc)
+        | inr e ↦ inl (rw e at)
+      ]
+      | inr left ↦ inr (inr left)
+    ]
+entered_left deal members i m shape (End share member ∷ earlier) all (inr stands) =
+    elim (entered_left deal members i m shape earlier all.1 stands) [
+      | inl at ↦ elim (cases_Bool (member == m)) [
+        | inl e ↦
+            let who = is_equal member m e in
+            let there : open_share m earlier ≡ Some (share, all.0.shape) = rw (← who) all.0.inside in
+            let number = (share_is share i all.0.shape shape (sym there ∙ at)).0 in
+            inr (inl (rw (who, number) refl))
+        | inr e ↦ inl (rw e at)
+      ]
+      | inr left ↦ inr (inr left)
+    ]
+entered_left deal members i m shape (_ ∷ earlier) all (inr stands) =
+    elim (entered_left deal members i m shape earlier all.1 stands) [ inl at ↦ inl at | inr left ↦ inr (inr left) ]
+
+pub left_before : (deal : Deal) (members m : ℕ) (h : List Event) → Always (ShareRule deal members) h → open_share m h ≡ None → (i : ℕ) (other : Shape) → Happened (Enter i m other) h → Happened (End i m) h
+left_before deal members m h all outside i other stands =
+    elim (entered_left deal members i m other h all stands) [
+      | inl at ↦ absurd (let both = sym at ∙ outside in cc)
+      | inr left ↦ left
+    ]
+
+takes_within : (deal : Deal) (members : ℕ) (event : Event) (earlier : List Event) → ShareRule deal members event earlier → Always (ShareRule deal members) earlier → TakesWithin event earlier
+takes_within deal members (Take share m low high) earlier rule all =
+    let known = inside deal members m share rule.shape earlier all rule.inside in
+    let fair = dealt deal members share rule.shape earlier all known.0 in
+    let number = taken_in (deal.queue_of rule.shape) share (deal.queue_of rule.shape m) earlier in
+    (rule.shape, inside_stands m share rule.shape earlier rule.inside, fair.some m number (low, high) known.1 rule.next, fair.within m number (low, high) known.1 rule.next)
+takes_within deal members _ earlier rule all = tt
+
+leaves_nothing : (deal : Deal) (members : ℕ) (event : Event) (earlier : List Event) → ShareRule deal members event earlier → Always (ShareRule deal members) earlier → LeavesNothing deal event earlier
+leaves_nothing deal members (End share m) earlier rule all = λ shape stands.
+    let one : shape_at share earlier ≡ Some rule.shape = (inside deal members m share rule.shape earlier all rule.inside).0 in
+    let other : shape_at share earlier ≡ Some shape = (entry deal members share m shape earlier all stands).1 in
+    let same : rule.shape ≡ shape = let both = sym one ∙ other in cc in
+    rw (← same) rule.none
+leaves_nothing deal members _ earlier rule all = tt
+
 enters_in_turn : (deal : Deal) (members : ℕ) (event : Event) (earlier : List Event) → ShareRule deal members event earlier → Always (ShareRule deal members) earlier → EntersInTurn members event earlier
-enters_in_turn deal members (Enter share m shape) earlier rule all = (rule.member, rule.number)
+enters_in_turn deal members (Enter share m shape) earlier rule all = (rule.member, rule.number, left_before deal members m earlier all rule.outside)
 enters_in_turn deal members _ earlier rule all = tt
 
 ends_inside : (deal : Deal) (members : ℕ) (event : Event) (earlier : List Event) → ShareRule deal members event earlier → Always (ShareRule deal members) earlier → EndsInside event earlier
@@ -390,6 +445,8 @@ shares_keep deal members h all = record {
   taken_once = record {
     once = λ share k. taken_once deal members share k h all;
     pieces = always (ShareRule deal members) (TakesNext deal) (takes_next deal members) h all;
+    within = always (ShareRule deal members) TakesWithin (takes_within deal members) h all;
+    left = always (ShareRule deal members) (LeavesNothing deal) (leaves_nothing deal members) h all;
     order = λ share m q shape stands. front deal members share q shape h all (entry deal members share m shape h all stands).1;
   };
   whole = λ share m shape stands over k lt.

@@ -37,7 +37,8 @@ use Rattle.gomp_types.proofs.IterationValues.{chunk_some, step_below}
 use Rattle.gomp_types.proofs.Dealing.{schedule_deals}
 use Rattle.gomp_types.proofs.SharesKeep.{inside, dealt}
 use Rattle.gomp_types.proofs.TeamKeeps.{share_rules}
-use Rattle.gomp_types.proofs.CausesKeep.{Tested, tested, pending_holds, rule_holds}
+use Rattle.gomp_types.proofs.CallTests.{Tested, tested}
+use Rattle.gomp_types.proofs.CausesKeep.{known_holds}
 
 -- No test is for want of memory
 
@@ -306,8 +307,9 @@ by_first terms run step (Some refusal) e caused =
       may_refuse (refusal_of terms step (waits_of step.member run).open_call (events run)) refusal step.call e other,
     )
 by_first terms run step None e caused =
-    let passed = tested terms step (waits_of step.member run).open_call (events run) (pending_holds terms run step.member caused) e in
-    let found = call_some (is_resume step.call) terms.members step.member (meant step.call (waits_of step.member run).open_call) (events run) passed (rule_holds terms run caused) in (
+    let known = known_holds terms run caused in
+    let passed = tested terms step (waits_of step.member run).open_call (events run) (known.pending step.member) (known.fresh step.member) known.words e in
+    let found = call_some (is_resume step.call) terms.members step.member (meant step.call (waits_of step.member run).open_call) (events run) passed known.rule in (
       found.0,
       (λ same. not_refused terms.members (is_resume step.call) step.member (meant step.call (waits_of step.member run).open_call) NoMemory (events run)
           (subst (λ reply. MayReply terms.members (is_resume step.call) step.member (meant step.call (waits_of step.member run).open_call) reply (events run)) same found.1)),

@@ -79,6 +79,20 @@ piece_some low high (first ∷ pieces) zero piece tiles at =
     let begin = tiles.0 in let some = tiles.1 in rw (← same) (omega arith)
 piece_some low high (first ∷ pieces) (suc n) piece tiles at = piece_some first.1 high pieces n piece tiles.2 at
 
+-- pieces lead upwards
+tiles_rise : (low high : ℕ) (pieces : List Piece) → Tiles low pieces high → low ≤ high
+tiles_rise low high [] tiles = let end = tiles in omega arith
+tiles_rise low high (piece ∷ pieces) tiles =
+    let first = tiles.0 in let some = tiles.1 in
+    let rest = tiles_rise piece.1 high pieces tiles.2 in omega arith
+
+-- and none leads past the end
+pub piece_within : (low high : ℕ) (pieces : List Piece) (n : ℕ) (piece : Piece) → Tiles low pieces high → slice_get pieces n ≡ Some piece → piece.1 ≤ high
+piece_within low high [] n piece tiles at = absurd (cc)
+piece_within low high (first ∷ pieces) zero piece tiles at =
+    let same : first ≡ piece = let t = at in cc in rw (← same) (tiles_rise first.1 high pieces tiles.2)
+piece_within low high (first ∷ pieces) (suc n) piece tiles at = piece_within first.1 high pieces n piece tiles.2 at
+
 -- How often a list of pieces has an iteration, and its fronts
 
 if_more : (b : Bool) (x y z : ℕ) → x ≡ y + z → (if b then x + 1 else x) ≡ (if b then y + 1 else y) + z

@@ -8,12 +8,27 @@ use Rattle.gomp_types.specs.declared.event.Arrival.{Arrival}
 use Rattle.gomp_types.specs.declared.event.Arrival.TheVariants.{RegionEnd}
 use Rattle.gomp_types.specs.declared.event.Tag.{Tag}
 use Rattle.gomp_types.specs.declared.event.Event.{Event}
-use Rattle.gomp_types.specs.declared.event.Event.TheVariants.{Enter, Take, Drained, End, HandOn, Part, PartEnd, Put, Arrive, Pass, Break}
+use Rattle.gomp_types.specs.declared.event.Event.TheVariants.{Enter, Take, Drained, End, HandOn, Part, PartEnd, Put, Got, Arrive, Pass, Break}
 
 -- whether each member of a team of this size passes the test
 abbrev pub every_member : ℕ → (ℕ → Bool) → Bool
 every_member zero test = true
 every_member (suc m) test = test m && every_member m test
+
+-- whose event it is
+abbrev pub member_of : Event → ℕ
+member_of (Enter share m shape) = m
+member_of (Take share m low high) = m
+member_of (Drained share m) = m
+member_of (End share m) = m
+member_of (HandOn share m piece) = m
+member_of (Part share m iteration) = m
+member_of (PartEnd share m) = m
+member_of (Put share m payload) = m
+member_of (Got share m payload) = m
+member_of (Arrive barrier m tag) = m
+member_of (Pass barrier m) = m
+member_of (Break m place) = m
 
 -- Work-shares (OpenMP API 5.2, chapter 11)
 
@@ -131,6 +146,19 @@ abbrev pub payload_at : ℕ → List Event → Option (List ℕ)
 payload_at share [] = None
 payload_at share (Put i member payload ∷ earlier) = if i == share then Some payload else payload_at share earlier
 payload_at share (_ ∷ earlier) = payload_at share earlier
+
+-- whether the member has taken a piece of the share
+abbrev pub has_piece : ℕ → ℕ → List Event → Bool
+has_piece share m [] = false
+has_piece share m (Take i member low high ∷ earlier) = (i == share && member == m) || has_piece share m earlier
+has_piece share m (_ ∷ earlier) = has_piece share m earlier
+
+-- whether the member has put the words of the share, or was given them
+abbrev pub has_words : ℕ → ℕ → List Event → Bool
+has_words share m [] = false
+has_words share m (Put i member payload ∷ earlier) = (i == share && member == m) || has_words share m earlier
+has_words share m (Got i member payload ∷ earlier) = (i == share && member == m) || has_words share m earlier
+has_words share m (_ ∷ earlier) = has_words share m earlier
 
 -- Barriers (OpenMP API 5.2, section 15.3)
 

@@ -160,9 +160,21 @@ over_all_values incr = record { start = negsuc 9223372036854775807; end = pos 92
 abbrev pub down_all_values : ℤ → LoopDesc
 down_all_values incr = record { start = pos 9223372036854775807; end = negsuc 9223372036854775807; incr = incr; sched = Dynamic; chunk = pos 0; ordered = false; end_kind = WaitEnd }
 
+-- a loop of step 1 from 0 to this end, with this chunk
+abbrev pub up_to : ℤ → ℤ → LoopDesc
+up_to end chunk = record (over_all_values (pos 1)) { start = pos 0; end = end; chunk = chunk }
+
 -- what becomes of a loop: its number of iterations, or why it is refused
 abbrev pub trips_of : LoopDesc → Result ℕ Refusal
 trips_of loop = outcome (first_refusal (loop_tests loop)) (trip_count loop)
+
+-- of a loop's end only the number of iterations is compared: these two have four each
+abbrev pub by_threes : ℤ → Call
+by_threes end =
+    LoopStart (record { start = pos 0; end = end; incr = pos 3; sched = Dynamic; chunk = pos 1; ordered = false; end_kind = Nowait })
+
+abbrev pub other_end_values : Run
+other_end_values = (asks 0 (by_threes (pos 10)), Chunk (pos 0) 1) ∷ (asks 1 (by_threes (pos 12)), Chunk (pos 3) 1) ∷ []
 
 -- a member whose loop has another chunk breaks the team
 abbrev pub differing_loop : Run
@@ -244,3 +256,8 @@ runtime_pieces =
     ∷ (asks 0 (loop_with Runtime (pos 0) (pos 10)), Chunk (pos 0) 1)
     ∷ (asks 1 (loop_with Dynamic (pos 1) (pos 10)), Chunk (pos 1) 1)
     ∷ []
+
+-- a member whose loop differs in the schedule alone breaks the team
+abbrev pub differing_schedule : Sched → Sched → Run
+differing_schedule sched other =
+    (asks 0 (loop_with sched (pos 2) (pos 10)), Chunk (pos 0) 2) ∷ (asks 1 (loop_with other (pos 2) (pos 10)), Refused Mismatch) ∷ []

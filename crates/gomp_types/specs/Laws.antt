@@ -1,11 +1,13 @@
 -- The laws of a team's events, each clause in the words of the promise that it keeps.
-use Rattle.std.specs.Prelude.{ℕ, ◌+◌, ◌<◌, ◌≤◌, ◌≡◌, slice_get, List, [], ◌∷◌, Some, None, ◌⊎◌, take}
+use Rattle.std.specs.Prelude.{ℕ, ◌+◌, ◌<◌, ◌≤◌, ◌≡◌, slice_get, List, [], ◌∷◌, Some, None, true, false, ◌⊎◌, take}
 use Rattle.gomp_types.specs.declared.shape.Shape.{Shape}
+use Rattle.gomp_types.specs.declared.refusal.Place.{Place}
 use Rattle.gomp_types.specs.declared.event.Tag.{Tag}
 use Rattle.gomp_types.specs.declared.event.Event.{Event}
-use Rattle.gomp_types.specs.declared.event.Event.TheVariants.{Enter, Take, End, HandOn, Part, PartEnd, Put, Got, Arrive, Pass}
+use Rattle.gomp_types.specs.declared.event.Event.TheVariants.{Enter, Take, End, HandOn, Part, PartEnd, Put, Got, Arrive, Pass, Break}
+use Rattle.gomp_types.specs.Shapes.{is_copy}
 use Rattle.gomp_types.specs.Pieces.{pieces_of}
-use Rattle.gomp_types.specs.Events.{entered, last_piece, turn, open_part, passed, times_taken}
+use Rattle.gomp_types.specs.Events.{member_of, entered, last_piece, turn, open_part, passed, has_left_region, times_taken}
 use Rattle.gomp_types.specs.Deals.{Deal, taken_in, takes_in, next_for}
 use Rattle.gomp_types.specs.Rules.{Always}
 
@@ -27,12 +29,26 @@ TakesNext deal (Take share m low high) earlier =
     × (next_for deal shape share m earlier ≡ Some (low, high))
 TakesNext deal _ earlier = Unit {0}
 
+-- it has iterations of its share, at least one
+abbrev pub TakesWithin : Event → List Event → Type 0
+TakesWithin (Take share m low high) earlier = (shape : Shape) × Happened (Enter share m shape) earlier × (low < high) × (high ≤ shape.trips)
+TakesWithin _ earlier = Unit {0}
+
+-- a member leaves a share only where nothing is left there for it
+abbrev pub LeavesNothing : Deal → Event → List Event → Type 0
+LeavesNothing deal (End share m) earlier = (shape : Shape) → Happened (Enter share m shape) earlier → next_for deal shape share m earlier ≡ None
+LeavesNothing deal _ earlier = Unit {0}
+
 -- Taken once (OpenMP API 5.2, section 11.5: each iteration is executed once).
 pub record TakenOnce (deal : Deal) (h : List Event) : Type 0 where
   -- of the takes of a share at most one has the iteration k
   pub once : (share k : ℕ) → times_taken share k h ≤ 1
   -- each take is a piece of its share, between its member's entry and end
   pub pieces : Always (TakesNext deal) h
+  -- of iterations that the share has
+  pub within : Always TakesWithin h
+  -- its member leaves the share when nothing is left for it, and not before
+  pub left : Always (LeavesNothing deal) h
   -- the takes from a queue are its pieces 0, 1, 2 and on
   pub order : (share m q : ℕ) (shape : Shape) → Happened (Enter share m shape) h → takes_in (deal.queue_of shape) share q h ≡ take (taken_in (deal.queue_of shape) share q h) (deal.queue shape q)
 
@@ -41,9 +57,12 @@ abbrev pub WholeWhereOver : ℕ → List Event → Type 0
 WholeWhereOver members h =
     (share m : ℕ) (shape : Shape) → Happened (Enter share m shape) h → IsOver members share h → (k : ℕ) → k < shape.trips → times_taken share k h ≡ 1
 
--- a member of the team enters its shares one by one, by their numbers
+-- a member of the team enters its shares one by one, by their numbers, each after it has left those before
 abbrev pub EntersInTurn : ℕ → Event → List Event → Type 0
-EntersInTurn members (Enter share m shape) earlier = (m < members) × (share ≡ entered m earlier)
+EntersInTurn members (Enter share m shape) earlier =
+    (m < members)
+    × (share ≡ entered m earlier)
+    × ((before : ℕ) (other : Shape) → Happened (Enter before m other) earlier → Happened (End before m) earlier)
 EntersInTurn members _ earlier = Unit {0}
 
 -- it leaves a share that it has entered, and not left before
@@ -79,6 +98,31 @@ pub record SameArrivals (h : List Event) : Type 0 where
   -- and all members arrive at a barrier with one tag
   pub tags : (barrier m n : ℕ) (one other : Tag) → Happened (Arrive barrier m one) h → Happened (Arrive barrier n other) h → one ≡ other
 
+-- a member of the team arrives at a barrier once, and no one else arrives or passes
+abbrev pub ArrivesOnce : ℕ → Event → List Event → Type 0
+ArrivesOnce members (Arrive barrier m tag) earlier = (m < members) × ((other : Tag) → Happened (Arrive barrier m other) earlier → ⊥)
+ArrivesOnce members (Pass barrier m) earlier = m < members
+ArrivesOnce members _ earlier = Unit {0}
+
+-- a member arrives outside of every share: it has left each that it entered
+abbrev pub ArrivesOutside : Event → List Event → Type 0
+ArrivesOutside (Arrive barrier m tag) earlier = (share : ℕ) (shape : Shape) → Happened (Enter share m shape) earlier → Happened (End share m) earlier
+ArrivesOutside _ earlier = Unit {0}
+
+-- Closed: where a member passes a barrier every share that it entered before it arrived there is over; so, where the share is whole, all of it was taken.
+abbrev pub ClosesShares : ℕ → Event → List Event → Type 0
+ClosesShares members (Pass barrier m) earlier =
+    (tag : Tag) → Happened (Arrive barrier m tag) earlier → (share : ℕ) → share < tag.shares → IsOver members share earlier
+ClosesShares members _ earlier = Unit {0}
+
+-- nothing happens in a team that is broken
+abbrev pub HappensUnbroken : Event → List Event → Type 0
+HappensUnbroken event earlier = (m : ℕ) (place : Place) → Happened (Break m place) earlier → ⊥
+
+-- nor does a member do anything once it has passed the region's end
+abbrev pub HappensInside : Event → List Event → Type 0
+HappensInside event earlier = has_left_region (member_of event) earlier ≡ false
+
 -- an arrival tells how many shares its member has entered: so the members meet shares and barriers in one order
 abbrev pub TellsShares : Event → List Event → Type 0
 TellsShares (Arrive barrier m tag) earlier = tag.shares ≡ entered m earlier
@@ -94,10 +138,11 @@ abbrev pub PartsRise : Event → List Event → Type 0
 PartsRise (Part share m iteration) earlier = (n other : ℕ) → Happened (Part share n other) earlier → other < iteration
 PartsRise _ earlier = Unit {0}
 
--- a part lies in the piece that its member took last, and every piece before that one was handed on: its number is that of the turn
+-- a part lies in the piece of an ordered loop that its member took last, and every piece before that one was handed on: its number is that of the turn
 abbrev pub PartsInTurn : ℕ → Event → List Event → Type 0
 PartsInTurn members (Part share m iteration) earlier =
     (shape : Shape) × (low high : ℕ)
+    × (shape.ordered ≡ true)
     × Happened (Enter share m shape) earlier
     × Happened (Take share m low high) earlier
     × (Happened (End share m) earlier → ⊥)
@@ -107,10 +152,11 @@ PartsInTurn members (Part share m iteration) earlier =
     × (slice_get (pieces_of members shape) (turn share earlier) ≡ Some (low, high))
 PartsInTurn members _ earlier = Unit {0}
 
--- the pieces of an ordered loop are handed on in order, each by the member that took it last
+-- the pieces of an ordered loop are handed on in order, each by the member whose last piece it is
 abbrev pub HandsOnInTurn : ℕ → Event → List Event → Type 0
 HandsOnInTurn members (HandOn share m piece) earlier =
     (shape : Shape) × (low high : ℕ)
+    × (shape.ordered ≡ true)
     × Happened (Enter share m shape) earlier
     × (Happened (End share m) earlier → ⊥)
     × (last_piece m earlier ≡ Some (low, high))
@@ -118,22 +164,40 @@ HandsOnInTurn members (HandOn share m piece) earlier =
     × (slice_get (pieces_of members shape) piece ≡ Some (low, high))
 HandsOnInTurn members _ earlier = Unit {0}
 
--- no part of a loop begins while one is open, and the one that is open is ended by its member
+-- no part of a loop begins and no piece is handed on while a part is open; the open one is ended by its member, which does not leave the loop before
 abbrev pub PartsApart : Event → List Event → Type 0
 PartsApart (Part share m iteration) earlier = open_part share earlier ≡ None
 PartsApart (PartEnd share m) earlier = open_part share earlier ≡ Some m
+PartsApart (HandOn share m piece) earlier = open_part share earlier ≡ None
+PartsApart (End share m) earlier = open_part share earlier ≡ Some m → ⊥
 PartsApart _ earlier = Unit {0}
 
--- Copied once (OpenMP API 5.2, section 5.7.2): words are put by the member that took the piece of their single, and only once.
+-- Copied once (OpenMP API 5.2, section 5.7.2): the words of a single are put by the member that took its piece, and only once.
 abbrev pub PutsOnce : Event → List Event → Type 0
 PutsOnce (Put share m payload) earlier =
-    ((low high : ℕ) × Happened (Take share m low high) earlier) × ((n : ℕ) (other : List ℕ) → Happened (Put share n other) earlier → ⊥)
+    (shape : Shape) × (low high : ℕ)
+    × (is_copy shape.kind ≡ true)
+    × Happened (Enter share m shape) earlier
+    × (Happened (End share m) earlier → ⊥)
+    × Happened (Take share m low high) earlier
+    × ((n : ℕ) (other : List ℕ) → Happened (Put share n other) earlier → ⊥)
 PutsOnce _ earlier = Unit {0}
 
--- and the words that a member is given are those that were put before
+-- the words that a member is given are those that were put before; it is in the single, and did not take its piece
 abbrev pub GetsWhatWasPut : Event → List Event → Type 0
-GetsWhatWasPut (Got share m payload) earlier = (n : ℕ) × Happened (Put share n payload) earlier
+GetsWhatWasPut (Got share m payload) earlier =
+    (shape : Shape) × (n : ℕ)
+    × Happened (Enter share m shape) earlier
+    × (Happened (End share m) earlier → ⊥)
+    × ((low high : ℕ) → Happened (Take share m low high) earlier → ⊥)
+    × Happened (Put share n payload) earlier
 GetsWhatWasPut _ earlier = Unit {0}
+
+-- and no member leaves such a single without: it has put its words there, or was given them
+abbrev pub LeavesWithWords : Event → List Event → Type 0
+LeavesWithWords (End share m) earlier =
+    (shape : Shape) → Happened (Enter share m shape) earlier → is_copy shape.kind ≡ true → (payload : List ℕ) × (Happened (Put share m payload) earlier ⊎ Happened (Got share m payload) earlier)
+LeavesWithWords _ earlier = Unit {0}
 
 -- what the ordered parts keep
 pub record OrderedLaws (members : ℕ) (h : List Event) : Type 0 where
@@ -147,11 +211,6 @@ pub record ShareLaws (deal : Deal) (members : ℕ) (h : List Event) : Type 0 whe
   pub taken_once : TakenOnce deal h
   pub whole : WholeWhereOver members h
   pub same_shares : SameShares members h
-
--- what the payloads keep, however they are kept
-pub record CopyLaws (h : List Event) : Type 0 where
-  pub puts : Always PutsOnce h
-  pub gets : Always GetsWhatWasPut h
 
 -- what the arrivals alone keep, however they are kept
 pub record ArrivalLaws (members : ℕ) (h : List Event) : Type 0 where

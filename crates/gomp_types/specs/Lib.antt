@@ -15,7 +15,9 @@ pub mod Refusals
 pub mod Replies
 pub mod Causes
 pub mod Rules
+pub mod LawExamples
 pub mod Laws
 pub mod Headline
 pub mod Examples
 pub mod ShareExamples
+pub mod RegionExamples

@@ -18,7 +18,7 @@ use Rattle.gomp_types.specs.Sections.{sections_shape, sections_tests}
 use Rattle.gomp_types.specs.Singles.{single_shape}
 use Rattle.gomp_types.specs.Shapes.{is_loop, is_sections, is_copy, same_shape, same_tag, same_end}
 use Rattle.gomp_types.specs.Pieces.{shape_of}
-use Rattle.gomp_types.specs.Events.{entered, open_share, open_number, is_inside, in_kind, has_drained, last_piece, parted, in_part, shape_at, payload_at, passed, tag_at, has_left_region, clash_of}
+use Rattle.gomp_types.specs.Events.{entered, open_share, is_inside, in_kind, has_drained, last_piece, parted, in_part, shape_at, passed, tag_at, has_left_region, clash_of}
 use Rattle.gomp_types.specs.Ordered.{is_ordered, comes_next}
 use Rattle.gomp_types.specs.Record.{tag_with}
 
@@ -62,9 +62,9 @@ sections_end_tests kind m h =
     ∷ (not (has_drained m h), NotDrained)
     ∷ []
 
--- whether the member executes a single whose words are still to be put
+-- whether the member executes a single with words, which it still has to put
 abbrev pub is_executor : ℕ → List Event → Bool
-is_executor m h = in_kind is_copy (open_share m h) && is_some (last_piece m h) && is_none (payload_at (open_number m h) h)
+is_executor m h = in_kind is_copy (open_share m h) && is_some (last_piece m h)
 
 -- each call's own tests
 abbrev pub call_tests : Limits → ℕ → Call → List Event → List Test

@@ -5,7 +5,7 @@ use Rattle.gomp_types.specs.declared.event.Tag.{Tag}
 use Rattle.gomp_types.specs.declared.event.Event.{Event}
 use Rattle.gomp_types.specs.declared.event.Event.TheVariants.{Enter, Take, Drained, End, HandOn, Part, PartEnd, Put, Got, Arrive, Pass}
 use Rattle.gomp_types.specs.Shapes.{is_copy, is_loop}
-use Rattle.gomp_types.specs.Events.{entered, open_share, last_piece, turn, parted, in_part, shape_at, has_room, payload_at, passed, tag_at, barrier_met}
+use Rattle.gomp_types.specs.Events.{entered, open_share, last_piece, turn, parted, in_part, shape_at, has_room, payload_at, has_piece, has_words, passed, arrival, tag_at, barrier_met}
 use Rattle.gomp_types.specs.Pieces.{Tiles, pieces_of}
 use Rattle.gomp_types.specs.Ordered.{has_turn}
 use Rattle.gomp_types.specs.Deals.{Deal, IsDealt, next_for, schedule}
@@ -15,7 +15,7 @@ abbrev pub Always : (Event → List Event → Type 0) → List Event → Type 0
 Always Law [] = Unit {0}
 Always Law (event ∷ earlier) = Law event earlier × Always Law earlier
 
--- a member of the team that is in no share enters its next one: all that entered it before did so in this shape, and the one eight before it is over
+-- a member of the team that is in no share enters its next one: all that entered it before did so in this shape, and the one eight before it is over; the shape is that of a construct: fairly dealt out, in pieces that lead from its first iteration to its last, with a step that leads on
 pub record MayEnter (deal : Deal) (members share m : ℕ) (shape : Shape) (earlier : List Event) : Type 0 where
   pub member : m < members
   pub number : share ≡ entered m earlier
@@ -90,12 +90,6 @@ pub record MayPut (share m : ℕ) (earlier : List Event) : Type 0 where
   pub executor : is_some (last_piece m earlier) ≡ true
   pub once : payload_at share earlier ≡ None
 
--- the rule of the payloads alone
-abbrev pub CopyRule : Event → List Event → Type 0
-CopyRule (Put share m payload) earlier = MayPut share m earlier
-CopyRule (Got share m payload) earlier = payload_at share earlier ≡ Some payload
-CopyRule _ earlier = Unit {0}
-
 -- a member arrives at its next barrier, with the tag of all that arrived there before
 pub record MayArrive (barrier m : ℕ) (tag : Tag) (earlier : List Event) : Type 0 where
   pub number : barrier ≡ passed m earlier
@@ -112,10 +106,36 @@ ArrivalRule members (Arrive barrier m tag) earlier = MayArrive barrier m tag ear
 ArrivalRule members (Pass barrier m) earlier = MayPass members barrier m earlier
 ArrivalRule members _ earlier = Unit {0}
 
+-- a member of a single that did not take its piece is given the words that were put
+pub record MayGet (share m : ℕ) (payload : List ℕ) (earlier : List Event) : Type 0 where
+  pub shape : Shape
+  pub inside : open_share m earlier ≡ Some (share, shape)
+  pub other : has_piece share m earlier ≡ false
+  pub words : payload_at share earlier ≡ Some payload
+
+-- in a team a member leaves a share where nothing is left for it, and a single with words only where it has them
+pub record MayLeave (members share m : ℕ) (earlier : List Event) : Type 0 where
+  pub done : HasNone (schedule members) share m earlier
+  pub words : is_copy done.shape.kind ≡ true → has_words share m earlier ≡ true
+
+-- in a team a member of it arrives, outside of every share and once at each barrier, and tells how many shares it has entered
+pub record MayArriveIn (members barrier m : ℕ) (tag : Tag) (earlier : List Event) : Type 0 where
+  pub arrives : MayArrive barrier m tag earlier
+  pub member : m < members
+  pub outside : open_share m earlier ≡ None
+  pub once : arrival barrier m earlier ≡ None
+  pub shares : tag.shares ≡ entered m earlier
+
+-- and a member of it passes
+pub record MayPassIn (members barrier m : ℕ) (earlier : List Event) : Type 0 where
+  pub passes : MayPass members barrier m earlier
+  pub member : m < members
+
 -- the rule of a team
 abbrev pub TeamRule : ℕ → Event → List Event → Type 0
-TeamRule members (Arrive barrier m tag) earlier = MayArrive barrier m tag earlier × (tag.shares ≡ entered m earlier)
-TeamRule members (Pass barrier m) earlier = MayPass members barrier m earlier
+TeamRule members (End share m) earlier = MayLeave members share m earlier
+TeamRule members (Arrive barrier m tag) earlier = MayArriveIn members barrier m tag earlier
+TeamRule members (Pass barrier m) earlier = MayPassIn members barrier m earlier
 TeamRule members (Put share m payload) earlier = MayPut share m earlier
-TeamRule members (Got share m payload) earlier = payload_at share earlier ≡ Some payload
+TeamRule members (Got share m payload) earlier = MayGet share m payload earlier
 TeamRule members event earlier = ShareRule (schedule members) members event earlier

@@ -9,7 +9,8 @@ use crate::payload::Payload;
 pub enum Call {
     /// Begins a loop and asks for the first chunk (libgomp manual, the ABI of `for`).
     LoopStart(LoopDesc),
-    /// Asks for the next chunk of the member's loop.
+    /// Asks for the next chunk of the member's loop. In an ordered loop it first waits until every
+    /// earlier piece is handed on, and then hands the member's own on.
     LoopNext,
     /// Ends the member's loop, and waits at its barrier.
     LoopEnd,
@@ -23,7 +24,7 @@ pub enum Call {
         /// What stands at its end.
         end_kind: EndKind,
     },
-    /// Asks for the next section of the member's construct.
+    /// Asks for the next section of the member's construct; 0 is answered where none is left.
     SectionsNext,
     /// Ends the member's sections construct, and waits at its barrier.
     SectionsEnd,

@@ -44,7 +44,8 @@ pub enum Event {
         low: u64,
         high: u64,
     },
-    /// The member was told that nothing is left for it.
+    /// Nothing is left of the share for the member: it was told so, or another member has the piece
+    /// of its single.
     Drained {
         share: u64,
         member: u16,

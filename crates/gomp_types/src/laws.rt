@@ -4,13 +4,13 @@
 //! proved by the gate, which the crates above have by calling it. No program state stands behind
 //! them, so whatever body answers as the definitions say keeps these laws.
 
-ghost use Rattle.std.specs.Prelude.{ℕ, List, Some, None, true, false, is_some, suc, ◌+◌, ◌*◌, pos, ◌<◌, ◌≡◌, ◌≢◌};
+ghost use Rattle.std.specs.Prelude.{ℕ, ℤ, List, Some, None, true, false, is_some, suc, ◌+◌, ◌*◌, pos, ◌<◌, ◌≡◌, ◌≢◌};
 ghost use Rattle.gomp_types.specs.declared.call.Step.{Step};
 ghost use Rattle.gomp_types.specs.declared.reply.Reply.{Reply};
 ghost use Rattle.gomp_types.specs.declared.event.Event.{Event};
 ghost use Rattle.gomp_types.specs.Record.{Record, events, waits_of};
 ghost use Rattle.gomp_types.specs.declared.refusal.Refusal.{Refusal};
-ghost use Rattle.gomp_types.specs.declared.reply.Reply.TheVariants.{Refused};
+ghost use Rattle.gomp_types.specs.declared.reply.Reply.TheVariants.{Chunk, Refused};
 ghost use Rattle.gomp_types.specs.Causes.{Terms, refusal_of, MayAnswer, Caused, OneReply, SomeReply};
 ghost use Rattle.gomp_types.specs.declared.shape.Shape.{Shape};
 ghost use Rattle.gomp_types.specs.Pieces.{pieces_of, Tiles};
@@ -18,15 +18,16 @@ ghost use Rattle.gomp_types.specs.Values.{IsShape, value_at, iteration_at};
 ghost use Rattle.gomp_types.specs.Deals.{Deal, IsDealt, schedule, next_for};
 ghost use Rattle.gomp_types.specs.Shapes.{is_loop, is_single};
 ghost use Rattle.gomp_types.specs.Events.{entered, open_share, has_drained, last_piece, shape_at, is_over, in_part};
-ghost use Rattle.gomp_types.specs.Rules.{Always, ArrivalRule, ShareRule, TeamRule};
-ghost use Rattle.gomp_types.specs.Laws.{ArrivalLaws, CopyLaws, OrderedLaws, ShareLaws};
+ghost use Rattle.gomp_types.specs.Rules.{Always, ArrivalRule, ShareRule};
+ghost use Rattle.gomp_types.specs.Laws.{ArrivalLaws, OrderedLaws, ShareLaws};
 ghost use Rattle.gomp_types.specs.Headline.{Headline};
 
 /// **The headline**: for every team size and list of member steps, no iteration, section or single
 /// is taken twice, a loop or sections construct that all members end had every iteration or section
-/// taken, ordered parts of a loop run in the order of its iterations, the words that a member copies
-/// are those that the executor of the single put, all members go through the same constructs in the
-/// same order, and no member passes a barrier before all arrived.
+/// taken and a single was executed by one of them, ordered parts of a loop run in the order of its
+/// iterations, the words that a member copies are those that the executor of the single put, all
+/// members go through the same constructs in the same order, and no member passes a barrier before
+/// all arrived, and have left the constructs before it.
 pub fn headline()
     ensures { (terms : Terms) → (run : Record) → Caused terms run → Headline terms.members (events run) }
 {}
@@ -40,6 +41,11 @@ pub fn one_reply()
 /// replies have theirs: with `one_reply`, the record decides exactly one, want of memory aside.
 pub fn some_reply()
     ensures { (terms : Terms) → (run : Record) → (step : Step) → Caused terms run → SomeReply terms run step }
+{}
+
+/// A chunk that is answered has an iteration, at least one.
+pub fn chunks_count()
+    ensures { (terms : Terms) → (run : Record) → (step : Step) → (first : ℤ) → (count : ℕ) → Caused terms run → MayAnswer terms run step (Chunk first count) → 0 < count }
 {}
 
 /// The first test of a step that holds is an answer to it.
@@ -73,12 +79,6 @@ pub fn share_laws()
 /// along a loop, each in its member's last piece once every earlier one is handed on, one after another.
 pub fn ordered_laws()
     ensures { (members : ℕ) → (h : List Event) → Always (ShareRule (schedule members) members) h → OrderedLaws members h }
-{}
-
-/// Events that keep the rule of a team keep the laws of payloads: words are put once, by the member
-/// that took the piece of their single, and the others are given these.
-pub fn copy_laws()
-    ensures { (members : ℕ) → (h : List Event) → Always (TeamRule members) h → CopyLaws h }
 {}
 
 /// However the arrivals are kept, events that keep their rule keep their laws: all members arrive

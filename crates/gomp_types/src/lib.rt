@@ -8,12 +8,14 @@
 pub mod call;
 pub mod event;
 pub mod examples;
+pub mod law_examples;
 pub mod laws;
 pub mod limits;
 pub mod loop_desc;
 pub mod name;
 pub mod payload;
 pub mod refusal;
+pub mod region_examples;
 pub mod reply;
 pub mod sections;
 pub mod shape;

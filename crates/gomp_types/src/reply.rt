@@ -18,7 +18,7 @@ pub enum Reply {
     Copied(Payload),
     /// Done, with nothing to wait for.
     Finished,
-    /// The barrier is passed.
+    /// The barrier is passed; at the region's end the member has left the region.
     Passed,
     /// Not yet: the call stands, and `Resume` asks again.
     Wait,

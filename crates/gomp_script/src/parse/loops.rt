@@ -10,6 +10,7 @@ use crate::parse::words::{end_of, member_of, number_of, take_word};
 use gomp_text::is_word;
 use gomp_types::{Call, LoopDesc, Sched, Step};
 
+/// The schedule that this word names.
 fn sched_of(word: &[u8]) -> Option<Sched>
     ensures { result ≡ sched_of word.now }
 {
@@ -28,6 +29,7 @@ fn sched_of(word: &[u8]) -> Option<Sched>
     None
 }
 
+/// The step of this member that begins a loop, by the rest of its line.
 #[tactic(auto, unfolding(crate::specs::StepText::loop_step))]
 pub(crate) fn loop_step(member: &[u8], rest: &[u8]) -> Result<Step, Why>
     ensures { result ≡ loop_step member.now (words_of rest.now) }

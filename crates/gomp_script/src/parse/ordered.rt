@@ -24,6 +24,7 @@ pub(crate) fn ordered_of(rest: &[u8]) -> Result<bool, Why>
     Ok(true)
 }
 
+/// The step of this member that begins an ordered part, by the rest of its line.
 #[tactic(auto, unfolding(crate::specs::StepText::ordered_step))]
 pub(crate) fn ordered_step(member: &[u8], rest: &[u8]) -> Result<Step, Why>
     ensures { result ≡ ordered_step member.now (words_of rest.now) }

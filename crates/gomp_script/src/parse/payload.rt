@@ -12,6 +12,7 @@ use gomp_types::{Call, Payload, Step};
 /// How many words of a payload are read; what follows them is a word too many.
 const MAX_WORDS: usize = 8;
 
+/// The word of a payload that this word writes, a `u64`.
 fn payload_word(word: &[u8]) -> Result<u64, Why>
     ensures { result ≡ payload_word word.now }
 {
@@ -35,6 +36,7 @@ fn payload_of(words: &[u8]) -> Result<Payload, Why>
     Ok(payload)
 }
 
+/// The step of this member that puts the words of a `single` construct, by the rest of its line.
 #[tactic(auto, unfolding(crate::specs::StepText::copy_end_step))]
 pub(crate) fn copy_end_step(member: &[u8], rest: &[u8]) -> Result<Step, Why>
     ensures { result ≡ copy_end_step member.now (words_of rest.now) }

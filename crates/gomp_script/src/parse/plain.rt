@@ -62,6 +62,7 @@ fn call_of(word: &[u8]) -> Option<Call>
     share_call_of(word)
 }
 
+/// The step of this member whose call is one word, behind which the line ends.
 #[tactic(auto, unfolding(crate::specs::StepText::plain_step))]
 pub(crate) fn plain_step(member: &[u8], call: &[u8], rest: &[u8]) -> Result<Step, Why>
     ensures { result ≡ plain_step member.now call.now (words_of rest.now) }

@@ -2,24 +2,13 @@
 
 ghost use Rattle.std.specs.Prelude.{◌≡◌};
 ghost use Rattle.gomp_text.specs.Words.{words_of};
-ghost use Rattle.gomp_text.specs.Numbers.{unsigned};
-ghost use Rattle.gomp_script.specs.StepText.{wanted, sections_step};
-ghost use Rattle.gomp_script.specs.declared.parse.Why.TheVariants.{BadNumber};
+ghost use Rattle.gomp_script.specs.StepText.{sections_step};
 
 use crate::parse::Why;
-use crate::parse::words::{end_of, finish, member_of, take_word};
-use gomp_text::unsigned;
+use crate::parse::words::{count_of, end_of, finish, member_of, take_word};
 use gomp_types::{Call, Step};
 
-fn count_of(word: &[u8]) -> Result<u32, Why>
-    ensures { result ≡ wanted BadNumber (unsigned 4294967295 word.now) }
-{
-    match unsigned(word, u32::MAX as u64) {
-        Some(number) => Ok(number as u32),
-        None => Err(Why::BadNumber),
-    }
-}
-
+/// The step of this member that begins sections, by the rest of its line.
 #[tactic(auto, unfolding(crate::specs::StepText::sections_step))]
 pub(crate) fn sections_step(member: &[u8], rest: &[u8]) -> Result<Step, Why>
     ensures { result ≡ sections_step member.now (words_of rest.now) }

@@ -2,9 +2,7 @@
 
 ghost use Rattle.std.specs.Prelude.{◌≡◌, Ok, Err, MatchResult};
 ghost use Rattle.gomp_text.specs.Words.{words_of};
-ghost use Rattle.gomp_text.specs.Numbers.{signed, unsigned};
-ghost use Rattle.gomp_script.specs.StepText.{next, finished, wanted, end_of};
-ghost use Rattle.gomp_script.specs.declared.parse.Why.TheVariants.{BadNumber};
+ghost use Rattle.gomp_script.specs.StepText.{next, finished, end_of, member_of, count_of, number_of};
 
 use crate::parse::Why;
 use gomp_text::{is_word, next_word, signed, unsigned};
@@ -27,6 +25,7 @@ pub(crate) fn finish(line: &[u8]) -> Result<(), Why>
     }
 }
 
+/// The end of a construct that this word names.
 pub(crate) fn end_of(word: &[u8]) -> Option<EndKind>
     ensures { result ≡ end_of word.now }
 {
@@ -39,8 +38,9 @@ pub(crate) fn end_of(word: &[u8]) -> Option<EndKind>
     None
 }
 
+/// The number of a member that this word writes.
 pub(crate) fn member_of(word: &[u8]) -> Result<u16, Why>
-    ensures { result ≡ wanted BadNumber (unsigned 65535 word.now) }
+    ensures { result ≡ member_of word.now }
 {
     match unsigned(word, u16::MAX as u64) {
         Some(number) => Ok(number as u16),
@@ -48,8 +48,19 @@ pub(crate) fn member_of(word: &[u8]) -> Result<u16, Why>
     }
 }
 
+/// The count of members or of sections that this word writes.
+pub(crate) fn count_of(word: &[u8]) -> Result<u32, Why>
+    ensures { result ≡ count_of word.now }
+{
+    match unsigned(word, u32::MAX as u64) {
+        Some(number) => Ok(number as u32),
+        None => Err(Why::BadNumber),
+    }
+}
+
+/// The number of a loop that this word writes: a chunk, a bound, an increment or a value.
 pub(crate) fn number_of(word: &[u8]) -> Result<i64, Why>
-    ensures { result ≡ wanted BadNumber (signed word.now) }
+    ensures { result ≡ number_of word.now }
 {
     signed(word).ok_or(Why::BadNumber)
 }

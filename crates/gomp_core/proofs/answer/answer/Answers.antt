@@ -22,7 +22,7 @@ returns-in-Some-Start-clause-stands g c = λ h sst bst wst ready.
     rw is (
       (
         subst (g.S.Shares.stands c.start.new.shares) (start_adds (is_resume c.args.call.now) c.args.member (entered c.args.member h) c.in-Some-Start.what (reply_to c.start.result) h) (c.start.ensures.stands h sst wst new),
-        aloof_kept (BarriersStand c.args.barriers.now.seats c.args.barriers.now.front) (c.aside.ensures _ _) (is_resume c.args.call.now) c.args.member (entered c.args.member h) (reply_to c.start.result) (starting c.in-Some-Start.what) h (start_aloof c.in-Some-Start.what) bst,
+        aloof_kept (BarriersStand c.args.barriers.now) (c.aside.ensures.stands _) (is_resume c.args.call.now) c.args.member (entered c.args.member h) (reply_to c.start.result) (starting c.in-Some-Start.what) h (start_aloof c.in-Some-Start.what) bst,
       ),
       rest_stands (g.S.Shares.members c.args.shares.now) c.args.payloads.now (is_resume c.args.call.now) c.args.member (entered c.args.member h) (reply_to c.start.result) (starting c.in-Some-Start.what) h (start_puts c.in-Some-Start.what) wst,
     )
@@ -39,7 +39,7 @@ returns-in-Some-Turn-clause-stands g c = λ h sst bst wst ready.
     rw is (
       (
         subst (g.S.Shares.stands c.answer_turn.new.shares) (turn_adds (is_resume c.args.call.now) c.args.member (entered c.args.member h) c.in-Some-Turn.what c.answer_turn.result h) (c.answer_turn.ensures.stands h sst),
-        aloof_kept (BarriersStand c.args.barriers.now.seats c.args.barriers.now.front) (c.aside.ensures _ _) (is_resume c.args.call.now) c.args.member (entered c.args.member h) c.answer_turn.result (turning c.in-Some-Turn.what) h (turn_aloof c.in-Some-Turn.what) bst,
+        aloof_kept (BarriersStand c.args.barriers.now) (c.aside.ensures.stands _) (is_resume c.args.call.now) c.args.member (entered c.args.member h) c.answer_turn.result (turning c.in-Some-Turn.what) h (turn_aloof c.in-Some-Turn.what) bst,
       ),
       rest_stands (g.S.Shares.members c.args.shares.now) c.args.payloads.now (is_resume c.args.call.now) c.args.member (entered c.args.member h) c.answer_turn.result (turning c.in-Some-Turn.what) h (turn_puts c.in-Some-Turn.what) wst,
     )
@@ -48,20 +48,20 @@ pub returns-then-is_resume-clause-answer : goal.returns-then-is_resume-clause-an
 returns-then-is_resume-clause-answer g c = λ h sst bst wst ready.
     let is = to_arrival c.args.call.now c.kept_for.result c.args.waiting c.in-Some-Arrive.how c.kept_for.ensures (c.in-Some-Arrive.is ∙ ap Some c.in-Some-Arrive.field-0-is) in
     let again = sym c.is_resume.ensures ∙ c.if-is_resume.true in
-    let awaits = rw c.requires.team at (c.turn.ensures.answer h bst) in
-    rw (is, again) (turn_answers (g.S.Shares.members c.args.shares.now) c.args.member c.in-Some-Arrive.how c.turn.result h awaits)
+    let awaits = rw c.requires.team at (c.pass_or_wait.ensures.answer h bst) in
+    rw (is, again) (turn_answers (g.S.Shares.members c.args.shares.now) c.args.member c.in-Some-Arrive.how c.pass_or_wait.result h awaits)
 
 pub returns-then-is_resume-clause-stands : goal.returns-then-is_resume-clause-stands
 returns-then-is_resume-clause-stands g c = λ h sst bst wst ready.
     let is = to_arrival c.args.call.now c.kept_for.result c.args.waiting c.in-Some-Arrive.how c.kept_for.ensures (c.in-Some-Arrive.is ∙ ap Some c.in-Some-Arrive.field-0-is) in
     let again = sym c.is_resume.ensures ∙ c.if-is_resume.true in
-    let awaits = c.turn.ensures.answer h bst in
+    let awaits = c.pass_or_wait.ensures.answer h bst in
     rw (is, again) (
       (
-        turn_kept (g.S.Shares.stands c.args.shares.now) (g.met.S.Shares.aside c.args.shares.now) c.args.member (entered c.args.member h) c.in-Some-Arrive.how c.turn.result _ h awaits sst,
-        turned (BarriersStand c.turn.new.barriers.seats c.turn.new.barriers.front) c.args.member (entered c.args.member h) c.in-Some-Arrive.how c.turn.result _ h awaits (c.turn.ensures.stands h bst),
+        turn_kept (g.S.Shares.stands c.args.shares.now) (g.met.S.Shares.aside c.args.shares.now) c.args.member (entered c.args.member h) c.in-Some-Arrive.how c.pass_or_wait.result _ h awaits sst,
+        turned (BarriersStand c.pass_or_wait.new.barriers) c.args.member (entered c.args.member h) c.in-Some-Arrive.how c.pass_or_wait.result _ h awaits (c.pass_or_wait.ensures.stands h bst),
       ),
-      rest_stands (g.S.Shares.members c.args.shares.now) c.args.payloads.now true c.args.member (entered c.args.member h) c.turn.result (arriving c.in-Some-Arrive.how) h (arrival_puts c.in-Some-Arrive.how) wst,
+      rest_stands (g.S.Shares.members c.args.shares.now) c.args.payloads.now true c.args.member (entered c.args.member h) c.pass_or_wait.result (arriving c.in-Some-Arrive.how) h (arrival_puts c.in-Some-Arrive.how) wst,
     )
 
 pub returns-else-is_resume-clause-answer : goal.returns-else-is_resume-clause-answer
@@ -92,7 +92,7 @@ returns-in-None-clause-stands g c = λ h sst bst wst ready.
     rw (once.same, once.again) (
       (
         c.answer_at_once.ensures.shares c.args.limits.now h sst wst once.test once.may,
-        aloof_kept (BarriersStand c.args.barriers.now.seats c.args.barriers.now.front) (c.aside.ensures _ _) false c.args.member (entered c.args.member h) c.answer_at_once.result c.args.call.now h (at_once_aloof c.args.call.now once.test) bst,
+        aloof_kept (BarriersStand c.args.barriers.now) (c.aside.ensures.stands _) false c.args.member (entered c.args.member h) c.answer_at_once.result c.args.call.now h (at_once_aloof c.args.call.now once.test) bst,
       ),
       c.answer_at_once.ensures.payloads c.args.limits.now h sst wst once.test once.may,
     )

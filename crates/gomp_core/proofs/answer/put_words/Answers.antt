@@ -4,7 +4,7 @@ use Rattle.gomp_types.specs.declared.refusal.Refusal.{Refusal}
 use Rattle.gomp_types.specs.Events.{entered, open_number}
 use Rattle.gomp_types.specs.Tests.{outcome}
 use Rattle.gomp_share_plain.specs.declared.Seen.{Seen}
-use Rattle.gomp_core.proofs.Words.{needs_share, copy_end_asked, words_stand}
+use Rattle.gomp_core.proofs.Words.{needs_share, words_stand}
 use Rattle.gomp_core.proofs.answer.put_words.Goals as goal
 
 pub returns-in_default-clause-answer : goal.returns-in_default-clause-answer
@@ -27,6 +27,5 @@ returns-in-Ok-clause-payloads g c = λ limits h st ws ready.
 
 pub returns-in-Err-clause-answer : goal.returns-in-Err-clause-answer
 returns-in-Err-clause-answer g c = λ limits h st ws ready.
-    let asked = copy_end_asked c.args.member h c.is_unput-unput.result (c.is_unput-unput.ensures h st ws) in
-    let is = sym c.in-Err.is ∙ c.single_copy_end.ensures.answer h st ∙ ap (λ (first : Option Refusal). outcome first tt) (asked ∙ ready) in
+    let is = sym c.in-Err.is ∙ c.single_copy_end.ensures.answer h st ∙ ap (λ (first : Option Refusal). outcome first tt) ready in
     absurd (cc)

@@ -1,10 +1,10 @@
-use Rattle.std.proofs.Common.{◌≡◌, ◌+◌, ◌∙◌, ◌∷◌, ◌++◌, [], List, length, refl, ap, sym, subst, arith, length-append}
+use Rattle.std.proofs.Common.{◌≡◌, ◌+◌, ◌∙◌, ◌∷◌, ◌++◌, List, length, refl, ap, sym, subst, arith, length-append}
 use Rattle.gomp_types.specs.declared.call.Step.{Step}
-use Rattle.gomp_types.specs.Record.{record_after, events}
+use Rattle.gomp_types.specs.Record.{events}
 use Rattle.gomp_types.specs.Causes.{Terms, Caused}
 use Rattle.gomp_types.specs.Headline.{Headline}
 use Rattle.gomp_core.specs.Stands.{Stands, standard_terms}
-use Rattle.gomp_core.specs.Resolved.{resolved_steps}
+use Rattle.gomp_core.specs.Resolved.{record_of}
 use Rattle.gomp_core.proofs.Stepping.{resolved_grows, moved_on, all_done, terms_are, memory_more}
 use Rattle.gomp_core.proofs.steps.run.Given.{Over}
 use Rattle.gomp_core.proofs.steps.run.Goals as goal
@@ -31,7 +31,7 @@ push_reserved-requires g c =
 pub loop-step-preserved : goal.loop-step-preserved
 loop-step-preserved g c =
     let inv = c.loop-step.invariant in
-    let before = record_after (resolved_steps c.args.icv c.loop-step.yielded) c.loop-step.replies.items [] in
+    let before = record_of c.args.icv c.loop-step.yielded c.loop-step.replies.items in
     let more = resolved_grows c.args.icv c.loop-step.yielded c.loop-step.replies.items c.in-Some.step c.step.result inv.each in
     record {
       all = sym (moved_on c.loop-step.yielded c.next.new.self.rest.items c.in-Some.step) ∙ ap (λ (xs : List Step). c.loop-step.yielded ++ xs) (sym c.in-Some.ensures.steps.0) ∙ inv.all;
@@ -68,15 +68,15 @@ returns-in-None-clause-memory g c = c.loop-step.invariant.memory
 pub returns-in-None-clause-stands : goal.returns-in-None-clause-stands
 returns-in-None-clause-stands g c =
     let inv = c.loop-step.invariant in
-    subst (λ (steps : List Step). Stands g.S.Shares.stands g.S.Shares.members c.loop-step.team (record_after (resolved_steps c.args.icv steps) c.loop-step.replies.items [])) (steps_done g c) inv.stands
+    subst (λ (steps : List Step). Stands g.S.Shares.stands g.S.Shares.members c.loop-step.team (record_of c.args.icv steps c.loop-step.replies.items)) (steps_done g c) inv.stands
 
 pub returns-in-None-clause-caused : goal.returns-in-None-clause-caused
 returns-in-None-clause-caused g c =
     let stands = returns-in-None-clause-stands g c in
-    subst (λ (terms : Terms). Caused terms (record_after (resolved_steps c.args.icv c.args.steps.items) c.loop-step.replies.items [])) (returns-in-None-clause-terms g c) stands.caused
+    subst (λ (terms : Terms). Caused terms (record_of c.args.icv c.args.steps.items c.loop-step.replies.items)) (returns-in-None-clause-terms g c) stands.caused
 
-the_headline : (g : Over) (c : goal.After-drop-step-iterator g) → Headline c.args.count (events (record_after (resolved_steps c.args.icv c.args.steps.items) c.loop-step.replies.items []))
-the_headline g c = c.headline.ensures (standard_terms c.args.count c.args.icv) (record_after (resolved_steps c.args.icv c.args.steps.items) c.loop-step.replies.items []) (returns-in-None-clause-caused g c)
+the_headline : (g : Over) (c : goal.After-drop-step-iterator g) → Headline c.args.count (events (record_of c.args.icv c.args.steps.items c.loop-step.replies.items))
+the_headline g c = c.headline.ensures (standard_terms c.args.count c.args.icv) (record_of c.args.icv c.args.steps.items c.loop-step.replies.items) (returns-in-None-clause-caused g c)
 
 pub returns-in-None-clause-taken_once : goal.returns-in-None-clause-taken_once
 returns-in-None-clause-taken_once g c = (the_headline g c).taken_once
@@ -87,11 +87,11 @@ returns-in-None-clause-whole g c = (the_headline g c).whole
 pub returns-in-None-clause-ordered : goal.returns-in-None-clause-ordered
 returns-in-None-clause-ordered g c = (the_headline g c).ordered
 
-pub returns-in-None-clause-puts : goal.returns-in-None-clause-puts
-returns-in-None-clause-puts g c = (the_headline g c).puts
+pub returns-in-None-clause-put_once : goal.returns-in-None-clause-put_once
+returns-in-None-clause-put_once g c = (the_headline g c).puts
 
-pub returns-in-None-clause-gets : goal.returns-in-None-clause-gets
-returns-in-None-clause-gets g c = (the_headline g c).gets
+pub returns-in-None-clause-given_what_was_put : goal.returns-in-None-clause-given_what_was_put
+returns-in-None-clause-given_what_was_put g c = (the_headline g c).gets
 
 pub returns-in-None-clause-same_shares : goal.returns-in-None-clause-same_shares
 returns-in-None-clause-same_shares g c = (the_headline g c).same_shares
@@ -104,3 +104,21 @@ returns-in-None-clause-one_order g c = (the_headline g c).one_order
 
 pub returns-in-None-clause-passes : goal.returns-in-None-clause-passes
 returns-in-None-clause-passes g c = (the_headline g c).passes
+
+pub returns-in-None-clause-none_without_words : goal.returns-in-None-clause-none_without_words
+returns-in-None-clause-none_without_words g c = (the_headline g c).served
+
+pub returns-in-None-clause-arrive_once : goal.returns-in-None-clause-arrive_once
+returns-in-None-clause-arrive_once g c = (the_headline g c).arrive_once
+
+pub returns-in-None-clause-arrive_outside : goal.returns-in-None-clause-arrive_outside
+returns-in-None-clause-arrive_outside g c = (the_headline g c).arrive_outside
+
+pub returns-in-None-clause-unbroken : goal.returns-in-None-clause-unbroken
+returns-in-None-clause-unbroken g c = (the_headline g c).unbroken
+
+pub returns-in-None-clause-in_region : goal.returns-in-None-clause-in_region
+returns-in-None-clause-in_region g c = (the_headline g c).in_region
+
+pub returns-in-None-clause-closes : goal.returns-in-None-clause-closes
+returns-in-None-clause-closes g c = (the_headline g c).closes

@@ -1,8 +1,7 @@
-use Rattle.std.proofs.Common.{◌≡◌, ◌≤◌, ◌++◌, [], length}
+use Rattle.std.proofs.Common.{◌≡◌, ◌≤◌, ◌++◌, length}
 use Rattle.std.specs.Vec.{vec_capacity}
-use Rattle.gomp_types.specs.Record.{record_after}
 use Rattle.gomp_core.specs.Stands.{Stands, members_of, standard, NoneForMemory}
-use Rattle.gomp_core.specs.Resolved.{resolved_steps}
+use Rattle.gomp_core.specs.Resolved.{record_of}
 use Rattle.gomp_core.proofs.steps.run.Given as goal
 
 -- the team stands for the steps so far and their replies, one for each
@@ -15,5 +14,5 @@ invariant-loop-step g l = record {
   icv : l.team.icv ≡ l.fn.icv;
   limits : l.team.limits ≡ standard;
   memory : NoneForMemory l.replies.items;
-  stands : Stands g.S.Shares.stands g.S.Shares.members l.team (record_after (resolved_steps l.fn.icv l.yielded) l.replies.items []);
+  stands : Stands g.S.Shares.stands g.S.Shares.members l.team (record_of l.fn.icv l.yielded l.replies.items);
 }

@@ -1,7 +1,7 @@
 use Rattle.std.proofs.Common.{◌∙◌, ◌+◌, [], List, ℕ, drop, get_or, sym, Bor}
 use Rattle.std.specs.Prelude.{map}
 use Rattle.gomp_icv.specs.EnvWords.{read_after}
-use Rattle.gomp_icv.proofs.Words.{word_here, all_words, one_ignored}
+use Rattle.gomp_icv.proofs.EnvWordLemmas.{word_here, all_words, one_ignored}
 use Rattle.gomp_icv.proofs.env.read_env.Goals as goal
 use Rattle.gomp_icv.proofs.env.read_env.Goals.{in-Some, in-None+in_ok-new-in-None+in_ok-push-in-None}
 

@@ -1,7 +1,7 @@
 use Rattle.std.proofs.Common.{◌≡◌, drop}
 use Rattle.std.specs.Prelude.{map}
 use Rattle.gomp_icv.specs.EnvWords.{read_after, read_env}
-use Rattle.gomp_icv.proofs.Words.{with_ignored}
+use Rattle.gomp_icv.proofs.EnvWordLemmas.{with_ignored}
 use Rattle.gomp_icv.proofs.env.read_env.Given as goal
 
 -- what the words so far have set and have had ignored, and what those that are left give

@@ -11,13 +11,13 @@ use Rattle.gomp_loops.proofs.calls.loop_next.Goals.{After-claim, else-shape-via-
 pub returns-in-Some-clause-answer : goal.returns-in-Some-clause-answer
 returns-in-Some-clause-answer g c = λ limits h st.
     let e = c.look-seen.ensures.value ∙ g.met.S.Shares.agrees c.args.shares.now h c.args.member st c.requires in
-    next_is limits c.args.member c.look-seen.result h _ e (sym c.in-Some.is ∙ c.next_refusal.ensures)
+    next_is limits c.args.member c.look-seen.result h _ e (sym c.in-Some.is ∙ c.next_refusal.ensures.first)
 
 pub returns-then-not-hand_on-clause-answer : goal.returns-then-not-hand_on-clause-answer
 returns-then-not-hand_on-clause-answer g c = λ limits h st.
     let e = c.look-seen.ensures.value ∙ g.met.S.Shares.agrees c.args.shares.now h c.args.member st c.requires in
     let there : open_share c.args.member h ≡ Some (c.in-Some-current.field-0-0, c.in-Some-current.shape) = sym (ap (λ (s : Seen). s.current) e) ∙ c.in-Some-current.is in
-    let none = next_is limits c.args.member c.look-seen.result h _ e (sym c.in_default.is ∙ c.next_refusal.ensures) in
+    let none = next_is limits c.args.member c.look-seen.result h _ e (sym c.in_default.is ∙ c.next_refusal.ensures.first) in
     next_waits limits (g.S.Shares.members c.args.shares.now) c.args.member _ c.in-Some-current.shape h there none c.if-shape.true (sym c.if-not-hand_on.true ∙ c.hand_on.ensures.answer h st)
 
 -- the shares that are claimed of have the member's piece handed on
@@ -37,7 +37,7 @@ claim-requires g c =
     let (h, st) = c.look-seen.ensures.known in
     let e = c.look-seen.ensures.value ∙ g.met.S.Shares.agrees c.args.shares.now h c.args.member st c.requires in
     let there : open_share c.args.member h ≡ Some (c.in-Some-current.field-0-0, c.in-Some-current.shape) = sym (ap (λ (s : Seen). s.current) e) ∙ c.in-Some-current.is in
-    let none = next_own c.args.member c.look-seen.result h _ e (sym c.in_default.is ∙ c.next_refusal.ensures) in
+    let none = next_own c.args.member c.look-seen.result h _ e (sym c.in_default.is ∙ c.next_refusal.ensures.first) in
     let moved : Handed (g.S.Shares.stands c.else-shape.shares) (g.S.Shares.members c.args.shares.now) (g.S.Shares.members c.else-shape.shares) c.args.member c.in-Some-current.field-0-0 c.in-Some-current.shape h =
     elim c.else-shape.branch [
       | else-shape-via-then-shape+else-not-hand_on w ↦ rw w.shares-is (handed (g.S.Shares.stands w.hand_on.new.self) (g.S.Shares.members c.args.shares.now) (g.S.Shares.members w.hand_on.new.self) c.args.member _ c.in-Some-current.shape h there w.if-shape.true
@@ -66,11 +66,11 @@ pub returns-clause-answer : goal.returns-clause-answer
 returns-clause-answer g c = λ limits h st.
     let e = c.look-seen.ensures.value ∙ g.met.S.Shares.agrees c.args.shares.now h c.args.member st c.requires in
     let there : open_share c.args.member h ≡ Some (c.in-Some-current.field-0-0, c.in-Some-current.shape) = sym (ap (λ (s : Seen). s.current) e) ∙ c.in-Some-current.is in
-    let none = next_is limits c.args.member c.look-seen.result h _ e (sym c.in_default.is ∙ c.next_refusal.ensures) in
+    let none = next_is limits c.args.member c.look-seen.result h _ e (sym c.in_default.is ∙ c.next_refusal.ensures.first) in
     let moved = is_handed g (goal.at.returns-clause-answer g c).After-claim h st in
     let claims = rw moved.same at (c.claim.ensures.answer _ moved.stands) in
     let dealt = next_deals (g.S.Shares.members c.args.shares.now) c.args.member _ c.in-Some-current.shape c.claim.result h there claims in
-    rw c.piece_reply.ensures (next_reply limits (g.S.Shares.members c.args.shares.now) c.args.member _ c.in-Some-current.shape c.claim.result h there none moved.turn dealt)
+    rw c.piece_reply.ensures.answer (next_reply limits (g.S.Shares.members c.args.shares.now) c.args.member _ c.in-Some-current.shape c.claim.result h there none moved.turn dealt)
 
 pub returns-clause-stands : goal.returns-clause-stands
 returns-clause-stands g c = λ h st.
@@ -78,4 +78,4 @@ returns-clause-stands g c = λ h st.
     let there : open_share c.args.member h ≡ Some (c.in-Some-current.field-0-0, c.in-Some-current.shape) = sym (ap (λ (s : Seen). s.current) e) ∙ c.in-Some-current.is in
     let moved = is_handed g (goal.at.returns-clause-stands g c).After-claim h st in
     let adds = next_adds _ c.args.member _ (entered c.args.member h) c.in-Some-current.shape c.claim.result h c.values_tell.ensures there (c.claim.ensures.answer _ moved.stands) in
-    rw (c.piece_reply.ensures, adds) (c.claim.ensures.stands _ moved.stands)
+    rw (c.piece_reply.ensures.answer, adds) (c.claim.ensures.stands _ moved.stands)

@@ -41,7 +41,7 @@ returns-in-Entered-clause-stands g c = λ h st.
     let now = c.in-Entered.ensures.stands h st in
     let claims = rw is at (c.claim.ensures.answer _ now) in
     let adds = start_adds _ c.args.member (entered c.args.member h) c.args.desc.now c.claim.result h c.values_tell.ensures claims in
-    rw (c.piece_reply.ensures, is, adds) (rw is at (c.claim.ensures.stands _ now))
+    rw (c.piece_reply.ensures.answer, is, adds) (rw is at (c.claim.ensures.stands _ now))
 
 pub returns-in-Some-clause-answer : goal.returns-in-Some-clause-answer
 returns-in-Some-clause-answer g c = λ h st.
@@ -57,4 +57,4 @@ returns-in-Entered-clause-answer g c = λ h st.
     let now = c.in-Entered.ensures.stands h st in
     let claims = rw (is, c.try_open.ensures.members) at (c.claim.ensures.answer _ now) in
     let dealt = start_deals (g.S.Shares.members c.args.shares.now) c.args.member (entered c.args.member h) (shape_of c.args.desc.now) c.claim.result h claims in
-    rw (c.piece_reply.ensures, is) (start_reply c.args.limits.now (g.S.Shares.members c.args.shares.now) c.args.member c.args.desc.now c.claim.result h none may.1 dealt)
+    rw (c.piece_reply.ensures.answer, is) (start_reply c.args.limits.now (g.S.Shares.members c.args.shares.now) c.args.member c.args.desc.now c.claim.result h none may.1 dealt)

@@ -14,4 +14,4 @@ own_refusal-requires g c =
 pub returns-clause-first : goal.returns-clause-first
 returns-clause-first g c = λ h st.
     let e = c.look-seen.ensures.value ∙ g.met.S.Shares.agrees c.args.shares.now h c.args.member st c.requires in
-    c.own_refusal.ensures ∙ ap (λ (s : Seen). first_refusal (own_tests s c.args.call.now)) e
+    c.own_refusal.ensures.first ∙ ap (λ (s : Seen). first_refusal (own_tests s c.args.call.now)) e

@@ -2,7 +2,7 @@ use Rattle.std.proofs.Common.{◌≡◌, ◌∙◌, ◌≤◌, true, Ok, refl, a
 use Rattle.std.specs.Prelude.{flat_map}
 use Rattle.gomp_script.specs.Printing.{reply_line}
 use Rattle.gomp_script.specs.StepText.{steps_of}
-use Rattle.gomp_runner.specs.Answers.{is_size}
+use Rattle.gomp_runner.specs.Output.{is_size}
 use Rattle.gomp_runner.proofs.AnswerLemmas.{size_by, is_size_of, same_count}
 use Rattle.gomp_runner.proofs.answer.answer_steps.Goals as goal
 

@@ -26,7 +26,7 @@ returns-in-Entered-clause-answer g c = λ h st.
     (sym c.in_default.is ∙ c.start_refusal.ensures.first) may.0 in
     let now = c.in-Entered.ensures.stands h st in
     let claims = rw (is, c.try_open.ensures.members) at (c.claim.ensures.answer _ now) in
-    (none, (may.1, rw c.section_number.ensures (start_deals (g.S.Shares.members c.args.shares.now) c.args.member (entered c.args.member h) c.args.count c.args.end_kind c.claim.result h claims)))
+    (none, (may.1, rw c.section_number.ensures.answer (start_deals (g.S.Shares.members c.args.shares.now) c.args.member (entered c.args.member h) c.args.count c.args.end_kind c.claim.result h claims)))
 
 pub returns-in-Entered-clause-stands : goal.returns-in-Entered-clause-stands
 returns-in-Entered-clause-stands g c = λ h st.
@@ -34,4 +34,4 @@ returns-in-Entered-clause-stands g c = λ h st.
     let now = c.in-Entered.ensures.stands h st in
     let claims = rw is at (c.claim.ensures.answer _ now) in
     let adds = start_adds _ c.args.member (entered c.args.member h) c.args.count c.args.end_kind c.claim.result h claims in
-    rw (c.section_number.ensures, adds) (rw is at (c.claim.ensures.stands _ now))
+    rw (c.section_number.ensures.answer, adds) (rw is at (c.claim.ensures.stands _ now))

@@ -40,7 +40,7 @@ returns-in-Some-put-clause-answer g c = λ h st put.
     (none, (may.1, left, rw c.copied.ensures (rw c.in-Some-put.is at put)))
 
 pub returns-in-Some-put-clause-stands : goal.returns-in-Some-put-clause-stands
-returns-in-Some-put-clause-stands g c = λ h st put.
+returns-in-Some-put-clause-stands g c = λ h st.
     let now = rw c.single_shape-shape.ensures.shape at (c.claim.ensures.stands _ (c.in-Entered.ensures.stands h st)) in
     let adds = copy_adds c.args.member (entered c.args.member h) c.copied.result c.claim.result h (sym c.if-is_some.false ∙ c.is_some.ensures) in
     rw adds (c.leave.ensures.stands _ (g.met.S.Shares.aside c.claim.new.self _ (Got (entered c.args.member h) c.args.member c.copied.result) tt now))
@@ -53,7 +53,7 @@ unreached g c h st =
     let asked : is_some c.args.put ≡ false = rw c.in-None.is refl in
     elim c.else-is_none.branch [
       | else-is_none-via-then-is_none+else-next_is_taken w ↦
-          not_given _ c.args.member (entered c.args.member h) c.claim.result h claims (sym c.if-is_some.false ∙ c.is_some.ensures) (sym w.if-next_is_taken.false ∙ w.next_is_taken.ensures.value h st)
+          not_given _ c.args.member (entered c.args.member h) c.claim.result h claims (sym c.if-is_some.false ∙ c.is_some.ensures) (sym w.if-next_is_taken.false ∙ w.next_is_taken.ensures.answer h st)
       | else-is_none-via-else-is_none w ↦ none_and_some (is_some c.args.put) c.is_none.result c.is_none.ensures w.if-is_none.false asked
     ]
 
@@ -61,4 +61,7 @@ pub returns-in-None-clause-answer : goal.returns-in-None-clause-answer
 returns-in-None-clause-answer g c = λ h st put. absurd (unreached g c h st)
 
 pub returns-in-None-clause-stands : goal.returns-in-None-clause-stands
-returns-in-None-clause-stands g c = λ h st put. absurd (unreached g c h st)
+returns-in-None-clause-stands g c = λ h st. absurd (unreached g c h st)
+
+pub returns-in-None-clause-waits : goal.returns-in-None-clause-waits
+returns-in-None-clause-waits g c = λ waits. let (h, st) = c.look-seen.ensures.known in absurd (unreached g c h st)

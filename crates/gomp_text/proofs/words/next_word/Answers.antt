@@ -1,12 +1,13 @@
 use Rattle.std.proofs.Common.{◌≡◌, ◌∙◌, ◌∷◌, [], ℕ, List, Some, None, length, ap, sym, rules}
 use Rattle.std.specs.Prelude.{option_copied}
+use Rattle.std.proofs.lemmas.List.{nil_from_length}
 use Rattle.gomp_text.specs.Words.{words_of, cut, past_spaces}
-use Rattle.gomp_text.proofs.WordLemmas.{words_past, begins, words_first, words_last, Begins, empty_list}
+use Rattle.gomp_text.proofs.WordLemmas.{words_past, begins, words_first, words_last, Begins}
 use Rattle.gomp_text.proofs.words.next_word.Goals as goal
 
 pub returns-then-is_empty : goal.returns-then-is_empty
 returns-then-is_empty c =
-    let none : c.past_spaces-line.result.now ≡ [] = empty_list c.past_spaces-line.result.now (search rules) in
+    let none : c.past_spaces-line.result.now ≡ [] = nil_from_length c.past_spaces-line.result.now (search rules) in
     sym (words_past c.args.line.now) ∙ ap words_of (sym c.past_spaces-line.ensures ∙ none)
 
 pub returns-in-Some : goal.returns-in-Some

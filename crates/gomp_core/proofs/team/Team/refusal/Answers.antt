@@ -52,4 +52,4 @@ returns g c = λ before st0.
     let at = slice_get_read c.self.inside.waiting.items _ c.args.member _ refl lt c.index.ensures in
     let waits : is_some (waits_of c.args.member before).open_call ≡ c.is_some-waits.result = ap is_some (st.wait c.args.member _ at).call_is ∙ some_open c.index.result.now ∙ sym c.is_some-waits.ensures in
     rw (← c.self.view_is) (alone_is (record { members = length c.self.inside.waiting.items; limits = c.self.inside.limits; cancellation = c.self.inside.icv.cancellation }) (record { member = c.args.member; call = c.args.call.now }) (waits_of c.args.member before).open_call (events before) c.own_refusal.result lt stays sound
-    (c.own_refusal.ensures (events before) st.shares_are (subst (λ (n : ℕ). PayloadsStand n c.self.inside.payloads (events before)) (sym st.shares_size) st.payloads_are) ∙ call_goes_on c.self.inside.limits c.args.member c.args.call.now (waits_of c.args.member before).open_call (events before) c.in_default-call-2.not-Resume c.in_default-call.not-Stop (waits ∙ c.if-waits-2.false)))
+    (c.own_refusal.ensures.first (events before) st.shares_are ∙ call_goes_on c.self.inside.limits c.args.member c.args.call.now (waits_of c.args.member before).open_call (events before) c.in_default-call-2.not-Resume c.in_default-call.not-Stop (waits ∙ c.if-waits-2.false)))

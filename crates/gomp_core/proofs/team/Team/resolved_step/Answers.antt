@@ -6,7 +6,7 @@ use Rattle.gomp_types.specs.Record.{Record, events, waits_of}
 use Rattle.gomp_core.specs.Payloads.{PayloadsStand}
 use Rattle.gomp_core.specs.Stands.{TeamView, Stands, terms_of}
 use Rattle.gomp_core.proofs.Rows.{alone, below}
-use Rattle.gomp_core.proofs.Stepping.{Admitted, stands_refused, answer_refused, refused_memory, answer_memory, answer_breaks, step_ready, step_answered, stands_answered}
+use Rattle.gomp_core.proofs.Stepping.{Admitted, stands_refused, answer_refused, refused_memory, answer_memory, answer_breaks, only_broken, waits_on, step_ready, step_answered, stands_answered}
 use Rattle.gomp_core.proofs.team.Team.resolved_step.Given.{Over}
 use Rattle.gomp_core.proofs.team.Team.resolved_step.Goals as goal
 
@@ -69,17 +69,31 @@ returns-clause-stands g c = λ before st0.
     let st = subst (λ (t : TeamView g.row.S.Denot). Stands g.S.Shares.stands g.S.Shares.members t before) (sym c.self.view_is) st0 in
     let known = admitted g c before st in
     rw (c.waiting_after.ensures, c.broken_after-self-inside.ensures, c.reply_to-reply.ensures) (stands_answered g.S.Shares.stands g.S.Shares.members (team_of g c) c.answer-outcome.new.shares c.answer-outcome.new.barriers c.answer-outcome.new.payloads before (step_of g c) c.index-waiting.result.now c.answer-outcome.result known
-    (c.first_refused.ensures (terms_of (team_of g c)) before (step_of g c)) (rw st.shares_size at (c.answer-outcome.ensures.stands (events before) st.shares_are st.barriers_are (words_stand g c before st) known.may)) c.answer-outcome.ensures.members c.answer-outcome.ensures.seats)
+    (c.first_refused.ensures (terms_of (team_of g c)) before (step_of g c)) (rw st.shares_size at (c.answer-outcome.ensures.stands (events before) st.shares_are st.barriers_are (words_stand g c before st) known.may)) c.answer-outcome.ensures.members c.answer-outcome.ensures.barriers)
 
 pub returns-clause-memory : goal.returns-clause-memory
 returns-clause-memory g c =
     let (before, st) = c.self.invariant in
     rw c.reply_to-reply.ensures (answer_memory _ _ _ _ c.answer-outcome.result (events before) (admitted g c before st).answer)
 
-pub returns-clause-refused : goal.returns-clause-refused
-returns-clause-refused g c = λ refusal same differ.
+pub returns-clause-kept : goal.returns-clause-kept
+returns-clause-kept g c = λ refusal same differ.
     let (before, st) = c.self.invariant in
     absurd (differ (answer_breaks _ _ _ _ c.answer-outcome.result refusal (events before) (admitted g c before st).answer (sym c.reply_to-reply.ensures ∙ same)))
+
+pub returns-clause-broken : goal.returns-clause-broken
+returns-clause-broken g c = λ same.
+    let (before, st) = c.self.invariant in
+    let known = admitted g c before st in
+    rw (← c.self.view_is, c.waiting_after.ensures, c.broken_after-self-inside.ensures, c.reply_to-reply.ensures) (only_broken (team_of g c) c.answer-outcome.new.shares c.answer-outcome.new.barriers c.answer-outcome.new.payloads (step_of g c) c.index-waiting.result.now c.answer-outcome.result _ _ _ (events before)
+    known.at known.answer c.answer-outcome.ensures.kept (sym c.reply_to-reply.ensures ∙ same))
+
+pub returns-clause-again : goal.returns-clause-again
+returns-clause-again g c = λ same resume.
+    let (before, st) = c.self.invariant in
+    let known = admitted g c before st in
+    rw (← c.self.view_is, c.waiting_after.ensures, c.broken_after-self-inside.ensures, c.reply_to-reply.ensures) (waits_on (team_of g c) c.answer-outcome.new.shares c.answer-outcome.new.barriers c.answer-outcome.new.payloads (step_of g c) c.index-waiting.result.now c.answer-outcome.result
+    known.at (λ is. c.answer-outcome.ensures.again is resume) (sym c.reply_to-reply.ensures ∙ same) resume)
 
 pub invariant_of-self : goal.invariant_of-self
 invariant_of-self g c =

@@ -13,8 +13,8 @@ returns-in_default-clause-stands c = λ h st0.
     let within : c.index-seat.result.now.ended % 8 < length c.self.inside.places = omega arith in
     absurd (not_empty _ _ _ h (own_place _ _ _ _ h c.args.member c.index-seat.result.now st at can.inside) (place_is c.self.inside.places (c.index-seat.result.now.ended % 8) _ _ within c.in_default.is))
 
-pub take_next-requires : goal.take_next-requires
-take_next-requires c =
+pub next_piece-requires : goal.next_piece-requires
+next_piece-requires c =
     let (h, st0) = known_by _ _ c.self.view_is c.self.invariant in
     let (can, st) = told _ _ c.args.member h (λ n seen. CanClaim n c.args.member seen) c.self.view_is c.requires c.requires.member st0 in
     let at = slice_get_read c.self.inside.seats.items _ c.args.member c.index-seat.result.now refl can.member c.index-seat.ensures in
@@ -22,10 +22,10 @@ take_next-requires c =
     let within : c.index-seat.result.now.ended % 8 < length c.self.inside.places = omega arith in
     let there = place_is c.self.inside.places (c.index-seat.result.now.ended % 8) _ _ within c.in-Some.is in
     let plan = here_plan _ _ _ c.in-Some.share h (own_place _ _ _ _ h c.args.member c.index-seat.result.now st at can.inside) there in
-    rw plan can.member
+    record { member = rw plan can.member }
 
-pub returns-in_default-take_next-clause-answer : goal.returns-in_default-take_next-clause-answer
-returns-in_default-take_next-clause-answer c = λ h st0.
+pub returns-in_default-next_piece-clause-answer : goal.returns-in_default-next_piece-clause-answer
+returns-in_default-next_piece-clause-answer c = λ h st0.
     let (can, st) = told _ _ c.args.member h (λ n seen. CanClaim n c.args.member seen) c.self.view_is c.requires c.requires.member st0 in
     let at = slice_get_read c.self.inside.seats.items _ c.args.member c.index-seat.result.now refl can.member c.index-seat.ensures in
     let eight = st.eight in
@@ -33,18 +33,18 @@ returns-in_default-take_next-clause-answer c = λ h st0.
     let there = place_is c.self.inside.places (c.index-seat.result.now.ended % 8) _ _ within c.in-Some.is in
     rw (← c.self.view_is) (
     piece_at _ _ _ _ h c.args.member c.index-seat.result.now c.in-Some.share _ st at can.inside there
-    (rw c.in_default-take_next.is at c.take_next.ensures.piece) (rw c.in_default-take_next.is at c.take_next.ensures.within)
+    (rw c.in_default-next_piece.is at c.next_piece.ensures.piece) (rw c.in_default-next_piece.is at c.next_piece.ensures.within)
     (λ valid. c.pieces_tile.ensures _ c.in-Some.share.shape (let lt = can.member in omega arith) valid))
 
-pub returns-in_default-take_next-clause-stands : goal.returns-in_default-take_next-clause-stands
-returns-in_default-take_next-clause-stands c = λ h st0.
+pub returns-in_default-next_piece-clause-stands : goal.returns-in_default-next_piece-clause-stands
+returns-in_default-next_piece-clause-stands c = λ h st0.
     let (can, st) = told _ _ c.args.member h (λ n seen. CanClaim n c.args.member seen) c.self.view_is c.requires c.requires.member st0 in
     let at = slice_get_read c.self.inside.seats.items _ c.args.member c.index-seat.result.now refl can.member c.index-seat.ensures in
-    let may = rw (← c.self.view_is) at (returns-in_default-take_next-clause-answer c h st0) in
+    let may = rw (← c.self.view_is) at (returns-in_default-next_piece-clause-answer c h st0) in
     rw (length-set c.self.inside.seats.items c.args.member _) (drains _ _ _ _ h c.args.member c.index-seat.result.now st at can.apart may)
 
 pub invariant_of-self : goal.invariant_of-self
-invariant_of-self c = let (h, st0) = known_by _ _ c.self.view_is c.self.invariant in (_, returns-in_default-take_next-clause-stands c h st0)
+invariant_of-self c = let (h, st0) = known_by _ _ c.self.view_is c.self.invariant in (_, returns-in_default-next_piece-clause-stands c h st0)
 
 pub returns-clause-answer : goal.returns-clause-answer
 returns-clause-answer c = λ h st0.
@@ -55,7 +55,7 @@ returns-clause-answer c = λ h st0.
     let there = place_is c.self.inside.places (c.index-seat.result.now.ended % 8) _ _ within c.in-Some.is in
     rw (← c.self.view_is) (
     piece_at _ _ _ _ h c.args.member c.index-seat.result.now c.in-Some.share _ st at can.inside there
-    (rw c.in-Some-take_next.is at c.take_next.ensures.piece) (rw c.in-Some-take_next.is at c.take_next.ensures.within)
+    (rw c.in-Some-next_piece.is at c.next_piece.ensures.piece) (rw c.in-Some-next_piece.is at c.next_piece.ensures.within)
     (λ valid. c.pieces_tile.ensures _ c.in-Some.share.shape (let lt = can.member in omega arith) valid))
 
 pub returns-clause-stands : goal.returns-clause-stands
@@ -66,7 +66,7 @@ returns-clause-stands c = λ h st0.
     let within : c.index-seat.result.now.ended % 8 < length c.self.inside.places = omega arith in
     let there = place_is c.self.inside.places (c.index-seat.result.now.ended % 8) _ _ within c.in-Some.is in
     let may = rw (← c.self.view_is) at (returns-clause-answer c h st0) in
-    let kept = claims _ _ _ _ h c.args.member c.index-seat.result.now c.in-Some.share _ _ c.take_next.new.cursor c.take_next.ensures.plan (rw c.in-Some-take_next.is at c.take_next.ensures.number) st at can.inside there can.apart may in
+    let kept = claims _ _ _ _ h c.args.member c.index-seat.result.now c.in-Some.share _ _ c.next_piece.new.self c.next_piece.ensures.plan (rw c.in-Some-next_piece.is at c.next_piece.ensures.number) st at can.inside there can.apart may in
     rw (length-set c.self.inside.seats.items c.args.member _, c.saturating_add.ensures, c.saturating_add-2.ensures) kept
 
 pub invariant_of-self-2 : goal.invariant_of-self-2

@@ -3,22 +3,22 @@ use Rattle.std.proofs.lemmas.Option.{slice_get_read}
 use Rattle.gomp_share_plain.proofs.PlainKeeps.{place_is, told_stands, next_place, next_taken, next_new, not_empty}
 use Rattle.gomp_share_plain.proofs.plain.PlainSharesShares.next_is_taken.Goals as goal
 
-pub returns-then-number-self-clause-value : goal.returns-then-number-self-clause-value
-returns-then-number-self-clause-value c = λ h st0.
+pub returns-then-number-self-clause-answer : goal.returns-then-number-self-clause-answer
+returns-then-number-self-clause-answer c = λ h st0.
     let (lt, st) = told_stands _ _ c.args.member h c.self.view_is c.requires st0 in
     let at = slice_get_read c.self.inside.seats.items _ c.args.member c.index.result.now refl lt c.index.ensures in
     sym (next_new _ _ _ _ h c.args.member c.index.result.now st at c.if-number-self.true)
 
-pub returns-in-Some-clause-value : goal.returns-in-Some-clause-value
-returns-in-Some-clause-value c = λ h st0.
+pub returns-in-Some-clause-answer : goal.returns-in-Some-clause-answer
+returns-in-Some-clause-answer c = λ h st0.
     let (lt, st) = told_stands _ _ c.args.member h c.self.view_is c.requires st0 in
     let at = slice_get_read c.self.inside.seats.items _ c.args.member c.index.result.now refl lt c.index.ensures in
     let eight = st.eight in
     let within : c.index.result.now.started % 8 < length c.self.inside.places = omega arith in
     next_taken _ _ _ _ h c.args.member c.index.result.now c.in-Some.share st at c.if-number-self.false (place_is c.self.inside.places (c.index.result.now.started % 8) _ _ within c.in-Some.is)
 
-pub returns-in-None-clause-value : goal.returns-in-None-clause-value
-returns-in-None-clause-value c = λ h st0.
+pub returns-in-None-clause-answer : goal.returns-in-None-clause-answer
+returns-in-None-clause-answer c = λ h st0.
     let (lt, st) = told_stands _ _ c.args.member h c.self.view_is c.requires st0 in
     let at = slice_get_read c.self.inside.seats.items _ c.args.member c.index.result.now refl lt c.index.ensures in
     let eight = st.eight in

@@ -101,7 +101,7 @@ returns-clause-stands c = λ h st0.
     let all = each_room c.self.inside.seats.items c.index-seat.result.now.started (
     let seats : c.deref.result.now ≡ c.self.inside.seats.items = c.deref.ensures.value in
     rw seats at (c.has_room.ensures.0 (grind (arith, c.if-not-has_room.false)))) in
-    rw (length-set c.self.inside.seats.items c.args.member _, now) (opens _ _ _ _ h c.args.member c.index-seat.result.now c.args.shape.now c.new.result (c.new.ensures ∙ c.of.ensures.plan ∙ ap (λ n. record { members = n; shape = c.args.shape.now }) size) st at can.outside now fine (rw now at all))
+    rw (length-set c.self.inside.seats.items c.args.member _, now) (opens _ _ _ _ h c.args.member c.index-seat.result.now c.args.shape.now c.new.result (c.new.ensures.plan ∙ c.of.ensures.plan ∙ ap (λ n. record { members = n; shape = c.args.shape.now }) size) st at can.outside now fine (rw now at all))
 
 pub invariant_of-self-2 : goal.invariant_of-self-2
 invariant_of-self-2 c = let (h, st0) = known_by _ _ c.self.view_is c.self.invariant in (_, returns-clause-stands c h st0)

@@ -1,0 +1,19 @@
+use Rattle.std.proofs.Common.{refl, ap, inl, inr}
+use Rattle.std.proofs.Common.{false}
+use Rattle.gomp_types.specs.declared.refusal.Place.TheVariants.{Stopped as AtStop}
+use Rattle.gomp_types.specs.declared.event.Arrival.TheVariants.{Barrier, RegionEnd}
+use Rattle.gomp_types.specs.declared.event.Tag.{Tag}
+use Rattle.gomp_types.specs.LawExamples.{four, at}
+use Rattle.gomp_types.proofs.law_examples.wrong_arrivals.Goals as goal
+
+pub returns-clause-arrived_twice : goal.returns-clause-arrived_twice
+returns-clause-arrived_twice c = λ laws. laws.arrive_once.0.1 (at Barrier 0) (inl refl)
+
+pub returns-clause-two_tags : goal.returns-clause-two_tags
+returns-clause-two_tags c = λ laws. absurd (let same = ap (λ (tag : Tag). tag.kind) (laws.same_arrivals.tags 0 0 1 (at Barrier 0) (at RegionEnd 0) (inr (inl refl)) (inl refl)) in cc)
+
+pub returns-clause-arrived_inside : goal.returns-clause-arrived_inside
+returns-clause-arrived_inside c = λ laws. elim (laws.arrive_outside.0 0 (four false) (inl refl)) [ inl e ↦ absurd (cc) | inr never ↦ never ]
+
+pub returns-clause-after_a_stop : goal.returns-clause-after_a_stop
+returns-clause-after_a_stop c = λ laws. laws.unbroken.0 1 AtStop (inl refl)
