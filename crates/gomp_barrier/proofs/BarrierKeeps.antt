@@ -13,7 +13,7 @@ use Rattle.gomp_types.proofs.Booleans.{every_tells, every_by}
 use Rattle.gomp_types.proofs.Lists.{slice_get-set}
 use Rattle.gomp_barrier.specs.declared.front.Seat.{Seat}
 use Rattle.gomp_barrier.specs.declared.front.Front.{Front}
-use Rattle.gomp_barrier.specs.Seats.{differ, is_ahead, tag_for, number_for, IsThere, arrived_at, advanced, barrier_of, SeatStands, BarrierStands, SomeBehind}
+use Rattle.gomp_barrier.specs.Seats.{differ, is_ahead, tag_for, number_for, IsThere, arrived_at, advanced, barrier_of, SeatStands, FrontStands, SomeBehind}
 
 -- What an arrival and a pass add
 
@@ -47,7 +47,7 @@ same_barrier : (front : Front) (least : ℕ) (a b : Seat) → a.odd ≡ b.odd �
 same_barrier front least a b e = ap (λ odd. if differ odd front.odd then least + 1 else least) e
 
 -- where a member's tag stands
-pub tag_is : (members : List Seat) (front : Front) (least : ℕ) (member : Seat) (h : List Event) → BarrierStands members front least h → tag_at (barrier_of front least member) h ≡ tag_for front member
+pub tag_is : (members : List Seat) (front : Front) (least : ℕ) (member : Seat) (h : List Event) → FrontStands members front least h → tag_at (barrier_of front least member) h ≡ tag_for front member
 tag_is members front least member h st = by_ahead (is_ahead front member)
   where
     by_ahead : (ahead : Bool) → tag_at (if ahead then least + 1 else least) h ≡ (if ahead then front.next else front.tag)
@@ -57,7 +57,7 @@ tag_is members front least member h st = by_ahead (is_ahead front member)
 shown_next : (n : ℕ) → shown (shown n + 1) ≡ shown (n + 1)
 shown_next n = omega arith
 
-pub number_is : (members : List Seat) (front : Front) (least : ℕ) (member : Seat) (h : List Event) → BarrierStands members front least h → number_for front member ≡ shown (barrier_of front least member)
+pub number_is : (members : List Seat) (front : Front) (least : ℕ) (member : Seat) (h : List Event) → FrontStands members front least h → number_for front member ≡ shown (barrier_of front least member)
 number_is members front least member h st = by_ahead (is_ahead front member)
   where
     by_ahead : (ahead : Bool) → (if ahead then shown (front.number + 1) else front.number) ≡ shown (if ahead then least + 1 else least)
@@ -125,9 +125,9 @@ tagged front member least m tag h t = by_ahead (is_ahead front member)
       beyond = λ g le. tag_elsewhere g least m tag h (λ e. omega arith) ∙ t.beyond g le;
     }
 
-pub arrives : (members : List Seat) (front : Front) (least m : ℕ) (member after : Seat) (tag : Tag) (h : List Event) → BarrierStands members front least h → slice_get members m ≡ Some member →
+pub arrives : (members : List Seat) (front : Front) (least m : ℕ) (member after : Seat) (tag : Tag) (h : List Event) → FrontStands members front least h → slice_get members m ≡ Some member →
     after.odd ≡ member.odd → after.arrived ≡ Some tag → after.left ≡ member.left →
-    BarrierStands (slice_set members m after) (arrived_at front member tag) least (Arrive (barrier_of front least member) m tag ∷ h)
+    FrontStands (slice_set members m after) (arrived_at front member tag) least (Arrive (barrier_of front least member) m tag ∷ h)
 arrives members front least m member after tag h st at odd arrived left =
     let t = tagged front member least m tag h (record { number = st.number; tag = st.tag; next = st.next; beyond = st.beyond }) in
     let turn = turn_arrived front member tag in
@@ -199,9 +199,9 @@ other_passes front least m k member h p other = record {
   left_is = left_other least m k h other ∙ p.left_is;
 }
 
-pub passes : (members : List Seat) (front : Front) (least m : ℕ) (member after : Seat) (tag : Tag) (h : List Event) → BarrierStands members front least h → slice_get members m ≡ Some member →
+pub passes : (members : List Seat) (front : Front) (least m : ℕ) (member after : Seat) (tag : Tag) (h : List Event) → FrontStands members front least h → slice_get members m ≡ Some member →
     is_ahead front member ≡ false → member.arrived ≡ Some tag → after.odd ≡ not member.odd → after.arrived ≡ None → after.left ≡ (member.left || is_region_end tag.kind) →
-    BarrierStands (slice_set members m after) front least (Pass least m ∷ h)
+    FrontStands (slice_set members m after) front least (Pass least m ∷ h)
 passes members front least m member after tag h st at behind arrived odd none left = record {
   number = st.number;
   tag = st.tag;
@@ -227,7 +227,7 @@ moved front member e = by member.odd front.odd e
 all_at : (front : Front) (members : List Seat) (m : ℕ) (member : Seat) → All (λ x. is_ahead front x ≡ true) members → slice_get members m ≡ Some member → is_ahead front member ≡ true
 all_at front members m member all at = rw (get_or_from_slice_get members m member member at) at (all m member (slice_get_within members m member at))
 
-pub moves_on : (members : List Seat) (front : Front) (least : ℕ) (h : List Event) → BarrierStands members front least h → All (λ x. is_ahead front x ≡ true) members → BarrierStands members (advanced front) (least + 1) h
+pub moves_on : (members : List Seat) (front : Front) (least : ℕ) (h : List Event) → FrontStands members front least h → All (λ x. is_ahead front x ≡ true) members → FrontStands members (advanced front) (least + 1) h
 moves_on members front least h st all = record {
   number = ap (λ n. shown (n + 1)) st.number ∙ shown_next least;
   tag = st.next;
@@ -263,20 +263,20 @@ there front least m member h p = by_ahead (is_ahead front member) refl
     by_ahead true e = let same : barrier_of front least member ≡ least + 1 = rw e refl in p.behind least (subst (λ b. least < b) (sym same) (omega arith))
     by_ahead false e = let same : barrier_of front least member ≡ least = rw e refl in ap is_some (subst (λ b. arrival b m h ≡ member.arrived) same p.here)
 
-pub met_by : (members : List Seat) (front : Front) (least : ℕ) (h : List Event) → BarrierStands members front least h → All (IsThere front) members → barrier_met (length members) least h ≡ true
+pub met_by : (members : List Seat) (front : Front) (least : ℕ) (h : List Event) → FrontStands members front least h → All (IsThere front) members → barrier_met (length members) least h ≡ true
 met_by members front least h st all =
     every_by (length members) (λ m. is_some (arrival least m h)) (λ m lt.
     let none : Seat = record { odd = true; arrived = None; left = true } in
     let at : slice_get members m ≡ Some (get_or members m none) = slice_get-get_or members m none lt in
     there front least m _ h (st.seat m _ at) ∙ all m none lt)
 
-pub met_all : (members : List Seat) (front : Front) (least : ℕ) (h : List Event) → BarrierStands members front least h → barrier_met (length members) least h ≡ true → All (IsThere front) members
+pub met_all : (members : List Seat) (front : Front) (least : ℕ) (h : List Event) → FrontStands members front least h → barrier_met (length members) least h ≡ true → All (IsThere front) members
 met_all members front least h st met = λ m none lt.
     let at : slice_get members m ≡ Some (get_or members m none) = slice_get-get_or members m none lt in
     sym (there front least m _ h (st.seat m _ at)) ∙ every_tells (length members) (λ x. is_some (arrival least x h)) m met lt
 
 -- a member ahead of the front waits for those behind it
-pub not_met_ahead : (members : List Seat) (front : Front) (least : ℕ) (h : List Event) → BarrierStands members front least h → SomeBehind front members → barrier_met (length members) (least + 1) h ≡ false
+pub not_met_ahead : (members : List Seat) (front : Front) (least : ℕ) (h : List Event) → FrontStands members front least h → SomeBehind front members → barrier_met (length members) (least + 1) h ≡ false
 not_met_ahead members front least h st behind =
     elim (cases_Bool (barrier_met (length members) (least + 1) h)) [
       | inl met ↦ absurd (behind (λ m none lt.

@@ -17,7 +17,7 @@ use Rattle.gomp_types.proofs.Lists.{slice_get-set}
 use Rattle.gomp_barrier.specs.declared.front.Seat.{Seat}
 use Rattle.gomp_barrier.specs.declared.front.Front.{Front}
 use Rattle.gomp_barrier.specs.declared.barriers.AtBarrier.{AtBarrier}
-use Rattle.gomp_barrier.specs.Seats.{differ, is_ahead, tag_for, number_for, IsThere, arrived_at, passed_by, advanced, barrier_of, SeatStands, BarrierStands, SomeBehind}
+use Rattle.gomp_barrier.specs.Seats.{differ, is_ahead, tag_for, number_for, IsThere, arrived_at, passed_by, advanced, barrier_of, SeatStands, FrontStands, SomeBehind}
 use Rattle.gomp_barrier.specs.Calls.{at_barrier, IsAside}
 use Rattle.gomp_barrier.specs.Stands.{BarriersView, Stands, members_of}
 use Rattle.gomp_barrier.proofs.BarrierKeeps.{tag_is, number_is, arrives, turn_arrived, passes, moves_on, behind_again, met_by, met_all, not_met_ahead}
@@ -110,7 +110,7 @@ arrive_keeps seats front m seat tag h st at fine =
     let p = st.barrier.seat m seat at in
     record {
       least = st.least;
-      barrier = subst (λ g. BarrierStands (slice_set seats m new) (arrived_at front seat tag) st.least (Arrive g m tag ∷ h)) (sym p.passed_is) (arrives seats front st.least m seat new tag h st.barrier at refl refl refl);
+      barrier = subst (λ g. FrontStands (slice_set seats m new) (arrived_at front seat tag) st.least (Arrive g m tag ∷ h)) (sym p.passed_is) (arrives seats front st.least m seat new tag h st.barrier at refl refl refl);
       behind = ahead_stays front (arrived_at front seat tag) m seat new seats at refl (turn_arrived front seat tag) st.behind;
       rule = subst (λ n. Always (ArrivalRule n) (Arrive (passed m h) m tag ∷ h)) (sym (length-set seats m new)) (
         record { number = refl; same = same_tags tag (tag_at (passed m h) h) (ap (tag_differs tag) (tag_here seats front m seat h st at) ∙ fine) },
@@ -164,7 +164,7 @@ decide_all test (x ∷ xs) =
     cons_all (suc k) d e all lt = all k d (omega arith)
 
 -- the front after members have passed
-pub settle_keeps : (seats : List Seat) (front settled : Front) (m : ℕ) (seat : Seat) (least : ℕ) (h : List Event) → BarrierStands seats front least h → slice_get seats m ≡ Some seat → Always (ArrivalRule (length seats)) h →
+pub settle_keeps : (seats : List Seat) (front settled : Front) (m : ℕ) (seat : Seat) (least : ℕ) (h : List Event) → FrontStands seats front least h → slice_get seats m ≡ Some seat → Always (ArrivalRule (length seats)) h →
     (All (λ p. is_ahead front p ≡ true) seats → settled ≡ advanced front) → ((All (λ p. is_ahead front p ≡ true) seats → ⊥) → settled ≡ front) → StandAt seats settled h
 settle_keeps seats front settled m seat least h st at rule all some =
     elim (decide_all (is_ahead front) seats) [
@@ -185,7 +185,7 @@ turn_keeps seats front settled m seat h st at behind all every some =
     let tag = there_tag front seat behind is in
     let number = at_least seats front m seat h st at behind in
     let left : new.left ≡ (seat.left || is_region_end tag.0.kind) = ap (λ t. seat.left || was_region_end t) tag.1 in
-    let moved : BarrierStands (slice_set seats m new) front st.least (Pass (passed m h) m ∷ h) = subst (λ g. BarrierStands (slice_set seats m new) front st.least (Pass g m ∷ h)) (sym number) (passes seats front st.least m seat new tag.0 h st.barrier at behind tag.1 refl refl left) in
+    let moved : FrontStands (slice_set seats m new) front st.least (Pass (passed m h) m ∷ h) = subst (λ g. FrontStands (slice_set seats m new) front st.least (Pass g m ∷ h)) (sym number) (passes seats front st.least m seat new tag.0 h st.barrier at behind tag.1 refl refl left) in
     let own : slice_get (slice_set seats m new) m ≡ Some new = set_same seats m new (slice_get_within seats m seat at) in
     settle_keeps (slice_set seats m new) front settled m new st.least (Pass (passed m h) m ∷ h) moved own
     (subst (λ n. Always (ArrivalRule n) (Pass (passed m h) m ∷ h)) (sym (length-set seats m new)) (record { number = refl; met = met_now seats front m seat h st at behind all }, st.rule)) every some

@@ -61,7 +61,7 @@ pub record SeatStands (front : Front) (least m : ℕ) (member : Seat) (h : List 
   pub left_is : has_left_region m h ≡ member.left
 
 -- the front, and each member's seat
-pub record BarrierStands (members : List Seat) (front : Front) (least : ℕ) (h : List Event) : Type 0 where
+pub record FrontStands (members : List Seat) (front : Front) (least : ℕ) (h : List Event) : Type 0 where
   pub number : front.number ≡ shown least
   pub tag : tag_at least h ≡ front.tag
   pub next : tag_at (least + 1) h ≡ front.next

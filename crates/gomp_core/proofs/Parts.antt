@@ -17,7 +17,7 @@ use Rattle.gomp_core.specs.declared.waiting.Turning.{Turning}
 use Rattle.gomp_core.specs.declared.waiting.Turning.TheVariants.{Next, Part}
 use Rattle.gomp_core.specs.declared.waiting.Arriving.{Arriving}
 use Rattle.gomp_core.specs.declared.waiting.Arriving.TheVariants.{LoopEnd as AtLoopEnd, SectionsEnd as AtSectionsEnd, Barrier as AtBarrier, RegionEnd as AtRegionEnd}
-use Rattle.gomp_core.specs.Waits.{starting, turning, arriving, arrival_of}
+use Rattle.gomp_core.specs.Waits.{start_call, turn_call, arrival_call, arrival_of}
 use Rattle.gomp_core.specs.Answers.{passed_after, is_at_once}
 use Rattle.gomp_types.specs.declared.call.Call.TheVariants.{LoopEnd, SectionsEnd, Barrier, RegionEnd}
 use Rattle.gomp_core.proofs.Kept.{IsOwn, puts_words, added_kept}
@@ -42,13 +42,13 @@ aloof_kept P keeps again m shares reply call h aloof p =
       break = λ is h place p. keeps h (Break m place) tt p;
     }) p
 
-pub start_aloof : (what : Starting) → arrival_kind (starting what) ≡ None
+pub start_aloof : (what : Starting) → arrival_kind (start_call what) ≡ None
 start_aloof (Loop loop) = refl
 start_aloof (Sections count end_kind) = refl
 start_aloof Single = refl
 start_aloof SingleCopy = refl
 
-pub turn_aloof : (what : Turning) → arrival_kind (turning what) ≡ None
+pub turn_aloof : (what : Turning) → arrival_kind (turn_call what) ≡ None
 turn_aloof Next = refl
 turn_aloof (Part value) = refl
 
@@ -60,17 +60,17 @@ at_once_aloof RegionEnd e = absurd (cc)
 at_once_aloof _ e = refl
 
 -- which calls put no words
-pub start_puts : (what : Starting) → puts_words (starting what) ≡ false
+pub start_puts : (what : Starting) → puts_words (start_call what) ≡ false
 start_puts (Loop loop) = refl
 start_puts (Sections count end_kind) = refl
 start_puts Single = refl
 start_puts SingleCopy = refl
 
-pub turn_puts : (what : Turning) → puts_words (turning what) ≡ false
+pub turn_puts : (what : Turning) → puts_words (turn_call what) ≡ false
 turn_puts Next = refl
 turn_puts (Part value) = refl
 
-pub arrival_puts : (how : Arriving) → puts_words (arriving how) ≡ false
+pub arrival_puts : (how : Arriving) → puts_words (arrival_call how) ≡ false
 arrival_puts AtLoopEnd = refl
 arrival_puts AtSectionsEnd = refl
 arrival_puts AtBarrier = refl
@@ -79,7 +79,7 @@ arrival_puts AtRegionEnd = refl
 -- The shares do not see what an arrival adds, save that a construct is left
 
 -- the turn after an arrival
-pub turn_kept : (P : List Event → Type 0) → KeepsAside SharesAside P → (m shares : ℕ) (how : Arriving) (reply : Reply) (met : Bool) (h : List Event) → Awaits met reply → P h → P (added true m shares reply (arriving how) h)
+pub turn_kept : (P : List Event → Type 0) → KeepsAside SharesAside P → (m shares : ℕ) (how : Arriving) (reply : Reply) (met : Bool) (h : List Event) → Awaits met reply → P h → P (added true m shares reply (arrival_call how) h)
 turn_kept P keeps m shares AtLoopEnd Passed met h may p = keeps _ _ tt p
 turn_kept P keeps m shares AtSectionsEnd Passed met h may p = keeps _ _ tt p
 turn_kept P keeps m shares AtBarrier Passed met h may p = keeps _ _ tt p
@@ -87,8 +87,8 @@ turn_kept P keeps m shares AtRegionEnd Passed met h may p = keeps _ _ tt p
 turn_kept P keeps m shares how Wait met h may p = p
 turn_kept P keeps m shares how _ met h may p = absurd may
 
-pub arrival_kept : (P : List Event → Type 0) → KeepsAside SharesAside P → (m shares : ℕ) (how : Arriving) (reply : Reply) (met : Bool) (h : List Event) → Awaits met reply → P (share_left (ends_share (arriving how)) m h) →
-    P (added false m shares reply (arriving how) h)
+pub arrival_kept : (P : List Event → Type 0) → KeepsAside SharesAside P → (m shares : ℕ) (how : Arriving) (reply : Reply) (met : Bool) (h : List Event) → Awaits met reply → P (share_left (ends_share (arrival_call how)) m h) →
+    P (added false m shares reply (arrival_call how) h)
 arrival_kept P keeps m shares AtLoopEnd Passed met h may p = keeps _ _ tt (keeps _ _ tt p)
 arrival_kept P keeps m shares AtSectionsEnd Passed met h may p = keeps _ _ tt (keeps _ _ tt p)
 arrival_kept P keeps m shares AtBarrier Passed met h may p = keeps _ _ tt (keeps _ _ tt p)
@@ -102,14 +102,14 @@ arrival_kept P keeps m shares how _ met h may p = absurd may
 -- The barriers see the arrival, and the turn
 
 pub arrival_made : (P Q : List Event → Type 0) → KeepsAside BarriersAside P → (m shares : ℕ) (how : Arriving) (tag : Tag) (answer : Bool) (h : List Event) → tag ≡ tag_with (arrival_of how) shares → answer ≡ true →
-    ((h : List Event) → P h → Q (arrived_after answer m tag h)) → P h → Q (begun m shares (arriving how) h)
+    ((h : List Event) → P h → Q (arrived_after answer m tag h)) → P h → Q (begun m shares (arrival_call how) h)
 arrival_made P Q keeps m shares AtLoopEnd tag answer h is accepted adds p = rw (accepted, is) at (adds (share_left true m h) (keeps h (End (open_number m h) m) tt p))
 arrival_made P Q keeps m shares AtSectionsEnd tag answer h is accepted adds p = rw (accepted, is) at (adds (share_left true m h) (keeps h (End (open_number m h) m) tt p))
 arrival_made P Q keeps m shares AtBarrier tag answer h is accepted adds p = rw (accepted, is) at (adds h p)
 arrival_made P Q keeps m shares AtRegionEnd tag answer h is accepted adds p = rw (accepted, is) at (adds h p)
 
-pub arrival_turned : (P : List Event → Type 0) (m shares : ℕ) (how : Arriving) (reply : Reply) (met : Bool) (h : List Event) → Awaits met reply → P (passed_after reply m (begun m shares (arriving how) h)) →
-    P (added false m shares reply (arriving how) h)
+pub arrival_turned : (P : List Event → Type 0) (m shares : ℕ) (how : Arriving) (reply : Reply) (met : Bool) (h : List Event) → Awaits met reply → P (passed_after reply m (begun m shares (arrival_call how) h)) →
+    P (added false m shares reply (arrival_call how) h)
 arrival_turned P m shares AtLoopEnd Passed met h may p = p
 arrival_turned P m shares AtSectionsEnd Passed met h may p = p
 arrival_turned P m shares AtBarrier Passed met h may p = p
@@ -117,7 +117,7 @@ arrival_turned P m shares AtRegionEnd Passed met h may p = p
 arrival_turned P m shares how Wait met h may p = p
 arrival_turned P m shares how _ met h may p = absurd may
 
-pub turned : (P : List Event → Type 0) (m shares : ℕ) (how : Arriving) (reply : Reply) (met : Bool) (h : List Event) → Awaits met reply → P (passed_after reply m h) → P (added true m shares reply (arriving how) h)
+pub turned : (P : List Event → Type 0) (m shares : ℕ) (how : Arriving) (reply : Reply) (met : Bool) (h : List Event) → Awaits met reply → P (passed_after reply m h) → P (added true m shares reply (arrival_call how) h)
 turned P m shares AtLoopEnd Passed met h may p = p
 turned P m shares AtSectionsEnd Passed met h may p = p
 turned P m shares AtBarrier Passed met h may p = p

@@ -18,7 +18,7 @@ use Rattle.gomp_types.specs.declared.event.Event.{Event}
 use Rattle.gomp_types.specs.declared.event.Event.TheVariants.{Enter, Take, Drained, End, HandOn, Part, PartEnd, Got, Break}
 use Rattle.gomp_types.specs.Limits.{capped}
 use Rattle.gomp_types.specs.Tests.{first_refusal}
-use Rattle.gomp_types.specs.Events.{entered, open_share, has_drained, last_piece, parted, in_part, clash_of}
+use Rattle.gomp_types.specs.Events.{entered, open_share, has_drained, last_piece, next_part, in_part, clash_of}
 use Rattle.gomp_types.specs.Record.{Record, record_after, Waits, waits_of, waits_after, events, added, meant, is_resume, since_begun}
 use Rattle.gomp_types.specs.Replies.{MayReply, DealsNext, DealsSections, BeginsPart}
 use Rattle.gomp_types.specs.Causes.{Terms, refusal_of, MayAnswer, Caused}
@@ -27,7 +27,7 @@ use Rattle.gomp_core.specs.declared.waiting.Waiting.{Waiting}
 use Rattle.gomp_core.specs.declared.waiting.Waiting.TheVariants.{Start, Turn, Arrive}
 use Rattle.gomp_core.specs.declared.payloads.Put.{Put}
 use Rattle.gomp_core.specs.Payloads.{PayloadsStand}
-use Rattle.gomp_core.specs.Waits.{open_call, waiting_after, kept_for}
+use Rattle.gomp_core.specs.Waits.{open_call, waiting_after, wait_for}
 use Rattle.gomp_core.specs.Answers.{IsReady, IsAnswer, reply_to, broken_after, PartsStand, ArePartsKept}
 use Rattle.gomp_icv.specs.Variables.{Variables}
 use Rattle.gomp_core.specs.Resolved.{resolved_step, resolved_steps, record_of}
@@ -165,7 +165,7 @@ record SamePlace (k : ℕ) (h after : List Event) : Type 0 where
   pub share : open_share k after ≡ open_share k h
   pub drained : has_drained k after ≡ has_drained k h
   pub piece : last_piece k after ≡ last_piece k h
-  pub parts : parted k after ≡ parted k h
+  pub parts : next_part k after ≡ next_part k h
   pub within : in_part k after ≡ in_part k h
 
 -- it is where it was
@@ -178,7 +178,7 @@ own_same k m h after (Enter share n shape) other is same = record {
   share = rw is (at_other m k _ (open_share k after) other) ∙ same.share;
   drained = rw is (at_other m k _ (has_drained k after) other) ∙ same.drained;
   piece = rw is (at_other m k _ (last_piece k after) other) ∙ same.piece;
-  parts = rw is (at_other m k _ (parted k after) other) ∙ same.parts;
+  parts = rw is (at_other m k _ (next_part k after) other) ∙ same.parts;
   within = rw is (at_other m k _ (in_part k after) other) ∙ same.within;
 }
 own_same k m h after (End share n) other is same = record { number = same.number; share = rw is (at_other m k _ (open_share k after) other) ∙ same.share; drained = same.drained; piece = same.piece; parts = same.parts; within = same.within }
@@ -198,7 +198,7 @@ own_same k m h after (Part share n iteration) other is same = record {
   share = same.share;
   drained = same.drained;
   piece = same.piece;
-  parts = rw is (at_other m k _ (parted k after) other) ∙ same.parts;
+  parts = rw is (at_other m k _ (next_part k after) other) ∙ same.parts;
   within = rw is (at_other m k _ (in_part k after) other) ∙ same.within;
 }
 own_same k m h after (PartEnd share n) other is same = record { number = same.number; share = same.share; drained = same.drained; piece = same.piece; parts = same.parts; within = rw is (at_other m k _ (in_part k after) other) ∙ same.within }
@@ -274,7 +274,7 @@ some_meant (Turn what) = refl
 some_meant (Arrive how) = refl
 
 kept_is : (members : ℕ) (again : Bool) (m : ℕ) (call : Call) (waiting : Option Waiting) (h : List Event) → MayReply members again m (meant call (open_call waiting)) Wait h →
-    Some (meant call (open_call waiting)) ≡ open_call (kept_for call waiting)
+    Some (meant call (open_call waiting)) ≡ open_call (wait_for call waiting)
 kept_is members again m (LoopStart loop) waiting h may = refl
 kept_is members again m LoopNext waiting h may = refl
 kept_is members again m (OrderedStart value) waiting h may = refl

@@ -16,23 +16,23 @@ use Rattle.gomp_core.specs.declared.waiting.Waiting.{Waiting}
 use Rattle.gomp_core.specs.declared.waiting.Waiting.TheVariants.{Start, Turn, Arrive}
 
 -- the call that starts such a construct
-abbrev pub starting : Starting → Call
-starting (Loop loop) = LoopStart loop
-starting (Sections count end_kind) = SectionsStart count end_kind
-starting Single = SingleStart
-starting SingleCopy = SingleCopyStart
+abbrev pub start_call : Starting → Call
+start_call (Loop loop) = LoopStart loop
+start_call (Sections count end_kind) = SectionsStart count end_kind
+start_call Single = SingleStart
+start_call SingleCopy = SingleCopyStart
 
 -- the call that waits for the turn
-abbrev pub turning : Turning → Call
-turning Next = LoopNext
-turning (Part value) = OrderedStart value
+abbrev pub turn_call : Turning → Call
+turn_call Next = LoopNext
+turn_call (Part value) = OrderedStart value
 
 -- the call by which a member arrives so
-abbrev pub arriving : Arriving → Call
-arriving AtLoopEnd = LoopEnd
-arriving AtSectionsEnd = SectionsEnd
-arriving AtBarrier = Barrier
-arriving AtRegionEnd = RegionEnd
+abbrev pub arrival_call : Arriving → Call
+arrival_call AtLoopEnd = LoopEnd
+arrival_call AtSectionsEnd = SectionsEnd
+arrival_call AtBarrier = Barrier
+arrival_call AtRegionEnd = RegionEnd
 
 -- at what kind of barrier
 abbrev pub arrival_of : Arriving → Arrival
@@ -44,32 +44,32 @@ arrival_of AtRegionEnd = RegionEndArrival
 -- the call that waits
 abbrev pub open_call : Option Waiting → Option Call
 open_call None = None
-open_call (Some (Start what)) = Some (starting what)
-open_call (Some (Turn what)) = Some (turning what)
-open_call (Some (Arrive how)) = Some (arriving how)
+open_call (Some (Start what)) = Some (start_call what)
+open_call (Some (Turn what)) = Some (turn_call what)
+open_call (Some (Arrive how)) = Some (arrival_call how)
 
 -- what is kept where the answer to this call is to wait
-abbrev pub kept_for : Call → Option Waiting → Option Waiting
-kept_for (LoopStart loop) waiting = Some (Start (Loop loop))
-kept_for LoopNext waiting = Some (Turn Next)
-kept_for LoopEnd waiting = Some (Arrive AtLoopEnd)
-kept_for LoopEndNowait waiting = None
-kept_for (SectionsStart count end_kind) waiting = Some (Start (Sections count end_kind))
-kept_for SectionsNext waiting = None
-kept_for SectionsEnd waiting = Some (Arrive AtSectionsEnd)
-kept_for SectionsEndNowait waiting = None
-kept_for SingleStart waiting = Some (Start Single)
-kept_for SingleCopyStart waiting = Some (Start SingleCopy)
-kept_for (SingleCopyEnd words) waiting = None
-kept_for (OrderedStart value) waiting = Some (Turn (Part value))
-kept_for OrderedEnd waiting = None
-kept_for Barrier waiting = Some (Arrive AtBarrier)
-kept_for RegionEnd waiting = Some (Arrive AtRegionEnd)
-kept_for Resume waiting = waiting
-kept_for Stop waiting = None
+abbrev pub wait_for : Call → Option Waiting → Option Waiting
+wait_for (LoopStart loop) waiting = Some (Start (Loop loop))
+wait_for LoopNext waiting = Some (Turn Next)
+wait_for LoopEnd waiting = Some (Arrive AtLoopEnd)
+wait_for LoopEndNowait waiting = None
+wait_for (SectionsStart count end_kind) waiting = Some (Start (Sections count end_kind))
+wait_for SectionsNext waiting = None
+wait_for SectionsEnd waiting = Some (Arrive AtSectionsEnd)
+wait_for SectionsEndNowait waiting = None
+wait_for SingleStart waiting = Some (Start Single)
+wait_for SingleCopyStart waiting = Some (Start SingleCopy)
+wait_for (SingleCopyEnd words) waiting = None
+wait_for (OrderedStart value) waiting = Some (Turn (Part value))
+wait_for OrderedEnd waiting = None
+wait_for Barrier waiting = Some (Arrive AtBarrier)
+wait_for RegionEnd waiting = Some (Arrive AtRegionEnd)
+wait_for Resume waiting = waiting
+wait_for Stop waiting = None
 
 -- what is kept after a reply to this call: a refusal leaves the wait as it is, Wait opens one, every other reply closes it
 abbrev pub waiting_after : Reply → Call → Option Waiting → Option Waiting
-waiting_after Wait call waiting = kept_for call waiting
+waiting_after Wait call waiting = wait_for call waiting
 waiting_after (Refused refusal) call waiting = waiting
 waiting_after _ call waiting = None

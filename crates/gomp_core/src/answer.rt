@@ -10,7 +10,7 @@ ghost use Rattle.gomp_types.specs.declared.reply.Reply.TheVariants.{Wait, Refuse
 ghost use Rattle.gomp_types.specs.Events.{entered};
 ghost use Rattle.gomp_types.specs.Causes.{IsReply};
 ghost use Rattle.gomp_types.specs.Record.{added, meant, is_resume};
-ghost use Rattle.gomp_core.specs.Waits.{open_call, turning};
+ghost use Rattle.gomp_core.specs.Waits.{open_call, turn_call};
 ghost use Rattle.gomp_share_plain.specs.Calls.{EachStands};
 ghost use Rattle.gomp_barrier.specs.Stands.{members_of as barrier_members};
 ghost use Rattle.gomp_core.specs.Payloads.{PayloadsStand};
@@ -19,7 +19,7 @@ ghost use Rattle.gomp_core.specs.Answers.{ArePartsKept, EachPartsStand, EachWord
 use crate::arrivals::{arrive, pass_or_wait};
 use crate::payloads::Payloads;
 use crate::starts::start;
-use crate::waiting::{Turning, Waiting, kept_for};
+use crate::waiting::{Turning, Waiting, wait_for};
 use gomp_barrier::Barriers;
 use gomp_share_plain::Shares;
 use gomp_types::{Call, Clash, Limits, Payload, Place, Refusal, Reply, laws};
@@ -48,7 +48,7 @@ pub fn answer<S: Shares>(
     ensures stands { EachPartsStand S.stands (S.members shares.old) shares.old barriers.old payloads.old (λ h. IsReady limits.now (is_resume call.now) member (meant call.now (open_call waiting)) h → PartsStand S.stands (S.members shares.old) shares.new barriers.new payloads.new (added (is_resume call.now) member (entered member h) (reply_to result) (meant call.now (open_call waiting)) h)) }
 {
     gomp_barrier::aside();
-    match kept_for(call, waiting) {
+    match wait_for(call, waiting) {
         Some(Waiting::Start(what)) => start(shares, payloads, member, limits, &what),
         Some(Waiting::Turn(what)) => Ok(answer_turn(shares, member, &what)),
         Some(Waiting::Arrive(how)) => {
@@ -74,8 +74,8 @@ fn answer_turn<S: Shares>(shares: &mut S, member: u16, what: &Turning) -> Reply
     requires { member < S.members shares.old }
     ensures members { S.members shares.new ≡ S.members shares.old }
     ensures waits { result ≡ Wait → shares.new ≡ shares.old }
-    ensures answer { (limits : Limits) → EachStands (S.stands shares.old) (IsReply limits (S.members shares.old) member (turning what.now) result) }
-    ensures stands { EachStands (S.stands shares.old) (λ h. S.stands shares.new (added false member (entered member h) result (turning what.now) h)) }
+    ensures answer { (limits : Limits) → EachStands (S.stands shares.old) (IsReply limits (S.members shares.old) member (turn_call what.now) result) }
+    ensures stands { EachStands (S.stands shares.old) (λ h. S.stands shares.new (added false member (entered member h) result (turn_call what.now) h)) }
 {
     match what {
         Turning::Next => gomp_loops::loop_next(shares, member),

@@ -13,7 +13,7 @@ ghost use Rattle.gomp_types.specs.declared.reply.Reply.TheVariants.{Wait};
 ghost use Rattle.gomp_types.specs.declared.refusal.Place.{Place};
 ghost use Rattle.gomp_share_plain.specs.Calls.{EachStands};
 ghost use Rattle.gomp_barrier.specs.Stands.{Stands as BarriersStand, members_of as barrier_members};
-ghost use Rattle.gomp_core.specs.Waits.{arriving};
+ghost use Rattle.gomp_core.specs.Waits.{arrival_call};
 ghost use Rattle.gomp_core.specs.Answers.{EachBothStand, BothStand, MayLeave, IsAnswer, reply_to, passed_after};
 
 use crate::waiting::Arriving;
@@ -38,8 +38,8 @@ pub fn arrive<S: Shares>(
     ensures barriers { barrier_members barriers.new ≡ barrier_members barriers.old }
     ensures kept_shares { (place : Place) → result ≡ Err place → shares.new ≡ shares.old }
     ensures kept_barriers { (place : Place) → result ≡ Err place → barriers.new ≡ barriers.old }
-    ensures answer { EachBothStand S.stands shares.old barriers.old (λ h. MayLeave how member h → IsAnswer (barrier_members barriers.old) false member (arriving how) result h) }
-    ensures stands { EachBothStand S.stands shares.old barriers.old (λ h. MayLeave how member h → BothStand S.stands shares.new barriers.new (added false member (entered member h) (reply_to result) (arriving how) h)) }
+    ensures answer { EachBothStand S.stands shares.old barriers.old (λ h. MayLeave how member h → IsAnswer (barrier_members barriers.old) false member (arrival_call how) result h) }
+    ensures stands { EachBothStand S.stands shares.old barriers.old (λ h. MayLeave how member h → BothStand S.stands shares.new barriers.new (added false member (entered member h) (reply_to result) (arrival_call how) h)) }
 {
     gomp_barrier::aside();
     let tag = Tag {
@@ -60,7 +60,7 @@ pub fn arrive<S: Shares>(
 fn leave<S: Shares>(shares: &mut S, member: u16, how: Arriving) -> Result<(), Refusal>
     requires member { member < S.members shares.old }
     ensures members { S.members shares.new ≡ S.members shares.old }
-    ensures left { EachStands (S.stands shares.old) (λ h. MayLeave how member h → (result ≡ Ok tt) × S.stands shares.new (share_left (ends_share (arriving how)) member h)) }
+    ensures left { EachStands (S.stands shares.old) (λ h. MayLeave how member h → (result ≡ Ok tt) × S.stands shares.new (share_left (ends_share (arrival_call how)) member h)) }
 {
     match how {
         Arriving::LoopEnd => gomp_loops::loop_end(shares, member),

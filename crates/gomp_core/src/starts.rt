@@ -12,7 +12,7 @@ ghost use Rattle.gomp_types.specs.declared.refusal.Place.TheVariants.{Share};
 ghost use Rattle.gomp_types.specs.Events.{entered};
 ghost use Rattle.gomp_types.specs.Record.{added, shown};
 ghost use Rattle.gomp_types.specs.Causes.{IsReply};
-ghost use Rattle.gomp_core.specs.Waits.{starting};
+ghost use Rattle.gomp_core.specs.Waits.{start_call};
 ghost use Rattle.gomp_core.specs.Answers.{EachWordsStand, IsReady, IsAnswer, reply_to};
 
 use crate::payloads::Payloads;
@@ -34,8 +34,8 @@ pub fn start<S: Shares>(
     ensures members { S.members shares.new ≡ S.members shares.old }
     ensures kept { (place : Place) → result ≡ Err place → shares.new ≡ shares.old }
     ensures waits { result ≡ Ok Wait → shares.new ≡ shares.old }
-    ensures answer { EachWordsStand S.stands (S.members shares.old) shares.old payloads.now (λ h. IsReady limits.now false member (starting what.now) h → IsAnswer (S.members shares.old) false member (starting what.now) result h) }
-    ensures stands { EachWordsStand S.stands (S.members shares.old) shares.old payloads.now (λ h. IsReady limits.now false member (starting what.now) h → S.stands shares.new (added false member (entered member h) (reply_to result) (starting what.now) h)) }
+    ensures answer { EachWordsStand S.stands (S.members shares.old) shares.old payloads.now (λ h. IsReady limits.now false member (start_call what.now) h → IsAnswer (S.members shares.old) false member (start_call what.now) result h) }
+    ensures stands { EachWordsStand S.stands (S.members shares.old) shares.old payloads.now (λ h. IsReady limits.now false member (start_call what.now) h → S.stands shares.new (added false member (entered member h) (reply_to result) (start_call what.now) h)) }
 {
     let reply = start_reply(shares, payloads, member, limits, what);
     if is_mismatch(&reply) {
@@ -57,8 +57,8 @@ fn start_reply<S: Shares>(
     ensures known { (h : List Event) × S.stands shares.old h }
     ensures kept { (refusal : Refusal) → result ≡ Refused refusal → shares.new ≡ shares.old }
     ensures waits { result ≡ Wait → shares.new ≡ shares.old }
-    ensures answer { EachWordsStand S.stands (S.members shares.old) shares.old payloads.now (λ h. IsReply limits.now (S.members shares.old) member (starting what.now) result h) }
-    ensures stands { EachWordsStand S.stands (S.members shares.old) shares.old payloads.now (λ h. S.stands shares.new (added false member (entered member h) result (starting what.now) h)) }
+    ensures answer { EachWordsStand S.stands (S.members shares.old) shares.old payloads.now (λ h. IsReply limits.now (S.members shares.old) member (start_call what.now) result h) }
+    ensures stands { EachWordsStand S.stands (S.members shares.old) shares.old payloads.now (λ h. S.stands shares.new (added false member (entered member h) result (start_call what.now) h)) }
 {
     laws::next_is_open();
     match what {

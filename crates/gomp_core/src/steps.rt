@@ -7,7 +7,7 @@ ghost use Rattle.gomp_types.specs.Record.{events};
 ghost use Rattle.gomp_types.specs.Causes.{Caused};
 ghost use Rattle.gomp_types.specs.Deals.{schedule};
 ghost use Rattle.gomp_types.specs.Rules.{Always};
-ghost use Rattle.gomp_types.specs.Laws.{TakenOnce, WholeWhereOver, OrderedLaws, PutsOnce, GetsWhatWasPut, LeavesWithWords, SameShares, SameArrivals, ArrivesOnce, ArrivesOutside, HappensUnbroken, HappensInside, TellsShares, PassesLast, ClosesShares};
+ghost use Rattle.gomp_types.specs.Laws.{TakenOnce, WholeWhereOver, OrderedLaws, PutsOnce, GetsWhatWasPut, LeavesWithWords, SameShares, SameArrivals, ArrivesOnce, ArrivesOutside, HappensUnbroken, HappensInside, TellsShares, PassesAfterAll, ClosesShares};
 ghost use Rattle.gomp_core.specs.Stands.{Stands, IsTeamSize, terms_of, standard_terms, NoneForMemory};
 ghost use Rattle.gomp_core.specs.Resolved.{record_of};
 
@@ -58,7 +58,7 @@ pub fn run<S: Shares + Drop>(
     ensures one_order { IfOk result (λ ran. Always TellsShares (events (record_of icv steps.items ran.1.items))) }
     ensures unbroken { IfOk result (λ ran. Always HappensUnbroken (events (record_of icv steps.items ran.1.items))) }
     ensures in_region { IfOk result (λ ran. Always HappensInside (events (record_of icv steps.items ran.1.items))) }
-    ensures passes { IfOk result (λ ran. Always (PassesLast count) (events (record_of icv steps.items ran.1.items))) }
+    ensures passes { IfOk result (λ ran. Always (PassesAfterAll count) (events (record_of icv steps.items ran.1.items))) }
     ensures closes { IfOk result (λ ran. Always (ClosesShares count) (events (record_of icv steps.items ran.1.items))) }
 {
     laws::headline();

@@ -1,7 +1,7 @@
 //! The calls whose answer can be to wait.
 
 ghost use Rattle.std.specs.Prelude.{◌≡◌};
-ghost use Rattle.gomp_core.specs.Waits.{arrival_of, kept_for, waiting_after};
+ghost use Rattle.gomp_core.specs.Waits.{arrival_of, wait_for, waiting_after};
 
 use gomp_types::{Arrival, Call, EndKind, LoopDesc, Reply};
 
@@ -66,8 +66,8 @@ pub enum Waiting {
 
 /// What a member waits for where the answer to this call is to wait; None where it never is. A
 /// `Resume` goes on with what it finds.
-pub fn kept_for(call: &Call, waiting: Option<Waiting>) -> Option<Waiting>
-    ensures { result ≡ kept_for call.now waiting }
+pub fn wait_for(call: &Call, waiting: Option<Waiting>) -> Option<Waiting>
+    ensures { result ≡ wait_for call.now waiting }
 {
     match call {
         Call::LoopStart(desc) => Some(Waiting::Start(Starting::Loop(*desc))),
@@ -99,7 +99,7 @@ pub fn waiting_after(reply: &Reply, call: &Call, waiting: Option<Waiting>) -> Op
     ensures { result ≡ waiting_after reply.now call.now waiting }
 {
     match reply {
-        Reply::Wait => kept_for(call, waiting),
+        Reply::Wait => wait_for(call, waiting),
         Reply::Refused(_) => waiting,
         _ => None,
     }

@@ -11,7 +11,7 @@ use Rattle.gomp_types.specs.declared.event.Event.{Event}
 use Rattle.gomp_types.specs.declared.event.Event.TheVariants.{Part}
 use Rattle.gomp_types.specs.Tests.{first_refusal}
 use Rattle.gomp_types.specs.Values.{IsShape}
-use Rattle.gomp_types.specs.Events.{open_share, share_number, in_kind, in_part, last_piece, parted}
+use Rattle.gomp_types.specs.Events.{open_share, share_number, in_kind, in_part, last_piece, next_part}
 use Rattle.gomp_types.specs.Ordered.{is_ordered, comes_next}
 use Rattle.gomp_types.specs.Shapes.{is_loop}
 use Rattle.gomp_types.specs.Record.{part_in}
@@ -43,7 +43,7 @@ ordered_by false part false next e = absurd (cc)
 
 pub start_ordered : (limits : Limits) (m : ℕ) (value : ℤ) (h : List Event) → first_refusal (call_tests limits m (OrderedStart value) h) ≡ None → is_ordered (open_share m h) ≡ true
 start_ordered limits m value h e =
-    ordered_by (in_kind is_loop (open_share m h)) (in_part m h) (is_ordered (open_share m h)) (comes_next (open_share m h) (last_piece m h) (parted m h) value) e
+    ordered_by (in_kind is_loop (open_share m h)) (in_part m h) (is_ordered (open_share m h)) (comes_next (open_share m h) (last_piece m h) (next_part m h) value) e
 
 pub end_refused : (inside : Bool) → not inside ≡ true → first_refusal ((not inside, NotInside) ∷ []) ≡ Some NotInside
 end_refused inside e = rw e refl

@@ -26,7 +26,7 @@ own_start_tests seen value =
     (not (seen_in is_loop seen), OutsideShare)
     ∷ (seen.in_part, InOrdered)
     ∷ (not (is_ordered seen.current), NotOrdered)
-    ∷ (not (comes_next seen.current seen.piece seen.parted value), OrderedBackwards)
+    ∷ (not (comes_next seen.current seen.piece seen.next_part value), OrderedBackwards)
     ∷ []
 
 -- of each call, those that the member's place among the shares decides; a call on another construct has none here

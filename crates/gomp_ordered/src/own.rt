@@ -50,13 +50,13 @@ pub fn start_refusal(seen: &Seen, value: i64) -> Option<Refusal>
 /// begun.
 fn comes_next(seen: &Seen, value: i64) -> bool
     requires { HasShape seen.now }
-    ensures answer { result ≡ comes_next seen.now.current seen.now.piece seen.now.parted value }
+    ensures answer { result ≡ comes_next seen.now.current seen.now.piece seen.now.next_part value }
 {
     let Some((low, high)) = seen.piece else {
         return false;
     };
     match iteration_of(seen, value) {
-        Some(k) => low <= k && k < high && seen.parted <= k,
+        Some(k) => low <= k && k < high && seen.next_part <= k,
         None => false,
     }
 }

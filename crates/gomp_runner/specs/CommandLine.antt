@@ -95,6 +95,7 @@ IsStatus (ending.Answered code) [] status = status ≡ record { code = code; not
 IsStatus (ending.Answered code) (word ∷ words) status = (status.code ≡ code) × Names (word ∷ words) status.notes
 IsStatus ending.NoMemory ignored status = status ≡ record { code = 3; notes = notes.NoMemory }
 IsStatus ending.InputFault ignored status = status ≡ record { code = 1; notes = notes.InputFault }
+IsStatus ending.TooLong ignored status = status ≡ record { code = 1; notes = notes.InputFault }
 IsStatus ending.OutputFault ignored status = status ≡ record { code = 1; notes = notes.OutputFault }
 
 -- the program ends as a text of steps does that was served by these variables, where these words were ignored

@@ -1,5 +1,5 @@
 -- How the text of steps is served: what is read, what is written of it, and how it ends. (own)
-use Rattle.std.specs.Prelude.{◌≡◌, ◌≤◌, ◌⊎◌, ⊤, ℕ, List, length, Option, IfSome}
+use Rattle.std.specs.Prelude.{◌≡◌, ◌≤◌, ◌<◌, ⊤, ℕ, List, length, Option, IfSome}
 use Rattle.std.specs.Io.KnownBytes.{Appends}
 use Rattle.std.specs.declared.io.ErrorKind.{ErrorKind}
 use Rattle.std.specs.declared.io.ErrorKind.TheVariants as kind
@@ -7,7 +7,7 @@ use Rattle.gomp_script.specs.StepText.{steps_of}
 use Rattle.gomp_icv.specs.Variables.{Variables}
 use Rattle.gomp_runner.specs.Output.{AnswerTo}
 use Rattle.gomp_runner.specs.declared.serve.Ending.{Ending}
-use Rattle.gomp_runner.specs.declared.serve.Ending.TheVariants.{Answered, NoMemory, InputFault, OutputFault}
+use Rattle.gomp_runner.specs.declared.serve.Ending.TheVariants.{Answered, NoMemory, InputFault, TooLong, OutputFault}
 
 -- what was read is all that the reader had, where that is known, and no longer than the limit
 abbrev pub Whole : ℕ → Option (List ℕ) → List ℕ → Type 0
@@ -25,11 +25,16 @@ pub record AnswerWritten (icv : Variables) (remaining before after : Option (Lis
   pub answer : AnswerTo icv (steps_of text) output code
   pub written : Appends before after output
 
+-- the reader has more than the limit, where what it has is known
+abbrev pub IsLonger : ℕ → Option (List ℕ) → Type 0
+IsLonger limit remaining = IfSome remaining (λ all. limit < length all)
+
 -- what became of the reader's text: before and after are what the writer holds
 abbrev pub ServingEnds : Variables → Option (List ℕ) → Option (List ℕ) → Option (List ℕ) → Ending → Type 0
 ServingEnds icv remaining before after (Answered code) = AnswerWritten icv remaining before after code
 ServingEnds icv remaining before after NoMemory = after ≡ before
 ServingEnds icv remaining before after InputFault = after ≡ before
+ServingEnds icv remaining before after TooLong = (after ≡ before) × IsLonger max_text remaining
 ServingEnds icv remaining before after OutputFault = ⊤
 
 -- the end after a read that failed
@@ -37,6 +42,10 @@ abbrev pub unread_as : ErrorKind → Ending
 unread_as kind.OutOfMemory = NoMemory
 unread_as _ = InputFault
 
--- the text was not had
-abbrev pub IsUnread : Ending → Type 0
-IsUnread ending = (ending ≡ NoMemory) ⊎ (ending ≡ InputFault)
+-- the text was not had: for want of memory, since a read failed, or since it is longer than the limit
+abbrev pub IsUnread : ℕ → Option (List ℕ) → Ending → Type 0
+IsUnread limit remaining NoMemory = ⊤
+IsUnread limit remaining InputFault = ⊤
+IsUnread limit remaining TooLong = IsLonger limit remaining
+IsUnread limit remaining (Answered code) = ⊥
+IsUnread limit remaining OutputFault = ⊥

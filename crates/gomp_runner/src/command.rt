@@ -169,7 +169,7 @@ fn ended(ending: Ending, ignored: Vec<Refusal>) -> Status
             notes: Notes::Ignored(ignored),
         },
         Ending::NoMemory => no_memory(),
-        Ending::InputFault => Status {
+        Ending::InputFault | Ending::TooLong => Status {
             code: 1,
             notes: Notes::InputFault,
         },

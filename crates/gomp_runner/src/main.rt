@@ -1,8 +1,8 @@
 //! `ompteam`: reads a text of steps of an OpenMP team, and prints the reply to each.
 //!
 //! [`command::serve`] does everything: it reads the command line, reads the text, runs it and writes
-//! the replies. `main` only hands it the process's words, input and output, writes what is noted
-//! beside the output to standard error by [`notes::write_notes`], and ends with the status.
+//! the replies. [`notes::finish`] writes what is noted beside the output, and gives the status. `main`
+//! only hands them the process's words, input, output and standard error.
 #![tactic(auto)]
 
 mod answer;
@@ -23,7 +23,7 @@ mod worked_shares;
 mod worked_team;
 
 use command::{serve, without_words};
-use notes::write_notes;
+use notes::finish;
 use std::io;
 use std::process::ExitCode;
 
@@ -37,8 +37,7 @@ fn main(rt: HostRuntime) -> io::Result<ExitCode> {
         ),
         Err(error) => without_words(rt.alloc(), &error),
     };
-    write_notes(&status.notes, &mut rt.stderr())?;
-    Ok(ExitCode::from(status.code))
+    Ok(ExitCode::from(finish(&status, &mut rt.stderr())?))
 }
 
 /// The words of the command line, the program's name first.

@@ -1,12 +1,22 @@
-//! How what is told beside the output is written.
+//! How what is told beside the output is written, and the number with which the program ends.
 
-ghost use Rattle.std.specs.Prelude.{OnOk};
+ghost use Rattle.std.specs.Prelude.{◌≡◌, IfOk, OnOk};
 ghost use Rattle.std.specs.Io.KnownBytes.{Appends};
 ghost use Rattle.gomp_runner.specs.CommandLine.{lines_of, notes_text};
 
-use crate::command::Notes;
+use crate::command::{Notes, Status};
 use gomp_types::Refusal;
 use std::io::{self, Write};
+
+/// Writes what is noted at this end, and gives the number with which the program ends. The error is that
+/// the notes could not be written.
+pub fn finish<W: Write>(status: &Status, errors: &mut W) -> io::Result<u8>
+    ensures code { IfOk result (λ code. code ≡ status.now.code) }
+    ensures noted { OnOk result (Appends (W.contents errors.old) (W.contents errors.new) (notes_text status.now.notes)) }
+{
+    write_notes(&status.notes, errors)?;
+    Ok(status.code)
+}
 
 /// Writes the lines of these notes, and nothing else.
 pub fn write_notes<W: Write>(notes: &Notes, writer: &mut W) -> io::Result<()>

@@ -19,8 +19,10 @@ pub enum Ending {
     Answered(u8),
     /// Memory was refused; nothing is written.
     NoMemory,
-    /// The text could not be read, or is longer than [`MAX_TEXT`]; nothing is written.
+    /// The text could not be read; nothing is written.
     InputFault,
+    /// The text is longer than [`MAX_TEXT`]; nothing is written.
+    TooLong,
     /// The output could not be written; a prefix of it may be.
     OutputFault,
 }
@@ -51,7 +53,7 @@ pub fn serve_steps<R: Read + Drop, W: Write>(
 /// All that the reader gives, where that is at most `limit` bytes; or how the program ends.
 fn read_text<R: Read + Drop>(alloc: Global, reader: R, limit: u32) -> Result<Vec<u8>, Ending>
     ensures whole { IfOk result (λ text. Whole limit (R.remaining reader) text.items) }
-    ensures unread { IfErr result IsUnread }
+    ensures unread { IfErr result (IsUnread limit (R.remaining reader)) }
 {
     let mut bounded = reader.take(limit as u64 + 1);
     let mut text = Vec::new(alloc);
@@ -59,7 +61,7 @@ fn read_text<R: Read + Drop>(alloc: Global, reader: R, limit: u32) -> Result<Vec
         return Err(unread(&error));
     }
     if text.len() > limit as usize {
-        return Err(Ending::InputFault);
+        return Err(Ending::TooLong);
     }
     Ok(text)
 }

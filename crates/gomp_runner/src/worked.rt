@@ -1,6 +1,9 @@
 //! Texts of steps, and what the program writes for them.
 
-use crate::command::{Notes, serve, without_words};
+use crate::command::{Notes, Status, serve, without_words};
+use crate::notes::finish;
+use crate::serve::{Ending, serve_steps};
+use gomp_icv::Icv;
 use std::alloc::Global;
 use std::io::{self, ErrorKind, Read, Write};
 use std::process::Abort;
@@ -394,39 +397,125 @@ fn numbers_and_spaces(rt: HostRuntime) -> Result<(), Fail> {
     writes(&rt, rt.alloc(), text, "chunk 10 1\n", 0)
 }
 
+/// That these words are refused with this note, and nothing is written.
+fn refused(rt: &impl Abort, alloc: Global, words: &[&str], note: &str) -> Result<(), Fail> {
+    let mut written = Vec::new(alloc);
+    let status = serve(alloc, words, b"team 1\n".as_slice(), &mut written);
+    assert_eq!(rt; status.code, 1);
+    assert_eq!(rt;
+        status.notes,
+        Notes::Command(String::from_str(alloc, note)?)
+    );
+    assert!(rt; written.is_empty());
+    Ok(())
+}
+
+/// That on these words the program ends well, and writes this.
+fn shows(rt: &impl Abort, alloc: Global, words: &[&str], shown: &str) -> Result<(), Fail> {
+    let mut written = Vec::new(alloc);
+    let status = serve(alloc, words, b"team 1\n".as_slice(), &mut written);
+    assert_eq!(rt; status.code, 0);
+    assert_eq!(rt; status.notes, Notes::Nothing);
+    assert_eq!(rt; str::from_utf8(written.as_slice()), Ok(shown));
+    Ok(())
+}
+
 #[test]
 fn other_words(rt: HostRuntime) -> Result<(), Fail> {
-    for words in [
-        ["ompteam", "run"],
-        ["ompteam", "check"],
-        ["ompteam", "--steps"],
-    ] {
-        let mut written = Vec::new(rt.alloc());
-        let status = serve(rt.alloc(), &words, b"team 1\n".as_slice(), &mut written);
-        assert_eq!(rt; status.code, 1);
-        assert!(rt; matches!(&status.notes, Notes::Command(_)));
-        assert!(rt; written.is_empty());
+    for word in ["run", "check"] {
+        let note = format!(in rt.alloc();
+            "error: unrecognized subcommand '{word}'\n\nUsage: ompteam <COMMAND>\n\nFor more information, try '--help'.\n"
+        )?;
+        refused(&rt, rt.alloc(), &["ompteam", word], &note)?;
     }
+    refused(
+        &rt,
+        rt.alloc(),
+        &["ompteam", "steps", "FOO"],
+        "error: the word 'FOO' is not NAME=VALUE\n",
+    )?;
     let mut written = Vec::new(rt.alloc());
     let status = serve(
         rt.alloc(),
-        &["ompteam", "--help"],
+        &["ompteam", "--steps"],
         b"team 1\n".as_slice(),
         &mut written,
     );
-    assert_eq!(rt; status.code, 0);
-    assert_eq!(rt; status.notes, Notes::Nothing);
-    assert!(rt; written.starts_with(b"An OpenMP team, step by step\n"));
-    for (words, shown) in [
-        (["ompteam", "--version"], "ompteam 0.1.0\n"),
-        (["ompteam", "steps"], ""),
-    ] {
-        let mut written = Vec::new(rt.alloc());
-        let status = serve(rt.alloc(), &words, b"team 1\n".as_slice(), &mut written);
-        assert_eq!(rt; status.code, 0);
-        assert_eq!(rt; status.notes, Notes::Nothing);
-        assert_eq!(rt; str::from_utf8(written.as_slice()), Ok(shown));
-    }
+    assert_eq!(rt; status.code, 1);
+    assert!(rt; matches!(&status.notes, Notes::Command(_)));
+    assert!(rt; written.is_empty());
+    shows(
+        &rt,
+        rt.alloc(),
+        &["ompteam", "--version"],
+        "ompteam 0.1.0\n",
+    )?;
+    shows(&rt, rt.alloc(), &["ompteam", "steps"], "")
+}
+
+#[test]
+fn help(rt: HostRuntime) -> Result<(), Fail> {
+    let help = "An OpenMP team, step by step\n\
+                \n\
+                Usage: ompteam <COMMAND>\n\
+                \n\
+                Commands:\n\
+                \x20 steps  Run the text of steps on standard input and print each reply\n\
+                \x20 help   Print this message or the help of the given subcommand(s)\n\
+                \n\
+                Options:\n\
+                \x20 -h, --help     Print help\n\
+                \x20 -V, --version  Print version\n";
+    shows(&rt, rt.alloc(), &["ompteam", "--help"], help)?;
+    let help = "Run the text of steps on standard input and print each reply\n\
+                \n\
+                Usage: ompteam steps [NAME=VALUE]...\n\
+                \n\
+                Arguments:\n\
+                \x20 [NAME=VALUE]...  Set a control variable, as this word does in the environment\n\
+                \n\
+                Options:\n\
+                \x20 -h, --help  Print help\n";
+    shows(&rt, rt.alloc(), &["ompteam", "steps", "--help"], help)
+}
+
+/// A text of this many bytes: a team, one comment, and a step at the end.
+fn long_text(alloc: Global, size: usize) -> Result<Vec<u8>, Fail> {
+    let step = b"\n0 barrier\n".as_slice();
+    let mut text = Vec::new(alloc);
+    text.extend_from_slice(b"team 1\n#".as_slice())?;
+    text.resize(size.saturating_sub(step.len()), b' ')?;
+    text.extend_from_slice(step)?;
+    Ok(text)
+}
+
+#[test]
+fn longest_text(rt: HostRuntime) -> Result<(), Fail> {
+    let text = long_text(rt.alloc(), 16_777_216)?;
+    assert_eq!(rt; text.len(), 16_777_216);
+    let mut written = Vec::new(rt.alloc());
+    let ending = serve_steps(rt.alloc(), Icv::initial(), text.as_slice(), &mut written);
+    assert_eq!(rt; ending, Ending::Answered(0));
+    assert_eq!(rt; written.as_slice(), b"passed\n".as_slice());
+    Ok(())
+}
+
+#[test]
+fn text_that_is_too_long(rt: HostRuntime) -> Result<(), Fail> {
+    let text = long_text(rt.alloc(), 16_777_217)?;
+    assert_eq!(rt; text.len(), 16_777_217);
+    let mut written = Vec::new(rt.alloc());
+    let ending = serve_steps(rt.alloc(), Icv::initial(), text.as_slice(), &mut written);
+    assert_eq!(rt; ending, Ending::TooLong);
+    let status = serve(
+        rt.alloc(),
+        &["ompteam", "steps"],
+        text.as_slice(),
+        &mut written,
+    );
+    assert_eq!(rt; status.notes, Notes::InputFault);
+    assert_eq!(rt; status.code, 1);
+    assert!(rt; written.is_empty());
     Ok(())
 }
 
@@ -494,11 +583,13 @@ fn each_read_fails(rt: HostRuntime) -> Result<(), Fail> {
     Ok(())
 }
 
-/// A writer that takes a byte a write, and fails once as many writes are done as it may do.
+/// A writer that takes a byte a write, and fails once as many writes are done as it may do: from then on, or
+/// only then.
 #[derive(Drop)]
 struct FailingWriter {
     written: Vec<u8>,
     writes: usize,
+    recovers: bool,
 }
 
 impl Write for FailingWriter {
@@ -507,6 +598,9 @@ impl Write for FailingWriter {
             return Ok(0);
         };
         if self.writes == 0 {
+            if self.recovers {
+                self.writes = usize::MAX;
+            }
             return Err(io::Error::from(ErrorKind::BrokenPipe));
         }
         self.writes -= 1;
@@ -522,21 +616,44 @@ impl Write for FailingWriter {
 #[test]
 fn each_write_fails(rt: HostRuntime) -> Result<(), Fail> {
     let output = b"none\nok\n";
-    for writes in 0..=output.len() {
-        let mut writer = FailingWriter {
-            written: Vec::new(rt.alloc()),
-            writes,
-        };
-        let text = b"team 1\n0 loop dynamic 1 0 0 1 nowait\n0 end_nowait\n".as_slice();
-        let status = serve(rt.alloc(), &["ompteam", "steps"], text, &mut writer);
-        let (notes, code) = if writes < output.len() {
-            (Notes::OutputFault, 1)
-        } else {
-            (Notes::Nothing, 0)
-        };
-        assert_eq!(rt; status.notes, notes);
-        assert_eq!(rt; status.code, code);
-        assert_eq!(rt; writer.written.as_slice(), &output[..writes]);
+    let text = b"team 1\n0 loop dynamic 1 0 0 1 nowait\n0 end_nowait\n".as_slice();
+    for recovers in [false, true] {
+        for writes in 0..=output.len() {
+            let mut writer = FailingWriter {
+                written: Vec::new(rt.alloc()),
+                writes,
+                recovers,
+            };
+            let status = serve(rt.alloc(), &["ompteam", "steps"], text, &mut writer);
+            let (notes, code) = if writes < output.len() {
+                (Notes::OutputFault, 1)
+            } else {
+                (Notes::Nothing, 0)
+            };
+            assert_eq!(rt; status.notes, notes);
+            assert_eq!(rt; status.code, code);
+            assert_eq!(rt; writer.written.as_slice(), &output[..writes]);
+        }
     }
+    Ok(())
+}
+
+#[test]
+fn a_note_that_cannot_be_written(rt: HostRuntime) -> Result<(), Fail> {
+    let status = Status {
+        code: 1,
+        notes: Notes::InputFault,
+    };
+    let mut errors = Vec::new(rt.alloc());
+    let code = finish(&status, &mut errors)?;
+    assert_eq!(rt; code, 1);
+    assert_eq!(rt; str::from_utf8(errors.as_slice()), Ok("input fault\n"));
+    let mut errors = FailingWriter {
+        written: Vec::new(rt.alloc()),
+        writes: 5,
+        recovers: true,
+    };
+    assert!(rt; finish(&status, &mut errors).is_err());
+    assert_eq!(rt; errors.written.as_slice(), b"input".as_slice());
     Ok(())
 }

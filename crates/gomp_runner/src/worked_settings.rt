@@ -116,13 +116,27 @@ fn ignored_words_are_named_beside_every_answer(rt: HostRuntime) -> Result<(), Fa
 
 #[test]
 fn words_without_an_equals_sign(rt: HostRuntime) -> Result<(), Fail> {
-    for words in [
-        ["ompteam", "steps", "FOO", "BAR=1"],
-        ["ompteam", "steps", "BAR=1", "FOO"],
+    for (words, note) in [
+        (
+            ["ompteam", "steps", "FOO", "BAR=1"],
+            "error: the word 'FOO' is not NAME=VALUE\n",
+        ),
+        (
+            ["ompteam", "steps", "BAR=1", "FOO"],
+            "error: the word 'FOO' is not NAME=VALUE\n",
+        ),
+        (
+            ["ompteam", "steps", "FOO", "BAR"],
+            "error: the word 'FOO' is not NAME=VALUE\n",
+        ),
+        (
+            ["ompteam", "steps", "", "BAR=1"],
+            "error: the word '' is not NAME=VALUE\n",
+        ),
     ] {
         let status = served(&rt, rt.alloc(), &words, "team 1\n0 barrier\n", "")?;
         assert_eq!(rt; status.code, 1);
-        let text = String::from_str(rt.alloc(), "error: the word 'FOO' is not NAME=VALUE\n")?;
+        let text = String::from_str(rt.alloc(), note)?;
         assert_eq!(rt; status.notes, Notes::Command(text));
     }
     Ok(())

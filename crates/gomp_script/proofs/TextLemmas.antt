@@ -1,13 +1,12 @@
 -- Texts, line by line.
-use Rattle.std.proofs.Common.{◌≡◌, ℕ, ◌+◌, ◌<◌, suc, List, [], ◌∷◌, ◌++◌, Option, Some, None, Result, Ok, Err, length, Bor, refl, ap, ◌∙◌, sym, append_assoc, arith}
+use Rattle.std.proofs.Common.{◌≡◌, ℕ, ◌<◌, suc, List, [], ◌∷◌, ◌++◌, Option, Some, None, Result, Ok, Err, length, Bor, refl, ap, ◌∙◌, sym, append_assoc, arith}
 use Rattle.std.specs.Prelude.{IfSome, option_copied}
 use Rattle.gomp_types.specs.declared.call.Step.{Step}
-use Rattle.gomp_types.specs.Record.{shown}
 use Rattle.gomp_script.specs.declared.parse.BadLine.{BadLine}
 use Rattle.gomp_script.specs.declared.parse.ParseError.{ParseError}
 use Rattle.gomp_script.specs.declared.parse.ParseError.TheVariants.{Memory, Bad}
 use Rattle.gomp_text.specs.Words.{lines_of}
-use Rattle.gomp_script.specs.StepText.{lines_left, with_front, steps_from, step_line, step_of, team_of, team_line, text_from, read_line, kept, with_team, Fails}
+use Rattle.gomp_script.specs.StepText.{lines_left, with_front, step_line, kept, with_team, Fails}
 
 -- how much is left
 abbrev pub left : Option (List ℕ) → ℕ
@@ -32,12 +31,9 @@ pub line_kept : (steps : List Step) (number : ℕ) (said : Option Step) (later :
 line_kept steps number None later = refl
 line_kept steps number (Some step) later = one_more steps step later
 
--- what is read from here on, by the first line of the text that is left, and what is left after it
-pub from_here : (number : ℕ) (text line : List ℕ) (before rest : Option (List ℕ)) → before ≡ Some text → lines_of text ≡ line ∷ lines_left rest → steps_from number (lines_left before) ≡ step_line number (read_line step_of line) (steps_from (shown (number + 1)) (lines_left rest))
-from_here number text line before rest is parts = ap (λ (found : Option (List ℕ)). steps_from number (lines_left found)) is ∙ ap (steps_from number) parts
-
-pub team_from_here : (number : ℕ) (text line : List ℕ) (before rest : Option (List ℕ)) → before ≡ Some text → lines_of text ≡ line ∷ lines_left rest → text_from number (lines_left before) ≡ team_line number (read_line team_of line) (text_from (shown (number + 1)) (lines_left rest)) (steps_from (shown (number + 1)) (lines_left rest))
-team_from_here number text line before rest is parts = ap (λ (found : Option (List ℕ)). text_from number (lines_left found)) is ∙ ap (text_from number) parts
+-- the lines of what is left of a text, by the first one and what is left after it
+pub lines_here : (text line : List ℕ) (before rest : Option (List ℕ)) → before ≡ Some text → lines_of text ≡ line ∷ lines_left rest → lines_left before ≡ line ∷ lines_left rest
+lines_here text line before rest is parts = ap lines_left is ∙ parts
 
 -- an error of the steps is the text's
 pub gives_team : (count : ℕ) (error : ParseError) (read : Result (List Step) BadLine) → Fails error read → Fails error (with_team count read)

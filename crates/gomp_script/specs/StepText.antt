@@ -255,6 +255,20 @@ text_from number (line ∷ lines) = team_line number (read_line team_of line) (t
 abbrev pub steps_of : List ℕ → Result (ℕ × List Step) BadLine
 steps_of text = text_from 1 (lines_of text)
 
+abbrev pub size_line : ℕ → Result (Option ℕ) Why → Result ℕ BadLine → Result ℕ BadLine
+size_line number (Err why) later = bad_line number why
+size_line number (Ok None) later = later
+size_line number (Ok (Some count)) later = Ok count
+
+-- the size of the team by the lines from this one on, or the first bad one up to the team's
+abbrev pub team_from : ℕ → List (List ℕ) → Result ℕ BadLine
+team_from number [] = bad_line 1 FirstLine
+team_from number (line ∷ lines) = size_line number (read_line team_of line) (team_from (shown (number + 1)) lines)
+
+-- the size of the team, or the first bad line up to the team's
+abbrev pub team_size : List ℕ → Result ℕ BadLine
+team_size text = team_from 1 (lines_of text)
+
 -- What a function gives that may find no memory
 
 -- an error is that of the reading, or want of memory

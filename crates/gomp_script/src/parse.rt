@@ -1,9 +1,10 @@
 //! From a text of steps to the size of the team and the steps.
 
-ghost use Rattle.std.specs.Prelude.{◌≡◌, ℕ, List, Ok, Err, Option, Some, None, [], ◌∷◌, option_copied, MatchResult, OnOk};
+ghost use Rattle.std.specs.Prelude.{◌≡◌, ℕ, List, Ok, Err, Option, Some, None, [], ◌∷◌, option_copied, MatchResult, OnOk, IfErr};
 ghost use Rattle.std.specs.Option.{option_map_or};
 ghost use Rattle.gomp_text.specs.Words.{words_of};
-ghost use Rattle.gomp_script.specs.StepText.{call_step, step_of, team_of, read_line, line_words, steps_from, steps_of, lines_left, kept, begins_comment, Gives};
+ghost use Rattle.gomp_script.specs.declared.parse.ParseError.TheVariants.{Bad};
+ghost use Rattle.gomp_script.specs.StepText.{call_step, step_of, team_of, team_size, read_line, line_words, steps_from, steps_of, lines_left, kept, begins_comment, Gives};
 
 mod loops;
 mod ordered;
@@ -80,9 +81,11 @@ impl<T: Drop> From<AllocFailed<T>> for ParseError {
 /// The size of the team that a text asks for, and its steps. The size is the number that stands
 /// there, 0 to 2^32 - 1: whether a team may have it is not asked here.
 ///
-/// The error is the first bad line, with the first of its faults, or want of memory.
+/// The error is the first bad line, with the first of its faults, or want of memory. Up to the team's
+/// line nothing takes memory: a bad line there is told whatever memory does.
 pub fn parse_steps(alloc: Global, text: &[u8]) -> Result<(u32, Vec<Step>), ParseError>
-    ensures { Gives (λ found. (found.0, found.1.items)) result (steps_of text.now) }
+    ensures steps { Gives (λ found. (found.0, found.1.items)) result (steps_of text.now) }
+    ensures team { IfErr (team_size text.now) (λ bad. result ≡ Err (Bad bad)) }
 {
     let mut rest = Some(text);
     let mut number: u64 = 1;

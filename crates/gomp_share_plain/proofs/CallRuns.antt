@@ -133,12 +133,12 @@ can_leave members m seen lt may =
 
 pub can_begin : (members m iteration : ℕ) (seen : Seen) → m < members → may_make seen (Begin iteration) ≡ true → CanBeginPart members m iteration seen
 can_begin members m iteration seen lt may =
-    let both = and_left (is_ordered seen.current && not seen.in_part) (is_in_rest seen.piece seen.parted (Some iteration)) may in
+    let both = and_left (is_ordered seen.current && not seen.in_part) (is_in_rest seen.piece seen.next_part (Some iteration)) may in
     record {
       member = lt;
       ordered = and_left (is_ordered seen.current) (not seen.in_part) both;
       apart = not_true seen.in_part (and_right (is_ordered seen.current) (not seen.in_part) both);
-      rest = and_right (is_ordered seen.current && not seen.in_part) (is_in_rest seen.piece seen.parted (Some iteration)) may;
+      rest = and_right (is_ordered seen.current && not seen.in_part) (is_in_rest seen.piece seen.next_part (Some iteration)) may;
     }
 
 pub can_hand : (members m : ℕ) (seen : Seen) → m < members → may_make seen HandOn ≡ true → CanHandOn members m seen

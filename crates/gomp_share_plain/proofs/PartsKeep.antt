@@ -7,7 +7,7 @@ use Rattle.gomp_types.specs.declared.shape.Shape.{Shape}
 use Rattle.gomp_types.specs.declared.event.Event.{Event}
 use Rattle.gomp_types.specs.declared.event.Event.TheVariants.{HandOn, Part, PartEnd}
 use Rattle.gomp_types.specs.Pieces.{Piece, Tiles, pieces_of}
-use Rattle.gomp_types.specs.Events.{open_share, open_number, share_number, last_piece, has_iteration, turn, parted, in_part, is_inside, shape_at}
+use Rattle.gomp_types.specs.Events.{open_share, open_number, share_number, last_piece, has_iteration, turn, next_part, in_part, is_inside, shape_at}
 use Rattle.gomp_types.specs.Ordered.{is_ordered, is_in_rest}
 use Rattle.gomp_types.specs.Record.{shown}
 use Rattle.gomp_types.specs.Rules.{MayHandOn, MayPart, MayEndPart}
@@ -90,7 +90,7 @@ begin_rule : (members m iteration : ℕ) (h : List Event) → CanBeginPart membe
 begin_rule members m iteration h can next =
     let own = some_of (open_share m h) (begins_inside members m iteration h can) in
     let number : open_number m h ≡ own.0.0 = ap share_number own.1 in
-    let rest = in_rest (last_piece m h) (parted m h) iteration can.rest in
+    let rest = in_rest (last_piece m h) (next_part m h) iteration can.rest in
     rw number (record {
       shape = own.0.1;
       inside = own.1;
@@ -134,7 +134,7 @@ end_rule members m seat opened h s within =
 -- a member begins a part
 pub begins : (members : ℕ) (seats : List Seat) (count : ℕ) (places : List (Option OpenShare)) (h : List Event) (m : ℕ) (seat : Seat) (iteration : ℕ) →
     StandsFor members seats count places h → slice_get seats m ≡ Some seat → CanBeginPart members m iteration (seen_of m h) → own_turn members m h ≡ true →
-    StandsFor members (slice_set seats m (record seat { parted = iteration + 1; in_part = true })) count places (Part (open_number m h) m iteration ∷ h)
+    StandsFor members (slice_set seats m (record seat { next_part = iteration + 1; in_part = true })) count places (Part (open_number m h) m iteration ∷ h)
 begins members seats count places h m seat iteration st at can next =
     let s : SeatStands members m seat count h = st.seat m seat at in
     let one : seat.started ≡ seat.ended + 1 = inside members m seat count h s (begins_inside members m iteration h can) in
@@ -149,7 +149,7 @@ begins members seats count places h m seat iteration st at can next =
           drained = s.drained;
           piece = s.piece;
           number = s.number;
-          parted = grind (arith, nat_tests);
+          next_part = grind (arith, nat_tests);
           in_part = grind (arith, nat_tests);
           apart = λ e. absurd (omega arith);
           taken = s.taken;
@@ -167,7 +167,7 @@ begins members seats count places h m seat iteration st at can next =
           drained = o.drained;
           piece = o.piece;
           number = o.number;
-          parted = grind (arith, nat_tests, o.parted, e.0);
+          next_part = grind (arith, nat_tests, o.next_part, e.0);
           in_part = grind (arith, nat_tests, o.in_part, e.0);
           apart = o.apart;
           taken = o.taken;
@@ -210,7 +210,7 @@ ends members seats count places h m seat st at can =
           drained = s.drained;
           piece = s.piece;
           number = s.number;
-          parted = s.parted;
+          next_part = s.next_part;
           in_part = grind (arith, nat_tests);
           apart = λ e. refl;
           taken = s.taken;
@@ -228,7 +228,7 @@ ends members seats count places h m seat st at can =
           drained = o.drained;
           piece = o.piece;
           number = o.number;
-          parted = o.parted;
+          next_part = o.next_part;
           in_part = grind (arith, nat_tests, o.in_part, e.0);
           apart = o.apart;
           taken = o.taken;
@@ -287,7 +287,7 @@ hands members seats count places h m seat share st at found can next is =
         drained = o.drained;
         piece = o.piece;
         number = o.number;
-        parted = o.parted;
+        next_part = o.next_part;
         in_part = o.in_part;
         apart = o.apart;
         taken = o.taken;

@@ -6,7 +6,7 @@ use Rattle.gomp_types.specs.declared.event.Event.{Event}
 use Rattle.gomp_types.specs.declared.event.Event.TheVariants.{Enter, Take, Drained, End, HandOn, Part, PartEnd, Put, Got, Arrive, Pass, Break}
 use Rattle.gomp_types.specs.Pieces.{Piece}
 use Rattle.gomp_types.specs.Values.{IsShape}
-use Rattle.gomp_types.specs.Events.{entered, open_share, open_number, in_kind, has_drained, last_piece, turn, parted, in_part, shape_at, has_room}
+use Rattle.gomp_types.specs.Events.{entered, open_share, open_number, in_kind, has_drained, last_piece, turn, next_part, in_part, shape_at, has_room}
 use Rattle.gomp_types.specs.Ordered.{has_turn, is_ordered, is_in_rest}
 use Rattle.gomp_types.specs.Shapes.{is_loop, is_single}
 use Rattle.gomp_types.specs.Deals.{schedule, next_for, taken_in}
@@ -17,7 +17,7 @@ use Rattle.gomp_share_plain.specs.declared.Opening.TheVariants.{Entered, NotYet,
 
 -- what these events say of a member's place
 abbrev pub seen_of : ℕ → List Event → Seen
-seen_of m h = record { entered = entered m h; current = open_share m h; drained = has_drained m h; piece = last_piece m h; parted = parted m h; in_part = in_part m h }
+seen_of m h = record { entered = entered m h; current = open_share m h; drained = has_drained m h; piece = last_piece m h; next_part = next_part m h; in_part = in_part m h }
 
 -- how many pieces of a share were taken, by whomever
 abbrev pub taken_of : ℕ → List Event → ℕ
@@ -86,7 +86,7 @@ pub record CanBeginPart (members m iteration : ℕ) (seen : Seen) : Type 0 where
   pub member : m < members
   pub ordered : is_ordered seen.current ≡ true
   pub apart : seen.in_part ≡ false
-  pub rest : is_in_rest seen.piece seen.parted (Some iteration) ≡ true
+  pub rest : is_in_rest seen.piece seen.next_part (Some iteration) ≡ true
 
 -- a member may end the part that it is in
 pub record CanEndPart (members m : ℕ) (seen : Seen) : Type 0 where

@@ -4,7 +4,7 @@ use Rattle.gomp_types.specs.declared.shape.Shape.{Shape}
 use Rattle.gomp_types.specs.declared.event.Event.{Event}
 use Rattle.gomp_types.specs.Values.{IsShape}
 use Rattle.gomp_types.specs.Pieces.{Piece, pieces_of}
-use Rattle.gomp_types.specs.Events.{entered, open_share, has_ended, has_drained, last_piece, turn, parted, in_part, shape_at}
+use Rattle.gomp_types.specs.Events.{entered, open_share, has_ended, has_drained, last_piece, turn, next_part, in_part, shape_at}
 use Rattle.gomp_types.specs.Record.{shown}
 use Rattle.gomp_types.specs.Deals.{schedule, taken_in}
 use Rattle.gomp_types.specs.Rules.{Always, ShareRule}
@@ -21,7 +21,7 @@ pub record PlainView : Type 0 where
 
 -- the seat of a member that has entered no share
 abbrev pub new_seat : Seat
-new_seat = record { started = 0; ended = 0; drained = false; piece = None; taken = 0; number = 0; parted = 0; in_part = false }
+new_seat = record { started = 0; ended = 0; drained = false; piece = None; taken = 0; number = 0; next_part = 0; in_part = false }
 
 -- how many pieces of a share were taken by one member
 abbrev pub taken_by : ℕ → ℕ → List Event → ℕ
@@ -35,7 +35,7 @@ pub record SeatStands (members m : ℕ) (seat : Seat) (opened : ℕ) (h : List E
   pub piece : last_piece m h ≡ seat.piece
   -- its piece has this number among the pieces of the share that it is in
   pub number : (share : ℕ × Shape) (piece : Piece) → open_share m h ≡ Some share → seat.piece ≡ Some piece → slice_get (pieces_of members share.1) seat.number ≡ Some piece
-  pub parted : parted m h ≡ seat.parted
+  pub next_part : next_part m h ≡ seat.next_part
   pub in_part : in_part m h ≡ seat.in_part
   -- outside a share it is in no part
   pub apart : seat.started ≡ seat.ended → seat.in_part ≡ false
@@ -76,13 +76,13 @@ share_there i None = None
 
 -- what a member sees of its place
 abbrev pub seat_seen : List (Option OpenShare) → Option Seat → Seen
-seat_seen places None = record { entered = 0; current = None; drained = false; piece = None; parted = 0; in_part = false }
+seat_seen places None = record { entered = 0; current = None; drained = false; piece = None; next_part = 0; in_part = false }
 seat_seen places (Some seat) = record {
   entered = seat.started;
   current = if nat_lt seat.ended seat.started then share_there seat.ended (slice_get places (seat.ended % 8)) else None;
   drained = seat.drained;
   piece = seat.piece;
-  parted = seat.parted;
+  next_part = seat.next_part;
   in_part = seat.in_part;
 }
 

@@ -22,7 +22,7 @@ seen_outside : (members m : ℕ) (seat : Seat) (opened : ℕ) (places : List (Op
 seen_outside members m seat opened places h s even =
     let out = s.outside even in
     let not_in : nat_lt seat.ended seat.started ≡ false = grind (arith, nat_tests) in
-    rw (not_in, s.started, out, s.drained, s.piece, s.parted, s.in_part) refl
+    rw (not_in, s.started, out, s.drained, s.piece, s.next_part, s.in_part) refl
 
 seen_inside : (members m : ℕ) (seat : Seat) (opened : ℕ) (places : List (Option OpenShare)) (h : List Event) → SeatStands members m seat opened h → seat.started ≡ seat.ended + 1 →
     PlaceStands members seat.ended (slice_get places (seat.ended % 8)) h → seat_seen places (Some seat) ≡ seen_of m h
@@ -31,7 +31,7 @@ seen_inside members m seat opened places h s one p =
     let within : nat_lt seat.ended seat.started ≡ true = grind (arith, nat_tests) in
     let same : Some own.0 ≡ Some p.share.shape = sym own.2 ∙ p.shape in
     let shape : own.0 ≡ p.share.shape = let e = same in cc in
-    rw (within, s.started, own.1, s.drained, s.piece, s.parted, s.in_part, p.there, shape) refl
+    rw (within, s.started, own.1, s.drained, s.piece, s.next_part, s.in_part, p.there, shape) refl
 
 -- a member sees what the events say
 pub plain_agrees : (members : ℕ) (seats : List Seat) (opened : ℕ) (places : List (Option OpenShare)) (h : List Event) (m : ℕ) → StandsFor members seats opened places h → m < length seats →
@@ -77,23 +77,23 @@ SameFor event h =
 
 aside_same : (event : Event) (h : List Event) → IsAside event → SameFor event h
 aside_same (Put share m payload) h is = (
-  (λ members k seat opened s. record { started = s.started; ended = s.ended; drained = s.drained; piece = s.piece; number = s.number; parted = s.parted; in_part = s.in_part; apart = s.apart; taken = s.taken; fresh = s.fresh; in_order = s.in_order; one = s.one; known = s.known; near = s.near; outside = s.outside; inside = s.inside }),
+  (λ members k seat opened s. record { started = s.started; ended = s.ended; drained = s.drained; piece = s.piece; number = s.number; next_part = s.next_part; in_part = s.in_part; apart = s.apart; taken = s.taken; fresh = s.fresh; in_order = s.in_order; one = s.one; known = s.known; near = s.near; outside = s.outside; inside = s.inside }),
   (λ members i place p. record { share = p.share; there = p.there; shape = p.shape; taken_is = p.taken_is; turn_is = p.turn_is; cursor_is = p.cursor_is; valid = p.valid }),
 )
 aside_same (Got share m payload) h is = (
-  (λ members k seat opened s. record { started = s.started; ended = s.ended; drained = s.drained; piece = s.piece; number = s.number; parted = s.parted; in_part = s.in_part; apart = s.apart; taken = s.taken; fresh = s.fresh; in_order = s.in_order; one = s.one; known = s.known; near = s.near; outside = s.outside; inside = s.inside }),
+  (λ members k seat opened s. record { started = s.started; ended = s.ended; drained = s.drained; piece = s.piece; number = s.number; next_part = s.next_part; in_part = s.in_part; apart = s.apart; taken = s.taken; fresh = s.fresh; in_order = s.in_order; one = s.one; known = s.known; near = s.near; outside = s.outside; inside = s.inside }),
   (λ members i place p. record { share = p.share; there = p.there; shape = p.shape; taken_is = p.taken_is; turn_is = p.turn_is; cursor_is = p.cursor_is; valid = p.valid }),
 )
 aside_same (Arrive barrier m tag) h is = (
-  (λ members k seat opened s. record { started = s.started; ended = s.ended; drained = s.drained; piece = s.piece; number = s.number; parted = s.parted; in_part = s.in_part; apart = s.apart; taken = s.taken; fresh = s.fresh; in_order = s.in_order; one = s.one; known = s.known; near = s.near; outside = s.outside; inside = s.inside }),
+  (λ members k seat opened s. record { started = s.started; ended = s.ended; drained = s.drained; piece = s.piece; number = s.number; next_part = s.next_part; in_part = s.in_part; apart = s.apart; taken = s.taken; fresh = s.fresh; in_order = s.in_order; one = s.one; known = s.known; near = s.near; outside = s.outside; inside = s.inside }),
   (λ members i place p. record { share = p.share; there = p.there; shape = p.shape; taken_is = p.taken_is; turn_is = p.turn_is; cursor_is = p.cursor_is; valid = p.valid }),
 )
 aside_same (Pass barrier m) h is = (
-  (λ members k seat opened s. record { started = s.started; ended = s.ended; drained = s.drained; piece = s.piece; number = s.number; parted = s.parted; in_part = s.in_part; apart = s.apart; taken = s.taken; fresh = s.fresh; in_order = s.in_order; one = s.one; known = s.known; near = s.near; outside = s.outside; inside = s.inside }),
+  (λ members k seat opened s. record { started = s.started; ended = s.ended; drained = s.drained; piece = s.piece; number = s.number; next_part = s.next_part; in_part = s.in_part; apart = s.apart; taken = s.taken; fresh = s.fresh; in_order = s.in_order; one = s.one; known = s.known; near = s.near; outside = s.outside; inside = s.inside }),
   (λ members i place p. record { share = p.share; there = p.there; shape = p.shape; taken_is = p.taken_is; turn_is = p.turn_is; cursor_is = p.cursor_is; valid = p.valid }),
 )
 aside_same (Break m place) h is = (
-  (λ members k seat opened s. record { started = s.started; ended = s.ended; drained = s.drained; piece = s.piece; number = s.number; parted = s.parted; in_part = s.in_part; apart = s.apart; taken = s.taken; fresh = s.fresh; in_order = s.in_order; one = s.one; known = s.known; near = s.near; outside = s.outside; inside = s.inside }),
+  (λ members k seat opened s. record { started = s.started; ended = s.ended; drained = s.drained; piece = s.piece; number = s.number; next_part = s.next_part; in_part = s.in_part; apart = s.apart; taken = s.taken; fresh = s.fresh; in_order = s.in_order; one = s.one; known = s.known; near = s.near; outside = s.outside; inside = s.inside }),
   (λ members i place p. record { share = p.share; there = p.there; shape = p.shape; taken_is = p.taken_is; turn_is = p.turn_is; cursor_is = p.cursor_is; valid = p.valid }),
 )
 aside_same _ h is = absurd is

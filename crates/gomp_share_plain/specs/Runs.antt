@@ -26,7 +26,7 @@ may_make seen (OpenSections count end_kind) = may_open seen (sections_tests coun
 may_make seen (OpenSingle copies) = may_open seen []
 may_make seen Claim = is_some seen.current && not seen.drained && not seen.in_part
 may_make seen Leave = is_some seen.current && is_done seen && not seen.in_part
-may_make seen (Begin iteration) = is_ordered seen.current && not seen.in_part && is_in_rest seen.piece seen.parted (Some iteration)
+may_make seen (Begin iteration) = is_ordered seen.current && not seen.in_part && is_in_rest seen.piece seen.next_part (Some iteration)
 may_make seen EndPart = seen.in_part
 may_make seen HandOn = is_ordered seen.current && not seen.in_part
 

@@ -151,12 +151,12 @@ fn is_ordered(seen: &Seen) -> bool
 
 /// Whether the iteration lies in its piece, after those whose parts it has begun.
 fn is_in_rest(seen: &Seen, iteration: u64) -> bool
-    ensures { result ≡ is_in_rest seen.now.piece seen.now.parted (Some iteration) }
+    ensures { result ≡ is_in_rest seen.now.piece seen.now.next_part (Some iteration) }
 {
     let Some((low, high)) = seen.piece else {
         return false;
     };
-    low <= iteration && iteration < high && seen.parted <= iteration
+    low <= iteration && iteration < high && seen.next_part <= iteration
 }
 
 /// Whether nothing is left for a member that sees this of its place.

@@ -54,7 +54,7 @@ pub struct Seen {
     /// none before it took one, and none once it was told that nothing is left.
     pub piece: Option<(u64, u64)>,
     /// The iteration after that of its last ordered part in that share, 0 before its first.
-    pub parted: u64,
+    pub next_part: u64,
     /// Whether it is in an ordered part.
     pub in_part: bool,
 }

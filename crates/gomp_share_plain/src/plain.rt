@@ -28,7 +28,7 @@ pub struct Seat {
     /// The number of `piece` among the pieces of the share.
     number: u64,
     /// The iteration after that of its last ordered part in the last, 0 before its first.
-    parted: u64,
+    next_part: u64,
     /// Whether it is in an ordered part.
     in_part: bool,
 }
@@ -42,7 +42,7 @@ impl Seat {
         piece: None,
         taken: 0,
         number: 0,
-        parted: 0,
+        next_part: 0,
         in_part: false,
     };
 }
@@ -117,7 +117,7 @@ impl Shares for PlainShares {
             current,
             drained: seat.drained,
             piece: seat.piece,
-            parted: seat.parted,
+            next_part: seat.next_part,
             in_part: seat.in_part,
         }
     }
@@ -223,7 +223,7 @@ impl Shares for PlainShares {
             return false;
         }
         self.seats[member as usize] = Seat {
-            parted: iteration + 1,
+            next_part: iteration + 1,
             in_part: true,
             ..seat
         };

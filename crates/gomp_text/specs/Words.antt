@@ -31,6 +31,11 @@ abbrev pub parts_left : ℕ → Option (List ℕ) → List (List ℕ)
 parts_left separator None = []
 parts_left separator (Some rest) = slice_split (λ b. b == separator) rest
 
+-- what is left of a text that was cut: nothing, where no separator stood in it
+abbrev pub left : Option (List ℕ) → List ℕ
+left None = []
+left (Some rest) = rest
+
 -- the bytes from the first on that is no space
 abbrev pub past_spaces : List ℕ → List ℕ
 past_spaces [] = []

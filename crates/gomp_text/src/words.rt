@@ -2,7 +2,7 @@
 
 ghost use Rattle.std.specs.Prelude.{◌≡◌, ◌<◌, ◌==◌, ◌∷◌, [], length, IfSome, MatchOption, IsTrue, ◌↔◌, option_copied};
 ghost use Rattle.std.specs.List.{slice_split};
-ghost use Rattle.gomp_text.specs.Words.{words_of, is_ascii, cut, past_spaces, parts_left, same_word};
+ghost use Rattle.gomp_text.specs.Words.{words_of, is_ascii, cut, past_spaces, parts_left, left, same_word};
 
 /// The bytes before the first `separator`, which is any byte, and those after it. None in the place
 /// of those where no separator stands in the text.
@@ -31,7 +31,8 @@ fn past_spaces(mut text: &[u8]) -> &[u8]
 /// The first word of a line, and the rest of the line after it. None where there is no word: the
 /// line is empty, or has spaces alone.
 pub fn next_word(line: &[u8]) -> Option<(&[u8], &[u8])>
-    ensures { MatchOption result (words_of line.now ≡ []) (λ found. words_of line.now ≡ found.0.now ∷ words_of found.1.now) }
+    ensures words { MatchOption result (words_of line.now ≡ []) (λ found. words_of line.now ≡ found.0.now ∷ words_of found.1.now) }
+    ensures rest { IfSome result (λ found. found.1.now ≡ left (cut 32 (past_spaces line.now)).1) }
 {
     let line = past_spaces(line);
     if line.is_empty() {

@@ -20,7 +20,7 @@ use Rattle.gomp_types.specs.Pieces.{shape_of}
 use Rattle.gomp_types.specs.Sections.{sections_shape}
 use Rattle.gomp_types.specs.Singles.{single_shape}
 use Rattle.gomp_types.specs.Shapes.{is_loop, is_sections, is_single, is_copy}
-use Rattle.gomp_types.specs.Events.{share_number, arrival, clash_of, entered, open_share, open_number, is_inside, in_kind, has_drained, last_piece, parted, in_part, payload_at, shape_at, passed, tag_at}
+use Rattle.gomp_types.specs.Events.{share_number, arrival, clash_of, entered, open_share, open_number, is_inside, in_kind, has_drained, last_piece, next_part, in_part, payload_at, shape_at, passed, tag_at}
 use Rattle.gomp_types.specs.Record.{meant, is_resume, arrival_kind, ends_share, tag_with}
 use Rattle.gomp_types.specs.Refusals.{broken_tests, shape_differs, tag_differs, is_executor, row_of, member_tests}
 use Rattle.gomp_types.specs.Ordered.{is_ordered, comes_next}
@@ -64,7 +64,7 @@ pub record MayAsk (m : ℕ) (h : List Event) : Type 0 where
 pub record MayBegin (m : ℕ) (value : ℤ) (h : List Event) : Type 0 where
   pub apart : in_part m h ≡ false
   pub ordered : is_ordered (open_share m h) ≡ true
-  pub next : comes_next (open_share m h) (last_piece m h) (parted m h) value ≡ true
+  pub next : comes_next (open_share m h) (last_piece m h) (next_part m h) value ≡ true
 
 -- where a member is that starts a share, asks for a piece of its share, or begins or ends an ordered part
 abbrev pub Ready : ℕ → ℕ → Call → List Event → Type 0
@@ -252,7 +252,7 @@ call_tested limits members m (OrderedStart value) waiting h lt pending fresh wor
   ready = record {
     apart = fail.1.1.0;
     ordered = not_false (is_ordered (open_share m h)) fail.1.1.1.0;
-    next = not_false (comes_next (open_share m h) (last_piece m h) (parted m h) value) fail.1.1.1.1.0;
+    next = not_false (comes_next (open_share m h) (last_piece m h) (next_part m h) value) fail.1.1.1.1.0;
   };
   beginning = (tt, tt, tt);
 }

@@ -21,7 +21,7 @@ use Rattle.gomp_types.specs.Sections.{sections_shape}
 use Rattle.gomp_types.specs.Singles.{single_shape}
 use Rattle.gomp_types.specs.Shapes.{is_loop, is_sections, is_copy}
 use Rattle.gomp_types.specs.Values.{iteration_at}
-use Rattle.gomp_types.specs.Events.{arrival, has_piece, has_words, entered, open_share, open_number, share_number, in_kind, last_piece, turn, parted, in_part, payload_at, shape_at, has_room, passed, tag_at, barrier_met}
+use Rattle.gomp_types.specs.Events.{arrival, has_piece, has_words, entered, open_share, open_number, share_number, in_kind, last_piece, turn, next_part, in_part, payload_at, shape_at, has_room, passed, tag_at, barrier_met}
 use Rattle.gomp_types.specs.Record.{Record, events, added, meant, is_resume, waits_of, waits_after, arrival_kind, ends_share, tag_with, share_left, arrived, since_begun, section_taken, part_in, pass_added, refusal_added, place_of}
 use Rattle.gomp_types.specs.Deals.{next_for, schedule}
 use Rattle.gomp_types.specs.Refusals.{is_executor}
@@ -289,11 +289,11 @@ section_next_keeps again members m _ h (Some share) at known may all = absurd ma
 -- An ordered part
 
 -- the part that comes next may begin in its turn
-part_rule : (members m : ℕ) (value : ℤ) (h : List Event) (own : Option (ℕ × Shape)) → open_share m h ≡ own → in_part m h ≡ false → is_ordered own ≡ true → comes_next own (last_piece m h) (parted m h) value ≡ true →
+part_rule : (members m : ℕ) (value : ℤ) (h : List Event) (own : Option (ℕ × Shape)) → open_share m h ≡ own → in_part m h ≡ false → is_ordered own ≡ true → comes_next own (last_piece m h) (next_part m h) value ≡ true →
     BeginsPart members m own Finished h → Always (TeamRule members) h → Always (TeamRule members) (part_in own m value h)
 part_rule members m value h None at apart ordered next may all = absurd may
 part_rule members m value h (Some share) at apart ordered next may all =
-    let rest = value_in_rest share.1 (last_piece m h) (parted m h) value next in (
+    let rest = value_in_rest share.1 (last_piece m h) (next_part m h) value next in (
       record {
         shape = share.1;
         inside = at;

@@ -6,7 +6,7 @@ use Rattle.gomp_types.specs.declared.shape.Shape.{Shape}
 use Rattle.gomp_types.specs.declared.event.Event.{Event}
 use Rattle.gomp_types.specs.declared.event.Event.TheVariants.{Enter, Take, Drained, End, HandOn, Part, PartEnd}
 use Rattle.gomp_types.specs.Pieces.{Piece, Tiles, pieces_of}
-use Rattle.gomp_types.specs.Events.{open_share, last_piece, shape_at, has_ended, has_iteration, times_taken, turn, parted, in_part, open_part}
+use Rattle.gomp_types.specs.Events.{open_share, last_piece, shape_at, has_ended, has_iteration, times_taken, turn, next_part, in_part, open_part}
 use Rattle.gomp_types.specs.Ordered.{same_piece, has_turn}
 use Rattle.gomp_types.specs.Deals.{Deal, schedule}
 use Rattle.gomp_types.specs.Rules.{Always, MayPart, MayHandOn, ShareRule}
@@ -237,7 +237,7 @@ part_before deal members i n j q low high shape h all at piece le stands =
 
 -- where a member's last piece is that of the turn, the parts that have begun lie before the piece, or are its own
 parts_before : (deal : Deal) (members m i n j low high : ℕ) (shape : Shape) (h : List Event) → Always (ShareRule deal members) h → open_share m h ≡ Some (i, shape) → last_piece m h ≡ Some (low, high) →
-    slice_get (pieces_of members shape) (turn i h) ≡ Some (low, high) → Happened (Part i n j) h → (j < low) ⊎ (j < parted m h)
+    slice_get (pieces_of members shape) (turn i h) ≡ Some (low, high) → Happened (Part i n j) h → (j < low) ⊎ (j < next_part m h)
 parts_before deal members m i n j low high shape [] all at piece next stands = absurd stands
 parts_before deal members m i n j low high shape (Enter share member other ∷ earlier) all at piece next (inl e) = absurd (cc)
 parts_before deal members m i n j low high shape (Enter share member other ∷ earlier) all at piece next (inr stands) =
@@ -298,7 +298,7 @@ parts_before deal members m i n j low high shape (Part share member iteration �
       | inl lt ↦ inl lt
       | inr lt ↦ elim (cases_Bool (member == m)) [
         | inl e ↦
-            let after : parted m earlier ≤ iteration = rw (← is_equal member m e) all.0.after in
+            let after : next_part m earlier ≤ iteration = rw (← is_equal member m e) all.0.after in
             inr (rw e (omega arith))
         | inr e ↦ inr (rw e lt)
       ]

@@ -18,7 +18,7 @@ use Rattle.gomp_types.specs.Pieces.{shape_of}
 use Rattle.gomp_types.specs.Sections.{sections_shape}
 use Rattle.gomp_types.specs.Singles.{single_shape}
 use Rattle.gomp_types.specs.Values.{iteration_at}
-use Rattle.gomp_types.specs.Events.{open_share, open_number, last_piece, turn, parted, in_part, passed, arrival}
+use Rattle.gomp_types.specs.Events.{open_share, open_number, last_piece, turn, next_part, in_part, passed, arrival}
 use Rattle.gomp_types.specs.Record.{added, tag_with, share_left, payload_put, arrived, since_begun, arrival_kind, ends_share, piece_taken, handed_in, section_taken, part_in, part_added, pass_added, refusal_added, place_of}
 
 -- the call that puts words
@@ -147,7 +147,7 @@ added_keeps P again m shares (Refused refusal) call h each p = refused_keeps_eac
 pub record SamePlace (k : ℕ) (h after : List Event) : Type 0 where
   pub share : open_share k after ≡ open_share k h
   pub piece : last_piece k after ≡ last_piece k h
-  pub begun : parted k after ≡ parted k h
+  pub begun : next_part k after ≡ next_part k h
   pub within : in_part k after ≡ in_part k h
 
 same_place : (k : ℕ) (h : List Event) → SamePlace k h h

@@ -9,7 +9,7 @@ use Rattle.gomp_types.specs.declared.event.Event.TheVariants.{Enter, Take, Drain
 use Rattle.gomp_types.specs.Events.{entered, arrival, tag_at}
 use Rattle.gomp_types.specs.Deals.{schedule}
 use Rattle.gomp_types.specs.Rules.{Always, ShareRule, ArrivalRule, TeamRule}
-use Rattle.gomp_types.specs.Laws.{Happened, PutsOnce, GetsWhatWasPut, LeavesWithWords, ArrivesOutside, ClosesShares, HappensUnbroken, HappensInside, BarriersInTurn, PassesLast, SameArrivals, ArrivesOnce, TellsShares, ArrivalLaws}
+use Rattle.gomp_types.specs.Laws.{Happened, PutsOnce, GetsWhatWasPut, LeavesWithWords, ArrivesOutside, ClosesShares, HappensUnbroken, HappensInside, BarriersOneByOne, PassesAfterAll, SameArrivals, ArrivesOnce, TellsShares, ArrivalLaws}
 use Rattle.gomp_types.specs.Headline.{Headline}
 use Rattle.gomp_types.proofs.Booleans.{tells, is_equal, same_number, and_left, and_right, some_of, every_tells}
 use Rattle.gomp_types.proofs.Silence.{InTime, unbroken_holds, inside_holds}
@@ -74,14 +74,14 @@ tag_stands members g m tag (Arrive barrier member other ∷ earlier) all (inl e)
 tag_stands members g m tag (_ ∷ earlier) all (inl e) = absurd (cc)
 tag_stands members g m tag (event ∷ earlier) all (inr stands) = tag_stays members g tag event earlier all.0 (tag_stands members g m tag earlier all.1 stands)
 
-barriers_in_turn : (members : ℕ) (event : Event) (earlier : List Event) → ArrivalRule members event earlier → Always (ArrivalRule members) earlier → BarriersInTurn event earlier
-barriers_in_turn members (Arrive barrier m tag) earlier rule all = rule.number
-barriers_in_turn members (Pass barrier m) earlier rule all = rule.number
-barriers_in_turn members _ earlier rule all = tt
+barriers_one_by_one : (members : ℕ) (event : Event) (earlier : List Event) → ArrivalRule members event earlier → Always (ArrivalRule members) earlier → BarriersOneByOne event earlier
+barriers_one_by_one members (Arrive barrier m tag) earlier rule all = rule.number
+barriers_one_by_one members (Pass barrier m) earlier rule all = rule.number
+barriers_one_by_one members _ earlier rule all = tt
 
 same_arrivals : (members : ℕ) (h : List Event) → Always (ArrivalRule members) h → SameArrivals h
 same_arrivals members h all = record {
-  turns = always (ArrivalRule members) BarriersInTurn (barriers_in_turn members) h all;
+  one_by_one = always (ArrivalRule members) BarriersOneByOne (barriers_one_by_one members) h all;
   tags = λ barrier m n one other first second.
       let a = tag_stands members barrier m one h all first in
       let b = tag_stands members barrier n other h all second in cc;
@@ -96,17 +96,17 @@ arrival_stands g m tag (Arrive barrier member other ∷ earlier) at =
     ]
 arrival_stands g m tag (_ ∷ earlier) at = inr (arrival_stands g m tag earlier at)
 
-passes_last : (members : ℕ) (event : Event) (earlier : List Event) → ArrivalRule members event earlier → Always (ArrivalRule members) earlier → PassesLast members event earlier
-passes_last members (Pass barrier m) earlier rule all = λ x lt.
+passes_after_all : (members : ℕ) (event : Event) (earlier : List Event) → ArrivalRule members event earlier → Always (ArrivalRule members) earlier → PassesAfterAll members event earlier
+passes_after_all members (Pass barrier m) earlier rule all = λ x lt.
     let found = some_of (arrival barrier x earlier) (every_tells members (λ y. is_some (arrival barrier y earlier)) x rule.met lt) in
     (found.0, arrival_stands barrier x found.0 earlier found.1)
-passes_last members _ earlier rule all = tt
+passes_after_all members _ earlier rule all = tt
 
 -- the laws of the arrivals, from their rule alone
 pub arrivals_keep : (members : ℕ) (h : List Event) → Always (ArrivalRule members) h → ArrivalLaws members h
 arrivals_keep members h all = record {
   same_arrivals = same_arrivals members h all;
-  passes = always (ArrivalRule members) (PassesLast members) (passes_last members) h all;
+  passes = always (ArrivalRule members) (PassesAfterAll members) (passes_after_all members) h all;
 }
 
 tells_shares : (members : ℕ) (event : Event) (earlier : List Event) → TeamRule members event earlier → Always (TeamRule members) earlier → TellsShares event earlier
@@ -169,7 +169,7 @@ arrived_left members barrier m tag (event ∷ earlier) all (inr stands) share lt
 closes_shares : (members : ℕ) (event : Event) (earlier : List Event) → TeamRule members event earlier → Always (TeamRule members) earlier → ClosesShares members event earlier
 closes_shares members (Pass barrier m) earlier rule all = λ tag stands share lt x below.
     let arrivals = arrival_rules members earlier all in
-    let own = passes_last members (Pass barrier m) earlier rule.passes arrivals x below in
+    let own = passes_after_all members (Pass barrier m) earlier rule.passes arrivals x below in
     let same : own.0 ≡ tag = (same_arrivals members earlier arrivals).tags barrier x m own.0 tag own.1 stands in
     arrived_left members barrier x own.0 earlier all own.1 share (rw same lt)
 closes_shares members _ earlier rule all = tt

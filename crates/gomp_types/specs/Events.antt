@@ -118,11 +118,11 @@ turn share (HandOn i member piece ∷ earlier) = if i == share then turn share e
 turn share (_ ∷ earlier) = turn share earlier
 
 -- the iteration after that of the member's last ordered part, in the share that it entered last; 0 before its first
-abbrev pub parted : ℕ → List Event → ℕ
-parted m [] = 0
-parted m (Enter share member shape ∷ earlier) = if member == m then 0 else parted m earlier
-parted m (Part share member iteration ∷ earlier) = if member == m then iteration + 1 else parted m earlier
-parted m (_ ∷ earlier) = parted m earlier
+abbrev pub next_part : ℕ → List Event → ℕ
+next_part m [] = 0
+next_part m (Enter share member shape ∷ earlier) = if member == m then 0 else next_part m earlier
+next_part m (Part share member iteration ∷ earlier) = if member == m then iteration + 1 else next_part m earlier
+next_part m (_ ∷ earlier) = next_part m earlier
 
 -- whether the member is in an ordered part
 abbrev pub in_part : ℕ → List Event → Bool

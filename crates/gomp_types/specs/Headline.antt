@@ -3,7 +3,7 @@ use Rattle.std.specs.Prelude.{ℕ, List}
 use Rattle.gomp_types.specs.declared.event.Event.{Event}
 use Rattle.gomp_types.specs.Deals.{schedule}
 use Rattle.gomp_types.specs.Rules.{Always}
-use Rattle.gomp_types.specs.Laws.{TakenOnce, WholeWhereOver, SameShares, OrderedLaws, PutsOnce, GetsWhatWasPut, LeavesWithWords, SameArrivals, ArrivesOnce, ArrivesOutside, HappensUnbroken, HappensInside, TellsShares, PassesLast, ClosesShares}
+use Rattle.gomp_types.specs.Laws.{TakenOnce, WholeWhereOver, SameShares, OrderedLaws, PutsOnce, GetsWhatWasPut, LeavesWithWords, SameArrivals, ArrivesOnce, ArrivesOutside, HappensUnbroken, HappensInside, TellsShares, PassesAfterAll, ClosesShares}
 
 pub record Headline (members : ℕ) (h : List Event) : Type 0 where
   -- no iteration, section or single is taken twice
@@ -28,6 +28,6 @@ pub record Headline (members : ℕ) (h : List Event) : Type 0 where
   pub unbroken : Always HappensUnbroken h
   pub in_region : Always HappensInside h
   -- no member passes a barrier before all arrived
-  pub passes : Always (PassesLast members) h
+  pub passes : Always (PassesAfterAll members) h
   -- nor before all have left the shares that it entered before it
   pub closes : Always (ClosesShares members) h

@@ -58,12 +58,12 @@ WholeWhereOver members h =
     (share m : ℕ) (shape : Shape) → Happened (Enter share m shape) h → IsOver members share h → (k : ℕ) → k < shape.trips → times_taken share k h ≡ 1
 
 -- a member of the team enters its shares one by one, by their numbers, each after it has left those before
-abbrev pub EntersInTurn : ℕ → Event → List Event → Type 0
-EntersInTurn members (Enter share m shape) earlier =
+abbrev pub EntersOneByOne : ℕ → Event → List Event → Type 0
+EntersOneByOne members (Enter share m shape) earlier =
     (m < members)
     × (share ≡ entered m earlier)
     × ((before : ℕ) (other : Shape) → Happened (Enter before m other) earlier → Happened (End before m) earlier)
-EntersInTurn members _ earlier = Unit {0}
+EntersOneByOne members _ earlier = Unit {0}
 
 -- it leaves a share that it has entered, and not left before
 abbrev pub EndsInside : Event → List Event → Type 0
@@ -78,7 +78,7 @@ EntersWithRoom members _ earlier = Unit {0}
 -- Same shares (OpenMP API 5.2, chapter 11: every member meets the same work-shares in the same order).
 pub record SameShares (members : ℕ) (h : List Event) : Type 0 where
   -- a member goes through them one by one
-  pub turns : Always (EntersInTurn members) h
+  pub one_by_one : Always (EntersOneByOne members) h
   pub ends : Always EndsInside h
   -- the members' i-th shares are of one shape
   pub shapes : (share m n : ℕ) (one other : Shape) → Happened (Enter share m one) h → Happened (Enter share n other) h → one ≡ other
@@ -86,15 +86,15 @@ pub record SameShares (members : ℕ) (h : List Event) : Type 0 where
   pub room : Always (EntersWithRoom members) h
 
 -- a member arrives at and passes its barriers one by one, by their numbers
-abbrev pub BarriersInTurn : Event → List Event → Type 0
-BarriersInTurn (Arrive barrier m tag) earlier = barrier ≡ passed m earlier
-BarriersInTurn (Pass barrier m) earlier = barrier ≡ passed m earlier
-BarriersInTurn _ earlier = Unit {0}
+abbrev pub BarriersOneByOne : Event → List Event → Type 0
+BarriersOneByOne (Arrive barrier m tag) earlier = barrier ≡ passed m earlier
+BarriersOneByOne (Pass barrier m) earlier = barrier ≡ passed m earlier
+BarriersOneByOne _ earlier = Unit {0}
 
 -- Same arrivals (OpenMP API 5.2, section 15.3: every member meets the same barriers in the same order).
 pub record SameArrivals (h : List Event) : Type 0 where
   -- a member goes through them one by one
-  pub turns : Always BarriersInTurn h
+  pub one_by_one : Always BarriersOneByOne h
   -- and all members arrive at a barrier with one tag
   pub tags : (barrier m n : ℕ) (one other : Tag) → Happened (Arrive barrier m one) h → Happened (Arrive barrier n other) h → one ≡ other
 
@@ -109,7 +109,7 @@ abbrev pub ArrivesOutside : Event → List Event → Type 0
 ArrivesOutside (Arrive barrier m tag) earlier = (share : ℕ) (shape : Shape) → Happened (Enter share m shape) earlier → Happened (End share m) earlier
 ArrivesOutside _ earlier = Unit {0}
 
--- Closed: where a member passes a barrier every share that it entered before it arrived there is over; so, where the share is whole, all of it was taken.
+-- Closed: where a member passes a barrier, every share that it entered before it arrived there is over; so, since an over share is whole, all of it was taken.
 abbrev pub ClosesShares : ℕ → Event → List Event → Type 0
 ClosesShares members (Pass barrier m) earlier =
     (tag : Tag) → Happened (Arrive barrier m tag) earlier → (share : ℕ) → share < tag.shares → IsOver members share earlier
@@ -129,9 +129,9 @@ TellsShares (Arrive barrier m tag) earlier = tag.shares ≡ entered m earlier
 TellsShares _ earlier = Unit {0}
 
 -- Barrier law (OpenMP API 5.2, section 15.3.1): a member passes a barrier only where every member has arrived.
-abbrev pub PassesLast : ℕ → Event → List Event → Type 0
-PassesLast members (Pass barrier m) earlier = (x : ℕ) → x < members → (tag : Tag) × Happened (Arrive barrier x tag) earlier
-PassesLast members _ earlier = Unit {0}
+abbrev pub PassesAfterAll : ℕ → Event → List Event → Type 0
+PassesAfterAll members (Pass barrier m) earlier = (x : ℕ) → x < members → (tag : Tag) × Happened (Arrive barrier x tag) earlier
+PassesAfterAll members _ earlier = Unit {0}
 
 -- Ordered (OpenMP API 5.2, section 15.10.2): ordered parts of a loop begin in the order of their iterations.
 abbrev pub PartsRise : Event → List Event → Type 0
@@ -215,4 +215,4 @@ pub record ShareLaws (deal : Deal) (members : ℕ) (h : List Event) : Type 0 whe
 -- what the arrivals alone keep, however they are kept
 pub record ArrivalLaws (members : ℕ) (h : List Event) : Type 0 where
   pub same_arrivals : SameArrivals h
-  pub passes : Always (PassesLast members) h
+  pub passes : Always (PassesAfterAll members) h

@@ -18,7 +18,7 @@ use Rattle.gomp_types.specs.Sections.{sections_shape, sections_tests}
 use Rattle.gomp_types.specs.Singles.{single_shape}
 use Rattle.gomp_types.specs.Shapes.{is_loop, is_sections, is_copy, same_shape, same_tag, same_end}
 use Rattle.gomp_types.specs.Pieces.{shape_of}
-use Rattle.gomp_types.specs.Events.{entered, open_share, is_inside, in_kind, has_drained, last_piece, parted, in_part, shape_at, passed, tag_at, has_left_region, clash_of}
+use Rattle.gomp_types.specs.Events.{entered, open_share, is_inside, in_kind, has_drained, last_piece, next_part, in_part, shape_at, passed, tag_at, has_left_region, clash_of}
 use Rattle.gomp_types.specs.Ordered.{is_ordered, comes_next}
 use Rattle.gomp_types.specs.Record.{tag_with}
 
@@ -94,7 +94,7 @@ call_tests limits m (OrderedStart value) h =
     (not (in_kind is_loop (open_share m h)), OutsideShare)
     ∷ (in_part m h, InOrdered)
     ∷ (not (is_ordered (open_share m h)), NotOrdered)
-    ∷ (not (comes_next (open_share m h) (last_piece m h) (parted m h) value), OrderedBackwards)
+    ∷ (not (comes_next (open_share m h) (last_piece m h) (next_part m h) value), OrderedBackwards)
     ∷ []
 call_tests limits m OrderedEnd h = (not (in_part m h), NotInside) ∷ []
 call_tests limits m Barrier h = (is_inside m h, InsideShare) ∷ arrival_tests BarrierArrival m h

@@ -5,7 +5,7 @@ use Rattle.gomp_types.specs.declared.event.Tag.{Tag}
 use Rattle.gomp_types.specs.declared.event.Event.{Event}
 use Rattle.gomp_types.specs.declared.event.Event.TheVariants.{Enter, Take, Drained, End, HandOn, Part, PartEnd, Put, Got, Arrive, Pass}
 use Rattle.gomp_types.specs.Shapes.{is_copy, is_loop}
-use Rattle.gomp_types.specs.Events.{entered, open_share, last_piece, turn, parted, in_part, shape_at, has_room, payload_at, has_piece, has_words, passed, arrival, tag_at, barrier_met}
+use Rattle.gomp_types.specs.Events.{entered, open_share, last_piece, turn, next_part, in_part, shape_at, has_room, payload_at, has_piece, has_words, passed, arrival, tag_at, barrier_met}
 use Rattle.gomp_types.specs.Pieces.{Tiles, pieces_of}
 use Rattle.gomp_types.specs.Ordered.{has_turn}
 use Rattle.gomp_types.specs.Deals.{Deal, IsDealt, next_for, schedule}
@@ -63,7 +63,7 @@ pub record MayPart (members share m iteration : ℕ) (earlier : List Event) : Ty
   pub piece : last_piece m earlier ≡ Some (low, high)
   pub from : low ≤ iteration
   pub before : iteration < high
-  pub after : parted m earlier ≤ iteration
+  pub after : next_part m earlier ≤ iteration
 
 -- and it ends the part that it is in
 pub record MayEndPart (share m : ℕ) (earlier : List Event) : Type 0 where

@@ -8,7 +8,7 @@ use Rattle.gomp_runner.proofs.answer.answer_steps.Goals as goal
 
 pub returns-in-Ok-run : goal.returns-in-Ok-run
 returns-in-Ok-run c =
-    let read : steps_of c.args.text.now ≡ Ok (c.in-Ok.found.0, c.in-Ok.found.1.items) = c.in-Ok.ensures in
+    let read : steps_of c.args.text.now ≡ Ok (c.in-Ok.found.0, c.in-Ok.found.1.items) = c.in-Ok.ensures.steps in
     let size : (1 ≤ c.team_size.result) × (c.team_size.result ≤ 64) = size_by c.team_size.result (λ wrong. let refused = c.in-Ok-run.ensures.size.1 wrong in absurd (cc)) in
     let same : c.in-Ok.found.0 ≡ c.team_size.result = same_count c.team_size.result c.in-Ok.found.0 c.team_size.ensures size.1 in
     let fine : is_size c.team_size.result ≡ true = is_size_of c.team_size.result size in

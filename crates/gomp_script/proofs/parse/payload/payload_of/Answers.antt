@@ -14,7 +14,7 @@ returns-in_err-payload_word c =
     let fault : payload_word c.in-Some.word.now ≡ Err why = sym c.payload_word.ensures ∙ c.in_err-payload_word.was in
     let given : c.from_residual.result ≡ Err why = search rules in
     let told = word_fault c.loop-i.payload c.loop-i._i c.in-Some.word.now (words_of c.in-Some.after.now) why c.loop-i-test.true fault in
-    given ∙ sym told ∙ (rw c.in-Some.ensures at c.loop-i.invariant.read)
+    given ∙ sym told ∙ (rw c.in-Some.ensures.words at c.loop-i.invariant.read)
 
 pub loop-i-preserved : goal.loop-i-preserved
 loop-i-preserved c = record { count = grind (arith, common_steps); read = grind (arith, word_kept) }
