@@ -7,7 +7,7 @@ ghost use Rattle.gomp_types.specs.Record.{events};
 ghost use Rattle.gomp_types.specs.Causes.{Caused};
 ghost use Rattle.gomp_types.specs.Deals.{schedule};
 ghost use Rattle.gomp_types.specs.Rules.{Always};
-ghost use Rattle.gomp_types.specs.Laws.{TakenOnce, WholeWhereOver, OrderedLaws, PutsOnce, GetsWhatWasPut, LeavesWithWords, SameShares, SameArrivals, ArrivesOnce, ArrivesOutside, HappensUnbroken, HappensInside, TellsShares, PassesAfterAll, ClosesShares};
+ghost use Rattle.gomp_types.specs.Laws.{TakenOnce, TakesItsOwn, WholeWhereOver, OrderedLaws, PutsOnce, GetsWhatWasPut, LeavesWithWords, SameShares, SameArrivals, ArrivesOnce, ArrivesOutside, HappensUnbroken, HappensInside, TellsShares, PassesAfterAll, ClosesShares};
 ghost use Rattle.gomp_core.specs.Stands.{Stands, IsTeamSize, terms_of, standard_terms, NoneForMemory};
 ghost use Rattle.gomp_core.specs.Resolved.{record_of};
 
@@ -46,6 +46,7 @@ pub fn run<S: Shares + Drop>(
     ensures caused { IfOk result (λ ran. Caused (standard_terms count icv) (record_of icv steps.items ran.1.items)) }
     ensures stands { IfOk result (λ ran. Stands S.stands S.members ran.0 (record_of icv steps.items ran.1.items)) }
     ensures taken_once { IfOk result (λ ran. TakenOnce (schedule count) (events (record_of icv steps.items ran.1.items))) }
+    ensures owned { IfOk result (λ ran. Always (TakesItsOwn count) (events (record_of icv steps.items ran.1.items))) }
     ensures whole { IfOk result (λ ran. WholeWhereOver count (events (record_of icv steps.items ran.1.items))) }
     ensures ordered { IfOk result (λ ran. OrderedLaws count (events (record_of icv steps.items ran.1.items))) }
     ensures put_once { IfOk result (λ ran. Always PutsOnce (events (record_of icv steps.items ran.1.items))) }

@@ -9,6 +9,7 @@ pub mod Owned
 pub mod Dealing
 pub mod Compared
 pub mod SharesKeep
+pub mod Assigned
 pub mod Silence
 pub mod SinglesKeep
 pub mod CopiesKeep

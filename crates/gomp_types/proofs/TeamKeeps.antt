@@ -9,11 +9,12 @@ use Rattle.gomp_types.specs.declared.event.Event.TheVariants.{Enter, Take, Drain
 use Rattle.gomp_types.specs.Events.{entered, arrival, tag_at}
 use Rattle.gomp_types.specs.Deals.{schedule}
 use Rattle.gomp_types.specs.Rules.{Always, ShareRule, ArrivalRule, TeamRule}
-use Rattle.gomp_types.specs.Laws.{Happened, PutsOnce, GetsWhatWasPut, LeavesWithWords, ArrivesOutside, ClosesShares, HappensUnbroken, HappensInside, BarriersOneByOne, PassesAfterAll, SameArrivals, ArrivesOnce, TellsShares, ArrivalLaws}
+use Rattle.gomp_types.specs.Laws.{Happened, TakesItsOwn, PutsOnce, GetsWhatWasPut, LeavesWithWords, ArrivesOutside, ClosesShares, HappensUnbroken, HappensInside, BarriersOneByOne, PassesAfterAll, SameArrivals, ArrivesOnce, TellsShares, ArrivalLaws}
 use Rattle.gomp_types.specs.Headline.{Headline}
 use Rattle.gomp_types.proofs.Booleans.{tells, is_equal, same_number, and_left, and_right, some_of, every_tells}
 use Rattle.gomp_types.proofs.Silence.{InTime, unbroken_holds, inside_holds}
 use Rattle.gomp_types.proofs.SharesKeep.{always, shares_keep, left_before}
+use Rattle.gomp_types.proofs.Assigned.{takes_its_own}
 use Rattle.gomp_types.proofs.OrderedKeep.{ordered_keep}
 use Rattle.gomp_types.proofs.CopiesKeep.{puts_once, gets_what_was_put, leaves_with_words}
 
@@ -181,6 +182,7 @@ team_keeps members h all in_time =
     let copies = copies_keep members h all in
     let arrivals = arrivals_keep members h (arrival_rules members h all) in record {
       taken_once = shares.taken_once;
+      owned = always (ShareRule (schedule members) members) (TakesItsOwn members) (takes_its_own members) h (share_rules members h all);
       whole = shares.whole;
       ordered = ordered_keep members h (share_rules members h all);
       puts = copies.puts;

@@ -3,11 +3,13 @@ use Rattle.std.specs.Prelude.{ℕ, List}
 use Rattle.gomp_types.specs.declared.event.Event.{Event}
 use Rattle.gomp_types.specs.Deals.{schedule}
 use Rattle.gomp_types.specs.Rules.{Always}
-use Rattle.gomp_types.specs.Laws.{TakenOnce, WholeWhereOver, SameShares, OrderedLaws, PutsOnce, GetsWhatWasPut, LeavesWithWords, SameArrivals, ArrivesOnce, ArrivesOutside, HappensUnbroken, HappensInside, TellsShares, PassesAfterAll, ClosesShares}
+use Rattle.gomp_types.specs.Laws.{TakenOnce, TakesItsOwn, WholeWhereOver, SameShares, OrderedLaws, PutsOnce, GetsWhatWasPut, LeavesWithWords, SameArrivals, ArrivesOnce, ArrivesOutside, HappensUnbroken, HappensInside, TellsShares, PassesAfterAll, ClosesShares}
 
 pub record Headline (members : ℕ) (h : List Event) : Type 0 where
   -- no iteration, section or single is taken twice
   pub taken_once : TakenOnce (schedule members) h
+  -- a member takes of a static loop only its own pieces
+  pub owned : Always (TakesItsOwn members) h
   -- a loop or sections construct that all members end had every iteration or section taken
   pub whole : WholeWhereOver members h
   -- ordered parts of a loop run in the order of its iterations, one after another

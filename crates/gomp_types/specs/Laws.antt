@@ -1,11 +1,11 @@
 -- The laws of a team's events, each clause in the words of the promise that it keeps.
-use Rattle.std.specs.Prelude.{ℕ, ◌+◌, ◌<◌, ◌≤◌, ◌≡◌, slice_get, List, [], ◌∷◌, Some, None, true, false, ◌⊎◌, take}
+use Rattle.std.specs.Prelude.{ℕ, ◌+◌, ◌%◌, ◌<◌, ◌≤◌, ◌≡◌, slice_get, List, [], ◌∷◌, Some, None, true, false, ◌⊎◌, take}
 use Rattle.gomp_types.specs.declared.shape.Shape.{Shape}
 use Rattle.gomp_types.specs.declared.refusal.Place.{Place}
 use Rattle.gomp_types.specs.declared.event.Tag.{Tag}
 use Rattle.gomp_types.specs.declared.event.Event.{Event}
 use Rattle.gomp_types.specs.declared.event.Event.TheVariants.{Enter, Take, End, HandOn, Part, PartEnd, Put, Got, Arrive, Pass, Break}
-use Rattle.gomp_types.specs.Shapes.{is_copy}
+use Rattle.gomp_types.specs.Shapes.{is_copy, is_static}
 use Rattle.gomp_types.specs.Pieces.{pieces_of}
 use Rattle.gomp_types.specs.Events.{member_of, entered, last_piece, turn, open_part, passed, has_left_region, times_taken}
 use Rattle.gomp_types.specs.Deals.{Deal, taken_in, takes_in, next_for}
@@ -51,6 +51,12 @@ pub record TakenOnce (deal : Deal) (h : List Event) : Type 0 where
   pub left : Always (LeavesNothing deal) h
   -- the takes from a queue are its pieces 0, 1, 2 and on
   pub order : (share m q : ℕ) (shape : Shape) → Happened (Enter share m shape) h → takes_in (deal.queue_of shape) share q h ≡ take (taken_in (deal.queue_of shape) share q h) (deal.queue shape q)
+
+-- Own pieces (OpenMP API 5.2, section 11.5.3): the pieces of a static loop are assigned to the members in turn, and a member takes only those whose numbers count round to it.
+abbrev pub TakesItsOwn : ℕ → Event → List Event → Type 0
+TakesItsOwn members (Take share m low high) earlier =
+    (shape : Shape) → Happened (Enter share m shape) earlier → is_static shape.kind ≡ true → (number : ℕ) × (slice_get (pieces_of members shape) number ≡ Some (low, high)) × (number % members ≡ m)
+TakesItsOwn members _ earlier = Unit {0}
 
 -- Whole: a share that every member has left had each of its iterations taken, once.
 abbrev pub WholeWhereOver : ℕ → List Event → Type 0

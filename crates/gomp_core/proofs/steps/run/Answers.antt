@@ -81,6 +81,9 @@ the_headline g c = c.headline.ensures (standard_terms c.args.count c.args.icv) (
 pub returns-in-None-clause-taken_once : goal.returns-in-None-clause-taken_once
 returns-in-None-clause-taken_once g c = (the_headline g c).taken_once
 
+pub returns-in-None-clause-owned : goal.returns-in-None-clause-owned
+returns-in-None-clause-owned g c = (the_headline g c).owned
+
 pub returns-in-None-clause-whole : goal.returns-in-None-clause-whole
 returns-in-None-clause-whole g c = (the_headline g c).whole
 
