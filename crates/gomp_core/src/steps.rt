@@ -7,7 +7,7 @@ ghost use Rattle.gomp_types.specs.Record.{events};
 ghost use Rattle.gomp_types.specs.Causes.{Caused};
 ghost use Rattle.gomp_types.specs.Deals.{schedule};
 ghost use Rattle.gomp_types.specs.Rules.{Always};
-ghost use Rattle.gomp_types.specs.Laws.{TakenOnce, TakesItsOwn, WholeWhereOver, OrderedLaws, PutsOnce, GetsWhatWasPut, LeavesWithWords, SameShares, SameArrivals, ArrivesOnce, ArrivesOutside, HappensUnbroken, HappensInside, TellsShares, PassesAfterAll, ClosesShares};
+ghost use Rattle.gomp_types.specs.Laws.{TakenOnce, TakesItsOwn, WholeWhereOver, OrderedLaws, LeavesHandedOn, PutsOnce, GetsWhatWasPut, LeavesWithWords, SameShares, SameArrivals, ArrivesOnce, ArrivesOutside, HappensUnbroken, HappensInside, TellsShares, PassesAfterAll, ClosesShares};
 ghost use Rattle.gomp_core.specs.Stands.{Stands, IsTeamSize, terms_of, standard_terms, NoneForMemory};
 ghost use Rattle.gomp_core.specs.Resolved.{record_of};
 
@@ -22,12 +22,13 @@ use std::alloc::Global;
 /// asked a loop whose schedule is left to the control variables has theirs.
 ///
 /// **The headline**, of all that these steps and replies give: for every team size and list of
-/// steps no iteration, section or single is taken twice; a loop or sections construct that all members
-/// end had every iteration or section taken, and a single that all members left was executed by one
-/// of them; ordered parts of a loop run in the order of its iterations; the words that a member copies
-/// are those that the executor of the single put; all members go through the same constructs in the
-/// same order; and no member passes a barrier before all arrived, and have left the constructs
-/// before it.
+/// steps no iteration, section or single is taken twice, and of a static loop a member takes only its
+/// own pieces; a loop or sections construct that all members end had every iteration or section
+/// taken, and a single that all members left was executed by one of them; ordered parts of a loop run
+/// in the order of its iterations, and a member that leaves it has handed all its pieces on; the words
+/// that a member copies are those that the executor of the single put; all members go through the
+/// same constructs in the same order; and no member passes a barrier before all arrived, and have
+/// left the constructs before it.
 ///
 /// Refused with `BadTeam` (E38) where the size is not 1 to 64, and with `NoMemory` (E37) where the
 /// memory of the team or of the replies is refused; then the steps are dropped and nothing is kept.
@@ -49,6 +50,7 @@ pub fn run<S: Shares + Drop>(
     ensures owned { IfOk result (λ ran. Always (TakesItsOwn count) (events (record_of icv steps.items ran.1.items))) }
     ensures whole { IfOk result (λ ran. WholeWhereOver count (events (record_of icv steps.items ran.1.items))) }
     ensures ordered { IfOk result (λ ran. OrderedLaws count (events (record_of icv steps.items ran.1.items))) }
+    ensures all_handed_on { IfOk result (λ ran. Always (LeavesHandedOn count) (events (record_of icv steps.items ran.1.items))) }
     ensures put_once { IfOk result (λ ran. Always PutsOnce (events (record_of icv steps.items ran.1.items))) }
     ensures given_what_was_put { IfOk result (λ ran. Always GetsWhatWasPut (events (record_of icv steps.items ran.1.items))) }
     ensures none_without_words { IfOk result (λ ran. Always LeavesWithWords (events (record_of icv steps.items ran.1.items))) }

@@ -1,6 +1,6 @@
 -- What a call and its reply add keeps the rule of a team, and what is known while a wait is open.
-use Rattle.std.proofs.Common.{◌≡◌, ℕ, ◌+◌, ◌<◌, Bool, true, false, List, [], ◌∷◌, Option, Some, None, refl, ap, ◌∙◌, sym, arith, inl, inr}
-use Rattle.std.specs.Prelude.{◌==◌, ◌&&◌, ◌≢◌, ℤ, pos, zero, suc, not, is_some, ◌⊎◌}
+use Rattle.std.proofs.Common.{◌≡◌, ℕ, ◌+◌, ◌<◌, Bool, true, false, List, ◌∷◌, Option, Some, None, refl, ap, ◌∙◌, sym, arith, inl, inr}
+use Rattle.std.specs.Prelude.{◌&&◌, ◌≢◌, ℤ, pos, zero, suc, not, is_some, ◌⊎◌}
 use Rattle.std.proofs.lemmas.Bool.{cases_Bool}
 use Rattle.gomp_types.specs.declared.call.Call.{Call}
 use Rattle.gomp_types.specs.declared.call.Call.TheVariants.{LoopStart, LoopNext, LoopEnd, LoopEndNowait, SectionsStart, SectionsNext, SectionsEnd, SectionsEndNowait, SingleStart, SingleCopyStart, SingleCopyEnd, OrderedStart, OrderedEnd, Barrier, RegionEnd, Resume, Stop}
@@ -21,25 +21,27 @@ use Rattle.gomp_types.specs.Sections.{sections_shape}
 use Rattle.gomp_types.specs.Singles.{single_shape}
 use Rattle.gomp_types.specs.Shapes.{is_loop, is_sections, is_copy}
 use Rattle.gomp_types.specs.Values.{iteration_at}
-use Rattle.gomp_types.specs.Events.{arrival, has_piece, has_words, entered, open_share, open_number, share_number, in_kind, last_piece, turn, next_part, in_part, payload_at, shape_at, has_room, passed, tag_at, barrier_met}
+use Rattle.gomp_types.specs.Events.{arrival, has_words, holds_piece, entered, open_share, open_number, share_number, in_kind, last_piece, turn, next_part, in_part, payload_at, shape_at, has_room, passed, tag_at, barrier_met}
 use Rattle.gomp_types.specs.Record.{Record, events, added, meant, is_resume, waits_of, waits_after, arrival_kind, ends_share, tag_with, share_left, arrived, since_begun, section_taken, part_in, pass_added, refusal_added, place_of}
 use Rattle.gomp_types.specs.Deals.{next_for, schedule}
 use Rattle.gomp_types.specs.Refusals.{is_executor}
 use Rattle.gomp_types.specs.Ordered.{has_turn, is_ordered, must_wait, comes_next}
 use Rattle.gomp_types.specs.Replies.{IsChunk, DealsOut, DealsSections, DealsNext, BeginsPart, Starts, Executes, Copies, Awaits, is_met, MayReply}
 use Rattle.gomp_types.specs.Causes.{Terms, MayAnswer}
-use Rattle.gomp_types.specs.Rules.{Always, TeamRule, HasNone, MayLeave, MayArriveIn, MayEnter, MayTake, MayHandOn, MayEndPart, MayPut}
+use Rattle.gomp_types.specs.Rules.{Always, TeamRule, HasNone, MayLeave, MayArriveIn, MayEnter, MayTakeIn, HasNoneIn, MayHandOn, MayEndPart, MayPut}
 use Rattle.gomp_types.proofs.IterationValues.{iteration_at-value_at}
-use Rattle.gomp_types.proofs.Booleans.{is_equal, same_number, and_left, and_right, not_false, or_tells}
+use Rattle.gomp_types.proofs.Booleans.{same_number, and_left, and_right, not_false, not_both}
 use Rattle.gomp_types.proofs.Compared.{same_shapes, same_tags}
 use Rattle.gomp_types.proofs.Dealing.{schedule_deals, shape_tiles}
 use Rattle.gomp_types.proofs.SharesKeep.{inside, drained_none}
-use Rattle.gomp_types.proofs.PartsKeep.{loop_is_loop, parts_in_loop, apart_by, sections_away, value_in_rest}
+use Rattle.gomp_types.proofs.PartsKeep.{loop_is_loop, ordered_loop, parts_in_loop, apart_by, no_single_loop, sections_away, value_in_rest}
 use Rattle.gomp_types.proofs.CallTests.{copy_is_single, Wordless, MayStart, IsDone, Apart, Leaving, Arriving, Beginning, Tested, Pending, Fresh, tested}
 use Rattle.gomp_types.proofs.Places.{SamePlace, same_refused, ByCall, puts, ends_step, added_keeps}
 use Rattle.gomp_types.proofs.WordsToCome.{WordsToCome, PutsNone, still_to_come, put_and_left}
 use Rattle.gomp_types.proofs.SinglesKeep.{single_is_done}
-use Rattle.gomp_types.proofs.TeamKeeps.{share_rules}
+use Rattle.gomp_types.proofs.CopiesKeep.{takes_below}
+use Rattle.gomp_types.proofs.TeamShares.{share_rules}
+use Rattle.gomp_types.proofs.HandedOn.{told_holds_none}
 
 -- What a call has begun keeps the rule
 
@@ -47,6 +49,13 @@ use Rattle.gomp_types.proofs.TeamKeeps.{share_rules}
 abbrev Worded : Bool → ℕ → List Event → Type 0
 Worded false m h = Unit {0}
 Worded true m h = in_kind is_copy (open_share m h) ≡ true → has_words (open_number m h) m h ≡ true
+
+-- nor does a member hold a piece of an ordered loop of which nothing is left for it
+done_holds_none : (members m : ℕ) (share : ℕ × Shape) (h : List Event) → open_share m h ≡ Some share → IsDone m h → Always (TeamRule members) h → share.1.ordered ≡ true → holds_piece m h ≡ false
+done_holds_none members m share h at done all ordered = elim done [
+  | inl drained ↦ told_holds_none members m share.0 share.1 h all at ordered drained
+  | inr piece ↦ absurd (not_both (is_loop share.1.kind) (ordered_loop (schedule members) members m share.0 share.1 h (share_rules members h all) at ordered) (no_single_loop share.1.kind (rw at at piece.0)))
+]
 
 leave_rule : (members m : ℕ) (h : List Event) (own : Option (ℕ × Shape)) → open_share m h ≡ own → is_some own ≡ true → IsDone m h → Apart m h → (in_kind is_copy own ≡ true → has_words (share_number own) m h ≡ true) → Always (TeamRule members) h →
     MayLeave members (share_number own) m h
@@ -62,6 +71,7 @@ leave_rule members m h (Some share) at there done away words all = record {
     apart = elim away [ inl e ↦ e | inr e ↦ apart_by (schedule members) members m h (share_rules members h all) e ];
   };
   words = words;
+  handed_on = done_holds_none members m share h at done all;
 }
 
 arrive_rule : (members m : ℕ) (ends : Bool) (kind : Arrival) (h after : List Event) → m < members → Arriving ends (Some kind) m h → passed m after ≡ passed m h → entered m after ≡ entered m h → open_share m after ≡ None →
@@ -108,6 +118,9 @@ since_keeps false members m call h lt beginning all = begun_keeps members m (end
 open_entered : (m i : ℕ) (shape : Shape) (h : List Event) → open_share m (Enter i m shape ∷ h) ≡ Some (i, shape)
 open_entered m i shape h = rw (same_number m) refl
 
+held_entered : (m i : ℕ) (shape : Shape) (h : List Event) → holds_piece m (Enter i m shape ∷ h) ≡ false
+held_entered m i shape h = rw (same_number m) refl
+
 part_entered : (m i : ℕ) (shape : Shape) (h : List Event) → in_part m (Enter i m shape ∷ h) ≡ false
 part_entered m i shape h = rw (same_number m) refl
 
@@ -140,35 +153,41 @@ start_keeps : (again : Bool) (members m : ℕ) (loop : LoopDesc) (reply : Reply)
 start_keeps again members m loop Wait h known may all = since_keeps again members m (LoopStart loop) h known.member known.beginning all
 start_keeps again members m loop (Chunk first count) h known may all = (
   record {
-    shape = shape_of loop;
-    inside = open_entered m (entered m h) (shape_of loop) h;
-    next = chunk_is (shape_of loop) (next_for (schedule members) (shape_of loop) (entered m h) m h) first count known.ready.2 may.1;
-    apart = part_entered m (entered m h) (shape_of loop) h;
+    takes = record {
+      shape = shape_of loop;
+      inside = open_entered m (entered m h) (shape_of loop) h;
+      next = chunk_is (shape_of loop) (next_for (schedule members) (shape_of loop) (entered m h) m h) first count known.ready.2 may.1;
+      apart = part_entered m (entered m h) (shape_of loop) h;
+    };
+    handed_on = λ ordered. held_entered m (entered m h) (shape_of loop) h;
   },
   (enter_rule members m (shape_of loop) h known.ready (λ e. loop_is_loop loop.sched loop.chunk) may.0, all),
 )
 start_keeps again members m loop NoChunk h known may all = (
-  record { shape = shape_of loop; inside = open_entered m (entered m h) (shape_of loop) h; none = may.1; apart = part_entered m (entered m h) (shape_of loop) h },
+  record {
+    done = record { shape = shape_of loop; inside = open_entered m (entered m h) (shape_of loop) h; none = may.1; apart = part_entered m (entered m h) (shape_of loop) h };
+    handed_on = λ ordered. held_entered m (entered m h) (shape_of loop) h;
+  },
   (enter_rule members m (shape_of loop) h known.ready (λ e. loop_is_loop loop.sched loop.chunk) may.0, all),
 )
 start_keeps again members m loop _ h known may all = absurd may.1
 
 -- a section that was answered
-section_keeps : (members m share : ℕ) (shape : Shape) (k : ℕ) (h : List Event) → open_share m h ≡ Some (share, shape) → in_part m h ≡ false → DealsSections members m (Some (share, shape)) (Section k) h → Always (TeamRule members) h →
+section_keeps : (members m share : ℕ) (shape : Shape) (k : ℕ) (h : List Event) → open_share m h ≡ Some (share, shape) → in_part m h ≡ false → (shape.ordered ≡ true → holds_piece m h ≡ false) → DealsSections members m (Some (share, shape)) (Section k) h → Always (TeamRule members) h →
     Always (TeamRule members) (section_taken k share m h)
-section_keeps members m share shape zero h at apart may all = (record { shape = shape; inside = at; none = may; apart = apart }, all)
-section_keeps members m share shape (suc k) h at apart may all = (record { shape = shape; inside = at; next = may; apart = apart }, all)
+section_keeps members m share shape zero h at apart held may all = (record { done = record { shape = shape; inside = at; none = may; apart = apart }; handed_on = held }, all)
+section_keeps members m share shape (suc k) h at apart held may all = (record { takes = record { shape = shape; inside = at; next = may; apart = apart }; handed_on = held }, all)
 
 sections_keep : (again : Bool) (members m count : ℕ) (end_kind : EndKind) (reply : Reply) (h : List Event) → Tested again members m (SectionsStart count end_kind) h →
     Starts DealsSections members m (sections_shape count end_kind) reply h → Always (TeamRule members) h → Always (TeamRule members) (added again m (entered m h) reply (SectionsStart count end_kind) h)
 sections_keep again members m count end_kind Wait h known may all = since_keeps again members m (SectionsStart count end_kind) h known.member known.beginning all
 sections_keep again members m count end_kind (Section zero) h known may all =
     let shape = sections_shape count end_kind in
-    section_keeps members m (entered m h) shape zero (Enter (entered m h) m shape ∷ h) (open_entered m (entered m h) shape h) (part_entered m (entered m h) shape h) may.1
+    section_keeps members m (entered m h) shape zero (Enter (entered m h) m shape ∷ h) (open_entered m (entered m h) shape h) (part_entered m (entered m h) shape h) (λ ordered. held_entered m (entered m h) shape h) may.1
     (enter_rule members m shape h known.ready (unordered shape refl) may.0, all)
 sections_keep again members m count end_kind (Section (suc k)) h known may all =
     let shape = sections_shape count end_kind in
-    section_keeps members m (entered m h) shape (suc k) (Enter (entered m h) m shape ∷ h) (open_entered m (entered m h) shape h) (part_entered m (entered m h) shape h) may.1
+    section_keeps members m (entered m h) shape (suc k) (Enter (entered m h) m shape ∷ h) (open_entered m (entered m h) shape h) (part_entered m (entered m h) shape h) (λ ordered. held_entered m (entered m h) shape h) may.1
     (enter_rule members m shape h known.ready (unordered shape refl) may.0, all)
 sections_keep again members m count end_kind _ h known may all = absurd may.1
 
@@ -176,13 +195,19 @@ sections_keep again members m count end_kind _ h known may all = absurd may.1
 
 -- a member that enters a single and is told that nothing is left
 single_drained : (members m : ℕ) (copies : Bool) (h : List Event) → next_for (schedule members) (single_shape copies) (entered m h) m h ≡ None →
-    HasNone (schedule members) (entered m h) m (Enter (entered m h) m (single_shape copies) ∷ h)
-single_drained members m copies h none = record { shape = single_shape copies; inside = open_entered m (entered m h) (single_shape copies) h; none = none; apart = part_entered m (entered m h) (single_shape copies) h }
+    HasNoneIn members (entered m h) m (Enter (entered m h) m (single_shape copies) ∷ h)
+single_drained members m copies h none = record {
+  done = record { shape = single_shape copies; inside = open_entered m (entered m h) (single_shape copies) h; none = none; apart = part_entered m (entered m h) (single_shape copies) h };
+  handed_on = λ ordered. held_entered m (entered m h) (single_shape copies) h;
+}
 
 -- one that takes its piece
 single_taken : (members m : ℕ) (copies : Bool) (h : List Event) → next_for (schedule members) (single_shape copies) (entered m h) m h ≡ Some (0, 1) →
-    MayTake (schedule members) (entered m h) m 0 1 (Enter (entered m h) m (single_shape copies) ∷ h)
-single_taken members m copies h next = record { shape = single_shape copies; inside = open_entered m (entered m h) (single_shape copies) h; next = next; apart = part_entered m (entered m h) (single_shape copies) h }
+    MayTakeIn members (entered m h) m 0 1 (Enter (entered m h) m (single_shape copies) ∷ h)
+single_taken members m copies h next = record {
+  takes = record { shape = single_shape copies; inside = open_entered m (entered m h) (single_shape copies) h; next = next; apart = part_entered m (entered m h) (single_shape copies) h };
+  handed_on = λ ordered. held_entered m (entered m h) (single_shape copies) h;
+}
 
 single_keeps : (again : Bool) (members m : ℕ) (reply : Reply) (h : List Event) → Tested again members m SingleStart h → Executes members m reply h → Always (TeamRule members) h →
     Always (TeamRule members) (added again m (entered m h) reply SingleStart h)
@@ -199,41 +224,16 @@ single_keeps again members m (Executor true) h known may all =
       inside = within;
       none = single_is_done members m (entered m h) shape after (share_rules members after rules) within refl (rw (same_number m) refl);
       apart = part_entered m (entered m h) shape h;
-    } in (record { done = done; words = λ copies. absurd (cc) }, rules)
+    } in (record { done = done; words = λ copies. absurd (cc); handed_on = λ ordered. absurd (cc) }, rules)
 single_keeps again members m (Executor false) h known may all =
     let shape = single_shape false in
     let told = single_drained members m false h may.1 in
     let done : HasNone (schedule members) (entered m h) m (Drained (entered m h) m ∷ Enter (entered m h) m shape ∷ h) =
     record { shape = shape; inside = open_entered m (entered m h) shape h; none = may.1; apart = part_entered m (entered m h) shape h } in (
-      record { done = done; words = λ copies. absurd (cc) },
+      record { done = done; words = λ copies. absurd (cc); handed_on = λ ordered. absurd (cc) },
       (told, (enter_rule members m shape h known.ready (unordered shape refl) may.0, all)),
     )
 single_keeps again members m _ h known may all = absurd may
-
--- a member has taken no piece of the share that it comes to next
-took_below : (members m i : ℕ) (h : List Event) → Always (TeamRule members) h → has_piece i m h ≡ true → i < entered m h
-took_below members m i [] all e = absurd (cc)
-took_below members m i (Enter share member shape ∷ earlier) all e =
-    let before = took_below members m i earlier all.1 e in
-    elim (cases_Bool (member == m)) [ inl own ↦ rw own (omega arith) | inr other ↦ rw other before ]
-took_below members m i (Take share member low high ∷ earlier) all e =
-    elim (or_tells (share == i && member == m) (has_piece i m earlier) e) [
-      | inl own ↦
-          let number = is_equal share i (and_left (share == i) (member == m) own) in
-          let who = is_equal member m (and_right (share == i) (member == m) own) in
-          let count = (inside (schedule members) members member share all.0.shape earlier (share_rules members earlier all.1) all.0.inside).2 in
-          let own_count : entered m earlier ≡ share + 1 = rw (← who) count in
-          omega (arith, number)
-      | inr before ↦ took_below members m i earlier all.1 before
-    ]
-took_below members m i (_ ∷ earlier) all e = took_below members m i earlier all.1 e
-
-takes_below : (members m : ℕ) (h : List Event) → Always (TeamRule members) h → has_piece (entered m h) m h ≡ false
-takes_below members m h all =
-    elim (cases_Bool (has_piece (entered m h) m h)) [
-      | inl e ↦ absurd (let less = took_below members m (entered m h) h all e in omega arith)
-      | inr e ↦ e
-    ]
 
 copy_keeps : (again : Bool) (members m : ℕ) (reply : Reply) (h : List Event) → Tested again members m SingleCopyStart h → Copies members m reply h → Always (TeamRule members) h →
     Always (TeamRule members) (added again m (entered m h) reply SingleCopyStart h)
@@ -243,8 +243,8 @@ copy_keeps again members m (Copied payload) h known may all =
     let told = single_drained members m true h may.1 in
     let done : HasNone (schedule members) (entered m h) m (Got (entered m h) m payload ∷ Drained (entered m h) m ∷ Enter (entered m h) m (single_shape true) ∷ h) =
     record { shape = single_shape true; inside = open_entered m (entered m h) (single_shape true) h; none = may.1; apart = part_entered m (entered m h) (single_shape true) h } in (
-      record { done = done; words = λ copies. rw (same_number (entered m h), same_number m) refl },
-      (record { shape = single_shape true; inside = open_entered m (entered m h) (single_shape true) h; other = takes_below members m h all; words = may.2 }, (told, (enter_rule members m (single_shape true) h known.ready (unordered (single_shape true) refl) may.0, all))),
+      record { done = done; words = λ copies. rw (same_number (entered m h), same_number m) refl; handed_on = λ ordered. absurd (cc) },
+      (record { shape = single_shape true; inside = open_entered m (entered m h) (single_shape true) h; other = takes_below (schedule members) members m h (share_rules members h all); words = may.2 }, (told, (enter_rule members m (single_shape true) h known.ready (unordered (single_shape true) refl) may.0, all))),
     )
 copy_keeps again members m _ h known may all = absurd may
 
@@ -268,13 +268,13 @@ next_keeps again members m (Chunk first count) h (Some share) at known may all =
     let moves = (inside (schedule members) members m share.0 share.1 h (share_rules members h all) at).3 in
     let next = chunk_is share.1 (next_for (schedule members) share.1 share.0 m h) first count moves may.1 in
     elim (cases_Bool share.1.ordered) [
-      | inl e ↦ rw (at, e) (record { shape = share.1; inside = at; next = next; apart = known.ready.apart }, (hand_rule members m share h at known.ready.apart e may.0, all))
-      | inr e ↦ rw (at, e) (record { shape = share.1; inside = at; next = next; apart = known.ready.apart }, all)
+      | inl e ↦ rw (at, e) (record { takes = record { shape = share.1; inside = at; next = next; apart = known.ready.apart }; handed_on = λ ordered. rw (same_number m) refl }, (hand_rule members m share h at known.ready.apart e may.0, all))
+      | inr e ↦ rw (at, e) (record { takes = record { shape = share.1; inside = at; next = next; apart = known.ready.apart }; handed_on = λ ordered. absurd (not_both share.1.ordered ordered e) }, all)
     ]
 next_keeps again members m NoChunk h (Some share) at known may all =
     elim (cases_Bool share.1.ordered) [
-      | inl e ↦ rw (at, e) (record { shape = share.1; inside = at; none = may.1; apart = known.ready.apart }, (hand_rule members m share h at known.ready.apart e may.0, all))
-      | inr e ↦ rw (at, e) (record { shape = share.1; inside = at; none = may.1; apart = known.ready.apart }, all)
+      | inl e ↦ rw (at, e) (record { done = record { shape = share.1; inside = at; none = may.1; apart = known.ready.apart }; handed_on = λ ordered. rw (same_number m) refl }, (hand_rule members m share h at known.ready.apart e may.0, all))
+      | inr e ↦ rw (at, e) (record { done = record { shape = share.1; inside = at; none = may.1; apart = known.ready.apart }; handed_on = λ ordered. absurd (not_both share.1.ordered ordered e) }, all)
     ]
 next_keeps again members m _ h (Some share) at known may all = absurd may.1
 
@@ -283,7 +283,9 @@ section_next_keeps : (again : Bool) (members m : ℕ) (reply : Reply) (h : List 
 section_next_keeps again members m reply h None at known may all = absurd may
 section_next_keeps again members m (Section k) h (Some share) at known may all =
     let apart = apart_by (schedule members) members m h (share_rules members h all) (rw at (sections_away (Some share) known)) in
-    rw at (section_keeps members m share.0 share.1 k h at apart may all)
+    let unheld : share.1.ordered ≡ true → holds_piece m h ≡ false = λ ordered.
+    absurd (not_both (is_loop share.1.kind) (ordered_loop (schedule members) members m share.0 share.1 h (share_rules members h all) at ordered) (sections_away (Some share) known)) in
+    rw at (section_keeps members m share.0 share.1 k h at apart unheld may all)
 section_next_keeps again members m _ h (Some share) at known may all = absurd may
 
 -- An ordered part

@@ -16,6 +16,8 @@ pub mod CopiesKeep
 pub mod Windows
 pub mod WordsToCome
 pub mod OrderedKeep
+pub mod TeamShares
+pub mod HandedOn
 pub mod TeamKeeps
 pub mod PartsKeep
 pub mod Places

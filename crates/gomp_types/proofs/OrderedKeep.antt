@@ -67,7 +67,7 @@ Turned members i shape m h = (low high : ℕ) × (slice_get (pieces_of members s
 turned : (members m i : ℕ) (shape : Shape) (h : List Event) → has_turn members (i, shape) m h ≡ true → Turned members i shape m h
 turned members m i shape h e = same_is (slice_get (pieces_of members shape) (turn i h)) (last_piece m h) e
 
-piece_of_turn : (members m i low high : ℕ) (shape : Shape) (h : List Event) → has_turn members (i, shape) m h ≡ true → last_piece m h ≡ Some (low, high) → slice_get (pieces_of members shape) (turn i h) ≡ Some (low, high)
+pub piece_of_turn : (members m i low high : ℕ) (shape : Shape) (h : List Event) → has_turn members (i, shape) m h ≡ true → last_piece m h ≡ Some (low, high) → slice_get (pieces_of members shape) (turn i h) ≡ Some (low, high)
 piece_of_turn members m i low high shape h e piece = let own = turned members m i shape h e in own.2 ∙ sym own.3 ∙ piece
 
 -- Takes

@@ -36,7 +36,7 @@ use Rattle.gomp_types.specs.Rules.{Always, TeamRule}
 use Rattle.gomp_types.proofs.IterationValues.{chunk_some, step_below}
 use Rattle.gomp_types.proofs.Dealing.{schedule_deals}
 use Rattle.gomp_types.proofs.SharesKeep.{inside, dealt}
-use Rattle.gomp_types.proofs.TeamKeeps.{share_rules}
+use Rattle.gomp_types.proofs.TeamShares.{share_rules}
 use Rattle.gomp_types.proofs.CallTests.{Tested, tested}
 use Rattle.gomp_types.proofs.CausesKeep.{known_holds}
 

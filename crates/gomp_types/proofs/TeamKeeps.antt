@@ -5,32 +5,20 @@ use Rattle.std.proofs.lemmas.Bool.{cases_Bool, cases_lt}
 use Rattle.gomp_types.specs.declared.shape.Shape.{Shape}
 use Rattle.gomp_types.specs.declared.event.Tag.{Tag}
 use Rattle.gomp_types.specs.declared.event.Event.{Event}
-use Rattle.gomp_types.specs.declared.event.Event.TheVariants.{Enter, Take, Drained, End, HandOn, Part, PartEnd, Arrive, Pass}
+use Rattle.gomp_types.specs.declared.event.Event.TheVariants.{Enter, End, Arrive, Pass}
 use Rattle.gomp_types.specs.Events.{entered, arrival, tag_at}
 use Rattle.gomp_types.specs.Deals.{schedule}
 use Rattle.gomp_types.specs.Rules.{Always, ShareRule, ArrivalRule, TeamRule}
-use Rattle.gomp_types.specs.Laws.{Happened, TakesItsOwn, PutsOnce, GetsWhatWasPut, LeavesWithWords, ArrivesOutside, ClosesShares, HappensUnbroken, HappensInside, BarriersOneByOne, PassesAfterAll, SameArrivals, ArrivesOnce, TellsShares, ArrivalLaws}
+use Rattle.gomp_types.specs.Laws.{Happened, TakesItsOwn, LeavesHandedOn, PutsOnce, GetsWhatWasPut, LeavesWithWords, ArrivesOutside, ClosesShares, HappensUnbroken, HappensInside, BarriersOneByOne, PassesAfterAll, SameArrivals, ArrivesOnce, TellsShares, ArrivalLaws}
 use Rattle.gomp_types.specs.Headline.{Headline}
 use Rattle.gomp_types.proofs.Booleans.{tells, is_equal, same_number, and_left, and_right, some_of, every_tells}
 use Rattle.gomp_types.proofs.Silence.{InTime, unbroken_holds, inside_holds}
 use Rattle.gomp_types.proofs.SharesKeep.{always, shares_keep, left_before}
+use Rattle.gomp_types.proofs.TeamShares.{share_rules}
+use Rattle.gomp_types.proofs.HandedOn.{leaves_handed_on}
 use Rattle.gomp_types.proofs.Assigned.{takes_its_own}
 use Rattle.gomp_types.proofs.OrderedKeep.{ordered_keep}
 use Rattle.gomp_types.proofs.CopiesKeep.{puts_once, gets_what_was_put, leaves_with_words}
-
--- the rule of the team has that of the shares
-share_rule : (members : ℕ) (event : Event) (earlier : List Event) → TeamRule members event earlier → Always (TeamRule members) earlier → ShareRule (schedule members) members event earlier
-share_rule members (Enter share m shape) earlier rule all = rule
-share_rule members (Take share m low high) earlier rule all = rule
-share_rule members (Drained share m) earlier rule all = rule
-share_rule members (End share m) earlier rule all = rule.done
-share_rule members (HandOn share m piece) earlier rule all = rule
-share_rule members (Part share m iteration) earlier rule all = rule
-share_rule members (PartEnd share m) earlier rule all = rule
-share_rule members _ earlier rule all = tt
-
-pub share_rules : (members : ℕ) (h : List Event) → Always (TeamRule members) h → Always (ShareRule (schedule members) members) h
-share_rules members h all = always (TeamRule members) (ShareRule (schedule members) members) (share_rule members) h all
 
 -- Payloads
 
@@ -185,6 +173,7 @@ team_keeps members h all in_time =
       owned = always (ShareRule (schedule members) members) (TakesItsOwn members) (takes_its_own members) h (share_rules members h all);
       whole = shares.whole;
       ordered = ordered_keep members h (share_rules members h all);
+      all_handed_on = always (TeamRule members) (LeavesHandedOn members) (leaves_handed_on members) h all;
       puts = copies.puts;
       gets = copies.gets;
       served = copies.served;

@@ -117,6 +117,14 @@ turn share [] = 0
 turn share (HandOn i member piece ∷ earlier) = if i == share then turn share earlier + 1 else turn share earlier
 turn share (_ ∷ earlier) = turn share earlier
 
+-- whether the member holds a piece: it took one of the share that it entered last, and has handed none on since
+abbrev pub holds_piece : ℕ → List Event → Bool
+holds_piece m [] = false
+holds_piece m (Enter share member shape ∷ earlier) = if member == m then false else holds_piece m earlier
+holds_piece m (Take share member low high ∷ earlier) = if member == m then true else holds_piece m earlier
+holds_piece m (HandOn share member piece ∷ earlier) = if member == m then false else holds_piece m earlier
+holds_piece m (_ ∷ earlier) = holds_piece m earlier
+
 -- the iteration after that of the member's last ordered part, in the share that it entered last; 0 before its first
 abbrev pub next_part : ℕ → List Event → ℕ
 next_part m [] = 0

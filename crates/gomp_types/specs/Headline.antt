@@ -1,9 +1,9 @@
--- The headline: for every team size and list of member steps, no iteration, section or single is taken twice; a loop or sections construct that all members end had every iteration or section taken, and a single was executed by one of them; ordered parts of a loop run in the order of its iterations; the words that a member copies are those that the executor of the single put; all members go through the same constructs in one order; no member passes a barrier before all arrived, and have left the constructs before it. OpenMP API 5.2, chapter 11 and sections 5.7.2, 15.3 and 15.10.2.
+-- The headline: for every team size and list of member steps, no iteration, section or single is taken twice, and of a static loop a member takes only its own pieces; a loop or sections construct that all members end had every iteration or section taken, and a single was executed by one of them; ordered parts of a loop run in the order of its iterations, and a member that leaves it has handed all its pieces on; the words that a member copies are those that the executor of the single put; all members go through the same constructs in one order; no member passes a barrier before all arrived, and have left the constructs before it. OpenMP API 5.2, chapter 11 and sections 5.7.2, 15.3 and 15.10.2.
 use Rattle.std.specs.Prelude.{ℕ, List}
 use Rattle.gomp_types.specs.declared.event.Event.{Event}
 use Rattle.gomp_types.specs.Deals.{schedule}
 use Rattle.gomp_types.specs.Rules.{Always}
-use Rattle.gomp_types.specs.Laws.{TakenOnce, TakesItsOwn, WholeWhereOver, SameShares, OrderedLaws, PutsOnce, GetsWhatWasPut, LeavesWithWords, SameArrivals, ArrivesOnce, ArrivesOutside, HappensUnbroken, HappensInside, TellsShares, PassesAfterAll, ClosesShares}
+use Rattle.gomp_types.specs.Laws.{TakenOnce, TakesItsOwn, WholeWhereOver, SameShares, OrderedLaws, LeavesHandedOn, PutsOnce, GetsWhatWasPut, LeavesWithWords, SameArrivals, ArrivesOnce, ArrivesOutside, HappensUnbroken, HappensInside, TellsShares, PassesAfterAll, ClosesShares}
 
 pub record Headline (members : ℕ) (h : List Event) : Type 0 where
   -- no iteration, section or single is taken twice
@@ -14,6 +14,8 @@ pub record Headline (members : ℕ) (h : List Event) : Type 0 where
   pub whole : WholeWhereOver members h
   -- ordered parts of a loop run in the order of its iterations, one after another
   pub ordered : OrderedLaws members h
+  -- and a member leaves such a loop only where all its pieces were handed on
+  pub all_handed_on : Always (LeavesHandedOn members) h
   -- the executor of a single puts its words once, what others are given are these, and no member leaves without
   pub puts : Always PutsOnce h
   pub gets : Always GetsWhatWasPut h

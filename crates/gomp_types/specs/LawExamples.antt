@@ -80,6 +80,10 @@ part_back = Enter 0 0 (four true) ∷ Take 0 0 0 2 ∷ Part 0 0 1 ∷ PartEnd 0 
 abbrev pub handed_on_open : List Event
 handed_on_open = Enter 0 0 (four true) ∷ Take 0 0 0 2 ∷ Part 0 0 0 ∷ HandOn 0 0 0 ∷ []
 
+-- a member leaves an ordered loop and has not handed its last piece on
+abbrev pub left_unhanded : List Event
+left_unhanded = Enter 0 0 (four true) ∷ Take 0 0 0 2 ∷ HandOn 0 0 0 ∷ Take 0 0 2 4 ∷ End 0 0 ∷ []
+
 -- Words
 
 -- words are put in a loop

@@ -178,6 +178,13 @@ PartsApart (HandOn share m piece) earlier = open_part share earlier ≡ None
 PartsApart (End share m) earlier = open_part share earlier ≡ Some m → ⊥
 PartsApart _ earlier = Unit {0}
 
+-- so a member leaves an ordered loop only where each piece that it took was handed on
+abbrev pub LeavesHandedOn : ℕ → Event → List Event → Type 0
+LeavesHandedOn members (End share m) earlier =
+    (shape : Shape) (low high : ℕ) → Happened (Enter share m shape) earlier → shape.ordered ≡ true → Happened (Take share m low high) earlier →
+    (piece : ℕ) × Happened (HandOn share m piece) earlier × (slice_get (pieces_of members shape) piece ≡ Some (low, high))
+LeavesHandedOn members _ earlier = Unit {0}
+
 -- Copied once (OpenMP API 5.2, section 5.7.2): the words of a single are put by the member that took its piece, and only once.
 abbrev pub PutsOnce : Event → List Event → Type 0
 PutsOnce (Put share m payload) earlier =

@@ -5,7 +5,7 @@ use Rattle.gomp_types.specs.declared.event.Tag.{Tag}
 use Rattle.gomp_types.specs.declared.event.Event.{Event}
 use Rattle.gomp_types.specs.declared.event.Event.TheVariants.{Enter, Take, Drained, End, HandOn, Part, PartEnd, Put, Got, Arrive, Pass}
 use Rattle.gomp_types.specs.Shapes.{is_copy, is_loop}
-use Rattle.gomp_types.specs.Events.{entered, open_share, last_piece, turn, next_part, in_part, shape_at, has_room, payload_at, has_piece, has_words, passed, arrival, tag_at, barrier_met}
+use Rattle.gomp_types.specs.Events.{entered, open_share, last_piece, turn, holds_piece, next_part, in_part, shape_at, has_room, payload_at, has_piece, has_words, passed, arrival, tag_at, barrier_met}
 use Rattle.gomp_types.specs.Pieces.{Tiles, pieces_of}
 use Rattle.gomp_types.specs.Ordered.{has_turn}
 use Rattle.gomp_types.specs.Deals.{Deal, IsDealt, next_for, schedule}
@@ -113,10 +113,21 @@ pub record MayGet (share m : ℕ) (payload : List ℕ) (earlier : List Event) : 
   pub other : has_piece share m earlier ≡ false
   pub words : payload_at share earlier ≡ Some payload
 
--- in a team a member leaves a share where nothing is left for it, and a single with words only where it has them
+-- in a team a member takes a piece of an ordered loop only where it has handed on the one before
+pub record MayTakeIn (members share m low high : ℕ) (earlier : List Event) : Type 0 where
+  pub takes : MayTake (schedule members) share m low high earlier
+  pub handed_on : takes.shape.ordered ≡ true → holds_piece m earlier ≡ false
+
+-- and only there it is told that nothing is left
+pub record HasNoneIn (members share m : ℕ) (earlier : List Event) : Type 0 where
+  pub done : HasNone (schedule members) share m earlier
+  pub handed_on : done.shape.ordered ≡ true → holds_piece m earlier ≡ false
+
+-- it leaves a share where nothing is left for it, a single with words only where it has them, and an ordered loop only where it has handed its last piece on
 pub record MayLeave (members share m : ℕ) (earlier : List Event) : Type 0 where
   pub done : HasNone (schedule members) share m earlier
   pub words : is_copy done.shape.kind ≡ true → has_words share m earlier ≡ true
+  pub handed_on : done.shape.ordered ≡ true → holds_piece m earlier ≡ false
 
 -- in a team a member of it arrives, outside of every share and once at each barrier, and tells how many shares it has entered
 pub record MayArriveIn (members barrier m : ℕ) (tag : Tag) (earlier : List Event) : Type 0 where
@@ -133,6 +144,8 @@ pub record MayPassIn (members barrier m : ℕ) (earlier : List Event) : Type 0 w
 
 -- the rule of a team
 abbrev pub TeamRule : ℕ → Event → List Event → Type 0
+TeamRule members (Take share m low high) earlier = MayTakeIn members share m low high earlier
+TeamRule members (Drained share m) earlier = HasNoneIn members share m earlier
 TeamRule members (End share m) earlier = MayLeave members share m earlier
 TeamRule members (Arrive barrier m tag) earlier = MayArriveIn members barrier m tag earlier
 TeamRule members (Pass barrier m) earlier = MayPassIn members barrier m earlier

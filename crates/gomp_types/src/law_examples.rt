@@ -1,6 +1,6 @@
 //! Events that the laws of a team refuse: that the laws say something is proved, a list for each.
 
-ghost use Rattle.gomp_types.specs.LawExamples.{NeverHappens, taken_twice, taken_ahead, taken_outside, taken_from_another, left_early, nested, two_shapes, part_unordered, part_ahead, part_back, handed_on_open, put_in_a_loop, given_to_the_executor, left_without_words, passed_alone, arrived_twice, two_tags, stranger, arrived_inside, after_a_stop, after_the_end};
+ghost use Rattle.gomp_types.specs.LawExamples.{NeverHappens, taken_twice, taken_ahead, taken_outside, taken_from_another, left_early, nested, two_shapes, part_unordered, part_ahead, part_back, handed_on_open, left_unhanded, put_in_a_loop, given_to_the_executor, left_without_words, passed_alone, arrived_twice, two_tags, stranger, arrived_inside, after_a_stop, after_the_end};
 
 /// No team goes through its shares so.
 pub fn wrong_shares()
@@ -19,6 +19,7 @@ pub fn wrong_parts()
     ensures part_ahead { NeverHappens 2 part_ahead }
     ensures part_back { NeverHappens 1 part_back }
     ensures handed_on_open { NeverHappens 1 handed_on_open }
+    ensures left_unhanded { NeverHappens 1 left_unhanded }
 {}
 
 /// Nor through a single with words.
