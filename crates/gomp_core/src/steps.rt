@@ -7,7 +7,7 @@ ghost use Rattle.gomp_types.specs.Record.{events};
 ghost use Rattle.gomp_types.specs.Causes.{Caused};
 ghost use Rattle.gomp_types.specs.Deals.{schedule};
 ghost use Rattle.gomp_types.specs.Rules.{Always};
-ghost use Rattle.gomp_types.specs.Laws.{TakenOnce, TakesItsOwn, WholeWhereOver, OrderedLaws, LeavesHandedOn, PutsOnce, GetsWhatWasPut, LeavesWithWords, SameShares, SameArrivals, ArrivesOnce, ArrivesOutside, HappensUnbroken, HappensInside, TellsShares, PassesAfterAll, ClosesShares};
+ghost use Rattle.gomp_types.specs.Laws.{TakenOnce, TakesItsOwn, WholeWhereOver, OrderedLaws, LeavesHandedOn, HandedOnWhereOver, PutsOnce, GetsWhatWasPut, LeavesWithWords, SameShares, SameArrivals, ArrivesOnce, ArrivesOutside, HappensUnbroken, HappensInside, TellsShares, PassesAfterAll, ClosesShares};
 ghost use Rattle.gomp_core.specs.Stands.{Stands, IsTeamSize, terms_of, standard_terms, NoneForMemory};
 ghost use Rattle.gomp_core.specs.Resolved.{record_of};
 
@@ -50,7 +50,8 @@ pub fn run<S: Shares + Drop>(
     ensures owned { IfOk result (λ ran. Always (TakesItsOwn count) (events (record_of icv steps.items ran.1.items))) }
     ensures whole { IfOk result (λ ran. WholeWhereOver count (events (record_of icv steps.items ran.1.items))) }
     ensures ordered { IfOk result (λ ran. OrderedLaws count (events (record_of icv steps.items ran.1.items))) }
-    ensures all_handed_on { IfOk result (λ ran. Always (LeavesHandedOn count) (events (record_of icv steps.items ran.1.items))) }
+    ensures none_held { IfOk result (λ ran. Always (LeavesHandedOn count) (events (record_of icv steps.items ran.1.items))) }
+    ensures all_handed_on { IfOk result (λ ran. HandedOnWhereOver count (events (record_of icv steps.items ran.1.items))) }
     ensures put_once { IfOk result (λ ran. Always PutsOnce (events (record_of icv steps.items ran.1.items))) }
     ensures given_what_was_put { IfOk result (λ ran. Always GetsWhatWasPut (events (record_of icv steps.items ran.1.items))) }
     ensures none_without_words { IfOk result (λ ran. Always LeavesWithWords (events (record_of icv steps.items ran.1.items))) }

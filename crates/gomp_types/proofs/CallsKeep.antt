@@ -50,7 +50,7 @@ abbrev Worded : Bool → ℕ → List Event → Type 0
 Worded false m h = Unit {0}
 Worded true m h = in_kind is_copy (open_share m h) ≡ true → has_words (open_number m h) m h ≡ true
 
--- nor does a member hold a piece of an ordered loop of which nothing is left for it
+-- a member for which nothing is left of an ordered loop holds no piece of it
 done_holds_none : (members m : ℕ) (share : ℕ × Shape) (h : List Event) → open_share m h ≡ Some share → IsDone m h → Always (TeamRule members) h → share.1.ordered ≡ true → holds_piece m h ≡ false
 done_holds_none members m share h at done all ordered = elim done [
   | inl drained ↦ told_holds_none members m share.0 share.1 h all at ordered drained

@@ -15,7 +15,7 @@ use Rattle.gomp_types.proofs.Booleans.{tells, is_equal, same_number, and_left, a
 use Rattle.gomp_types.proofs.Silence.{InTime, unbroken_holds, inside_holds}
 use Rattle.gomp_types.proofs.SharesKeep.{always, shares_keep, left_before}
 use Rattle.gomp_types.proofs.TeamShares.{share_rules}
-use Rattle.gomp_types.proofs.HandedOn.{leaves_handed_on}
+use Rattle.gomp_types.proofs.HandedOn.{leaves_handed_on, all_handed_on}
 use Rattle.gomp_types.proofs.Assigned.{takes_its_own}
 use Rattle.gomp_types.proofs.OrderedKeep.{ordered_keep}
 use Rattle.gomp_types.proofs.CopiesKeep.{puts_once, gets_what_was_put, leaves_with_words}
@@ -173,7 +173,8 @@ team_keeps members h all in_time =
       owned = always (ShareRule (schedule members) members) (TakesItsOwn members) (takes_its_own members) h (share_rules members h all);
       whole = shares.whole;
       ordered = ordered_keep members h (share_rules members h all);
-      all_handed_on = always (TeamRule members) (LeavesHandedOn members) (leaves_handed_on members) h all;
+      none_held = always (TeamRule members) (LeavesHandedOn members) (leaves_handed_on members) h all;
+      all_handed_on = all_handed_on members h all;
       puts = copies.puts;
       gets = copies.gets;
       served = copies.served;

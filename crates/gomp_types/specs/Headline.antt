@@ -3,7 +3,7 @@ use Rattle.std.specs.Prelude.{ℕ, List}
 use Rattle.gomp_types.specs.declared.event.Event.{Event}
 use Rattle.gomp_types.specs.Deals.{schedule}
 use Rattle.gomp_types.specs.Rules.{Always}
-use Rattle.gomp_types.specs.Laws.{TakenOnce, TakesItsOwn, WholeWhereOver, SameShares, OrderedLaws, LeavesHandedOn, PutsOnce, GetsWhatWasPut, LeavesWithWords, SameArrivals, ArrivesOnce, ArrivesOutside, HappensUnbroken, HappensInside, TellsShares, PassesAfterAll, ClosesShares}
+use Rattle.gomp_types.specs.Laws.{TakenOnce, TakesItsOwn, WholeWhereOver, SameShares, OrderedLaws, LeavesHandedOn, HandedOnWhereOver, PutsOnce, GetsWhatWasPut, LeavesWithWords, SameArrivals, ArrivesOnce, ArrivesOutside, HappensUnbroken, HappensInside, TellsShares, PassesAfterAll, ClosesShares}
 
 pub record Headline (members : ℕ) (h : List Event) : Type 0 where
   -- no iteration, section or single is taken twice
@@ -14,8 +14,9 @@ pub record Headline (members : ℕ) (h : List Event) : Type 0 where
   pub whole : WholeWhereOver members h
   -- ordered parts of a loop run in the order of its iterations, one after another
   pub ordered : OrderedLaws members h
-  -- and a member leaves such a loop only where all its pieces were handed on
-  pub all_handed_on : Always (LeavesHandedOn members) h
+  -- a member leaves such a loop only where each piece that it took was handed on, and one that all members left had all of them handed on
+  pub none_held : Always (LeavesHandedOn members) h
+  pub all_handed_on : HandedOnWhereOver members h
   -- the executor of a single puts its words once, what others are given are these, and no member leaves without
   pub puts : Always PutsOnce h
   pub gets : Always GetsWhatWasPut h

@@ -90,6 +90,9 @@ returns-in-None-clause-whole g c = (the_headline g c).whole
 pub returns-in-None-clause-ordered : goal.returns-in-None-clause-ordered
 returns-in-None-clause-ordered g c = (the_headline g c).ordered
 
+pub returns-in-None-clause-none_held : goal.returns-in-None-clause-none_held
+returns-in-None-clause-none_held g c = (the_headline g c).none_held
+
 pub returns-in-None-clause-all_handed_on : goal.returns-in-None-clause-all_handed_on
 returns-in-None-clause-all_handed_on g c = (the_headline g c).all_handed_on
 

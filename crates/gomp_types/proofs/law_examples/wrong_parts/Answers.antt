@@ -22,5 +22,5 @@ not_the_last piece first at = let same : ◌≡◌ {A = Piece} (0, 2) (2, 4) = l
 
 pub returns-clause-left_unhanded : goal.returns-clause-left_unhanded
 returns-clause-left_unhanded c = λ laws.
-    let handed = laws.all_handed_on.0 (four true) 2 4 (inr (inr (inr (inl refl)))) refl (inl refl) in
+    let handed = laws.none_held.0 (four true) 2 4 (inr (inr (inr (inl refl)))) refl (inl refl) in
     not_the_last handed.0 (only_first handed.0 handed.1) handed.2
