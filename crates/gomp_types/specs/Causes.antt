@@ -15,7 +15,7 @@ use Rattle.gomp_types.specs.Record.{Record, waits_of, meant, is_resume, events}
 use Rattle.gomp_types.specs.Refusals.{call_tests, member_tests, row_of}
 use Rattle.gomp_types.specs.Replies.{MayReply}
 
--- what a team is made with; a limit above the standard one counts as that
+-- what a team is made with; a limit above the standard one counts as that. That of tasks and of events, and whether there is cancellation, decide no reply before there are tasks, stored events and cancellation
 pub record Terms : Type 0 where
   pub members : ℕ
   pub limits : Limits

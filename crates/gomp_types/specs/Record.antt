@@ -32,7 +32,7 @@ record_after (step ∷ steps) (reply ∷ replies) before = record_after steps re
 
 -- What a member waits for
 
--- the call whose answer was to wait, and the waits beneath it that go on when a task ends
+-- the call whose answer was to wait, and the waits beneath it that go on when a task ends; there are none of these before there are tasks
 pub record Waits : Type 0 where
   pub open_call : Option Call
   pub beneath : List Call
