@@ -183,7 +183,7 @@ impl<S: Shares> Team<S> {
     /// of a loop run in the order of its iterations, and a member that leaves it has handed all its
     /// pieces on; the words that a member copies are those that the executor of the single put; all
     /// members go through the same constructs in the same order; and no member passes a barrier before
-    /// all arrived.
+    /// all arrived, and have left the constructs before it.
     pub fn laws(&self)
         ensures known { (before : Record) × Stands S.stands S.members self.now before }
         ensures size { IsTeamSize (members_of self.now) }
