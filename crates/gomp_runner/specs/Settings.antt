@@ -1,5 +1,5 @@
 -- The words `NAME=VALUE` of the command line. (own)
-use Rattle.std.specs.Prelude.{◌≡◌, ◌==◌, ⊤, ℕ, Bool, nat_lt, not, if◌then◌else◌, List, [], ◌∷◌, length, Option, Some, None, Result, Ok, Err, find}
+use Rattle.std.specs.Prelude.{◌≡◌, ◌==◌, ℕ, Bool, nat_lt, not, if◌then◌else◌, List, [], ◌∷◌, length, Option, Some, None, Result, Ok, Err, find}
 use Rattle.std.specs.List.{position_or_len, before_first, after_first}
 use Rattle.std.specs.Option.{option_map}
 use Rattle.gomp_types.specs.declared.refusal.Refusal.{Refusal}
@@ -42,12 +42,12 @@ pairs_of (word ∷ words) = with_pair (pair_of word) (pairs_of words)
 abbrev pub read_settings : List Text → Option (Variables × List Refusal)
 read_settings words = option_map read_env (pairs_of words)
 
--- words are not read as settings: memory was refused, or this is the first that has no `=`
-abbrev pub IsSettingsError : {Y : Type 0} → (List Text → Option Y) → List Text → SettingsError → Type 0
-IsSettingsError read words NoMemory = ⊤
-IsSettingsError read words (NoEquals word) = (first_without words ≡ Some word.now) × (read words ≡ None)
+-- words are not read as settings: memory was refused where each has an `=`, or this is the first that has none
+abbrev pub IsSettingsError : List Text → SettingsError → Type 0
+IsSettingsError words NoMemory = first_without words ≡ None
+IsSettingsError words (NoEquals word) = (first_without words ≡ Some word.now) × (read_settings words ≡ None)
 
 -- what is given, seen by `view`, is what is read of the words
-abbrev pub Gives : {X Y : Type 0} → (X → Y) → (List Text → Option Y) → List Text → Result X SettingsError → Type 0
-Gives view read words (Ok found) = read words ≡ Some (view found)
-Gives view read words (Err error) = IsSettingsError read words error
+abbrev pub Gives : {X : Type 0} → (X → Variables × List Refusal) → List Text → Result X SettingsError → Type 0
+Gives view words (Ok read) = read_settings words ≡ Some (view read)
+Gives view words (Err error) = IsSettingsError words error
