@@ -115,30 +115,12 @@ fn ignored_words_are_named_beside_every_answer(rt: HostRuntime) -> Result<(), Fa
 }
 
 #[test]
-fn words_without_an_equals_sign(rt: HostRuntime) -> Result<(), Fail> {
-    for (words, note) in [
-        (
-            ["ompteam", "steps", "FOO", "BAR=1"],
-            "error: the word 'FOO' is not NAME=VALUE\n",
-        ),
-        (
-            ["ompteam", "steps", "BAR=1", "FOO"],
-            "error: the word 'FOO' is not NAME=VALUE\n",
-        ),
-        (
-            ["ompteam", "steps", "FOO", "BAR"],
-            "error: the word 'FOO' is not NAME=VALUE\n",
-        ),
-        (
-            ["ompteam", "steps", "", "BAR=1"],
-            "error: the word '' is not NAME=VALUE\n",
-        ),
-    ] {
-        let status = served(&rt, rt.alloc(), &words, "team 1\n0 barrier\n", "")?;
-        assert_eq!(rt; status.code, 1);
-        let text = String::from_str(rt.alloc(), note)?;
-        assert_eq!(rt; status.notes, Notes::Command(text));
-    }
+fn a_word_without_an_equals_sign_is_told(rt: HostRuntime) -> Result<(), Fail> {
+    let words = ["ompteam", "steps", "BAR=1", "FOO", ""];
+    let status = served(&rt, rt.alloc(), &words, "team 1\n0 barrier\n", "")?;
+    let note = String::from_str(rt.alloc(), "error: the word 'FOO' is not NAME=VALUE\n")?;
+    assert_eq!(rt; status.notes, Notes::Command(note));
+    assert_eq!(rt; status.code, 1);
     Ok(())
 }
 
