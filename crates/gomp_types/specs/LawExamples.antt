@@ -3,7 +3,7 @@ use Rattle.std.specs.Prelude.{ℕ, Bool, pos, List, [], ◌∷◌, true, false}
 use Rattle.gomp_types.specs.declared.loop_desc.EndKind.TheVariants.{Wait as WaitEnd}
 use Rattle.gomp_types.specs.declared.refusal.Place.TheVariants.{Stopped as AtStop}
 use Rattle.gomp_types.specs.declared.shape.Shape.{Shape}
-use Rattle.gomp_types.specs.declared.shape.ShareKind.TheVariants.{StaticChunked, Dynamic}
+use Rattle.gomp_types.specs.declared.shape.ShareKind.TheVariants.{StaticChunked, StaticEven, Dynamic}
 use Rattle.gomp_types.specs.declared.event.Arrival.{Arrival}
 use Rattle.gomp_types.specs.declared.event.Arrival.TheVariants.{Barrier, ShareEnd, RegionEnd}
 use Rattle.gomp_types.specs.declared.event.Tag.{Tag}
@@ -29,6 +29,10 @@ four ordered = record { start = pos 0; incr = pos 1; trips = 4; kind = Dynamic; 
 abbrev pub static_four : Shape
 static_four = record { start = pos 0; incr = pos 1; trips = 4; kind = StaticChunked; chunk = 2; ordered = false; end_kind = WaitEnd }
 
+-- or without a chunk, a piece for each member
+abbrev pub even_four : Shape
+even_four = record { start = pos 0; incr = pos 1; trips = 4; kind = StaticEven; chunk = 0; ordered = false; end_kind = WaitEnd }
+
 abbrev pub at : Arrival → ℕ → Tag
 at kind shares = record { kind = kind; shares = shares }
 
@@ -49,6 +53,10 @@ taken_outside = Enter 0 0 (four false) ∷ Take 0 0 0 5 ∷ []
 -- a member takes the piece of a static loop that is another's
 abbrev pub taken_from_another : List Event
 taken_from_another = Enter 0 1 static_four ∷ Take 0 1 0 2 ∷ []
+
+-- and of one without a chunk
+abbrev pub even_from_another : List Event
+even_from_another = Enter 0 1 even_four ∷ Take 0 1 0 2 ∷ []
 
 -- a member leaves a loop that has a piece for it
 abbrev pub left_early : List Event

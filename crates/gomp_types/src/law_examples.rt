@@ -1,6 +1,6 @@
 //! Events that the laws of a team refuse: that the laws say something is proved, a list for each.
 
-ghost use Rattle.gomp_types.specs.LawExamples.{NeverHappens, taken_twice, taken_ahead, taken_outside, taken_from_another, left_early, nested, two_shapes, part_unordered, part_ahead, part_back, handed_on_open, left_unhanded, put_in_a_loop, given_to_the_executor, left_without_words, passed_alone, arrived_twice, two_tags, stranger, arrived_inside, after_a_stop, after_the_end};
+ghost use Rattle.gomp_types.specs.LawExamples.{NeverHappens, taken_twice, taken_ahead, taken_outside, taken_from_another, even_from_another, left_early, nested, two_shapes, part_unordered, part_ahead, part_back, handed_on_open, left_unhanded, put_in_a_loop, given_to_the_executor, left_without_words, passed_alone, arrived_twice, two_tags, stranger, arrived_inside, after_a_stop, after_the_end};
 
 /// No team goes through its shares so.
 pub fn wrong_shares()
@@ -8,6 +8,7 @@ pub fn wrong_shares()
     ensures taken_ahead { NeverHappens 1 taken_ahead }
     ensures taken_outside { NeverHappens 1 taken_outside }
     ensures taken_from_another { NeverHappens 2 taken_from_another }
+    ensures even_from_another { NeverHappens 2 even_from_another }
     ensures left_early { NeverHappens 1 left_early }
     ensures nested { NeverHappens 1 nested }
     ensures two_shapes { NeverHappens 2 two_shapes }
