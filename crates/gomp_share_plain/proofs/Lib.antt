@@ -1,5 +1,11 @@
 pub mod Takes
 pub mod Turns
-pub mod PlainKeeps
+pub mod Seats
+pub mod Room
+pub mod Places
+pub mod EntersKeep
+pub mod TakesKeep
+pub mod LeavesKeep
 pub mod PartsKeep
+pub mod Views
 pub mod CallRuns

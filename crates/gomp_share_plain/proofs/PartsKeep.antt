@@ -12,13 +12,16 @@ use Rattle.gomp_types.specs.Ordered.{is_ordered, is_in_rest}
 use Rattle.gomp_types.specs.Record.{shown}
 use Rattle.gomp_types.specs.Rules.{MayHandOn, MayPart, MayEndPart}
 use Rattle.gomp_types.proofs.Booleans.{some_of, and_left, and_right, same_number}
-use Rattle.gomp_types.proofs.Lists.{slice_get-set, slice_get-set_same, slice_get-set_other}
+use Rattle.gomp_types.proofs.Lists.{slice_get-set_same, slice_get-set_other}
 use Rattle.gomp_share_plain.specs.Calls.{CanBeginPart, CanEndPart, CanHandOn, own_turn, seen_of, taken_of}
 use Rattle.gomp_share_plain.specs.declared.plain.Seat.{Seat}
 use Rattle.gomp_share_plain.specs.declared.plain.OpenShare.{OpenShare}
-use Rattle.gomp_share_plain.specs.Plain.{SeatStands, PlaceStands, StandsFor}
+use Rattle.gomp_share_plain.specs.Plain.{SeatStands, StandsFor}
 use Rattle.gomp_share_plain.proofs.Turns.{lies, turn_of}
-use Rattle.gomp_share_plain.proofs.PlainKeeps.{inside, inside_number, own_place, own_share, here_is, here_valid, shape_here, places_apart, PiecesTile}
+use Rattle.gomp_share_plain.specs.Same.{seat_same, place_same}
+use Rattle.gomp_share_plain.proofs.Seats.{inside, inside_number, seat_steps}
+use Rattle.gomp_share_plain.proofs.Places.{places_apart, here_is, here_valid, shape_here, own_place, own_share}
+use Rattle.gomp_share_plain.proofs.EntersKeep.{PiecesTile}
 
 -- The turn
 
@@ -138,60 +141,27 @@ pub begins : (members : ℕ) (seats : List Seat) (count : ℕ) (places : List (O
 begins members seats count places h m seat iteration st at can next =
     let s : SeatStands members m seat count h = st.seat m seat at in
     let one : seat.started ≡ seat.ended + 1 = inside members m seat count h s (begins_inside members m iteration h can) in
-    record {
-      size = length-set seats m _ ∙ st.size;
-      team = st.team;
-      eight = st.eight;
-      seat = λ k other at_k. elim (slice_get-set seats m k _ other at_k) [
-        | inl e ↦ rw (e.0, e.1) (record {
-          started = s.started;
-          ended = s.ended;
-          drained = s.drained;
-          piece = s.piece;
-          number = s.number;
-          next_part = grind (arith, nat_tests);
-          in_part = grind (arith, nat_tests);
-          apart = λ e. absurd (omega arith);
-          taken = s.taken;
-          fresh = s.fresh;
-          in_order = s.in_order;
-          one = s.one;
-          known = s.known;
-          near = s.near;
-          outside = s.outside;
-          inside = s.inside;
-        })
-        | inr e ↦ let o : SeatStands members k other count h = st.seat k other e.1 in record {
-          started = o.started;
-          ended = o.ended;
-          drained = o.drained;
-          piece = o.piece;
-          number = o.number;
-          next_part = grind (arith, nat_tests, o.next_part, e.0);
-          in_part = grind (arith, nat_tests, o.in_part, e.0);
-          apart = o.apart;
-          taken = o.taken;
-          fresh = o.fresh;
-          in_order = o.in_order;
-          one = o.one;
-          known = o.known;
-          near = o.near;
-          outside = o.outside;
-          inside = o.inside;
-        }
-      ];
-      place = λ i low high. let p : PlaceStands members i (slice_get places (i % 8)) h = st.place i low high in record {
-        share = p.share;
-        there = p.there;
-        shape = p.shape;
-        taken_is = p.taken_is;
-        turn_is = p.turn_is;
-        cursor_is = p.cursor_is;
-        valid = p.valid;
-      };
-      beyond = st.beyond;
-      rule = (begin_rule members m iteration h can next, st.rule);
-    }
+    seat_steps members seats count places h (Part (open_number m h) m iteration) _ st
+    (record { shape = λ i. refl; taken = λ queue_of i q. refl; turn = λ i. refl })
+    (record {
+      started = s.started;
+      ended = s.ended;
+      drained = s.drained;
+      piece = s.piece;
+      number = s.number;
+      next_part = grind (arith, nat_tests);
+      in_part = grind (arith, nat_tests);
+      apart = λ e. absurd (omega arith);
+      taken = s.taken;
+      fresh = s.fresh;
+      in_order = s.in_order;
+      one = s.one;
+      known = s.known;
+      near = s.near;
+      outside = s.outside;
+      inside = s.inside;
+    })
+    (begin_rule members m iteration h can next)
 
 -- and ends it
 pub ends : (members : ℕ) (seats : List Seat) (count : ℕ) (places : List (Option OpenShare)) (h : List Event) (m : ℕ) (seat : Seat) →
@@ -199,60 +169,27 @@ pub ends : (members : ℕ) (seats : List Seat) (count : ℕ) (places : List (Opt
     StandsFor members (slice_set seats m (record seat { in_part = false })) count places (PartEnd (open_number m h) m ∷ h)
 ends members seats count places h m seat st at can =
     let s : SeatStands members m seat count h = st.seat m seat at in
-    record {
-      size = length-set seats m _ ∙ st.size;
-      team = st.team;
-      eight = st.eight;
-      seat = λ k other at_k. elim (slice_get-set seats m k _ other at_k) [
-        | inl e ↦ rw (e.0, e.1) (record {
-          started = s.started;
-          ended = s.ended;
-          drained = s.drained;
-          piece = s.piece;
-          number = s.number;
-          next_part = s.next_part;
-          in_part = grind (arith, nat_tests);
-          apart = λ e. refl;
-          taken = s.taken;
-          fresh = s.fresh;
-          in_order = s.in_order;
-          one = s.one;
-          known = s.known;
-          near = s.near;
-          outside = s.outside;
-          inside = s.inside;
-        })
-        | inr e ↦ let o : SeatStands members k other count h = st.seat k other e.1 in record {
-          started = o.started;
-          ended = o.ended;
-          drained = o.drained;
-          piece = o.piece;
-          number = o.number;
-          next_part = o.next_part;
-          in_part = grind (arith, nat_tests, o.in_part, e.0);
-          apart = o.apart;
-          taken = o.taken;
-          fresh = o.fresh;
-          in_order = o.in_order;
-          one = o.one;
-          known = o.known;
-          near = o.near;
-          outside = o.outside;
-          inside = o.inside;
-        }
-      ];
-      place = λ i low high. let p : PlaceStands members i (slice_get places (i % 8)) h = st.place i low high in record {
-        share = p.share;
-        there = p.there;
-        shape = p.shape;
-        taken_is = p.taken_is;
-        turn_is = p.turn_is;
-        cursor_is = p.cursor_is;
-        valid = p.valid;
-      };
-      beyond = st.beyond;
-      rule = (end_rule members m seat count h s can.within, st.rule);
-    }
+    seat_steps members seats count places h (PartEnd (open_number m h) m) _ st
+    (record { shape = λ i. refl; taken = λ queue_of i q. refl; turn = λ i. refl })
+    (record {
+      started = s.started;
+      ended = s.ended;
+      drained = s.drained;
+      piece = s.piece;
+      number = s.number;
+      next_part = s.next_part;
+      in_part = grind (arith, nat_tests);
+      apart = λ e. refl;
+      taken = s.taken;
+      fresh = s.fresh;
+      in_order = s.in_order;
+      one = s.one;
+      known = s.known;
+      near = s.near;
+      outside = s.outside;
+      inside = s.inside;
+    })
+    (end_rule members m seat count h s can.within)
 
 -- Handing on
 
@@ -281,24 +218,7 @@ hands members seats count places h m seat share st at found can next is =
       size = st.size;
       team = st.team;
       eight = length-set places (seat.ended % 8) _ ∙ st.eight;
-      seat = λ k other at_k. let o : SeatStands members k other count h = st.seat k other at_k in record {
-        started = o.started;
-        ended = o.ended;
-        drained = o.drained;
-        piece = o.piece;
-        number = o.number;
-        next_part = o.next_part;
-        in_part = o.in_part;
-        apart = o.apart;
-        taken = o.taken;
-        fresh = o.fresh;
-        in_order = o.in_order;
-        one = o.one;
-        known = o.known;
-        near = o.near;
-        outside = o.outside;
-        inside = o.inside;
-      };
+      seat = λ k other at_k. seat_same members k other count (HandOn (open_number m h) m (turn (open_number m h) h) ∷ h) h (record { seen = refl; left = λ i. refl; taken = λ i. refl; shape = λ i shape is. is }) (st.seat k other at_k);
       place = λ i low high. elim (eqb_tells i seat.ended) [
         | inl e ↦ record {
           share = record share { turn = seat.number + 1 };
@@ -311,17 +231,9 @@ hands members seats count places h m seat share st at found can next is =
           valid = rw (← same) now.valid;
         }
         | inr e ↦
-            let p : PlaceStands members i (slice_get places (i % 8)) h = st.place i low high in
             let apart : (i % 8) ≢ (seat.ended % 8) = places_apart i seat.ended count e.1 (omega arith) (let k = s.known in omega arith) (omega arith) (let k = s.near in omega arith) in
-            record {
-              share = p.share;
-              there = slice_get-set_other places (seat.ended % 8) (i % 8) _ apart ∙ p.there;
-              shape = p.shape;
-              taken_is = p.taken_is;
-              turn_is = rw here (turn_else i seat.ended m (turn seat.ended h) h e.1 ∙ p.turn_is);
-              cursor_is = p.cursor_is;
-              valid = p.valid;
-            }
+            place_same members i (slice_get places (i % 8)) _ (HandOn (open_number m h) m (turn (open_number m h) h) ∷ h) h (st.place i low high)
+            (slice_get-set_other places (seat.ended % 8) (i % 8) _ apart) refl refl (rw here (turn_else i seat.ended m (turn seat.ended h) h e.1))
       ];
       beyond = λ i past. let b = st.beyond i past in
           (b.0, b.1, rw here (turn_else i seat.ended m (turn seat.ended h) h (λ same. let k = s.known in omega arith) ∙ b.2));

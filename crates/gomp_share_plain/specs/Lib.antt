@@ -3,3 +3,4 @@ pub mod Own
 pub mod Plain
 pub mod PlainLaws
 pub mod Runs
+pub mod Same

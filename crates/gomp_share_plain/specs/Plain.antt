@@ -59,13 +59,18 @@ pub record PlaceStands (members i : ℕ) (place : Option (Option OpenShare)) (h 
   pub cursor_is : share.cursor.plan ≡ record { members = members; shape = share.shape }
   pub valid : IsShape share.shape
 
+-- nobody entered the share, took a piece of it or handed one on
+abbrev pub Untouched : ℕ → List Event → Type 0
+Untouched i h = (shape_at i h ≡ None) × ((queue_of : ℕ → ℕ) (q : ℕ) → taken_in queue_of i q h ≡ 0) × (turn i h ≡ 0)
+
+-- the seats and places stand for these events, which kept the rule
 pub record StandsFor (members : ℕ) (seats : List Seat) (opened : ℕ) (places : List (Option OpenShare)) (h : List Event) : Type 0 where
   pub size : length seats ≡ members
   pub team : members < 2 ^ 16
   pub eight : length places ≡ 8
   pub seat : (m : ℕ) (seat : Seat) → slice_get seats m ≡ Some seat → SeatStands members m seat opened h
   pub place : (i : ℕ) → i < opened → opened ≤ i + 8 → PlaceStands members i (slice_get places (i % 8)) h
-  pub beyond : (i : ℕ) → opened ≤ i → (shape_at i h ≡ None) × ((queue_of : ℕ → ℕ) (q : ℕ) → taken_in queue_of i q h ≡ 0) × (turn i h ≡ 0)
+  pub beyond : (i : ℕ) → opened ≤ i → Untouched i h
   pub rule : Always (ShareRule (schedule members) members) h
 
 -- the share at a place

@@ -10,8 +10,9 @@ use Rattle.gomp_types.specs.Values.{IsShape}
 use Rattle.gomp_types.specs.declared.shape.Shape.{Shape}
 use Rattle.gomp_types.proofs.Booleans.{share_is}
 use Rattle.gomp_types.proofs.SharesKeep.{inside}
-use Rattle.gomp_types.specs.Deals.{schedule, taken_in}
-use Rattle.gomp_types.specs.Events.{open_share, turn, shape_at}
+use Rattle.gomp_types.specs.Deals.{schedule}
+use Rattle.gomp_types.specs.Events.{open_share}
+use Rattle.gomp_share_plain.specs.Same.{SameSeat, SamePlaces, seat_same, place_kept, beyond_kept}
 use Rattle.gomp_share_plain.specs.Calls.{IsAside, seen_of}
 use Rattle.gomp_share_plain.specs.Plain.{SeatStands, PlaceStands, StandsFor, new_seat, seat_seen, plain_seen}
 use Rattle.gomp_share_plain.specs.declared.plain.Seat.{Seat}
@@ -69,60 +70,41 @@ plain_valid members seats opened places h m i shape st there =
           valid_inside members m i shape _ opened _ h s full (st.place _ (let k = s.known in omega arith) (let k = s.near in omega arith)) there
     ]
 
--- what is kept of a seat and a place, and the rule, say nothing of such an event
-abbrev SameFor : Event → List Event → Type 0
-SameFor event h =
-    ((members m : ℕ) (seat : Seat) (opened : ℕ) → SeatStands members m seat opened h → SeatStands members m seat opened (event ∷ h))
-    × ((members i : ℕ) (place : Option (Option OpenShare)) → PlaceStands members i place h → PlaceStands members i place (event ∷ h))
+-- such an event says the same of each seat and each place
+aside_seat : (event : Event) (m : ℕ) (h : List Event) → IsAside event → SameSeat m (event ∷ h) h
+aside_seat (Put share k payload) m h is = record { seen = refl; left = λ i. refl; taken = λ i. refl; shape = λ i shape at. at }
+aside_seat (Got share k payload) m h is = record { seen = refl; left = λ i. refl; taken = λ i. refl; shape = λ i shape at. at }
+aside_seat (Arrive barrier k tag) m h is = record { seen = refl; left = λ i. refl; taken = λ i. refl; shape = λ i shape at. at }
+aside_seat (Pass barrier k) m h is = record { seen = refl; left = λ i. refl; taken = λ i. refl; shape = λ i shape at. at }
+aside_seat (Break k place) m h is = record { seen = refl; left = λ i. refl; taken = λ i. refl; shape = λ i shape at. at }
+aside_seat _ m h is = absurd is
 
-aside_same : (event : Event) (h : List Event) → IsAside event → SameFor event h
-aside_same (Put share m payload) h is = (
-  (λ members k seat opened s. record { started = s.started; ended = s.ended; drained = s.drained; piece = s.piece; number = s.number; next_part = s.next_part; in_part = s.in_part; apart = s.apart; taken = s.taken; fresh = s.fresh; in_order = s.in_order; one = s.one; known = s.known; near = s.near; outside = s.outside; inside = s.inside }),
-  (λ members i place p. record { share = p.share; there = p.there; shape = p.shape; taken_is = p.taken_is; turn_is = p.turn_is; cursor_is = p.cursor_is; valid = p.valid }),
-)
-aside_same (Got share m payload) h is = (
-  (λ members k seat opened s. record { started = s.started; ended = s.ended; drained = s.drained; piece = s.piece; number = s.number; next_part = s.next_part; in_part = s.in_part; apart = s.apart; taken = s.taken; fresh = s.fresh; in_order = s.in_order; one = s.one; known = s.known; near = s.near; outside = s.outside; inside = s.inside }),
-  (λ members i place p. record { share = p.share; there = p.there; shape = p.shape; taken_is = p.taken_is; turn_is = p.turn_is; cursor_is = p.cursor_is; valid = p.valid }),
-)
-aside_same (Arrive barrier m tag) h is = (
-  (λ members k seat opened s. record { started = s.started; ended = s.ended; drained = s.drained; piece = s.piece; number = s.number; next_part = s.next_part; in_part = s.in_part; apart = s.apart; taken = s.taken; fresh = s.fresh; in_order = s.in_order; one = s.one; known = s.known; near = s.near; outside = s.outside; inside = s.inside }),
-  (λ members i place p. record { share = p.share; there = p.there; shape = p.shape; taken_is = p.taken_is; turn_is = p.turn_is; cursor_is = p.cursor_is; valid = p.valid }),
-)
-aside_same (Pass barrier m) h is = (
-  (λ members k seat opened s. record { started = s.started; ended = s.ended; drained = s.drained; piece = s.piece; number = s.number; next_part = s.next_part; in_part = s.in_part; apart = s.apart; taken = s.taken; fresh = s.fresh; in_order = s.in_order; one = s.one; known = s.known; near = s.near; outside = s.outside; inside = s.inside }),
-  (λ members i place p. record { share = p.share; there = p.there; shape = p.shape; taken_is = p.taken_is; turn_is = p.turn_is; cursor_is = p.cursor_is; valid = p.valid }),
-)
-aside_same (Break m place) h is = (
-  (λ members k seat opened s. record { started = s.started; ended = s.ended; drained = s.drained; piece = s.piece; number = s.number; next_part = s.next_part; in_part = s.in_part; apart = s.apart; taken = s.taken; fresh = s.fresh; in_order = s.in_order; one = s.one; known = s.known; near = s.near; outside = s.outside; inside = s.inside }),
-  (λ members i place p. record { share = p.share; there = p.there; shape = p.shape; taken_is = p.taken_is; turn_is = p.turn_is; cursor_is = p.cursor_is; valid = p.valid }),
-)
-aside_same _ h is = absurd is
+aside_places : (event : Event) (h : List Event) → IsAside event → SamePlaces (event ∷ h) h
+aside_places (Put share k payload) h is = record { shape = λ i. refl; taken = λ queue_of i q. refl; turn = λ i. refl }
+aside_places (Got share k payload) h is = record { shape = λ i. refl; taken = λ queue_of i q. refl; turn = λ i. refl }
+aside_places (Arrive barrier k tag) h is = record { shape = λ i. refl; taken = λ queue_of i q. refl; turn = λ i. refl }
+aside_places (Pass barrier k) h is = record { shape = λ i. refl; taken = λ queue_of i q. refl; turn = λ i. refl }
+aside_places (Break k place) h is = record { shape = λ i. refl; taken = λ queue_of i q. refl; turn = λ i. refl }
+aside_places _ h is = absurd is
 
--- nothing that is kept depends on arrivals and the like
+-- and the rule asks nothing of it
+aside_rule : (members : ℕ) (event : Event) (h : List Event) → IsAside event → ShareRule (schedule members) members event h
+aside_rule members (Put share m payload) h is = tt
+aside_rule members (Got share m payload) h is = tt
+aside_rule members (Arrive barrier m tag) h is = tt
+aside_rule members (Pass barrier m) h is = tt
+aside_rule members (Break m place) h is = tt
+aside_rule members _ h is = absurd is
+
+-- so nothing that is kept depends on arrivals and the like
 pub plain_aside : (members : ℕ) (seats : List Seat) (opened : ℕ) (places : List (Option OpenShare)) (h : List Event) (event : Event) → IsAside event → StandsFor members seats opened places h → StandsFor members seats opened places (event ∷ h)
 plain_aside members seats opened places h event is st =
-    let same = aside_same event h is in record {
+    let same = aside_places event h is in record {
       size = st.size;
       team = st.team;
       eight = st.eight;
-      seat = λ k seat at. same.0 members k seat opened (st.seat k seat at);
-      place = λ i low high. same.1 members i (slice_get places (i % 8)) (st.place i low high);
-      beyond = λ i past. beyond_same event is i (st.beyond i past);
-      rule = (rule_same event is, st.rule);
+      seat = λ k seat at. seat_same members k seat opened (event ∷ h) h (aside_seat event k h is) (st.seat k seat at);
+      place = λ i low high. place_kept members i (slice_get places (i % 8)) (event ∷ h) h same (st.place i low high);
+      beyond = λ i past. beyond_kept i (event ∷ h) h same (st.beyond i past);
+      rule = (aside_rule members event h is, st.rule);
     }
-  where
-    beyond_same : (event : Event) → IsAside event → (i : ℕ) → (shape_at i h ≡ None) × ((queue_of : ℕ → ℕ) (q : ℕ) → taken_in queue_of i q h ≡ 0) × (turn i h ≡ 0) → (shape_at i (event ∷ h) ≡ None) × ((queue_of : ℕ → ℕ) (q : ℕ) → taken_in queue_of i q (event ∷ h) ≡ 0) × (turn i (event ∷ h) ≡ 0)
-    beyond_same (Put share m payload) is i b = b
-    beyond_same (Got share m payload) is i b = b
-    beyond_same (Arrive barrier m tag) is i b = b
-    beyond_same (Pass barrier m) is i b = b
-    beyond_same (Break m place) is i b = b
-    beyond_same _ is i b = absurd is
-
-    rule_same : (event : Event) → IsAside event → ShareRule (schedule members) members event h
-    rule_same (Put share m payload) is = tt
-    rule_same (Got share m payload) is = tt
-    rule_same (Arrive barrier m tag) is = tt
-    rule_same (Pass barrier m) is = tt
-    rule_same (Break m place) is = tt
-    rule_same _ is = absurd is

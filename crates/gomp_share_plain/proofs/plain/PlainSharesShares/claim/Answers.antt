@@ -2,7 +2,9 @@ use Rattle.std.proofs.Common.{◌%◌, ◌<◌, arith, refl, length}
 use Rattle.std.proofs.lemmas.List.{length-set}
 use Rattle.std.proofs.lemmas.Option.{slice_get_read}
 use Rattle.gomp_share_plain.specs.Calls.{CanClaim}
-use Rattle.gomp_share_plain.proofs.PlainKeeps.{claims, drains, place_is, piece_at, told, known_by, own_place, not_empty, here_plan}
+use Rattle.gomp_share_plain.proofs.Places.{place_is, own_place, not_empty, here_plan}
+use Rattle.gomp_share_plain.proofs.TakesKeep.{claims, drains, piece_at}
+use Rattle.gomp_share_plain.proofs.Views.{told, known_by}
 use Rattle.gomp_share_plain.proofs.plain.PlainSharesShares.claim.Goals as goal
 
 pub returns-in_default-clause-stands : goal.returns-in_default-clause-stands

@@ -2,7 +2,9 @@ use Rattle.std.proofs.Common.{◌<◌, ◌^◌, refl, rules, arith}
 use Rattle.std.proofs.lemmas.List.{length-set}
 use Rattle.std.proofs.lemmas.Option.{slice_get_read}
 use Rattle.gomp_share_plain.specs.Calls.{CanLeave}
-use Rattle.gomp_share_plain.proofs.PlainKeeps.{inside, leaves, leave_rule, told, known_by}
+use Rattle.gomp_share_plain.proofs.Seats.{inside}
+use Rattle.gomp_share_plain.proofs.LeavesKeep.{leaves, leave_rule}
+use Rattle.gomp_share_plain.proofs.Views.{told, known_by}
 use Rattle.gomp_share_plain.proofs.plain.PlainSharesShares.leave.Goals as goal
 
 pub returns-clause-stands : goal.returns-clause-stands

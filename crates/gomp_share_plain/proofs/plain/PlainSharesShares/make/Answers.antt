@@ -1,5 +1,5 @@
 use Rattle.std.proofs.Common.{◌<◌, ◌^◌, [], arith}
-use Rattle.gomp_share_plain.proofs.PlainKeeps.{made}
+use Rattle.gomp_share_plain.proofs.Views.{made}
 use Rattle.gomp_share_plain.proofs.plain.PlainSharesShares.make.Goals as goal
 
 pub returns-clause-stands : goal.returns-clause-stands

@@ -1,6 +1,7 @@
 use Rattle.std.proofs.Common.{◌%◌, ◌<◌, arith, refl, sym, length}
 use Rattle.std.proofs.lemmas.Option.{slice_get_read}
-use Rattle.gomp_share_plain.proofs.PlainKeeps.{place_is, told_stands, next_place, next_differs, new_differs, not_empty}
+use Rattle.gomp_share_plain.proofs.Places.{place_is, next_place, next_differs, new_differs, not_empty}
+use Rattle.gomp_share_plain.proofs.Views.{told_stands}
 use Rattle.gomp_share_plain.proofs.plain.PlainSharesShares.next_differs.Goals as goal
 
 pub returns-then-next-self-clause-answer : goal.returns-then-next-self-clause-answer

@@ -2,10 +2,12 @@ use Rattle.std.proofs.Common.{◌≡◌, ◌%◌, ◌<◌, ◌^◌, arith, rules
 use Rattle.std.specs.Prelude.{IsTrue}
 use Rattle.std.proofs.lemmas.List.{length-set}
 use Rattle.std.proofs.lemmas.Option.{slice_get_read}
-use Rattle.gomp_types.specs.Events.{has_room, shape_at}
-use Rattle.gomp_types.specs.Refusals.{shape_differs}
+use Rattle.gomp_types.specs.Events.{has_room}
 use Rattle.gomp_share_plain.specs.Calls.{CanOpen}
-use Rattle.gomp_share_plain.proofs.PlainKeeps.{enters, opens, told, known_by, place_is, known_place, not_empty, same_here, differs_here, next_is, fresh, room_by, no_room, room_before, each_room, can_enter}
+use Rattle.gomp_share_plain.proofs.Room.{room_by, no_room, room_before, each_room}
+use Rattle.gomp_share_plain.proofs.Places.{place_is, next_place, not_empty, next_same, next_differs, next_is, new_differs}
+use Rattle.gomp_share_plain.proofs.EntersKeep.{enters, opens, can_enter}
+use Rattle.gomp_share_plain.proofs.Views.{told, known_by}
 use Rattle.gomp_share_plain.proofs.plain.PlainSharesShares.try_open.Goals as goal
 
 pub returns-then-not-is_same-clause-answer : goal.returns-then-not-is_same-clause-answer
@@ -15,9 +17,7 @@ returns-then-not-is_same-clause-answer c = λ h st0.
     let eight = st.eight in
     let within : c.index-seat.result.now.started % 8 < length c.self.inside.places = omega arith in
     let there = place_is c.self.inside.places (c.index-seat.result.now.started % 8) _ _ within c.in-Some.is in
-    let here = known_place _ _ _ _ h c.args.member c.index-seat.result.now st at can.outside c.if-number-self.true in
-    let s = st.seat c.args.member _ at in
-    ap (λ n. shape_differs c.args.shape.now (shape_at n h)) s.started ∙ differs_here _ _ _ c.in-Some.share c.args.shape.now h here there ∙ ap not (sym c.is_same.ensures ∙ c.if-not-is_same.true)
+    sym (next_differs _ _ _ _ h c.args.member c.index-seat.result.now c.in-Some.share c.args.shape.now st at c.if-number-self.true there) ∙ ap not (sym c.is_same.ensures ∙ c.if-not-is_same.true)
 
 pub returns-then-number-self-clause-answer : goal.returns-then-number-self-clause-answer
 returns-then-number-self-clause-answer c = λ h st0.
@@ -26,10 +26,9 @@ returns-then-number-self-clause-answer c = λ h st0.
     let eight = st.eight in
     let within : c.index-seat.result.now.started % 8 < length c.self.inside.places = omega arith in
     let there = place_is c.self.inside.places (c.index-seat.result.now.started % 8) _ _ within c.in-Some.is in
-    let here = known_place _ _ _ _ h c.args.member c.index-seat.result.now st at can.outside c.if-number-self.true in
     let s = st.seat c.args.member _ at in
     rw (← c.self.view_is) (
-      ap (λ n. shape_differs c.args.shape.now (shape_at n h)) s.started ∙ differs_here _ _ _ c.in-Some.share c.args.shape.now h here there ∙ ap not (sym c.is_same.ensures ∙ c.if-not-is_same.false),
+      sym (next_differs _ _ _ _ h c.args.member c.index-seat.result.now c.in-Some.share c.args.shape.now st at c.if-number-self.true there) ∙ ap not (sym c.is_same.ensures ∙ c.if-not-is_same.false),
       subst (λ n. has_room (length c.self.inside.seats.items) n h ≡ true) (sym s.started) (room_before _ _ _ _ h c.index-seat.result.now.started st c.if-number-self.true),
     )
 
@@ -40,10 +39,9 @@ returns-then-number-self-clause-stands c = λ h st0.
     let eight = st.eight in
     let within : c.index-seat.result.now.started % 8 < length c.self.inside.places = omega arith in
     let there = place_is c.self.inside.places (c.index-seat.result.now.started % 8) _ _ within c.in-Some.is in
-    let here = known_place _ _ _ _ h c.args.member c.index-seat.result.now st at can.outside c.if-number-self.true in
     let fine = can_enter _ c.args.member c.args.shape.now _ can c.fair_schedule.ensures c.pieces_tile.ensures in
     rw (length-set c.self.inside.seats.items c.args.member _) (enters _ _ _ _ h c.args.member c.index-seat.result.now c.args.shape.now st at can.outside c.if-number-self.true fine
-    (same_here _ _ _ c.in-Some.share c.args.shape.now h here there (sym c.is_same.ensures ∙ c.if-not-is_same.false)))
+    (next_same _ _ _ _ h c.args.member c.index-seat.result.now c.in-Some.share c.args.shape.now st at c.if-number-self.true there (sym c.is_same.ensures ∙ c.if-not-is_same.false)))
 
 pub invariant_of-self : goal.invariant_of-self
 invariant_of-self c = let (h, st0) = known_by _ _ c.self.view_is c.self.invariant in (_, returns-then-number-self-clause-stands c h st0)
@@ -54,7 +52,7 @@ returns-then-not-has_room-clause-answer c = λ h st0.
     let at = slice_get_read c.self.inside.seats.items _ c.args.member c.index-seat.result.now refl can.member c.index-seat.ensures in
     let s = st.seat c.args.member _ at in
     rw (← c.self.view_is) (
-      rw s.started (fresh c.args.shape.now _ _ _ _ h c.index-seat.result.now.started st c.if-number-self.false),
+      new_differs _ _ _ _ h c.args.member c.index-seat.result.now c.args.shape.now st at c.if-number-self.false,
       subst (λ n. has_room (length c.self.inside.seats.items) n h ≡ false) (sym s.started) (no_room _ _ _ _ h c.index-seat.result.now.started st (λ all.
           let seats : c.deref.result.now ≡ c.self.inside.seats.items = c.deref.ensures.value in
           let found : IsTrue c.has_room.result = c.has_room.ensures.1 (rw seats all) in
@@ -85,7 +83,7 @@ returns-clause-answer c = λ h st0.
     let at = slice_get_read c.self.inside.seats.items _ c.args.member c.index-seat.result.now refl can.member c.index-seat.ensures in
     let s = st.seat c.args.member _ at in
     rw (← c.self.view_is) (
-      rw s.started (fresh c.args.shape.now _ _ _ _ h c.index-seat.result.now.started st c.if-number-self.false),
+      new_differs _ _ _ _ h c.args.member c.index-seat.result.now c.args.shape.now st at c.if-number-self.false,
       subst (λ n. has_room (length c.self.inside.seats.items) n h ≡ true) (sym s.started) (room_by _ _ _ _ h c.index-seat.result.now.started st (each_room _ _ (
           let seats : c.deref.result.now ≡ c.self.inside.seats.items = c.deref.ensures.value in
           rw seats at (c.has_room.ensures.0 (grind (arith, c.if-not-has_room.false)))))),
@@ -112,7 +110,7 @@ returns-in_default-clause-answer c = λ h st0.
     let at = slice_get_read c.self.inside.seats.items _ c.args.member c.index-seat.result.now refl can.member c.index-seat.ensures in
     let eight = st.eight in
     let within : c.index-seat.result.now.started % 8 < length c.self.inside.places = omega arith in
-    absurd (not_empty _ _ _ h (known_place _ _ _ _ h c.args.member c.index-seat.result.now st at can.outside c.if-number-self.true) (place_is c.self.inside.places (c.index-seat.result.now.started % 8) _ _ within c.in_default.is))
+    absurd (not_empty _ _ _ h (next_place _ _ _ _ h c.args.member c.index-seat.result.now st at c.if-number-self.true) (place_is c.self.inside.places (c.index-seat.result.now.started % 8) _ _ within c.in_default.is))
 
 pub overflow_cast-members : goal.overflow_cast-members
 overflow_cast-members c =

@@ -4,7 +4,8 @@ use Rattle.std.proofs.lemmas.List.{length-set}
 use Rattle.std.proofs.lemmas.Option.{slice_get_read}
 use Rattle.gomp_types.proofs.Booleans.{some_of, and_left}
 use Rattle.gomp_share_plain.specs.Calls.{CanBeginPart}
-use Rattle.gomp_share_plain.proofs.PlainKeeps.{place_is, told, known_by, own_place, not_empty}
+use Rattle.gomp_share_plain.proofs.Places.{place_is, own_place, not_empty}
+use Rattle.gomp_share_plain.proofs.Views.{told, known_by}
 use Rattle.gomp_share_plain.proofs.PartsKeep.{next_tells, number_below, begins_inside, begins, in_rest}
 use Rattle.gomp_share_plain.proofs.plain.PlainSharesShares.try_turn.Goals as goal
 

@@ -1,0 +1,127 @@
+-- What lies at the place of a share: of the one that a member is in, and of its next.
+use Rattle.std.proofs.Common.{◌≡◌, ◌≢◌, ℕ, ◌+◌, ◌%◌, ◌<◌, ◌≤◌, true, false, nat_lt, List, length, get_or, slice_get, Some, None, refl, ap, ◌∙◌, sym, arith}
+use Rattle.std.specs.Prelude.{Option, not}
+use Rattle.std.proofs.lemmas.Bool.Decides.{nat_tests}
+use Rattle.std.proofs.lemmas.Option.{slice_get-get_or}
+use Rattle.gomp_types.specs.declared.shape.Shape.{Shape}
+use Rattle.gomp_types.specs.declared.event.Event.{Event}
+use Rattle.gomp_types.specs.Shapes.{same_shape}
+use Rattle.gomp_types.specs.Events.{entered, open_share, shape_at, is_inside}
+use Rattle.gomp_types.specs.Refusals.{shape_differs}
+use Rattle.gomp_types.specs.Values.{IsShape}
+use Rattle.gomp_types.specs.Record.{shown}
+use Rattle.gomp_types.proofs.Compared.{same_shape_is}
+use Rattle.gomp_share_plain.specs.Calls.{taken_of, was_taken}
+use Rattle.gomp_share_plain.specs.declared.plain.Seat.{Seat}
+use Rattle.gomp_share_plain.specs.declared.plain.OpenShare.{OpenShare}
+use Rattle.gomp_share_plain.specs.Plain.{SeatStands, PlaceStands, StandsFor}
+use Rattle.gomp_share_plain.proofs.Seats.{inside}
+
+-- eight numbers in a row lie at eight places
+pub places_differ : (i n : ℕ) → i < n → n ≤ i + 7 → (i % 8) ≢ (n % 8)
+places_differ i n low high same = absurd (omega arith)
+
+pub places_apart : (i j n : ℕ) → i ≢ j → i < n → j < n → n ≤ i + 8 → n ≤ j + 8 → (i % 8) ≢ (j % 8)
+places_apart i j n differ a b c d same = absurd (omega (arith, differ))
+
+pub place_is : (places : List (Option OpenShare)) (k : ℕ) (none share : Option OpenShare) → k < length places → get_or places k none ≡ share → slice_get places k ≡ Some share
+place_is places k none share lt e = slice_get-get_or places k none lt ∙ ap Some e
+
+-- a place that has a share is not empty
+pub not_empty : (members i : ℕ) (place : Option (Option OpenShare)) (h : List Event) → PlaceStands members i place h → place ≡ Some None → ⊥
+not_empty members i place h p e = let there = p.there in let both : Some (Some p.share) ≡ Some None = sym there ∙ e in cc
+
+-- what lies at the place
+pub here_is : (members i : ℕ) (place : Option (Option OpenShare)) (share : OpenShare) (h : List Event) (p : PlaceStands members i place h) → place ≡ Some (Some share) → p.share ≡ share
+here_is members i place share h p e = let both : Some (Some p.share) ≡ Some (Some share) = sym p.there ∙ e in cc
+
+pub here_valid : (members i : ℕ) (place : Option (Option OpenShare)) (share : OpenShare) (h : List Event) → PlaceStands members i place h → place ≡ Some (Some share) → IsShape share.shape
+here_valid members i place share h p e = rw (← here_is members i place share h p e) p.valid
+
+pub here_plan : (members i : ℕ) (place : Option (Option OpenShare)) (share : OpenShare) (h : List Event) → PlaceStands members i place h → place ≡ Some (Some share) → share.cursor.plan ≡ record { members = members; shape = share.shape }
+here_plan members i place share h p e = rw (← here_is members i place share h p e) p.cursor_is
+
+pub shape_here : (members i : ℕ) (place : Option (Option OpenShare)) (share : OpenShare) (h : List Event) → PlaceStands members i place h → place ≡ Some (Some share) → shape_at i h ≡ Some share.shape
+shape_here members i place share h p e = p.shape ∙ ap (λ (v : OpenShare). Some v.shape) (here_is members i place share h p e)
+
+-- The share that a member is in
+
+-- the place of the share that the member is in
+pub own_place : (members : ℕ) (seats : List Seat) (count : ℕ) (places : List (Option OpenShare)) (h : List Event) (m : ℕ) (seat : Seat) →
+    StandsFor members seats count places h → slice_get seats m ≡ Some seat → is_inside m h ≡ true → PlaceStands members seat.ended (slice_get places (seat.ended % 8)) h
+own_place members seats count places h m seat st at within =
+    let s : SeatStands members m seat count h = st.seat m seat at in
+    let one : seat.started ≡ seat.ended + 1 = inside members m seat count h s within in
+    st.place seat.ended (let k = s.known in omega arith) (let k = s.near in omega arith)
+
+-- the share that the member is in
+pub own_share : (members : ℕ) (seats : List Seat) (count : ℕ) (places : List (Option OpenShare)) (h : List Event) (m : ℕ) (seat : Seat) (share : OpenShare) →
+    StandsFor members seats count places h → slice_get seats m ≡ Some seat → is_inside m h ≡ true → slice_get places (seat.ended % 8) ≡ Some (Some share) → open_share m h ≡ Some (seat.ended, share.shape)
+own_share members seats count places h m seat share st at within found =
+    let s : SeatStands members m seat count h = st.seat m seat at in
+    let p = own_place members seats count places h m seat st at within in
+    let own = s.inside (inside members m seat count h s within) in
+    let one_shape : Some own.0 ≡ Some share.shape = sym own.2 ∙ shape_here members seat.ended (slice_get places (seat.ended % 8)) share h p found in
+    let shape : own.0 ≡ share.shape = let e = one_shape in cc in
+    own.1 ∙ ap (λ (v : Shape). Some (seat.ended, v)) shape
+
+-- The next share of a member
+
+-- a member starts no share beyond the next
+pub next_is : (members : ℕ) (seats : List Seat) (count : ℕ) (places : List (Option OpenShare)) (h : List Event) (m : ℕ) (seat : Seat) →
+    StandsFor members seats count places h → slice_get seats m ≡ Some seat → count ≤ seat.started → seat.started ≡ count
+next_is members seats count places h m seat st at past = let k = (st.seat m seat at).known in omega arith
+
+-- the place of the member's next share, where another has opened it
+pub next_place : (members : ℕ) (seats : List Seat) (count : ℕ) (places : List (Option OpenShare)) (h : List Event) (m : ℕ) (seat : Seat) →
+    StandsFor members seats count places h → slice_get seats m ≡ Some seat → seat.started < count → PlaceStands members seat.started (slice_get places (seat.started % 8)) h
+next_place members seats count places h m seat st at before =
+    let s : SeatStands members m seat count h = st.seat m seat at in
+    st.place seat.started before (let r = s.near in let o = s.in_order in omega arith)
+
+above_none : (n k : ℕ) → shown n ≡ k → nat_lt 0 k ≡ nat_lt 0 n
+above_none n k e = grind (arith, nat_tests, e)
+
+-- whether a piece of the member's next share was taken: the place tells it, where the share is open
+pub next_taken : (members : ℕ) (seats : List Seat) (count : ℕ) (places : List (Option OpenShare)) (h : List Event) (m : ℕ) (seat : Seat) (share : OpenShare) →
+    StandsFor members seats count places h → slice_get seats m ≡ Some seat → seat.started < count → slice_get places (seat.started % 8) ≡ Some (Some share) →
+    nat_lt 0 share.taken ≡ was_taken (entered m h) h
+next_taken members seats count places h m seat share st at before found =
+    let s : SeatStands members m seat count h = st.seat m seat at in
+    let p = next_place members seats count places h m seat st at before in
+    let same = here_is members seat.started (slice_get places (seat.started % 8)) share h p found in
+    let taken : shown (taken_of seat.started h) ≡ share.taken = rw (← same) p.taken_is in
+    rw s.started (above_none (taken_of seat.started h) share.taken taken)
+
+-- of a share that nobody opened none was
+pub next_new : (members : ℕ) (seats : List Seat) (count : ℕ) (places : List (Option OpenShare)) (h : List Event) (m : ℕ) (seat : Seat) →
+    StandsFor members seats count places h → slice_get seats m ≡ Some seat → count ≤ seat.started → was_taken (entered m h) h ≡ false
+next_new members seats count places h m seat st at past =
+    let s : SeatStands members m seat count h = st.seat m seat at in
+    let none : taken_of seat.started h ≡ 0 = (st.beyond seat.started past).1 (λ k. 0) 0 in
+    rw (s.started, none) refl
+
+-- whether the member's next share is of another shape: its place tells it
+pub next_differs : (members : ℕ) (seats : List Seat) (count : ℕ) (places : List (Option OpenShare)) (h : List Event) (m : ℕ) (seat : Seat) (share : OpenShare) (shape : Shape) →
+    StandsFor members seats count places h → slice_get seats m ≡ Some seat → seat.started < count → slice_get places (seat.started % 8) ≡ Some (Some share) →
+    not (same_shape share.shape shape) ≡ shape_differs shape (shape_at (entered m h) h)
+next_differs members seats count places h m seat share shape st at before found =
+    let s : SeatStands members m seat count h = st.seat m seat at in
+    let p = next_place members seats count places h m seat st at before in
+    let same = here_is members seat.started (slice_get places (seat.started % 8)) share h p found in
+    let there : shape_at seat.started h ≡ Some share.shape = rw (← same) p.shape in
+    rw (s.started, there) refl
+
+-- where it is not, it is of the shape that the member comes with
+pub next_same : (members : ℕ) (seats : List Seat) (count : ℕ) (places : List (Option OpenShare)) (h : List Event) (m : ℕ) (seat : Seat) (share : OpenShare) (shape : Shape) →
+    StandsFor members seats count places h → slice_get seats m ≡ Some seat → seat.started < count → slice_get places (seat.started % 8) ≡ Some (Some share) →
+    same_shape share.shape shape ≡ true → shape_at seat.started h ≡ Some shape
+next_same members seats count places h m seat share shape st at before found same =
+    shape_here members seat.started (slice_get places (seat.started % 8)) share h (next_place members seats count places h m seat st at before) found ∙ ap Some (same_shape_is share.shape shape same)
+
+-- and one that nobody opened differs from none
+pub new_differs : (members : ℕ) (seats : List Seat) (count : ℕ) (places : List (Option OpenShare)) (h : List Event) (m : ℕ) (seat : Seat) (shape : Shape) →
+    StandsFor members seats count places h → slice_get seats m ≡ Some seat → count ≤ seat.started → shape_differs shape (shape_at (entered m h) h) ≡ false
+new_differs members seats count places h m seat shape st at past =
+    let s : SeatStands members m seat count h = st.seat m seat at in
+    rw (s.started, (st.beyond seat.started past).0) refl

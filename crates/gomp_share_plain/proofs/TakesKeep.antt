@@ -1,0 +1,163 @@
+-- A member that takes a piece, or is told that nothing is left, keeps the plain shares in step with the events.
+use Rattle.std.proofs.Common.{◌≡◌, ◌≢◌, ℕ, ◌+◌, ◌%◌, ◌<◌, ◌≤◌, true, false, List, ◌∷◌, length, slice_get, slice_set, Some, None, inl, inr, refl, ap, ◌∙◌, sym, subst, arith}
+use Rattle.std.specs.Prelude.{Option, ◌==◌, IfSome}
+use Rattle.std.proofs.lemmas.Bool.Decides.{nat_tests, eqb_tells}
+use Rattle.std.proofs.lemmas.List.{length-set}
+use Rattle.gomp_types.specs.declared.shape.Shape.{Shape}
+use Rattle.gomp_types.specs.declared.event.Event.{Event}
+use Rattle.gomp_types.specs.declared.event.Event.TheVariants.{Take, Drained}
+use Rattle.gomp_types.specs.Pieces.{Piece, Tiles, pieces_of}
+use Rattle.gomp_types.specs.Events.{open_share, open_number, share_number, turn, in_part, shape_at, is_inside}
+use Rattle.gomp_types.specs.Values.{IsShape}
+use Rattle.gomp_types.specs.Deals.{schedule}
+use Rattle.gomp_types.specs.Record.{shown}
+use Rattle.gomp_chunks.specs.Plans.{PlanView, next_piece, pieces}
+use Rattle.gomp_chunks.specs.Spots.{CursorView}
+use Rattle.gomp_types.specs.Rules.{MayTake, HasNone}
+use Rattle.gomp_types.proofs.Lists.{slice_get-set, slice_get-set_same, slice_get-set_other}
+use Rattle.gomp_share_plain.specs.Calls.{Claims, taken_of}
+use Rattle.gomp_share_plain.specs.declared.plain.Seat.{Seat}
+use Rattle.gomp_share_plain.specs.declared.plain.OpenShare.{OpenShare}
+use Rattle.gomp_share_plain.specs.Plain.{SeatStands, StandsFor, taken_by}
+use Rattle.gomp_share_plain.proofs.Takes.{next_is_for, next_shown, shown_more, taken_here, taken_mine, taken_else}
+use Rattle.gomp_share_plain.specs.Same.{seat_same, place_same}
+use Rattle.gomp_share_plain.proofs.Seats.{inside, inside_number, other_number, other_seat, seat_steps}
+use Rattle.gomp_share_plain.proofs.Places.{places_apart, here_is, here_valid, shape_here, own_place, own_share}
+
+-- the number of a piece that the plan of a member's share has is that among the pieces of its share
+numbered : (members i m : ℕ) (share : OpenShare) (number : ℕ) (piece : Piece) (h : List Event) (other : ℕ × Shape) (taken : Piece) → open_share m h ≡ Some (i, share.shape) →
+    share.cursor.plan ≡ record { members = members; shape = share.shape } → slice_get (pieces share.cursor.plan) number ≡ Some piece → open_share m h ≡ Some other → Some piece ≡ Some taken →
+    slice_get (pieces_of members other.1) number ≡ Some taken
+numbered members i m share number piece h other taken there plan is other_there same =
+    let shape : share.shape ≡ other.1 = let both : Some (i, share.shape) ≡ Some other = sym there ∙ other_there in let e : (i, share.shape) ≡ other = cc in ap (λ (o : ℕ × Shape). o.1) e in
+    let view : PlanView = record { members = members; shape = share.shape } in
+    let here : slice_get (pieces view) number ≡ Some piece = rw plan at is in
+    rw (← shape) (here ∙ same)
+
+-- what the member may take
+pub piece_at : (members : ℕ) (seats : List Seat) (count : ℕ) (places : List (Option OpenShare)) (h : List Event) (m : ℕ) (seat : Seat) (share : OpenShare) (answer : Option Piece) →
+    StandsFor members seats count places h → slice_get seats m ≡ Some seat → is_inside m h ≡ true → slice_get places (seat.ended % 8) ≡ Some (Some share) →
+    answer ≡ next_piece share.cursor.plan m seat.taken share.taken → IfSome answer (λ piece. (piece.0 < piece.1) × (piece.1 ≤ share.cursor.plan.shape.trips)) →
+    (IsShape share.shape → Tiles 0 (pieces_of members share.shape) share.shape.trips) → Claims members m answer h
+piece_at members seats count places h m seat share answer st at within found is size tiles =
+    let s : SeatStands members m seat count h = st.seat m seat at in
+    let p = own_place members seats count places h m seat st at within in
+    let same = here_is members seat.ended (slice_get places (seat.ended % 8)) share h p found in
+    let full = inside members m seat count h s within in
+    let valid = here_valid members seat.ended (slice_get places (seat.ended % 8)) share h p found in
+    let plan : share.cursor.plan ≡ record { members = members; shape = share.shape } = rw (← same) p.cursor_is in
+    let all : shown (taken_of seat.ended h) ≡ share.taken = rw (← same) p.taken_is in
+    let view : PlanView = record { members = members; shape = share.shape } in
+    let next : answer ≡ next_piece view m seat.taken share.taken = is ∙ ap (λ (p : PlanView). next_piece p m seat.taken share.taken) plan in
+    let least : answer ≡ next_piece view m (shown (taken_by seat.ended m h)) (shown (taken_of seat.ended h)) =
+    next ∙ sym (ap (λ n. next_piece view m n share.taken) (s.taken full)) ∙ sym (ap (λ n. next_piece view m (shown (taken_by seat.ended m h)) n) all) in
+    record {
+      share = (seat.ended, share.shape);
+      there = own_share members seats count places h m seat share st at within found;
+      valid = valid;
+      least = least ∙ next_shown members share.shape m (taken_by seat.ended m h) (taken_of seat.ended h) valid (tiles valid) ∙ sym (next_is_for members share.shape seat.ended m h);
+      within = subst (λ (plan : PlanView). IfSome answer (λ piece. (piece.0 < piece.1) × (piece.1 ≤ plan.shape.trips))) plan size;
+    }
+
+take_rule : (members m : ℕ) (piece : Piece) (h : List Event) → Claims members m (Some piece) h → in_part m h ≡ false → MayTake (schedule members) (open_number m h) m piece.0 piece.1 h
+take_rule members m piece h claims apart =
+    let number : open_number m h ≡ claims.share.0 = ap share_number claims.there in
+    rw number (record { shape = claims.share.1; inside = claims.there; next = sym claims.least; apart = apart })
+
+none_rule : (members m : ℕ) (h : List Event) → Claims members m None h → in_part m h ≡ false → HasNone (schedule members) (open_number m h) m h
+none_rule members m h claims apart =
+    let number : open_number m h ≡ claims.share.0 = ap share_number claims.there in
+    rw number (record { shape = claims.share.1; inside = claims.there; none = sym claims.least; apart = apart })
+
+-- a member takes a piece
+pub claims : (members : ℕ) (seats : List Seat) (count : ℕ) (places : List (Option OpenShare)) (h : List Event) (m : ℕ) (seat : Seat) (share : OpenShare) (number : ℕ) (piece : Piece) (cursor : CursorView) → cursor.plan ≡ share.cursor.plan → slice_get (pieces share.cursor.plan) number ≡ Some piece →
+    StandsFor members seats count places h → slice_get seats m ≡ Some seat → is_inside m h ≡ true → slice_get places (seat.ended % 8) ≡ Some (Some share) → in_part m h ≡ false → Claims members m (Some piece) h →
+    StandsFor members (slice_set seats m (record seat { piece = Some piece; taken = shown (seat.taken + 1); number = number })) count (slice_set places (seat.ended % 8) (Some (record share { taken = shown (share.taken + 1); cursor = cursor }))) (Take (open_number m h) m piece.0 piece.1 ∷ h)
+claims members seats count places h m seat share number piece cursor plan is st at within found apart may =
+    let s : SeatStands members m seat count h = st.seat m seat at in
+    let here : open_number m h ≡ seat.ended = inside_number members m seat count h s within in
+    let one : seat.started ≡ seat.ended + 1 = inside members m seat count h s within in
+    let room : (seat.ended % 8) < length places = rw st.eight (omega arith) in
+    let now = own_place members seats count places h m seat st at within in
+    let same = here_is members seat.ended (slice_get places (seat.ended % 8)) share h now found in
+    let own_number : (other : ℕ × Shape) (taken : Piece) → open_share m h ≡ Some other → Some piece ≡ Some taken → slice_get (pieces_of members other.1) number ≡ Some taken =
+    λ other taken there e. numbered members seat.ended m share number piece h other taken (own_share members seats count places h m seat share st at within found) (rw (← same) now.cursor_is) is there e in
+    let away : (i : ℕ) → i ≢ seat.ended → (open_number m h == i) ≡ false = λ i differ. rw here (other_number i seat.ended differ) in
+    record {
+      size = length-set seats m _ ∙ st.size;
+      team = st.team;
+      eight = length-set places (seat.ended % 8) _ ∙ st.eight;
+      seat = λ k other at_k. elim (slice_get-set seats m k _ other at_k) [
+        | inl e ↦ rw (e.0, e.1) (record {
+          started = s.started;
+          ended = s.ended;
+          drained = s.drained;
+          piece = grind (arith, nat_tests);
+          number = λ other taken there e. own_number other taken there e;
+          next_part = s.next_part;
+          in_part = s.in_part;
+          apart = s.apart;
+          taken = λ full. rw here (ap shown (taken_mine seat.ended m piece.0 piece.1 h) ∙ shown_more (taken_by seat.ended m h) ∙ ap (λ n. shown (n + 1)) (s.taken one));
+          fresh = λ i le. taken_else (λ k. k) m i (open_number m h) m piece.0 piece.1 h (away i (λ equal. omega arith)) ∙ s.fresh i le;
+          in_order = s.in_order;
+          one = s.one;
+          known = s.known;
+          near = s.near;
+          outside = s.outside;
+          inside = s.inside;
+        })
+        | inr e ↦ seat_same members k other count (Take (open_number m h) m piece.0 piece.1 ∷ h) h (other_seat (Take (open_number m h) m piece.0 piece.1) k h e.0 (λ i shape is. is)) (st.seat k other e.1)
+      ];
+      place = λ i low high. elim (eqb_tells i seat.ended) [
+        | inl e ↦ record {
+          share = record share { taken = shown (share.taken + 1); cursor = cursor };
+          there = rw e.1 (slice_get-set_same places (seat.ended % 8) _ room);
+          shape = ap (λ n. shape_at n h) e.1 ∙ shape_here members seat.ended (slice_get places (seat.ended % 8)) share h now found;
+          taken_is =
+              let before : shown (taken_of seat.ended h) ≡ share.taken = rw (← same) now.taken_is in
+              subst (λ (n : ℕ). shown (taken_of n (Take (open_number m h) m piece.0 piece.1 ∷ h)) ≡ shown (share.taken + 1)) (sym e.1)
+              (rw here (ap shown (taken_here seat.ended m piece.0 piece.1 h) ∙ shown_more (taken_of seat.ended h) ∙ ap (λ (n : ℕ). shown (n + 1)) before));
+          turn_is = ap (λ n. turn n h) e.1 ∙ (rw (← same) now.turn_is);
+          cursor_is = plan ∙ (rw (← same) now.cursor_is);
+          valid = rw (← same) now.valid;
+        }
+        | inr e ↦
+            let apart : (i % 8) ≢ (seat.ended % 8) = places_apart i seat.ended count e.1 (omega arith) (let k = s.known in omega arith) (omega arith) (let k = s.near in omega arith) in
+            place_same members i (slice_get places (i % 8)) _ (Take (open_number m h) m piece.0 piece.1 ∷ h) h (st.place i low high)
+            (slice_get-set_other places (seat.ended % 8) (i % 8) _ apart) refl (taken_else (λ k. 0) 0 i (open_number m h) m piece.0 piece.1 h (away i e.1)) refl
+      ];
+      beyond = λ i past. let b = st.beyond i past in (
+        b.0,
+        λ queue_of q. taken_else queue_of q i (open_number m h) m piece.0 piece.1 h (away i (λ same. let k = s.known in omega arith)) ∙ b.1 queue_of q,
+        b.2,
+      );
+      rule = (take_rule members m piece h may apart, st.rule);
+    }
+
+-- a member is told that nothing is left
+pub drains : (members : ℕ) (seats : List Seat) (count : ℕ) (places : List (Option OpenShare)) (h : List Event) (m : ℕ) (seat : Seat) →
+    StandsFor members seats count places h → slice_get seats m ≡ Some seat → in_part m h ≡ false → Claims members m None h →
+    StandsFor members (slice_set seats m (record seat { drained = true; piece = None })) count places (Drained (open_number m h) m ∷ h)
+drains members seats count places h m seat st at apart may =
+    let s : SeatStands members m seat count h = st.seat m seat at in
+    seat_steps members seats count places h (Drained (open_number m h) m) _ st
+    (record { shape = λ i. refl; taken = λ queue_of i q. refl; turn = λ i. refl })
+    (record {
+      started = s.started;
+      ended = s.ended;
+      drained = grind (arith, nat_tests);
+      piece = grind (arith, nat_tests);
+      number = λ share piece there e. absurd (cc);
+      next_part = s.next_part;
+      in_part = s.in_part;
+      apart = s.apart;
+      taken = s.taken;
+      fresh = s.fresh;
+      in_order = s.in_order;
+      one = s.one;
+      known = s.known;
+      near = s.near;
+      outside = s.outside;
+      inside = s.inside;
+    })
+    (none_rule members m h may apart)

@@ -1,0 +1,58 @@
+-- The value of a team's shares, and their fields: what is known of the one is of the others; new shares stand for no events.
+use Rattle.std.proofs.Common.{◌≡◌, ℕ, ◌^◌, ◌<◌, List, [], ◌∷◌, length, slice_get, Some, None, refl, ◌∙◌, sym, subst, arith, replicate}
+use Rattle.std.proofs.lemmas.Bool.Decides.{nat_tests}
+use Rattle.std.proofs.lemmas.List.{get_or-replicate, length-replicate}
+use Rattle.std.proofs.lemmas.Option.{slice_get_within, get_or_from_slice_get}
+use Rattle.gomp_types.specs.declared.event.Event.{Event}
+use Rattle.gomp_share_plain.specs.Calls.{seen_of}
+use Rattle.gomp_share_plain.specs.declared.Seen.{Seen}
+use Rattle.gomp_share_plain.specs.declared.plain.Seat.{Seat}
+use Rattle.gomp_share_plain.specs.Plain.{StandsFor, PlainView, new_seat, plain_seen}
+use Rattle.gomp_share_plain.specs.PlainLaws.{plain_agrees}
+
+-- what it tells of them, and of each list of events that they stand for
+pub told : (view now : PlainView) (m : ℕ) (h : List Event) (P : ℕ → Seen → Type 0) → view ≡ now → P (length now.seats) (plain_seen now.seats now.places m) → m < length now.seats →
+    StandsFor (length now.seats) now.seats now.opened now.places h → P (length view.seats) (seen_of m h) × StandsFor (length view.seats) view.seats view.opened view.places h
+told view now m h P e p lt st = rw e (subst (P (length now.seats)) (plain_agrees (length now.seats) now.seats now.opened now.places h m st lt) p, st)
+
+pub told_stands : (view now : PlainView) (m : ℕ) (h : List Event) → view ≡ now → m < length now.seats → StandsFor (length now.seats) now.seats now.opened now.places h →
+    (m < length view.seats) × StandsFor (length view.seats) view.seats view.opened view.places h
+told_stands view now m h e lt st = rw e (lt, st)
+
+-- and the other way round
+pub known_by : (view now : PlainView) → view ≡ now → (h : List Event) × StandsFor (length view.seats) view.seats view.opened view.places h → (h : List Event) × StandsFor (length now.seats) now.seats now.opened now.places h
+known_by view now e (h, st) = (h, rw (← e) st)
+
+-- new shares stand for no events
+pub made : (seats : List Seat) (n : ℕ) → n < 2 ^ 16 → seats ≡ replicate n new_seat →
+    StandsFor (length seats) seats 0 (None ∷ None ∷ None ∷ None ∷ None ∷ None ∷ None ∷ None ∷ []) []
+made seats n small e = record {
+  size = refl;
+  team = rw e (rw (length-replicate {A = Seat} n new_seat) small);
+  eight = refl;
+  seat = λ m seat at.
+      let in_new : slice_get (replicate n new_seat) m ≡ Some seat = rw e at at in
+      let lt : m < n = rw (length-replicate n new_seat) at (slice_get_within _ m seat in_new) in
+      let one : new_seat ≡ seat = sym (get_or-replicate n m new_seat seat lt) ∙ get_or_from_slice_get (replicate n new_seat) m seat seat in_new in
+      rw (← one) (record {
+        started = refl;
+        ended = λ i. grind (arith, nat_tests);
+        drained = refl;
+        piece = refl;
+        number = λ share piece there e. absurd (cc);
+        next_part = refl;
+        in_part = refl;
+        apart = λ e. refl;
+        taken = λ e. absurd (omega arith);
+        fresh = λ i le. refl;
+        in_order = omega arith;
+        one = omega arith;
+        known = omega arith;
+        near = omega arith;
+        outside = λ e. refl;
+        inside = λ e. absurd (omega arith);
+      });
+  place = λ i low high. absurd (omega arith);
+  beyond = λ i past. (refl, (λ queue_of q. refl), refl);
+  rule = tt;
+}

@@ -1,0 +1,76 @@
+-- Where more events say the same of a seat, or of the places, it stands as before. (own)
+use Rattle.std.specs.Prelude.{ℕ, ◌+◌, ◌≤◌, ◌≡◌, List, Option, Some, refl}
+use Rattle.std.proofs.Common.{sym, ap, ◌∙◌, arith}
+use Rattle.gomp_types.specs.declared.shape.Shape.{Shape}
+use Rattle.gomp_types.specs.declared.event.Event.{Event}
+use Rattle.gomp_types.specs.Events.{open_share, has_ended, turn, shape_at}
+use Rattle.gomp_types.specs.Record.{shown}
+use Rattle.gomp_types.specs.Deals.{taken_in}
+use Rattle.gomp_share_plain.specs.Calls.{seen_of, taken_of}
+use Rattle.gomp_share_plain.specs.Plain.{SeatStands, PlaceStands, Untouched, taken_by}
+use Rattle.gomp_share_plain.specs.declared.Seen.{Seen}
+use Rattle.gomp_share_plain.specs.declared.plain.Seat.{Seat}
+use Rattle.gomp_share_plain.specs.declared.plain.OpenShare.{OpenShare}
+
+-- Seats
+
+-- after events that say the same of a member's place, of what it left and took, and of the shape of each share that is open,
+pub record SameSeat (m : ℕ) (after before : List Event) : Type 0 where
+  pub seen : seen_of m after ≡ seen_of m before
+  pub left : (i : ℕ) → has_ended i m after ≡ has_ended i m before
+  pub taken : (i : ℕ) → taken_by i m after ≡ taken_by i m before
+  pub shape : (i : ℕ) (shape : Shape) → shape_at i before ≡ Some shape → shape_at i after ≡ Some shape
+
+-- its seat stands as before, also where more shares were opened, but not too many for it
+pub seat_near : (members m : ℕ) (seat : Seat) (opened more : ℕ) (after before : List Event) → SameSeat m after before → SeatStands members m seat opened before → opened ≤ more → more ≤ seat.ended + 8 → SeatStands members m seat more after
+seat_near members m seat opened more after before same s le near =
+    let own : open_share m after ≡ open_share m before = ap (λ (seen : Seen). seen.current) same.seen in
+    record {
+      started = ap (λ (seen : Seen). seen.entered) same.seen ∙ s.started;
+      ended = λ i. same.left i ∙ s.ended i;
+      drained = ap (λ (seen : Seen). seen.drained) same.seen ∙ s.drained;
+      piece = ap (λ (seen : Seen). seen.piece) same.seen ∙ s.piece;
+      number = λ share piece there e. s.number share piece (sym own ∙ there) e;
+      next_part = ap (λ (seen : Seen). seen.next_part) same.seen ∙ s.next_part;
+      in_part = ap (λ (seen : Seen). seen.in_part) same.seen ∙ s.in_part;
+      apart = s.apart;
+      taken = λ full. ap shown (same.taken seat.ended) ∙ s.taken full;
+      fresh = λ i le. same.taken i ∙ s.fresh i le;
+      in_order = s.in_order;
+      one = s.one;
+      known = let k = s.known in omega arith;
+      near = near;
+      outside = λ e. own ∙ s.outside e;
+      inside = λ e. let o = s.inside e in (o.0, own ∙ o.1, same.shape seat.ended o.0 o.2);
+    }
+
+pub seat_same : (members m : ℕ) (seat : Seat) (opened : ℕ) (after before : List Event) → SameSeat m after before → SeatStands members m seat opened before → SeatStands members m seat opened after
+seat_same members m seat opened after before same s = seat_near members m seat opened opened after before same s (omega arith) s.near
+
+-- Places
+
+-- after events that say the same of the shape of each share, of what was taken from it and handed on,
+pub record SamePlaces (after before : List Event) : Type 0 where
+  pub shape : (i : ℕ) → shape_at i after ≡ shape_at i before
+  pub taken : (queue_of : ℕ → ℕ) (i q : ℕ) → taken_in queue_of i q after ≡ taken_in queue_of i q before
+  pub turn : (i : ℕ) → turn i after ≡ turn i before
+
+-- a place stands as before; so does one that has the same after a write elsewhere
+pub place_same : (members i : ℕ) (place now : Option (Option OpenShare)) (after before : List Event) → PlaceStands members i place before → now ≡ place → shape_at i after ≡ shape_at i before → taken_of i after ≡ taken_of i before → turn i after ≡ turn i before →
+    PlaceStands members i now after
+place_same members i place now after before p here shape taken handed = record {
+  share = p.share;
+  there = here ∙ p.there;
+  shape = shape ∙ p.shape;
+  taken_is = ap shown taken ∙ p.taken_is;
+  turn_is = handed ∙ p.turn_is;
+  cursor_is = p.cursor_is;
+  valid = p.valid;
+}
+
+pub place_kept : (members i : ℕ) (place : Option (Option OpenShare)) (after before : List Event) → SamePlaces after before → PlaceStands members i place before → PlaceStands members i place after
+place_kept members i place after before same p = place_same members i place place after before p refl (same.shape i) (same.taken (λ k. 0) i 0) (same.turn i)
+
+-- and a share is untouched where it was
+pub beyond_kept : (i : ℕ) (after before : List Event) → SamePlaces after before → Untouched i before → Untouched i after
+beyond_kept i after before same none = (same.shape i ∙ none.0, λ queue_of q. same.taken queue_of i q ∙ none.1 queue_of q, same.turn i ∙ none.2)
