@@ -31,7 +31,7 @@ pub fn first_refusal<S: Shares>(
     limits: &Limits,
     call: &Call,
 ) -> Option<Refusal>
-    requires { member < S.members shares.now }
+    requires member { member < S.members shares.now }
     ensures known { (h : List Event) × S.stands shares.now h }
     ensures first { EachStands (S.stands shares.now) (λ h. result ≡ first_refusal (own_tests limits.now (seen_of member h) call.now)) }
 {
@@ -50,7 +50,7 @@ pub fn first_refusal<S: Shares>(
 /// above calls again on `Resume`. Refused with `InsideShare`, `ZeroStep`, `BadChunk`, `LoopTooLong`,
 /// `TooManyShares`, or with `Mismatch` where the team's share of this number is of another shape.
 pub fn loop_start<S: Shares>(shares: &mut S, member: u16, limits: &Limits, desc: &LoopDesc) -> Reply
-    requires { member < S.members shares.old }
+    requires member { member < S.members shares.old }
     ensures members { S.members shares.new ≡ S.members shares.old }
     ensures known { (h : List Event) × S.stands shares.old h }
     ensures answer { EachStands (S.stands shares.old) (IsReply limits.now (S.members shares.old) member (LoopStart desc.now) result) }
@@ -82,7 +82,7 @@ pub fn loop_start<S: Shares>(shares: &mut S, member: u16, limits: &Limits, desc:
 /// the member is in no loop, though it may be in sections, with `InOrdered` where it is in an ordered
 /// part, or with `Drained`.
 pub fn loop_next<S: Shares>(shares: &mut S, member: u16) -> Reply
-    requires { member < S.members shares.old }
+    requires member { member < S.members shares.old }
     ensures members { S.members shares.new ≡ S.members shares.old }
     ensures known { (h : List Event) × S.stands shares.old h }
     ensures answer { (limits : Limits) → EachStands (S.stands shares.old) (IsReply limits (S.members shares.old) member LoopNext result) }
@@ -113,7 +113,7 @@ pub fn loop_next<S: Shares>(shares: &mut S, member: u16) -> Reply
 /// Refused with `OutsideShare` where the member is in no loop, though it may be in sections, with
 /// `InOrdered`, `EndDiffers` or `NotDrained`.
 pub fn loop_end<S: Shares>(shares: &mut S, member: u16) -> Result<(), Refusal>
-    requires { member < S.members shares.old }
+    requires member { member < S.members shares.old }
     ensures members { S.members shares.new ≡ S.members shares.old }
     ensures known { (h : List Event) × S.stands shares.old h }
     ensures answer { EachStands (S.stands shares.old) (λ h. result ≡ outcome (first_refusal (loop_end_tests WaitEnd member h)) tt) }
@@ -133,7 +133,7 @@ pub fn loop_end<S: Shares>(shares: &mut S, member: u16) -> Result<(), Refusal>
 /// Refused with `OutsideShare` where the member is in no loop, though it may be in sections, with
 /// `InOrdered`, `EndDiffers` or `NotDrained`.
 pub fn loop_end_nowait<S: Shares>(shares: &mut S, member: u16) -> Reply
-    requires { member < S.members shares.old }
+    requires member { member < S.members shares.old }
     ensures members { S.members shares.new ≡ S.members shares.old }
     ensures known { (h : List Event) × S.stands shares.old h }
     ensures answer { (limits : Limits) → EachStands (S.stands shares.old) (IsReply limits (S.members shares.old) member LoopEndNowait result) }

@@ -20,7 +20,7 @@ use gomp_types::{Call, Refusal, Reply};
 /// Why the member may not make this call: the first test that holds of those that its place among
 /// the shares decides. A call on another construct has none here.
 pub fn first_refusal<S: Shares>(shares: &S, member: u16, call: &Call) -> Option<Refusal>
-    requires { member < S.members shares.now }
+    requires member { member < S.members shares.now }
     ensures known { (h : List Event) × S.stands shares.now h }
     ensures first { EachStands (S.stands shares.now) (λ h. result ≡ first_refusal (own_tests (seen_of member h) call.now)) }
 {
@@ -36,7 +36,7 @@ pub fn first_refusal<S: Shares>(shares: &S, member: u16, call: &Call) -> Option<
 /// `OrderedBackwards` where no iteration of its last piece has this value, or its part is not after
 /// the last one.
 pub fn ordered_start<S: Shares>(shares: &mut S, member: u16, value: i64) -> Reply
-    requires { member < S.members shares.old }
+    requires member { member < S.members shares.old }
     ensures members { S.members shares.new ≡ S.members shares.old }
     ensures known { (h : List Event) × S.stands shares.old h }
     ensures answer { (limits : Limits) → EachStands (S.stands shares.old) (IsReply limits (S.members shares.old) member (OrderedStart value) result) }
@@ -62,7 +62,7 @@ pub fn ordered_start<S: Shares>(shares: &mut S, member: u16, value: i64) -> Repl
 ///
 /// Refused with `NotInside` where it is in none.
 pub fn ordered_end<S: Shares>(shares: &mut S, member: u16) -> Reply
-    requires { member < S.members shares.old }
+    requires member { member < S.members shares.old }
     ensures members { S.members shares.new ≡ S.members shares.old }
     ensures known { (h : List Event) × S.stands shares.old h }
     ensures answer { (limits : Limits) → EachStands (S.stands shares.old) (IsReply limits (S.members shares.old) member OrderedEnd result) }

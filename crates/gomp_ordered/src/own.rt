@@ -12,7 +12,7 @@ use gomp_types::{Call, Refusal};
 /// Why a member that sees this of its place may not make this call: the first test that holds of
 /// those that its place among the shares decides. A call on another construct has none here.
 pub fn own_refusal(seen: &Seen, call: &Call) -> Option<Refusal>
-    requires { HasShape seen.now }
+    requires shape { HasShape seen.now }
     ensures first { result ≡ first_refusal (own_tests seen.now call.now) }
 {
     match call {
@@ -25,7 +25,7 @@ pub fn own_refusal(seen: &Seen, call: &Call) -> Option<Refusal>
 /// Why a member may not begin the ordered part of the iteration with this value: `OutsideShare`,
 /// `InOrdered`, `NotOrdered` or `OrderedBackwards`.
 pub fn start_refusal(seen: &Seen, value: i64) -> Option<Refusal>
-    requires { HasShape seen.now }
+    requires shape { HasShape seen.now }
     ensures first { result ≡ first_refusal (own_start_tests seen.now value) }
 {
     let Some((_, shape)) = seen.current else {
@@ -49,7 +49,7 @@ pub fn start_refusal(seen: &Seen, value: i64) -> Option<Refusal>
 /// Whether the iteration with this value lies in the member's piece, after those whose parts it has
 /// begun.
 fn comes_next(seen: &Seen, value: i64) -> bool
-    requires { HasShape seen.now }
+    requires shape { HasShape seen.now }
     ensures answer { result ≡ comes_next seen.now.current seen.now.piece seen.now.next_part value }
 {
     let Some((low, high)) = seen.piece else {
@@ -63,7 +63,7 @@ fn comes_next(seen: &Seen, value: i64) -> bool
 
 /// The iteration of the member's loop with this value; none where no iteration has it.
 pub fn iteration_of(seen: &Seen, value: i64) -> Option<u64>
-    requires { HasShape seen.now }
+    requires shape { HasShape seen.now }
     ensures answer { result ≡ seen_iteration seen.now.current value }
 {
     let (_, shape) = seen.current?;

@@ -19,7 +19,7 @@ pub fn first_refusal<S: Shares>(
     limits: &Limits,
     call: &Call,
 ) -> Option<Refusal>
-    requires { member < S.members shares.now }
+    requires member { member < S.members shares.now }
     ensures known { (h : List Event) × S.stands shares.now h }
     ensures first { EachStands (S.stands shares.now) (λ h. result ≡ first_refusal (own_tests limits.now (seen_of member h) call.now)) }
 {

@@ -37,7 +37,7 @@ pub fn sections_start<S: Shares>(
     count: u32,
     end_kind: EndKind,
 ) -> Reply
-    requires { member < S.members shares.old }
+    requires member { member < S.members shares.old }
     ensures members { S.members shares.new ≡ S.members shares.old }
     ensures known { (h : List Event) × S.stands shares.old h }
     ensures answer { EachStands (S.stands shares.old) (IsReply limits.now (S.members shares.old) member (SectionsStart count end_kind) result) }
@@ -65,7 +65,7 @@ pub fn sections_start<S: Shares>(
 ///
 /// Refused with `OutsideShare` or `Drained`.
 pub fn sections_next<S: Shares>(shares: &mut S, member: u16) -> Reply
-    requires { member < S.members shares.old }
+    requires member { member < S.members shares.old }
     ensures members { S.members shares.new ≡ S.members shares.old }
     ensures known { (h : List Event) × S.stands shares.old h }
     ensures answer { (limits : Limits) → EachStands (S.stands shares.old) (IsReply limits (S.members shares.old) member SectionsNext result) }
@@ -86,7 +86,7 @@ pub fn sections_next<S: Shares>(shares: &mut S, member: u16) -> Reply
 ///
 /// Refused with `OutsideShare`, `EndDiffers` or `NotDrained`.
 pub fn sections_end<S: Shares>(shares: &mut S, member: u16) -> Result<(), Refusal>
-    requires { member < S.members shares.old }
+    requires member { member < S.members shares.old }
     ensures members { S.members shares.new ≡ S.members shares.old }
     ensures known { (h : List Event) × S.stands shares.old h }
     ensures answer { EachStands (S.stands shares.old) (λ h. result ≡ outcome (first_refusal (sections_end_tests WaitEnd member h)) tt) }
@@ -106,7 +106,7 @@ pub fn sections_end<S: Shares>(shares: &mut S, member: u16) -> Result<(), Refusa
 ///
 /// Refused with `OutsideShare`, `EndDiffers` or `NotDrained`.
 pub fn sections_end_nowait<S: Shares>(shares: &mut S, member: u16) -> Reply
-    requires { member < S.members shares.old }
+    requires member { member < S.members shares.old }
     ensures members { S.members shares.new ≡ S.members shares.old }
     ensures known { (h : List Event) × S.stands shares.old h }
     ensures answer { (limits : Limits) → EachStands (S.stands shares.old) (IsReply limits (S.members shares.old) member SectionsEndNowait result) }
@@ -124,7 +124,7 @@ pub fn sections_end_nowait<S: Shares>(shares: &mut S, member: u16) -> Reply
 
 /// The number of the section that a member was given, 0 where it was given none.
 fn section_number(piece: Option<(u64, u64)>) -> u64
-    requires { ForSome piece (λ p. p.0 < p.1) }
+    requires some { ForSome piece (λ p. p.0 < p.1) }
     ensures answer { result ≡ section_of piece }
 {
     match piece {

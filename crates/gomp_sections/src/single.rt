@@ -28,7 +28,7 @@ use gomp_types::{Limits, Payload, Refusal, Reply, laws, single_shape};
 /// `InsideShare`, `TooManyShares`, or with `Mismatch` where the team's share of this number is
 /// another construct.
 pub fn single_start<S: Shares>(shares: &mut S, member: u16, limits: &Limits) -> Reply
-    requires { member < S.members shares.old }
+    requires member { member < S.members shares.old }
     ensures members { S.members shares.new ≡ S.members shares.old }
     ensures known { (h : List Event) × S.stands shares.old h }
     ensures answer { EachStands (S.stands shares.old) (IsReply limits.now (S.members shares.old) member SingleStart result) }
@@ -65,7 +65,7 @@ pub fn single_copy_start<S: Shares>(
     limits: &Limits,
     put: Option<&Payload>,
 ) -> Reply
-    requires { member < S.members shares.old }
+    requires member { member < S.members shares.old }
     ensures members { S.members shares.new ≡ S.members shares.old }
     ensures known { (h : List Event) × S.stands shares.old h }
     ensures refused { (refusal : Refusal) → EachStands (S.stands shares.old) (λ h. result ≡ Refused refusal ↔ first_refusal (call_tests limits.now member SingleCopyStart h) ≡ Some refusal) }
@@ -107,7 +107,7 @@ pub fn single_copy_start<S: Shares>(
 ///
 /// Refused with `NotInside` where the member does not execute a `single` with words.
 pub fn single_copy_end<S: Shares>(shares: &mut S, member: u16) -> Result<(), Refusal>
-    requires { member < S.members shares.old }
+    requires member { member < S.members shares.old }
     ensures members { S.members shares.new ≡ S.members shares.old }
     ensures known { (h : List Event) × S.stands shares.old h }
     ensures answer { EachStands (S.stands shares.old) (λ h. result ≡ outcome (first_refusal (own_copy_end_tests (seen_of member h))) tt) }

@@ -67,7 +67,7 @@ pub enum ShareAnswer {
 /// Makes one call on the shares of a team of `count` members where it may be made, which `look`
 /// tells.
 pub fn make_call<S: Shares>(shares: &mut S, count: u16, step: &ShareStep) -> ShareAnswer
-    requires { S.members shares.old ≡ count }
+    requires team { S.members shares.old ≡ count }
     ensures members { S.members shares.new ≡ count }
     ensures known { step.now.member < count → (h : List Event) × S.stands shares.old h }
     ensures kept { result ≡ NotMade → shares.new ≡ shares.old }

@@ -82,19 +82,19 @@ pub trait Shares: Sized {
 
     /// What the member sees of its place.
     fn look(&self, member: u16) -> Seen
-        requires { member < members self.now }
+        requires member { member < members self.now }
         ensures known { (h : List Event) × stands self.now h }
         ensures value { result ≡ seen self.now member };
 
     /// Whether the share that this member enters next is of another shape, by those that entered it.
     fn next_differs(&self, member: u16, shape: &Shape) -> bool
-        requires { member < members self.now }
+        requires member { member < members self.now }
         ensures known { (h : List Event) × stands self.now h }
         ensures answer { EachStands (stands self.now) (λ h. result ≡ shape_differs shape.now (shape_at (entered member h) h)) };
 
     /// Whether some member took a piece of the share that this member enters next.
     fn next_is_taken(&self, member: u16) -> bool
-        requires { member < members self.now }
+        requires member { member < members self.now }
         ensures known { (h : List Event) × stands self.now h }
         ensures answer { EachStands (stands self.now) (λ h. result ≡ was_taken (entered member h) h) };
 
@@ -104,7 +104,7 @@ pub trait Shares: Sized {
     /// `shape` is that of a construct that is not refused (`LoopDesc::shape`, `sections_shape`,
     /// `single_shape`). The member is in no share, and has entered fewer than 2^48.
     fn try_open(&mut self, member: u16, shape: &Shape) -> Opening
-        requires { CanOpen (members self.old) member shape.now (seen self.old member) }
+        requires place { CanOpen (members self.old) member shape.now (seen self.old member) }
         ensures members { members self.new ≡ members self.old }
         ensures known { (h : List Event) × stands self.old h }
         ensures answer { EachStands (stands self.old) (MayOpen (members self.old) member shape.now result) }
@@ -116,7 +116,7 @@ pub trait Shares: Sized {
     ///
     /// The member is in a share, in no ordered part, and was not told that nothing is left.
     fn claim(&mut self, member: u16) -> Option<(u64, u64)>
-        requires { CanClaim (members self.old) member (seen self.old member) }
+        requires place { CanClaim (members self.old) member (seen self.old member) }
         ensures members { members self.new ≡ members self.old }
         ensures known { (h : List Event) × stands self.old h }
         ensures answer { EachStands (stands self.old) (Claims (members self.old) member result) }
@@ -128,7 +128,7 @@ pub trait Shares: Sized {
     /// The iteration lies in the member's piece, after those whose parts it has begun; the member is in
     /// an ordered loop, and in no part of it.
     fn try_turn(&mut self, member: u16, iteration: u64) -> bool
-        requires { CanBeginPart (members self.old) member iteration (seen self.old member) }
+        requires place { CanBeginPart (members self.old) member iteration (seen self.old member) }
         ensures members { members self.new ≡ members self.old }
         ensures known { (h : List Event) × stands self.old h }
         ensures answer { EachStands (stands self.old) (λ h. result ≡ own_turn (members self.old) member h) }
@@ -137,7 +137,7 @@ pub trait Shares: Sized {
 
     /// Ends the member's ordered part, in which it is.
     fn end_part(&mut self, member: u16)
-        requires { CanEndPart (members self.old) member (seen self.old member) }
+        requires place { CanEndPart (members self.old) member (seen self.old member) }
         ensures members { members self.new ≡ members self.old }
         ensures known { (h : List Event) × stands self.old h }
         ensures stands { EachStands (stands self.old) (λ h. stands self.new (part_ended member h)) };
@@ -147,7 +147,7 @@ pub trait Shares: Sized {
     ///
     /// The member is in an ordered loop, and in no part of it.
     fn hand_on(&mut self, member: u16) -> bool
-        requires { CanHandOn (members self.old) member (seen self.old member) }
+        requires place { CanHandOn (members self.old) member (seen self.old member) }
         ensures members { members self.new ≡ members self.old }
         ensures known { (h : List Event) × stands self.old h }
         ensures answer { EachStands (stands self.old) (λ h. result ≡ own_turn (members self.old) member h) }
@@ -159,7 +159,7 @@ pub trait Shares: Sized {
     ///
     /// The member is in no ordered part.
     fn leave(&mut self, member: u16)
-        requires { CanLeave (members self.old) member (seen self.old member) }
+        requires place { CanLeave (members self.old) member (seen self.old member) }
         ensures members { members self.new ≡ members self.old }
         ensures known { (h : List Event) × stands self.old h }
         ensures stands { EachStands (stands self.old) (λ h. stands self.new (left member h)) };

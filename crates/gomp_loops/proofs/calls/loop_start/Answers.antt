@@ -14,26 +14,26 @@ try_open-requires g c =
     let valid : IsShape c.in-Ok.shape = rw is c.in-Ok.ensures.fits in
     let out : is_some c.look-seen.result.current ≡ false = start_outside c.args.limits.now c.look-seen.result c.args.desc.now (sym c.start_refusal.ensures.first ∙ c.in_default.is) in
     let few : c.look-seen.result.entered < 2 ^ 32 = c.in_default.ensures.few in
-    record {
-      member = c.requires;
+    record { place = record {
+      member = c.requires.member;
       valid = valid;
       ordered = λ ordered. rw is (loop_kind c.args.desc.now.sched c.args.desc.now.chunk);
       outside = rw (← c.look-seen.ensures.value) out;
       few = rw (← c.look-seen.ensures.value) (omega arith);
-    }
+    } }
 
 pub claim-requires : goal.claim-requires
 claim-requires g c =
     let (h, st) = c.in-Entered.ensures.known in
     let now = c.in-Entered.ensures.stands h st in
-    let lt : c.args.member < g.S.Shares.members c.try_open.new.self = rw c.try_open.ensures.members c.requires in
+    let lt : c.args.member < g.S.Shares.members c.try_open.new.self = rw c.try_open.ensures.members c.requires.member in
     let e = g.met.S.Shares.agrees c.try_open.new.self _ c.args.member now lt in
-    record {
+    record { place = record {
       member = lt;
       inside = rw (e, open_entered c.args.member (entered c.args.member h) c.in-Ok.shape h) refl;
       more = rw e (drained_entered c.args.member (entered c.args.member h) c.in-Ok.shape h);
       apart = rw e (part_entered c.args.member (entered c.args.member h) c.in-Ok.shape h);
-    }
+    } }
 
 pub returns-in-Entered-clause-stands : goal.returns-in-Entered-clause-stands
 returns-in-Entered-clause-stands g c = λ h st.
@@ -45,13 +45,13 @@ returns-in-Entered-clause-stands g c = λ h st.
 
 pub returns-in-Some-clause-answer : goal.returns-in-Some-clause-answer
 returns-in-Some-clause-answer g c = λ h st.
-    let e = c.look-seen.ensures.value ∙ g.met.S.Shares.agrees c.args.shares.now h c.args.member st c.requires in
+    let e = c.look-seen.ensures.value ∙ g.met.S.Shares.agrees c.args.shares.now h c.args.member st c.requires.member in
     start_refused c.args.limits.now c.args.member c.args.desc.now c.look-seen.result h c.in-Some.refusal e (sym c.in-Some.is ∙ c.start_refusal.ensures.first)
 
 pub returns-in-Entered-clause-answer : goal.returns-in-Entered-clause-answer
 returns-in-Entered-clause-answer g c = λ h st.
     let is : c.in-Ok.shape ≡ shape_of c.args.desc.now = outcome_value (first_refusal (loop_tests c.args.desc.now)) _ _ (sym c.shape.ensures.shape ∙ c.in-Ok.is) in
-    let e = c.look-seen.ensures.value ∙ g.met.S.Shares.agrees c.args.shares.now h c.args.member st c.requires in
+    let e = c.look-seen.ensures.value ∙ g.met.S.Shares.agrees c.args.shares.now h c.args.member st c.requires.member in
     let may = rw is at (c.in-Entered.ensures.answer h st) in
     let none = start_compared c.args.limits.now c.args.member c.args.desc.now c.look-seen.result h e (sym c.in_default.is ∙ c.start_refusal.ensures.first) ∙ compared _ may.0 in
     let now = c.in-Entered.ensures.stands h st in

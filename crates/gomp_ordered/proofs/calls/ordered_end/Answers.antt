@@ -7,6 +7,6 @@ use Rattle.gomp_ordered.proofs.calls.ordered_end.Goals as goal
 
 pub returns-then-not-seen-clause-answer : goal.returns-then-not-seen-clause-answer
 returns-then-not-seen-clause-answer g c = λ limits h st.
-    let e = c.look-seen.ensures.value ∙ g.met.S.Shares.agrees c.args.shares.now h c.args.member st c.requires in
+    let e = c.look-seen.ensures.value ∙ g.met.S.Shares.agrees c.args.shares.now h c.args.member st c.requires.member in
     let out : not (in_part c.args.member h) ≡ true = sym (ap (λ (s : Seen). not s.in_part) e) ∙ c.if-not-seen.true in
     end_refused (in_part c.args.member h) out

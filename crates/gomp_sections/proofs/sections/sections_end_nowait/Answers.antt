@@ -10,17 +10,17 @@ use Rattle.gomp_sections.proofs.sections.sections_end_nowait.Goals as goal
 pub leave-requires : goal.leave-requires
 leave-requires g c =
     let (h, st) = c.look-seen.ensures.known in
-    let seen = g.met.S.Shares.agrees c.args.shares.now h c.args.member st c.requires in
+    let seen = g.met.S.Shares.agrees c.args.shares.now h c.args.member st c.requires.member in
     let law = c.part_inside.ensures (g.S.Shares.members c.args.shares.now) c.args.member h (g.met.S.Shares.ruled c.args.shares.now h st) in
     let none = row_is (end_tests_of Sections Nowait) c.look-seen.result (seen_of c.args.member h) _ (c.look-seen.ensures.value ∙ seen) (sym c.in_default.is ∙ c.end_refusal.ensures.first) in
-    end_may_leave _ c.args.member Nowait _ h c.requires seen law none
+    record { place = end_may_leave _ c.args.member Nowait _ h c.requires.member seen law none }
 
 pub returns-in-Some-clause-answer : goal.returns-in-Some-clause-answer
 returns-in-Some-clause-answer g c = λ limits h st.
-    let e = c.look-seen.ensures.value ∙ g.met.S.Shares.agrees c.args.shares.now h c.args.member st c.requires in
+    let e = c.look-seen.ensures.value ∙ g.met.S.Shares.agrees c.args.shares.now h c.args.member st c.requires.member in
     row_is (end_tests_of Sections Nowait) c.look-seen.result (seen_of c.args.member h) _ e (sym c.in-Some.is ∙ c.end_refusal.ensures.first)
 
 pub returns-clause-answer : goal.returns-clause-answer
 returns-clause-answer g c = λ limits h st.
-    let e = c.look-seen.ensures.value ∙ g.met.S.Shares.agrees c.args.shares.now h c.args.member st c.requires in
+    let e = c.look-seen.ensures.value ∙ g.met.S.Shares.agrees c.args.shares.now h c.args.member st c.requires.member in
     (row_is (end_tests_of Sections Nowait) c.look-seen.result (seen_of c.args.member h) _ e (sym c.in_default.is ∙ c.end_refusal.ensures.first), refl)

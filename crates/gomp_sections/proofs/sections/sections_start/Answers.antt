@@ -13,14 +13,14 @@ pub claim-requires : goal.claim-requires
 claim-requires g c =
     let (h, st) = c.in-Entered.ensures.known in
     let now = c.in-Entered.ensures.stands h st in
-    let lt : c.args.member < g.S.Shares.members c.try_open.new.self = rw c.try_open.ensures.members c.requires in
+    let lt : c.args.member < g.S.Shares.members c.try_open.new.self = rw c.try_open.ensures.members c.requires.member in
     let e = g.met.S.Shares.agrees c.try_open.new.self _ c.args.member now lt in
-    may_claim _ c.args.member (entered c.args.member h) c.in-Ok.shape _ h e lt
+    record { place = may_claim _ c.args.member (entered c.args.member h) c.in-Ok.shape _ h e lt }
 
 pub returns-in-Entered-clause-answer : goal.returns-in-Entered-clause-answer
 returns-in-Entered-clause-answer g c = λ h st.
     let is : c.in-Ok.shape ≡ sections_shape c.args.count c.args.end_kind = outcome_value (first_refusal (sections_tests c.args.count)) _ _ (sym c.sections_shape.ensures.shape ∙ c.in-Ok.is) in
-    let e = c.look-seen.ensures.value ∙ g.met.S.Shares.agrees c.args.shares.now h c.args.member st c.requires in
+    let e = c.look-seen.ensures.value ∙ g.met.S.Shares.agrees c.args.shares.now h c.args.member st c.requires.member in
     let may = rw is at (c.in-Entered.ensures.answer h st) in
     let none = start_passes (λ (s : Seen). own_start_tests c.args.limits.now s c.args.count) (sections_shape c.args.count c.args.end_kind) (shape_at (entered c.args.member h) h) c.look-seen.result (seen_of c.args.member h) e
     (sym c.in_default.is ∙ c.start_refusal.ensures.first) may.0 in

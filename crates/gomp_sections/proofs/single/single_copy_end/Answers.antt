@@ -9,17 +9,17 @@ use Rattle.gomp_sections.proofs.single.single_copy_end.Goals as goal
 pub leave-requires : goal.leave-requires
 leave-requires g c =
     let (h, st) = c.look-seen.ensures.known in
-    let seen = g.met.S.Shares.agrees c.args.shares.now h c.args.member st c.requires in
+    let seen = g.met.S.Shares.agrees c.args.shares.now h c.args.member st c.requires.member in
     let law = c.part_inside.ensures (g.S.Shares.members c.args.shares.now) c.args.member h (g.met.S.Shares.ruled c.args.shares.now h st) in
     let none = row_is own_copy_end_tests c.look-seen.result (seen_of c.args.member h) _ (c.look-seen.ensures.value ∙ seen) (sym c.in_default.is ∙ c.copy_end_refusal.ensures.first) in
-    copy_may_leave _ c.args.member _ h c.requires seen law none
+    record { place = copy_may_leave _ c.args.member _ h c.requires.member seen law none }
 
 pub returns-in-Some-clause-answer : goal.returns-in-Some-clause-answer
 returns-in-Some-clause-answer g c = λ h st.
-    let e = c.look-seen.ensures.value ∙ g.met.S.Shares.agrees c.args.shares.now h c.args.member st c.requires in
+    let e = c.look-seen.ensures.value ∙ g.met.S.Shares.agrees c.args.shares.now h c.args.member st c.requires.member in
     sym (ap (λ first. outcome first tt) (row_is own_copy_end_tests c.look-seen.result (seen_of c.args.member h) _ e (sym c.in-Some.is ∙ c.copy_end_refusal.ensures.first)))
 
 pub returns-clause-answer : goal.returns-clause-answer
 returns-clause-answer g c = λ h st.
-    let e = c.look-seen.ensures.value ∙ g.met.S.Shares.agrees c.args.shares.now h c.args.member st c.requires in
+    let e = c.look-seen.ensures.value ∙ g.met.S.Shares.agrees c.args.shares.now h c.args.member st c.requires.member in
     sym (ap (λ first. outcome first tt) (row_is own_copy_end_tests c.look-seen.result (seen_of c.args.member h) _ e (sym c.in_default.is ∙ c.copy_end_refusal.ensures.first)))

@@ -11,21 +11,21 @@ pub claim-requires : goal.claim-requires
 claim-requires g c =
     let (h, st) = c.in-Entered.ensures.known in
     let now = c.in-Entered.ensures.stands h st in
-    let lt : c.args.member < g.S.Shares.members c.try_open.new.self = rw c.try_open.ensures.members c.requires in
+    let lt : c.args.member < g.S.Shares.members c.try_open.new.self = rw c.try_open.ensures.members c.requires.member in
     let e = g.met.S.Shares.agrees c.try_open.new.self _ c.args.member now lt in
-    may_claim _ c.args.member (entered c.args.member h) c.single_shape.result _ h e lt
+    record { place = may_claim _ c.args.member (entered c.args.member h) c.single_shape.result _ h e lt }
 
 pub leave-requires : goal.leave-requires
 leave-requires g c =
     let (h, st) = c.in-Entered.ensures.known in
     let now = rw c.single_shape.ensures.shape at (c.claim.ensures.stands _ (c.in-Entered.ensures.stands h st)) in
-    let lt : c.args.member < g.S.Shares.members c.claim.new.self = rw (c.claim.ensures.members, c.try_open.ensures.members) c.requires in
+    let lt : c.args.member < g.S.Shares.members c.claim.new.self = rw (c.claim.ensures.members, c.try_open.ensures.members) c.requires.member in
     let e = g.met.S.Shares.agrees c.claim.new.self _ c.args.member now lt in
-    may_leave _ c.args.member (entered c.args.member h) false c.claim.result _ h e lt
+    record { place = may_leave _ c.args.member (entered c.args.member h) false c.claim.result _ h e lt }
 
 pub returns-in-Entered-clause-answer : goal.returns-in-Entered-clause-answer
 returns-in-Entered-clause-answer g c = λ h st.
-    let e = c.look-seen.ensures.value ∙ g.met.S.Shares.agrees c.args.shares.now h c.args.member st c.requires in
+    let e = c.look-seen.ensures.value ∙ g.met.S.Shares.agrees c.args.shares.now h c.args.member st c.requires.member in
     let may = rw c.single_shape.ensures.shape at (c.in-Entered.ensures.answer h st) in
     let none = start_passes (outside_tests c.args.limits.now) (single_shape false) (shape_at (entered c.args.member h) h) c.look-seen.result (seen_of c.args.member h) e
     (sym c.in_default.is ∙ c.outside_refusal.ensures.first) may.0 in

@@ -9,7 +9,7 @@ use Rattle.gomp_share_plain.proofs.plain.PlainSharesShares.claim.Goals as goal
 
 pub returns-in_default-clause-stands : goal.returns-in_default-clause-stands
 returns-in_default-clause-stands c = λ h st0.
-    let (can, st) = told _ _ c.args.member h (λ n seen. CanClaim n c.args.member seen) c.self.view_is c.requires c.requires.member st0 in
+    let (can, st) = told _ _ c.args.member h (λ n seen. CanClaim n c.args.member seen) c.self.view_is c.requires.place c.requires.place.member st0 in
     let at = slice_get_read c.self.inside.seats.items _ c.args.member c.index-seat.result.now refl can.member c.index-seat.ensures in
     let eight = st.eight in
     let within : c.index-seat.result.now.ended % 8 < length c.self.inside.places = omega arith in
@@ -18,7 +18,7 @@ returns-in_default-clause-stands c = λ h st0.
 pub next_piece-requires : goal.next_piece-requires
 next_piece-requires c =
     let (h, st0) = known_by _ _ c.self.view_is c.self.invariant in
-    let (can, st) = told _ _ c.args.member h (λ n seen. CanClaim n c.args.member seen) c.self.view_is c.requires c.requires.member st0 in
+    let (can, st) = told _ _ c.args.member h (λ n seen. CanClaim n c.args.member seen) c.self.view_is c.requires.place c.requires.place.member st0 in
     let at = slice_get_read c.self.inside.seats.items _ c.args.member c.index-seat.result.now refl can.member c.index-seat.ensures in
     let eight = st.eight in
     let within : c.index-seat.result.now.ended % 8 < length c.self.inside.places = omega arith in
@@ -28,7 +28,7 @@ next_piece-requires c =
 
 pub returns-in_default-next_piece-clause-answer : goal.returns-in_default-next_piece-clause-answer
 returns-in_default-next_piece-clause-answer c = λ h st0.
-    let (can, st) = told _ _ c.args.member h (λ n seen. CanClaim n c.args.member seen) c.self.view_is c.requires c.requires.member st0 in
+    let (can, st) = told _ _ c.args.member h (λ n seen. CanClaim n c.args.member seen) c.self.view_is c.requires.place c.requires.place.member st0 in
     let at = slice_get_read c.self.inside.seats.items _ c.args.member c.index-seat.result.now refl can.member c.index-seat.ensures in
     let eight = st.eight in
     let within : c.index-seat.result.now.ended % 8 < length c.self.inside.places = omega arith in
@@ -40,7 +40,7 @@ returns-in_default-next_piece-clause-answer c = λ h st0.
 
 pub returns-in_default-next_piece-clause-stands : goal.returns-in_default-next_piece-clause-stands
 returns-in_default-next_piece-clause-stands c = λ h st0.
-    let (can, st) = told _ _ c.args.member h (λ n seen. CanClaim n c.args.member seen) c.self.view_is c.requires c.requires.member st0 in
+    let (can, st) = told _ _ c.args.member h (λ n seen. CanClaim n c.args.member seen) c.self.view_is c.requires.place c.requires.place.member st0 in
     let at = slice_get_read c.self.inside.seats.items _ c.args.member c.index-seat.result.now refl can.member c.index-seat.ensures in
     let may = rw (← c.self.view_is) at (returns-in_default-next_piece-clause-answer c h st0) in
     rw (length-set c.self.inside.seats.items c.args.member _) (drains _ _ _ _ h c.args.member c.index-seat.result.now st at can.apart may)
@@ -50,7 +50,7 @@ invariant_of-self c = let (h, st0) = known_by _ _ c.self.view_is c.self.invarian
 
 pub returns-clause-answer : goal.returns-clause-answer
 returns-clause-answer c = λ h st0.
-    let (can, st) = told _ _ c.args.member h (λ n seen. CanClaim n c.args.member seen) c.self.view_is c.requires c.requires.member st0 in
+    let (can, st) = told _ _ c.args.member h (λ n seen. CanClaim n c.args.member seen) c.self.view_is c.requires.place c.requires.place.member st0 in
     let at = slice_get_read c.self.inside.seats.items _ c.args.member c.index-seat.result.now refl can.member c.index-seat.ensures in
     let eight = st.eight in
     let within : c.index-seat.result.now.ended % 8 < length c.self.inside.places = omega arith in
@@ -62,7 +62,7 @@ returns-clause-answer c = λ h st0.
 
 pub returns-clause-stands : goal.returns-clause-stands
 returns-clause-stands c = λ h st0.
-    let (can, st) = told _ _ c.args.member h (λ n seen. CanClaim n c.args.member seen) c.self.view_is c.requires c.requires.member st0 in
+    let (can, st) = told _ _ c.args.member h (λ n seen. CanClaim n c.args.member seen) c.self.view_is c.requires.place c.requires.place.member st0 in
     let at = slice_get_read c.self.inside.seats.items _ c.args.member c.index-seat.result.now refl can.member c.index-seat.ensures in
     let eight = st.eight in
     let within : c.index-seat.result.now.ended % 8 < length c.self.inside.places = omega arith in

@@ -8,7 +8,7 @@ use Rattle.gomp_share_plain.proofs.plain.PlainSharesShares.end_part.Goals as goa
 
 pub returns-clause-stands : goal.returns-clause-stands
 returns-clause-stands c = λ h st0.
-    let (can, st) = told _ _ c.args.member h (λ n seen. CanEndPart n c.args.member seen) c.self.view_is c.requires c.requires.member st0 in
+    let (can, st) = told _ _ c.args.member h (λ n seen. CanEndPart n c.args.member seen) c.self.view_is c.requires.place c.requires.place.member st0 in
     let at = slice_get_read c.self.inside.seats.items _ c.args.member c.index_mut.result.now refl can.member c.index_mut.ensures.value in
     rw (length-set c.self.inside.seats.items c.args.member _) (ends _ _ _ _ h c.args.member c.index_mut.result.now st at can)
 

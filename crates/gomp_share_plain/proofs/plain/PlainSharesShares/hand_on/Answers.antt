@@ -10,7 +10,7 @@ use Rattle.gomp_share_plain.proofs.plain.PlainSharesShares.hand_on.Goals as goal
 
 pub returns-in_default-clause-answer : goal.returns-in_default-clause-answer
 returns-in_default-clause-answer c = λ h st0.
-    let (can, st) = told _ _ c.args.member h (λ n seen. CanHandOn n c.args.member seen) c.self.view_is c.requires c.requires.member st0 in
+    let (can, st) = told _ _ c.args.member h (λ n seen. CanHandOn n c.args.member seen) c.self.view_is c.requires.place c.requires.place.member st0 in
     let at = slice_get_read c.self.inside.seats.items _ c.args.member c.index.result.now refl can.member c.index.ensures in
     let eight = st.eight in
     let within : c.index.result.now.ended % 8 < length c.self.inside.places = omega arith in
@@ -18,7 +18,7 @@ returns-in_default-clause-answer c = λ h st0.
 
 pub returns-then-not-is_next-clause-answer : goal.returns-then-not-is_next-clause-answer
 returns-then-not-is_next-clause-answer c = λ h st0.
-    let (can, st) = told _ _ c.args.member h (λ n seen. CanHandOn n c.args.member seen) c.self.view_is c.requires c.requires.member st0 in
+    let (can, st) = told _ _ c.args.member h (λ n seen. CanHandOn n c.args.member seen) c.self.view_is c.requires.place c.requires.place.member st0 in
     let at = slice_get_read c.self.inside.seats.items _ c.args.member c.index.result.now refl can.member c.index.ensures in
     let eight = st.eight in
     let within : c.index.result.now.ended % 8 < length c.self.inside.places = omega arith in
@@ -28,7 +28,7 @@ returns-then-not-is_next-clause-answer c = λ h st0.
 
 pub returns-clause-answer : goal.returns-clause-answer
 returns-clause-answer c = λ h st0.
-    let (can, st) = told _ _ c.args.member h (λ n seen. CanHandOn n c.args.member seen) c.self.view_is c.requires c.requires.member st0 in
+    let (can, st) = told _ _ c.args.member h (λ n seen. CanHandOn n c.args.member seen) c.self.view_is c.requires.place c.requires.place.member st0 in
     let at = slice_get_read c.self.inside.seats.items _ c.args.member c.index.result.now refl can.member c.index.ensures in
     let eight = st.eight in
     let within : c.index.result.now.ended % 8 < length c.self.inside.places = omega arith in
@@ -38,7 +38,7 @@ returns-clause-answer c = λ h st0.
 
 pub returns-clause-stands : goal.returns-clause-stands
 returns-clause-stands c = λ h st0.
-    let (can, st) = told _ _ c.args.member h (λ n seen. CanHandOn n c.args.member seen) c.self.view_is c.requires c.requires.member st0 in
+    let (can, st) = told _ _ c.args.member h (λ n seen. CanHandOn n c.args.member seen) c.self.view_is c.requires.place c.requires.place.member st0 in
     let at = slice_get_read c.self.inside.seats.items _ c.args.member c.index.result.now refl can.member c.index.ensures in
     let eight = st.eight in
     let within : c.index.result.now.ended % 8 < length c.self.inside.places = omega arith in
@@ -54,7 +54,7 @@ invariant_of-self c = let (h, st0) = known_by _ _ c.self.view_is c.self.invarian
 pub overflow_add-self : goal.overflow_add-self
 overflow_add-self c =
     let (h, st0) = known_by _ _ c.self.view_is c.self.invariant in
-    let (can, st) = told _ _ c.args.member h (λ n seen. CanHandOn n c.args.member seen) c.self.view_is c.requires c.requires.member st0 in
+    let (can, st) = told _ _ c.args.member h (λ n seen. CanHandOn n c.args.member seen) c.self.view_is c.requires.place c.requires.place.member st0 in
     let at = slice_get_read c.self.inside.seats.items _ c.args.member c.index.result.now refl can.member c.index.ensures in
     let eight = st.eight in
     let within : c.index.result.now.ended % 8 < length c.self.inside.places = omega arith in

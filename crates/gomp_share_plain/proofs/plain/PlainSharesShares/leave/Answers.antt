@@ -9,7 +9,7 @@ use Rattle.gomp_share_plain.proofs.plain.PlainSharesShares.leave.Goals as goal
 
 pub returns-clause-stands : goal.returns-clause-stands
 returns-clause-stands c = λ h st0.
-    let (can, st) = told _ _ c.args.member h (λ n seen. CanLeave n c.args.member seen) c.self.view_is c.requires c.requires.member st0 in
+    let (can, st) = told _ _ c.args.member h (λ n seen. CanLeave n c.args.member seen) c.self.view_is c.requires.place c.requires.place.member st0 in
     let at = slice_get_read c.self.inside.seats.items _ c.args.member c.index_mut.result.now refl can.member c.index_mut.ensures.value in
     let none = leave_rule _ _ _ _ h c.args.member st can c.told_none.ensures c.single_done.ensures in
     rw (length-set c.self.inside.seats.items c.args.member _) (leaves _ _ _ _ h c.args.member c.index_mut.result.now st at can.inside none)
@@ -20,7 +20,7 @@ invariant_of-self c = let (h, st0) = known_by _ _ c.self.view_is c.self.invarian
 pub overflow_add-index_mut : goal.overflow_add-index_mut
 overflow_add-index_mut c =
     let (h, st0) = known_by _ _ c.self.view_is c.self.invariant in
-    let (can, st) = told _ _ c.args.member h (λ n seen. CanLeave n c.args.member seen) c.self.view_is c.requires c.requires.member st0 in
+    let (can, st) = told _ _ c.args.member h (λ n seen. CanLeave n c.args.member seen) c.self.view_is c.requires.place c.requires.place.member st0 in
     let at = slice_get_read c.self.inside.seats.items _ c.args.member c.index_mut.result.now refl can.member c.index_mut.ensures.value in
     let s = st.seat c.args.member _ at in
     let full = inside _ c.args.member c.index_mut.result.now _ h s can.inside in

@@ -6,13 +6,13 @@ use Rattle.gomp_share_plain.proofs.plain.PlainSharesShares.next_differs.Goals as
 
 pub returns-then-next-self-clause-answer : goal.returns-then-next-self-clause-answer
 returns-then-next-self-clause-answer c = λ h st0.
-    let (lt, st) = told_stands _ _ c.args.member h c.self.view_is c.requires st0 in
+    let (lt, st) = told_stands _ _ c.args.member h c.self.view_is c.requires.member st0 in
     let at = slice_get_read c.self.inside.seats.items _ c.args.member c.index.result.now refl lt c.index.ensures in
     sym (new_differs _ _ _ _ h c.args.member c.index.result.now c.args.shape.now st at c.if-next-self.true)
 
 pub returns-in-Some-clause-answer : goal.returns-in-Some-clause-answer
 returns-in-Some-clause-answer c = λ h st0.
-    let (lt, st) = told_stands _ _ c.args.member h c.self.view_is c.requires st0 in
+    let (lt, st) = told_stands _ _ c.args.member h c.self.view_is c.requires.member st0 in
     let at = slice_get_read c.self.inside.seats.items _ c.args.member c.index.result.now refl lt c.index.ensures in
     let eight = st.eight in
     let within : c.index.result.now.started % 8 < length c.self.inside.places = omega arith in
@@ -20,7 +20,7 @@ returns-in-Some-clause-answer c = λ h st0.
 
 pub returns-in-None-clause-answer : goal.returns-in-None-clause-answer
 returns-in-None-clause-answer c = λ h st0.
-    let (lt, st) = told_stands _ _ c.args.member h c.self.view_is c.requires st0 in
+    let (lt, st) = told_stands _ _ c.args.member h c.self.view_is c.requires.member st0 in
     let at = slice_get_read c.self.inside.seats.items _ c.args.member c.index.result.now refl lt c.index.ensures in
     let eight = st.eight in
     let within : c.index.result.now.started % 8 < length c.self.inside.places = omega arith in

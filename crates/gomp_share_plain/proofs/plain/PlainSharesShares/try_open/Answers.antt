@@ -12,7 +12,7 @@ use Rattle.gomp_share_plain.proofs.plain.PlainSharesShares.try_open.Goals as goa
 
 pub returns-then-not-is_same-clause-answer : goal.returns-then-not-is_same-clause-answer
 returns-then-not-is_same-clause-answer c = λ h st0.
-    let (can, st) = told _ _ c.args.member h (λ n seen. CanOpen n c.args.member c.args.shape.now seen) c.self.view_is c.requires c.requires.member st0 in
+    let (can, st) = told _ _ c.args.member h (λ n seen. CanOpen n c.args.member c.args.shape.now seen) c.self.view_is c.requires.place c.requires.place.member st0 in
     let at = slice_get_read c.self.inside.seats.items _ c.args.member c.index-seat.result.now refl can.member c.index-seat.ensures in
     let eight = st.eight in
     let within : c.index-seat.result.now.started % 8 < length c.self.inside.places = omega arith in
@@ -21,7 +21,7 @@ returns-then-not-is_same-clause-answer c = λ h st0.
 
 pub returns-then-number-self-clause-answer : goal.returns-then-number-self-clause-answer
 returns-then-number-self-clause-answer c = λ h st0.
-    let (can, st) = told _ _ c.args.member h (λ n seen. CanOpen n c.args.member c.args.shape.now seen) c.self.view_is c.requires c.requires.member st0 in
+    let (can, st) = told _ _ c.args.member h (λ n seen. CanOpen n c.args.member c.args.shape.now seen) c.self.view_is c.requires.place c.requires.place.member st0 in
     let at = slice_get_read c.self.inside.seats.items _ c.args.member c.index-seat.result.now refl can.member c.index-seat.ensures in
     let eight = st.eight in
     let within : c.index-seat.result.now.started % 8 < length c.self.inside.places = omega arith in
@@ -34,7 +34,7 @@ returns-then-number-self-clause-answer c = λ h st0.
 
 pub returns-then-number-self-clause-stands : goal.returns-then-number-self-clause-stands
 returns-then-number-self-clause-stands c = λ h st0.
-    let (can, st) = told _ _ c.args.member h (λ n seen. CanOpen n c.args.member c.args.shape.now seen) c.self.view_is c.requires c.requires.member st0 in
+    let (can, st) = told _ _ c.args.member h (λ n seen. CanOpen n c.args.member c.args.shape.now seen) c.self.view_is c.requires.place c.requires.place.member st0 in
     let at = slice_get_read c.self.inside.seats.items _ c.args.member c.index-seat.result.now refl can.member c.index-seat.ensures in
     let eight = st.eight in
     let within : c.index-seat.result.now.started % 8 < length c.self.inside.places = omega arith in
@@ -48,7 +48,7 @@ invariant_of-self c = let (h, st0) = known_by _ _ c.self.view_is c.self.invarian
 
 pub returns-then-not-has_room-clause-answer : goal.returns-then-not-has_room-clause-answer
 returns-then-not-has_room-clause-answer c = λ h st0.
-    let (can, st) = told _ _ c.args.member h (λ n seen. CanOpen n c.args.member c.args.shape.now seen) c.self.view_is c.requires c.requires.member st0 in
+    let (can, st) = told _ _ c.args.member h (λ n seen. CanOpen n c.args.member c.args.shape.now seen) c.self.view_is c.requires.place c.requires.place.member st0 in
     let at = slice_get_read c.self.inside.seats.items _ c.args.member c.index-seat.result.now refl can.member c.index-seat.ensures in
     let s = st.seat c.args.member _ at in
     rw (← c.self.view_is) (
@@ -62,7 +62,7 @@ returns-then-not-has_room-clause-answer c = λ h st0.
 pub overflow_add-self : goal.overflow_add-self
 overflow_add-self c =
     let (h, st0) = known_by _ _ c.self.view_is c.self.invariant in
-    let (can, st) = told _ _ c.args.member h (λ n seen. CanOpen n c.args.member c.args.shape.now seen) c.self.view_is c.requires c.requires.member st0 in
+    let (can, st) = told _ _ c.args.member h (λ n seen. CanOpen n c.args.member c.args.shape.now seen) c.self.view_is c.requires.place c.requires.place.member st0 in
     let at = slice_get_read c.self.inside.seats.items _ c.args.member c.index-seat.result.now refl can.member c.index-seat.ensures in
     let s = (st.seat c.args.member _ at).started in
     let few = can.few in
@@ -71,7 +71,7 @@ overflow_add-self c =
 pub overflow_add-number-2 : goal.overflow_add-number-2
 overflow_add-number-2 c =
     let (h, st0) = known_by _ _ c.self.view_is c.self.invariant in
-    let (can, st) = told _ _ c.args.member h (λ n seen. CanOpen n c.args.member c.args.shape.now seen) c.self.view_is c.requires c.requires.member st0 in
+    let (can, st) = told _ _ c.args.member h (λ n seen. CanOpen n c.args.member c.args.shape.now seen) c.self.view_is c.requires.place c.requires.place.member st0 in
     let at = slice_get_read c.self.inside.seats.items _ c.args.member c.index-seat.result.now refl can.member c.index-seat.ensures in
     let s = (st.seat c.args.member _ at).started in
     let few = can.few in
@@ -79,7 +79,7 @@ overflow_add-number-2 c =
 
 pub returns-clause-answer : goal.returns-clause-answer
 returns-clause-answer c = λ h st0.
-    let (can, st) = told _ _ c.args.member h (λ n seen. CanOpen n c.args.member c.args.shape.now seen) c.self.view_is c.requires c.requires.member st0 in
+    let (can, st) = told _ _ c.args.member h (λ n seen. CanOpen n c.args.member c.args.shape.now seen) c.self.view_is c.requires.place c.requires.place.member st0 in
     let at = slice_get_read c.self.inside.seats.items _ c.args.member c.index-seat.result.now refl can.member c.index-seat.ensures in
     let s = st.seat c.args.member _ at in
     rw (← c.self.view_is) (
@@ -91,7 +91,7 @@ returns-clause-answer c = λ h st0.
 
 pub returns-clause-stands : goal.returns-clause-stands
 returns-clause-stands c = λ h st0.
-    let (can, st) = told _ _ c.args.member h (λ n seen. CanOpen n c.args.member c.args.shape.now seen) c.self.view_is c.requires c.requires.member st0 in
+    let (can, st) = told _ _ c.args.member h (λ n seen. CanOpen n c.args.member c.args.shape.now seen) c.self.view_is c.requires.place c.requires.place.member st0 in
     let at = slice_get_read c.self.inside.seats.items _ c.args.member c.index-seat.result.now refl can.member c.index-seat.ensures in
     let fine = can_enter _ c.args.member c.args.shape.now _ can c.fair_schedule.ensures c.pieces_tile.ensures in
     let now = next_is _ _ _ _ h c.args.member c.index-seat.result.now st at c.if-number-self.false in
@@ -106,7 +106,7 @@ invariant_of-self-2 c = let (h, st0) = known_by _ _ c.self.view_is c.self.invari
 
 pub returns-in_default-clause-answer : goal.returns-in_default-clause-answer
 returns-in_default-clause-answer c = λ h st0.
-    let (can, st) = told _ _ c.args.member h (λ n seen. CanOpen n c.args.member c.args.shape.now seen) c.self.view_is c.requires c.requires.member st0 in
+    let (can, st) = told _ _ c.args.member h (λ n seen. CanOpen n c.args.member c.args.shape.now seen) c.self.view_is c.requires.place c.requires.place.member st0 in
     let at = slice_get_read c.self.inside.seats.items _ c.args.member c.index-seat.result.now refl can.member c.index-seat.ensures in
     let eight = st.eight in
     let within : c.index-seat.result.now.started % 8 < length c.self.inside.places = omega arith in
