@@ -1,5 +1,5 @@
 -- A list of calls, one by one.
-use Rattle.std.proofs.Common.{◌≡◌, ℕ, ◌<◌, Bool, true, false, List, [], ◌∷◌, ◌++◌, length, Some, None, Ok, Err, refl, arith}
+use Rattle.std.proofs.Common.{◌≡◌, ℕ, ◌<◌, Bool, true, false, List, [], ◌∷◌, ◌++◌, length, Some, None, Err, refl, arith}
 use Rattle.std.specs.Prelude.{ℤ, pos, if◌then◌else◌, Option, ◌&&◌, ◌^◌, nat_lt, not, is_none, is_some, is_ok}
 use Rattle.std.proofs.lemmas.Bool.Decides.{nat_tests}
 use Rattle.gomp_types.specs.declared.loop_desc.LoopDesc.{LoopDesc}
@@ -17,6 +17,7 @@ use Rattle.gomp_types.specs.declared.event.Event.{Event}
 use Rattle.gomp_types.specs.Tests.{first_refusal, outcome}
 use Rattle.gomp_types.specs.Iterations.{loop_tests}
 use Rattle.gomp_types.proofs.Booleans.{and_left, and_right}
+use Rattle.gomp_share_plain.proofs.TestRows.{outcome_refused}
 use Rattle.gomp_share_plain.specs.declared.Seen.{Seen}
 use Rattle.gomp_share_plain.specs.declared.calls.ShareCall.TheVariants.{Open, Claim, Leave, Begin, HandOn}
 use Rattle.gomp_share_plain.specs.declared.calls.ShareStep.{ShareStep}
@@ -35,10 +36,6 @@ none_is (Some x) e = absurd (cc)
 
 pub loop_fine : (seen : Seen) (loop : LoopDesc) → may_make seen (Open loop) ≡ true → first_refusal (loop_tests loop) ≡ None
 loop_fine seen loop e = none_is (first_refusal (loop_tests loop)) (and_right _ (is_none (first_refusal (loop_tests loop))) e)
-
-pub outcome_value : {A : Type 0} (first : Option Refusal) (value found : A) → outcome first value ≡ Ok found → found ≡ value
-outcome_value None value found e = cc
-outcome_value (Some refusal) value found e = absurd (cc)
 
 -- where a loop may be opened, its member is outside and has entered few shares
 pub opens_loop : (seen : Seen) (loop : LoopDesc) → may_make seen (Open loop) ≡ true → (is_none seen.current && nat_lt seen.entered (2 ^ 48)) ≡ true
@@ -70,12 +67,9 @@ loop_is Guided chunk = refl
 loop_is Dynamic chunk = refl
 loop_is Runtime chunk = refl
 
-never_err : {A : Type 0} (first : Option Refusal) (value : A) (refusal : Refusal) → first ≡ None → outcome first value ≡ Err refusal → ⊥
-never_err None value refusal fine e = absurd (cc)
-never_err (Some found) value refusal fine e = absurd (cc)
-
 pub open_fits : {A : Type 0} (seen : Seen) (loop : LoopDesc) (value : A) (refusal : Refusal) → may_make seen (Open loop) ≡ true → outcome (first_refusal (loop_tests loop)) value ≡ Err refusal → ⊥
-open_fits seen loop value refusal e is = never_err (first_refusal (loop_tests loop)) value refusal (loop_fine seen loop e) is
+open_fits seen loop value refusal e is =
+    let holds = outcome_refused (first_refusal (loop_tests loop)) value refusal is in let fails = loop_fine seen loop e in cc
 
 -- what was tested of what the member sees is so of the events
 pub made : (members : ℕ) (step : ShareStep) (seen : Seen) (h : List Event) → seen ≡ seen_of step.member h → step.member < members → may_make seen step.call ≡ true → is_made members step h ≡ true

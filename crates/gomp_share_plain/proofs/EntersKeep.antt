@@ -19,8 +19,8 @@ use Rattle.gomp_types.proofs.Booleans.{none_of}
 use Rattle.gomp_types.proofs.Lists.{slice_get-set, slice_get-set_same, slice_get-set_other}
 use Rattle.gomp_share_plain.specs.Calls.{CanOpen, taken_of}
 use Rattle.gomp_share_plain.specs.declared.Seen.{Seen}
-use Rattle.gomp_share_plain.specs.declared.plain.Seat.{Seat}
-use Rattle.gomp_share_plain.specs.declared.plain.OpenShare.{OpenShare}
+use Rattle.gomp_share_plain.specs.declared.seat.Seat.{Seat}
+use Rattle.gomp_share_plain.specs.declared.open_share.OpenShare.{OpenShare}
 use Rattle.gomp_share_plain.specs.Plain.{SeatStands, StandsFor, new_seat}
 use Rattle.gomp_share_plain.specs.Same.{seat_near, SamePlaces, place_same}
 use Rattle.gomp_share_plain.proofs.Seats.{outside, other_number, other_seat, seat_steps}

@@ -11,8 +11,8 @@ use Rattle.gomp_types.specs.Deals.{Deal, schedule, next_for}
 use Rattle.gomp_types.specs.Rules.{Always, ShareRule, HasNone}
 use Rattle.gomp_types.proofs.Booleans.{some_of, or_tells, and_left, and_right}
 use Rattle.gomp_share_plain.specs.Calls.{CanLeave, seen_of, is_done}
-use Rattle.gomp_share_plain.specs.declared.plain.Seat.{Seat}
-use Rattle.gomp_share_plain.specs.declared.plain.OpenShare.{OpenShare}
+use Rattle.gomp_share_plain.specs.declared.seat.Seat.{Seat}
+use Rattle.gomp_share_plain.specs.declared.open_share.OpenShare.{OpenShare}
 use Rattle.gomp_share_plain.specs.Plain.{SeatStands, StandsFor}
 use Rattle.gomp_share_plain.proofs.Seats.{inside, inside_number, seat_steps}
 use Rattle.gomp_share_plain.proofs.Views.{told}

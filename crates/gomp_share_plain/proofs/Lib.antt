@@ -1,3 +1,4 @@
+pub mod TestRows
 pub mod Takes
 pub mod Turns
 pub mod Seats

@@ -14,8 +14,8 @@ use Rattle.gomp_types.specs.Rules.{MayHandOn, MayPart, MayEndPart}
 use Rattle.gomp_types.proofs.Booleans.{some_of, and_left, and_right, same_number}
 use Rattle.gomp_types.proofs.Lists.{slice_get-set_same, slice_get-set_other}
 use Rattle.gomp_share_plain.specs.Calls.{CanBeginPart, CanEndPart, CanHandOn, own_turn, seen_of, taken_of}
-use Rattle.gomp_share_plain.specs.declared.plain.Seat.{Seat}
-use Rattle.gomp_share_plain.specs.declared.plain.OpenShare.{OpenShare}
+use Rattle.gomp_share_plain.specs.declared.seat.Seat.{Seat}
+use Rattle.gomp_share_plain.specs.declared.open_share.OpenShare.{OpenShare}
 use Rattle.gomp_share_plain.specs.Plain.{SeatStands, StandsFor}
 use Rattle.gomp_share_plain.proofs.Turns.{lies, turn_of}
 use Rattle.gomp_share_plain.specs.Same.{seat_same, place_same}

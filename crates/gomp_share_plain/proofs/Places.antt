@@ -1,8 +1,7 @@
 -- What lies at the place of a share: of the one that a member is in, and of its next.
-use Rattle.std.proofs.Common.{◌≡◌, ◌≢◌, ℕ, ◌+◌, ◌%◌, ◌<◌, ◌≤◌, true, false, nat_lt, List, length, get_or, slice_get, Some, None, refl, ap, ◌∙◌, sym, arith}
+use Rattle.std.proofs.Common.{◌≡◌, ◌≢◌, ℕ, ◌+◌, ◌%◌, ◌<◌, ◌≤◌, true, false, nat_lt, List, slice_get, Some, None, refl, ap, ◌∙◌, sym, arith}
 use Rattle.std.specs.Prelude.{Option, not}
 use Rattle.std.proofs.lemmas.Bool.Decides.{nat_tests}
-use Rattle.std.proofs.lemmas.Option.{slice_get-get_or}
 use Rattle.gomp_types.specs.declared.shape.Shape.{Shape}
 use Rattle.gomp_types.specs.declared.event.Event.{Event}
 use Rattle.gomp_types.specs.Shapes.{same_shape}
@@ -12,8 +11,8 @@ use Rattle.gomp_types.specs.Values.{IsShape}
 use Rattle.gomp_types.specs.Record.{shown}
 use Rattle.gomp_types.proofs.Compared.{same_shape_is}
 use Rattle.gomp_share_plain.specs.Calls.{taken_of, was_taken}
-use Rattle.gomp_share_plain.specs.declared.plain.Seat.{Seat}
-use Rattle.gomp_share_plain.specs.declared.plain.OpenShare.{OpenShare}
+use Rattle.gomp_share_plain.specs.declared.seat.Seat.{Seat}
+use Rattle.gomp_share_plain.specs.declared.open_share.OpenShare.{OpenShare}
 use Rattle.gomp_share_plain.specs.Plain.{SeatStands, PlaceStands, StandsFor}
 use Rattle.gomp_share_plain.proofs.Seats.{inside}
 
@@ -24,8 +23,9 @@ places_differ i n low high same = absurd (omega arith)
 pub places_apart : (i j n : ℕ) → i ≢ j → i < n → j < n → n ≤ i + 8 → n ≤ j + 8 → (i % 8) ≢ (j % 8)
 places_apart i j n differ a b c d same = absurd (omega (arith, differ))
 
-pub place_is : (places : List (Option OpenShare)) (k : ℕ) (none share : Option OpenShare) → k < length places → get_or places k none ≡ share → slice_get places k ≡ Some share
-place_is places k none share lt e = slice_get-get_or places k none lt ∙ ap Some e
+-- what was read there lies there
+pub place_is : (place : Option (Option OpenShare)) (read share : Option OpenShare) → Some read ≡ place → read ≡ share → place ≡ Some share
+place_is place read share there is = sym there ∙ ap Some is
 
 -- a place that has a share is not empty
 pub not_empty : (members i : ℕ) (place : Option (Option OpenShare)) (h : List Event) → PlaceStands members i place h → place ≡ Some None → ⊥

@@ -10,8 +10,8 @@ use Rattle.gomp_types.specs.Events.{open_number, share_number, shape_at, is_insi
 use Rattle.gomp_types.specs.Deals.{schedule}
 use Rattle.gomp_types.specs.Rules.{ShareRule}
 use Rattle.gomp_types.proofs.Lists.{slice_get-set}
-use Rattle.gomp_share_plain.specs.declared.plain.Seat.{Seat}
-use Rattle.gomp_share_plain.specs.declared.plain.OpenShare.{OpenShare}
+use Rattle.gomp_share_plain.specs.declared.seat.Seat.{Seat}
+use Rattle.gomp_share_plain.specs.declared.open_share.OpenShare.{OpenShare}
 use Rattle.gomp_share_plain.specs.Plain.{SeatStands, StandsFor}
 use Rattle.gomp_share_plain.proofs.Takes.{taken_theirs}
 use Rattle.gomp_share_plain.specs.Same.{SameSeat, seat_same, SamePlaces, place_kept, beyond_kept}

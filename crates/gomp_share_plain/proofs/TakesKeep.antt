@@ -16,8 +16,8 @@ use Rattle.gomp_chunks.specs.Spots.{CursorView}
 use Rattle.gomp_types.specs.Rules.{MayTake, HasNone}
 use Rattle.gomp_types.proofs.Lists.{slice_get-set, slice_get-set_same, slice_get-set_other}
 use Rattle.gomp_share_plain.specs.Calls.{Claims, taken_of}
-use Rattle.gomp_share_plain.specs.declared.plain.Seat.{Seat}
-use Rattle.gomp_share_plain.specs.declared.plain.OpenShare.{OpenShare}
+use Rattle.gomp_share_plain.specs.declared.seat.Seat.{Seat}
+use Rattle.gomp_share_plain.specs.declared.open_share.OpenShare.{OpenShare}
 use Rattle.gomp_share_plain.specs.Plain.{SeatStands, StandsFor, taken_by}
 use Rattle.gomp_share_plain.proofs.Takes.{next_is_for, next_shown, shown_more, taken_here, taken_mine, taken_else}
 use Rattle.gomp_share_plain.specs.Same.{seat_same, place_same}

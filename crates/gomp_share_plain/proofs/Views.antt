@@ -6,7 +6,7 @@ use Rattle.std.proofs.lemmas.Option.{slice_get_within, get_or_from_slice_get}
 use Rattle.gomp_types.specs.declared.event.Event.{Event}
 use Rattle.gomp_share_plain.specs.Calls.{seen_of}
 use Rattle.gomp_share_plain.specs.declared.Seen.{Seen}
-use Rattle.gomp_share_plain.specs.declared.plain.Seat.{Seat}
+use Rattle.gomp_share_plain.specs.declared.seat.Seat.{Seat}
 use Rattle.gomp_share_plain.specs.Plain.{StandsFor, PlainView, new_seat, plain_seen}
 use Rattle.gomp_share_plain.specs.PlainLaws.{plain_agrees}
 

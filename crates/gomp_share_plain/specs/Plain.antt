@@ -10,8 +10,8 @@ use Rattle.gomp_types.specs.Deals.{schedule, taken_in}
 use Rattle.gomp_types.specs.Rules.{Always, ShareRule}
 use Rattle.gomp_share_plain.specs.declared.Seen.{Seen}
 use Rattle.gomp_share_plain.specs.Calls.{taken_of}
-use Rattle.gomp_share_plain.specs.declared.plain.Seat.{Seat}
-use Rattle.gomp_share_plain.specs.declared.plain.OpenShare.{OpenShare}
+use Rattle.gomp_share_plain.specs.declared.seat.Seat.{Seat}
+use Rattle.gomp_share_plain.specs.declared.open_share.OpenShare.{OpenShare}
 
 -- the fields, as data
 pub record PlainView : Type 0 where

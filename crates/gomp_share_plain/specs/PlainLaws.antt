@@ -15,8 +15,8 @@ use Rattle.gomp_types.specs.Events.{open_share}
 use Rattle.gomp_share_plain.specs.Same.{SameSeat, SamePlaces, seat_same, place_kept, beyond_kept}
 use Rattle.gomp_share_plain.specs.Calls.{IsAside, seen_of}
 use Rattle.gomp_share_plain.specs.Plain.{SeatStands, PlaceStands, StandsFor, new_seat, seat_seen, plain_seen}
-use Rattle.gomp_share_plain.specs.declared.plain.Seat.{Seat}
-use Rattle.gomp_share_plain.specs.declared.plain.OpenShare.{OpenShare}
+use Rattle.gomp_share_plain.specs.declared.seat.Seat.{Seat}
+use Rattle.gomp_share_plain.specs.declared.open_share.OpenShare.{OpenShare}
 
 seen_outside : (members m : ℕ) (seat : Seat) (opened : ℕ) (places : List (Option OpenShare)) (h : List Event) → SeatStands members m seat opened h → seat.started ≡ seat.ended →
     seat_seen places (Some seat) ≡ seen_of m h

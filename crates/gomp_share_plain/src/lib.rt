@@ -9,8 +9,10 @@
 #![tactic(auto)]
 
 pub mod calls;
+mod open_share;
 pub mod own;
 pub mod plain;
+mod seat;
 
 ghost use Rattle.std.specs.Prelude.{◌≡◌, ◌<◌, ℕ, List, [], ◌∷◌, IfOk, Some, false};
 ghost use Rattle.gomp_types.specs.declared.event.Event.{Event};

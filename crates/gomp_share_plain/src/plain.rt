@@ -1,64 +1,17 @@
 //! The work-shares of a team that one thread steps: a seat for each member, and a place for each
 //! of the eight shares that may be open.
 
-ghost use Rattle.std.specs.Prelude.{◌≡◌, ◌<◌, ◌≤◌, ◌+◌, ◌%◌, ◌↔◌, ◌==◌, ◌&&◌, IsTrue, All, length, slice_get, option_map, IfSome, Some, is_some};
-ghost use Rattle.gomp_chunks.specs.Plans.{next_piece, pieces};
-ghost use Rattle.gomp_share_plain.specs.Plain.{StandsFor, plain_seen, share_there};
+ghost use Rattle.std.specs.Prelude.{length};
+ghost use Rattle.gomp_share_plain.specs.Plain.{StandsFor, plain_seen};
 ghost use Rattle.gomp_share_plain.specs.PlainLaws.{plain_aside, plain_agrees, plain_valid};
 
+use crate::open_share::{OpenShare, is_next, shape_at, share_at};
+use crate::seat::{Seat, has_room};
 use crate::{Opening, Seen, Shares};
 use gomp_chunks::{Cursor, Plan};
-use gomp_types::{OPEN_SHARES, Shape, laws};
+use gomp_types::{Shape, laws};
 use std::alloc::{AllocError, Global};
 use std::marker::Model;
-
-/// A member's place among the shares.
-#[derive(Clone, Copy, Debug)]
-pub struct Seat {
-    /// How many shares it has entered.
-    started: u64,
-    /// How many of them it has left; the share that it is in has this number.
-    ended: u64,
-    /// Whether it was told that nothing is left of the last.
-    drained: bool,
-    /// The piece that it took last of the last, until it was told that nothing is left.
-    piece: Option<(u64, u64)>,
-    /// How many pieces it took of the last; the count stays at the largest number.
-    taken: u64,
-    /// The number of `piece` among the pieces of the share.
-    number: u64,
-    /// The iteration after that of its last ordered part in the last, 0 before its first.
-    next_part: u64,
-    /// Whether it is in an ordered part.
-    in_part: bool,
-}
-
-impl Seat {
-    /// A member that has entered no share.
-    const NEW: Seat = Seat {
-        started: 0,
-        ended: 0,
-        drained: false,
-        piece: None,
-        taken: 0,
-        number: 0,
-        next_part: 0,
-        in_part: false,
-    };
-}
-
-/// A share that some member may still be in.
-#[derive(Clone, Copy, Debug)]
-pub struct OpenShare {
-    shape: Shape,
-    /// How many of its pieces were taken; the count stays at the largest number.
-    taken: u64,
-    /// How many of its pieces were handed on; so it is the number of the piece whose ordered parts
-    /// are next.
-    turn: u64,
-    /// Its pieces, with the place of the last one of a guided loop that was taken.
-    cursor: Cursor,
-}
 
 /// The work-shares of a team, for one thread. Share `i` lies at place `i % 8` until share `i + 8`
 /// is opened. After `make` no call takes memory.
@@ -108,7 +61,7 @@ impl Shares for PlainShares {
     fn look(&self, member: u16) -> Seen {
         let seat = self.seats[member as usize];
         let current = if seat.ended < seat.started {
-            share_at(&self.places, seat.ended)
+            shape_at(&self.places, seat.ended)
         } else {
             None
         };
@@ -127,7 +80,7 @@ impl Shares for PlainShares {
         if next >= self.opened {
             return false;
         }
-        match self.places[(next % 8) as usize] {
+        match share_at(&self.places, next) {
             Some(share) => !share.shape.is_same(shape),
             None => false,
         }
@@ -138,7 +91,7 @@ impl Shares for PlainShares {
         if number >= self.opened {
             return false;
         }
-        match self.places[(number % 8) as usize] {
+        match share_at(&self.places, number) {
             Some(share) => share.taken > 0,
             None => false,
         }
@@ -152,7 +105,7 @@ impl Shares for PlainShares {
         let number = seat.started;
         let place = (number % 8) as usize;
         if number < self.opened {
-            let Some(share) = self.places[place] else {
+            let Some(share) = share_at(&self.places, number) else {
                 return Opening::Differs;
             };
             if !share.shape.is_same(shape) {
@@ -187,7 +140,7 @@ impl Shares for PlainShares {
         laws::pieces_tile();
         let seat = self.seats[member as usize];
         let place = (seat.ended % 8) as usize;
-        let Some(share) = self.places[place] else {
+        let Some(share) = share_at(&self.places, seat.ended) else {
             return None;
         };
         let mut cursor = share.cursor;
@@ -216,7 +169,7 @@ impl Shares for PlainShares {
     fn try_turn(&mut self, member: u16, iteration: u64) -> bool {
         laws::pieces_tile();
         let seat = self.seats[member as usize];
-        let Some(share) = self.places[(seat.ended % 8) as usize] else {
+        let Some(share) = share_at(&self.places, seat.ended) else {
             return false;
         };
         if !is_next(&seat, &share) {
@@ -238,7 +191,7 @@ impl Shares for PlainShares {
         laws::pieces_tile();
         let seat = self.seats[member as usize];
         let place = (seat.ended % 8) as usize;
-        let Some(share) = self.places[place] else {
+        let Some(share) = share_at(&self.places, seat.ended) else {
             return false;
         };
         if !is_next(&seat, &share) {
@@ -255,30 +208,6 @@ impl Shares for PlainShares {
         laws::told_none();
         laws::single_done();
         self.seats[member as usize].ended += 1;
-    }
-}
-
-/// Whether every member has left the share eight before this one.
-fn has_room(seats: &[Seat], number: u64) -> bool
-    ensures { IsTrue result ↔ All (λ seat. number < seat.ended + 8) seats.now }
-{
-    seats.iter().all(|seat| number < OPEN_SHARES || number - OPEN_SHARES < seat.ended)
-}
-
-/// Whether the ordered parts of the member's piece are next in its share.
-fn is_next(seat: &Seat, share: &OpenShare) -> bool
-    ensures { result ≡ (is_some seat.now.piece && seat.now.number == share.now.turn) }
-{
-    seat.piece.is_some() && seat.number == share.turn
-}
-
-/// The share of this number, which lies at its place.
-fn share_at(places: &[Option<OpenShare>; 8], number: u64) -> Option<(u64, Shape)>
-    ensures { result ≡ share_there number (slice_get places.now (number % 8)) }
-{
-    match places[(number % 8) as usize] {
-        Some(share) => Some((number, share.shape)),
-        None => None,
     }
 }
 

@@ -4,7 +4,8 @@ use Rattle.gomp_types.specs.Iterations.{loop_tests}
 use Rattle.gomp_types.specs.Pieces.{shape_of}
 use Rattle.gomp_share_plain.specs.declared.calls.ShareCall.TheVariants.{Open, Claim, Leave, Begin, HandOn}
 use Rattle.gomp_share_plain.specs.Runs.{may_make}
-use Rattle.gomp_share_plain.proofs.CallRuns.{made, open_fits, outcome_value, opens_loop, can_open, loop_is, can_claim, can_leave, can_begin, can_hand}
+use Rattle.gomp_share_plain.proofs.CallRuns.{made, open_fits, opens_loop, can_open, loop_is, can_claim, can_leave, can_begin, can_hand}
+use Rattle.gomp_share_plain.proofs.TestRows.{outcome_value}
 use Rattle.gomp_share_plain.proofs.calls.make_call.Goals as goal
 
 pub returns-in_default-clause-answer : goal.returns-in_default-clause-answer

@@ -1,4 +1,4 @@
-use Rattle.std.proofs.Common.{◌%◌, ◌<◌, arith, refl, length}
+use Rattle.std.proofs.Common.{arith, refl}
 use Rattle.std.proofs.lemmas.List.{length-set}
 use Rattle.std.proofs.lemmas.Option.{slice_get_read}
 use Rattle.gomp_share_plain.specs.Calls.{CanClaim}
@@ -11,18 +11,14 @@ pub returns-in_default-clause-stands : goal.returns-in_default-clause-stands
 returns-in_default-clause-stands c = λ h st0.
     let (can, st) = told _ _ c.args.member h (λ n seen. CanClaim n c.args.member seen) c.self.view_is c.requires.place c.requires.place.member st0 in
     let at = slice_get_read c.self.inside.seats.items _ c.args.member c.index-seat.result.now refl can.member c.index-seat.ensures in
-    let eight = st.eight in
-    let within : c.index-seat.result.now.ended % 8 < length c.self.inside.places = omega arith in
-    absurd (not_empty _ _ _ h (own_place _ _ _ _ h c.args.member c.index-seat.result.now st at can.inside) (place_is c.self.inside.places (c.index-seat.result.now.ended % 8) _ _ within c.in_default.is))
+    absurd (not_empty _ _ _ h (own_place _ _ _ _ h c.args.member c.index-seat.result.now st at can.inside) (place_is _ _ _ c.share_at.ensures.there c.in_default.is))
 
 pub next_piece-requires : goal.next_piece-requires
 next_piece-requires c =
     let (h, st0) = known_by _ _ c.self.view_is c.self.invariant in
     let (can, st) = told _ _ c.args.member h (λ n seen. CanClaim n c.args.member seen) c.self.view_is c.requires.place c.requires.place.member st0 in
     let at = slice_get_read c.self.inside.seats.items _ c.args.member c.index-seat.result.now refl can.member c.index-seat.ensures in
-    let eight = st.eight in
-    let within : c.index-seat.result.now.ended % 8 < length c.self.inside.places = omega arith in
-    let there = place_is c.self.inside.places (c.index-seat.result.now.ended % 8) _ _ within c.in-Some.is in
+    let there = place_is _ _ _ c.share_at.ensures.there c.in-Some.is in
     let plan = here_plan _ _ _ c.in-Some.share h (own_place _ _ _ _ h c.args.member c.index-seat.result.now st at can.inside) there in
     record { member = rw plan can.member }
 
@@ -30,9 +26,7 @@ pub returns-in_default-next_piece-clause-answer : goal.returns-in_default-next_p
 returns-in_default-next_piece-clause-answer c = λ h st0.
     let (can, st) = told _ _ c.args.member h (λ n seen. CanClaim n c.args.member seen) c.self.view_is c.requires.place c.requires.place.member st0 in
     let at = slice_get_read c.self.inside.seats.items _ c.args.member c.index-seat.result.now refl can.member c.index-seat.ensures in
-    let eight = st.eight in
-    let within : c.index-seat.result.now.ended % 8 < length c.self.inside.places = omega arith in
-    let there = place_is c.self.inside.places (c.index-seat.result.now.ended % 8) _ _ within c.in-Some.is in
+    let there = place_is _ _ _ c.share_at.ensures.there c.in-Some.is in
     rw (← c.self.view_is) (
     piece_at _ _ _ _ h c.args.member c.index-seat.result.now c.in-Some.share _ st at can.inside there
     (rw c.in_default-next_piece.is at c.next_piece.ensures.piece) (rw c.in_default-next_piece.is at c.next_piece.ensures.within)
@@ -52,9 +46,7 @@ pub returns-clause-answer : goal.returns-clause-answer
 returns-clause-answer c = λ h st0.
     let (can, st) = told _ _ c.args.member h (λ n seen. CanClaim n c.args.member seen) c.self.view_is c.requires.place c.requires.place.member st0 in
     let at = slice_get_read c.self.inside.seats.items _ c.args.member c.index-seat.result.now refl can.member c.index-seat.ensures in
-    let eight = st.eight in
-    let within : c.index-seat.result.now.ended % 8 < length c.self.inside.places = omega arith in
-    let there = place_is c.self.inside.places (c.index-seat.result.now.ended % 8) _ _ within c.in-Some.is in
+    let there = place_is _ _ _ c.share_at.ensures.there c.in-Some.is in
     rw (← c.self.view_is) (
     piece_at _ _ _ _ h c.args.member c.index-seat.result.now c.in-Some.share _ st at can.inside there
     (rw c.in-Some-next_piece.is at c.next_piece.ensures.piece) (rw c.in-Some-next_piece.is at c.next_piece.ensures.within)
@@ -64,9 +56,7 @@ pub returns-clause-stands : goal.returns-clause-stands
 returns-clause-stands c = λ h st0.
     let (can, st) = told _ _ c.args.member h (λ n seen. CanClaim n c.args.member seen) c.self.view_is c.requires.place c.requires.place.member st0 in
     let at = slice_get_read c.self.inside.seats.items _ c.args.member c.index-seat.result.now refl can.member c.index-seat.ensures in
-    let eight = st.eight in
-    let within : c.index-seat.result.now.ended % 8 < length c.self.inside.places = omega arith in
-    let there = place_is c.self.inside.places (c.index-seat.result.now.ended % 8) _ _ within c.in-Some.is in
+    let there = place_is _ _ _ c.share_at.ensures.there c.in-Some.is in
     let may = rw (← c.self.view_is) at (returns-clause-answer c h st0) in
     let kept = claims _ _ _ _ h c.args.member c.index-seat.result.now c.in-Some.share _ _ c.next_piece.new.self c.next_piece.ensures.plan (rw c.in-Some-next_piece.is at c.next_piece.ensures.number) st at can.inside there can.apart may in
     rw (length-set c.self.inside.seats.items c.args.member _, c.saturating_add.ensures, c.saturating_add-2.ensures) kept

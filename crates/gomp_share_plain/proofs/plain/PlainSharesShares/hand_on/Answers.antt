@@ -1,4 +1,4 @@
-use Rattle.std.proofs.Common.{◌%◌, ◌<◌, arith, refl, ◌∙◌, sym, length}
+use Rattle.std.proofs.Common.{arith, refl, ◌∙◌, sym}
 use Rattle.std.specs.Prelude.{is_some}
 use Rattle.std.proofs.lemmas.Option.{slice_get_read}
 use Rattle.gomp_types.proofs.Booleans.{some_of, and_left, and_right, is_equal}
@@ -12,17 +12,13 @@ pub returns-in_default-clause-answer : goal.returns-in_default-clause-answer
 returns-in_default-clause-answer c = λ h st0.
     let (can, st) = told _ _ c.args.member h (λ n seen. CanHandOn n c.args.member seen) c.self.view_is c.requires.place c.requires.place.member st0 in
     let at = slice_get_read c.self.inside.seats.items _ c.args.member c.index.result.now refl can.member c.index.ensures in
-    let eight = st.eight in
-    let within : c.index.result.now.ended % 8 < length c.self.inside.places = omega arith in
-    absurd (not_empty _ _ _ h (own_place _ _ _ _ h c.args.member c.index.result.now st at (hands_inside _ c.args.member h can)) (place_is c.self.inside.places (c.index.result.now.ended % 8) _ _ within c.in_default.is))
+    absurd (not_empty _ _ _ h (own_place _ _ _ _ h c.args.member c.index.result.now st at (hands_inside _ c.args.member h can)) (place_is _ _ _ c.share_at.ensures.there c.in_default.is))
 
 pub returns-then-not-is_next-clause-answer : goal.returns-then-not-is_next-clause-answer
 returns-then-not-is_next-clause-answer c = λ h st0.
     let (can, st) = told _ _ c.args.member h (λ n seen. CanHandOn n c.args.member seen) c.self.view_is c.requires.place c.requires.place.member st0 in
     let at = slice_get_read c.self.inside.seats.items _ c.args.member c.index.result.now refl can.member c.index.ensures in
-    let eight = st.eight in
-    let within : c.index.result.now.ended % 8 < length c.self.inside.places = omega arith in
-    let there = place_is c.self.inside.places (c.index.result.now.ended % 8) _ _ within c.in-Some.is in
+    let there = place_is _ _ _ c.share_at.ensures.there c.in-Some.is in
     let tells = next_tells _ _ _ _ h c.args.member c.index.result.now c.in-Some.share st at (hands_inside _ c.args.member h can) there can.member c.pieces_tile.ensures in
     rw (← c.self.view_is) (sym (tells ∙ sym c.is_next.ensures ∙ c.if-not-is_next.true))
 
@@ -30,9 +26,7 @@ pub returns-clause-answer : goal.returns-clause-answer
 returns-clause-answer c = λ h st0.
     let (can, st) = told _ _ c.args.member h (λ n seen. CanHandOn n c.args.member seen) c.self.view_is c.requires.place c.requires.place.member st0 in
     let at = slice_get_read c.self.inside.seats.items _ c.args.member c.index.result.now refl can.member c.index.ensures in
-    let eight = st.eight in
-    let within : c.index.result.now.ended % 8 < length c.self.inside.places = omega arith in
-    let there = place_is c.self.inside.places (c.index.result.now.ended % 8) _ _ within c.in-Some.is in
+    let there = place_is _ _ _ c.share_at.ensures.there c.in-Some.is in
     let tells = next_tells _ _ _ _ h c.args.member c.index.result.now c.in-Some.share st at (hands_inside _ c.args.member h can) there can.member c.pieces_tile.ensures in
     rw (← c.self.view_is) (sym (tells ∙ sym c.is_next.ensures ∙ c.if-not-is_next.false))
 
@@ -40,9 +34,7 @@ pub returns-clause-stands : goal.returns-clause-stands
 returns-clause-stands c = λ h st0.
     let (can, st) = told _ _ c.args.member h (λ n seen. CanHandOn n c.args.member seen) c.self.view_is c.requires.place c.requires.place.member st0 in
     let at = slice_get_read c.self.inside.seats.items _ c.args.member c.index.result.now refl can.member c.index.ensures in
-    let eight = st.eight in
-    let within : c.index.result.now.ended % 8 < length c.self.inside.places = omega arith in
-    let there = place_is c.self.inside.places (c.index.result.now.ended % 8) _ _ within c.in-Some.is in
+    let there = place_is _ _ _ c.share_at.ensures.there c.in-Some.is in
     let tells = next_tells _ _ _ _ h c.args.member c.index.result.now c.in-Some.share st at (hands_inside _ c.args.member h can) there can.member c.pieces_tile.ensures in
     let next = tells ∙ sym c.is_next.ensures ∙ c.if-not-is_next.false in
     let is = is_equal c.index.result.now.number c.in-Some.share.turn (and_right (is_some c.index.result.now.piece) _ (sym c.is_next.ensures ∙ c.if-not-is_next.false)) in
@@ -56,9 +48,7 @@ overflow_add-self c =
     let (h, st0) = known_by _ _ c.self.view_is c.self.invariant in
     let (can, st) = told _ _ c.args.member h (λ n seen. CanHandOn n c.args.member seen) c.self.view_is c.requires.place c.requires.place.member st0 in
     let at = slice_get_read c.self.inside.seats.items _ c.args.member c.index.result.now refl can.member c.index.ensures in
-    let eight = st.eight in
-    let within : c.index.result.now.ended % 8 < length c.self.inside.places = omega arith in
-    let there = place_is c.self.inside.places (c.index.result.now.ended % 8) _ _ within c.in-Some.is in
+    let there = place_is _ _ _ c.share_at.ensures.there c.in-Some.is in
     let piece = some_of c.index.result.now.piece (and_left (is_some c.index.result.now.piece) _ (sym c.is_next.ensures ∙ c.if-not-is_next.false)) in
     let few = number_below _ _ _ _ h c.args.member c.index.result.now c.in-Some.share piece.0 st at (hands_inside _ c.args.member h can) there can.member c.pieces_tile.ensures piece.1 in
     let least = few.0 in

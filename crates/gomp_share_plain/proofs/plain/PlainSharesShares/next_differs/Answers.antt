@@ -1,4 +1,4 @@
-use Rattle.std.proofs.Common.{◌%◌, ◌<◌, arith, refl, sym, length}
+use Rattle.std.proofs.Common.{refl, sym}
 use Rattle.std.proofs.lemmas.Option.{slice_get_read}
 use Rattle.gomp_share_plain.proofs.Places.{place_is, next_place, next_differs, new_differs, not_empty}
 use Rattle.gomp_share_plain.proofs.Views.{told_stands}
@@ -14,14 +14,10 @@ pub returns-in-Some-clause-answer : goal.returns-in-Some-clause-answer
 returns-in-Some-clause-answer c = λ h st0.
     let (lt, st) = told_stands _ _ c.args.member h c.self.view_is c.requires.member st0 in
     let at = slice_get_read c.self.inside.seats.items _ c.args.member c.index.result.now refl lt c.index.ensures in
-    let eight = st.eight in
-    let within : c.index.result.now.started % 8 < length c.self.inside.places = omega arith in
-    rw c.is_same.ensures (next_differs _ _ _ _ h c.args.member c.index.result.now c.in-Some.share c.args.shape.now st at c.if-next-self.false (place_is c.self.inside.places (c.index.result.now.started % 8) _ _ within c.in-Some.is))
+    rw c.is_same.ensures (next_differs _ _ _ _ h c.args.member c.index.result.now c.in-Some.share c.args.shape.now st at c.if-next-self.false (place_is _ _ _ c.share_at.ensures.there c.in-Some.is))
 
 pub returns-in-None-clause-answer : goal.returns-in-None-clause-answer
 returns-in-None-clause-answer c = λ h st0.
     let (lt, st) = told_stands _ _ c.args.member h c.self.view_is c.requires.member st0 in
     let at = slice_get_read c.self.inside.seats.items _ c.args.member c.index.result.now refl lt c.index.ensures in
-    let eight = st.eight in
-    let within : c.index.result.now.started % 8 < length c.self.inside.places = omega arith in
-    absurd (not_empty _ _ _ h (next_place _ _ _ _ h c.args.member c.index.result.now st at c.if-next-self.false) (place_is c.self.inside.places (c.index.result.now.started % 8) _ _ within c.in-None.is))
+    absurd (not_empty _ _ _ h (next_place _ _ _ _ h c.args.member c.index.result.now st at c.if-next-self.false) (place_is _ _ _ c.share_at.ensures.there c.in-None.is))

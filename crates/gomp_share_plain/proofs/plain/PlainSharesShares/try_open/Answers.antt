@@ -1,4 +1,4 @@
-use Rattle.std.proofs.Common.{◌≡◌, ◌%◌, ◌<◌, ◌^◌, arith, rules, refl, ◌∙◌, sym, ap, subst, length, not, true, false}
+use Rattle.std.proofs.Common.{◌≡◌, ◌<◌, ◌^◌, arith, rules, refl, ◌∙◌, sym, ap, subst, length, not, true, false}
 use Rattle.std.specs.Prelude.{IsTrue}
 use Rattle.std.proofs.lemmas.List.{length-set}
 use Rattle.std.proofs.lemmas.Option.{slice_get_read}
@@ -14,18 +14,14 @@ pub returns-then-not-is_same-clause-answer : goal.returns-then-not-is_same-claus
 returns-then-not-is_same-clause-answer c = λ h st0.
     let (can, st) = told _ _ c.args.member h (λ n seen. CanOpen n c.args.member c.args.shape.now seen) c.self.view_is c.requires.place c.requires.place.member st0 in
     let at = slice_get_read c.self.inside.seats.items _ c.args.member c.index-seat.result.now refl can.member c.index-seat.ensures in
-    let eight = st.eight in
-    let within : c.index-seat.result.now.started % 8 < length c.self.inside.places = omega arith in
-    let there = place_is c.self.inside.places (c.index-seat.result.now.started % 8) _ _ within c.in-Some.is in
+    let there = place_is _ _ _ c.share_at.ensures.there c.in-Some.is in
     sym (next_differs _ _ _ _ h c.args.member c.index-seat.result.now c.in-Some.share c.args.shape.now st at c.if-number-self.true there) ∙ ap not (sym c.is_same.ensures ∙ c.if-not-is_same.true)
 
 pub returns-then-number-self-clause-answer : goal.returns-then-number-self-clause-answer
 returns-then-number-self-clause-answer c = λ h st0.
     let (can, st) = told _ _ c.args.member h (λ n seen. CanOpen n c.args.member c.args.shape.now seen) c.self.view_is c.requires.place c.requires.place.member st0 in
     let at = slice_get_read c.self.inside.seats.items _ c.args.member c.index-seat.result.now refl can.member c.index-seat.ensures in
-    let eight = st.eight in
-    let within : c.index-seat.result.now.started % 8 < length c.self.inside.places = omega arith in
-    let there = place_is c.self.inside.places (c.index-seat.result.now.started % 8) _ _ within c.in-Some.is in
+    let there = place_is _ _ _ c.share_at.ensures.there c.in-Some.is in
     let s = st.seat c.args.member _ at in
     rw (← c.self.view_is) (
       sym (next_differs _ _ _ _ h c.args.member c.index-seat.result.now c.in-Some.share c.args.shape.now st at c.if-number-self.true there) ∙ ap not (sym c.is_same.ensures ∙ c.if-not-is_same.false),
@@ -36,9 +32,7 @@ pub returns-then-number-self-clause-stands : goal.returns-then-number-self-claus
 returns-then-number-self-clause-stands c = λ h st0.
     let (can, st) = told _ _ c.args.member h (λ n seen. CanOpen n c.args.member c.args.shape.now seen) c.self.view_is c.requires.place c.requires.place.member st0 in
     let at = slice_get_read c.self.inside.seats.items _ c.args.member c.index-seat.result.now refl can.member c.index-seat.ensures in
-    let eight = st.eight in
-    let within : c.index-seat.result.now.started % 8 < length c.self.inside.places = omega arith in
-    let there = place_is c.self.inside.places (c.index-seat.result.now.started % 8) _ _ within c.in-Some.is in
+    let there = place_is _ _ _ c.share_at.ensures.there c.in-Some.is in
     let fine = can_enter _ c.args.member c.args.shape.now _ can c.fair_schedule.ensures c.pieces_tile.ensures in
     rw (length-set c.self.inside.seats.items c.args.member _) (enters _ _ _ _ h c.args.member c.index-seat.result.now c.args.shape.now st at can.outside c.if-number-self.true fine
     (next_same _ _ _ _ h c.args.member c.index-seat.result.now c.in-Some.share c.args.shape.now st at c.if-number-self.true there (sym c.is_same.ensures ∙ c.if-not-is_same.false)))
@@ -108,9 +102,7 @@ pub returns-in_default-clause-answer : goal.returns-in_default-clause-answer
 returns-in_default-clause-answer c = λ h st0.
     let (can, st) = told _ _ c.args.member h (λ n seen. CanOpen n c.args.member c.args.shape.now seen) c.self.view_is c.requires.place c.requires.place.member st0 in
     let at = slice_get_read c.self.inside.seats.items _ c.args.member c.index-seat.result.now refl can.member c.index-seat.ensures in
-    let eight = st.eight in
-    let within : c.index-seat.result.now.started % 8 < length c.self.inside.places = omega arith in
-    absurd (not_empty _ _ _ h (next_place _ _ _ _ h c.args.member c.index-seat.result.now st at c.if-number-self.true) (place_is c.self.inside.places (c.index-seat.result.now.started % 8) _ _ within c.in_default.is))
+    absurd (not_empty _ _ _ h (next_place _ _ _ _ h c.args.member c.index-seat.result.now st at c.if-number-self.true) (place_is _ _ _ c.share_at.ensures.there c.in_default.is))
 
 pub overflow_cast-members : goal.overflow_cast-members
 overflow_cast-members c =

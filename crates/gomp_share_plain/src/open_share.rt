@@ -1,0 +1,45 @@
+//! A share that may be open, and the place where it lies.
+
+ghost use Rattle.std.specs.Prelude.{◌≡◌, ◌%◌, ◌==◌, ◌&&◌, is_some, slice_get, Some};
+ghost use Rattle.gomp_share_plain.specs.Plain.{share_there};
+
+use crate::seat::Seat;
+use gomp_chunks::Cursor;
+use gomp_types::Shape;
+
+/// A share that some member may still be in.
+#[derive(Clone, Copy, Debug)]
+pub struct OpenShare {
+    pub shape: Shape,
+    /// How many of its pieces were taken; the count stays at the largest number.
+    pub taken: u64,
+    /// How many of its pieces were handed on; so it is the number of the piece whose ordered parts
+    /// are next.
+    pub turn: u64,
+    /// Its pieces, with the place of the last one of a guided loop that was taken.
+    pub cursor: Cursor,
+}
+
+/// The share that lies at the place of this number, if one does.
+pub fn share_at(places: &[Option<OpenShare>; 8], number: u64) -> Option<OpenShare>
+    ensures there { Some result ≡ slice_get places.now (number % 8) }
+{
+    places[(number % 8) as usize]
+}
+
+/// Its shape, with the number.
+pub fn shape_at(places: &[Option<OpenShare>; 8], number: u64) -> Option<(u64, Shape)>
+    ensures answer { result ≡ share_there number (slice_get places.now (number % 8)) }
+{
+    match share_at(places, number) {
+        Some(share) => Some((number, share.shape)),
+        None => None,
+    }
+}
+
+/// Whether the ordered parts of the member's piece are next in its share.
+pub fn is_next(seat: &Seat, share: &OpenShare) -> bool
+    ensures { result ≡ (is_some seat.now.piece && seat.now.number == share.now.turn) }
+{
+    seat.piece.is_some() && seat.number == share.turn
+}
