@@ -32,7 +32,7 @@ use Rattle.gomp_core.specs.declared.waiting.Waiting.{Waiting}
 use Rattle.gomp_core.specs.declared.waiting.Waiting.TheVariants.{Start, Turn, Arrive}
 use Rattle.gomp_core.specs.Waits.{start_call, turn_call, arrival_call, arrival_of, open_call, wait_for}
 use Rattle.gomp_core.specs.Answers.{place_tests, comparison_tests, IsReady, IsAnswer, MayLeave, is_at_once}
-use Rattle.gomp_core.proofs.Rows.{front_fails}
+use Rattle.gomp_share_plain.proofs.TestRows.{front_fails}
 
 -- Tests in a row
 

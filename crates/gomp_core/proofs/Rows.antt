@@ -1,6 +1,6 @@
 -- The tests of a step: those that the member can make alone, and then the comparison with the other members.
 use Rattle.std.proofs.Common.{◌≡◌, ℕ, ◌<◌, Bool, true, false, List, [], ◌∷◌, ◌++◌, Option, Some, None, refl, ap, ◌∙◌, subst, arith, sym}
-use Rattle.std.specs.Prelude.{nat_le, ◌≢◌, is_some, is_none}
+use Rattle.std.specs.Prelude.{nat_le, ◌≢◌, is_some}
 use Rattle.std.proofs.lemmas.Bool.Decides.{nat_tests}
 use Rattle.gomp_types.specs.declared.call.Call.{Call}
 use Rattle.gomp_types.specs.declared.call.Call.TheVariants.{LoopStart, LoopNext, LoopEnd, LoopEndNowait, SectionsStart, SectionsNext, SectionsEnd, SectionsEndNowait, SingleStart, SingleCopyStart, SingleCopyEnd, OrderedStart, OrderedEnd, Barrier, RegionEnd, Resume, Stop}
@@ -13,7 +13,7 @@ use Rattle.gomp_types.specs.declared.refusal.Refusal.TheVariants.{Mismatch, NoMe
 use Rattle.gomp_types.specs.declared.event.Event.{Event}
 use Rattle.gomp_types.specs.Limits.{capped}
 use Rattle.gomp_types.specs.Tests.{Test, first_refusal}
-use Rattle.gomp_types.specs.Events.{clash_of, has_left_region, open_number, payload_at}
+use Rattle.gomp_types.specs.Events.{clash_of, has_left_region}
 use Rattle.gomp_types.specs.Record.{meant, is_resume, refusal_added}
 use Rattle.gomp_types.specs.Refusals.{row_of, member_tests, broken_tests}
 use Rattle.gomp_types.specs.Causes.{Terms, tests_of}
@@ -22,21 +22,12 @@ use Rattle.gomp_share_plain.specs.Calls.{seen_of}
 use Rattle.gomp_loops.specs.OwnTests.{own_tests as loop_tests}
 use Rattle.gomp_sections.specs.OwnTests.{own_tests as sections_tests}
 use Rattle.gomp_ordered.specs.OwnTests.{own_tests as ordered_tests}
+use Rattle.gomp_share_plain.proofs.TestRows.{front_holds, front_fails}
 use Rattle.gomp_core.specs.declared.waiting.Waiting.{Waiting as Kept}
 use Rattle.gomp_core.specs.declared.waiting.Waiting.TheVariants.{Start, Turn, Arrive}
 use Rattle.gomp_core.specs.Waits.{open_call}
 use Rattle.gomp_core.specs.Answers.{place_tests, own_row, comparison_tests, IsReady}
 use Rattle.gomp_core.specs.Stands.{MayBeRepeated}
-
-pub front_holds : (tests more : List Test) (refusal : Refusal) → first_refusal tests ≡ Some refusal → first_refusal (tests ++ more) ≡ Some refusal
-front_holds [] more refusal e = absurd (cc)
-front_holds ((true, found) ∷ tests) more refusal e = e
-front_holds ((false, found) ∷ tests) more refusal e = front_holds tests more refusal e
-
-pub front_fails : (tests more : List Test) → first_refusal tests ≡ None → first_refusal (tests ++ more) ≡ first_refusal more
-front_fails [] more e = refl
-front_fails ((true, found) ∷ tests) more e = absurd (cc)
-front_fails ((false, found) ∷ tests) more e = front_fails tests more e
 
 none_before : (tests more : List Test) → first_refusal (tests ++ more) ≡ None → first_refusal tests ≡ None
 none_before [] more e = refl

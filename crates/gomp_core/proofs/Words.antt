@@ -1,13 +1,12 @@
 -- The places of the words that executors of singles put stand for the events that follow.
-use Rattle.std.proofs.Common.{Bor, ◌≡◌, ◌≢◌, ℕ, ◌+◌, ◌*◌, ◌-◌, ◌%◌, ◌/◌, ◌<◌, Bool, true, false, List, [], ◌∷◌, ◌++◌, Option, Some, None, length, slice_get, slice_set, replicate, refl, ap, ◌∙◌, sym, subst, arith, suc, zero, inl, inr}
-use Rattle.std.specs.Prelude.{◌==◌, ◌&&◌, not, is_some, is_none, if◌then◌else◌, option_copied}
+use Rattle.std.proofs.Common.{◌≡◌, ◌≢◌, ℕ, ◌+◌, ◌*◌, ◌-◌, ◌%◌, ◌/◌, ◌<◌, Bool, true, false, List, [], ◌∷◌, Option, Some, None, length, slice_get, slice_set, replicate, refl, ap, ◌∙◌, sym, subst, arith, suc, zero, inl, inr}
+use Rattle.std.specs.Prelude.{◌==◌, ◌&&◌, is_some, if◌then◌else◌}
 use Rattle.std.proofs.lemmas.Bool.{cases_Bool, cases_lt}
 use Rattle.std.proofs.lemmas.List.{length-set}
 use Rattle.std.proofs.Math.Nat.{div-add-mod}
 use Rattle.gomp_types.specs.declared.call.Call.{Call}
 use Rattle.gomp_types.specs.declared.call.Call.TheVariants.{SingleCopyEnd}
 use Rattle.gomp_types.specs.declared.limits.Limits.{Limits}
-use Rattle.gomp_types.specs.declared.refusal.Refusal.{Refusal}
 use Rattle.gomp_types.specs.declared.reply.Reply.{Reply}
 use Rattle.gomp_types.specs.declared.reply.Reply.TheVariants.{Finished}
 use Rattle.gomp_types.specs.declared.shape.Shape.{Shape}
@@ -15,13 +14,7 @@ use Rattle.gomp_types.specs.declared.event.Event.{Event}
 use Rattle.gomp_types.specs.declared.event.Event.TheVariants.{Enter, End, Put, Arrive, Pass, Break}
 use Rattle.gomp_types.specs.Events.{open_share, open_number, share_number, shape_at, has_ended, is_over, payload_at}
 use Rattle.gomp_types.specs.Record.{added}
-use Rattle.gomp_types.specs.Tests.{first_refusal}
-use Rattle.gomp_share_plain.specs.Calls.{seen_of}
-use Rattle.gomp_loops.specs.OwnTests.{own_tests as loop_tests}
-use Rattle.gomp_ordered.specs.OwnTests.{own_tests as ordered_tests}
-use Rattle.gomp_sections.specs.OwnTests.{own_tests as sections_tests, own_copy_end_tests}
 use Rattle.gomp_core.specs.Answers.{IsReady}
-use Rattle.gomp_core.proofs.Rows.{front_holds, front_fails}
 use Rattle.gomp_types.proofs.Booleans.{tells, is_equal, differs, same_number, or_right, not_both, some_of, every_tells, every_by}
 use Rattle.gomp_types.proofs.Lists.{slice_get-set_same, slice_get-set_other}
 use Rattle.gomp_core.specs.declared.payloads.Put.{Put as Kept}

@@ -18,7 +18,7 @@ use Rattle.gomp_types.specs.Tests.{Test, first_refusal}
 use Rattle.gomp_types.specs.Pieces.{shape_of}
 use Rattle.gomp_types.specs.Sections.{sections_shape}
 use Rattle.gomp_types.specs.Singles.{single_shape}
-use Rattle.gomp_types.specs.Events.{entered, open_number, passed, payload_at}
+use Rattle.gomp_types.specs.Events.{entered, passed}
 use Rattle.gomp_types.specs.Record.{place_of}
 use Rattle.gomp_types.specs.Refusals.{start_tests, arrival_tests, loop_end_tests, sections_end_tests}
 use Rattle.gomp_types.specs.Replies.{MayReply}

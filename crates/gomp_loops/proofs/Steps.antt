@@ -1,12 +1,7 @@
 -- What a member sees, and the piece that it was given, in the words of the events.
-use Rattle.std.proofs.Common.{◌≡◌, ℕ, ℤ, ◌+◌, ◌-◌, ◌<◌, ◌≤◌, Bool, true, false, List, [], ◌∷◌, ◌++◌, Option, Some, None, Ok, Err, refl, ap, ◌∙◌, sym, subst, arith}
-use Rattle.std.proofs.lemmas.Bool.Decides.{nat_tests}
-use Rattle.std.specs.Prelude.{pos, not, if◌then◌else◌, ◌≢◌, ◌==◌, ◌&&◌, nat_le, is_some}
-use Rattle.std.specs.Ordering.{int_eq}
+use Rattle.std.proofs.Common.{◌≡◌, ℕ, ◌+◌, ◌-◌, ◌<◌, ◌≤◌, Bool, true, false, List, [], ◌∷◌, ◌++◌, Option, Some, None, refl, ap, ◌∙◌, sym, subst, arith}
+use Rattle.std.specs.Prelude.{pos, not, if◌then◌else◌, ◌≢◌, ◌&&◌, nat_le, is_some}
 use Rattle.gomp_types.specs.declared.call.Call.TheVariants.{LoopStart, LoopNext}
-use Rattle.gomp_types.specs.declared.loop_desc.Sched.{Sched}
-use Rattle.gomp_types.specs.declared.loop_desc.Sched.TheVariants as sched
-use Rattle.gomp_types.specs.declared.shape.ShareKind.TheVariants.{StaticEven, StaticChunked}
 use Rattle.gomp_types.specs.declared.reply.Reply.TheVariants.{Wait}
 use Rattle.gomp_types.specs.declared.loop_desc.LoopDesc.{LoopDesc}
 use Rattle.gomp_types.specs.declared.loop_desc.EndKind.{EndKind}
@@ -16,9 +11,9 @@ use Rattle.gomp_types.specs.declared.refusal.Refusal.TheVariants.{InsideShare, O
 use Rattle.gomp_types.specs.declared.shape.Shape.{Shape}
 use Rattle.gomp_types.specs.declared.event.Event.{Event}
 use Rattle.gomp_types.specs.declared.event.Event.TheVariants.{Enter, HandOn}
-use Rattle.gomp_types.specs.Tests.{Test, first_refusal, outcome}
+use Rattle.gomp_types.specs.Tests.{first_refusal}
 use Rattle.gomp_types.specs.Iterations.{loop_tests}
-use Rattle.gomp_types.specs.Pieces.{Piece, kind_of, shape_of}
+use Rattle.gomp_types.specs.Pieces.{Piece, shape_of}
 use Rattle.gomp_types.specs.Values.{IsShape, value_at, iteration_at}
 use Rattle.gomp_types.specs.Events.{entered, open_share, open_number, share_number, in_kind, has_drained, in_part, turn, shape_at, has_room}
 use Rattle.gomp_types.specs.Ordered.{has_turn, must_wait}
@@ -27,68 +22,46 @@ use Rattle.gomp_types.specs.Refusals.{loop_end_tests, call_tests, shape_differs}
 use Rattle.gomp_types.specs.Replies.{DealsOut}
 use Rattle.gomp_types.specs.Causes.{IsReply}
 use Rattle.gomp_types.specs.Shapes.{is_loop}
+use Rattle.gomp_types.proofs.Booleans.{same_number}
 use Rattle.gomp_share_plain.specs.declared.Seen.{Seen}
 use Rattle.gomp_share_plain.specs.declared.own.Construct.TheVariants.{Loop}
 use Rattle.gomp_share_plain.specs.Calls.{seen_of, CanClaim, Claims, claimed, own_turn, piece_handed}
 use Rattle.gomp_share_plain.specs.Own.{next_tests_of, end_tests_of}
+use Rattle.gomp_share_plain.proofs.TestRows.{row_is, front_holds, front_fails, head_fails, open_entered}
 use Rattle.gomp_loops.specs.OwnTests.{own_start_tests}
 use Rattle.gomp_loops.specs.Answers.{reply_of}
 
 -- The tests
 
 pub end_is : (kind : EndKind) (m : ℕ) (seen : Seen) (h : List Event) (found : Option Refusal) → seen ≡ seen_of m h → found ≡ first_refusal (end_tests_of Loop kind seen) → first_refusal (loop_end_tests kind m h) ≡ found
-end_is kind m seen h found e is = sym (is ∙ ap (λ (s : Seen). first_refusal (end_tests_of Loop kind s)) e)
+end_is kind m seen h found e is = row_is (end_tests_of Loop kind) seen (seen_of m h) found e is
 
 pub next_own : (m : ℕ) (seen : Seen) (h : List Event) (found : Option Refusal) → seen ≡ seen_of m h → found ≡ first_refusal (next_tests_of Loop seen) → first_refusal (next_tests_of Loop (seen_of m h)) ≡ found
-next_own m seen h found e is = sym (is ∙ ap (λ (s : Seen). first_refusal (next_tests_of Loop s)) e)
+next_own m seen h found e is = row_is (next_tests_of Loop) seen (seen_of m h) found e is
 
 pub next_is : (limits : Limits) (m : ℕ) (seen : Seen) (h : List Event) (found : Option Refusal) → seen ≡ seen_of m h → found ≡ first_refusal (next_tests_of Loop seen) → first_refusal (call_tests limits m LoopNext h) ≡ found
 next_is limits m seen h found e is = next_own m seen h found e is
-
--- of tests in a row the first of the front, and else of the rest
-front_holds : (tests more : List Test) (refusal : Refusal) → first_refusal tests ≡ Some refusal → first_refusal (tests ++ more) ≡ Some refusal
-front_holds [] more refusal e = absurd (cc)
-front_holds ((true, found) ∷ tests) more refusal e = e
-front_holds ((false, found) ∷ tests) more refusal e = front_holds tests more refusal e
-
-front_fails : (tests more : List Test) → first_refusal tests ≡ None → first_refusal (tests ++ more) ≡ first_refusal more
-front_fails [] more e = refl
-front_fails ((true, found) ∷ tests) more e = absurd (cc)
-front_fails ((false, found) ∷ tests) more e = front_fails tests more e
 
 -- a start whose own tests fail is refused only where the shares differ
 pub start_refused : (limits : Limits) (m : ℕ) (loop : LoopDesc) (seen : Seen) (h : List Event) (refusal : Refusal) → seen ≡ seen_of m h → Some refusal ≡ first_refusal (own_start_tests limits seen loop) →
     first_refusal (call_tests limits m (LoopStart loop) h) ≡ Some refusal
 start_refused limits m loop seen h refusal e is =
     front_holds (own_start_tests limits (seen_of m h) loop) ((shape_differs (shape_of loop) (shape_at (entered m h) h), Mismatch) ∷ []) refusal
-    (sym (is ∙ ap (λ (s : Seen). first_refusal (own_start_tests limits s loop)) e))
+    (row_is (λ s. own_start_tests limits s loop) seen (seen_of m h) (Some refusal) e is)
 
 pub start_compared : (limits : Limits) (m : ℕ) (loop : LoopDesc) (seen : Seen) (h : List Event) → seen ≡ seen_of m h → None ≡ first_refusal (own_start_tests limits seen loop) →
     first_refusal (call_tests limits m (LoopStart loop) h) ≡ first_refusal ((shape_differs (shape_of loop) (shape_at (entered m h) h), Mismatch) ∷ [])
 start_compared limits m loop seen h e is =
     front_fails (own_start_tests limits (seen_of m h) loop) ((shape_differs (shape_of loop) (shape_at (entered m h) h), Mismatch) ∷ [])
-    (sym (is ∙ ap (λ (s : Seen). first_refusal (own_start_tests limits s loop)) e))
+    (row_is (λ s. own_start_tests limits s loop) seen (seen_of m h) None e is)
 
 -- a start whose own tests fail is outside of every share
-head_fails : (test : Bool) (refusal : Refusal) (tests : List Test) → first_refusal ((test, refusal) ∷ tests) ≡ None → test ≡ false
-head_fails true refusal tests e = absurd (cc)
-head_fails false refusal tests e = refl
-
 pub start_outside : (limits : Limits) (seen : Seen) (loop : LoopDesc) → first_refusal (own_start_tests limits seen loop) ≡ None → is_some seen.current ≡ false
 start_outside limits seen loop e = head_fails (is_some seen.current) InsideShare (loop_tests loop ++ (nat_le limits.shares seen.entered, TooManyShares) ∷ []) e
 
 -- a member outside of every share is refused as its loop is
 pub start_own : (limits : Limits) (seen : Seen) (loop : LoopDesc) (refusal : Refusal) → is_some seen.current ≡ false → first_refusal (loop_tests loop) ≡ Some refusal → first_refusal (own_start_tests limits seen loop) ≡ Some refusal
 start_own limits seen loop refusal out e = rw out (front_holds (loop_tests loop) ((nat_le limits.shares seen.entered, TooManyShares) ∷ []) refusal e)
-
-pub outcome_refused : {A : Type 0} (first : Option Refusal) (value : A) (refusal : Refusal) → outcome first value ≡ Err refusal → first ≡ Some refusal
-outcome_refused None value refusal e = absurd (cc)
-outcome_refused (Some found) value refusal e = let same : found ≡ refusal = cc in ap Some same
-
--- the shape that a loop was found to have
-pub outcome_value : {A : Type 0} (first : Option Refusal) (value found : A) → outcome first value ≡ Ok found → found ≡ value
-outcome_value None value found e = cc
-outcome_value (Some refusal) value found e = absurd (cc)
 
 -- Replies
 
@@ -118,10 +91,6 @@ pub start_reply : (limits : Limits) (members m : ℕ) (loop : LoopDesc) (answer 
     DealsOut members m (Some (entered m h, shape_of loop)) (reply_of (shape_of loop) answer) h → IsReply limits members m (LoopStart loop) (reply_of (shape_of loop) answer) h
 start_reply limits members m loop None h none room dealt = (none, (room, dealt))
 start_reply limits members m loop (Some piece) h none room dealt = (none, (room, dealt))
-
--- what the comparison with the team's share gives
-pub compared : (test : Bool) → test ≡ false → first_refusal ((test, Mismatch) ∷ []) ≡ None
-compared test e = rw e refl
 
 -- Pieces
 
@@ -253,29 +222,6 @@ next_adds members m i shares shape (Some piece) h tell there claims =
     rw (same, there, tell shape piece.0 valid.moves, back) refl
 
 -- A start
-
-same_number : (n : ℕ) → (n == n) ≡ true
-same_number n = grind (arith, nat_tests)
-
-pub open_entered : (m i : ℕ) (shape : Shape) (h : List Event) → open_share m (Enter i m shape ∷ h) ≡ Some (i, shape)
-open_entered m i shape h = rw (same_number m) refl
-
-pub drained_entered : (m i : ℕ) (shape : Shape) (h : List Event) → has_drained m (Enter i m shape ∷ h) ≡ false
-drained_entered m i shape h = rw (same_number m) refl
-
-pub part_entered : (m i : ℕ) (shape : Shape) (h : List Event) → in_part m (Enter i m shape ∷ h) ≡ false
-part_entered m i shape h = rw (same_number m) refl
-
--- a loop's share is a loop
-static_kind : (even : Bool) → is_loop (if even then StaticEven else StaticChunked) ≡ true
-static_kind true = refl
-static_kind false = refl
-
-pub loop_kind : (kind : Sched) (chunk : ℤ) → is_loop (kind_of kind chunk) ≡ true
-loop_kind sched.Static chunk = static_kind (int_eq chunk (pos 0))
-loop_kind sched.Dynamic chunk = refl
-loop_kind sched.Guided chunk = refl
-loop_kind sched.Runtime chunk = refl
 
 -- what is dealt out after an entry is dealt out before it
 pub start_deals : (members m i : ℕ) (shape : Shape) (answer : Option Piece) (h : List Event) → Claims members m answer (Enter i m shape ∷ h) → DealsOut members m (Some (i, shape)) (reply_of shape answer) h

@@ -1,5 +1,5 @@
 -- What a member sees, and the part that it begins, in the words of the events.
-use Rattle.std.proofs.Common.{◌≡◌, ℕ, ℤ, Bool, true, false, List, [], ◌∷◌, Option, Some, None, refl, ap, ◌∙◌, sym}
+use Rattle.std.proofs.Common.{◌≡◌, ℕ, ℤ, Bool, true, false, List, [], ◌∷◌, Option, Some, None, refl, ap, sym}
 use Rattle.std.specs.Prelude.{not, IfSome, if◌then◌else◌}
 use Rattle.gomp_types.specs.declared.call.Call.TheVariants.{OrderedStart}
 use Rattle.gomp_types.specs.declared.limits.Limits.{Limits}
@@ -19,6 +19,7 @@ use Rattle.gomp_types.specs.Refusals.{call_tests}
 use Rattle.gomp_types.specs.Replies.{BeginsPart}
 use Rattle.gomp_share_plain.specs.declared.Seen.{Seen}
 use Rattle.gomp_share_plain.specs.Calls.{seen_of, turn_in}
+use Rattle.gomp_share_plain.proofs.TestRows.{row_is}
 use Rattle.gomp_ordered.specs.OwnTests.{HasShape, seen_iteration, own_start_tests}
 
 -- the share that a member sees has the shape of a construct
@@ -32,7 +33,7 @@ has_shape m seen h e valid = rw e (shaped (open_share m h) valid)
 -- The tests
 
 pub start_is : (limits : Limits) (m : ℕ) (value : ℤ) (seen : Seen) (h : List Event) (found : Option Refusal) → seen ≡ seen_of m h → found ≡ first_refusal (own_start_tests seen value) → first_refusal (call_tests limits m (OrderedStart value) h) ≡ found
-start_is limits m value seen h found e is = sym (is ∙ ap (λ (s : Seen). first_refusal (own_start_tests s value)) e)
+start_is limits m value seen h found e is = row_is (λ s. own_start_tests s value) seen (seen_of m h) found e is
 
 -- a start whose tests fail is in an ordered loop
 ordered_by : (loop part ordered next : Bool) → first_refusal ((not loop, OutsideShare) ∷ (part, InOrdered) ∷ (not ordered, NotOrdered) ∷ (not next, OrderedBackwards) ∷ []) ≡ None → ordered ≡ true

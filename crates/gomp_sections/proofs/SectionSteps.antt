@@ -26,7 +26,9 @@ use Rattle.gomp_share_plain.specs.declared.own.Construct.TheVariants.{Sections}
 use Rattle.gomp_share_plain.specs.Own.{next_tests_of, end_tests_of}
 use Rattle.gomp_share_plain.specs.Calls.{CanClaim, CanLeave, Claims, claimed, seen_of, taken_of}
 use Rattle.gomp_sections.specs.Answers.{section_of}
-use Rattle.gomp_sections.proofs.Tests.{PartInLoop, head_fails, claim_here, same_number, in_no_part, no_loop_sections, kind_inside}
+use Rattle.gomp_types.proofs.Booleans.{same_number}
+use Rattle.gomp_share_plain.proofs.TestRows.{head_fails}
+use Rattle.gomp_sections.proofs.Tests.{PartInLoop, claim_here, in_no_part, no_loop_sections, kind_inside}
 
 -- what is given is one section, if it is any
 abbrev pub IsSection : Option Piece → Type 0

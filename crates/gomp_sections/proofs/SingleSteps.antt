@@ -21,7 +21,8 @@ use Rattle.gomp_types.specs.Replies.{Executes}
 use Rattle.gomp_share_plain.specs.declared.Seen.{Seen}
 use Rattle.gomp_share_plain.specs.Calls.{Claims, CanLeave, claimed, left, seen_of, is_done, taken_of, was_taken}
 use Rattle.gomp_sections.specs.OwnTests.{own_copy_end_tests}
-use Rattle.gomp_sections.proofs.Tests.{PartInLoop, claim_here, same_number, in_no_part, no_loop_copy, kind_inside}
+use Rattle.gomp_types.proofs.Booleans.{same_number}
+use Rattle.gomp_sections.proofs.Tests.{PartInLoop, claim_here, in_no_part, no_loop_copy, kind_inside}
 
 -- what was given is what was there before the share was entered
 pub single_least : (members m i : ℕ) (copies : Bool) (answer : Option Piece) (h : List Event) → Claims members m answer (Enter i m (single_shape copies) ∷ h) →

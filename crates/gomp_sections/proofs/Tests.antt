@@ -1,58 +1,28 @@
 -- What a member sees, in the words of the events, and what its tests give.
-use Rattle.std.proofs.Common.{◌≡◌, ℕ, ◌<◌, Bool, true, false, List, [], ◌∷◌, ◌++◌, Option, Some, None, Ok, refl, ap, ◌∙◌, sym, arith, inl, inr}
-use Rattle.std.proofs.lemmas.Bool.Decides.{nat_tests}
+use Rattle.std.proofs.Common.{◌≡◌, ℕ, ◌<◌, Bool, true, false, List, [], ◌∷◌, ◌++◌, Option, Some, None, refl, ◌∙◌, sym, inl, inr}
 use Rattle.std.proofs.lemmas.Bool.{cases_Bool}
-use Rattle.std.specs.Prelude.{◌==◌, not, is_some}
-use Rattle.gomp_types.specs.declared.refusal.Refusal.{Refusal}
+use Rattle.std.specs.Prelude.{not, is_some}
 use Rattle.gomp_types.specs.declared.refusal.Refusal.TheVariants.{Mismatch}
 use Rattle.gomp_types.specs.declared.shape.Shape.{Shape}
 use Rattle.gomp_types.specs.declared.shape.ShareKind.{ShareKind}
 use Rattle.gomp_types.specs.declared.shape.ShareKind.TheVariants as kinds
 use Rattle.gomp_types.specs.declared.event.Event.{Event}
 use Rattle.gomp_types.specs.declared.event.Event.TheVariants.{Enter}
-use Rattle.gomp_types.specs.Tests.{Test, first_refusal, outcome}
-use Rattle.gomp_types.specs.Events.{open_share, in_kind, has_drained, in_part}
+use Rattle.gomp_types.specs.Tests.{Test, first_refusal}
+use Rattle.gomp_types.specs.Events.{open_share, in_kind, in_part}
 use Rattle.gomp_types.specs.Shapes.{is_loop, is_sections, is_copy}
 use Rattle.gomp_types.specs.Refusals.{shape_differs}
 use Rattle.gomp_share_plain.specs.declared.Seen.{Seen}
 use Rattle.gomp_share_plain.specs.Calls.{Claims, CanClaim, seen_of}
-
--- a row of tests gives of the events what it gives of what is seen
-pub row_is : (tests : Seen → List Test) (seen told : Seen) (found : Option Refusal) → seen ≡ told → found ≡ first_refusal (tests seen) → first_refusal (tests told) ≡ found
-row_is tests seen told found e is = sym (is ∙ ap (λ (s : Seen). first_refusal (tests s)) e)
-
--- the first test of a row that finds nothing does not hold
-pub head_fails : (test : Bool) (refusal : Refusal) (tests : List Test) → first_refusal ((test, refusal) ∷ tests) ≡ None → test ≡ false
-head_fails true refusal tests e = absurd (cc)
-head_fails false refusal tests e = refl
-
-front_fails : (tests more : List Test) → first_refusal tests ≡ None → first_refusal (tests ++ more) ≡ first_refusal more
-front_fails [] more e = refl
-front_fails ((true, found) ∷ tests) more e = absurd (cc)
-front_fails ((false, found) ∷ tests) more e = front_fails tests more e
-
-alone : (test : Bool) (refusal : Refusal) → test ≡ false → first_refusal ((test, refusal) ∷ []) ≡ None
-alone test refusal e = rw e refl
+use Rattle.gomp_share_plain.proofs.TestRows.{row_is, front_fails, alone_fails, open_entered, drained_entered, part_entered}
 
 -- a start whose own tests fail, and whose share is as the team's, is not refused
 pub start_passes : (tests : Seen → List Test) (shape : Shape) (there : Option Shape) (seen told : Seen) → seen ≡ told → None ≡ first_refusal (tests seen) → shape_differs shape there ≡ false →
     first_refusal (tests told ++ (shape_differs shape there, Mismatch) ∷ []) ≡ None
 start_passes tests shape there seen told e is same =
-    front_fails (tests told) ((shape_differs shape there, Mismatch) ∷ []) (row_is tests seen told None e is) ∙ alone (shape_differs shape there) Mismatch same
+    front_fails (tests told) ((shape_differs shape there, Mismatch) ∷ []) (row_is tests seen told None e is) ∙ alone_fails (shape_differs shape there) Mismatch same
 
 -- A start
-
-pub same_number : (n : ℕ) → (n == n) ≡ true
-same_number n = grind (arith, nat_tests)
-
-pub open_entered : (m i : ℕ) (shape : Shape) (h : List Event) → open_share m (Enter i m shape ∷ h) ≡ Some (i, shape)
-open_entered m i shape h = rw (same_number m) refl
-
-pub part_entered : (m i : ℕ) (shape : Shape) (h : List Event) → in_part m (Enter i m shape ∷ h) ≡ false
-part_entered m i shape h = rw (same_number m) refl
-
-pub drained_entered : (m i : ℕ) (shape : Shape) (h : List Event) → has_drained m (Enter i m shape ∷ h) ≡ false
-drained_entered m i shape h = rw (same_number m) refl
 
 -- a member that has entered a share may ask for a piece
 pub may_claim : (members m i : ℕ) (shape : Shape) (seen : Seen) (h : List Event) → seen ≡ seen_of m (Enter i m shape ∷ h) → m < members → CanClaim members m seen
@@ -67,11 +37,6 @@ may_claim members m i shape seen h e lt = record {
 pub claim_here : (members m i : ℕ) (shape : Shape) (answer : Option (ℕ × ℕ)) (h : List Event) → (claims : Claims members m answer (Enter i m shape ∷ h)) → claims.share ≡ (i, shape)
 claim_here members m i shape answer h claims =
     let both : Some claims.share ≡ Some (i, shape) = sym claims.there ∙ open_entered m i shape h in cc
-
--- the value of an outcome that is no refusal
-pub outcome_value : {A : Type 0} (first : Option Refusal) (value found : A) → outcome first value ≡ Ok found → found ≡ value
-outcome_value None value found e = cc
-outcome_value (Some refusal) value found e = absurd (cc)
 
 -- what is none is not some
 pub none_and_some : (some none : Bool) → some ≡ not none → none ≡ false → some ≡ false → ⊥

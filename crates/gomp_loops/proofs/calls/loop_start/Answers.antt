@@ -5,7 +5,9 @@ use Rattle.gomp_types.specs.Iterations.{loop_tests}
 use Rattle.gomp_types.specs.Pieces.{shape_of}
 use Rattle.gomp_types.specs.Values.{IsShape}
 use Rattle.gomp_types.specs.Events.{entered}
-use Rattle.gomp_loops.proofs.Steps.{compared, start_compared, start_deals, start_refused, start_reply, start_outside, outcome_value, open_entered, drained_entered, part_entered, loop_kind, start_adds}
+use Rattle.gomp_share_plain.proofs.CallRuns.{loop_is}
+use Rattle.gomp_share_plain.proofs.TestRows.{alone_fails, outcome_value, open_entered, drained_entered, part_entered}
+use Rattle.gomp_loops.proofs.Steps.{start_compared, start_deals, start_refused, start_reply, start_outside, start_adds}
 use Rattle.gomp_loops.proofs.calls.loop_start.Goals as goal
 
 pub try_open-requires : goal.try_open-requires
@@ -14,13 +16,15 @@ try_open-requires g c =
     let valid : IsShape c.in-Ok.shape = rw is c.in-Ok.ensures.fits in
     let out : is_some c.look-seen.result.current ≡ false = start_outside c.args.limits.now c.look-seen.result c.args.desc.now (sym c.start_refusal.ensures.first ∙ c.in_default.is) in
     let few : c.look-seen.result.entered < 2 ^ 32 = c.in_default.ensures.few in
-    record { place = record {
-      member = c.requires.member;
-      valid = valid;
-      ordered = λ ordered. rw is (loop_kind c.args.desc.now.sched c.args.desc.now.chunk);
-      outside = rw (← c.look-seen.ensures.value) out;
-      few = rw (← c.look-seen.ensures.value) (omega arith);
-    } }
+    record {
+      place = record {
+        member = c.requires.member;
+        valid = valid;
+        ordered = λ ordered. rw is (loop_is c.args.desc.now.sched c.args.desc.now.chunk);
+        outside = rw (← c.look-seen.ensures.value) out;
+        few = rw (← c.look-seen.ensures.value) (omega arith);
+      };
+    }
 
 pub claim-requires : goal.claim-requires
 claim-requires g c =
@@ -28,12 +32,14 @@ claim-requires g c =
     let now = c.in-Entered.ensures.stands h st in
     let lt : c.args.member < g.S.Shares.members c.try_open.new.self = rw c.try_open.ensures.members c.requires.member in
     let e = g.met.S.Shares.agrees c.try_open.new.self _ c.args.member now lt in
-    record { place = record {
-      member = lt;
-      inside = rw (e, open_entered c.args.member (entered c.args.member h) c.in-Ok.shape h) refl;
-      more = rw e (drained_entered c.args.member (entered c.args.member h) c.in-Ok.shape h);
-      apart = rw e (part_entered c.args.member (entered c.args.member h) c.in-Ok.shape h);
-    } }
+    record {
+      place = record {
+        member = lt;
+        inside = rw (e, open_entered c.args.member (entered c.args.member h) c.in-Ok.shape h) refl;
+        more = rw e (drained_entered c.args.member (entered c.args.member h) c.in-Ok.shape h);
+        apart = rw e (part_entered c.args.member (entered c.args.member h) c.in-Ok.shape h);
+      };
+    }
 
 pub returns-in-Entered-clause-stands : goal.returns-in-Entered-clause-stands
 returns-in-Entered-clause-stands g c = λ h st.
@@ -53,7 +59,7 @@ returns-in-Entered-clause-answer g c = λ h st.
     let is : c.in-Ok.shape ≡ shape_of c.args.desc.now = outcome_value (first_refusal (loop_tests c.args.desc.now)) _ _ (sym c.shape.ensures.shape ∙ c.in-Ok.is) in
     let e = c.look-seen.ensures.value ∙ g.met.S.Shares.agrees c.args.shares.now h c.args.member st c.requires.member in
     let may = rw is at (c.in-Entered.ensures.answer h st) in
-    let none = start_compared c.args.limits.now c.args.member c.args.desc.now c.look-seen.result h e (sym c.in_default.is ∙ c.start_refusal.ensures.first) ∙ compared _ may.0 in
+    let none = start_compared c.args.limits.now c.args.member c.args.desc.now c.look-seen.result h e (sym c.in_default.is ∙ c.start_refusal.ensures.first) ∙ alone_fails _ _ may.0 in
     let now = c.in-Entered.ensures.stands h st in
     let claims = rw (is, c.try_open.ensures.members) at (c.claim.ensures.answer _ now) in
     let dealt = start_deals (g.S.Shares.members c.args.shares.now) c.args.member (entered c.args.member h) (shape_of c.args.desc.now) c.claim.result h claims in

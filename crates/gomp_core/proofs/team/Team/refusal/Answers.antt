@@ -1,11 +1,10 @@
-use Rattle.std.proofs.Common.{ℕ, ◌≡◌, ◌∙◌, ◌<◌, ap, sym, subst, refl, length, false, Some, None, arith}
+use Rattle.std.proofs.Common.{◌≡◌, ◌∙◌, ◌<◌, ap, sym, subst, refl, length, false, Some, None, arith}
 use Rattle.std.specs.Prelude.{is_some}
 use Rattle.std.proofs.lemmas.Option.{slice_get_read}
 use Rattle.gomp_types.specs.declared.refusal.Refusal.TheVariants.{Waiting, NotInside}
 use Rattle.gomp_types.specs.Events.{has_left_region, clash_of}
 use Rattle.gomp_types.specs.Record.{events, waits_of}
 use Rattle.gomp_barrier.specs.declared.barriers.AtBarrier.{AtBarrier as Sight}
-use Rattle.gomp_core.specs.Payloads.{PayloadsStand}
 use Rattle.gomp_core.specs.Stands.{TeamView, Stands}
 use Rattle.gomp_core.proofs.Rows.{alone_is, resume_open, resume_closed, call_waits, call_goes_on, some_open}
 use Rattle.gomp_core.proofs.team.Team.refusal.Goals as goal
