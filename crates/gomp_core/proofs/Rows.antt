@@ -22,7 +22,7 @@ use Rattle.gomp_share_plain.specs.Calls.{seen_of}
 use Rattle.gomp_loops.specs.OwnTests.{own_tests as loop_tests}
 use Rattle.gomp_sections.specs.OwnTests.{own_tests as sections_tests}
 use Rattle.gomp_ordered.specs.OwnTests.{own_tests as ordered_tests}
-use Rattle.gomp_share_plain.proofs.TestRows.{front_holds, front_fails}
+use Rattle.gomp_share_plain.proofs.TestRows.{front_holds, front_fails, head_fails}
 use Rattle.gomp_core.specs.declared.waiting.Waiting.{Waiting as Kept}
 use Rattle.gomp_core.specs.declared.waiting.Waiting.TheVariants.{Start, Turn, Arrive}
 use Rattle.gomp_core.specs.Waits.{open_call}
@@ -122,10 +122,6 @@ compared_last terms step waiting h small none =
     ap first_refusal (tests_split terms step waiting h small) ∙ front_fails (alone terms step waiting h) (comparison_tests (is_resume step.call) step.member (meant step.call waiting) h) none
 
 -- What is so where the member's own tests fail
-
-head_fails : (test : Bool) (refusal : Refusal) (tests : List Test) → first_refusal ((test, refusal) ∷ tests) ≡ None → test ≡ false
-head_fails true refusal tests e = absurd (cc)
-head_fails false refusal tests e = refl
 
 pub below : (terms : Terms) (step : Step) (waiting : Option Call) (h : List Event) → first_refusal (alone terms step waiting h) ≡ None → step.member < terms.members
 below terms step waiting h none =

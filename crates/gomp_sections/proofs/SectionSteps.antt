@@ -28,7 +28,8 @@ use Rattle.gomp_share_plain.specs.Calls.{CanClaim, CanLeave, Claims, claimed, se
 use Rattle.gomp_sections.specs.Answers.{section_of}
 use Rattle.gomp_types.proofs.Booleans.{same_number}
 use Rattle.gomp_share_plain.proofs.TestRows.{head_fails}
-use Rattle.gomp_sections.proofs.Tests.{PartInLoop, claim_here, in_no_part, no_loop_sections, kind_inside}
+use Rattle.gomp_types.proofs.CallTests.{kind_inside}
+use Rattle.gomp_sections.proofs.Tests.{PartInLoop, claim_here, in_no_part, no_loop_sections}
 
 -- what is given is one section, if it is any
 abbrev pub IsSection : Option Piece → Type 0

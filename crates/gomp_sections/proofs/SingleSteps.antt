@@ -6,8 +6,6 @@ use Rattle.gomp_types.specs.declared.reply.Reply.TheVariants.{Executor}
 use Rattle.gomp_types.specs.declared.refusal.Refusal.TheVariants.{NotInside}
 use Rattle.gomp_types.specs.declared.call.Call.TheVariants.{SingleStart, SingleCopyStart}
 use Rattle.gomp_types.specs.declared.shape.Shape.{Shape}
-use Rattle.gomp_types.specs.declared.shape.ShareKind.{ShareKind}
-use Rattle.gomp_types.specs.declared.shape.ShareKind.TheVariants as kinds
 use Rattle.gomp_types.specs.declared.event.Event.{Event}
 use Rattle.gomp_types.specs.declared.event.Event.TheVariants.{Enter, Got}
 use Rattle.gomp_types.specs.Pieces.{Piece, whole_piece}
@@ -22,7 +20,8 @@ use Rattle.gomp_share_plain.specs.declared.Seen.{Seen}
 use Rattle.gomp_share_plain.specs.Calls.{Claims, CanLeave, claimed, left, seen_of, is_done, taken_of, was_taken}
 use Rattle.gomp_sections.specs.OwnTests.{own_copy_end_tests}
 use Rattle.gomp_types.proofs.Booleans.{same_number}
-use Rattle.gomp_sections.proofs.Tests.{PartInLoop, claim_here, in_no_part, no_loop_copy, kind_inside}
+use Rattle.gomp_types.proofs.CallTests.{kind_inside, copy_is_single}
+use Rattle.gomp_sections.proofs.Tests.{PartInLoop, claim_here, in_no_part, no_loop_copy}
 
 -- what was given is what was there before the share was entered
 pub single_least : (members m i : ℕ) (copies : Bool) (answer : Option Piece) (h : List Event) → Claims members m answer (Enter i m (single_shape copies) ∷ h) →
@@ -104,15 +103,6 @@ copy_tells : (inside some : Bool) → first_refusal ((not (inside && some), NotI
 copy_tells true true e = (refl, refl)
 copy_tells true false e = absurd (cc)
 copy_tells false some e = absurd (cc)
-
-copy_is_single : (kind : ShareKind) → is_copy kind ≡ true → is_single kind ≡ true
-copy_is_single kinds.SingleCopy e = refl
-copy_is_single kinds.Single e = refl
-copy_is_single kinds.StaticChunked e = e
-copy_is_single kinds.StaticEven e = e
-copy_is_single kinds.Dynamic e = e
-copy_is_single kinds.Guided e = e
-copy_is_single kinds.Sections e = e
 
 copy_in_single : (own : Option (ℕ × Shape)) → in_kind is_copy own ≡ true → in_kind is_single own ≡ true
 copy_in_single None e = e

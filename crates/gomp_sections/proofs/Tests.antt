@@ -1,7 +1,7 @@
 -- What a member sees, in the words of the events, and what its tests give.
-use Rattle.std.proofs.Common.{◌≡◌, ℕ, ◌<◌, Bool, true, false, List, [], ◌∷◌, ◌++◌, Option, Some, None, refl, ◌∙◌, sym, inl, inr}
+use Rattle.std.proofs.Common.{◌≡◌, ℕ, Bool, true, false, List, [], ◌∷◌, ◌++◌, Option, Some, None, refl, ◌∙◌, sym, inl, inr}
 use Rattle.std.proofs.lemmas.Bool.{cases_Bool}
-use Rattle.std.specs.Prelude.{not, is_some}
+use Rattle.std.specs.Prelude.{not}
 use Rattle.gomp_types.specs.declared.refusal.Refusal.TheVariants.{Mismatch}
 use Rattle.gomp_types.specs.declared.shape.Shape.{Shape}
 use Rattle.gomp_types.specs.declared.shape.ShareKind.{ShareKind}
@@ -13,8 +13,8 @@ use Rattle.gomp_types.specs.Events.{open_share, in_kind, in_part}
 use Rattle.gomp_types.specs.Shapes.{is_loop, is_sections, is_copy}
 use Rattle.gomp_types.specs.Refusals.{shape_differs}
 use Rattle.gomp_share_plain.specs.declared.Seen.{Seen}
-use Rattle.gomp_share_plain.specs.Calls.{Claims, CanClaim, seen_of}
-use Rattle.gomp_share_plain.proofs.TestRows.{row_is, front_fails, alone_fails, open_entered, drained_entered, part_entered}
+use Rattle.gomp_share_plain.specs.Calls.{Claims}
+use Rattle.gomp_share_plain.proofs.TestRows.{row_is, front_fails, alone_fails, open_entered}
 
 -- a start whose own tests fail, and whose share is as the team's, is not refused
 pub start_passes : (tests : Seen → List Test) (shape : Shape) (there : Option Shape) (seen told : Seen) → seen ≡ told → None ≡ first_refusal (tests seen) → shape_differs shape there ≡ false →
@@ -23,15 +23,6 @@ start_passes tests shape there seen told e is same =
     front_fails (tests told) ((shape_differs shape there, Mismatch) ∷ []) (row_is tests seen told None e is) ∙ alone_fails (shape_differs shape there) Mismatch same
 
 -- A start
-
--- a member that has entered a share may ask for a piece
-pub may_claim : (members m i : ℕ) (shape : Shape) (seen : Seen) (h : List Event) → seen ≡ seen_of m (Enter i m shape ∷ h) → m < members → CanClaim members m seen
-may_claim members m i shape seen h e lt = record {
-  member = lt;
-  inside = rw (e, open_entered m i shape h) refl;
-  more = rw e (drained_entered m i shape h);
-  apart = rw e (part_entered m i shape h);
-}
 
 -- the share of a claim is the one that the member has entered
 pub claim_here : (members m i : ℕ) (shape : Shape) (answer : Option (ℕ × ℕ)) (h : List Event) → (claims : Claims members m answer (Enter i m shape ∷ h)) → claims.share ≡ (i, shape)
@@ -68,8 +59,3 @@ no_loop_sections _ e = refl
 pub no_loop_copy : (kind : ShareKind) → is_loop kind ≡ true → is_copy kind ≡ false
 no_loop_copy kinds.SingleCopy e = absurd (cc)
 no_loop_copy _ e = refl
-
--- a member whose share is of some kind is in a share
-pub kind_inside : (is : ShareKind → Bool) (own : Option (ℕ × Shape)) → in_kind is own ≡ true → is_some own ≡ true
-kind_inside is None e = e
-kind_inside is (Some share) e = refl

@@ -1,15 +1,10 @@
 -- A list of calls, one by one.
 use Rattle.std.proofs.Common.{◌≡◌, ℕ, ◌<◌, Bool, true, false, List, [], ◌∷◌, ◌++◌, length, Some, None, Err, refl, arith}
-use Rattle.std.specs.Prelude.{ℤ, pos, if◌then◌else◌, Option, ◌&&◌, ◌^◌, nat_lt, not, is_none, is_some, is_ok}
+use Rattle.std.specs.Prelude.{Option, ◌&&◌, ◌^◌, nat_lt, not, is_none, is_some, is_ok}
 use Rattle.std.proofs.lemmas.Bool.Decides.{nat_tests}
 use Rattle.gomp_types.specs.declared.loop_desc.LoopDesc.{LoopDesc}
-use Rattle.gomp_types.specs.declared.loop_desc.Sched.{Sched}
-use Rattle.gomp_types.specs.declared.loop_desc.Sched.TheVariants.{Static, Dynamic, Guided, Runtime}
-use Rattle.gomp_types.specs.declared.shape.ShareKind.TheVariants.{StaticEven, StaticChunked}
-use Rattle.gomp_types.specs.Pieces.{kind_of}
 use Rattle.gomp_types.specs.Shapes.{is_loop}
 use Rattle.gomp_types.specs.Ordered.{is_ordered, is_in_rest}
-use Rattle.std.specs.Ordering.{int_eq}
 use Rattle.gomp_types.specs.declared.refusal.Refusal.{Refusal}
 use Rattle.gomp_types.specs.declared.shape.Shape.{Shape}
 use Rattle.gomp_types.specs.Values.{IsShape}
@@ -55,17 +50,6 @@ can_open members m shape seen lt valid ordered may =
     outside_is : {A : Type 0} (own : Option A) → is_none own ≡ true → is_some own ≡ false
     outside_is None e = refl
     outside_is (Some x) e = absurd (cc)
-
--- a loop is a loop
-pub loop_is : (sched : Sched) (chunk : ℤ) → is_loop (kind_of sched chunk) ≡ true
-loop_is Static chunk = even (int_eq chunk (pos 0))
-  where
-    even : (b : Bool) → is_loop (if b then StaticEven else StaticChunked) ≡ true
-    even true = refl
-    even false = refl
-loop_is Guided chunk = refl
-loop_is Dynamic chunk = refl
-loop_is Runtime chunk = refl
 
 pub open_fits : {A : Type 0} (seen : Seen) (loop : LoopDesc) (value : A) (refusal : Refusal) → may_make seen (Open loop) ≡ true → outcome (first_refusal (loop_tests loop)) value ≡ Err refusal → ⊥
 open_fits seen loop value refusal e is =

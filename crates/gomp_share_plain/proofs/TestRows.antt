@@ -1,5 +1,5 @@
 -- What a row of tests tells, and what a member sees that has just entered a share: for the crates of the calls above.
-use Rattle.std.proofs.Common.{◌≡◌, ℕ, Bool, true, false, List, [], ◌∷◌, ◌++◌, Option, Some, None, Ok, Err, refl, ap, ◌∙◌, sym}
+use Rattle.std.proofs.Common.{◌≡◌, ℕ, ◌<◌, Bool, true, false, List, [], ◌∷◌, ◌++◌, Option, Some, None, Ok, Err, refl, ap, ◌∙◌, sym}
 use Rattle.gomp_types.specs.declared.refusal.Refusal.{Refusal}
 use Rattle.gomp_types.specs.declared.shape.Shape.{Shape}
 use Rattle.gomp_types.specs.declared.event.Event.{Event}
@@ -8,6 +8,7 @@ use Rattle.gomp_types.specs.Tests.{Test, first_refusal, outcome}
 use Rattle.gomp_types.specs.Events.{open_share, has_drained, in_part}
 use Rattle.gomp_types.proofs.Booleans.{same_number}
 use Rattle.gomp_share_plain.specs.declared.Seen.{Seen}
+use Rattle.gomp_share_plain.specs.Calls.{CanClaim, seen_of}
 
 -- a row of tests gives of the events what it gives of what is seen
 pub row_is : (tests : Seen → List Test) (seen told : Seen) (found : Option Refusal) → seen ≡ told → found ≡ first_refusal (tests seen) → first_refusal (tests told) ≡ found
@@ -47,8 +48,17 @@ outcome_refused (Some found) value refusal e = let same : found ≡ refusal = cc
 pub open_entered : (m i : ℕ) (shape : Shape) (h : List Event) → open_share m (Enter i m shape ∷ h) ≡ Some (i, shape)
 open_entered m i shape h = rw (same_number m) refl
 
-pub drained_entered : (m i : ℕ) (shape : Shape) (h : List Event) → has_drained m (Enter i m shape ∷ h) ≡ false
+drained_entered : (m i : ℕ) (shape : Shape) (h : List Event) → has_drained m (Enter i m shape ∷ h) ≡ false
 drained_entered m i shape h = rw (same_number m) refl
 
-pub part_entered : (m i : ℕ) (shape : Shape) (h : List Event) → in_part m (Enter i m shape ∷ h) ≡ false
+part_entered : (m i : ℕ) (shape : Shape) (h : List Event) → in_part m (Enter i m shape ∷ h) ≡ false
 part_entered m i shape h = rw (same_number m) refl
+
+-- so it may ask for a piece
+pub may_claim : (members m i : ℕ) (shape : Shape) (seen : Seen) (h : List Event) → seen ≡ seen_of m (Enter i m shape ∷ h) → m < members → CanClaim members m seen
+may_claim members m i shape seen h e lt = record {
+  member = lt;
+  inside = rw (e, open_entered m i shape h) refl;
+  more = rw e (drained_entered m i shape h);
+  apart = rw e (part_entered m i shape h);
+}

@@ -1,12 +1,12 @@
-use Rattle.std.proofs.Common.{◌≡◌, ◌<◌, ◌^◌, refl, ◌∙◌, sym, arith, false}
+use Rattle.std.proofs.Common.{◌≡◌, ◌<◌, ◌^◌, ◌∙◌, sym, arith, false}
 use Rattle.std.specs.Prelude.{is_some}
 use Rattle.gomp_types.specs.Tests.{first_refusal}
 use Rattle.gomp_types.specs.Iterations.{loop_tests}
 use Rattle.gomp_types.specs.Pieces.{shape_of}
 use Rattle.gomp_types.specs.Values.{IsShape}
 use Rattle.gomp_types.specs.Events.{entered}
-use Rattle.gomp_share_plain.proofs.CallRuns.{loop_is}
-use Rattle.gomp_share_plain.proofs.TestRows.{alone_fails, outcome_value, open_entered, drained_entered, part_entered}
+use Rattle.gomp_types.proofs.PartsKeep.{loop_is_loop}
+use Rattle.gomp_share_plain.proofs.TestRows.{alone_fails, outcome_value, may_claim}
 use Rattle.gomp_loops.proofs.Steps.{start_compared, start_deals, start_refused, start_reply, start_outside, start_adds}
 use Rattle.gomp_loops.proofs.calls.loop_start.Goals as goal
 
@@ -20,7 +20,7 @@ try_open-requires g c =
       place = record {
         member = c.requires.member;
         valid = valid;
-        ordered = λ ordered. rw is (loop_is c.args.desc.now.sched c.args.desc.now.chunk);
+        ordered = λ ordered. rw is (loop_is_loop c.args.desc.now.sched c.args.desc.now.chunk);
         outside = rw (← c.look-seen.ensures.value) out;
         few = rw (← c.look-seen.ensures.value) (omega arith);
       };
@@ -32,14 +32,7 @@ claim-requires g c =
     let now = c.in-Entered.ensures.stands h st in
     let lt : c.args.member < g.S.Shares.members c.try_open.new.self = rw c.try_open.ensures.members c.requires.member in
     let e = g.met.S.Shares.agrees c.try_open.new.self _ c.args.member now lt in
-    record {
-      place = record {
-        member = lt;
-        inside = rw (e, open_entered c.args.member (entered c.args.member h) c.in-Ok.shape h) refl;
-        more = rw e (drained_entered c.args.member (entered c.args.member h) c.in-Ok.shape h);
-        apart = rw e (part_entered c.args.member (entered c.args.member h) c.in-Ok.shape h);
-      };
-    }
+    record { place = may_claim _ c.args.member (entered c.args.member h) c.in-Ok.shape _ h e lt }
 
 pub returns-in-Entered-clause-stands : goal.returns-in-Entered-clause-stands
 returns-in-Entered-clause-stands g c = λ h st.

@@ -2,9 +2,10 @@ use Rattle.std.proofs.Common.{arith, ◌<◌, ◌≡◌, ◌∙◌, sym, ap, tru
 use Rattle.gomp_types.specs.Tests.{first_refusal}
 use Rattle.gomp_types.specs.Iterations.{loop_tests}
 use Rattle.gomp_types.specs.Pieces.{shape_of}
+use Rattle.gomp_types.proofs.PartsKeep.{loop_is_loop}
 use Rattle.gomp_share_plain.specs.declared.calls.ShareCall.TheVariants.{Open, Claim, Leave, Begin, HandOn}
 use Rattle.gomp_share_plain.specs.Runs.{may_make}
-use Rattle.gomp_share_plain.proofs.CallRuns.{made, open_fits, opens_loop, can_open, loop_is, can_claim, can_leave, can_begin, can_hand}
+use Rattle.gomp_share_plain.proofs.CallRuns.{made, open_fits, opens_loop, can_open, can_claim, can_leave, can_begin, can_hand}
 use Rattle.gomp_share_plain.proofs.TestRows.{outcome_value}
 use Rattle.gomp_share_plain.proofs.calls.make_call.Goals as goal
 
@@ -29,7 +30,7 @@ pub try_open-requires : goal.try_open-requires
 try_open-requires g c =
     let may : may_make c.look-seen.result (Open c.in-Open.desc) ≡ true = ap (may_make c.look-seen.result) (sym c.in-Open.is) ∙ sym c.may_make.ensures ∙ c.if-not-may_make.false in
     let shape : c.in-Ok.shape ≡ shape_of c.in-Open.desc = outcome_value (first_refusal (loop_tests c.in-Open.desc)) (shape_of c.in-Open.desc) c.in-Ok.shape (sym c.shape.ensures.shape ∙ c.in-Ok.is) in
-    record { place = rw (← c.look-seen.ensures.value, c.requires.team) (can_open c.args.count c.args.step.now.member c.in-Ok.shape c.look-seen.result (omega arith) (rw shape c.in-Ok.ensures.fits) (λ e. rw shape (loop_is c.in-Open.desc.sched c.in-Open.desc.chunk)) (opens_loop c.look-seen.result c.in-Open.desc may)) }
+    record { place = rw (← c.look-seen.ensures.value, c.requires.team) (can_open c.args.count c.args.step.now.member c.in-Ok.shape c.look-seen.result (omega arith) (rw shape c.in-Ok.ensures.fits) (λ e. rw shape (loop_is_loop c.in-Open.desc.sched c.in-Open.desc.chunk)) (opens_loop c.look-seen.result c.in-Open.desc may)) }
 
 pub returns-in-Ok-clause-answer : goal.returns-in-Ok-clause-answer
 returns-in-Ok-clause-answer g c = λ h st.
