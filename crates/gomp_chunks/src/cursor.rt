@@ -32,6 +32,7 @@ impl Cursor {
     /// A cursor of this plan, from which no piece was asked for yet.
     pub fn new(plan: Plan) -> Cursor
         ensures plan { result.plan ≡ plan }
+        ensures start { result.spot.number ≡ 0 }
     {
         Cursor {
             plan,
