@@ -21,14 +21,14 @@ use std::alloc::Global;
 /// order, one for each, and the team after them. The steps are dropped. In the record of what was
 /// asked a loop whose schedule is left to the control variables has theirs.
 ///
-/// **The headline**, of all that these steps and replies give: for every team size and list of
-/// steps no iteration, section or single is taken twice, and of a static loop a member takes only its
-/// own pieces; a loop or sections construct that all members end had every iteration or section
-/// taken, and a single that all members left was executed by one of them; ordered parts of a loop run
-/// in the order of its iterations, and a member that leaves it has handed all its pieces on; the words
-/// that a member copies are those that the executor of the single put; all members go through the
-/// same constructs in the same order; and no member passes a barrier before all arrived, and have
-/// left the constructs before it.
+/// **The headline**, of all that these steps and replies give: for every team size and list of steps
+/// no iteration, section or single is taken twice, and of a static loop a member takes only its own
+/// pieces; a loop or sections construct that all members end had every iteration or section taken,
+/// and a single that all members left was executed by one of them; ordered parts of a loop run in the
+/// order of its iterations, and an ordered loop that all members left had each of its pieces handed
+/// on; the words that a member copies are those that the executor of the single put; all members go
+/// through the same constructs in the same order; and no member passes a barrier before all arrived,
+/// and have left the constructs before it.
 ///
 /// Refused with `BadTeam` (E38) where the size is not 1 to 64, and with `NoMemory` (E37) where the
 /// memory of the team or of the replies is refused; then the steps are dropped and nothing is kept.

@@ -177,13 +177,10 @@ impl<S: Shares> Team<S> {
         reply
     }
 
-    /// Whatever was asked: no iteration, section or single is taken twice, and of a static loop a member
-    /// takes only its own pieces; a loop or sections construct that all members end had every iteration
-    /// or section taken, and a single that all members left was executed by one of them; ordered parts
-    /// of a loop run in the order of its iterations, and a member that leaves it has handed all its
-    /// pieces on; the words that a member copies are those that the executor of the single put; all
-    /// members go through the same constructs in the same order; and no member passes a barrier before
-    /// all arrived, and have left the constructs before it.
+    /// Whatever was asked, the headline holds of each record that the team stands for
+    /// (`laws::headline` of gomp_types): no iteration, section or single is taken twice, what all
+    /// members left was all taken, ordered parts run in order, words are copied as they were put, and
+    /// no member passes a barrier early.
     pub fn laws(&self)
         ensures known { (before : Record) × Stands S.stands S.members self.now before }
         ensures size { IsTeamSize (members_of self.now) }

@@ -1,4 +1,4 @@
--- Where more events say the same of a seat, or of the places, it stands as before. (own)
+-- Where later events say of a seat, or of a place, what those before them said, it stands as before. (own)
 use Rattle.std.specs.Prelude.{ℕ, ◌+◌, ◌≤◌, ◌≡◌, List, Option, Some, refl}
 use Rattle.std.proofs.Common.{sym, ap, ◌∙◌, arith}
 use Rattle.gomp_types.specs.declared.shape.Shape.{Shape}
@@ -14,14 +14,14 @@ use Rattle.gomp_share_plain.specs.declared.open_share.OpenShare.{OpenShare}
 
 -- Seats
 
--- after events that say the same of a member's place, of what it left and took, and of the shape of each share that is open,
+-- the later events say the same of where a member is, of what it left and took, and of the shape of each share that is open
 pub record SameSeat (m : ℕ) (after before : List Event) : Type 0 where
   pub seen : seen_of m after ≡ seen_of m before
   pub left : (i : ℕ) → has_ended i m after ≡ has_ended i m before
   pub taken : (i : ℕ) → taken_by i m after ≡ taken_by i m before
   pub shape : (i : ℕ) (shape : Shape) → shape_at i before ≡ Some shape → shape_at i after ≡ Some shape
 
--- its seat stands as before, also where more shares were opened, but not too many for it
+-- then its seat stands as before, also where more shares were opened, but not too many for it
 pub seat_near : (members m : ℕ) (seat : Seat) (opened more : ℕ) (after before : List Event) → SameSeat m after before → SeatStands members m seat opened before → opened ≤ more → more ≤ seat.ended + 8 → SeatStands members m seat more after
 seat_near members m seat opened more after before same s le near =
     let own : open_share m after ≡ open_share m before = ap (λ (seen : Seen). seen.current) same.seen in
@@ -49,13 +49,13 @@ seat_same members m seat opened after before same s = seat_near members m seat o
 
 -- Places
 
--- after events that say the same of the shape of each share, of what was taken from it and handed on,
+-- the later events say the same of the shape of each share, of what was taken from it and handed on
 pub record SamePlaces (after before : List Event) : Type 0 where
   pub shape : (i : ℕ) → shape_at i after ≡ shape_at i before
   pub taken : (queue_of : ℕ → ℕ) (i q : ℕ) → taken_in queue_of i q after ≡ taken_in queue_of i q before
   pub turn : (i : ℕ) → turn i after ≡ turn i before
 
--- a place stands as before; so does one that has the same after a write elsewhere
+-- then a place stands as before; so does one that has the same after a write elsewhere
 pub place_same : (members i : ℕ) (place now : Option (Option OpenShare)) (after before : List Event) → PlaceStands members i place before → now ≡ place → shape_at i after ≡ shape_at i before → taken_of i after ≡ taken_of i before → turn i after ≡ turn i before →
     PlaceStands members i now after
 place_same members i place now after before p here shape taken handed = record {

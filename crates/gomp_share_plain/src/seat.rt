@@ -4,22 +4,22 @@ ghost use Rattle.std.specs.Prelude.{◌<◌, ◌+◌, ◌↔◌, IsTrue, All};
 
 use gomp_types::OPEN_SHARES;
 
-/// A member's place among the shares.
+/// Where a member is among the shares.
 #[derive(Clone, Copy, Debug)]
 pub struct Seat {
     /// How many shares it has entered.
     pub started: u64,
     /// How many of them it has left; the share that it is in has this number.
     pub ended: u64,
-    /// Whether it was told that nothing is left of the last.
+    /// Whether it was told that nothing is left of the share that it entered last.
     pub drained: bool,
-    /// The piece that it took last of the last, until it was told that nothing is left.
+    /// The piece that it took last of that share, until it was told that nothing is left.
     pub piece: Option<(u64, u64)>,
-    /// How many pieces it took of the last; the count stays at the largest number.
+    /// How many pieces it took of that share; the count stays at the largest number.
     pub taken: u64,
     /// The number of `piece` among the pieces of the share.
     pub number: u64,
-    /// The iteration after that of its last ordered part in the last, 0 before its first.
+    /// The iteration after that of its last ordered part there, 0 before its first.
     pub next_part: u64,
     /// Whether it is in an ordered part.
     pub in_part: bool,

@@ -163,7 +163,7 @@ closes_shares members (Pass barrier m) earlier rule all = λ tag stands share lt
     arrived_left members barrier x own.0 earlier all own.1 share (rw same lt)
 closes_shares members _ earlier rule all = tt
 
--- the headline, from the rule of the team alone
+-- the headline, from the rule of the team, where nothing follows a break or the region's end
 pub team_keeps : (members : ℕ) (h : List Event) → Always (TeamRule members) h → Always InTime h → Headline members h
 team_keeps members h all in_time =
     let shares = shares_keep (schedule members) members h (share_rules members h all) in

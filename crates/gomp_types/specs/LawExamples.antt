@@ -66,6 +66,14 @@ left_early = Enter 0 0 (four false) ∷ Take 0 0 0 2 ∷ End 0 0 ∷ []
 abbrev pub nested : List Event
 nested = Enter 0 0 (four false) ∷ Enter 1 0 (four false) ∷ []
 
+-- a member leaves a share that it has not entered
+abbrev pub left_unentered : List Event
+left_unentered = End 0 0 ∷ []
+
+-- a ninth share is opened while the first is open
+abbrev pub ninth_open : List Event
+ninth_open = Enter 8 0 (four false) ∷ []
+
 -- two members enter one share with two constructs
 abbrev pub two_shapes : List Event
 two_shapes = Enter 0 0 (four false) ∷ Enter 0 1 (four true) ∷ []
@@ -87,6 +95,10 @@ part_back = Enter 0 0 (four true) ∷ Take 0 0 0 2 ∷ Part 0 0 1 ∷ PartEnd 0 
 -- a piece is handed on while a part of it is open
 abbrev pub handed_on_open : List Event
 handed_on_open = Enter 0 0 (four true) ∷ Take 0 0 0 2 ∷ Part 0 0 0 ∷ HandOn 0 0 0 ∷ []
+
+-- a piece is handed on before the one with the first iteration
+abbrev pub handed_on_ahead : List Event
+handed_on_ahead = Enter 0 0 (four true) ∷ Take 0 0 0 2 ∷ HandOn 0 0 1 ∷ []
 
 -- a member leaves an ordered loop and has not handed its last piece on
 abbrev pub left_unhanded : List Event
@@ -124,6 +136,19 @@ two_tags = Arrive 0 0 (at Barrier 0) ∷ Arrive 0 1 (at RegionEnd 0) ∷ []
 -- one who is no member of the team arrives
 abbrev pub stranger : List Event
 stranger = Arrive 0 2 (at Barrier 0) ∷ []
+
+-- a member arrives at its second barrier before it has passed the first
+abbrev pub barrier_skipped : List Event
+barrier_skipped = Arrive 1 0 (at Barrier 0) ∷ []
+
+-- a member tells that it has entered a share, and has entered none
+abbrev pub share_miscounted : List Event
+share_miscounted = Arrive 0 0 (at Barrier 1) ∷ []
+
+-- a member passes a barrier while the other is still in the loop before it
+abbrev pub passed_unfinished : List Event
+passed_unfinished =
+    Enter 0 0 (four false) ∷ Enter 0 1 (four false) ∷ Take 0 0 0 2 ∷ Take 0 0 2 4 ∷ End 0 0 ∷ Arrive 0 0 (at ShareEnd 1) ∷ Arrive 0 1 (at ShareEnd 1) ∷ Pass 0 0 ∷ []
 
 -- a member arrives at the end of a loop that it has not left
 abbrev pub arrived_inside : List Event

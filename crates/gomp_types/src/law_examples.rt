@@ -1,6 +1,6 @@
 //! Events that the laws of a team refuse: that the laws say something is proved, a list for each.
 
-ghost use Rattle.gomp_types.specs.LawExamples.{NeverHappens, taken_twice, taken_ahead, taken_outside, taken_from_another, even_from_another, left_early, nested, two_shapes, part_unordered, part_ahead, part_back, handed_on_open, left_unhanded, put_in_a_loop, given_to_the_executor, left_without_words, passed_alone, arrived_twice, two_tags, stranger, arrived_inside, after_a_stop, after_the_end};
+ghost use Rattle.gomp_types.specs.LawExamples.{NeverHappens, taken_twice, taken_ahead, taken_outside, taken_from_another, even_from_another, left_early, nested, left_unentered, ninth_open, two_shapes, part_unordered, part_ahead, part_back, handed_on_open, handed_on_ahead, left_unhanded, put_in_a_loop, given_to_the_executor, left_without_words, passed_alone, arrived_twice, two_tags, stranger, barrier_skipped, share_miscounted, passed_unfinished, arrived_inside, after_a_stop, after_the_end};
 
 /// No team goes through its shares so.
 pub fn wrong_shares()
@@ -11,6 +11,8 @@ pub fn wrong_shares()
     ensures even_from_another { NeverHappens 2 even_from_another }
     ensures left_early { NeverHappens 1 left_early }
     ensures nested { NeverHappens 1 nested }
+    ensures left_unentered { NeverHappens 1 left_unentered }
+    ensures ninth_open { NeverHappens 1 ninth_open }
     ensures two_shapes { NeverHappens 2 two_shapes }
 {}
 
@@ -20,6 +22,7 @@ pub fn wrong_parts()
     ensures part_ahead { NeverHappens 2 part_ahead }
     ensures part_back { NeverHappens 1 part_back }
     ensures handed_on_open { NeverHappens 1 handed_on_open }
+    ensures handed_on_ahead { NeverHappens 1 handed_on_ahead }
     ensures left_unhanded { NeverHappens 1 left_unhanded }
 {}
 
@@ -36,6 +39,9 @@ pub fn wrong_arrivals()
     ensures arrived_twice { NeverHappens 1 arrived_twice }
     ensures two_tags { NeverHappens 2 two_tags }
     ensures stranger { NeverHappens 2 stranger }
+    ensures barrier_skipped { NeverHappens 1 barrier_skipped }
+    ensures share_miscounted { NeverHappens 1 share_miscounted }
+    ensures passed_unfinished { NeverHappens 2 passed_unfinished }
     ensures arrived_inside { NeverHappens 1 arrived_inside }
     ensures after_a_stop { NeverHappens 2 after_a_stop }
     ensures after_the_end { NeverHappens 1 after_the_end }

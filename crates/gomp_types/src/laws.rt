@@ -22,13 +22,14 @@ ghost use Rattle.gomp_types.specs.Rules.{Always, ArrivalRule, ShareRule};
 ghost use Rattle.gomp_types.specs.Laws.{ArrivalLaws, OrderedLaws, ShareLaws};
 ghost use Rattle.gomp_types.specs.Headline.{Headline};
 
-/// **The headline**: for every team size and list of member steps, no iteration, section or single
-/// is taken twice, and of a static loop a member takes only its own pieces; a loop or sections
-/// construct that all members end had every iteration or section taken, and a single was executed by
-/// one of them; ordered parts of a loop run in the order of its iterations, and a member that leaves
-/// it has handed all its pieces on; the words that a member copies are those that the executor of the
-/// single put; all members go through the same constructs in the same order; and no member passes a
-/// barrier before all arrived, and have left the constructs before it.
+/// **The headline**: for every team size and list of member steps, no iteration, section or single is
+/// taken twice, and of a static loop a member takes only its own pieces; a loop or sections construct
+/// that all members end had every iteration or section taken, and a single that all members left was
+/// executed by one of them; ordered parts of a loop run in the order of its iterations, and an
+/// ordered loop that all members left had each of its pieces handed on; the words that a member
+/// copies are those that the executor of the single put; all members go through the same constructs
+/// in the same order; and no member passes a barrier before all arrived, and have left the constructs
+/// before it.
 pub fn headline()
     ensures { (terms : Terms) → (run : Record) → Caused terms run → Headline terms.members (events run) }
 {}

@@ -1,7 +1,6 @@
-use Rattle.std.proofs.Common.{refl, ap, inl, inr}
-use Rattle.std.proofs.Common.{false}
+use Rattle.std.proofs.Common.{false, refl, ap, arith, inl, inr}
 use Rattle.gomp_types.specs.declared.refusal.Place.TheVariants.{Stopped as AtStop}
-use Rattle.gomp_types.specs.declared.event.Arrival.TheVariants.{Barrier, RegionEnd}
+use Rattle.gomp_types.specs.declared.event.Arrival.TheVariants.{Barrier, ShareEnd, RegionEnd}
 use Rattle.gomp_types.specs.declared.event.Tag.{Tag}
 use Rattle.gomp_types.specs.LawExamples.{four, at}
 use Rattle.gomp_types.proofs.law_examples.wrong_arrivals.Goals as goal
@@ -17,3 +16,15 @@ returns-clause-arrived_inside c = λ laws. elim (laws.arrive_outside.0 0 (four f
 
 pub returns-clause-after_a_stop : goal.returns-clause-after_a_stop
 returns-clause-after_a_stop c = λ laws. laws.unbroken.0 1 AtStop (inl refl)
+
+pub returns-clause-passed_unfinished : goal.returns-clause-passed_unfinished
+returns-clause-passed_unfinished c = λ laws. elim (laws.closes.0 (at ShareEnd 1) (inr (inl refl)) 0 (omega arith) 1 (omega arith)) [
+  | inl e ↦ absurd (cc)
+  | inr (inl e) ↦ absurd (cc)
+  | inr (inr (inl e)) ↦ absurd (cc)
+  | inr (inr (inr (inl e))) ↦ absurd (cc)
+  | inr (inr (inr (inr (inl e)))) ↦ absurd (cc)
+  | inr (inr (inr (inr (inr (inl e))))) ↦ absurd (cc)
+  | inr (inr (inr (inr (inr (inr (inl e)))))) ↦ absurd (cc)
+  | inr (inr (inr (inr (inr (inr (inr never)))))) ↦ never
+]

@@ -25,3 +25,6 @@ returns-clause-nested c = λ laws. elim (laws.same_shares.one_by_one.0.2 0 (four
 
 pub returns-clause-two_shapes : goal.returns-clause-two_shapes
 returns-clause-two_shapes c = λ laws. absurd (let same = ap (λ (shape : Shape). shape.ordered) (laws.same_shares.shapes 0 0 1 (four false) (four true) (inr (inl refl)) (inl refl)) in cc)
+
+pub returns-clause-ninth_open : goal.returns-clause-ninth_open
+returns-clause-ninth_open c = λ laws. laws.same_shares.room.0 0 refl 0 (omega arith)
