@@ -32,13 +32,9 @@ use Rattle.gomp_core.specs.declared.waiting.Waiting.{Waiting}
 use Rattle.gomp_core.specs.declared.waiting.Waiting.TheVariants.{Start, Turn, Arrive}
 use Rattle.gomp_core.specs.Waits.{start_call, turn_call, arrival_call, arrival_of, open_call, wait_for}
 use Rattle.gomp_core.specs.Answers.{place_tests, comparison_tests, IsReady, IsAnswer, MayLeave, is_at_once}
-use Rattle.gomp_share_plain.proofs.TestRows.{front_fails}
+use Rattle.gomp_types.proofs.TestRows.{front_fails, alone_finds}
 
 -- Tests in a row
-
-holds_alone : (test : Bool) (refusal found : Refusal) → first_refusal ((test, refusal) ∷ []) ≡ Some found → found ≡ refusal
-holds_alone true refusal found e = cc
-holds_alone false refusal found e = absurd (cc)
 
 not_true : (b : Bool) → false ≡ not b → b ≡ true
 not_true true e = refl
@@ -207,7 +203,7 @@ start_row limits m SingleCopy h ready = front_fails (place_tests limits m h Sing
 pub start_answers : (limits : Limits) (members m : ℕ) (what : Starting) (reply : Reply) (h : List Event) → (reply ≡ Refused Mismatch → ⊥) → IsReady limits false m (start_call what) h →
     IsReply limits members m (start_call what) reply h → IsAnswer members false m (start_call what) (Ok reply) h
 start_answers limits members m what (Refused refusal) h other ready is =
-    absurd (other (ap Refused (holds_alone (shape_differs (started what) (shape_at (entered m h) h)) Mismatch refusal
+    absurd (other (ap Refused (alone_finds (shape_differs (started what) (shape_at (entered m h) h)) Mismatch refusal
     (ap first_refusal (sym (compared m what h)) ∙ sym (start_row limits m what h ready) ∙ is))))
 start_answers limits members m what reply h other ready is = (sym (start_row limits m what h ready) ∙ is.0, is.1)
 

@@ -22,22 +22,12 @@ use Rattle.gomp_share_plain.specs.Calls.{seen_of}
 use Rattle.gomp_loops.specs.OwnTests.{own_tests as loop_tests}
 use Rattle.gomp_sections.specs.OwnTests.{own_tests as sections_tests}
 use Rattle.gomp_ordered.specs.OwnTests.{own_tests as ordered_tests}
-use Rattle.gomp_share_plain.proofs.TestRows.{front_holds, front_fails, head_fails}
+use Rattle.gomp_types.proofs.TestRows.{front_holds, front_fails, none_before, none_later, head_fails}
 use Rattle.gomp_core.specs.declared.waiting.Waiting.{Waiting as Kept}
 use Rattle.gomp_core.specs.declared.waiting.Waiting.TheVariants.{Start, Turn, Arrive}
 use Rattle.gomp_core.specs.Waits.{open_call}
 use Rattle.gomp_core.specs.Answers.{place_tests, own_row, comparison_tests, IsReady}
 use Rattle.gomp_core.specs.Stands.{MayBeRepeated}
-
-none_before : (tests more : List Test) → first_refusal (tests ++ more) ≡ None → first_refusal tests ≡ None
-none_before [] more e = refl
-none_before ((true, found) ∷ tests) more e = absurd (cc)
-none_before ((false, found) ∷ tests) more e = none_before tests more e
-
-none_later : (tests more : List Test) → first_refusal (tests ++ more) ≡ None → first_refusal more ≡ None
-none_later [] more e = e
-none_later ((true, found) ∷ tests) more e = absurd (cc)
-none_later ((false, found) ∷ tests) more e = none_later tests more e
 
 -- The tests of a call, in its parts: those of loops, of sections and singles, of ordered parts
 

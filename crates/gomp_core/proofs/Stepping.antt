@@ -16,7 +16,7 @@ use Rattle.gomp_types.specs.declared.reply.Reply.TheVariants.{Wait, Stopped, Ref
 use Rattle.gomp_types.specs.declared.shape.Shape.{Shape}
 use Rattle.gomp_types.specs.declared.event.Event.{Event}
 use Rattle.gomp_types.specs.declared.event.Event.TheVariants.{Enter, Take, Drained, End, HandOn, Part, PartEnd, Got, Break}
-use Rattle.gomp_types.specs.Limits.{capped}
+use Rattle.gomp_types.specs.Limits.{standard, capped}
 use Rattle.gomp_types.specs.Tests.{first_refusal}
 use Rattle.gomp_types.specs.Events.{entered, open_share, has_drained, last_piece, next_part, in_part, clash_of}
 use Rattle.gomp_types.specs.Record.{Record, record_after, Waits, waits_of, waits_after, events, added, meant, is_resume, since_begun}
@@ -31,7 +31,7 @@ use Rattle.gomp_core.specs.Waits.{open_call, waiting_after, wait_for}
 use Rattle.gomp_core.specs.Answers.{IsReady, IsAnswer, reply_to, broken_after, PartsStand, ArePartsKept}
 use Rattle.gomp_icv.specs.Variables.{Variables}
 use Rattle.gomp_core.specs.Resolved.{resolved_step, resolved_steps, record_of}
-use Rattle.gomp_core.specs.Stands.{TeamView, IsTeamSize, MayBeRepeated, WaitStands, Stands, terms_of, members_of, standard, standard_terms, NoneForMemory}
+use Rattle.gomp_core.specs.Stands.{TeamView, IsTeamSize, MayBeRepeated, WaitStands, Stands, terms_of, members_of, standard_terms, NoneForMemory}
 use Rattle.gomp_types.proofs.Lists.{slice_get-set}
 use Rattle.gomp_core.proofs.Kept.{IsOwn, IsBreak, added_kept}
 use Rattle.gomp_core.proofs.Rows.{alone, refused_alone, compared_last, whole, ready, quiet_alone, quiet_memory, quiet_adds}

@@ -16,6 +16,7 @@ use Rattle.gomp_types.specs.Events.{open_share, open_number, share_number, shape
 use Rattle.gomp_types.specs.Record.{added}
 use Rattle.gomp_core.specs.Answers.{IsReady}
 use Rattle.gomp_types.proofs.Booleans.{tells, is_equal, differs, same_number, or_right, not_both, some_of, every_tells, every_by}
+use Rattle.gomp_types.proofs.Windows.{over_stays}
 use Rattle.gomp_types.proofs.Lists.{slice_get-set_same, slice_get-set_other}
 use Rattle.gomp_core.specs.declared.payloads.Put.{Put as Kept}
 use Rattle.gomp_core.specs.Payloads.{there, PayloadsStand}
@@ -45,14 +46,7 @@ own_aside : (m : ℕ) (event : Event) → IsOwn m event → IsAside event
 own_aside m (Put share n words) own = own
 own_aside m _ own = tt
 
--- what is over stays so
-ended_stays : (i m : ℕ) (event : Event) (h : List Event) → has_ended i m h ≡ true → has_ended i m (event ∷ h) ≡ true
-ended_stays i m (End share member) h e = or_right (share == i && member == m) (has_ended i m h) e
-ended_stays i m _ h e = e
-
-over_stays : (members i : ℕ) (event : Event) (h : List Event) → is_over members i h ≡ true → is_over members i (event ∷ h) ≡ true
-over_stays members i event h over = every_by members (λ m. has_ended i m (event ∷ h)) (λ m lt. ended_stays i m event h (every_tells members (λ x. has_ended i x h) m over lt))
-
+-- what is open was so
 open_before : (members i : ℕ) (event : Event) (h : List Event) → is_over members i (event ∷ h) ≡ false → is_over members i h ≡ false
 open_before members i event h open_ =
     elim (cases_Bool (is_over members i h)) [

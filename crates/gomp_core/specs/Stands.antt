@@ -8,7 +8,7 @@ use Rattle.gomp_types.specs.declared.reply.Reply.{Reply}
 use Rattle.gomp_types.specs.declared.reply.Reply.TheVariants.{Refused}
 use Rattle.gomp_types.specs.declared.event.Event.{Event}
 use Rattle.gomp_types.specs.declared.limits.TheConstants.{MAX_MEMBERS}
-use Rattle.gomp_types.specs.Limits.{capped}
+use Rattle.gomp_types.specs.Limits.{standard, capped}
 use Rattle.gomp_types.specs.Events.{clash_of}
 use Rattle.gomp_types.specs.Record.{Record, waits_of, events}
 use Rattle.gomp_types.specs.Causes.{Terms, Caused}
@@ -31,10 +31,6 @@ pub record TeamView (S : Type 0) : Type 0 where
   -- the words that executors of singles put
   pub payloads : List (Option Put)
   pub shares : S
-
--- the limits of a team for which none are given
-abbrev pub standard : Limits
-standard = record { shares = 131064; tasks = 1048576; events = 16777216 }
 
 -- a call that waits may be repeated
 abbrev pub MayBeRepeated : Limits → ℕ → Option Call → List Event → Type 0

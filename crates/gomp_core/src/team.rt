@@ -3,7 +3,7 @@
 ghost use Rattle.std.specs.Prelude.{◌≡◌, ◌≢◌, ◌<◌, ◌↔◌, ◌⊎◌, ◌∷◌, ◌++◌, [], IfOk, Err};
 ghost use Rattle.gomp_types.specs.declared.refusal.Refusal.{Refusal};
 ghost use Rattle.gomp_types.specs.declared.refusal.Refusal.TheVariants.{BadTeam, NoMemory, Mismatch};
-ghost use Rattle.gomp_types.specs.Limits.{capped};
+ghost use Rattle.gomp_types.specs.Limits.{capped, standard};
 ghost use Rattle.gomp_types.specs.Tests.{first_refusal};
 ghost use Rattle.gomp_types.specs.Record.{Record, events, waits_of};
 ghost use Rattle.gomp_types.specs.Refusals.{member_tests};
@@ -12,7 +12,7 @@ ghost use Rattle.gomp_types.specs.declared.call.Call.TheVariants.{Resume};
 ghost use Rattle.gomp_types.specs.Causes.{MayAnswer};
 ghost use Rattle.gomp_types.specs.Headline.{Headline};
 ghost use Rattle.gomp_core.specs.Answers.{own_row};
-ghost use Rattle.gomp_core.specs.Stands.{Stands, IsTeamSize, standard, terms_of, members_of};
+ghost use Rattle.gomp_core.specs.Stands.{Stands, IsTeamSize, terms_of, members_of};
 ghost use Rattle.gomp_core.specs.Resolved.{resolved_call, resolved_step};
 
 use crate::answer::{answer, broken_after, reply_to};

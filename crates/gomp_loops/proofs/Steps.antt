@@ -27,7 +27,9 @@ use Rattle.gomp_share_plain.specs.declared.Seen.{Seen}
 use Rattle.gomp_share_plain.specs.declared.own.Construct.TheVariants.{Loop}
 use Rattle.gomp_share_plain.specs.Calls.{seen_of, CanClaim, Claims, claimed, own_turn, piece_handed}
 use Rattle.gomp_share_plain.specs.Own.{next_tests_of, end_tests_of}
-use Rattle.gomp_share_plain.proofs.TestRows.{row_is, front_holds, front_fails, head_fails, open_entered}
+use Rattle.gomp_types.proofs.TestRows.{front_holds, front_fails, head_fails}
+use Rattle.gomp_types.proofs.CallsKeep.{open_entered}
+use Rattle.gomp_share_plain.proofs.Entered.{row_is}
 use Rattle.gomp_loops.specs.OwnTests.{own_start_tests}
 use Rattle.gomp_loops.specs.Answers.{reply_of}
 

@@ -19,7 +19,7 @@ use Rattle.gomp_types.specs.Refusals.{call_tests}
 use Rattle.gomp_types.specs.Replies.{BeginsPart}
 use Rattle.gomp_share_plain.specs.declared.Seen.{Seen}
 use Rattle.gomp_share_plain.specs.Calls.{seen_of, turn_in}
-use Rattle.gomp_share_plain.proofs.TestRows.{row_is}
+use Rattle.gomp_share_plain.proofs.Entered.{row_is}
 use Rattle.gomp_ordered.specs.OwnTests.{HasShape, seen_iteration, own_start_tests}
 
 -- the share that a member sees has the shape of a construct

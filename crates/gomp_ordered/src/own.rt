@@ -7,6 +7,7 @@ ghost use Rattle.gomp_types.specs.Ordered.{comes_next, is_ordered};
 ghost use Rattle.gomp_ordered.specs.OwnTests.{HasShape, seen_iteration, own_start_tests, own_tests};
 
 use gomp_share_plain::Seen;
+use gomp_share_plain::own::is_in_rest;
 use gomp_types::{Call, Refusal};
 
 /// Why a member that sees this of its place may not make this call: the first test that holds of
@@ -52,11 +53,8 @@ fn comes_next(seen: &Seen, value: i64) -> bool
     requires shape { HasShape seen.now }
     ensures answer { result ≡ comes_next seen.now.current seen.now.piece seen.now.next_part value }
 {
-    let Some((low, high)) = seen.piece else {
-        return false;
-    };
     match iteration_of(seen, value) {
-        Some(k) => low <= k && k < high && seen.next_part <= k,
+        Some(k) => is_in_rest(seen, k),
         None => false,
     }
 }

@@ -27,7 +27,7 @@ use Rattle.gomp_share_plain.specs.Own.{next_tests_of, end_tests_of}
 use Rattle.gomp_share_plain.specs.Calls.{CanClaim, CanLeave, Claims, claimed, seen_of, taken_of}
 use Rattle.gomp_sections.specs.Answers.{section_of}
 use Rattle.gomp_types.proofs.Booleans.{same_number}
-use Rattle.gomp_share_plain.proofs.TestRows.{head_fails}
+use Rattle.gomp_types.proofs.TestRows.{head_fails}
 use Rattle.gomp_types.proofs.CallTests.{kind_inside}
 use Rattle.gomp_sections.proofs.Tests.{PartInLoop, claim_here, in_no_part, no_loop_sections}
 

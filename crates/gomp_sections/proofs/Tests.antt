@@ -14,7 +14,9 @@ use Rattle.gomp_types.specs.Shapes.{is_loop, is_sections, is_copy}
 use Rattle.gomp_types.specs.Refusals.{shape_differs}
 use Rattle.gomp_share_plain.specs.declared.Seen.{Seen}
 use Rattle.gomp_share_plain.specs.Calls.{Claims}
-use Rattle.gomp_share_plain.proofs.TestRows.{row_is, front_fails, alone_fails, open_entered}
+use Rattle.gomp_types.proofs.TestRows.{front_fails, alone_fails}
+use Rattle.gomp_types.proofs.CallsKeep.{open_entered}
+use Rattle.gomp_share_plain.proofs.Entered.{row_is}
 
 -- a start whose own tests fail, and whose share is as the team's, is not refused
 pub start_passes : (tests : Seen → List Test) (shape : Shape) (there : Option Shape) (seen told : Seen) → seen ≡ told → None ≡ first_refusal (tests seen) → shape_differs shape there ≡ false →

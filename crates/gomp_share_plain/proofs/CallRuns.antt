@@ -12,7 +12,7 @@ use Rattle.gomp_types.specs.declared.event.Event.{Event}
 use Rattle.gomp_types.specs.Tests.{first_refusal, outcome}
 use Rattle.gomp_types.specs.Iterations.{loop_tests}
 use Rattle.gomp_types.proofs.Booleans.{and_left, and_right}
-use Rattle.gomp_share_plain.proofs.TestRows.{outcome_refused}
+use Rattle.gomp_types.proofs.TestRows.{outcome_refused}
 use Rattle.gomp_share_plain.specs.declared.Seen.{Seen}
 use Rattle.gomp_share_plain.specs.declared.calls.ShareCall.TheVariants.{Open, Claim, Leave, Begin, HandOn}
 use Rattle.gomp_share_plain.specs.declared.calls.ShareStep.{ShareStep}

@@ -1,4 +1,4 @@
-pub mod TestRows
+pub mod Entered
 pub mod Takes
 pub mod Turns
 pub mod Seats

@@ -6,6 +6,7 @@ use Rattle.std.proofs.lemmas.Bool.Decides.{eqb_tells}
 use Rattle.gomp_types.specs.Pieces.{Piece, Tiles}
 use Rattle.gomp_types.specs.Ordered.{same_piece}
 use Rattle.gomp_types.proofs.Booleans.{and_left, is_equal, same_number}
+use Rattle.gomp_types.proofs.Tiling.{tiles_rise}
 
 -- where a piece of this number lies
 pub record Lies (low number : ℕ) (piece : Piece) (high : ℕ) : Type 0 where
@@ -13,16 +14,12 @@ pub record Lies (low number : ℕ) (piece : Piece) (high : ℕ) : Type 0 where
   pub some : piece.0 < piece.1
   pub within : piece.1 ≤ high
 
-tiles_up : (low high : ℕ) (pieces : List Piece) → Tiles low pieces high → low ≤ high
-tiles_up low high [] tiles = omega arith
-tiles_up low high (piece ∷ pieces) tiles = let rest = tiles_up piece.1 high pieces tiles.2 in let some = tiles.1 in omega arith
-
 pub lies : (low high : ℕ) (pieces : List Piece) (number : ℕ) (piece : Piece) → Tiles low pieces high → slice_get pieces number ≡ Some piece → Lies low number piece high
 lies low high [] number piece tiles at = absurd (cc)
 lies low high (first ∷ pieces) zero piece tiles at =
     let same : first ≡ piece = let t = at in cc in
     let begin = tiles.0 in let some = tiles.1 in
-    let rest = tiles_up first.1 high pieces tiles.2 in
+    let rest = tiles_rise first.1 high pieces tiles.2 in
     rw (← same) (record { from = omega arith; some = omega arith; within = rest })
 lies low high (first ∷ pieces) (suc n) piece tiles at =
     let rest = lies first.1 high pieces n piece tiles.2 at in

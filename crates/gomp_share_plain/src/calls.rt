@@ -10,6 +10,7 @@ ghost use Rattle.gomp_share_plain.specs.Calls.{EachStands, is_done};
 ghost use Rattle.gomp_share_plain.specs.declared.calls.ShareAnswer.TheVariants.{NotMade};
 ghost use Rattle.gomp_share_plain.specs.Runs.{may_make, IsAnswer, answered, AreAnswers, events_after};
 
+use crate::own::is_in_rest;
 use crate::{Opening, Seen, Shares};
 use gomp_types::{EndKind, LoopDesc, MAX_SECTIONS, laws, sections_shape, single_shape, trips};
 use std::alloc::{AllocError, Global};
@@ -147,16 +148,6 @@ fn is_ordered(seen: &Seen) -> bool
         return false;
     };
     shape.ordered
-}
-
-/// Whether the iteration lies in its piece, after those whose parts it has begun.
-fn is_in_rest(seen: &Seen, iteration: u64) -> bool
-    ensures { result ≡ is_in_rest seen.now.piece seen.now.next_part (Some iteration) }
-{
-    let Some((low, high)) = seen.piece else {
-        return false;
-    };
-    low <= iteration && iteration < high && seen.next_part <= iteration
 }
 
 /// Whether nothing is left for a member that sees this of its place.

@@ -28,7 +28,7 @@ pub fn share_at(places: &[Option<OpenShare>; 8], number: u64) -> Option<OpenShar
 }
 
 /// The number and the shape of the share that lies at the place of this number, if one does.
-pub fn shape_at(places: &[Option<OpenShare>; 8], number: u64) -> Option<(u64, Shape)>
+pub fn shape_there(places: &[Option<OpenShare>; 8], number: u64) -> Option<(u64, Shape)>
     ensures answer { result ≡ share_there number (slice_get places.now (number % 8)) }
 {
     match share_at(places, number) {

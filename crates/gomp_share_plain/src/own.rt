@@ -1,10 +1,11 @@
 //! What a member is refused by what it sees of its own place, whatever the body of the shares; the
-//! crates of loops and of sections have it in common.
+//! crates of loops, of sections and of ordered parts have it in common.
 //!
 //! Nothing here asks the shares, so members on threads can use it with a seat of their own.
 
-ghost use Rattle.std.specs.Prelude.{◌≡◌, IfNone, ◌<◌, ◌^◌};
+ghost use Rattle.std.specs.Prelude.{◌≡◌, IfNone, ◌<◌, ◌^◌, Some};
 ghost use Rattle.gomp_types.specs.Tests.{first_refusal};
+ghost use Rattle.gomp_types.specs.Ordered.{is_in_rest};
 ghost use Rattle.gomp_share_plain.specs.Own.{kinds_of, seen_in, in_part_of, outside_tests, next_tests_of, end_tests_of};
 
 use crate::Seen;
@@ -93,4 +94,14 @@ pub fn end_refusal(seen: &Seen, construct: Construct, end_kind: EndKind) -> Opti
         return Some(Refusal::NotDrained);
     }
     None
+}
+
+/// Whether the iteration lies in the member's piece, after those whose parts it has begun.
+pub fn is_in_rest(seen: &Seen, iteration: u64) -> bool
+    ensures { result ≡ is_in_rest seen.now.piece seen.now.next_part (Some iteration) }
+{
+    let Some((low, high)) = seen.piece else {
+        return false;
+    };
+    low <= iteration && iteration < high && seen.next_part <= iteration
 }

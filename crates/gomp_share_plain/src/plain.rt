@@ -5,7 +5,7 @@ ghost use Rattle.std.specs.Prelude.{length};
 ghost use Rattle.gomp_share_plain.specs.Plain.{StandsFor, plain_seen};
 ghost use Rattle.gomp_share_plain.specs.PlainLaws.{plain_aside, plain_agrees, plain_valid};
 
-use crate::open_share::{OpenShare, is_next, shape_at, share_at};
+use crate::open_share::{OpenShare, is_next, shape_there, share_at};
 use crate::seat::{Seat, has_room};
 use crate::{Opening, Seen, Shares};
 use gomp_chunks::{Cursor, Plan};
@@ -61,7 +61,7 @@ impl Shares for PlainShares {
     fn look(&self, member: u16) -> Seen {
         let seat = self.seats[member as usize];
         let current = if seat.ended < seat.started {
-            shape_at(&self.places, seat.ended)
+            shape_there(&self.places, seat.ended)
         } else {
             None
         };

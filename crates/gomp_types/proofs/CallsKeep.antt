@@ -115,13 +115,13 @@ since_keeps false members m call h lt beginning all = begun_keeps members m (end
 
 -- A start
 
-open_entered : (m i : ℕ) (shape : Shape) (h : List Event) → open_share m (Enter i m shape ∷ h) ≡ Some (i, shape)
+pub open_entered : (m i : ℕ) (shape : Shape) (h : List Event) → open_share m (Enter i m shape ∷ h) ≡ Some (i, shape)
 open_entered m i shape h = rw (same_number m) refl
 
 held_entered : (m i : ℕ) (shape : Shape) (h : List Event) → holds_piece m (Enter i m shape ∷ h) ≡ false
 held_entered m i shape h = rw (same_number m) refl
 
-part_entered : (m i : ℕ) (shape : Shape) (h : List Event) → in_part m (Enter i m shape ∷ h) ≡ false
+pub part_entered : (m i : ℕ) (shape : Shape) (h : List Event) → in_part m (Enter i m shape ∷ h) ≡ false
 part_entered m i shape h = rw (same_number m) refl
 
 chunk_is : (shape : Shape) (next : Option Piece) (first : ℤ) (count : ℕ) → shape.incr ≢ pos 0 → IsChunk shape next first count → next ≡ Some (iteration_at shape first, iteration_at shape first + count)

@@ -2,6 +2,7 @@ pub mod IterationValues
 pub mod Wide
 pub mod Lists
 pub mod Booleans
+pub mod TestRows
 pub mod Tiling
 pub mod EvenTiling
 pub mod GuidedTiling

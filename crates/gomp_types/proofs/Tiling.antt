@@ -80,7 +80,7 @@ piece_some low high (first ∷ pieces) zero piece tiles at =
 piece_some low high (first ∷ pieces) (suc n) piece tiles at = piece_some first.1 high pieces n piece tiles.2 at
 
 -- pieces lead upwards
-tiles_rise : (low high : ℕ) (pieces : List Piece) → Tiles low pieces high → low ≤ high
+pub tiles_rise : (low high : ℕ) (pieces : List Piece) → Tiles low pieces high → low ≤ high
 tiles_rise low high [] tiles = let end = tiles in omega arith
 tiles_rise low high (piece ∷ pieces) tiles =
     let first = tiles.0 in let some = tiles.1 in

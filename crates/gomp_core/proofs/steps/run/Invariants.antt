@@ -1,6 +1,7 @@
 use Rattle.std.proofs.Common.{◌≡◌, ◌≤◌, ◌++◌, length}
 use Rattle.std.specs.Vec.{vec_capacity}
-use Rattle.gomp_core.specs.Stands.{Stands, members_of, standard, NoneForMemory}
+use Rattle.gomp_types.specs.Limits.{standard}
+use Rattle.gomp_core.specs.Stands.{Stands, members_of, NoneForMemory}
 use Rattle.gomp_core.specs.Resolved.{record_of}
 use Rattle.gomp_core.proofs.steps.run.Given as goal
 

@@ -6,7 +6,8 @@ use Rattle.gomp_types.specs.Pieces.{shape_of}
 use Rattle.gomp_types.specs.Values.{IsShape}
 use Rattle.gomp_types.specs.Events.{entered}
 use Rattle.gomp_types.proofs.PartsKeep.{loop_is_loop}
-use Rattle.gomp_share_plain.proofs.TestRows.{alone_fails, outcome_value, may_claim}
+use Rattle.gomp_types.proofs.TestRows.{alone_fails, outcome_value}
+use Rattle.gomp_share_plain.proofs.Entered.{may_claim}
 use Rattle.gomp_loops.proofs.Steps.{start_compared, start_deals, start_refused, start_reply, start_outside, start_adds}
 use Rattle.gomp_loops.proofs.calls.loop_start.Goals as goal
 

@@ -2,7 +2,7 @@ use Rattle.std.proofs.Common.{◌≡◌, ◌∙◌, sym, false, Some}
 use Rattle.std.specs.Prelude.{is_some}
 use Rattle.gomp_types.specs.Tests.{first_refusal}
 use Rattle.gomp_types.specs.Iterations.{loop_tests}
-use Rattle.gomp_share_plain.proofs.TestRows.{outcome_refused}
+use Rattle.gomp_types.proofs.TestRows.{outcome_refused}
 use Rattle.gomp_loops.proofs.Steps.{start_own}
 use Rattle.gomp_loops.proofs.own.start_refusal.Goals as goal
 

@@ -4,7 +4,7 @@ use Rattle.gomp_types.specs.Tests.{outcome}
 use Rattle.gomp_share_plain.specs.declared.own.Construct.TheVariants.{Sections}
 use Rattle.gomp_share_plain.specs.Own.{end_tests_of}
 use Rattle.gomp_share_plain.specs.Calls.{seen_of}
-use Rattle.gomp_share_plain.proofs.TestRows.{row_is}
+use Rattle.gomp_share_plain.proofs.Entered.{row_is}
 use Rattle.gomp_sections.proofs.SectionSteps.{end_may_leave}
 use Rattle.gomp_sections.proofs.sections.sections_end.Goals as goal
 

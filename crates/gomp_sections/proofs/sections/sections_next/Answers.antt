@@ -3,7 +3,7 @@ use Rattle.gomp_types.specs.Events.{open_number}
 use Rattle.gomp_share_plain.specs.declared.own.Construct.TheVariants.{Sections}
 use Rattle.gomp_share_plain.specs.Own.{next_tests_of}
 use Rattle.gomp_share_plain.specs.Calls.{seen_of}
-use Rattle.gomp_share_plain.proofs.TestRows.{row_is}
+use Rattle.gomp_share_plain.proofs.Entered.{row_is}
 use Rattle.gomp_sections.proofs.SectionSteps.{next_section, next_deals, next_may_claim, section_adds}
 use Rattle.gomp_sections.proofs.sections.sections_next.Goals as goal
 

@@ -5,7 +5,8 @@ use Rattle.gomp_types.specs.Tests.{first_refusal}
 use Rattle.gomp_share_plain.specs.Calls.{seen_of}
 use Rattle.gomp_share_plain.specs.declared.Seen.{Seen}
 use Rattle.gomp_sections.specs.OwnTests.{own_start_tests}
-use Rattle.gomp_share_plain.proofs.TestRows.{outcome_value, may_claim}
+use Rattle.gomp_types.proofs.TestRows.{outcome_value}
+use Rattle.gomp_share_plain.proofs.Entered.{may_claim}
 use Rattle.gomp_sections.proofs.Tests.{start_passes}
 use Rattle.gomp_sections.proofs.SectionSteps.{start_deals, start_adds}
 use Rattle.gomp_sections.proofs.sections.sections_start.Goals as goal

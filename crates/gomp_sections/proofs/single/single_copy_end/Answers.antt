@@ -2,7 +2,7 @@ use Rattle.std.proofs.Common.{ap, ◌∙◌, sym}
 use Rattle.gomp_types.specs.Tests.{outcome}
 use Rattle.gomp_share_plain.specs.Calls.{seen_of}
 use Rattle.gomp_sections.specs.OwnTests.{own_copy_end_tests}
-use Rattle.gomp_share_plain.proofs.TestRows.{row_is}
+use Rattle.gomp_share_plain.proofs.Entered.{row_is}
 use Rattle.gomp_sections.proofs.SingleSteps.{copy_may_leave}
 use Rattle.gomp_sections.proofs.single.single_copy_end.Goals as goal
 

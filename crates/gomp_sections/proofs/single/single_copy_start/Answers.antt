@@ -6,7 +6,7 @@ use Rattle.gomp_types.specs.declared.event.Event.{Event}
 use Rattle.gomp_types.specs.declared.event.Event.TheVariants.{Got}
 use Rattle.gomp_share_plain.specs.Calls.{seen_of}
 use Rattle.gomp_share_plain.specs.Own.{outside_tests}
-use Rattle.gomp_share_plain.proofs.TestRows.{may_claim}
+use Rattle.gomp_share_plain.proofs.Entered.{may_claim}
 use Rattle.gomp_sections.proofs.Tests.{start_passes, none_and_some}
 use Rattle.gomp_sections.proofs.SingleSteps.{may_leave, single_least, no_piece, not_given, copy_adds}
 use Rattle.gomp_sections.proofs.single.single_copy_start.Given.{Over}

@@ -3,7 +3,7 @@ use Rattle.gomp_types.specs.Events.{entered, shape_at}
 use Rattle.gomp_types.specs.Singles.{single_shape}
 use Rattle.gomp_share_plain.specs.Calls.{seen_of}
 use Rattle.gomp_share_plain.specs.Own.{outside_tests}
-use Rattle.gomp_share_plain.proofs.TestRows.{may_claim}
+use Rattle.gomp_share_plain.proofs.Entered.{may_claim}
 use Rattle.gomp_sections.proofs.Tests.{start_passes}
 use Rattle.gomp_sections.proofs.SingleSteps.{may_leave, executes, single_adds}
 use Rattle.gomp_sections.proofs.single.single_start.Goals as goal

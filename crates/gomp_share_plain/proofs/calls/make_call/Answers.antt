@@ -6,7 +6,7 @@ use Rattle.gomp_types.proofs.PartsKeep.{loop_is_loop}
 use Rattle.gomp_share_plain.specs.declared.calls.ShareCall.TheVariants.{Open, Claim, Leave, Begin, HandOn}
 use Rattle.gomp_share_plain.specs.Runs.{may_make}
 use Rattle.gomp_share_plain.proofs.CallRuns.{made, open_fits, opens_loop, can_open, can_claim, can_leave, can_begin, can_hand}
-use Rattle.gomp_share_plain.proofs.TestRows.{outcome_value}
+use Rattle.gomp_types.proofs.TestRows.{outcome_value}
 use Rattle.gomp_share_plain.proofs.calls.make_call.Goals as goal
 
 pub returns-in_default-clause-answer : goal.returns-in_default-clause-answer
