@@ -35,6 +35,8 @@ use Rattle.gomp_core.specs.Stands.{TeamView, IsTeamSize, MayBeRepeated, WaitStan
 use Rattle.gomp_types.proofs.Lists.{slice_get-set}
 use Rattle.gomp_core.proofs.Kept.{IsOwn, IsBreak, added_kept}
 use Rattle.gomp_core.proofs.Rows.{alone, refused_alone, compared_last, whole, ready, quiet_alone, quiet_memory, quiet_adds}
+use Rattle.gomp_types.proofs.SomeReply.{not_refused, may_answer}
+use Rattle.gomp_types.proofs.CallsKeep.{section_never_waits}
 
 -- A new team
 
@@ -112,48 +114,12 @@ answer_refused stands members team before step found refusal st first some = ref
 
 -- The cause of an answer
 
-sections_no_refusal : (members m : ℕ) (share : Option (ℕ × Shape)) (refusal : Refusal) (h : List Event) → DealsSections members m share (Refused refusal) h → ⊥
-sections_no_refusal members m None refusal h may = may
-sections_no_refusal members m (Some share) refusal h may = may
-
-next_no_refusal : (members m : ℕ) (share : Option (ℕ × Shape)) (refusal : Refusal) (h : List Event) → DealsNext members m share (Refused refusal) h → ⊥
-next_no_refusal members m None refusal h may = may
-next_no_refusal members m (Some share) refusal h may = may.1
-
-part_no_refusal : (members m : ℕ) (share : Option (ℕ × Shape)) (refusal : Refusal) (h : List Event) → BeginsPart members m share (Refused refusal) h → ⊥
-part_no_refusal members m None refusal h may = may
-part_no_refusal members m (Some share) refusal h may = may
-
-no_refusal : (members : ℕ) (again : Bool) (m : ℕ) (call : Call) (refusal : Refusal) (h : List Event) → MayReply members again m call (Refused refusal) h → ⊥
-no_refusal members again m (LoopStart loop) refusal h may = may.1
-no_refusal members again m LoopNext refusal h may = next_no_refusal members m (open_share m h) refusal h may
-no_refusal members again m LoopEnd refusal h may = may
-no_refusal members again m LoopEndNowait refusal h may = absurd (cc)
-no_refusal members again m (SectionsStart count end_kind) refusal h may = may.1
-no_refusal members again m SectionsNext refusal h may = sections_no_refusal members m (open_share m h) refusal h may
-no_refusal members again m SectionsEnd refusal h may = may
-no_refusal members again m SectionsEndNowait refusal h may = absurd (cc)
-no_refusal members again m SingleStart refusal h may = may
-no_refusal members again m SingleCopyStart refusal h may = may
-no_refusal members again m (SingleCopyEnd words) refusal h may = absurd (cc)
-no_refusal members again m (OrderedStart value) refusal h may = part_no_refusal members m (open_share m h) refusal h may
-no_refusal members again m OrderedEnd refusal h may = absurd (cc)
-no_refusal members again m Barrier refusal h may = may
-no_refusal members again m RegionEnd refusal h may = may
-no_refusal members again m Resume refusal h may = may
-no_refusal members again m Stop refusal h may = absurd (cc)
-
-answered_ok : (terms : Terms) (before : Record) (step : Step) (reply : Reply) → refusal_of terms step (waits_of step.member before).open_call (events before) ≡ None →
-    MayReply terms.members (is_resume step.call) step.member (meant step.call (waits_of step.member before).open_call) reply (events before) → MayAnswer terms before step reply
-answered_ok terms before step (Refused refusal) none may = absurd (no_refusal terms.members (is_resume step.call) step.member (meant step.call (waits_of step.member before).open_call) refusal (events before) may)
-answered_ok terms before step reply none may = (none, may)
-
 pub answered : (terms : Terms) (before : Record) (step : Step) (result : Result Reply Place) → capped terms.limits ≡ terms.limits →
     ((refusal : Refusal) → refusal_of terms step (waits_of step.member before).open_call (events before) ≡ Some refusal → MayAnswer terms before step (Refused refusal)) →
     first_refusal (alone terms step (waits_of step.member before).open_call (events before)) ≡ None →
     IsAnswer terms.members (is_resume step.call) step.member (meant step.call (waits_of step.member before).open_call) result (events before) → MayAnswer terms before step (reply_to result)
 answered terms before step (Ok reply) small law none is =
-    answered_ok terms before step reply (compared_last terms step (waits_of step.member before).open_call (events before) small none ∙ is.0) is.1
+    may_answer terms before step reply (compared_last terms step (waits_of step.member before).open_call (events before) small none ∙ is.0) is.1
 answered terms before step (Err place) small law none is =
     law Mismatch (compared_last terms step (waits_of step.member before).open_call (events before) small none ∙ is.0)
 
@@ -236,10 +202,6 @@ tested_kept limits k (Some Stop) h after same tested = tested
 
 -- What the member's own call leaves
 
-no_sections_wait : (members m : ℕ) (share : Option (ℕ × Shape)) (h : List Event) → DealsSections members m share Wait h → ⊥
-no_sections_wait members m None h may = may
-no_sections_wait members m (Some share) h may = may
-
 -- a call that waits may be repeated
 waits_tested : (limits : Limits) (members : ℕ) (again : Bool) (m shares : ℕ) (call : Call) (h : List Event) → IsReady limits again m call h → MayReply members again m call Wait h →
     MayBeRepeated limits m (Some call) (since_begun again m shares call h)
@@ -254,7 +216,7 @@ waits_tested limits members again m shares LoopEnd h ready may = tt
 waits_tested limits members again m shares LoopEndNowait h ready may = absurd (cc)
 waits_tested limits members true m shares (SectionsStart count end_kind) h ready may = ready
 waits_tested limits members false m shares (SectionsStart count end_kind) h ready may = ready
-waits_tested limits members again m shares SectionsNext h ready may = absurd (no_sections_wait members m (open_share m h) h may)
+waits_tested limits members again m shares SectionsNext h ready may = absurd (section_never_waits members m (open_share m h) h may)
 waits_tested limits members again m shares SectionsEnd h ready may = tt
 waits_tested limits members again m shares SectionsEndNowait h ready may = absurd (cc)
 waits_tested limits members true m shares SingleStart h ready may = ready
@@ -282,7 +244,7 @@ kept_is members again m OrderedEnd waiting h may = absurd (cc)
 kept_is members again m LoopEnd waiting h may = refl
 kept_is members again m LoopEndNowait waiting h may = absurd (cc)
 kept_is members again m (SectionsStart count end_kind) waiting h may = refl
-kept_is members again m SectionsNext waiting h may = absurd (no_sections_wait members m (open_share m h) h may)
+kept_is members again m SectionsNext waiting h may = absurd (section_never_waits members m (open_share m h) h may)
 kept_is members again m SectionsEnd waiting h may = refl
 kept_is members again m SectionsEndNowait waiting h may = absurd (cc)
 kept_is members again m SingleStart waiting h may = refl
@@ -306,7 +268,7 @@ own_wait limits members step Wait waiting before is tested ready may =
       tested = rw (is, ← kept) again;
     }
 own_wait limits members step (Refused refusal) waiting before is tested ready may =
-    absurd (no_refusal members (is_resume step.call) step.member (meant step.call (open_call waiting)) refusal (events before) may)
+    absurd (not_refused members (is_resume step.call) step.member (meant step.call (open_call waiting)) refusal (events before) may)
 own_wait limits members step reply waiting before is tested ready may = record { call_is = ap (λ (w : Waits). w.open_call) (waits_own step reply before); tested = tt }
 
 -- a reply that is no refusal and no stop leaves the team as whole as it was
@@ -326,7 +288,7 @@ clash_kept members again m shares call reply h goes =
 
 breaks_not : (members : ℕ) (again : Bool) (m : ℕ) (call : Call) (reply : Reply) (h : List Event) → (reply ≡ Stopped → ⊥) → MayReply members again m call reply h → IsBreak reply → ⊥
 breaks_not members again m call Stopped h goes may is = goes refl
-breaks_not members again m call (Refused refusal) h goes may is = no_refusal members again m call refusal h may
+breaks_not members again m call (Refused refusal) h goes may is = not_refused members again m call refusal h may
 breaks_not members again m call _ h goes may is = is
 
 clash_after : (members : ℕ) (again : Bool) (m : ℕ) (call : Call) (result : Result Reply Place) (broken : Option Clash) (h : List Event) → IsAnswer members again m call result h → broken ≡ clash_of h → clash_of h ≡ None →
@@ -442,7 +404,7 @@ terms_are team count icv members same limits = rw (members, same, limits) refl
 -- No reply for want of memory
 
 no_refusal_kept : (reply : Reply) (members : ℕ) (again : Bool) (m : ℕ) (call : Call) (h : List Event) → MayReply members again m call reply h → reply ≢ Refused NoMemory
-no_refusal_kept (Refused refusal) members again m call h may = absurd (no_refusal members again m call refusal h may)
+no_refusal_kept (Refused refusal) members again m call h may = absurd (not_refused members again m call refusal h may)
 no_refusal_kept _ members again m call h may = λ same. absurd (cc)
 
 pub answer_memory : (members : ℕ) (again : Bool) (m : ℕ) (call : Call) (result : Result Reply Place) (h : List Event) → IsAnswer members again m call result h → reply_to result ≢ Refused NoMemory
@@ -461,7 +423,7 @@ memory_more (first ∷ replies) reply all one = (all.0, memory_more replies repl
 -- A refusal that is no mismatch
 
 pub answer_breaks : (members : ℕ) (again : Bool) (m : ℕ) (call : Call) (result : Result Reply Place) (refusal : Refusal) (h : List Event) → IsAnswer members again m call result h → reply_to result ≡ Refused refusal → refusal ≡ Mismatch
-answer_breaks members again m call (Ok (Refused other)) refusal h is same = absurd (no_refusal members again m call other h is.1)
+answer_breaks members again m call (Ok (Refused other)) refusal h is same = absurd (not_refused members again m call other h is.1)
 answer_breaks members again m call (Ok reply) refusal h is same = absurd (cc)
 answer_breaks members again m call (Err place) refusal h is same = cc
 
@@ -483,7 +445,7 @@ pub only_broken : {S : Type 0} (team : TeamView S) (shares : S) (barriers : Barr
     team_after team shares barriers payloads step waiting result ≡ record team { broken = broken_after team.broken step.member result }
 only_broken team shares barriers payloads step waiting (Ok reply) members again call h at is kept same =
     let refused : MayReply members again step.member call (Refused Mismatch) h = rw same at is.1 in
-    absurd (no_refusal members again step.member call Mismatch h refused)
+    absurd (not_refused members again step.member call Mismatch h refused)
 only_broken team shares barriers payloads step waiting (Err place) members again call h at is kept same =
     let parts = kept place refl in
     rw (parts.0, parts.1, parts.2, set_there team.waiting step.member waiting at) refl

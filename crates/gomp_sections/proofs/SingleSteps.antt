@@ -20,8 +20,8 @@ use Rattle.gomp_share_plain.specs.declared.Seen.{Seen}
 use Rattle.gomp_share_plain.specs.Calls.{Claims, CanLeave, claimed, left, seen_of, is_done, taken_of, was_taken}
 use Rattle.gomp_sections.specs.OwnTests.{own_copy_end_tests}
 use Rattle.gomp_types.proofs.Booleans.{same_number}
-use Rattle.gomp_types.proofs.CallTests.{kind_inside, copy_is_single}
-use Rattle.gomp_sections.proofs.Tests.{PartInLoop, claim_here, in_no_part, no_loop_copy}
+use Rattle.gomp_types.proofs.CallTests.{kind_inside, copy_single, loop_wordless}
+use Rattle.gomp_sections.proofs.Tests.{PartInLoop, claim_here, in_no_part}
 
 -- what was given is what was there before the share was entered
 pub single_least : (members m i : ℕ) (copies : Bool) (answer : Option Piece) (h : List Event) → Claims members m answer (Enter i m (single_shape copies) ∷ h) →
@@ -104,10 +104,6 @@ copy_tells true true e = (refl, refl)
 copy_tells true false e = absurd (cc)
 copy_tells false some e = absurd (cc)
 
-copy_in_single : (own : Option (ℕ × Shape)) → in_kind is_copy own ≡ true → in_kind is_single own ≡ true
-copy_in_single None e = e
-copy_in_single (Some share) e = copy_is_single share.1.kind e
-
 done_or : (drained inside some : Bool) → inside ≡ true → some ≡ true → (drained || inside && some) ≡ true
 done_or true inside some e one = refl
 done_or false inside some e one = rw (e, one) refl
@@ -119,6 +115,6 @@ copy_may_leave members m seen h lt e law none =
     record {
       member = lt;
       inside = rw e (kind_inside is_copy (open_share m h) told.0);
-      done = rw e (done_or (has_drained m h) (in_kind is_single (open_share m h)) (is_some (last_piece m h)) (copy_in_single (open_share m h) told.0) told.1);
-      apart = rw e (in_no_part is_copy m h no_loop_copy law told.0);
+      done = rw e (done_or (has_drained m h) (in_kind is_single (open_share m h)) (is_some (last_piece m h)) (copy_single (open_share m h) told.0) told.1);
+      apart = rw e (in_no_part is_copy m h loop_wordless law told.0);
     }

@@ -57,7 +57,3 @@ in_no_part is m h other law inside =
 pub no_loop_sections : (kind : ShareKind) → is_loop kind ≡ true → is_sections kind ≡ false
 no_loop_sections kinds.Sections e = absurd (cc)
 no_loop_sections _ e = refl
-
-pub no_loop_copy : (kind : ShareKind) → is_loop kind ≡ true → is_copy kind ≡ false
-no_loop_copy kinds.SingleCopy e = absurd (cc)
-no_loop_copy _ e = refl

@@ -11,7 +11,7 @@ use Rattle.gomp_types.specs.Values.{IsShape}
 use Rattle.gomp_types.specs.declared.event.Event.{Event}
 use Rattle.gomp_types.specs.Tests.{first_refusal, outcome}
 use Rattle.gomp_types.specs.Iterations.{loop_tests}
-use Rattle.gomp_types.proofs.Booleans.{and_left, and_right}
+use Rattle.gomp_types.proofs.Booleans.{and_left, and_right, and_false}
 use Rattle.gomp_types.proofs.TestRows.{outcome_refused}
 use Rattle.gomp_share_plain.specs.declared.Seen.{Seen}
 use Rattle.gomp_share_plain.specs.declared.calls.ShareCall.TheVariants.{Open, Claim, Leave, Begin, HandOn}
@@ -60,10 +60,6 @@ pub made : (members : ℕ) (step : ShareStep) (seen : Seen) (h : List Event) →
 made members step seen h e lt may =
     let team : nat_lt step.member members ≡ true = grind (arith, nat_tests) in
     rw team (rw e at may)
-
-and_false : (a b : Bool) → b ≡ false → (a && b) ≡ false
-and_false true b e = e
-and_false false b e = refl
 
 pub not_made : (members : ℕ) (step : ShareStep) (seen : Seen) (h : List Event) → seen ≡ seen_of step.member h → may_make seen step.call ≡ false → is_made members step h ≡ false
 not_made members step seen h e may = and_false (nat_lt step.member members) (may_make (seen_of step.member h) step.call) (rw e at may)

@@ -170,7 +170,7 @@ pub copy_is_single : (kind : ShareKind) → is_copy kind ≡ true → is_single 
 copy_is_single kinds.SingleCopy e = refl
 copy_is_single _ e = absurd (cc)
 
-copy_single : (own : Option (ℕ × Shape)) → in_kind is_copy own ≡ true → in_kind is_single own ≡ true
+pub copy_single : (own : Option (ℕ × Shape)) → in_kind is_copy own ≡ true → in_kind is_single own ≡ true
 copy_single None e = absurd (cc)
 copy_single (Some share) e = copy_is_single share.1.kind e
 
@@ -191,7 +191,7 @@ executor_puts_first m h e words =
     words_to_come m h (open_share m h) refl (and_left (in_kind is_copy (open_share m h)) (is_some (last_piece m h)) e) (and_right (in_kind is_copy (open_share m h)) (is_some (last_piece m h)) e) words
 
 -- a loop and a sections construct have no words
-loop_wordless : (kind : ShareKind) → is_loop kind ≡ true → is_copy kind ≡ false
+pub loop_wordless : (kind : ShareKind) → is_loop kind ≡ true → is_copy kind ≡ false
 loop_wordless kinds.SingleCopy e = absurd (cc)
 loop_wordless _ e = refl
 

@@ -414,7 +414,7 @@ pending_same k (Some RegionEnd) h after same pending = tt
 pending_same k (Some Resume) h after same pending = pending
 pending_same k (Some Stop) h after same pending = pending
 
-section_never_waits : (members m : ℕ) (own : Option (ℕ × Shape)) (h : List Event) → DealsSections members m own Wait h → ⊥
+pub section_never_waits : (members m : ℕ) (own : Option (ℕ × Shape)) (h : List Event) → DealsSections members m own Wait h → ⊥
 section_never_waits members m None h may = may
 section_never_waits members m (Some share) h may = may
 

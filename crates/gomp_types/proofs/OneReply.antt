@@ -18,6 +18,7 @@ use Rattle.gomp_types.specs.Record.{Record, events, meant, is_resume, waits_of}
 use Rattle.gomp_types.specs.Ordered.{has_turn, must_wait}
 use Rattle.gomp_types.specs.Replies.{IsChunk, DealsOut, DealsNext, BeginsPart, DealsSections, Starts, single_piece, Executes, Copies, Awaits, is_met, MayReply}
 use Rattle.gomp_types.specs.Causes.{Terms, refusal_of, MayRefuse, MayAnswer, OneReply}
+use Rattle.gomp_types.proofs.Booleans.{not_both}
 
 same_chunk : (shape : Shape) (next : Option Piece) (f g : ℤ) (c d : ℕ) → IsChunk shape next f c → IsChunk shape next g d → Chunk f c ≡ Chunk g d
 same_chunk shape None f g c d x y = absurd x
@@ -40,23 +41,20 @@ one_dealt members m (Some share) (Chunk f c) _ h x y = absurd y
 one_dealt members m (Some share) NoChunk _ h x y = absurd y
 one_dealt members m (Some share) _ b h x y = absurd x
 
-both : (b : Bool) → b ≡ true → b ≡ false → ⊥
-both b one other = cc
-
 -- a next that waits has no turn, and every other one has it, or needs none
 one_next : (members m : ℕ) (own : Option (ℕ × Shape)) (a b : Reply) (h : List Event) → DealsNext members m own a h → DealsNext members m own b h → a ≡ b
 one_next members m None a b h x y = absurd x
 one_next members m (Some share) Wait Wait h x y = refl
-one_next members m (Some share) Wait _ h x y = absurd (both (must_wait members share m h) x y.0)
-one_next members m (Some share) _ Wait h x y = absurd (both (must_wait members share m h) y x.0)
+one_next members m (Some share) Wait _ h x y = absurd (not_both (must_wait members share m h) x y.0)
+one_next members m (Some share) _ Wait h x y = absurd (not_both (must_wait members share m h) y x.0)
 one_next members m (Some share) a b h x y = one_dealt members m (Some share) a b h x.1 y.1
 
 one_part : (members m : ℕ) (own : Option (ℕ × Shape)) (a b : Reply) (h : List Event) → BeginsPart members m own a h → BeginsPart members m own b h → a ≡ b
 one_part members m None a b h x y = absurd x
 one_part members m (Some share) Finished Finished h x y = refl
 one_part members m (Some share) Wait Wait h x y = refl
-one_part members m (Some share) Finished Wait h x y = absurd (both (has_turn members share m h) x y)
-one_part members m (Some share) Wait Finished h x y = absurd (both (has_turn members share m h) y x)
+one_part members m (Some share) Finished Wait h x y = absurd (not_both (has_turn members share m h) x y)
+one_part members m (Some share) Wait Finished h x y = absurd (not_both (has_turn members share m h) y x)
 one_part members m (Some share) Finished _ h x y = absurd y
 one_part members m (Some share) Wait _ h x y = absurd y
 one_part members m (Some share) _ b h x y = absurd x
@@ -96,22 +94,22 @@ one_start deals members m shape a b h one x y =
     elim (waits_or_not deals members m shape a h x) [
       | inl p ↦ elim (waits_or_not deals members m shape b h y) [
         | inl q ↦ p.0 ∙ sym q.0
-        | inr q ↦ absurd (both (has_room members (entered m h) h) q.0 p.1)
+        | inr q ↦ absurd (not_both (has_room members (entered m h) h) q.0 p.1)
       ]
       | inr p ↦ elim (waits_or_not deals members m shape b h y) [
-        | inl q ↦ absurd (both (has_room members (entered m h) h) p.0 q.1)
+        | inl q ↦ absurd (not_both (has_room members (entered m h) h) p.0 q.1)
         | inr q ↦ one p.1 q.1
       ]
     ]
 
 one_single : (members m : ℕ) (a b : Reply) (h : List Event) → Executes members m a h → Executes members m b h → a ≡ b
 one_single members m Wait Wait h x y = refl
-one_single members m Wait (Executor true) h x y = absurd (both (has_room members (entered m h) h) y.0 x)
-one_single members m Wait (Executor false) h x y = absurd (both (has_room members (entered m h) h) y.0 x)
-one_single members m (Executor true) Wait h x y = absurd (both (has_room members (entered m h) h) x.0 y)
+one_single members m Wait (Executor true) h x y = absurd (not_both (has_room members (entered m h) h) y.0 x)
+one_single members m Wait (Executor false) h x y = absurd (not_both (has_room members (entered m h) h) y.0 x)
+one_single members m (Executor true) Wait h x y = absurd (not_both (has_room members (entered m h) h) x.0 y)
 one_single members m (Executor true) (Executor true) h x y = refl
 one_single members m (Executor true) (Executor false) h x y = absurd (not_none (single_piece members false m h) (0, 1) y.1 x.1)
-one_single members m (Executor false) Wait h x y = absurd (both (has_room members (entered m h) h) x.0 y)
+one_single members m (Executor false) Wait h x y = absurd (not_both (has_room members (entered m h) h) x.0 y)
 one_single members m (Executor false) (Executor true) h x y = absurd (not_none (single_piece members false m h) (0, 1) x.1 y.1)
 one_single members m (Executor false) (Executor false) h x y = refl
 one_single members m Wait _ h x y = absurd y
@@ -121,7 +119,7 @@ one_single members m _ b h x y = absurd x
 
 -- a wait at a single with words, against an answer that found room
 waits_no : (room : Bool) (next : Option Piece) (words : Option (List ℕ)) → ((room ≡ false) ⊎ ((next ≡ None) × (words ≡ None))) → room ≡ true → ((next ≡ None) → (words ≡ None) → ⊥) → ⊥
-waits_no room next words waits there never = elim waits [ inl full ↦ both room there full | inr rest ↦ never rest.0 rest.1 ]
+waits_no room next words waits there never = elim waits [ inl full ↦ not_both room there full | inr rest ↦ never rest.0 rest.1 ]
 
 same_words : (words : Option (List ℕ)) (p q : List ℕ) → words ≡ Some p → words ≡ Some q → Copied p ≡ Copied q
 same_words words p q x y = let e : Some p ≡ Some q = sym x ∙ y in let same : p ≡ q = cc in ap Copied same
@@ -151,8 +149,8 @@ one_copy members m _ b h x y = absurd x
 one_await : (met : Bool) (a b : Reply) → Awaits met a → Awaits met b → a ≡ b
 one_await met Passed Passed x y = refl
 one_await met Wait Wait x y = refl
-one_await met Passed Wait x y = absurd (both met x y)
-one_await met Wait Passed x y = absurd (both met y x)
+one_await met Passed Wait x y = absurd (not_both met x y)
+one_await met Wait Passed x y = absurd (not_both met y x)
 one_await met Passed _ x y = absurd y
 one_await met Wait _ x y = absurd y
 one_await met _ b x y = absurd x

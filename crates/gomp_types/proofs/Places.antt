@@ -20,6 +20,7 @@ use Rattle.gomp_types.specs.Singles.{single_shape}
 use Rattle.gomp_types.specs.Values.{iteration_at}
 use Rattle.gomp_types.specs.Events.{open_share, open_number, last_piece, turn, next_part, in_part, passed, arrival}
 use Rattle.gomp_types.specs.Record.{added, tag_with, share_left, payload_put, arrived, since_begun, arrival_kind, ends_share, piece_taken, handed_in, section_taken, part_in, part_added, pass_added, refusal_added, place_of}
+use Rattle.gomp_types.proofs.Booleans.{and_false}
 
 -- the call that puts words
 abbrev pub puts : Call → Bool
@@ -181,13 +182,9 @@ pub record SameBarriers (k : ℕ) (h after : List Event) : Type 0 where
 same_barriers : (k : ℕ) (h : List Event) → SameBarriers k h h
 same_barriers k h = record { number = refl; arrivals = λ g. refl }
 
-and_no : (a b : Bool) → b ≡ false → (a && b) ≡ false
-and_no true b e = e
-and_no false b e = refl
-
 others_arrive : (last : Bool) (k m : ℕ) (call : Call) (h : List Event) → (m == k) ≡ false → KeptBy last m call (SameBarriers k h)
 others_arrive last k m call h e (Arrive barrier n tag) after by same =
-    rw by.0 (record { number = same.number; arrivals = λ g. rw (and_no (barrier == g) (m == k) e) (same.arrivals g) })
+    rw by.0 (record { number = same.number; arrivals = λ g. rw (and_false (barrier == g) (m == k) e) (same.arrivals g) })
 others_arrive last k m call h e (Pass barrier n) after by same = rw by.0 (record { number = rw e same.number; arrivals = same.arrivals })
 others_arrive last k m call h e _ after by same = record { number = same.number; arrivals = same.arrivals }
 

@@ -262,7 +262,7 @@ call_some again members m RegionEnd h known all = await_some (is_met members aga
 call_some again members m Resume h known all = absurd known.ready
 call_some again members m Stop h known all = (Stopped, refl)
 
-not_refused : (members : ℕ) (again : Bool) (m : ℕ) (call : Call) (refusal : Refusal) (h : List Event) → MayReply members again m call (Refused refusal) h → ⊥
+pub not_refused : (members : ℕ) (again : Bool) (m : ℕ) (call : Call) (refusal : Refusal) (h : List Event) → MayReply members again m call (Refused refusal) h → ⊥
 not_refused members again m (LoopStart loop) refusal h may = may.1
 not_refused members again m LoopNext refusal h may = by_share (open_share m h) may
   where
@@ -293,7 +293,7 @@ not_refused members again m RegionEnd refusal h may = may
 not_refused members again m Resume refusal h may = may
 not_refused members again m Stop refusal h may = cc
 
-may_answer : (terms : Terms) (run : Record) (step : Step) (reply : Reply) → refusal_of terms step (waits_of step.member run).open_call (events run) ≡ None →
+pub may_answer : (terms : Terms) (run : Record) (step : Step) (reply : Reply) → refusal_of terms step (waits_of step.member run).open_call (events run) ≡ None →
     MayReply terms.members (is_resume step.call) step.member (meant step.call (waits_of step.member run).open_call) reply (events run) → MayAnswer terms run step reply
 may_answer terms run step (Refused refusal) none may =
     absurd (not_refused terms.members (is_resume step.call) step.member (meant step.call (waits_of step.member run).open_call) refusal (events run) may)

@@ -5,10 +5,7 @@ use Rattle.gomp_types.specs.Tests.{first_refusal, outcome}
 use Rattle.gomp_types.specs.Iterations.{loop_tests}
 use Rattle.gomp_types.specs.Pieces.{shape_of}
 use Rattle.gomp_chunks.proofs.tests.plan_of.Goals as goal
-
-outcome_value : {A : Type 0} (first : Option Refusal) (value found : A) → outcome first value ≡ Ok found → found ≡ value
-outcome_value None value found e = cc
-outcome_value (Some refusal) value found e = absurd (cc)
+use Rattle.gomp_types.proofs.TestRows.{outcome_value}
 
 pub of-requires-clause-shape : goal.of-requires-clause-shape
 of-requires-clause-shape c =
