@@ -1,6 +1,6 @@
 -- The places of the words that executors of singles put stand for the events that follow.
 use Rattle.std.proofs.Common.{◌≡◌, ◌≢◌, ℕ, ◌+◌, ◌*◌, ◌-◌, ◌%◌, ◌/◌, ◌<◌, Bool, true, false, List, [], ◌∷◌, Option, Some, None, length, slice_get, slice_set, replicate, refl, ap, ◌∙◌, sym, subst, arith, suc, zero, inl, inr}
-use Rattle.std.specs.Prelude.{◌==◌, ◌&&◌, is_some, if◌then◌else◌}
+use Rattle.std.specs.Prelude.{◌==◌, is_some, if◌then◌else◌}
 use Rattle.std.proofs.lemmas.Bool.{cases_Bool, cases_lt}
 use Rattle.std.proofs.lemmas.List.{length-set}
 use Rattle.std.proofs.Math.Nat.{div-add-mod}
@@ -12,10 +12,10 @@ use Rattle.gomp_types.specs.declared.reply.Reply.TheVariants.{Finished}
 use Rattle.gomp_types.specs.declared.shape.Shape.{Shape}
 use Rattle.gomp_types.specs.declared.event.Event.{Event}
 use Rattle.gomp_types.specs.declared.event.Event.TheVariants.{Enter, End, Put, Arrive, Pass, Break}
-use Rattle.gomp_types.specs.Events.{open_share, open_number, share_number, shape_at, has_ended, is_over, payload_at}
+use Rattle.gomp_types.specs.Events.{open_share, open_number, share_number, shape_at, is_over, payload_at}
 use Rattle.gomp_types.specs.Record.{added}
 use Rattle.gomp_core.specs.Answers.{IsReady}
-use Rattle.gomp_types.proofs.Booleans.{tells, is_equal, differs, same_number, or_right, not_both, some_of, every_tells, every_by}
+use Rattle.gomp_types.proofs.Booleans.{tells, is_equal, differs, same_number, not_both, some_of}
 use Rattle.gomp_types.proofs.Windows.{over_stays}
 use Rattle.gomp_types.proofs.Lists.{slice_get-set_same, slice_get-set_other}
 use Rattle.gomp_core.specs.declared.payloads.Put.{Put as Kept}

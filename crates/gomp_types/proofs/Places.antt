@@ -1,6 +1,6 @@
 -- What a call adds to the events, one event at a time: so what each of them keeps is kept. A member's place among the shares and at the barriers is left as it is by another member's call.
 use Rattle.std.proofs.Common.{◌≡◌, ℕ, ◌+◌, Bool, true, false, List, ◌∷◌, Option, Some, None, refl, inl, inr}
-use Rattle.std.specs.Prelude.{◌==◌, ◌&&◌, ℤ, zero, suc, is_some}
+use Rattle.std.specs.Prelude.{◌==◌, ℤ, zero, suc, is_some}
 use Rattle.std.proofs.lemmas.Bool.{cases_Bool}
 use Rattle.gomp_types.specs.declared.call.Call.{Call}
 use Rattle.gomp_types.specs.declared.call.Call.TheVariants.{LoopStart, LoopNext, SectionsStart, SectionsNext, SingleStart, SingleCopyStart, SingleCopyEnd, OrderedStart, OrderedEnd}

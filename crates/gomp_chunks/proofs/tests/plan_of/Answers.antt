@@ -1,7 +1,5 @@
-use Rattle.std.proofs.Common.{◌≡◌, ◌∙◌, sym, Some, None, Ok}
-use Rattle.std.specs.Prelude.{Option}
-use Rattle.gomp_types.specs.declared.refusal.Refusal.{Refusal}
-use Rattle.gomp_types.specs.Tests.{first_refusal, outcome}
+use Rattle.std.proofs.Common.{◌≡◌, ◌∙◌, sym}
+use Rattle.gomp_types.specs.Tests.{first_refusal}
 use Rattle.gomp_types.specs.Iterations.{loop_tests}
 use Rattle.gomp_types.specs.Pieces.{shape_of}
 use Rattle.gomp_chunks.proofs.tests.plan_of.Goals as goal
