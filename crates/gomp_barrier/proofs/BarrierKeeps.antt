@@ -9,16 +9,13 @@ use Rattle.gomp_types.specs.declared.event.Event.{Event}
 use Rattle.gomp_types.specs.declared.event.Event.TheVariants.{Arrive, Pass}
 use Rattle.gomp_types.specs.Events.{passed, arrival, tag_at, has_left_region, is_region_end, barrier_met}
 use Rattle.gomp_types.specs.Record.{shown}
-use Rattle.gomp_types.proofs.Booleans.{every_tells, every_by, same_number}
+use Rattle.gomp_types.proofs.Booleans.{same_number, other_number, every_tells, every_by}
 use Rattle.gomp_types.proofs.Lists.{slice_get-set}
 use Rattle.gomp_barrier.specs.declared.front.Seat.{Seat}
 use Rattle.gomp_barrier.specs.declared.front.Front.{Front}
 use Rattle.gomp_barrier.specs.Seats.{differ, is_ahead, tag_for, number_for, IsThere, arrived_at, advanced, barrier_of, SeatStands, FrontStands, SomeBehind}
 
 -- What an arrival and a pass add
-
-other_number : (a b : ℕ) → a ≢ b → (a == b) ≡ false
-other_number a b differ = elim (eqb_tells a b) [ inl e ↦ absurd (differ e.1) | inr e ↦ e.0 ]
 
 arrival_same : (g m : ℕ) (tag : Tag) (h : List Event) → arrival g m (Arrive g m tag ∷ h) ≡ Some tag
 arrival_same g m tag h = rw (same_number g, same_number m) refl

@@ -1,4 +1,3 @@
-mod Kept
 mod Words
 mod Parts
 mod Rows

@@ -20,27 +20,20 @@ use Rattle.gomp_core.specs.declared.waiting.Arriving.TheVariants.{LoopEnd as AtL
 use Rattle.gomp_core.specs.Waits.{start_call, turn_call, arrival_call, arrival_of}
 use Rattle.gomp_core.specs.Answers.{passed_after, is_at_once}
 use Rattle.gomp_types.specs.declared.call.Call.TheVariants.{LoopEnd, SectionsEnd, Barrier, RegionEnd}
-use Rattle.gomp_core.proofs.Kept.{IsOwn, puts_words, added_kept}
+use Rattle.gomp_types.proofs.Places.{ByCall, puts, added_keeps}
 
 abbrev pub KeepsAside : (Event → Type 0) → (List Event → Type 0) → Type 0
 KeepsAside IsAside P = (h : List Event) (event : Event) → IsAside event → P h → P (event ∷ h)
 
 -- The barriers do not see what a call adds that does not arrive
 
-own_aside : (m : ℕ) (event : Event) → IsOwn m event → BarriersAside event
-own_aside m (Arrive barrier n tag) own = own
-own_aside m (Pass barrier n) own = own
-own_aside m _ own = tt
+aloof_aside : (reply : Reply) (m : ℕ) (call : Call) (event : Event) → arrival_kind call ≡ None → ByCall reply m call event → BarriersAside event
+aloof_aside reply m call (Arrive barrier n tag) aloof by = absurd (let arrives = by.1 in cc)
+aloof_aside reply m call (Pass barrier n) aloof by = absurd (let arrives = by.1 in cc)
+aloof_aside reply m call _ aloof by = tt
 
 pub aloof_kept : (P : List Event → Type 0) → KeepsAside BarriersAside P → (again : Bool) (m shares : ℕ) (reply : Reply) (call : Call) (h : List Event) → arrival_kind call ≡ None → P h → P (added again m shares reply call h)
-aloof_kept P keeps again m shares reply call h aloof p =
-    added_kept P again m shares reply call h (record {
-      own = λ h event own p. keeps h event (own_aside m event own) p;
-      put = λ some h share words p. keeps h (Put share m words) tt p;
-      arrive = λ some. absurd (some aloof);
-      pass = λ some. absurd (some aloof);
-      break = λ is h place p. keeps h (Break m place) tt p;
-    }) p
+aloof_kept P keeps again m shares reply call h aloof p = added_keeps P again m shares reply call h (λ event after by p. keeps after event (aloof_aside reply m call event aloof by) p) p
 
 pub start_aloof : (what : Starting) → arrival_kind (start_call what) ≡ None
 start_aloof (Loop loop) = refl
@@ -60,17 +53,17 @@ at_once_aloof RegionEnd e = absurd (cc)
 at_once_aloof _ e = refl
 
 -- which calls put no words
-pub start_puts : (what : Starting) → puts_words (start_call what) ≡ false
+pub start_puts : (what : Starting) → puts (start_call what) ≡ false
 start_puts (Loop loop) = refl
 start_puts (Sections count end_kind) = refl
 start_puts Single = refl
 start_puts SingleCopy = refl
 
-pub turn_puts : (what : Turning) → puts_words (turn_call what) ≡ false
+pub turn_puts : (what : Turning) → puts (turn_call what) ≡ false
 turn_puts Next = refl
 turn_puts (Part value) = refl
 
-pub arrival_puts : (how : Arriving) → puts_words (arrival_call how) ≡ false
+pub arrival_puts : (how : Arriving) → puts (arrival_call how) ≡ false
 arrival_puts AtLoopEnd = refl
 arrival_puts AtSectionsEnd = refl
 arrival_puts AtBarrier = refl

@@ -32,7 +32,8 @@ use Rattle.gomp_icv.specs.Variables.{Variables}
 use Rattle.gomp_core.specs.Resolved.{resolved_step, resolved_steps, record_of}
 use Rattle.gomp_core.specs.Stands.{TeamView, IsTeamSize, MayBeRepeated, WaitStands, Stands, terms_of, members_of, standard_terms, NoneForMemory}
 use Rattle.gomp_types.proofs.Lists.{slice_get-set}
-use Rattle.gomp_core.proofs.Kept.{IsOwn, IsBreak, added_kept}
+use Rattle.gomp_types.proofs.Booleans.{other_number}
+use Rattle.gomp_types.proofs.Places.{SamePlace, same_other, KeptBy, breaks, added_keeps}
 use Rattle.gomp_core.proofs.Rows.{alone, refused_alone, compared_last, whole, ready, quiet_alone, quiet_memory, quiet_adds}
 use Rattle.gomp_types.proofs.SomeReply.{not_refused, may_answer}
 use Rattle.gomp_types.proofs.CallsKeep.{section_never_waits}
@@ -124,61 +125,6 @@ answered terms before step (Err place) small law none is =
 
 -- What another member's call leaves as it is
 
--- a member's place among the shares
-record SamePlace (k : ℕ) (h after : List Event) : Type 0 where
-  pub number : entered k after ≡ entered k h
-  pub share : open_share k after ≡ open_share k h
-  pub drained : has_drained k after ≡ has_drained k h
-  pub piece : last_piece k after ≡ last_piece k h
-  pub parts : next_part k after ≡ next_part k h
-  pub within : in_part k after ≡ in_part k h
-
--- it is where it was
-here : (k : ℕ) (h : List Event) → SamePlace k h h
-here k h = record { number = refl; share = refl; drained = refl; piece = refl; parts = refl; within = refl }
-
-own_same : (k m : ℕ) (h after : List Event) (event : Event) → k ≢ m → IsOwn m event → SamePlace k h after → SamePlace k h (event ∷ after)
-own_same k m h after (Enter share n shape) other is same = record {
-  number = rw is (at_other m k _ (entered k after) other) ∙ same.number;
-  share = rw is (at_other m k _ (open_share k after) other) ∙ same.share;
-  drained = rw is (at_other m k _ (has_drained k after) other) ∙ same.drained;
-  piece = rw is (at_other m k _ (last_piece k after) other) ∙ same.piece;
-  parts = rw is (at_other m k _ (next_part k after) other) ∙ same.parts;
-  within = rw is (at_other m k _ (in_part k after) other) ∙ same.within;
-}
-own_same k m h after (End share n) other is same = record { number = same.number; share = rw is (at_other m k _ (open_share k after) other) ∙ same.share; drained = same.drained; piece = same.piece; parts = same.parts; within = same.within }
-own_same k m h after (Take share n low high) other is same = record { number = same.number; share = same.share; drained = same.drained; piece = rw is (at_other m k _ (last_piece k after) other) ∙ same.piece; parts = same.parts; within = same.within }
-own_same k m h after (Drained share n) other is same = record {
-  number = same.number;
-  share = same.share;
-  drained = rw is (at_other m k _ (has_drained k after) other) ∙ same.drained;
-  piece = rw is (at_other m k _ (last_piece k after) other) ∙ same.piece;
-  parts = same.parts;
-  within = same.within;
-}
-own_same k m h after (Got share n words) other is same = record { number = same.number; share = same.share; drained = same.drained; piece = same.piece; parts = same.parts; within = same.within }
-own_same k m h after (HandOn share n piece) other is same = record { number = same.number; share = same.share; drained = same.drained; piece = same.piece; parts = same.parts; within = same.within }
-own_same k m h after (Part share n iteration) other is same = record {
-  number = same.number;
-  share = same.share;
-  drained = same.drained;
-  piece = same.piece;
-  parts = rw is (at_other m k _ (next_part k after) other) ∙ same.parts;
-  within = rw is (at_other m k _ (in_part k after) other) ∙ same.within;
-}
-own_same k m h after (PartEnd share n) other is same = record { number = same.number; share = same.share; drained = same.drained; piece = same.piece; parts = same.parts; within = rw is (at_other m k _ (in_part k after) other) ∙ same.within }
-own_same k m h after _ other is same = absurd is
-
-same_place : (again : Bool) (k m shares : ℕ) (reply : Reply) (call : Call) (h : List Event) → k ≢ m → SamePlace k h (added again m shares reply call h)
-same_place again k m shares reply call h other =
-    added_kept (SamePlace k h) again m shares reply call h (record {
-      own = λ after event is same. own_same k m h after event other is same;
-      put = λ some after share words same. record { number = same.number; share = same.share; drained = same.drained; piece = same.piece; parts = same.parts; within = same.within };
-      arrive = λ some after barrier tag same. record { number = same.number; share = same.share; drained = same.drained; piece = same.piece; parts = same.parts; within = same.within };
-      pass = λ some after barrier same. record { number = same.number; share = same.share; drained = same.drained; piece = same.piece; parts = same.parts; within = same.within };
-      break = λ is after place same. record { number = same.number; share = same.share; drained = same.drained; piece = same.piece; parts = same.parts; within = same.within };
-    }) (here k h)
-
 tested_kept : (limits : Limits) (k : ℕ) (waiting : Option Call) (h after : List Event) → SamePlace k h after → MayBeRepeated limits k waiting h → MayBeRepeated limits k waiting after
 tested_kept limits k None h after same tested = tt
 tested_kept limits k (Some (LoopStart loop)) h after same tested = rw (same.number, same.share) tested
@@ -192,7 +138,7 @@ tested_kept limits k (Some SectionsEndNowait) h after same tested = tested
 tested_kept limits k (Some SingleStart) h after same tested = rw (same.number, same.share) tested
 tested_kept limits k (Some SingleCopyStart) h after same tested = rw (same.number, same.share) tested
 tested_kept limits k (Some (SingleCopyEnd words)) h after same tested = tested
-tested_kept limits k (Some (OrderedStart value)) h after same tested = rw (same.share, same.within, same.piece, same.parts) tested
+tested_kept limits k (Some (OrderedStart value)) h after same tested = rw (same.share, same.within, same.piece, same.begun) tested
 tested_kept limits k (Some OrderedEnd) h after same tested = tested
 tested_kept limits k (Some Barrier) h after same tested = tt
 tested_kept limits k (Some RegionEnd) h after same tested = tt
@@ -271,29 +217,22 @@ own_wait limits members step (Refused refusal) waiting before is tested ready ma
 own_wait limits members step reply waiting before is tested ready may = record { call_is = ap (λ (w : Waits). w.open_call) (waits_own step reply before); tested = tt }
 
 -- a reply that is no refusal and no stop leaves the team as whole as it was
-own_clash : (m : ℕ) (event : Event) (h : List Event) → IsOwn m event → clash_of (event ∷ h) ≡ clash_of h
-own_clash m (Break n place) h is = absurd is
-own_clash m _ h is = refl
+whole_since : (reply : Reply) (m : ℕ) (call : Call) (h : List Event) → breaks reply ≡ false → KeptBy reply m call (λ after. clash_of after ≡ clash_of h)
+whole_since reply m call h whole (Break n place) after by same = absurd (let broken = by.1 in cc)
+whole_since reply m call h whole _ after by same = same
 
-clash_kept : (members : ℕ) (again : Bool) (m shares : ℕ) (call : Call) (reply : Reply) (h : List Event) → (IsBreak reply → ⊥) → clash_of (added again m shares reply call h) ≡ clash_of h
-clash_kept members again m shares call reply h goes =
-    added_kept (λ (after : List Event). clash_of after ≡ clash_of h) again m shares reply call h (record {
-      own = λ after event is same. own_clash m event after is ∙ same;
-      put = λ some after share words same. same;
-      arrive = λ some after barrier tag same. same;
-      pass = λ some after barrier same. same;
-      break = λ is. absurd (goes is);
-    }) refl
+clash_kept : (again : Bool) (m shares : ℕ) (call : Call) (reply : Reply) (h : List Event) → breaks reply ≡ false → clash_of (added again m shares reply call h) ≡ clash_of h
+clash_kept again m shares call reply h whole = added_keeps (λ after. clash_of after ≡ clash_of h) again m shares reply call h (whole_since reply m call h whole) refl
 
-breaks_not : (members : ℕ) (again : Bool) (m : ℕ) (call : Call) (reply : Reply) (h : List Event) → (reply ≡ Stopped → ⊥) → MayReply members again m call reply h → IsBreak reply → ⊥
-breaks_not members again m call Stopped h goes may is = goes refl
-breaks_not members again m call (Refused refusal) h goes may is = not_refused members again m call refusal h may
-breaks_not members again m call _ h goes may is = is
+breaks_not : (members : ℕ) (again : Bool) (m : ℕ) (call : Call) (reply : Reply) (h : List Event) → (reply ≡ Stopped → ⊥) → MayReply members again m call reply h → breaks reply ≡ false
+breaks_not members again m call Stopped h goes may = absurd (goes refl)
+breaks_not members again m call (Refused refusal) h goes may = absurd (not_refused members again m call refusal h may)
+breaks_not members again m call _ h goes may = refl
 
 clash_after : (members : ℕ) (again : Bool) (m : ℕ) (call : Call) (result : Result Reply Place) (broken : Option Clash) (h : List Event) → IsAnswer members again m call result h → broken ≡ clash_of h → clash_of h ≡ None →
     broken_after broken m result ≡ clash_of (added again m (entered m h) (reply_to result) call h)
 clash_after members again m call (Ok Stopped) broken h is same sound = rw sound refl
-clash_after members again m call (Ok reply) broken h is same sound = same ∙ sym (clash_kept members again m (entered m h) call reply h (breaks_not members again m call reply h (λ e. cc) is.1))
+clash_after members again m call (Ok reply) broken h is same sound = same ∙ sym (clash_kept again m (entered m h) call reply h (breaks_not members again m call reply h (λ e. cc) is.1))
 clash_after members again m call (Err place) broken h is same sound = rw (is.1, sound) refl
 
 -- what is kept of the member's wait, after its answer
@@ -304,7 +243,7 @@ wait_after : (limits : Limits) (members : ℕ) (step : Step) (result : Result Re
 wait_after limits members step (Ok reply) waiting before is tested ready answer = own_wait limits members step reply waiting before is tested ready answer.1
 wait_after limits members step (Err place) waiting before is tested ready answer = record {
   call_is = ap (λ (w : Waits). w.open_call) (waits_own step (Refused Mismatch) before) ∙ is;
-  tested = tested_kept limits step.member (open_call waiting) (events before) (events ((step, Refused Mismatch) ∷ before)) (record { number = refl; share = refl; drained = refl; piece = refl; parts = refl; within = refl }) tested;
+  tested = tested_kept limits step.member (open_call waiting) (events before) (events ((step, Refused Mismatch) ∷ before)) (record { number = refl; share = refl; drained = refl; piece = refl; begun = refl; within = refl }) tested;
 }
 
 -- A step that none of those tests refuses, and its answer
@@ -359,7 +298,7 @@ stands_answered stands members team shares barriers payloads before step waiting
         | inr e ↦ let old = st.wait k other e.1 in record {
           call_is = ap (λ (w : Waits). w.open_call) (waits_other k step (reply_to result) before e.0) ∙ old.call_is;
           tested = subst (MayBeRepeated team.limits k (open_call other)) (sym adds)
-              (tested_kept team.limits k (open_call other) (events before) _ (same_place (is_resume step.call) k step.member (entered step.member (events before)) (reply_to result) (meant step.call (open_call waiting)) (events before) e.0) old.tested);
+              (tested_kept team.limits k (open_call other) (events before) _ (same_other (is_resume step.call) k step.member (entered step.member (events before)) (reply_to result) (meant step.call (open_call waiting)) (events before) (other_number step.member k (λ same. e.0 (sym same)))) old.tested);
         }
       ];
       size = subst IsTeamSize (sym size) st.size;

@@ -20,7 +20,9 @@ use Rattle.gomp_types.proofs.Windows.{over_stays}
 use Rattle.gomp_types.proofs.Lists.{slice_get-set_same, slice_get-set_other}
 use Rattle.gomp_core.specs.declared.payloads.Put.{Put as Kept}
 use Rattle.gomp_core.specs.Payloads.{there, PayloadsStand}
-use Rattle.gomp_core.proofs.Kept.{IsOwn, puts_words, added_kept}
+use Rattle.gomp_types.proofs.Places.{puts, added_keeps}
+use Rattle.gomp_types.proofs.WordsToCome.{PutsNone}
+use Rattle.gomp_types.proofs.CallsKeep.{puts_none}
 
 -- No words
 
@@ -36,15 +38,7 @@ none_stand members places is = rw is (record {
   entered = λ i words e. cc;
 })
 
--- Any event but words
-
-abbrev IsAside : Event → Type 0
-IsAside (Put share m words) = ⊥
-IsAside _ = Unit {0}
-
-own_aside : (m : ℕ) (event : Event) → IsOwn m event → IsAside event
-own_aside m (Put share n words) own = own
-own_aside m _ own = tt
+-- Any event that puts none
 
 -- what is open was so
 open_before : (members i : ℕ) (event : Event) (h : List Event) → is_over members i (event ∷ h) ≡ false → is_over members i h ≡ false
@@ -63,11 +57,11 @@ entered_stays : (i : ℕ) (event : Event) (h : List Event) → is_some (shape_at
 entered_stays i (Enter share m shape) h e = some_either (share == i) shape (shape_at i h) e
 entered_stays i _ h e = e
 
-words_stay : (i : ℕ) (event : Event) (h : List Event) → IsAside event → payload_at i (event ∷ h) ≡ payload_at i h
+words_stay : (i : ℕ) (event : Event) (h : List Event) → PutsNone event → payload_at i (event ∷ h) ≡ payload_at i h
 words_stay i (Put share m words) h aside = absurd aside
 words_stay i _ h aside = refl
 
-pub aside_stands : (members : ℕ) (places : List (Option Kept)) (event : Event) (h : List Event) → IsAside event → PayloadsStand members places h → PayloadsStand members places (event ∷ h)
+pub aside_stands : (members : ℕ) (places : List (Option Kept)) (event : Event) (h : List Event) → PutsNone event → PayloadsStand members places h → PayloadsStand members places (event ∷ h)
 aside_stands members places event h aside st = record {
   eight = st.eight;
   words = λ i open_. st.words i (open_before members i event h open_) ∙ sym (words_stay i event h aside);
@@ -75,16 +69,10 @@ aside_stands members places event h aside st = record {
 }
 
 -- and so whatever a call that puts none adds
-pub rest_stands : (members : ℕ) (places : List (Option Kept)) (again : Bool) (m shares : ℕ) (reply : Reply) (call : Call) (h : List Event) → puts_words call ≡ false → PayloadsStand members places h →
+pub rest_stands : (members : ℕ) (places : List (Option Kept)) (again : Bool) (m shares : ℕ) (reply : Reply) (call : Call) (h : List Event) → puts call ≡ false → PayloadsStand members places h →
     PayloadsStand members places (added again m shares reply call h)
 rest_stands members places again m shares reply call h none st =
-    added_kept (PayloadsStand members places) again m shares reply call h (record {
-      own = λ h event own st. aside_stands members places event h (own_aside m event own) st;
-      put = λ some. absurd (not_both (puts_words call) some none);
-      arrive = λ some h barrier tag st. aside_stands members places (Arrive barrier m tag) h tt st;
-      pass = λ some h barrier st. aside_stands members places (Pass barrier m) h tt st;
-      break = λ is h place st. aside_stands members places (Break m place) h tt st;
-    }) st
+    added_keeps (PayloadsStand members places) again m shares reply call h (λ event after by st. aside_stands members places event after (puts_none reply m call event none by) st) st
 
 -- The share that the member is in
 

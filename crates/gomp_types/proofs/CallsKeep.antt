@@ -36,7 +36,7 @@ use Rattle.gomp_types.proofs.Dealing.{schedule_deals, shape_tiles}
 use Rattle.gomp_types.proofs.SharesKeep.{inside, drained_none}
 use Rattle.gomp_types.proofs.PartsKeep.{loop_is_loop, ordered_loop, parts_in_loop, apart_by, no_single_loop, sections_away, value_in_rest}
 use Rattle.gomp_types.proofs.CallTests.{copy_is_single, Wordless, MayStart, IsDone, Apart, Leaving, Arriving, Beginning, Tested, Pending, Fresh, tested}
-use Rattle.gomp_types.proofs.Places.{SamePlace, same_refused, ByCall, puts, ends_step, added_keeps}
+use Rattle.gomp_types.proofs.Places.{SamePlace, same_refused, ByCall, puts, added_keeps}
 use Rattle.gomp_types.proofs.WordsToCome.{WordsToCome, PutsNone, still_to_come, put_and_left}
 use Rattle.gomp_types.proofs.SinglesKeep.{single_is_done}
 use Rattle.gomp_types.proofs.CopiesKeep.{takes_below}
@@ -470,9 +470,9 @@ put_first m Resume (Some (SingleCopyEnd payload)) h pending e = absurd pending
 put_first m Resume (Some _) h pending e = absurd (cc)
 put_first m _ waiting h pending e = refl
 
-puts_none : (ends : Bool) (m : ℕ) (call : Call) (event : Event) → puts call ≡ false → ByCall ends m call event → PutsNone event
-puts_none ends m call (Put share n payload) none by = absurd (let some = by.1 in cc)
-puts_none ends m call _ none by = tt
+pub puts_none : (reply : Reply) (m : ℕ) (call : Call) (event : Event) → puts call ≡ false → ByCall reply m call event → PutsNone event
+puts_none reply m call (Put share n payload) none by = absurd (let some = by.1 in cc)
+puts_none reply m call _ none by = tt
 
 executor_left : (members m : ℕ) (payload : List ℕ) (h : List Event) (own : Option (ℕ × Shape)) → open_share m h ≡ own → in_kind is_copy own ≡ true → is_some (last_piece m h) ≡ true → Always (TeamRule members) h → WordsToCome h → WordsToCome (End (share_number own) m ∷ Put (share_number own) m payload ∷ h)
 executor_left members m payload h None at copies piece all words = absurd (cc)
@@ -486,7 +486,7 @@ call_words false members m (SingleCopyEnd payload) reply h first known may all w
     rw may (executor_left members m payload h (open_share m h) refl (and_left (in_kind is_copy (open_share m h)) (is_some (last_piece m h)) e) (and_right (in_kind is_copy (open_share m h)) (is_some (last_piece m h)) e) all words)
 call_words again members m call reply h first known may all words after =
     added_keeps (λ now. Always (TeamRule members) now → WordsToCome now) again m (entered m h) reply call h
-    (λ event now by kept rules. still_to_come members event now (puts_none (ends_step reply) m call event refl by) rules.0 rules.1 (kept rules.1)) (λ rules. words) after
+    (λ event now by kept rules. still_to_come members event now (puts_none reply m call event refl by) rules.0 rules.1 (kept rules.1)) (λ rules. words) after
 
 pub answer_words : (terms : Terms) (earlier : Record) (step : Step) (reply : Reply) → MayAnswer terms earlier step reply → Pending step.member (waits_of step.member earlier).open_call (events earlier) →
     Fresh step.member (waits_of step.member earlier).open_call (events earlier) → WordsToCome (events earlier) → Always (TeamRule terms.members) (events earlier) → Always (TeamRule terms.members) (events ((step, reply) ∷ earlier)) → WordsToCome (events ((step, reply) ∷ earlier))

@@ -23,7 +23,7 @@ use Rattle.gomp_types.specs.Rules.{Always, TeamRule}
 use Rattle.gomp_types.proofs.Booleans.{is_equal, same_number, and_left, and_right}
 use Rattle.gomp_types.proofs.CallsKeep.{passed_since}
 use Rattle.gomp_types.proofs.CallTests.{AllFail, all_fail, fail_later, has_arrived, Fresh}
-use Rattle.gomp_types.proofs.Places.{KeptBy, ends_step, added_keeps, SameBarriers, barriers_own, barriers_other}
+use Rattle.gomp_types.proofs.Places.{KeptBy, added_keeps, SameBarriers, barriers_own, barriers_other}
 
 -- a member that arrived is not ahead of its number
 none_ahead : (members m g : ℕ) (h : List Event) → Always (TeamRule members) h → passed m h < g → arrival g m h ≡ None
@@ -60,12 +60,12 @@ ahead_since false m shares (SingleCopyEnd payload) h none = none
 ahead_since false m shares call h none = ahead_begun m (ends_share call) (arrival_kind call) shares h none
 
 -- a team that is not broken was not
-whole_before : (last : Bool) (m : ℕ) (call : Call) (h : List Event) → KeptBy last m call (λ after. clash_of after ≡ None → clash_of h ≡ None)
-whole_before last m call h (Break n place) after by before = λ none. absurd (cc)
-whole_before last m call h _ after by before = before
+whole_before : (reply : Reply) (m : ℕ) (call : Call) (h : List Event) → KeptBy reply m call (λ after. clash_of after ≡ None → clash_of h ≡ None)
+whole_before reply m call h (Break n place) after by before = λ none. absurd (cc)
+whole_before reply m call h _ after by before = before
 
 was_whole : (again : Bool) (m shares : ℕ) (reply : Reply) (call : Call) (h : List Event) → clash_of (added again m shares reply call h) ≡ None → clash_of h ≡ None
-was_whole again m shares reply call h = added_keeps (λ after. clash_of after ≡ None → clash_of h ≡ None) again m shares reply call h (whole_before (ends_step reply) m call h) (λ none. none)
+was_whole again m shares reply call h = added_keeps (λ after. clash_of after ≡ None → clash_of h ≡ None) again m shares reply call h (whole_before reply m call h) (λ none. none)
 
 -- a call that is answered while a wait is open repeats it, or stops the team
 repeats : (limits : Limits) (m : ℕ) (call : Call) (waiting : Option Call) (h : List Event) → AllFail (row_of limits m call waiting h) → is_some (arrival_kind (meant call waiting)) ≡ false → (call ≡ Stop) ⊎ (has_arrived waiting ≡ false)

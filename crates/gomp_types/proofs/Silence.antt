@@ -8,7 +8,7 @@ use Rattle.gomp_types.specs.declared.refusal.Refusal.TheVariants.{BadMember, End
 use Rattle.gomp_types.specs.declared.refusal.Clash.{Clash}
 use Rattle.gomp_types.specs.Laws.{Happened, HappensUnbroken, HappensInside}
 use Rattle.gomp_types.specs.declared.reply.Reply.{Reply}
-use Rattle.gomp_types.specs.declared.reply.Reply.TheVariants.{Passed, Stopped, Refused}
+use Rattle.gomp_types.specs.declared.reply.Reply.TheVariants.{Passed, Wait, Stopped, Refused}
 use Rattle.gomp_types.specs.declared.event.Arrival.{Arrival}
 use Rattle.gomp_types.specs.declared.event.Event.{Event}
 use Rattle.gomp_types.specs.declared.event.Event.TheVariants.{Put, Arrive, Pass, Break}
@@ -19,7 +19,7 @@ use Rattle.gomp_types.specs.Record.{Record, events, meant, is_resume, waits_of, 
 use Rattle.gomp_types.specs.Refusals.{broken_tests, row_of}
 use Rattle.gomp_types.specs.Causes.{Terms, refusal_of, MayAnswer}
 use Rattle.gomp_types.specs.Rules.{Always}
-use Rattle.gomp_types.proofs.Places.{KeptBy, added_keeps, since_keeps_each}
+use Rattle.gomp_types.proofs.Places.{KeptBy, is_pass, breaks, added_keeps, since_keeps_each}
 
 -- an event in a team that is not broken, of a member that is in the region
 abbrev pub InTime : Event → List Event → Type 0
@@ -29,12 +29,12 @@ InTime event earlier = (clash_of earlier ≡ None) × (has_left_region (member_o
 abbrev SoFar : ℕ → List Event → Type 0
 SoFar m after = (clash_of after ≡ None) × (has_left_region m after ≡ false) × Always InTime after
 
-each_in_time : (m : ℕ) (call : Call) → KeptBy false m call (SoFar m)
-each_in_time m call (Pass barrier n) after by so = absurd (let last = by.2 in cc)
-each_in_time m call (Break n place) after by so = absurd (let last = by.1 in cc)
-each_in_time m call (Put share n payload) after by so = (so.0, so.1, ((so.0, rw by.0 so.1), so.2))
-each_in_time m call (Arrive barrier n tag) after by so = (so.0, so.1, ((so.0, rw by.0 so.1), so.2))
-each_in_time m call _ after by so = (so.0, so.1, ((so.0, rw by so.1), so.2))
+each_in_time : (reply : Reply) (m : ℕ) (call : Call) → is_pass reply ≡ false → breaks reply ≡ false → KeptBy reply m call (SoFar m)
+each_in_time reply m call stays whole (Pass barrier n) after by so = absurd (let passes = by.2 in cc)
+each_in_time reply m call stays whole (Break n place) after by so = absurd (let broken = by.1 in cc)
+each_in_time reply m call stays whole (Put share n payload) after by so = (so.0, so.1, ((so.0, rw by.0 so.1), so.2))
+each_in_time reply m call stays whole (Arrive barrier n tag) after by so = (so.0, so.1, ((so.0, rw by.0 so.1), so.2))
+each_in_time reply m call stays whole _ after by so = (so.0, so.1, ((so.0, rw by so.1), so.2))
 
 -- what the tests of a step show of its team, where it is answered, or breaks the team
 in_region : (bad left : Bool) (clash : Option Clash) (row : List Test) → (first_refusal ((bad, BadMember) ∷ (left, Ended) ∷ broken_tests clash ++ row) ≡ None) ⊎ (first_refusal ((bad, BadMember) ∷ (left, Ended) ∷ broken_tests clash ++ row) ≡ Some Mismatch) →
@@ -69,13 +69,13 @@ answer_in_time terms earlier step Passed may all =
     let call = meant step.call (waits_of m earlier).open_call in
     let go = goes terms earlier step (inl may.0) in
     passes_in_time m (passed m h) (arrival_kind call) (since_begun (is_resume step.call) m (entered m h) call h)
-    (since_keeps_each false (SoFar m) (is_resume step.call) m (entered m h) call h (each_in_time m call) (go.0, go.1, all))
+    (since_keeps_each Wait (SoFar m) (is_resume step.call) m (entered m h) call h (each_in_time Wait m call refl refl) (go.0, go.1, all))
 answer_in_time terms earlier step reply may all =
     let m = step.member in
     let h = events earlier in
     let call = meant step.call (waits_of m earlier).open_call in
     let go = goes terms earlier step (inl may.0) in
-    (added_keeps (SoFar m) (is_resume step.call) m (entered m h) reply call h (each_in_time m call) (go.0, go.1, all)).2
+    (added_keeps (SoFar m) (is_resume step.call) m (entered m h) reply call h (each_in_time reply m call refl refl) (go.0, go.1, all)).2
 
 -- the laws
 never_broken : (m : ℕ) (place : Place) (h : List Event) → clash_of h ≡ None → Happened (Break m place) h → ⊥
