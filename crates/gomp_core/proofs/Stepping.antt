@@ -14,10 +14,10 @@ use Rattle.gomp_types.specs.declared.refusal.Refusal.TheVariants.{Mismatch, NoMe
 use Rattle.gomp_types.specs.declared.reply.Reply.{Reply}
 use Rattle.gomp_types.specs.declared.reply.Reply.TheVariants.{Wait, Stopped, Refused}
 use Rattle.gomp_types.specs.declared.event.Event.{Event}
-use Rattle.gomp_types.specs.declared.event.Event.TheVariants.{Enter, Take, Drained, End, HandOn, Part, PartEnd, Got, Break}
+use Rattle.gomp_types.specs.declared.event.Event.TheVariants.{Break}
 use Rattle.gomp_types.specs.Limits.{standard, capped}
 use Rattle.gomp_types.specs.Tests.{first_refusal}
-use Rattle.gomp_types.specs.Events.{entered, open_share, has_drained, last_piece, next_part, in_part, clash_of}
+use Rattle.gomp_types.specs.Events.{entered, open_share, clash_of}
 use Rattle.gomp_types.specs.Record.{Record, record_after, Waits, waits_of, waits_after, events, added, meant, is_resume, since_begun}
 use Rattle.gomp_types.specs.Replies.{MayReply}
 use Rattle.gomp_types.specs.Causes.{Terms, refusal_of, MayAnswer, Caused}

@@ -11,7 +11,7 @@ use Rattle.gomp_types.specs.declared.reply.Reply.{Reply}
 use Rattle.gomp_types.specs.declared.reply.Reply.TheVariants.{Finished}
 use Rattle.gomp_types.specs.declared.shape.Shape.{Shape}
 use Rattle.gomp_types.specs.declared.event.Event.{Event}
-use Rattle.gomp_types.specs.declared.event.Event.TheVariants.{Enter, End, Put, Arrive, Pass, Break}
+use Rattle.gomp_types.specs.declared.event.Event.TheVariants.{Enter, End, Put}
 use Rattle.gomp_types.specs.Events.{open_share, open_number, share_number, shape_at, is_over, payload_at}
 use Rattle.gomp_types.specs.Record.{added}
 use Rattle.gomp_core.specs.Answers.{IsReady}
