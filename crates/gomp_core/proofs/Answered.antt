@@ -33,7 +33,7 @@ use Rattle.gomp_core.specs.Waits.{start_call, turn_call, arrival_call, arrival_o
 use Rattle.gomp_core.specs.Answers.{place_tests, comparison_tests, IsReady, IsAnswer, MayLeave, is_at_once}
 use Rattle.gomp_types.proofs.TestRows.{front_fails, alone_finds}
 
--- Tests in a row
+-- Tests that hold or not
 
 not_true : (b : Bool) → false ≡ not b → b ≡ true
 not_true true e = refl

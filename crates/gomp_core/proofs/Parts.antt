@@ -1,4 +1,4 @@
--- What a call and its reply add, seen by the part of the team that they do not concern.
+-- What a call and its reply add, seen by each part of the team: most leave it standing as it was.
 use Rattle.std.proofs.Common.{◌≡◌, ℕ, Bool, true, false, List, ◌∷◌, None, refl}
 use Rattle.gomp_types.specs.declared.call.Call.{Call}
 use Rattle.gomp_types.specs.declared.reply.Reply.{Reply}

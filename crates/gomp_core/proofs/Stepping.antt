@@ -216,7 +216,7 @@ own_wait limits members step (Refused refusal) waiting before is tested ready ma
     absurd (not_refused members (is_resume step.call) step.member (meant step.call (open_call waiting)) refusal (events before) may)
 own_wait limits members step reply waiting before is tested ready may = record { call_is = ap (λ (w : Waits). w.open_call) (waits_own step reply before); tested = tt }
 
--- a reply that is no refusal and no stop leaves the team as whole as it was
+-- a reply that breaks nothing leaves the team as whole as it was
 whole_since : (reply : Reply) (m : ℕ) (call : Call) (h : List Event) → breaks reply ≡ false → KeptBy reply m call (λ after. clash_of after ≡ clash_of h)
 whole_since reply m call h whole (Break n place) after by same = absurd (let broken = by.1 in cc)
 whole_since reply m call h whole _ after by same = same

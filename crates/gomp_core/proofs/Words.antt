@@ -38,7 +38,7 @@ none_stand members places is = rw is (record {
   entered = λ i words e. cc;
 })
 
--- Any event that puts none
+-- An event that puts none
 
 -- what is open was so
 open_before : (members i : ℕ) (event : Event) (h : List Event) → is_over members i (event ∷ h) ≡ false → is_over members i h ≡ false

@@ -190,7 +190,7 @@ impl<S: Shares> Team<S> {
         laws::headline();
     }
 
-    /// The first test of the step that holds, of all but `Mismatch`, which stands last in each row.
+    /// The first test of the step that holds, of all but `Mismatch`, which stands last where a row has it.
     fn refusal(&self, member: u16, call: &Call) -> Option<Refusal>
         ensures { (before : Record) → Stands S.stands S.members self.now before → result ≡ first_refusal (member_tests (members_of self.now) member (events before) ++ own_row self.now.limits member call.now (waits_of member before).open_call (events before)) }
     {

@@ -1,4 +1,4 @@
--- A row of tests on what a member sees, and what it sees that has just entered a share: for the crates of the calls above.
+-- What a row of tests on what is seen tells of the events, and what a member sees that has just entered a share: for the crates of the calls above.
 use Rattle.std.proofs.Common.{◌≡◌, ℕ, ◌<◌, false, List, ◌∷◌, Option, refl, ap, ◌∙◌, sym}
 use Rattle.gomp_types.specs.declared.refusal.Refusal.{Refusal}
 use Rattle.gomp_types.specs.declared.shape.Shape.{Shape}

@@ -1,5 +1,5 @@
-//! What a member is refused by what it sees of its own place, whatever the body of the shares; the
-//! crates of loops, of sections and of ordered parts have it in common.
+//! What a member's own place among the shares decides, whatever their body, and more than one crate
+//! of calls needs: refusals of loops, sections and singles, and which iterations are left of a piece.
 //!
 //! Nothing here asks the shares, so members on threads can use it with a seat of their own.
 

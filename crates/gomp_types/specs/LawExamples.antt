@@ -1,4 +1,4 @@
--- Events that never happen in a team: for each law a list, the oldest event first, that it refuses. (own)
+-- Events that never happen in a team, since the laws refuse them: each list has the oldest event first. (own)
 use Rattle.std.specs.Prelude.{ℕ, Bool, pos, List, [], ◌∷◌, true, false}
 use Rattle.gomp_types.specs.declared.loop_desc.EndKind.TheVariants.{Wait as WaitEnd}
 use Rattle.gomp_types.specs.declared.refusal.Place.TheVariants.{Stopped as AtStop}
