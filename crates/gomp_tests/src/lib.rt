@@ -1,0 +1,11 @@
+//! What no clause says, and a run shows: that calls succeed where memory is ample, at every small size, and what
+//! readers, writers and allocations that fail lead to. It stands above all other crates, so that none of these is
+//! proved twice for the sake of a test.
+#![tactic(auto)]
+
+#[cfg(test)]
+mod barriers;
+#[cfg(test)]
+mod pieces;
+#[cfg(test)]
+mod shares;

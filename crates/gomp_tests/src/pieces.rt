@@ -1,0 +1,1 @@
+//! The pieces of shares, at the limits.

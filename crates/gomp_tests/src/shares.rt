@@ -1,0 +1,1 @@
+//! The plain shares, called as a library.
