@@ -3,6 +3,7 @@ pub mod Wide
 pub mod Lists
 pub mod Booleans
 pub mod TestRows
+pub mod RefusalExamples
 pub mod Tiling
 pub mod EvenTiling
 pub mod GuidedTiling

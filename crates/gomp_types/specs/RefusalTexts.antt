@@ -1,5 +1,5 @@
 -- How a refusal is printed. (own)
-use Rattle.std.specs.Prelude.{ℕ, List, ◌++◌, codes}
+use Rattle.std.specs.Prelude.{◌≡◌, ℕ, List, ◌++◌, codes}
 use Rattle.std.specs.Fmt.{decimal}
 use Rattle.gomp_types.specs.declared.refusal.Place.{Place}
 use Rattle.gomp_types.specs.declared.refusal.Place.TheVariants.{Share, Barrier, Stopped}
@@ -71,3 +71,7 @@ clash_text clash = decimal clash.member ++ codes " " ++ place_text clash.place
 abbrev pub text_of : Refusal → List ℕ
 text_of (Broken clash) = codes "E3 Broken " ++ clash_text clash
 text_of refusal = codes "E" ++ decimal (number_of refusal) ++ codes " " ++ name_of refusal
+
+-- a refusal's number, name and text
+abbrev pub Prints : Refusal → ℕ → List ℕ → List ℕ → Type 0
+Prints refusal number name text = (number_of refusal ≡ number) × (name_of refusal ≡ name) × (text_of refusal ≡ text)
