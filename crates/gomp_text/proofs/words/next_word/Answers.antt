@@ -25,3 +25,9 @@ returns-in-None-clause-words c =
     let front : c.cut.result.0.now ≡ (cut 32 (past_spaces c.args.line.now)).0 = rw c.past_spaces-line.ensures at c.cut.ensures.before in
     let after : (cut 32 (past_spaces c.args.line.now)).1 ≡ None = sym (rw c.past_spaces-line.ensures at c.cut.ensures.after) ∙ ap option_copied c.in-None.is in
     sym (words_past c.args.line.now) ∙ words_last (past_spaces c.args.line.now) begun after ∙ ap (λ (word : List ℕ). word ∷ words_of []) (sym front)
+
+pub returns-in-Some-clause-rest : goal.returns-in-Some-clause-rest
+returns-in-Some-clause-rest c = search rules
+
+pub returns-in-None-clause-rest : goal.returns-in-None-clause-rest
+returns-in-None-clause-rest c = search rules
