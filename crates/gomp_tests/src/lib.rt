@@ -6,6 +6,10 @@
 #[cfg(test)]
 mod barriers;
 #[cfg(test)]
+mod names;
+#[cfg(test)]
 mod pieces;
+#[cfg(test)]
+mod refusals;
 #[cfg(test)]
 mod shares;

@@ -14,7 +14,7 @@ loop-name-preserved c =
     let all = rw here at c.loop-name.invariant in
     elim c.match-setting_of.branch [
       | in-Some w ↦ rw (w.icv-is, w.ignored-is, w.with-icv.ensures) (rw w.in-Some.is at all)
-      | in-None+in_ok-new-in-None+in_ok-push-in-None w ↦ rw (w.icv-is, w.ignored-is, w.in_ok-push-in-None.ensures.items, w.in_ok-new-in-None.ensures) (sym (one_ignored c.loop-name.ignored.items (get_or words i none).0.now c.loop-name.icv (read_after (map (λ word. (word.0.now, word.1.now)) (drop (i + 1) words)))) ∙ rw w.in-None.is at all)
+      | in-None+in_ok-new-in-None+in_ok-push-in-None w ↦ rw (w.icv-is, w.ignored-is, w.in_ok-push-in-None.ensures.items, w.in_ok-new-in-None.ensures.name) (sym (one_ignored c.loop-name.ignored.items (get_or words i none).0.now c.loop-name.icv (read_after (map (λ word. (word.0.now, word.1.now)) (drop (i + 1) words)))) ∙ rw w.in-None.is at all)
     ]
 
 pub returns : goal.returns

@@ -1,0 +1,25 @@
+//! A name of any length is made where memory is ample, and is the text that it was made of: a contract
+//! allows want of memory, and cannot say that it is not feigned.
+
+use gomp_types::Name;
+use std::test::Fail;
+
+#[test]
+fn names_of_every_size(rt: HostRuntime) -> Result<(), Fail> {
+    let alloc = rt.alloc();
+    for size in [0u32, 1, 255, 256, 65_535, 65_536, 100_000] {
+        let mut text = String::new(alloc);
+        for at in 0..size {
+            text.push(if at % 251 == 0 { '_' } else { 'n' })?;
+        }
+        let name = Name::new(alloc, &text)?;
+        assert_eq!(rt; name.as_str().len(), size as usize);
+        assert_eq!(rt; name.as_str(), text.as_str());
+        assert_eq!(rt;
+            name.to_string(alloc)?.as_str(),
+            text.as_str(),
+            "{size} bytes"
+        );
+    }
+    Ok(())
+}
