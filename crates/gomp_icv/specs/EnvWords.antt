@@ -1,6 +1,7 @@
 -- The words of the environment, each a name and a value. OpenMP API 5.2, chapter 21.
-use Rattle.std.specs.Prelude.{ℕ, ◌≤◌, if◌then◌else◌, List, [], ◌∷◌, Option, Some, None, codes}
+use Rattle.std.specs.Prelude.{ℕ, ◌≤◌, if◌then◌else◌, List, [], ◌∷◌, map, Option, Some, None, codes}
 use Rattle.std.specs.Option.{option_map}
+use Rattle.std.specs.Borrow.{Bor}
 use Rattle.gomp_types.specs.declared.refusal.Refusal.{Refusal}
 use Rattle.gomp_types.specs.declared.refusal.Refusal.TheVariants.{BadEnv}
 use Rattle.gomp_text.specs.Words.{same_word}
@@ -66,6 +67,10 @@ before name None icv later = ((later icv).0, BadEnv name ∷ (later icv).1)
 abbrev pub read_after : List (List ℕ × List ℕ) → Variables → Variables × List Refusal
 read_after [] icv = (icv, [])
 read_after ((name, value) ∷ words) icv = before name (setting_of name value) icv (read_after words)
+
+-- the names and the values that words refer to
+abbrev pub pairs : List (Bor (List ℕ) × Bor (List ℕ)) → List (List ℕ × List ℕ)
+pairs words = map (λ word. (word.0.now, word.1.now)) words
 
 -- what the words of the environment give
 abbrev pub read_env : List (List ℕ × List ℕ) → Variables × List Refusal

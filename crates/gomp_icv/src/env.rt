@@ -2,8 +2,8 @@
 //!
 //! OpenMP API 5.2, chapter 21.
 
-ghost use Rattle.std.specs.Prelude.{◌≡◌, IfOk, IfSome, map};
-ghost use Rattle.gomp_icv.specs.EnvWords.{IsSetting, variable_of, value_for, setting_of, read_env};
+ghost use Rattle.std.specs.Prelude.{◌≡◌, [], IfOk, IfSome, IsOk};
+ghost use Rattle.gomp_icv.specs.EnvWords.{IsSetting, variable_of, value_for, setting_of, read_env, pairs};
 
 use crate::icv::Icv;
 use crate::num_threads::NumThreads;
@@ -50,9 +50,10 @@ pub enum Setting {
 /// A word is ignored, with `BadEnv` (E41), where its name is that of no variable that is read or its
 /// value is bad; the case of a name counts. Of two good values of a variable the last counts.
 ///
-/// The error is want of memory.
+/// The error is want of memory. Only an ignored word takes memory.
 pub fn read_env(alloc: Global, words: &[(&str, &str)]) -> Result<(Icv, Vec<Refusal>), AllocError>
-    ensures { IfOk result (λ read. (read.0, read.1.items) ≡ read_env (map (λ word. (word.0.now, word.1.now)) words.now)) }
+    ensures value { IfOk result (λ read. (read.0, read.1.items) ≡ read_env (pairs words.now)) }
+    ensures none_ignored { (read_env (pairs words.now)).1 ≡ [] → IsOk result }
 {
     let mut icv = Icv::initial();
     let mut ignored = Vec::new(alloc);

@@ -1,12 +1,12 @@
 -- Texts, line by line.
-use Rattle.std.proofs.Common.{◌≡◌, ℕ, ◌<◌, suc, List, [], ◌∷◌, ◌++◌, Option, Some, None, Result, Ok, Err, length, Bor, refl, ap, ◌∙◌, sym, append_assoc, arith}
-use Rattle.std.specs.Prelude.{IfSome, option_copied}
+use Rattle.std.proofs.Common.{◌≡◌, ◌≢◌, ℕ, ◌<◌, suc, List, [], ◌∷◌, ◌++◌, Option, Some, None, Result, Ok, Err, length, Bor, refl, ap, ◌∙◌, sym, append_assoc, arith}
+use Rattle.std.specs.Prelude.{IfSome, IsSome, option_copied}
 use Rattle.gomp_types.specs.declared.call.Step.{Step}
 use Rattle.gomp_script.specs.declared.parse.BadLine.{BadLine}
 use Rattle.gomp_script.specs.declared.parse.ParseError.{ParseError}
 use Rattle.gomp_script.specs.declared.parse.ParseError.TheVariants.{Memory, Bad}
 use Rattle.gomp_text.specs.Words.{lines_of}
-use Rattle.gomp_script.specs.StepText.{lines_left, with_front, step_line, kept, with_team, Fails}
+use Rattle.gomp_script.specs.StepText.{lines_left, with_front, step_line, kept, with_team, Fails, HasStep, TeamHasStep, refused_by}
 
 -- how much is left
 abbrev pub left : Option (List ℕ) → ℕ
@@ -39,3 +39,31 @@ lines_here text line before rest is parts = ap lines_left is ∙ parts
 pub gives_team : (count : ℕ) (error : ParseError) (read : Result (List Step) BadLine) → Fails error read → Fails error (with_team count read)
 gives_team count Memory read given = tt
 gives_team count (Bad bad) read given = ap (with_team count) given
+
+-- where the steps behind the team's line take memory, the text has a step
+pub team_has_step : (count : ℕ) (read : Result (List Step) BadLine) → HasStep read → TeamHasStep (with_team count read)
+team_has_step count (Ok steps) some = some
+team_has_step count (Err bad) some = some
+
+-- a list with a step in it
+not_none : (steps : List Step) (step : Step) (later : List Step) → steps ++ step ∷ later ≢ []
+not_none [] step later same = absurd (cc)
+not_none (first ∷ steps) step later same = absurd (cc)
+
+-- once memory was refused for a step, the first bad line of the lines behind it is the text's
+pub fault_behind : (steps : List Step) (number : ℕ) (said : Option Step) (later : Result (List Step) BadLine) → IsSome said → Fails (refused_by later) (with_fronts steps (step_line number (Ok said) later))
+fault_behind steps number None later some = absurd (cc)
+fault_behind steps number (Some step) (Ok later) some = tt
+fault_behind steps number (Some step) (Err bad) some = refl
+
+-- and where none of them is bad, there is that step
+pub step_refused : (steps : List Step) (number : ℕ) (said : Option Step) (later : Result (List Step) BadLine) → IsSome said → refused_by later ≡ Memory → HasStep (with_fronts steps (step_line number (Ok said) later))
+step_refused steps number None later some memory = absurd (cc)
+step_refused steps number (Some step) (Ok later) some memory = not_none steps step later
+step_refused steps number (Some step) (Err bad) some memory = absurd (cc)
+
+-- a line that is no fault changes nothing once memory was refused
+pub no_fault_here : (number : ℕ) (said : Option Step) (later : Result (List Step) BadLine) → refused_by (step_line number (Ok said) later) ≡ refused_by later
+no_fault_here number None later = refl
+no_fault_here number (Some step) (Ok later) = refl
+no_fault_here number (Some step) (Err bad) = refl

@@ -1,5 +1,5 @@
 -- The text of steps: a line `team N`, and then a line `MEMBER CALL` for each step. (own)
-use Rattle.std.specs.Prelude.{ℕ, ℤ, ◌≡◌, ◌+◌, ◌++◌, ◌==◌, Bool, true, false, if◌then◌else◌, List, [], ◌∷◌, take, drop, Option, Some, None, Result, Ok, Err, codes}
+use Rattle.std.specs.Prelude.{ℕ, ℤ, ◌≡◌, ◌≢◌, ◌+◌, ◌++◌, ◌==◌, Bool, true, false, if◌then◌else◌, List, [], ◌∷◌, take, drop, Option, Some, None, Result, Ok, Err, codes}
 use Rattle.gomp_types.specs.declared.call.Call.{Call}
 use Rattle.gomp_types.specs.declared.call.Call.TheVariants.{LoopStart, LoopNext, LoopEnd, LoopEndNowait, SectionsStart, SectionsNext, SectionsEnd, SectionsEndNowait, SingleStart, SingleCopyStart, SingleCopyEnd, OrderedStart, OrderedEnd, Barrier, RegionEnd, Resume, Stop}
 use Rattle.gomp_types.specs.declared.call.Step.{Step}
@@ -255,20 +255,6 @@ text_from number (line ∷ lines) = team_line number (read_line team_of line) (t
 abbrev pub steps_of : List ℕ → Result (ℕ × List Step) BadLine
 steps_of text = text_from 1 (lines_of text)
 
-abbrev pub size_line : ℕ → Result (Option ℕ) Why → Result ℕ BadLine → Result ℕ BadLine
-size_line number (Err why) later = bad_line number why
-size_line number (Ok None) later = later
-size_line number (Ok (Some count)) later = Ok count
-
--- the size of the team by the lines from this one on, or the first bad one up to the team's
-abbrev pub team_from : ℕ → List (List ℕ) → Result ℕ BadLine
-team_from number [] = bad_line 1 FirstLine
-team_from number (line ∷ lines) = size_line number (read_line team_of line) (team_from (shown (number + 1)) lines)
-
--- the size of the team, or the first bad line up to the team's
-abbrev pub team_size : List ℕ → Result ℕ BadLine
-team_size text = team_from 1 (lines_of text)
-
 -- What a function gives that may find no memory
 
 -- an error is that of the reading, or want of memory
@@ -281,9 +267,28 @@ abbrev pub Gives : {X Y : Type 0} → (X → Y) → Result X ParseError → Resu
 Gives view (Ok value) read = read ≡ Ok (view value)
 Gives view (Err error) read = Fails error read
 
+-- there is a step, and no bad line: only then does a list of steps take memory
+abbrev pub HasStep : Result (List Step) BadLine → Type 0
+HasStep (Ok steps) = steps ≢ []
+HasStep (Err bad) = ⊥
+
+-- the same of a text
+abbrev pub TeamHasStep : Result (ℕ × List Step) BadLine → Type 0
+TeamHasStep (Ok found) = found.1 ≢ []
+TeamHasStep (Err bad) = ⊥
+
+-- the error once memory was refused: the first bad line of those that are left, if one is bad
+abbrev pub refused_by : Result (List Step) BadLine → ParseError
+refused_by (Ok steps) = Memory
+refused_by (Err bad) = Bad bad
+
 -- the lines of what is left of a text
 abbrev pub lines_left : Option (List ℕ) → List (List ℕ)
 lines_left text = parts_left 10 text
+
+-- the steps of what is left of a text, by the number of its first line
+abbrev pub steps_left : ℕ → Option (List ℕ) → Result (List Step) BadLine
+steps_left number text = steps_from number (lines_left text)
 
 -- the steps so far, with what a line said
 abbrev pub kept : List Step → Option Step → List Step

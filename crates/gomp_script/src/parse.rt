@@ -1,10 +1,10 @@
 //! From a text of steps to the size of the team and the steps.
 
-ghost use Rattle.std.specs.Prelude.{◌≡◌, ℕ, List, Ok, Err, Option, Some, None, [], ◌∷◌, option_copied, MatchResult, OnOk, IfErr};
+ghost use Rattle.std.specs.Prelude.{◌≡◌, ◌≤◌, Ok, Err, [], ◌∷◌, option_copied, vec_len, vec_capacity, MatchResult, OnOk, OnErr, IfErr, IsSome, IsErrOf};
 ghost use Rattle.std.specs.Option.{option_map_or};
 ghost use Rattle.gomp_text.specs.Words.{words_of};
-ghost use Rattle.gomp_script.specs.declared.parse.ParseError.TheVariants.{Bad};
-ghost use Rattle.gomp_script.specs.StepText.{call_step, step_of, team_of, team_size, read_line, line_words, steps_from, steps_of, lines_left, kept, begins_comment, Gives};
+ghost use Rattle.gomp_script.specs.declared.parse.ParseError.TheVariants.{Memory};
+ghost use Rattle.gomp_script.specs.StepText.{call_step, step_of, team_of, read_line, line_words, steps_left, steps_of, kept, begins_comment, Gives, HasStep, TeamHasStep, refused_by};
 
 mod loops;
 mod ordered;
@@ -81,11 +81,11 @@ impl<T: Drop> From<AllocFailed<T>> for ParseError {
 /// The size of the team that a text asks for, and its steps. The size is the number that stands
 /// there, 0 to 2^32 - 1: whether a team may have it is not asked here.
 ///
-/// The error is the first bad line, with the first of its faults, or want of memory. Up to the team's
-/// line nothing takes memory: a bad line there is told whatever memory does.
+/// The error is the first bad line, with the first of its faults, whatever memory does; or want of
+/// memory, but only for a text that has a step and no bad line.
 pub fn parse_steps(alloc: Global, text: &[u8]) -> Result<(u32, Vec<Step>), ParseError>
     ensures steps { Gives (λ found. (found.0, found.1.items)) result (steps_of text.now) }
-    ensures team { IfErr (team_size text.now) (λ bad. result ≡ Err (Bad bad)) }
+    ensures memory { IsErrOf result Memory → TeamHasStep (steps_of text.now) }
 {
     let mut rest = Some(text);
     let mut number: u64 = 1;
@@ -111,8 +111,12 @@ pub fn parse_steps(alloc: Global, text: &[u8]) -> Result<(u32, Vec<Step>), Parse
 }
 
 /// The steps of these lines, of which the first has this number.
+///
+/// Where memory is refused, the lines that are left are read without keeping their steps: a bad one
+/// comes before want of memory.
 fn parse_lines(alloc: Global, lines: Option<&[u8]>, first: u64) -> Result<Vec<Step>, ParseError>
-    ensures { Gives (λ steps. steps.items) result (steps_from first (lines_left (option_copied lines.entry))) }
+    ensures steps { Gives (λ steps. steps.items) result (steps_left first (option_copied lines.entry)) }
+    ensures memory { IsErrOf result Memory → HasStep (steps_left first (option_copied lines.entry)) }
 {
     let mut steps = Vec::new(alloc);
     let mut rest = lines;
@@ -123,16 +127,37 @@ fn parse_lines(alloc: Global, lines: Option<&[u8]>, first: u64) -> Result<Vec<St
             Ok(said) => said,
             Err(why) => return Err(ParseError::Bad(BadLine { line: number, why })),
         };
-        keep(&mut steps, said)?;
         rest = after;
         number = number.saturating_add(1);
+        if keep(&mut steps, said).is_err() {
+            return Err(first_fault(rest, number));
+        }
     }
     Ok(steps)
 }
 
-/// Keeps what a line said.
+/// The first bad line of these, of which the first has this number; want of memory if none is bad.
+fn first_fault(lines: Option<&[u8]>, first: u64) -> ParseError
+    ensures { result ≡ refused_by (steps_left first (option_copied lines.entry)) }
+{
+    let mut rest = lines;
+    let mut number = first;
+    while let Some(lines) = rest {
+        let (line, after) = cut(lines, b'\n');
+        if let Err(why) = read_step(line) {
+            return ParseError::Bad(BadLine { line: number, why });
+        }
+        rest = after;
+        number = number.saturating_add(1);
+    }
+    ParseError::Memory
+}
+
+/// Keeps what a line said. Only a step takes memory, and only where the list is full.
 fn keep(steps: &mut Vec<Step>, said: Option<Step>) -> Result<(), AllocError>
-    ensures { OnOk result (steps.new.items ≡ kept steps.old.items said) }
+    ensures kept { OnOk result (steps.new.items ≡ kept steps.old.items said) }
+    ensures step { OnErr result (IsSome said) }
+    ensures full { OnErr result (vec_capacity steps.old ≤ vec_len steps.old) }
 {
     match said {
         Some(step) => Ok(steps.push(step)?),

@@ -17,5 +17,5 @@ loop-name-preserved c =
       | in-None+in_ok-new-in-None+in_ok-push-in-None w ↦ rw (w.icv-is, w.ignored-is, w.in_ok-push-in-None.ensures.items, w.in_ok-new-in-None.ensures.name) (sym (one_ignored c.loop-name.ignored.items (get_or words i none).0.now c.loop-name.icv (read_after (map (λ word. (word.0.now, word.1.now)) (drop (i + 1) words)))) ∙ rw w.in-None.is at all)
     ]
 
-pub returns : goal.returns
-returns c = sym (all_words (λ word. (word.0.now, word.1.now)) c.args.words.now c.loop-name.name-index c.loop-name.icv c.loop-name.ignored.items c.loop-name-test.false) ∙ c.loop-name.invariant
+pub returns-clause-value : goal.returns-clause-value
+returns-clause-value c = sym (all_words (λ word. (word.0.now, word.1.now)) c.args.words.now c.loop-name.name-index c.loop-name.icv c.loop-name.ignored.items c.loop-name-test.false) ∙ c.loop-name.invariant

@@ -1,22 +1,15 @@
-use Rattle.std.proofs.Common.{◌≡◌, ◌+◌, ◌∙◌, Some, Ok, refl, ap, sym, length}
+use Rattle.std.proofs.Common.{◌≡◌, ◌+◌, ◌∙◌, Some, Ok, ap, sym, length}
 use Rattle.std.specs.Prelude.{option_copied}
 use Rattle.gomp_types.specs.Record.{shown}
-use Rattle.gomp_script.specs.StepText.{steps_from, lines_left}
-use Rattle.gomp_script.proofs.TextLemmas.{left_less, lines_here, gives_team}
+use Rattle.gomp_script.specs.StepText.{steps_left}
+use Rattle.gomp_script.proofs.TextLemmas.{left_less, lines_here, gives_team, team_has_step}
 use Rattle.gomp_script.proofs.parse.parse_steps.Goals as goal
 
 pub returns-in-Err-clause-steps : goal.returns-in-Err-clause-steps
 returns-in-Err-clause-steps c =
     let here = lines_here c.in-Some.lines.now c.cut.result.0.now (option_copied c.loop-rest.rest) (option_copied c.cut.result.1) (ap option_copied c.in-Some.is) c.cut.ensures.parts in
     let fault = sym c.read_team.ensures ∙ c.in-Err.is in
-    sym (rw (here, fault) at c.loop-rest.invariant.0)
-
-pub returns-in-Err-clause-team : goal.returns-in-Err-clause-team
-returns-in-Err-clause-team c =
-    let here = lines_here c.in-Some.lines.now c.cut.result.0.now (option_copied c.loop-rest.rest) (option_copied c.cut.result.1) (ap option_copied c.in-Some.is) c.cut.ensures.parts in
-    let fault = sym c.read_team.ensures ∙ c.in-Err.is in
-    let found = rw (here, fault) at c.loop-rest.invariant.1 in
-    rw (← found) refl
+    sym (rw (here, fault) at c.loop-rest.invariant)
 
 pub loop-rest-smaller : goal.loop-rest-smaller
 loop-rest-smaller c =
@@ -27,34 +20,29 @@ pub loop-rest-preserved : goal.loop-rest-preserved
 loop-rest-preserved c =
     let here = lines_here c.in-Some.lines.now c.cut.result.0.now (option_copied c.loop-rest.rest) (option_copied c.cut.result.1) (ap option_copied c.in-Some.is) c.cut.ensures.parts in
     let told = sym c.read_team.ensures ∙ c.in-Ok.is ∙ ap Ok c.in_default-said.is in
-    rw c.saturating_add-number.ensures (rw (here, told) at c.loop-rest.invariant.0, rw (here, told) at c.loop-rest.invariant.1)
+    rw c.saturating_add-number.ensures (rw (here, told) at c.loop-rest.invariant)
 
 pub returns-in-Ok-parse_lines-clause-steps : goal.returns-in-Ok-parse_lines-clause-steps
 returns-in-Ok-parse_lines-clause-steps c =
     let number = c.loop-rest.number in
     let here = lines_here c.in-Some.lines.now c.cut.result.0.now (option_copied c.loop-rest.rest) (option_copied c.cut.result.1) (ap option_copied c.in-Some.is) c.cut.ensures.parts in
     let told = sym c.read_team.ensures ∙ c.in-Ok.is ∙ ap Ok c.in-Some-said.is in
-    let read : steps_from (shown (number + 1)) (lines_left (option_copied c.cut.result.1)) ≡ Ok c.in-Ok-parse_lines.steps.items = rw c.saturating_add-number.ensures at c.in-Ok-parse_lines.ensures in
-    sym (rw (here, told, read) at c.loop-rest.invariant.0)
+    let read : steps_left (shown (number + 1)) (option_copied c.cut.result.1) ≡ Ok c.in-Ok-parse_lines.steps.items = rw c.saturating_add-number.ensures at c.in-Ok-parse_lines.ensures.steps in
+    sym (rw (here, told, read) at c.loop-rest.invariant)
 
 pub returns-in-Err-parse_lines-clause-steps : goal.returns-in-Err-parse_lines-clause-steps
 returns-in-Err-parse_lines-clause-steps c =
     let number = c.loop-rest.number in
     let here = lines_here c.in-Some.lines.now c.cut.result.0.now (option_copied c.loop-rest.rest) (option_copied c.cut.result.1) (ap option_copied c.in-Some.is) c.cut.ensures.parts in
     let told = sym c.read_team.ensures ∙ c.in-Ok.is ∙ ap Ok c.in-Some-said.is in
-    let all = rw (here, told) at c.loop-rest.invariant.0 in
-    rw (← all) (gives_team c.in-Some-said.count c.in-Err-parse_lines.error (steps_from (shown (number + 1)) (lines_left (option_copied c.cut.result.1))) (rw c.saturating_add-number.ensures at c.in-Err-parse_lines.ensures))
+    let all = rw (here, told) at c.loop-rest.invariant in
+    rw (← all) (gives_team c.in-Some-said.count c.in-Err-parse_lines.error (steps_left (shown (number + 1)) (option_copied c.cut.result.1)) (rw c.saturating_add-number.ensures at c.in-Err-parse_lines.ensures.steps))
 
-pub returns-in-Ok-parse_lines-clause-team : goal.returns-in-Ok-parse_lines-clause-team
-returns-in-Ok-parse_lines-clause-team c =
+pub returns-in-Err-parse_lines-clause-memory : goal.returns-in-Err-parse_lines-clause-memory
+returns-in-Err-parse_lines-clause-memory c =
+    let number = c.loop-rest.number in
     let here = lines_here c.in-Some.lines.now c.cut.result.0.now (option_copied c.loop-rest.rest) (option_copied c.cut.result.1) (ap option_copied c.in-Some.is) c.cut.ensures.parts in
     let told = sym c.read_team.ensures ∙ c.in-Ok.is ∙ ap Ok c.in-Some-said.is in
-    let found = rw (here, told) at c.loop-rest.invariant.1 in
-    rw (← found) tt
-
-pub returns-in-Err-parse_lines-clause-team : goal.returns-in-Err-parse_lines-clause-team
-returns-in-Err-parse_lines-clause-team c =
-    let here = lines_here c.in-Some.lines.now c.cut.result.0.now (option_copied c.loop-rest.rest) (option_copied c.cut.result.1) (ap option_copied c.in-Some.is) c.cut.ensures.parts in
-    let told = sym c.read_team.ensures ∙ c.in-Ok.is ∙ ap Ok c.in-Some-said.is in
-    let found = rw (here, told) at c.loop-rest.invariant.1 in
-    rw (← found) tt
+    let all = rw (here, told) at c.loop-rest.invariant in
+    let memory = rw c.saturating_add-number.ensures at c.in-Err-parse_lines.ensures.memory in
+    λ refused. rw (← all) (team_has_step c.in-Some-said.count (steps_left (shown (number + 1)) (option_copied c.cut.result.1)) (memory (cc)))
