@@ -1,2 +1,5 @@
 mod EnvWordLemmas
 mod Sizes
+pub mod ValueExamples
+pub mod TeamExamples
+pub mod WordExamples

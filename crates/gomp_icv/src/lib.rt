@@ -3,16 +3,13 @@
 //!
 //! OpenMP API 5.2, chapters 2 and 21, and section 10.1.1. `Variables.antt` says what the variables
 //! are, `Teams.antt` what size they give a team and what its members get, `EnvValues.antt` and
-//! `EnvWords.antt` what the words of the environment mean; `examples` has worked values.
+//! `EnvWords.antt` what the words of the environment mean; the examples of `proofs/` compute them.
 #![tactic(auto)]
 
 mod env;
-pub mod examples;
 mod icv;
 mod num_threads;
 mod teams;
-#[cfg(test)]
-mod tests;
 mod values;
 
 pub use env::read_env;
