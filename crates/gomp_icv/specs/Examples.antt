@@ -59,19 +59,19 @@ each_ignored count name = replicate count (initial, BadEnv name ∷ [])
 -- words of all variables, good and bad ones
 abbrev pub several : List (List ℕ × List ℕ)
 several =
-  (codes "OMP_NUM_THREADS", codes "3")
-  ∷ (codes "OMP_OTHER", codes "1")
-  ∷ (codes "OMP_NUM_THREADS", codes "4,2")
-  ∷ (codes "OMP_THREAD_LIMIT", codes "8")
-  ∷ (codes "OMP_THREAD_LIMIT", codes "0")
-  ∷ (codes "OMP_SCHEDULE", codes "auto,x")
-  ∷ (codes "OMP_SCHEDULE", codes "guided,7")
-  ∷ (codes "OMP_DYNAMIC", codes "true")
-  ∷ (codes "OMP_DYNAMIC", codes "false")
-  ∷ (codes "OMP_CANCELLATION", codes "true")
-  ∷ (codes "omp_cancellation", codes "false")
-  ∷ (codes "OMP_MAX_ACTIVE_LEVELS", codes "5")
-  ∷ []
+    (codes "OMP_NUM_THREADS", codes "3")
+    ∷ (codes "OMP_OTHER", codes "1")
+    ∷ (codes "OMP_NUM_THREADS", codes "4,2")
+    ∷ (codes "OMP_THREAD_LIMIT", codes "8")
+    ∷ (codes "OMP_THREAD_LIMIT", codes "0")
+    ∷ (codes "OMP_SCHEDULE", codes "auto,x")
+    ∷ (codes "OMP_SCHEDULE", codes "guided,7")
+    ∷ (codes "OMP_DYNAMIC", codes "true")
+    ∷ (codes "OMP_DYNAMIC", codes "false")
+    ∷ (codes "OMP_CANCELLATION", codes "true")
+    ∷ (codes "omp_cancellation", codes "false")
+    ∷ (codes "OMP_MAX_ACTIVE_LEVELS", codes "5")
+    ∷ []
 
 -- what the good ones among them set
 abbrev pub several_set : Variables

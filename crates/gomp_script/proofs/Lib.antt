@@ -1,2 +1,5 @@
 mod TextLemmas
 mod PayloadLemmas
+pub mod LineExamples
+pub mod TextExamples
+pub mod PrintExamples

@@ -1,2 +1,3 @@
 pub mod StepText
 pub mod Printing
+pub mod Examples

@@ -13,3 +13,7 @@ mod pieces;
 mod refusals;
 #[cfg(test)]
 mod shares;
+#[cfg(test)]
+mod texts;
+#[cfg(test)]
+mod variables;

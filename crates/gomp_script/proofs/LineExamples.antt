@@ -1,0 +1,174 @@
+-- What the lines of a text say, computed: each word, each number at its ends, each fault and which comes first. (own)
+use Rattle.std.proofs.Common.{◌≡◌, pos, negsuc, true, false, [], ◌∷◌, ◌++◌, Some, None, Ok, Err, codes, refl}
+use Rattle.std.specs.Prelude.{map, replicate}
+use Rattle.gomp_types.specs.declared.call.Call.TheVariants.{LoopStart, LoopNext, LoopEnd, LoopEndNowait, SectionsStart, SectionsNext, SectionsEnd, SectionsEndNowait, SingleStart, SingleCopyStart, SingleCopyEnd, OrderedStart, OrderedEnd, Barrier, RegionEnd, Resume, Stop}
+use Rattle.gomp_types.specs.declared.loop_desc.EndKind.TheVariants.{Wait, Nowait}
+use Rattle.gomp_types.specs.declared.loop_desc.Sched.TheVariants.{Static, Dynamic, Guided, Runtime}
+use Rattle.gomp_script.specs.declared.parse.Why.TheVariants.{NotAscii, FirstLine, UnknownWord, MissingWord, BadNumber, ExtraWord}
+use Rattle.gomp_script.specs.StepText.{read_line, step_of, plain_step, loop_step, sections_step, copy_end_step, ordered_step, team_of}
+use Rattle.gomp_script.specs.Examples.{parts, steps_said, teams_said, calls, each_bad, by_first, loop_of_four}
+
+-- the calls that stand alone, each by its word
+pub calls_alone : steps_said (calls (codes "next|end|end_nowait|section_next|sections_end|sections_end_nowait|single|single_copy|ordered_end|barrier|region_end|resume|stop")) ≡ map by_first (LoopNext ∷ LoopEnd ∷ LoopEndNowait ∷ SectionsNext ∷ SectionsEnd ∷ SectionsEndNowait ∷ SingleStart ∷ SingleCopyStart ∷ OrderedEnd ∷ Barrier ∷ RegionEnd ∷ Resume ∷ Stop ∷ [])
+unfolding plain_step loop_step sections_step copy_end_step ordered_step team_of
+calls_alone = refl
+
+-- each of them with a letter too few
+pub calls_shortened : steps_said (calls (codes "nex|en|end_nowai|section_nex|sections_en|sections_end_nowai|singl|single_cop|ordered_en|barrie|region_en|resum|sto")) ≡ each_bad 13 UnknownWord
+unfolding plain_step loop_step sections_step copy_end_step ordered_step team_of
+calls_shortened = refl
+
+-- with a letter too many
+pub calls_lengthened : steps_said (calls (codes "nexts|ends|end_nowaits|section_nexts|sections_ends|sections_end_nowaits|singles|single_copys|ordered_ends|barriers|region_ends|resumes|stops")) ≡ each_bad 13 UnknownWord
+unfolding plain_step loop_step sections_step copy_end_step ordered_step team_of
+calls_lengthened = refl
+
+-- and with a capital
+pub calls_in_capitals : steps_said (calls (codes "Next|End|End_nowait|Section_next|Sections_end|Sections_end_nowait|Single|Single_copy|Ordered_end|Barrier|Region_end|Resume|Stop")) ≡ each_bad 13 UnknownWord
+unfolding plain_step loop_step sections_step copy_end_step ordered_step team_of
+calls_in_capitals = refl
+
+-- the calls with words behind them are no others
+pub longer_calls_miswritten : steps_said (calls (codes "Loop|loops|lo|Sections|section|sectionss|Single_copy_end|single_copy_en|single_copy_ends|Ordered|order|ordereds")) ≡ each_bad 12 UnknownWord
+unfolding plain_step loop_step sections_step copy_end_step ordered_step team_of
+longer_calls_miswritten = refl
+
+-- the schedules of a loop
+pub schedules : steps_said (parts (codes "0 loop static 0 0 4 1 wait|0 loop dynamic 0 0 4 1 wait|0 loop guided 0 0 4 1 wait|0 loop runtime 0 0 4 1 wait")) ≡ map (λ sched. by_first (LoopStart (loop_of_four sched Wait false))) (Static ∷ Dynamic ∷ Guided ∷ Runtime ∷ [])
+unfolding plain_step loop_step sections_step copy_end_step ordered_step team_of
+schedules = refl
+
+-- other words are none
+pub other_schedules : steps_said (parts (codes "0 loop auto 0 0 4 1 wait|0 loop Static 0 0 4 1 wait|0 loop dynami 0 0 4 1 wait|0 loop guideds 0 0 4 1 wait|0 loop run 0 0 4 1 wait")) ≡ each_bad 5 UnknownWord
+unfolding plain_step loop_step sections_step copy_end_step ordered_step team_of
+other_schedules = refl
+
+-- what stands at the end of a loop, and an ordered one
+pub ends_of_loops : steps_said (parts (codes "0 loop static 0 0 4 1 nowait|0 loop static 0 0 4 1 nowait ordered|0 loop static 0 0 4 1 wait ordered")) ≡ map (λ loop. by_first (LoopStart loop)) (loop_of_four Static Nowait false ∷ loop_of_four Static Nowait true ∷ loop_of_four Static Wait true ∷ [])
+unfolding plain_step loop_step sections_step copy_end_step ordered_step team_of
+ends_of_loops = refl
+
+-- other words are no end
+pub other_ends : steps_said (parts (codes "0 loop static 0 0 4 1 Wait|0 loop static 0 0 4 1 no|0 loop static 0 0 4 1 waits|0 loop static 0 0 4 1 nowai|0 sections 4 Nowait|0 sections 4 ordered")) ≡ each_bad 6 UnknownWord
+unfolding plain_step loop_step sections_step copy_end_step ordered_step team_of
+other_ends = refl
+
+-- only the word `ordered` may follow, once
+pub behind_a_loop : steps_said (parts (codes "0 loop static 0 0 4 1 wait Ordered|0 loop static 0 0 4 1 wait ordere|0 loop static 0 0 4 1 wait ordered ordered|0 loop static 0 0 4 1 wait wait")) ≡ each_bad 4 ExtraWord
+unfolding plain_step loop_step sections_step copy_end_step ordered_step team_of
+behind_a_loop = refl
+
+-- the numbers of a loop stand in this order, each up to the ends of its type
+pub numbers_of_a_loop : read_line step_of (codes "65535 loop dynamic 5 -9223372036854775808 9223372036854775807 -3 wait") ≡ Ok (Some (record { member = 65535; call = LoopStart (record { start = negsuc 9223372036854775807; end = pos 9223372036854775807; incr = negsuc 2; sched = Dynamic; chunk = pos 5; ordered = false; end_kind = Wait }) }))
+unfolding plain_step loop_step sections_step copy_end_step ordered_step team_of
+numbers_of_a_loop = refl
+
+-- each of them is tested
+pub bad_numbers_of_a_loop : steps_said (parts (codes "x loop static 0 0 4 1 wait|65536 loop static 0 0 4 1 wait|-1 loop static 0 0 4 1 wait|0 loop static x 0 4 1 wait|0 loop static 0 +1 4 1 wait|0 loop static 0 0 9223372036854775808 1 wait|0 loop static 0 0 4 -9223372036854775809 wait|0 loop static 0 0 4 1x wait")) ≡ each_bad 8 BadNumber
+unfolding plain_step loop_step sections_step copy_end_step ordered_step team_of
+bad_numbers_of_a_loop = refl
+
+-- a line that ends too early
+pub too_early : steps_said (parts (codes "0|0 loop|0 loop static|0 loop static 0|0 loop static 0 0|0 loop static 0 0 4|0 loop static 0 0 4 1|0 sections|0 sections 4|0 ordered|x")) ≡ each_bad 11 MissingWord
+unfolding plain_step loop_step sections_step copy_end_step ordered_step team_of
+too_early = refl
+
+-- an unknown word comes before a word that is missing behind it, and before a bad number
+pub unknown_first : steps_said (parts (codes "x loop foo|x loop foo 0 0 4 1 wait|x loop static z 0 4 1 foo|x sections z foo|x foo|x foo bar")) ≡ each_bad 6 UnknownWord
+unfolding plain_step loop_step sections_step copy_end_step ordered_step team_of
+unknown_first = refl
+
+-- a missing word comes before a bad number
+pub missing_first : steps_said (parts (codes "x loop static z|x sections z|x ordered")) ≡ each_bad 3 MissingWord
+unfolding plain_step loop_step sections_step copy_end_step ordered_step team_of
+missing_first = refl
+
+-- a bad number comes before a word too many
+pub number_first : steps_said (parts (codes "x loop static 0 0 4 1 wait foo|x next foo|0 ordered x 1|x ordered 1 2|0 sections x wait foo|x sections 4 wait foo|x single_copy_end 1 2 3 4 5 6 7 8 9|0 single_copy_end x 2 3 4 5 6 7 8 9")) ≡ each_bad 8 BadNumber
+unfolding plain_step loop_step sections_step copy_end_step ordered_step team_of
+number_first = refl
+
+-- a word too many
+pub word_too_many : steps_said (parts (codes "0 next foo|0 ordered 1 2|0 sections 4 wait foo|0 single_copy_end 1 2 3 4 5 6 7 8 9|0 single_copy_end 1 2 3 4 5 6 7 8 x")) ≡ each_bad 5 ExtraWord
+unfolding plain_step loop_step sections_step copy_end_step ordered_step team_of
+word_too_many = refl
+
+-- sections, up to the largest count of their type
+pub sections_said : steps_said (parts (codes "0 sections 0 wait|0 sections 4294967295 nowait")) ≡ map by_first (SectionsStart 0 Wait ∷ SectionsStart 4294967295 Nowait ∷ [])
+unfolding plain_step loop_step sections_step copy_end_step ordered_step team_of
+sections_said = refl
+
+-- an ordered part, by the value of its iteration
+pub ordered_parts : steps_said (parts (codes "0 ordered -9223372036854775808|0 ordered 9223372036854775807|0 ordered -0")) ≡ map by_first (OrderedStart (negsuc 9223372036854775807) ∷ OrderedStart (pos 9223372036854775807) ∷ OrderedStart (pos 0) ∷ [])
+unfolding plain_step loop_step sections_step copy_end_step ordered_step team_of
+ordered_parts = refl
+
+-- the words of a single, from none to eight, up to the largest
+pub words_of_a_single : steps_said (parts (codes "0 single_copy_end|0 single_copy_end 18446744073709551615|0 single_copy_end 1 2 3 4 5 6 7 8")) ≡ map by_first (SingleCopyEnd [] ∷ SingleCopyEnd (18446744073709551615 ∷ []) ∷ SingleCopyEnd (1 ∷ 2 ∷ 3 ∷ 4 ∷ 5 ∷ 6 ∷ 7 ∷ 8 ∷ []) ∷ [])
+unfolding plain_step loop_step sections_step copy_end_step ordered_step team_of
+words_of_a_single = refl
+
+-- numbers beyond their types
+pub numbers_beyond : steps_said (parts (codes "0 sections 4294967296 wait|0 sections -1 wait|0 ordered 9223372036854775808|0 ordered -9223372036854775809|0 single_copy_end 18446744073709551616|0 single_copy_end -1|65536 next|-1 next|x single_copy_end")) ≡ each_bad 9 BadNumber
+unfolding plain_step loop_step sections_step copy_end_step ordered_step team_of
+numbers_beyond = refl
+
+-- spaces part the words, however many
+pub more_spaces : read_line step_of (codes "  0   next  ") ≡ by_first LoopNext
+unfolding plain_step loop_step sections_step copy_end_step ordered_step team_of
+more_spaces = refl
+
+-- a tab is part of a word
+pub tab_in_a_word : read_line step_of (codes "0\tnext") ≡ Err MissingWord
+unfolding plain_step loop_step sections_step copy_end_step ordered_step team_of
+tab_in_a_word = refl
+
+-- an empty line, one of spaces and a comment say nothing
+pub lines_without_a_word : steps_said (parts (codes "|   |#|# 0 next|  #0 next")) ≡ replicate 5 (Ok None)
+unfolding plain_step loop_step sections_step copy_end_step ordered_step team_of
+lines_without_a_word = refl
+
+-- only its first word makes a line a comment
+pub comment_behind : steps_said (parts (codes "0 next # on|0 # next")) ≡ Err ExtraWord ∷ Err UnknownWord ∷ []
+unfolding plain_step loop_step sections_step copy_end_step ordered_step team_of
+comment_behind = refl
+
+-- a byte above 127 is a fault, in a comment too, and before any other
+pub bytes_above_127 : steps_said ((128 ∷ []) ∷ (35 ∷ 255 ∷ []) ∷ (codes "0 next " ++ 200 ∷ []) ∷ []) ≡ each_bad 3 NotAscii
+unfolding plain_step loop_step sections_step copy_end_step ordered_step team_of
+bytes_above_127 = refl
+
+-- 127 is a byte of a word
+pub byte_127 : read_line step_of (127 ∷ []) ≡ Err MissingWord
+unfolding plain_step loop_step sections_step copy_end_step ordered_step team_of
+byte_127 = refl
+
+-- the line of the team, with a number up to the largest of its type
+pub team_lines : teams_said (parts (codes "team 4|team 0|team 4294967295| team 04 ")) ≡ Ok (Some 4) ∷ Ok (Some 0) ∷ Ok (Some 4294967295) ∷ Ok (Some 4) ∷ []
+unfolding plain_step loop_step sections_step copy_end_step ordered_step team_of
+team_lines = refl
+
+-- no other word begins it
+pub other_first_words : teams_said (parts (codes "Team 4|tea 4|teams 4|0 next|4|team4")) ≡ each_bad 6 FirstLine
+unfolding plain_step loop_step sections_step copy_end_step ordered_step team_of
+other_first_words = refl
+
+-- its number is missing
+pub team_without_number : teams_said (parts (codes "team")) ≡ each_bad 1 MissingWord
+unfolding plain_step loop_step sections_step copy_end_step ordered_step team_of
+team_without_number = refl
+
+-- or bad, before a word too many
+pub team_with_bad_number : teams_said (parts (codes "team x|team -1|team 4294967296|team x 1")) ≡ each_bad 4 BadNumber
+unfolding plain_step loop_step sections_step copy_end_step ordered_step team_of
+team_with_bad_number = refl
+
+-- or followed by a word
+pub team_with_more : teams_said (parts (codes "team 4 1|team 4 x")) ≡ each_bad 2 ExtraWord
+unfolding plain_step loop_step sections_step copy_end_step ordered_step team_of
+team_with_more = refl
+
+-- before the team's line too, empty lines and comments say nothing
+pub before_the_team : teams_said (parts (codes "|  |# team 4")) ≡ replicate 3 (Ok None)
+unfolding plain_step loop_step sections_step copy_end_step ordered_step team_of
+before_the_team = refl
