@@ -65,7 +65,7 @@ impl NumThreads {
         ensures size { result ≡ first_of self.now }
         ensures range { 1 ≤ result }
     {
-        self.sizes.as_slice()[0]
+        self.as_slice()[0]
     }
 
     /// The same list again. It takes no memory.
