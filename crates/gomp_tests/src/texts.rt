@@ -62,6 +62,11 @@ fn text_of(
     Ok(text)
 }
 
+/// So many each time, and these besides.
+fn total(count: usize, each: u64, more: u64) -> u64 {
+    each.wrapping_mul(count as u64).wrapping_add(more)
+}
+
 /// Texts of every size are read whole: steps, and comments and empty lines before, between and behind.
 #[test]
 fn good_texts(rt: HostRuntime) -> Result<(), Fail> {
@@ -92,7 +97,7 @@ fn good_texts(rt: HostRuntime) -> Result<(), Fail> {
             assert_eq!(rt; team, 1, "{count} times {part:?} behind {front:?}");
             assert_eq!(rt;
                 steps.len() as u64,
-                count as u64 * each + more,
+                total(count, each, more),
                 "{count} times {part:?}"
             );
             for found in &steps {
@@ -142,7 +147,7 @@ fn bad_texts(rt: HostRuntime) -> Result<(), Fail> {
     for (front, part, end, each, more, why) in rows {
         for count in SIZES {
             let text = text_of(alloc, front, part, count, end)?;
-            let line = count as u64 * each + more;
+            let line = total(count, each, more);
             assert_eq!(rt;
                 parse_steps(alloc, text.as_bytes()).err(),
                 Some(ParseError::Bad(BadLine { line, why })),
