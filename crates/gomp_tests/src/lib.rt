@@ -6,13 +6,21 @@
 #[cfg(test)]
 mod barriers;
 #[cfg(test)]
+mod faults;
+#[cfg(test)]
 mod names;
 #[cfg(test)]
 mod pieces;
 #[cfg(test)]
 mod refusals;
 #[cfg(test)]
+mod schedules;
+#[cfg(test)]
 mod shares;
+#[cfg(test)]
+mod sizes;
+#[cfg(test)]
+mod teams;
 #[cfg(test)]
 mod texts;
 #[cfg(test)]

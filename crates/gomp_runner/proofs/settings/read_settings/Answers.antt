@@ -1,9 +1,0 @@
-use Rattle.std.proofs.Common.{rules, ◌≡◌, Some, map}
-use Rattle.gomp_runner.specs.Settings.{first_without}
-use Rattle.gomp_runner.proofs.SettingLemmas.{unread_without}
-use Rattle.gomp_runner.proofs.settings.read_settings.Goals as goal
-
-pub returns-in-Some : goal.returns-in-Some
-returns-in-Some c =
-    let first : first_without (map (λ word. word.now) c.args.words.now) ≡ Some c.in-Some.word.now = search rules in
-    (first, unread_without (map (λ word. word.now) c.args.words.now) c.in-Some.word.now first)

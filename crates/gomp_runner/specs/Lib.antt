@@ -1,5 +1,0 @@
-pub mod CommandLine
-pub mod Examples
-pub mod Output
-pub mod Serving
-pub mod Settings

@@ -1,0 +1,125 @@
+-- The words `ompteam steps` have no fault, and how the program ends on words that have.
+use Rattle.std.proofs.Common.{◌≡◌, ◌∙◌, ℕ, Bool, true, List, [], ◌∷◌, Option, Some, None, refl, ap, sym, codes, inl, inr, map}
+use Rattle.std.specs.Prelude.{find, option_map}
+use Rattle.std.specs.Option.{option_map_or}
+use Rattle.std.specs.Borrow.{Bor}
+use Rattle.std.specs.Str.{bytes_eq}
+use Rattle.std.proofs.lemmas.Bool.{cases_Bool}
+use Rattle.clap.specs.Words.{HasKind, Kinds, Row, Text, found_of, is_simple_and_free, kind_of, matched_of, raw_values, rows_of, subcommand_rows_of}
+use Rattle.clap.specs.declared.parser.matches.ArgMatches.{ArgMatches}
+use Rattle.clap.specs.declared.error.Error.{Error}
+use Rattle.clap.proofs.OnLiterals.{clap_on_literals}
+use Rattle.clap.specs.declared.error.kind.ErrorKind.{ErrorKind}
+use Rattle.clap.specs.declared.error.kind.ErrorKind.TheVariants as kinds
+use Rattle.gomp_types.specs.declared.refusal.Refusal.{Refusal}
+use Rattle.gomp_types.specs.declared.refusal.Refusal.TheVariants.{BadEnv}
+use Rattle.gomp_icv.specs.Variables.{Variables}
+use Rattle.gomp_serve.specs.CommandLine.{Asks, Ends, EndsOnSteps, EndsWithRead, Told, faults_of, ompteam, settings_in, settings_name, settings_of}
+use Rattle.gomp_serve.specs.Examples.{with_another_command, with_settings, with_two_faults}
+use Rattle.gomp_serve.specs.Settings.{first_without, read_settings}
+use Rattle.gomp_serve.specs.declared.serve.Ending.TheVariants as ending
+use Rattle.gomp_serve.specs.declared.command.Notes.{Notes}
+use Rattle.gomp_serve.specs.declared.command.Notes.TheVariants as notes
+use Rattle.gomp_serve.specs.declared.command.Status.{Status}
+
+-- clap's clauses on the kinds of errors speak of such commands alone
+pub is_covered : is_simple_and_free ompteam ≡ true
+unfolding clap_on_literals
+is_covered = refl
+
+pub steps_has_no_fault : (name : Text) → faults_of (name ∷ codes "steps" ∷ []) ≡ []
+unfolding clap_on_literals
+steps_has_no_fault name = refl
+
+pub steps_has_no_settings : (name : Text) → settings_of (name ∷ codes "steps" ∷ []) ≡ []
+unfolding clap_on_literals
+steps_has_no_settings name = refl
+
+-- Worked command lines
+
+pub served_has_no_fault : faults_of with_settings ≡ []
+unfolding clap_on_literals
+served_has_no_fault = refl
+
+pub served_has_settings : settings_of with_settings ≡ codes "OMP_SCHEDULE=guided,7" ∷ codes "FOO=1" ∷ []
+unfolding clap_on_literals
+served_has_settings = refl
+
+pub another_has_faults : faults_of with_another_command ≡ [] → ⊥
+unfolding clap_on_literals
+another_has_faults none = let same : (kinds.UnknownArgument ∷ kinds.InvalidSubcommand ∷ []) ≡ [] = none in absurd (cc)
+
+pub served_is_read : option_map (λ read. read.1) (read_settings (settings_of with_settings)) ≡ Some (BadEnv (codes "FOO") ∷ [])
+unfolding clap_on_literals
+served_is_read = refl
+
+pub first_of_two : first_without (settings_of with_two_faults) ≡ Some (codes "FOO")
+unfolding clap_on_literals
+first_of_two = refl
+
+-- The end after an error
+
+no_asking : (kind : ErrorKind) → kind ≡ kinds.OutOfMemory → Asks kind → ⊥
+no_asking kind memory (inl help) = absurd (cc)
+no_asking kind memory (inr version) = absurd (cc)
+
+-- after an error for want of memory, the program ends as a text does whose serving wanted memory
+stepped_memory : (settings : List Text) (read : Option (Variables × List Refusal)) (remaining before after : Option (List ℕ)) → after ≡ before → EndsWithRead settings read remaining before after (record { code = 3; notes = notes.NoMemory })
+stepped_memory settings None remaining before after same = (refl, same)
+stepped_memory settings (Some read) remaining before after same = record { ending = ending.NoMemory; serves = same; status_is = refl }
+
+told_memory : (kind : ErrorKind) (settings : List Text) (remaining before after : Option (List ℕ)) (notes : Notes) (code : ℕ) → kind ≡ kinds.OutOfMemory → Told kind before after notes code → EndsOnSteps settings remaining before after (record { code = code; notes = notes })
+told_memory kind settings remaining before after notes.Nothing code memory told = absurd (no_asking kind memory told.0)
+told_memory kind settings remaining before after notes.NoMemory code memory told = rw told.0 (stepped_memory settings (read_settings settings) remaining before after told.1)
+told_memory kind settings remaining before after (notes.Command text) code memory told = absurd (told.1 memory)
+told_memory kind settings remaining before after (notes.Ignored words) code memory told = absurd told
+told_memory kind settings remaining before after notes.InputFault code memory told = absurd told
+told_memory kind settings remaining before after notes.OutputFault code memory told = absurd (no_asking kind memory told.0)
+
+-- the end after an error, by the faults of the words
+pub told_ends : (error : Error) (faults : Kinds) (settings : List Text) (remaining before after : Option (List ℕ)) (status : Status) → HasKind faults error → Told (kind_of error) before after status.notes status.code → Ends faults settings remaining before after status
+told_ends error [] settings remaining before after status (inl memory) told = told_memory (kind_of error) settings remaining before after status.notes status.code memory told
+told_ends error [] settings remaining before after status (inr none) told = absurd none
+told_ends error (fault ∷ others) settings remaining before after status among told = record { kind = kind_of error; fault = among; told = told }
+
+-- where memory is refused and nothing is written, the program may end so on any words
+pub memory_ends : (faults : Kinds) (settings : List Text) (remaining before after : Option (List ℕ)) → after ≡ before → Ends faults settings remaining before after (record { code = 3; notes = notes.NoMemory })
+memory_ends [] settings remaining before after same = stepped_memory settings (read_settings settings) remaining before after same
+memory_ends (fault ∷ others) settings remaining before after same = record { kind = kinds.OutOfMemory; fault = inl refl; told = (refl, same) }
+
+-- The settings among what was found
+
+find_map : {E R V : Type 0} (entries : List E) (p : E → Bool) (q : R → Bool) (f : E → R) (v : E → V) (w : R → V) → ((e : E) → p e ≡ q (f e)) → ((e : E) → v e ≡ w (f e)) →
+    option_map v (find p entries) ≡ option_map w (find q (map f entries))
+find_map [] p q f v w same value = refl
+find_map (e ∷ entries) p q f v w same value = elim (cases_Bool (p e)) [
+  | inl here ↦ rw (here, sym (same e) ∙ here) (ap Some (value e))
+  | inr other ↦ rw (other, sym (same e) ∙ other) (find_map entries p q f v w same value)
+]
+
+by_second : {A B V : Type 0} (v : B → V) (found : Option (A × B)) → option_map v (option_map (λ e. e.1) found) ≡ option_map (λ e. v e.1) found
+by_second v None = refl
+by_second v (Some e) = refl
+
+given_values : (given : Option (Bor (List (Bor Text)))) → option_map_or (λ words. map (λ word. word.now) words.now) given [] ≡ option_map_or (λ values. values) (option_map (λ s. map (λ v. v.now) s.now) given) []
+given_values None = refl
+given_values (Some given) = refl
+
+mapped_or : {A V : Type 0} (v : A → List V) (found : Option A) → option_map_or (λ x. x) (option_map v found) [] ≡ option_map_or v found []
+mapped_or v None = refl
+mapped_or v (Some a) = refl
+
+in_rows : (found : Option (Text × List Row)) (rows : List Row) → Some rows ≡ option_map (λ p. p.1) found → settings_in found ≡ option_map_or (λ row. row.values) (find (λ row. bytes_eq row.id settings_name) rows) []
+in_rows None rows e = absurd (cc)
+in_rows (Some found) rows e = let same : rows ≡ found.1 = cc in rw same refl
+
+pub settings_given : (steps matches : ArgMatches) (given : Option (Bor (List (Bor Text)))) → Some (rows_of (found_of steps)) ≡ option_map (λ p. p.1) (subcommand_rows_of matches) →
+    option_map (λ s. map (λ v. v.now) s.now) given ≡ option_map raw_values (matched_of (found_of steps) settings_name) →
+    option_map_or (λ words. map (λ word. word.now) words.now) given [] ≡ settings_in (subcommand_rows_of matches)
+settings_given steps matches given rows values =
+    given_values given
+    ∙ ap (λ (found : Option (List Text)). option_map_or (λ v. v) found []) (values ∙ by_second raw_values _ ∙ find_map {R = Row} (found_of steps).entries.items
+    (λ x. bytes_eq x.0.now settings_name) (λ row. bytes_eq row.id settings_name)
+    (λ x. record { id = x.0.now; values = raw_values x.1; count = x.1.count; source = x.1.source; reading = x.1.reading }) (λ x. raw_values x.1) (λ row. row.values) (λ e. refl) (λ e. refl))
+    ∙ mapped_or (λ row. row.values) (find (λ row. bytes_eq row.id settings_name) (rows_of (found_of steps)))
+    ∙ sym (in_rows (subcommand_rows_of matches) (rows_of (found_of steps)) rows)

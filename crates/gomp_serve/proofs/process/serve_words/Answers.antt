@@ -1,0 +1,20 @@
+use Rattle.std.proofs.Common.{◌≡◌, ◌∙◌, ℕ, Ok, length, map, refl, sym, ap, arith}
+use Rattle.std.specs.Prelude.{string_bytes}
+use Rattle.std.specs.Vec.Iter.{into_iter_items, into_iter_len}
+use Rattle.std.proofs.lemmas.Iterator.{items_from_collect}
+use Rattle.std.proofs.lemmas.Iterator.Adapters.{YieldsList-from_vec}
+use Rattle.gomp_serve.specs.CommandLine.{faults_of, settings_of}
+use Rattle.gomp_serve.specs.Process.{EndsOn, texts_of}
+use Rattle.gomp_serve.proofs.CommandLemmas.{memory_ends}
+use Rattle.gomp_serve.proofs.process.serve_words.Goals as goal
+
+pub returns-in-Err : goal.returns-in-Err
+returns-in-Err g c =
+    rw c.no_memory.ensures (memory_ends (faults_of (texts_of c.args.words)) (settings_of (texts_of c.args.words)) (g.R.Read.remaining c.args.reader) _ _ refl)
+
+pub returns : goal.returns
+returns g c =
+    let size : into_iter_len c.args.words ≡ length (into_iter_items c.args.words) = let ok = c.args.words.rest.ok in omega arith in
+    let same : c.in-Ok.words.items ≡ into_iter_items c.args.words = items_from_collect {E = ℕ} (Ok c.in-Ok.words) c.in-Ok.ensures.ran (YieldsList-from_vec (into_iter_items c.args.words) refl size) in
+    let words : map string_bytes c.as_slice.result.now ≡ texts_of c.args.words = ap (map string_bytes) (c.as_slice.ensures.value ∙ same) in
+    rw words at c.serve.ensures.ends

@@ -1,0 +1,10 @@
+use Rattle.std.proofs.Common.{◌≤◌, length, arith}
+use Rattle.gomp_serve.proofs.ServeLemmas.{read_all}
+use Rattle.gomp_serve.proofs.serve.read_text.Goals as goal
+
+pub returns-clause-whole : goal.returns-clause-whole
+returns-clause-whole g c =
+    let items = c.read_to_end.new.buf.items in
+    let short : length items ≤ c.args.limit = let len = c.len.ensures in let within = c.if-len-limit.false in let ok = c.read_to_end.new.buf.ok in omega arith in
+    let bytes = rw (c.new-text.ensures.items, c.take-bounded.ensures.limit, c.take-bounded.ensures.inner) at c.in_default.ensures.bytes in
+    read_all c.args.limit (g.R.Read.remaining c.args.reader) items bytes short

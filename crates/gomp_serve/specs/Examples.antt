@@ -1,0 +1,15 @@
+-- Worked command lines. (own)
+use Rattle.std.specs.Prelude.{List, [], ◌∷◌, codes}
+use Rattle.gomp_serve.specs.Settings.{Text}
+
+-- two settings, of which the second is that of no variable
+abbrev pub with_settings : List Text
+with_settings = codes "ompteam" ∷ codes "steps" ∷ codes "OMP_SCHEDULE=guided,7" ∷ codes "FOO=1" ∷ []
+
+-- another command than `steps`
+abbrev pub with_another_command : List Text
+with_another_command = codes "ompteam" ∷ codes "run" ∷ []
+
+-- two settings that have no `=`, behind one that has
+abbrev pub with_two_faults : List Text
+with_two_faults = codes "ompteam" ∷ codes "steps" ∷ codes "BAR=1" ∷ codes "FOO" ∷ codes "BAZ" ∷ []

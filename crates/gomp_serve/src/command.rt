@@ -1,0 +1,223 @@
+//! The command line, and how the program ends.
+
+ghost use Rattle.std.specs.Prelude.{◌≡◌, ℕ, false, Some, List, [], ◌∷◌, IfOk, map, codes};
+ghost use Rattle.std.specs.Option.{option_map_or};
+ghost use Rattle.std.specs.IoError.{error_kind};
+ghost use Rattle.clap.specs.Words.{FailsBy, app_of, kind_of, rule_of, subcommand_rows_of};
+ghost use Rattle.gomp_serve.specs.CommandLine.{ArePlain, Ends, EndsOnSteps, Told, IsStatus, IsFault, HasNoWords, faults_of, settings_of, settings_in, settings_rule, ompteam};
+ghost use Rattle.gomp_serve.specs.declared.command.Notes.TheVariants.{NoMemory, OutputFault};
+
+use crate::serve::{Ending, serve_steps};
+use crate::settings::{SettingsError, read_settings};
+use clap::error::ErrorKind;
+use clap::{Arg, ArgMatches, Command, Error};
+use gomp_types::Refusal;
+use std::alloc::{AllocError, Global};
+use std::convert::AsStr;
+use std::io::{self, Read, Write};
+
+/// What is told beside the output, on standard error.
+#[derive(Debug, Drop, PartialEq, Eq)]
+pub enum Notes {
+    Nothing,
+    /// Memory was refused outside of the steps.
+    NoMemory,
+    /// The command line is refused, for this reason.
+    Command(String),
+    /// These words of the environment were ignored, at least one, each with `BadEnv` (E41).
+    Ignored(Vec<Refusal>),
+    /// The text could not be read, or is too long.
+    InputFault,
+    /// The output could not be written whole.
+    OutputFault,
+}
+
+/// How the program ends.
+#[derive(Debug, Drop, PartialEq, Eq)]
+pub struct Status {
+    /// 0 where the text was answered; 1 where a line of it is bad, the command line is refused, or
+    /// input or output failed; 2 where there is no such team; 3 for want of memory.
+    pub code: u8,
+    /// What is told beside the output.
+    pub notes: Notes,
+}
+
+/// Does what the words of the command line say, of which the first is the program's name.
+///
+/// The words behind `steps` are settings `NAME=VALUE`, which stand for words of the environment
+/// (OpenMP API 5.2, chapter 21). One without `=` is a fault, and nothing is read or written then. Those
+/// that set nothing are ignored, and in the notes where the text was answered. [`Status`] says which
+/// status each end has.
+pub fn serve<S: AsStr, R: Read + Drop, W: Write>(
+    alloc: Global,
+    words: &[S],
+    reader: R,
+    writer: &mut W,
+) -> Status
+    ensures ends { Ends (faults_of (map S.text words.now)) (settings_of (map S.text words.now)) (R.remaining reader) (W.contents writer.old) (W.contents writer.new) result }
+    ensures steps { (name : List ℕ) → map S.text words.now ≡ name ∷ codes "steps" ∷ [] → EndsOnSteps [] (R.remaining reader) (W.contents writer.old) (W.contents writer.new) result }
+    ensures settings { (name : List ℕ) (settings : List (List ℕ)) → map S.text words.now ≡ name ∷ codes "steps" ∷ settings → ArePlain settings → EndsOnSteps settings (R.remaining reader) (W.contents writer.old) (W.contents writer.new) result }
+{
+    match accepted(alloc, words) {
+        Ok(matches) => match settings(&matches) {
+            Some(settings) => steps(alloc, settings, reader, writer),
+            None => steps(alloc, &[], reader, writer),
+        },
+        Err(error) => told(alloc, &error, writer),
+    }
+}
+
+/// Does what the words `steps` and these settings say.
+fn steps<R: Read + Drop, W: Write>(
+    alloc: Global,
+    settings: &[&str],
+    reader: R,
+    writer: &mut W,
+) -> Status
+    ensures { EndsOnSteps (map (λ word. word.now) settings.now) (R.remaining reader) (W.contents writer.old) (W.contents writer.new) result }
+{
+    match read_settings(alloc, settings) {
+        Ok((icv, ignored)) => ended(serve_steps(alloc, icv, reader, writer), ignored),
+        Err(SettingsError::NoMemory) => no_memory(),
+        Err(SettingsError::NoEquals(word)) => no_equals(alloc, word),
+    }
+}
+
+/// The end where this word has no `=`.
+fn no_equals(alloc: Global, word: &str) -> Status
+    ensures { IsFault (Some word.now) result.notes result.code }
+{
+    match format!(in alloc; "error: the word '{word}' is not NAME=VALUE\n") {
+        Ok(text) => Status {
+            code: 1,
+            notes: Notes::Command(text),
+        },
+        Err(_) => no_memory(),
+    }
+}
+
+/// What the words say where they are those of `ompteam steps`, or why they are refused.
+fn accepted<'a, S: AsStr>(alloc: Global, words: &'a [S]) -> Result<ArgMatches<'a>, Error>
+    ensures faults { FailsBy (faults_of (map S.text words.now)) result }
+    ensures settings { IfOk result (λ matches. settings_in (subcommand_rows_of matches) ≡ settings_of (map S.text words.now)) }
+{
+    ompteam(alloc)?.try_get_matches_from(words)
+}
+
+/// The settings among the words, where there are any.
+fn settings<'m, 'a>(matches: &'m ArgMatches<'a>) -> Option<&'m [&'a str]>
+    ensures { option_map_or (λ words. map (λ word. word.now) words.now) result [] ≡ settings_in (subcommand_rows_of matches.now) }
+{
+    let (_, steps) = matches.subcommand()?;
+    steps.get_strs(SETTINGS)
+}
+
+/// What the help calls a setting.
+const SETTINGS: &str = "NAME=VALUE";
+
+/// The command, as its words are read and as its help shows it.
+fn ompteam<'a>(alloc: Global) -> Result<Command<'a>, AllocError>
+    ensures { IfOk result (λ command. app_of command ≡ ompteam) }
+{
+    let steps = Command::new(alloc, "steps")
+        .about("Run the text of steps on standard input and print each reply")
+        .arg(settings_arg(alloc))?;
+    Command::new(alloc, "ompteam")
+        .version("0.1.0")
+        .about("An OpenMP team, step by step")
+        .subcommand_required(true)
+        .subcommand(steps)
+}
+
+/// The argument that takes the settings, any number of them.
+fn settings_arg<'a>(alloc: Global) -> Arg<'a>
+    ensures rule { rule_of result ≡ settings_rule }
+    ensures local { result.global ≡ false }
+{
+    Arg::new(alloc, SETTINGS)
+        .help("Set a control variable, as this word does in the environment")
+        .num_args(..)
+}
+
+/// The end where the words of the command line cannot be had.
+pub fn without_words(alloc: Global, error: &io::Error) -> Status
+    ensures { HasNoWords (error_kind error.now) result.notes result.code }
+{
+    if let io::ErrorKind::OutOfMemory = error.kind() {
+        return no_memory();
+    }
+    match String::from_str(alloc, "error: a word of the command line is not UTF-8\n") {
+        Ok(text) => Status {
+            code: 1,
+            notes: Notes::Command(text),
+        },
+        Err(_) => no_memory(),
+    }
+}
+
+/// The end where the text of steps was served, and these words were ignored before.
+fn ended(ending: Ending, ignored: Vec<Refusal>) -> Status
+    ensures { IsStatus ending ignored.items result }
+{
+    match ending {
+        Ending::Answered(code) if ignored.is_empty() => Status {
+            code,
+            notes: Notes::Nothing,
+        },
+        Ending::Answered(code) => Status {
+            code,
+            notes: Notes::Ignored(ignored),
+        },
+        Ending::NoMemory => no_memory(),
+        Ending::InputFault | Ending::TooLong => Status {
+            code: 1,
+            notes: Notes::InputFault,
+        },
+        Ending::OutputFault => output_fault(),
+    }
+}
+
+/// The end where memory was refused outside of the steps.
+pub(crate) fn no_memory() -> Status
+    ensures { result ≡ record { code = 3; notes = NoMemory } }
+{
+    Status {
+        code: 3,
+        notes: Notes::NoMemory,
+    }
+}
+
+/// The end where the output could not be written whole.
+fn output_fault() -> Status
+    ensures { result ≡ record { code = 1; notes = OutputFault } }
+{
+    Status {
+        code: 1,
+        notes: Notes::OutputFault,
+    }
+}
+
+/// The end where the words are no command: help and the version are written, a fault is noted.
+fn told<W: Write>(alloc: Global, error: &Error, writer: &mut W) -> Status
+    ensures { Told (kind_of error.now) (W.contents writer.old) (W.contents writer.new) result.notes result.code }
+{
+    if let ErrorKind::OutOfMemory = error.kind() {
+        return no_memory();
+    }
+    let Ok(text) = error.to_string(alloc) else {
+        return no_memory();
+    };
+    if error.use_stderr() {
+        return Status {
+            code: 1,
+            notes: Notes::Command(text),
+        };
+    }
+    match writer.write_all(text.as_bytes()) {
+        Ok(()) => Status {
+            code: 0,
+            notes: Notes::Nothing,
+        },
+        Err(_) => output_fault(),
+    }
+}
