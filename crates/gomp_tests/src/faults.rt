@@ -148,7 +148,7 @@ fn each_read_fails(rt: &impl Abort, alloc: Global, words: &[&str]) -> Result<(),
             let fares = Fares {
                 reads,
                 kind,
-                ..well(words)
+                ..well(&*words)
             };
             let ends = Ends {
                 code: Some(code),
@@ -172,7 +172,7 @@ fn each_write_fails(
         let fares = Fares {
             writes,
             recovers,
-            ..well(words)
+            ..well(&*words)
         };
         let ends = Ends {
             code: Some(1),
@@ -185,11 +185,7 @@ fn each_write_fails(
 }
 
 /// The note on an ignored word is written a byte a time, and each write fails in turn.
-fn each_write_of_a_note_fails(
-    rt: &impl Abort,
-    alloc: Global,
-    recovers: bool,
-) -> Result<(), Fail> {
+fn each_write_of_a_note_fails(rt: &impl Abort, alloc: Global, recovers: bool) -> Result<(), Fail> {
     let note = b"ignored FOO\n".as_slice();
     for error_writes in 0..note.len() {
         let fares = Fares {
@@ -236,7 +232,7 @@ fn streams_that_fail(rt: HostRuntime) -> Result<(), Fail> {
     ] {
         let fares = Fares {
             kind,
-            ..well(words)
+            ..well(&*words)
         };
         let ends = Ends {
             code: Some(code),

@@ -19,10 +19,12 @@ fn answers(alloc: Global, count: usize) -> Result<bool, Fail> {
     }
     let (_team, replies) = run::<PlainShares>(alloc, 1, Icv::initial(), steps)?;
     let text = print_replies(alloc, replies.as_slice())?;
-    Ok(replies.len() == count
-        && replies.iter().all(|reply| *reply == Reply::Passed)
-        && text.lines().count() == count
-        && text.lines().all(|line| line == "passed"))
+    Ok(
+        replies.len() == count
+            && replies.iter().all(|reply| *reply == Reply::Passed)
+            && text.lines().count() == count
+            && text.lines().all(|line| line == "passed"),
+    )
 }
 
 /// Whether the members of a team of this size, and with room for one share, meet at a barrier.
