@@ -1,4 +1,4 @@
-use Rattle.std.proofs.Common.{◌≡◌, ◌∙◌, ◌≤◌, true, Ok, refl, ap, arith}
+use Rattle.std.proofs.Common.{rules, ◌≡◌, ◌∙◌, ◌≤◌, true, Ok, refl, ap, arith}
 use Rattle.std.specs.Prelude.{flat_map}
 use Rattle.gomp_script.specs.Printing.{reply_line}
 use Rattle.gomp_script.specs.StepText.{steps_of}
@@ -20,3 +20,24 @@ returns-in-Ok-run c =
       text_is = c.in_ok-print_replies-in-Ok-run.ensures ∙ ap (flat_map reply_line) c.as_slice.ensures.value;
       code_is = refl;
     })
+
+pub returns-in-Err-Bad : goal.returns-in-Err-Bad
+returns-in-Err-Bad c = search rules
+
+pub returns-in-Err-BadTeam : goal.returns-in-Err-BadTeam
+returns-in-Err-BadTeam c = search rules
+
+pub returns-in-Err-Memory : goal.returns-in-Err-Memory
+returns-in-Err-Memory c = search rules
+
+pub returns : goal.returns
+returns c = search rules
+
+pub returns-in_err-print_bad_line-in-Err-Bad : goal.returns-in_err-print_bad_line-in-Err-Bad
+returns-in_err-print_bad_line-in-Err-Bad c = search rules
+
+pub returns-in_err-print_refusal-in-Err-BadTeam : goal.returns-in_err-print_refusal-in-Err-BadTeam
+returns-in_err-print_refusal-in-Err-BadTeam c = search rules
+
+pub returns-in_err-print_replies-in-Ok-run : goal.returns-in_err-print_replies-in-Ok-run
+returns-in_err-print_replies-in-Ok-run c = search rules

@@ -33,3 +33,12 @@ returns-clause-settings g c = λ name settings words plain.
     let size : length c.args.words.now < 2 ^ 64 = search rules in
     let few : length settings ≤ usize_max = plain_length name settings (map g.S.AsStr.text c.args.words.now) words (rw (length-map c.args.words.now g.S.AsStr.text) size) in
     told_ends c.in-Err.error [] settings (g.R.Read.remaining c.args.reader) _ _ c.told.result (rw (words, plain_has_no_fault name settings plain few) at c.in-Err.ensures.faults) c.told.ensures
+
+pub returns-in-Some-clause-ends : goal.returns-in-Some-clause-ends
+returns-in-Some-clause-ends g c = search rules
+
+pub returns-in-Ok-clause-ends : goal.returns-in-Ok-clause-ends
+returns-in-Ok-clause-ends g c = search rules
+
+pub returns-in-Ok-clause-steps : goal.returns-in-Ok-clause-steps
+returns-in-Ok-clause-steps g c = search rules

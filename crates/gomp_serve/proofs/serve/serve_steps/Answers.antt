@@ -1,0 +1,14 @@
+use Rattle.std.proofs.Common.{rules}
+use Rattle.gomp_serve.proofs.serve.serve_steps.Goals as goal
+
+pub returns : goal.returns
+returns g c = search rules
+
+pub returns-in-Err : goal.returns-in-Err
+returns-in-Err g c = search rules
+
+pub returns-in_default : goal.returns-in_default
+returns-in_default g c = search rules
+
+pub returns-then-is_err : goal.returns-then-is_err
+returns-then-is_err g c = search rules
