@@ -1,5 +1,6 @@
 mod AnswerLemmas
 mod CommandLemmas
+mod NumberLemmas
 mod PlainSettings
 mod ServeLemmas
 mod SettingLemmas

@@ -1,6 +1,6 @@
 //! The command line, and how the program ends.
 
-ghost use Rattle.std.specs.Prelude.{◌≡◌, ℕ, false, Some, List, [], ◌∷◌, IfOk, map, codes};
+ghost use Rattle.std.specs.Prelude.{◌≡◌, ◌≤◌, ℕ, false, Some, List, [], ◌∷◌, IfOk, map, codes};
 ghost use Rattle.std.specs.Option.{option_map_or};
 ghost use Rattle.std.specs.IoError.{error_kind};
 ghost use Rattle.clap.specs.Words.{FailsBy, app_of, kind_of, rule_of, subcommand_rows_of};
@@ -141,7 +141,8 @@ fn settings_arg<'a>(alloc: Global) -> Arg<'a>
 
 /// The end where the words of the command line cannot be had.
 pub fn without_words(alloc: Global, error: &io::Error) -> Status
-    ensures { HasNoWords (error_kind error.now) result.notes result.code }
+    ensures notes { HasNoWords (error_kind error.now) result.notes result.code }
+    ensures number { result.code ≤ 3 }
 {
     if let io::ErrorKind::OutOfMemory = error.kind() {
         return no_memory();

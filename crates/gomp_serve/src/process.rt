@@ -1,6 +1,7 @@
 //! The process: its words, its input, its output and standard error, and the number with which it ends.
 
-ghost use Rattle.std.specs.Prelude.{IfOk, IfErr};
+ghost use Rattle.std.specs.Prelude.{◌≤◌, IfOk, IfErr};
+ghost use Rattle.std.specs.Process.{exit_status};
 ghost use Rattle.gomp_serve.specs.Process.{EndsAs, EndsOn, EndsWithout, texts_of};
 
 use crate::command::{Status, no_memory, serve, without_words};
@@ -11,8 +12,8 @@ use std::io::{self, Read, Write};
 use std::process::ExitCode;
 
 /// Does what the words of the command line say, of which the first is the program's name, writes what is noted at its
-/// end to `errors`, and gives the number with which the process ends. The error is that the notes could not be
-/// written.
+/// end to `errors`, and gives the number with which the process ends, at most 3. The error is that the notes could not
+/// be written.
 ///
 /// The words are as `std::env::args` gives them: its error says that memory was refused or that a word is not UTF-8.
 pub fn run_process<R: Read + Drop, W: Write, E: Write>(
@@ -28,6 +29,7 @@ pub fn run_process<R: Read + Drop, W: Write, E: Write>(
     ensures none { IfErr words (λ error. EndsAs
         (EndsWithout error (W.contents writer.old) (W.contents writer.new))
         (E.contents errors.old) (E.contents errors.new) result) }
+    ensures number { IfOk result (λ code. exit_status code ≤ 3) }
 {
     let status = match words {
         Ok(words) => serve_words(alloc, words, reader, writer),
@@ -43,8 +45,9 @@ fn serve_words<R: Read + Drop, W: Write>(
     reader: R,
     writer: &mut W,
 ) -> Status
-    ensures { EndsOn (texts_of words) (R.remaining reader) (W.contents writer.old)
+    ensures ends { EndsOn (texts_of words) (R.remaining reader) (W.contents writer.old)
         (W.contents writer.new) result }
+    ensures number { result.code ≤ 3 }
 {
     let words: Vec<String> = match words.collect(alloc) {
         Ok(words) => words,

@@ -6,15 +6,21 @@ use Rattle.std.proofs.lemmas.Iterator.Adapters.{YieldsList-from_vec}
 use Rattle.gomp_serve.specs.CommandLine.{faults_of, settings_of}
 use Rattle.gomp_serve.specs.Process.{EndsOn, texts_of}
 use Rattle.gomp_serve.proofs.CommandLemmas.{memory_ends}
+use Rattle.gomp_serve.proofs.NumberLemmas.{words_number}
 use Rattle.gomp_serve.proofs.process.serve_words.Goals as goal
 
-pub returns-in-Err : goal.returns-in-Err
-returns-in-Err g c =
+pub returns-in-Err-clause-ends : goal.returns-in-Err-clause-ends
+returns-in-Err-clause-ends g c =
     rw c.no_memory.ensures (memory_ends (faults_of (texts_of c.args.words)) (settings_of (texts_of c.args.words)) (g.R.Read.remaining c.args.reader) _ _ refl)
 
-pub returns : goal.returns
-returns g c =
+pub returns-clause-ends : goal.returns-clause-ends
+returns-clause-ends g c =
     let size : into_iter_len c.args.words ≡ length (into_iter_items c.args.words) = let ok = c.args.words.rest.ok in omega arith in
     let same : c.in-Ok.words.items ≡ into_iter_items c.args.words = items_from_collect {E = ℕ} (Ok c.in-Ok.words) c.in-Ok.ensures.ran (YieldsList-from_vec (into_iter_items c.args.words) refl size) in
     let words : map string_bytes c.as_slice.result.now ≡ texts_of c.args.words = ap (map string_bytes) (c.as_slice.ensures.value ∙ same) in
     rw words at c.serve.ensures.ends
+
+pub returns-clause-number : goal.returns-clause-number
+returns-clause-number g c =
+    let words = map string_bytes c.as_slice.result.now in
+    words_number (faults_of words) (settings_of words) (g.R.Read.remaining c.args.reader) (g.W.Write.contents c.args.writer.now) (g.W.Write.contents c.serve.new.writer) c.serve.result c.serve.ensures.ends
