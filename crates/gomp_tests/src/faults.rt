@@ -61,9 +61,9 @@ impl Write for FailingWriter {
     }
 }
 
-/// How a process fares: its words, and how many reads and writes go well.
+/// A run of the process: its words, and how many reads and writes go well.
 #[derive(Clone, Copy)]
-struct Fares<'a> {
+struct Run<'a> {
     words: &'a [&'a str],
     reads: usize,
     kind: ErrorKind,
@@ -75,7 +75,7 @@ struct Fares<'a> {
 /// What has to follow: the number with which the process ends, which is none where a note cannot be written, and what
 /// its output and standard error get.
 #[derive(Clone, Copy)]
-struct Ends<'a> {
+struct Outcome<'a> {
     code: Option<u8>,
     output: &'a [u8],
     errors: &'a [u8],
@@ -85,9 +85,9 @@ const TEXT: &[u8] = b"team 1\n0 loop dynamic 1 0 0 1 nowait\n0 end_nowait\n";
 
 const OUTPUT: &[u8] = b"none\nok\n";
 
-/// A process that fares well.
-fn well<'a>(words: &'a [&'a str]) -> Fares<'a> {
-    Fares {
+/// A run in which every read and write goes well.
+fn faultless<'a>(words: &'a [&'a str]) -> Run<'a> {
+    Run {
         words,
         reads: usize::MAX,
         kind: ErrorKind::TimedOut,
@@ -98,39 +98,39 @@ fn well<'a>(words: &'a [&'a str]) -> Fares<'a> {
 }
 
 /// The words of a process, or the error that stands in their place where there are none.
-fn given(alloc: Global, fares: &Fares) -> Result<io::Result<std::env::Args>, Fail> {
+fn given(alloc: Global, run: &Run) -> Result<io::Result<std::env::Args>, Fail> {
     let mut words = Vec::new(alloc);
-    for word in fares.words {
+    for word in run.words {
         words.push(String::from_str(alloc, word)?)?;
     }
     if words.is_empty() {
-        return Ok(Err(io::Error::from(fares.kind)));
+        return Ok(Err(io::Error::from(run.kind)));
     }
     Ok(Ok(words.into_iter()))
 }
 
-/// That a process that fares so ends so.
-fn leads_to(rt: &impl Abort, alloc: Global, fares: &Fares, ends: &Ends) -> Result<(), Fail> {
+/// That a run has this outcome.
+fn has_outcome(rt: &impl Abort, alloc: Global, run: &Run, outcome: &Outcome) -> Result<(), Fail> {
     let reader = FailingReader {
         text: TEXT,
-        reads: fares.reads,
-        kind: fares.kind,
+        reads: run.reads,
+        kind: run.kind,
     };
     let mut writer = FailingWriter {
         written: Vec::new(alloc),
-        writes: fares.writes,
-        recovers: fares.recovers,
+        writes: run.writes,
+        recovers: run.recovers,
     };
     let mut errors = FailingWriter {
         written: Vec::new(alloc),
-        writes: fares.error_writes,
-        recovers: fares.recovers,
+        writes: run.error_writes,
+        recovers: run.recovers,
     };
-    let words = given(alloc, fares)?;
+    let words = given(alloc, run)?;
     let code = run_process(alloc, words, reader, &mut writer, &mut errors).ok();
-    assert!(rt; code == ends.code.map(|code| ExitCode::from(code)));
-    assert_eq!(rt; writer.written.as_slice(), ends.output);
-    assert_eq!(rt; errors.written.as_slice(), ends.errors);
+    assert!(rt; code == outcome.code.map(|code| ExitCode::from(code)));
+    assert_eq!(rt; writer.written.as_slice(), outcome.output);
+    assert_eq!(rt; errors.written.as_slice(), outcome.errors);
     Ok(())
 }
 
@@ -145,17 +145,17 @@ fn each_read_fails(rt: &impl Abort, alloc: Global, words: &[&str]) -> Result<(),
             (ErrorKind::TimedOut, 1, b"input fault\n".as_slice()),
             (ErrorKind::OutOfMemory, 3, b"no memory\n".as_slice()),
         ] {
-            let fares = Fares {
+            let run = Run {
                 reads,
                 kind,
-                ..well(&*words)
+                ..faultless(&*words)
             };
-            let ends = Ends {
+            let outcome = Outcome {
                 code: Some(code),
                 output: b"",
                 errors,
             };
-            leads_to(rt, alloc, &fares, &ends)?;
+            has_outcome(rt, alloc, &run, &outcome)?;
         }
     }
     Ok(())
@@ -169,17 +169,17 @@ fn each_write_fails(
     recovers: bool,
 ) -> Result<(), Fail> {
     for writes in 0..OUTPUT.len() {
-        let fares = Fares {
+        let run = Run {
             writes,
             recovers,
-            ..well(&*words)
+            ..faultless(&*words)
         };
-        let ends = Ends {
+        let outcome = Outcome {
             code: Some(1),
             output: &OUTPUT[..writes],
             errors: b"output fault\n",
         };
-        leads_to(rt, alloc, &fares, &ends)?;
+        has_outcome(rt, alloc, &run, &outcome)?;
     }
     Ok(())
 }
@@ -188,17 +188,17 @@ fn each_write_fails(
 fn each_write_of_a_note_fails(rt: &impl Abort, alloc: Global, recovers: bool) -> Result<(), Fail> {
     let note = b"ignored FOO\n".as_slice();
     for error_writes in 0..note.len() {
-        let fares = Fares {
+        let run = Run {
             error_writes,
             recovers,
-            ..well(WITH_AN_IGNORED_WORD)
+            ..faultless(WITH_AN_IGNORED_WORD)
         };
-        let ends = Ends {
+        let outcome = Outcome {
             code: None,
             output: OUTPUT,
             errors: &note[..error_writes],
         };
-        leads_to(rt, alloc, &fares, &ends)?;
+        has_outcome(rt, alloc, &run, &outcome)?;
     }
     Ok(())
 }
@@ -230,16 +230,16 @@ fn streams_that_fail(rt: HostRuntime) -> Result<(), Fail> {
             b"error: a word of the command line is not UTF-8\n".as_slice(),
         ),
     ] {
-        let fares = Fares {
+        let run = Run {
             kind,
-            ..well(&*words)
+            ..faultless(&*words)
         };
-        let ends = Ends {
+        let outcome = Outcome {
             code: Some(code),
             output,
             errors,
         };
-        leads_to(&rt, alloc, &fares, &ends)?;
+        has_outcome(&rt, alloc, &run, &outcome)?;
     }
     for recovers in [false, true] {
         each_write_fails(&rt, alloc, STEPS, recovers)?;
