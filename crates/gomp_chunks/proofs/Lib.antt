@@ -1,3 +1,5 @@
 pub mod GuidedSpots
 pub mod PieceAt
+pub mod PieceExamples
 pub mod Queues
+pub mod SpotExamples
