@@ -1,4 +1,5 @@
 pub mod Calls
+pub mod Examples
 pub mod Own
 pub mod Plain
 pub mod PlainLaws
