@@ -1,2 +1,3 @@
+pub mod BarrierExamples
 pub mod BarrierKeeps
 pub mod BarrierSteps

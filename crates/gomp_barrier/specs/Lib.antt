@@ -1,3 +1,4 @@
 pub mod Seats
 pub mod Calls
 pub mod Stands
+pub mod Examples

@@ -166,6 +166,3 @@ impl Plan {
         }
     }
 }
-
-#[cfg(test)]
-mod tests;

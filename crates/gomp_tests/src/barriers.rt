@@ -1,12 +1,136 @@
 //! The barriers of a team, called as a library.
 
-use gomp_barrier::Barriers;
+ghost use Rattle.std.specs.Prelude.{◌≡◌, ◌<◌};
+ghost use Rattle.gomp_barrier.specs.Stands.{members_of};
+
+use gomp_barrier::{AtBarrier, Barriers};
+use gomp_types::{Arrival, Tag};
+use std::alloc::Global;
+use std::process::Abort;
 use std::test::Fail;
+
+/// What a member does at its next barrier.
+#[derive(Clone, Copy)]
+enum Act {
+    Arrive(Tag),
+    Turn,
+}
+
+// A member of the team, what it does, the answer, and what it sees then: the barrier's number and tag,
+// with which tag it has arrived, and whether it has left the region.
+type Line = (u16, Act, bool, (u64, Option<Tag>, Option<Tag>, bool));
+
+/// The member does this, and gets this answer.
+fn answer(barriers: &mut Barriers, member: u16, act: Act) -> bool
+    requires member { member < members_of barriers.old }
+    ensures members { members_of barriers.new ≡ members_of barriers.old }
+{
+    match act {
+        Act::Arrive(tag) => barriers.arrive(member, tag),
+        Act::Turn => barriers.turn(member),
+    }
+}
+
+/// A new team of two goes through these lines.
+fn walk(rt: &impl Abort, alloc: Global, lines: &[Line]) -> Result<(), Fail> {
+    let mut barriers = Barriers::make(alloc, 2)?;
+    for (number, line) in lines.iter().enumerate() {
+        let member = line.0.min(1);
+        assert_eq!(rt;
+            answer(&mut barriers, member, line.1),
+            line.2,
+            "at line {number}"
+        );
+        let (barrier, tag, arrived, left) = line.3;
+        let expected = AtBarrier {
+            number: barrier,
+            tag,
+            arrived,
+            left,
+        };
+        assert_eq!(rt; barriers.look(member), expected, "after line {number}");
+    }
+    Ok(())
+}
+
+/// A team of so many meets at a barrier: nobody passes before all have arrived, and then all do.
+fn meet(rt: &impl Abort, alloc: Global, count: u16, tag: Tag) -> Result<(), Fail>
+    requires some { 0 < count }
+{
+    let mut barriers = Barriers::make(alloc, count)?;
+    for member in 0..count {
+        assert!(rt;
+            answer(&mut barriers, member, Act::Arrive(tag)),
+            "member {member} of {count}"
+        );
+        assert_eq!(rt;
+            answer(&mut barriers, 0, Act::Turn),
+            member + 1 == count,
+            "turn of {count}"
+        );
+    }
+    for member in 1..count {
+        assert!(rt;
+            answer(&mut barriers, member, Act::Turn),
+            "member {member} of {count}"
+        );
+    }
+    Ok(())
+}
 
 #[test]
 fn teams_of_every_size(rt: HostRuntime) -> Result<(), Fail> {
+    let tag = Tag {
+        kind: Arrival::Barrier,
+        shares: 0,
+    };
     for count in 1..65 {
-        Barriers::make(rt.alloc(), count)?;
+        meet(&rt, rt.alloc(), count, tag)?;
     }
     Ok(())
+}
+
+#[test]
+fn barriers_of_two_members(rt: HostRuntime) -> Result<(), Fail> {
+    let tag = Tag {
+        kind: Arrival::Barrier,
+        shares: 0,
+    };
+    let end = Tag {
+        kind: Arrival::RegionEnd,
+        shares: 1,
+    };
+    let other = Tag {
+        kind: Arrival::RegionEnd,
+        shares: 0,
+    };
+    let at = Some(tag);
+    let last = Some(end);
+    // A barrier opens when all are there.
+    walk(
+        &rt,
+        rt.alloc(),
+        &[
+            (0, Act::Arrive(tag), true, (0, at, at, false)),
+            (0, Act::Turn, false, (0, at, at, false)),
+            (1, Act::Arrive(tag), true, (0, at, at, false)),
+            (1, Act::Turn, true, (1, None, None, false)),
+            (1, Act::Arrive(tag), true, (1, at, at, false)),
+            (1, Act::Turn, false, (1, at, at, false)),
+            (0, Act::Turn, true, (1, at, None, false)),
+            (1, Act::Turn, false, (1, at, at, false)),
+        ],
+    )?;
+    // It takes one tag, and the region's end leaves the region.
+    walk(
+        &rt,
+        rt.alloc(),
+        &[
+            (1, Act::Arrive(end), true, (0, last, last, false)),
+            (0, Act::Arrive(other), false, (0, last, None, false)),
+            (0, Act::Arrive(end), true, (0, last, last, false)),
+            (0, Act::Turn, true, (1, None, None, true)),
+            (1, Act::Turn, true, (1, None, None, true)),
+        ],
+    )
 }

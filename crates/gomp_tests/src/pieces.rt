@@ -1,1 +1,250 @@
-//! The pieces of shares, at the limits.
+//! The pieces of shares of each kind, at their ends and at the limits.
+
+ghost use Rattle.std.specs.Prelude.{◌≡◌, ◌<◌, IfOk};
+
+use Construct::{Loop, Sections, Single};
+use gomp_chunks::{Cursor, Plan};
+use gomp_types::{EndKind, LoopDesc, Refusal, Sched, sections_shape, single_shape};
+use std::process::Abort;
+use std::test::Fail;
+
+// The longest loop has 2^39 iterations.
+const LONGEST: i64 = 549_755_813_888;
+
+// So many pieces it has in chunks of one.
+const MOST: u64 = 549_755_813_888;
+
+/// A work-share: a loop by its schedule, iterations and chunk, so many sections, or a `single`.
+#[derive(Clone, Copy)]
+enum Construct {
+    Loop(Sched, i64, i64),
+    Sections(u32),
+    Single { copies: bool },
+}
+
+/// Its plan in a team of so many members.
+fn plan_of(construct: Construct, members: u16) -> Result<Plan, Refusal>
+    ensures { IfOk result (λ plan. plan.members ≡ members) }
+{
+    if members == 0 {
+        return Err(Refusal::BadTeam);
+    }
+    match construct {
+        Loop(sched, trips, chunk) => plan_of_loop(&loop_of(sched, trips, chunk), members),
+        Sections(count) => Ok(Plan::of(&sections_shape(count, EndKind::Wait)?, members)),
+        Single { copies } => Ok(Plan::of(&single_shape(copies), members)),
+    }
+}
+
+/// A loop from 0 in steps of 1.
+fn loop_of(sched: Sched, trips: i64, chunk: i64) -> LoopDesc {
+    LoopDesc {
+        start: 0,
+        end: trips,
+        incr: 1,
+        sched,
+        chunk,
+        ordered: false,
+        end_kind: EndKind::Wait,
+    }
+}
+
+fn plan_of_loop(desc: &LoopDesc, members: u16) -> Result<Plan, Refusal>
+    requires { 0 < members }
+    ensures { IfOk result (λ plan. plan.members ≡ members) }
+{
+    Ok(Plan::of(&desc.shape()?, members))
+}
+
+#[test]
+fn each_piece_and_its_owner(rt: HostRuntime) -> Result<(), Fail> {
+    // A work-share, its members, and how many pieces that makes; a number, the piece that has it, and
+    // its owner.
+    let table = [
+        (
+            Loop(Sched::Dynamic, LONGEST, 1),
+            4,
+            MOST,
+            0,
+            Some((0, 1)),
+            None,
+        ),
+        (
+            Loop(Sched::Dynamic, LONGEST, 1),
+            4,
+            MOST,
+            MOST - 1,
+            Some((MOST - 1, MOST)),
+            None,
+        ),
+        (Loop(Sched::Dynamic, LONGEST, 1), 4, MOST, MOST, None, None),
+        (
+            Loop(Sched::Dynamic, LONGEST, 1),
+            4,
+            MOST,
+            u64::MAX,
+            None,
+            None,
+        ),
+        (
+            Loop(Sched::Dynamic, LONGEST, LONGEST),
+            4,
+            1,
+            0,
+            Some((0, MOST)),
+            None,
+        ),
+        (Loop(Sched::Dynamic, LONGEST, LONGEST), 4, 1, 1, None, None),
+        (Loop(Sched::Dynamic, 10, 3), 4, 4, 0, Some((0, 3)), None),
+        (Loop(Sched::Dynamic, 10, 3), 4, 4, 1, Some((3, 6)), None),
+        (Loop(Sched::Dynamic, 10, 3), 4, 4, 2, Some((6, 9)), None),
+        (Loop(Sched::Dynamic, 10, 3), 4, 4, 3, Some((9, 10)), None),
+        (Loop(Sched::Dynamic, 10, 3), 4, 4, 4, None, None),
+        (Loop(Sched::Dynamic, 0, 3), 4, 0, 0, None, None),
+        (Loop(Sched::Static, 10, 3), 2, 4, 0, Some((0, 3)), Some(0)),
+        (Loop(Sched::Static, 10, 3), 2, 4, 1, Some((3, 6)), Some(1)),
+        (Loop(Sched::Static, 10, 3), 2, 4, 2, Some((6, 9)), Some(0)),
+        (Loop(Sched::Static, 10, 3), 2, 4, 3, Some((9, 10)), Some(1)),
+        (Loop(Sched::Static, 10, 3), 2, 4, 4, None, None),
+        (
+            Loop(Sched::Static, LONGEST, 1),
+            64,
+            MOST,
+            MOST - 1,
+            Some((MOST - 1, MOST)),
+            Some(63),
+        ),
+        (
+            Loop(Sched::Static, LONGEST, LONGEST),
+            64,
+            1,
+            0,
+            Some((0, MOST)),
+            Some(0),
+        ),
+        (Loop(Sched::Static, 10, 0), 4, 4, 0, Some((0, 3)), Some(0)),
+        (Loop(Sched::Static, 10, 0), 4, 4, 1, Some((3, 6)), Some(1)),
+        (Loop(Sched::Static, 10, 0), 4, 4, 2, Some((6, 8)), Some(2)),
+        (Loop(Sched::Static, 10, 0), 4, 4, 3, Some((8, 10)), Some(3)),
+        (Loop(Sched::Static, 10, 0), 4, 4, 4, None, None),
+        (Loop(Sched::Static, 10, 0), 2, 2, 1, Some((5, 10)), Some(1)),
+        (Loop(Sched::Static, 10, 0), 2, 2, 2, None, None),
+        (Loop(Sched::Static, 2, 0), 4, 2, 1, Some((1, 2)), Some(1)),
+        (Loop(Sched::Static, 2, 0), 4, 2, 2, None, None),
+        (Loop(Sched::Static, 0, 0), 4, 0, 0, None, None),
+        (
+            Loop(Sched::Static, LONGEST, 0),
+            64,
+            64,
+            63,
+            Some((MOST - MOST / 64, MOST)),
+            Some(63),
+        ),
+        (Loop(Sched::Guided, 20, 2), 4, 7, 0, Some((0, 5)), None),
+        (Loop(Sched::Guided, 20, 2), 4, 7, 1, Some((5, 9)), None),
+        (Loop(Sched::Guided, 20, 2), 4, 7, 2, Some((9, 12)), None),
+        (Loop(Sched::Guided, 20, 2), 4, 7, 3, Some((12, 14)), None),
+        (Loop(Sched::Guided, 20, 2), 4, 7, 6, Some((18, 20)), None),
+        (Loop(Sched::Guided, 20, 2), 4, 7, 7, None, None),
+        (Loop(Sched::Guided, 20, 2), 4, 7, u64::MAX, None, None),
+        (Loop(Sched::Guided, 0, 2), 4, 0, 0, None, None),
+        (
+            Loop(Sched::Guided, LONGEST, 0),
+            1,
+            1,
+            0,
+            Some((0, MOST)),
+            None,
+        ),
+        (
+            Loop(Sched::Guided, LONGEST, LONGEST),
+            64,
+            1,
+            0,
+            Some((0, MOST)),
+            None,
+        ),
+        (
+            Loop(Sched::Guided, LONGEST, 1),
+            64,
+            1490,
+            1489,
+            Some((MOST - 1, MOST)),
+            None,
+        ),
+        (Sections(5), 2, 5, 0, Some((0, 1)), None),
+        (Sections(5), 2, 5, 1, Some((1, 2)), None),
+        (Sections(5), 2, 5, 2, Some((2, 3)), None),
+        (Sections(5), 2, 5, 3, Some((3, 4)), None),
+        (Sections(5), 2, 5, 4, Some((4, 5)), None),
+        (Sections(5), 2, 5, 5, None, None),
+        (Sections(5), 2, 5, u64::MAX, None, None),
+        (Sections(1), 2, 1, 0, Some((0, 1)), None),
+        (Sections(1), 2, 1, 1, None, None),
+        (Sections(0), 2, 0, 0, None, None),
+        (
+            Sections(65_536),
+            2,
+            65_536,
+            65_535,
+            Some((65_535, 65_536)),
+            None,
+        ),
+        (Sections(65_536), 2, 65_536, 65_536, None, None),
+        (Single { copies: false }, 4, 1, 0, Some((0, 1)), None),
+        (Single { copies: false }, 4, 1, 1, None, None),
+        (Single { copies: true }, 4, 1, 0, Some((0, 1)), None),
+        (Single { copies: true }, 4, 1, u64::MAX, None, None),
+    ];
+    for (row, (construct, members, count, j, piece, owner)) in table.into_iter().enumerate() {
+        let plan = plan_of(construct, members)?;
+        assert_eq!(rt; plan.chunks(), count, "pieces of row {row}");
+        assert_eq!(rt; plan.chunk(j), piece, "piece {j} of row {row}");
+        assert_eq!(rt; plan.owner(j), owner, "owner of row {row}");
+    }
+    Ok(())
+}
+
+/// That a cursor, led through these numbers, gives what the plan gives.
+fn follows(rt: &impl Abort, plan: Plan, numbers: &[u64]) {
+    let mut cursor = Cursor::new(plan);
+    for j in numbers {
+        assert_eq!(rt; cursor.advance_to(*j), plan.chunk(*j), "piece {j}");
+    }
+}
+
+#[test]
+fn the_next_piece_of_each_member(rt: HostRuntime) -> Result<(), Fail> {
+    // A work-share of a team of two, a member, its takes and those of all; the number of its next piece.
+    let table = [
+        (Loop(Sched::Static, 10, 3), 0, 0, 3, Some(0)),
+        (Loop(Sched::Static, 10, 3), 1, 0, 3, Some(1)),
+        (Loop(Sched::Static, 10, 3), 1, 1, 3, Some(3)),
+        (Loop(Sched::Static, 10, 3), 0, u64::MAX, 3, None),
+        (Loop(Sched::Static, 10, 0), 1, 0, 3, Some(1)),
+        (Loop(Sched::Static, 10, 0), 1, 1, 3, None),
+        (Loop(Sched::Dynamic, 10, 3), 1, 2, 3, Some(3)),
+        (Loop(Sched::Guided, 10, 3), 0, 2, 3, Some(3)),
+        (Sections(0), 1, 0, 0, Some(0)),
+        (Sections(1), 1, 0, 1, Some(1)),
+        (Sections(5), 1, 0, 4, Some(4)),
+        (Sections(65_536), 1, 0, 65_536, Some(65_536)),
+        (Single { copies: false }, 1, 0, 0, Some(0)),
+        (Single { copies: true }, 1, 0, u64::MAX, Some(u64::MAX)),
+    ];
+    for (row, (construct, member, own, all, number)) in table.into_iter().enumerate() {
+        let plan = plan_of(construct, 2)?;
+        if member < 2 {
+            assert_eq!(rt; plan.next_number(member, own, all), number, "row {row}");
+        }
+        follows(&rt, plan, &[0, 1, 2, 3, 4, 5, 2, 0, u64::MAX, 1]);
+    }
+    for sched in [Sched::Static, Sched::Dynamic, Sched::Guided] {
+        for chunk in [0, 2] {
+            let plan = plan_of(Loop(sched, 20, chunk), 4)?;
+            follows(&rt, plan, &[0, 1, 2, 3, 4, 5, 6, 7, 8, 19, 20]);
+            follows(&rt, plan, &[3, 3, 1, 6, 0, 100, 2, u64::MAX, 5]);
+        }
+    }
+    Ok(())
+}

@@ -2,7 +2,7 @@ use Rattle.std.proofs.Common.{◌≡◌, ◌∙◌, sym}
 use Rattle.gomp_types.specs.Tests.{first_refusal}
 use Rattle.gomp_types.specs.Iterations.{loop_tests}
 use Rattle.gomp_types.specs.Pieces.{shape_of}
-use Rattle.gomp_chunks.proofs.tests.plan_of.Goals as goal
+use Rattle.gomp_tests.proofs.pieces.plan_of_loop.Goals as goal
 use Rattle.gomp_types.proofs.TestRows.{outcome_value}
 
 pub of-requires-clause-shape : goal.of-requires-clause-shape

@@ -1,0 +1,289 @@
+-- What the calls of the barriers answer and add, and when seats stand for events: for each line of a definition what it says, and what it alone refuses.
+use Rattle.std.proofs.Common.{◌≡◌, ℕ, ◌+◌, ◌-◌, ◌<◌, ◌≤◌, ◌^◌, Bool, true, false, List, [], ◌∷◌, Option, Some, None, suc, zero, length, slice_get, refl, subst, ap, arith}
+use Rattle.std.specs.Prelude.{◌==◌, get_or, is_some, All}
+use Rattle.std.proofs.lemmas.Bool.Decides.{nat_tests}
+use Rattle.gomp_types.specs.declared.refusal.Place.{Place}
+use Rattle.gomp_types.specs.declared.shape.Shape.{Shape}
+use Rattle.gomp_types.specs.declared.event.Tag.{Tag}
+use Rattle.gomp_types.specs.declared.event.Event.{Event}
+use Rattle.gomp_types.specs.declared.event.Event.TheVariants.{Enter, Take, Drained, End, HandOn, Part, PartEnd, Put, Got, Arrive, Pass, Break}
+use Rattle.gomp_types.specs.Events.{arrival, tag_at}
+use Rattle.gomp_barrier.specs.declared.front.Seat.{Seat}
+use Rattle.gomp_barrier.specs.Calls.{at_barrier, arrived_after, turn_after, IsAside}
+use Rattle.gomp_barrier.specs.Seats.{differ, is_ahead, tag_for, number_for, IsThere, arrived_at, passed_by, advanced, barrier_of, SeatStands, FrontStands, SomeBehind}
+use Rattle.gomp_barrier.specs.Stands.{Stands, members_of}
+use Rattle.gomp_barrier.specs.Examples.{at_barrier_tag, at_end_tag, both_arrived, second_ahead, first_left, seat_with, front_with, barriers_with, sees_barrier, new_seat, new_front, seat_behind, seat_ahead, front_between}
+
+-- What a member sees
+
+-- nobody has arrived
+pub seen_at_first : at_barrier 0 [] ≡ sees_barrier 0 None None false
+seen_at_first = refl
+
+-- the other has arrived
+pub seen_after_the_other : at_barrier 0 (Arrive 0 1 at_barrier_tag ∷ []) ≡ sees_barrier 0 (Some at_barrier_tag) None false
+seen_after_the_other = refl
+
+-- the other is one barrier ahead, and each sees its own
+pub seen_behind : at_barrier 0 second_ahead ≡ sees_barrier 0 (Some at_barrier_tag) (Some at_barrier_tag) false
+seen_behind = refl
+
+pub seen_ahead : at_barrier 1 second_ahead ≡ sees_barrier 1 (Some at_end_tag) (Some at_end_tag) false
+seen_ahead = refl
+
+-- a member has passed the region's end, and the other has not
+pub seen_after_the_end : at_barrier 0 first_left ≡ sees_barrier 2 None None true
+seen_after_the_end = refl
+
+pub seen_before_the_end : at_barrier 1 first_left ≡ sees_barrier 1 (Some at_end_tag) (Some at_end_tag) false
+seen_before_the_end = refl
+
+-- What the calls add
+
+-- an arrival is at the member's next barrier
+pub arrival_adds : arrived_after true 1 at_end_tag (Pass 0 1 ∷ both_arrived) ≡ second_ahead
+arrival_adds = refl
+
+pub refused_arrival_adds : arrived_after false 1 at_end_tag both_arrived ≡ both_arrived
+refused_arrival_adds = refl
+
+-- and so is a pass
+pub turn_adds : turn_after true 0 (Arrive 1 0 at_end_tag ∷ Pass 0 0 ∷ second_ahead) ≡ first_left
+turn_adds = refl
+
+pub refused_turn_adds : turn_after false 0 both_arrived ≡ both_arrived
+refused_turn_adds = refl
+
+-- the barriers see arrivals and passes
+pub arrivals_are_seen : (barrier m : ℕ) (tag : Tag) → (IsAside (Arrive barrier m tag) → ⊥) × (IsAside (Pass barrier m) → ⊥)
+arrivals_are_seen barrier m tag = (λ is. is, λ is. is)
+
+-- and nothing else
+pub shares_are_aside : (share m low high k : ℕ) (shape : Shape) → IsAside (Enter share m shape) × IsAside (Take share m low high) × IsAside (Drained share m) × IsAside (End share m) × IsAside (HandOn share m k) × IsAside (Part share m k) × IsAside (PartEnd share m)
+shares_are_aside share m low high k shape = (tt, tt, tt, tt, tt, tt, tt)
+
+pub words_are_aside : (share m : ℕ) (payload : List ℕ) (place : Place) → IsAside (Put share m payload) × IsAside (Got share m payload) × IsAside (Break m place)
+words_are_aside share m payload place = (tt, tt, tt)
+
+-- A member's seat and the front
+
+-- a member is ahead where the parities differ
+pub parities_differ : (differ true false ≡ true) × (differ false true ≡ true)
+parities_differ = (refl, refl)
+
+pub parities_agree : (differ true true ≡ false) × (differ false false ≡ false)
+parities_agree = (refl, refl)
+
+pub second_is_ahead : is_ahead front_between seat_ahead ≡ true
+second_is_ahead = refl
+
+pub first_is_not_ahead : is_ahead front_between seat_behind ≡ false
+first_is_not_ahead = refl
+
+-- also where the front's number is odd
+pub behind_an_odd_front : is_ahead (front_with true 1 None None) (seat_with true None false) ≡ false
+behind_an_odd_front = refl
+
+pub ahead_of_an_odd_front : is_ahead (front_with true 1 None None) new_seat ≡ true
+ahead_of_an_odd_front = refl
+
+-- each has the tag of its next barrier
+pub tag_of_the_second : tag_for front_between seat_ahead ≡ Some at_end_tag
+tag_of_the_second = refl
+
+pub tag_of_the_first : tag_for front_between seat_behind ≡ Some at_barrier_tag
+tag_of_the_first = refl
+
+-- and its number, which stays at the largest one
+pub number_of_the_second : number_for front_between seat_ahead ≡ 1
+number_of_the_second = refl
+
+pub number_of_the_first : number_for front_between seat_behind ≡ 0
+number_of_the_first = refl
+
+pub number_at_the_limit : number_for (front_with false (2 ^ 64 - 1) None None) seat_ahead ≡ 2 ^ 64 - 1
+number_at_the_limit = refl
+
+pub number_below_the_limit : number_for (front_with false (2 ^ 64 - 2) None None) seat_ahead ≡ 2 ^ 64 - 1
+number_below_the_limit = refl
+
+pub barrier_of_the_second : barrier_of front_between 0 seat_ahead ≡ 1
+barrier_of_the_second = refl
+
+pub barrier_of_the_first : barrier_of front_between 0 seat_behind ≡ 0
+barrier_of_the_first = refl
+
+-- who has arrived is there, and who has passed, whether it has arrived at the next one or not
+pub arrived_is_there : IsThere front_between seat_behind
+arrived_is_there = refl
+
+pub passed_is_there : IsThere front_between (seat_with true None false)
+passed_is_there = refl
+
+pub others_are_not_there : IsThere front_between new_seat → ⊥
+others_are_not_there there = absurd (cc)
+
+-- nor is one that has passed the region's end, at the next barrier
+pub left_is_not_there : IsThere new_front (seat_with false None true) → ⊥
+left_is_not_there there = absurd (cc)
+
+-- an arrival is noted at the front or at the barrier after it
+pub arrival_at_the_front : arrived_at (front_with false 6 None (Some at_end_tag)) new_seat at_barrier_tag ≡ front_with false 6 (Some at_barrier_tag) (Some at_end_tag)
+arrival_at_the_front = refl
+
+pub arrival_after_the_front : arrived_at (front_with false 6 (Some at_barrier_tag) None) (seat_with true None false) at_end_tag ≡ front_with false 6 (Some at_barrier_tag) (Some at_end_tag)
+arrival_after_the_front = refl
+
+-- a member that passes has not arrived at the next one; it has left the region where this was its end
+pub passes_a_barrier : passed_by seat_behind false ≡ seat_with true None false
+passes_a_barrier = refl
+
+pub passes_the_end : passed_by seat_ahead true ≡ seat_with false None true
+passes_the_end = refl
+
+pub stays_left : passed_by (seat_with true (Some at_end_tag) true) false ≡ seat_with false None true
+stays_left = refl
+
+-- the front that all have passed is the next barrier
+pub front_advances : advanced front_between ≡ front_with true 1 (Some at_end_tag) None
+front_advances = refl
+
+pub front_advances_back : advanced (front_with true 1 (Some at_end_tag) None) ≡ front_with false 2 None None
+front_advances_back = refl
+
+pub front_at_the_limit : advanced (front_with true (2 ^ 64 - 1) None None) ≡ front_with false (2 ^ 64 - 1) None None
+front_at_the_limit = refl
+
+-- When a seat stands for the events
+
+-- of a number below one
+only_zero : (P : ℕ → Type 0) → P 0 → (g : ℕ) → g < 1 → P g
+only_zero P zero-is zero below = zero-is
+only_zero P zero-is (suc g) below = absurd (omega arith)
+
+-- no later number is that of one of the two barriers
+not_the_first : (g : ℕ) → (0 == suc (suc g)) ≡ false
+not_the_first g = grind (arith, nat_tests)
+
+not_the_next : (g : ℕ) → (1 == suc (suc g)) ≡ false
+not_the_next g = grind (arith, nat_tests)
+
+-- the seats when the second member is ahead
+first_stands : SeatStands front_between 0 0 seat_behind second_ahead
+first_stands = record { passed_is = refl; here = refl; behind = λ g below. absurd (omega arith); beyond = not_later; left_is = refl }
+  where
+    not_later : (g : ℕ) → 0 < g → arrival g 0 second_ahead ≡ None
+    not_later zero below = absurd (omega arith)
+    not_later (suc zero) below = refl
+    not_later (suc (suc g)) below = rw (not_the_first g, not_the_next g) refl
+
+second_stands : SeatStands front_between 0 1 seat_ahead second_ahead
+second_stands = record { passed_is = refl; here = refl; behind = only_zero (λ g. is_some (arrival g 1 second_ahead) ≡ true) refl; beyond = not_later; left_is = refl }
+  where
+    not_later : (g : ℕ) → 1 < g → arrival g 1 second_ahead ≡ None
+    not_later zero below = absurd (omega arith)
+    not_later (suc zero) below = absurd (omega arith)
+    not_later (suc (suc g)) below = rw (not_the_first g, not_the_next g) refl
+
+pub seat_stands_behind : SeatStands front_between 0 0 seat_behind second_ahead
+seat_stands_behind = first_stands
+
+pub seat_stands_ahead : SeatStands front_between 0 1 seat_ahead second_ahead
+seat_stands_ahead = second_stands
+
+-- a member that has not passed, as if it had
+pub seat_not_passed : SeatStands front_between 0 1 seat_ahead (Arrive 1 1 at_end_tag ∷ both_arrived) → ⊥
+seat_not_passed seat = absurd (let passed = seat.passed_is in omega arith)
+
+-- one that has arrived, as if it had not
+pub seat_not_arrived : SeatStands new_front 0 0 new_seat both_arrived → ⊥
+seat_not_arrived seat = absurd (let here = seat.here in cc)
+
+-- one that has passed where it has not arrived
+pub seat_not_behind : SeatStands new_front 0 0 (seat_with true None false) (Pass 0 0 ∷ []) → ⊥
+seat_not_behind seat = absurd (let behind = seat.behind 0 (omega arith) in cc)
+
+-- one that has arrived at a barrier to come
+pub seat_beyond : SeatStands new_front 0 0 new_seat (Arrive 1 0 at_barrier_tag ∷ []) → ⊥
+seat_beyond seat = absurd (let beyond = seat.beyond 1 (omega arith) in cc)
+
+-- one that has not left the region, as if it had
+pub seat_not_left : SeatStands new_front 0 0 (seat_with false None true) [] → ⊥
+seat_not_left seat = absurd (let left = seat.left_is in cc)
+
+-- When the front does: without members it is the front alone
+
+front_seatless : (m : ℕ) (seat : Seat) → slice_get {X = Seat} [] m ≡ Some seat → SeatStands front_between 0 m seat second_ahead
+front_seatless zero seat at = absurd (cc)
+front_seatless (suc m) seat at = absurd (cc)
+
+pub front_stands : FrontStands [] front_between 0 second_ahead
+front_stands = record { number = refl; tag = refl; next = refl; beyond = not_later; seat = front_seatless }
+  where
+    not_later : (g : ℕ) → 2 ≤ g → tag_at g second_ahead ≡ None
+    not_later zero below = absurd (omega arith)
+    not_later (suc zero) below = absurd (omega arith)
+    not_later (suc (suc g)) below = rw (not_the_first g, not_the_next g) refl
+
+-- another number, another tag here, another tag at the next barrier, an arrival later on, another seat
+pub front_of_another_number : FrontStands [] (front_with false 1 None None) 0 [] → ⊥
+front_of_another_number front = absurd (let number = front.number in omega arith)
+
+pub front_without_its_tag : FrontStands [] new_front 0 both_arrived → ⊥
+front_without_its_tag front = absurd (let tag = front.tag in cc)
+
+pub front_without_the_next_tag : FrontStands [] new_front 0 (Arrive 1 0 at_end_tag ∷ []) → ⊥
+front_without_the_next_tag front = absurd (let next = front.next in cc)
+
+pub front_two_behind : FrontStands [] new_front 0 (Arrive 2 0 at_end_tag ∷ []) → ⊥
+front_two_behind front = absurd (let beyond = front.beyond 2 (omega arith) in cc)
+
+pub front_of_another_seat : FrontStands (seat_with false None true ∷ []) new_front 0 [] → ⊥
+front_of_another_seat front = seat_not_left (front.seat 0 (seat_with false None true) refl)
+
+-- some member is behind where one has not passed the front
+pub first_is_behind : SomeBehind front_between (seat_behind ∷ seat_ahead ∷ [])
+first_is_behind all = absurd (let passed = all 0 seat_behind (omega arith) in cc)
+
+both_ahead : (k : ℕ) (other : Seat) → k < 2 → is_ahead front_between (get_or (seat_ahead ∷ seat_ahead ∷ []) k other) ≡ true
+both_ahead zero other below = refl
+both_ahead (suc zero) other below = refl
+both_ahead (suc (suc k)) other below = absurd (omega arith)
+
+pub nobody_is_behind : SomeBehind front_between (seat_ahead ∷ seat_ahead ∷ []) → ⊥
+nobody_is_behind behind = behind both_ahead
+
+-- When both do
+
+-- the barriers of two members, of which the second is ahead
+two_seats : (P : ℕ → Seat → Type 0) (a b : Seat) → P 0 a → P 1 b → (m : ℕ) (seat : Seat) → slice_get (a ∷ b ∷ []) m ≡ Some seat → P m seat
+two_seats P a b first second zero seat at = let same : a ≡ seat = cc in subst (P 0) same first
+two_seats P a b first second (suc zero) seat at = let same : b ≡ seat = cc in subst (P 1) same second
+two_seats P a b first second (suc (suc m)) seat at = absurd (cc)
+
+pub barriers_stand : Stands (barriers_with (seat_behind ∷ seat_ahead ∷ []) front_between) second_ahead
+barriers_stand = record {
+  least = 0;
+  barrier = record { number = refl; tag = refl; next = refl; beyond = front_stands.beyond; seat = two_seats (λ m seat. SeatStands front_between 0 m seat second_ahead) seat_behind seat_ahead first_stands second_stands };
+  behind = first_is_behind;
+  rule = (
+    record { number = refl; same = λ other at. absurd (cc) },
+    (record { number = refl; met = refl }, (record { number = refl; same = λ other at. cc }, (record { number = refl; same = λ other at. absurd (cc) }, tt))),
+  );
+}
+
+pub two_members : members_of (barriers_with (seat_behind ∷ seat_ahead ∷ []) front_between) ≡ 2
+two_members = refl
+
+-- with another front, with a front that all have passed, and after events that keep no rule: a member passes alone, or arrives with another tag
+pub barriers_of_another_front : Stands (barriers_with (new_seat ∷ []) (front_with false 0 (Some at_end_tag) None)) [] → ⊥
+barriers_of_another_front stands = absurd (let tag = stands.barrier.tag in cc)
+
+pub barriers_all_passed : Stands (barriers_with (seat_ahead ∷ seat_ahead ∷ []) front_between) (Arrive 1 0 at_end_tag ∷ Pass 0 0 ∷ second_ahead) → ⊥
+barriers_all_passed stands = nobody_is_behind stands.behind
+
+pub barriers_of_two_tags : Stands (barriers_with (seat_behind ∷ seat_with false (Some at_end_tag) false ∷ []) (front_with false 0 (Some at_end_tag) None)) (Arrive 0 1 at_end_tag ∷ Arrive 0 0 at_barrier_tag ∷ []) → ⊥
+barriers_of_two_tags stands = absurd (let same = ap (λ (tag : Tag). tag.kind) (stands.rule.0.same at_barrier_tag refl) in cc)
+
+pub barriers_passed_alone : Stands (barriers_with (seat_with true None false ∷ new_seat ∷ []) (front_with false 0 (Some at_barrier_tag) None)) (Pass 0 0 ∷ Arrive 0 0 at_barrier_tag ∷ []) → ⊥
+barriers_passed_alone stands = absurd (let met = stands.rule.0.met in cc)

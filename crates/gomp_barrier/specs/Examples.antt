@@ -1,0 +1,60 @@
+-- Events, and the barriers of a team that stand for them or do not, that the examples share. Each list has the newest event first. (own)
+use Rattle.std.specs.Prelude.{ℕ, Bool, true, false, List, [], ◌∷◌, Option, Some, None}
+use Rattle.gomp_types.specs.declared.event.Arrival.{Arrival}
+use Rattle.gomp_types.specs.declared.event.Arrival.TheVariants.{Barrier, RegionEnd}
+use Rattle.gomp_types.specs.declared.event.Tag.{Tag}
+use Rattle.gomp_types.specs.declared.event.Event.{Event}
+use Rattle.gomp_types.specs.declared.event.Event.TheVariants.{Arrive, Pass}
+use Rattle.gomp_barrier.specs.declared.barriers.AtBarrier.{AtBarrier}
+use Rattle.gomp_barrier.specs.declared.front.Seat.{Seat}
+use Rattle.gomp_barrier.specs.declared.front.Front.{Front}
+use Rattle.gomp_barrier.specs.Stands.{BarriersView}
+
+-- the arrivals at a barrier and at the region's end, after no share
+abbrev pub at_barrier_tag : Tag
+at_barrier_tag = record { kind = Barrier; shares = 0 }
+
+abbrev pub at_end_tag : Tag
+at_end_tag = record { kind = RegionEnd; shares = 0 }
+
+-- both members arrive at the first barrier
+abbrev pub both_arrived : List Event
+both_arrived = Arrive 0 1 at_barrier_tag ∷ Arrive 0 0 at_barrier_tag ∷ []
+
+-- the second passes it and arrives at the region's end
+abbrev pub second_ahead : List Event
+second_ahead = Arrive 1 1 at_end_tag ∷ Pass 0 1 ∷ both_arrived
+
+-- the first follows, and passes the region's end
+abbrev pub first_left : List Event
+first_left = Pass 1 0 ∷ Arrive 1 0 at_end_tag ∷ Pass 0 0 ∷ second_ahead
+
+abbrev pub seat_with : Bool → Option Tag → Bool → Seat
+seat_with odd arrived left = record { odd = odd; arrived = arrived; left = left }
+
+abbrev pub front_with : Bool → ℕ → Option Tag → Option Tag → Front
+front_with odd number tag next = record { odd = odd; number = number; tag = tag; next = next }
+
+abbrev pub barriers_with : List Seat → Front → BarriersView
+barriers_with seats front = record { seats = seats; front = front }
+
+abbrev pub sees_barrier : ℕ → Option Tag → Option Tag → Bool → AtBarrier
+sees_barrier number tag arrived left = record { number = number; tag = tag; arrived = arrived; left = left }
+
+-- a member that has neither arrived nor passed
+abbrev pub new_seat : Seat
+new_seat = seat_with false None false
+
+-- the first barrier, at which nobody has arrived
+abbrev pub new_front : Front
+new_front = front_with false 0 None None
+
+-- the seats and the front when the second member is ahead
+abbrev pub seat_behind : Seat
+seat_behind = seat_with false (Some at_barrier_tag) false
+
+abbrev pub seat_ahead : Seat
+seat_ahead = seat_with true (Some at_end_tag) false
+
+abbrev pub front_between : Front
+front_between = front_with false 0 (Some at_barrier_tag) (Some at_end_tag)
