@@ -1,4 +1,4 @@
-use Rattle.std.proofs.Common.{◌≡◌, ◌+◌, ◌*◌, ◌<◌, None, slice_get, sym, subst, arith}
+use Rattle.std.proofs.Common.{◌≡◌, ◌+◌, ◌*◌, ◌<◌, None, slice_get, sym, subst, arith, rules}
 use Rattle.gomp_chunks.specs.Plans.{PlanView, next_piece, pieces}
 use Rattle.gomp_chunks.proofs.Queues.{own_chunked, own_chunked_none, own_even, own_even_none}
 use Rattle.gomp_chunks.proofs.Plan.next_number.Goals as goal
@@ -28,3 +28,6 @@ returns-in-StaticEven-2 c =
     let plan : PlanView = record { members = c.self.inside.members; shape = c.self.inside.shape } in
     let first = c.if-own-gt0.false in
     subst (λ (p : PlanView). next_piece p c.args.member c.args.own c.args.all ≡ slice_get (pieces p) c.args.member) c.self.view_is (own_even plan c.args.member c.args.own c.args.all c.in-StaticEven-2.is (omega arith))
+
+pub returns-in_default : goal.returns-in_default
+returns-in_default c = search rules

@@ -1,4 +1,4 @@
-use Rattle.std.proofs.Common.{◌≡◌, length, sym, subst, arith}
+use Rattle.std.proofs.Common.{◌≡◌, length, sym, subst, arith, rules}
 use Rattle.gomp_types.specs.Pieces.{even_pieces}
 use Rattle.gomp_chunks.specs.Plans.{PlanView, pieces}
 use Rattle.gomp_chunks.proofs.PieceAt.{length-even_pieces}
@@ -11,3 +11,12 @@ even_owner-requires c =
     let even : c.chunks.result ≡ length (even_pieces c.self.inside.shape.trips c.self.inside.members) = rw c.in-StaticEven.is at all in
     let below = c.if-j-chunks.false in
     omega arith
+
+pub overflow_cast-result-in-StaticChunked : goal.overflow_cast-result-in-StaticChunked
+overflow_cast-result-in-StaticChunked c = search rules
+
+pub returns-in-StaticChunked-clause-owner : goal.returns-in-StaticChunked-clause-owner
+returns-in-StaticChunked-clause-owner c = search rules
+
+pub returns-in-StaticChunked-clause-member : goal.returns-in-StaticChunked-clause-member
+returns-in-StaticChunked-clause-member c = search rules

@@ -1,4 +1,6 @@
-use Rattle.std.proofs.Common.{arith}
+use Rattle.std.proofs.Common.{sym, arith}
+use Rattle.std.proofs.lemmas.Option.{slice_get_past}
+use Rattle.gomp_types.specs.Pieces.{dynamic_pieces}
 use Rattle.gomp_chunks.proofs.PieceAt.{slice_get-dynamic_pieces, dynamic_begins_within}
 use Rattle.gomp_chunks.proofs.chunked.chunked_piece.Goals as goal
 
@@ -13,3 +15,9 @@ returns-clause-piece c = grind (arith, slice_get-dynamic_pieces c.args.shape.now
 
 pub returns-clause-within : goal.returns-clause-within
 returns-clause-within c = grind (arith, dynamic_begins_within c.args.shape.now.trips c.args.shape.now.chunk c.args.j)
+
+pub returns-then-j-chunked_count-clause-piece : goal.returns-then-j-chunked_count-clause-piece
+returns-then-j-chunked_count-clause-piece c =
+    let count = c.chunked_count.ensures.count in
+    let past = c.if-j-chunked_count.true in
+    sym (slice_get_past (dynamic_pieces c.args.shape.now.trips c.args.shape.now.chunk) c.args.j (omega arith))
