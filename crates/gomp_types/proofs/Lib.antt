@@ -30,3 +30,10 @@ pub mod ChunksCount
 pub mod FirstArrivals
 pub mod OneReply
 pub mod SomeReply
+pub mod ClauseExamples
+pub mod OrderedClauses
+pub mod RuleExamples
+pub mod CauseExamples
+pub mod RecordExamples
+pub mod EventExamples
+pub mod ShapeExamples

@@ -21,9 +21,25 @@ newest_first (event ∷ later) before = newest_first later (event ∷ before)
 abbrev pub NeverHappens : ℕ → List Event → Type 0
 NeverHappens members events = Headline members (newest_first events []) → ⊥
 
+-- a law refuses these events
+abbrev pub Refuses : (List Event → Type 0) → List Event → Type 0
+Refuses Law events = Law (newest_first events []) → ⊥
+
+-- after these events a law of each event refuses this one
+abbrev pub RefusedAfter : (Event → List Event → Type 0) → List Event → Event → Type 0
+RefusedAfter Law events event = Law event (newest_first events []) → ⊥
+
 -- a loop of four iterations in chunks of two, ordered or not
 abbrev pub four : Bool → Shape
 four ordered = record { start = pos 0; incr = pos 1; trips = 4; kind = Dynamic; chunk = 2; ordered = ordered; end_kind = WaitEnd }
+
+-- one without iterations
+abbrev pub no_iterations : Shape
+no_iterations = record (four false) { trips = 0 }
+
+-- one of six in chunks of three
+abbrev pub wider : Shape
+wider = record { start = pos 0; incr = pos 1; trips = 6; kind = Dynamic; chunk = 3; ordered = false; end_kind = WaitEnd }
 
 -- and one whose chunks are assigned beforehand
 abbrev pub static_four : Shape
@@ -35,6 +51,12 @@ even_four = record { start = pos 0; incr = pos 1; trips = 4; kind = StaticEven; 
 
 abbrev pub at : Arrival → ℕ → Tag
 at kind shares = record { kind = kind; shares = shares }
+
+-- a member has entered eight shares, and left the last
+abbrev pub eight_entered : List Event
+eight_entered =
+    Enter 0 0 (four false) ∷ Enter 1 0 (four false) ∷ Enter 2 0 (four false) ∷ Enter 3 0 (four false)
+    ∷ Enter 4 0 (four false) ∷ Enter 5 0 (four false) ∷ Enter 6 0 (four false) ∷ Enter 7 0 (four false) ∷ End 7 0 ∷ []
 
 -- Shares
 
