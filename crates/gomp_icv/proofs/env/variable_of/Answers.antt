@@ -1,0 +1,23 @@
+use Rattle.std.proofs.Common.{◌∙◌, sym, refl}
+use Rattle.gomp_icv.proofs.env.variable_of.Goals as goal
+
+pub returns-then-is_word : goal.returns-then-is_word
+returns-then-is_word c = rw (sym c.is_word.ensures ∙ c.if-is_word.true) refl
+
+pub returns-then-is_word-2 : goal.returns-then-is_word-2
+returns-then-is_word-2 c = rw (sym c.is_word.ensures ∙ c.if-is_word.false, sym c.is_word-2.ensures ∙ c.if-is_word-2.true) refl
+
+pub returns-then-is_word-3 : goal.returns-then-is_word-3
+returns-then-is_word-3 c = rw (sym c.is_word.ensures ∙ c.if-is_word.false, sym c.is_word-2.ensures ∙ c.if-is_word-2.false, sym c.is_word-3.ensures ∙ c.if-is_word-3.true) refl
+
+pub returns-then-is_word-4 : goal.returns-then-is_word-4
+returns-then-is_word-4 c = rw (sym c.is_word.ensures ∙ c.if-is_word.false, sym c.is_word-2.ensures ∙ c.if-is_word-2.false, sym c.is_word-3.ensures ∙ c.if-is_word-3.false, sym c.is_word-4.ensures ∙ c.if-is_word-4.true) refl
+
+pub returns-then-is_word-5 : goal.returns-then-is_word-5
+returns-then-is_word-5 c = rw (sym c.is_word.ensures ∙ c.if-is_word.false, sym c.is_word-2.ensures ∙ c.if-is_word-2.false, sym c.is_word-3.ensures ∙ c.if-is_word-3.false, sym c.is_word-4.ensures ∙ c.if-is_word-4.false, sym c.is_word-5.ensures ∙ c.if-is_word-5.true) refl
+
+pub returns-then-is_word-6 : goal.returns-then-is_word-6
+returns-then-is_word-6 c = rw (sym c.is_word.ensures ∙ c.if-is_word.false, sym c.is_word-2.ensures ∙ c.if-is_word-2.false, sym c.is_word-3.ensures ∙ c.if-is_word-3.false, sym c.is_word-4.ensures ∙ c.if-is_word-4.false, sym c.is_word-5.ensures ∙ c.if-is_word-5.false, sym c.is_word-6.ensures ∙ c.if-is_word-6.true) refl
+
+pub returns : goal.returns
+returns c = rw (sym c.is_word.ensures ∙ c.if-is_word.false, sym c.is_word-2.ensures ∙ c.if-is_word-2.false, sym c.is_word-3.ensures ∙ c.if-is_word-3.false, sym c.is_word-4.ensures ∙ c.if-is_word-4.false, sym c.is_word-5.ensures ∙ c.if-is_word-5.false, sym c.is_word-6.ensures ∙ c.if-is_word-6.false) refl
