@@ -45,3 +45,6 @@ returns-then-is_err-clause-memory c =
     let step : IsSome c.in-Ok.said = search rules in
     let fault = rw c.saturating_add-number.ensures at c.first_fault.ensures in
     λ refused. rw (← all) (step_refused c.loop-rest.steps.items number c.in-Ok.said later step (sym fault ∙ (cc)))
+
+pub returns-clause-steps : goal.returns-clause-steps
+returns-clause-steps c = search rules

@@ -1,4 +1,4 @@
-use Rattle.std.proofs.Common.{◌≡◌, ◌+◌, ◌∙◌, Some, Ok, ap, sym, length}
+use Rattle.std.proofs.Common.{◌≡◌, ◌+◌, ◌∙◌, Some, Ok, ap, sym, length, rules}
 use Rattle.std.specs.Prelude.{option_copied}
 use Rattle.gomp_types.specs.Record.{shown}
 use Rattle.gomp_script.specs.StepText.{steps_left}
@@ -46,3 +46,6 @@ returns-in-Err-parse_lines-clause-memory c =
     let all = rw (here, told) at c.loop-rest.invariant in
     let memory = rw c.saturating_add-number.ensures at c.in-Err-parse_lines.ensures.memory in
     λ refused. rw (← all) (team_has_step c.in-Some-said.count (steps_left (shown (number + 1)) (option_copied c.cut.result.1)) (memory (cc)))
+
+pub loop-rest-init : goal.loop-rest-init
+loop-rest-init c = search rules
