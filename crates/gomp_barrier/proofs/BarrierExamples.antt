@@ -1,11 +1,10 @@
 -- What the calls of the barriers answer and add, and when seats stand for events: for each line of a definition what it says, and what it alone refuses.
-use Rattle.std.proofs.Common.{◌≡◌, ℕ, ◌+◌, ◌-◌, ◌<◌, ◌≤◌, ◌^◌, Bool, true, false, List, [], ◌∷◌, Option, Some, None, suc, zero, length, slice_get, refl, subst, ap, arith}
-use Rattle.std.specs.Prelude.{◌==◌, get_or, is_some, All}
+use Rattle.std.proofs.Common.{◌≡◌, ℕ, ◌-◌, ◌<◌, ◌≤◌, ◌^◌, true, false, List, [], ◌∷◌, Some, None, suc, zero, slice_get, refl, subst, ap, arith}
+use Rattle.std.specs.Prelude.{◌==◌, get_or, is_some}
 use Rattle.std.proofs.lemmas.Bool.Decides.{nat_tests}
 use Rattle.gomp_types.specs.declared.refusal.Place.{Place}
 use Rattle.gomp_types.specs.declared.shape.Shape.{Shape}
 use Rattle.gomp_types.specs.declared.event.Tag.{Tag}
-use Rattle.gomp_types.specs.declared.event.Event.{Event}
 use Rattle.gomp_types.specs.declared.event.Event.TheVariants.{Enter, Take, Drained, End, HandOn, Part, PartEnd, Put, Got, Arrive, Pass, Break}
 use Rattle.gomp_types.specs.Events.{arrival, tag_at}
 use Rattle.gomp_barrier.specs.declared.front.Seat.{Seat}
@@ -17,8 +16,8 @@ use Rattle.gomp_barrier.specs.Examples.{at_barrier_tag, at_end_tag, both_arrived
 -- What a member sees
 
 -- nobody has arrived
-pub seen_at_first : at_barrier 0 [] ≡ sees_barrier 0 None None false
-seen_at_first = refl
+pub seen_when_nobody_arrived : at_barrier 0 [] ≡ sees_barrier 0 None None false
+seen_when_nobody_arrived = refl
 
 -- the other has arrived
 pub seen_after_the_other : at_barrier 0 (Arrive 0 1 at_barrier_tag ∷ []) ≡ sees_barrier 0 (Some at_barrier_tag) None false
@@ -32,8 +31,8 @@ pub seen_ahead : at_barrier 1 second_ahead ≡ sees_barrier 1 (Some at_end_tag) 
 seen_ahead = refl
 
 -- a member has passed the region's end, and the other has not
-pub seen_after_the_end : at_barrier 0 first_left ≡ sees_barrier 2 None None true
-seen_after_the_end = refl
+pub seen_after_the_region : at_barrier 0 first_left ≡ sees_barrier 2 None None true
+seen_after_the_region = refl
 
 pub seen_before_the_end : at_barrier 1 first_left ≡ sees_barrier 1 (Some at_end_tag) (Some at_end_tag) false
 seen_before_the_end = refl
@@ -48,11 +47,11 @@ pub refused_arrival_adds : arrived_after false 1 at_end_tag both_arrived ≡ bot
 refused_arrival_adds = refl
 
 -- and so is a pass
-pub turn_adds : turn_after true 0 (Arrive 1 0 at_end_tag ∷ Pass 0 0 ∷ second_ahead) ≡ first_left
-turn_adds = refl
+pub pass_adds : turn_after true 0 (Arrive 1 0 at_end_tag ∷ Pass 0 0 ∷ second_ahead) ≡ first_left
+pass_adds = refl
 
-pub refused_turn_adds : turn_after false 0 both_arrived ≡ both_arrived
-refused_turn_adds = refl
+pub refused_pass_adds : turn_after false 0 both_arrived ≡ both_arrived
+refused_pass_adds = refl
 
 -- the barriers see arrivals and passes
 pub arrivals_are_seen : (barrier m : ℕ) (tag : Tag) → (IsAside (Arrive barrier m tag) → ⊥) × (IsAside (Pass barrier m) → ⊥)
@@ -62,8 +61,8 @@ arrivals_are_seen barrier m tag = (λ is. is, λ is. is)
 pub shares_are_aside : (share m low high k : ℕ) (shape : Shape) → IsAside (Enter share m shape) × IsAside (Take share m low high) × IsAside (Drained share m) × IsAside (End share m) × IsAside (HandOn share m k) × IsAside (Part share m k) × IsAside (PartEnd share m)
 shares_are_aside share m low high k shape = (tt, tt, tt, tt, tt, tt, tt)
 
-pub words_are_aside : (share m : ℕ) (payload : List ℕ) (place : Place) → IsAside (Put share m payload) × IsAside (Got share m payload) × IsAside (Break m place)
-words_are_aside share m payload place = (tt, tt, tt)
+pub words_and_breaks_are_aside : (share m : ℕ) (payload : List ℕ) (place : Place) → IsAside (Put share m payload) × IsAside (Got share m payload) × IsAside (Break m place)
+words_and_breaks_are_aside share m payload place = (tt, tt, tt)
 
 -- A member's seat and the front
 

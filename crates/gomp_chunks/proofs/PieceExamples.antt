@@ -192,8 +192,8 @@ section_next = refl
 pub section_next_none : next_piece (sections_plan 5) 1 0 5 ≡ None
 section_next_none = refl
 
-pub single_next : next_piece (plan_for 4 (single_shape false)) 3 0 0 ≡ Some (0, 1)
-single_next = refl
+pub next_of_a_single : next_piece (plan_for 4 (single_shape false)) 3 0 0 ≡ Some (0, 1)
+next_of_a_single = refl
 
 pub single_next_none : next_piece (plan_for 4 (single_shape false)) 3 0 1 ≡ None
 single_next_none = refl

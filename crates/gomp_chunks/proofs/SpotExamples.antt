@@ -1,5 +1,5 @@
 -- Worked spots of a guided loop, and for each line of their definition a spot that it alone refuses.
-use Rattle.std.proofs.Common.{◌≡◌, ℕ, ◌+◌, ◌≤◌, Some, None, zero, suc, slice_get, refl, ap, arith}
+use Rattle.std.proofs.Common.{◌≡◌, ℕ, ◌+◌, ◌≤◌, zero, suc, slice_get, refl, ap, arith}
 use Rattle.gomp_types.specs.Pieces.{Piece, guided_from, guided_pieces}
 use Rattle.gomp_chunks.specs.Spots.{IsSpot}
 use Rattle.gomp_chunks.specs.Examples.{guided_twenty, spot_at}
@@ -19,6 +19,14 @@ no_piece_from_six (suc most) enough rest = absurd (let same : ◌≡◌ {A = Pie
 
 pub spot_inside_a_piece : IsSpot 4 guided_twenty (spot_at 1 6) → ⊥
 spot_inside_a_piece is = no_piece_from_six is.most is.enough (is.rest 0)
+
+-- nor does the last begin at iteration 19, though nothing is after it either way
+no_piece_from_nineteen : (most : ℕ) → 1 ≤ most → slice_get (guided_pieces 20 4 2) 6 ≡ slice_get (guided_from 4 2 most 19 1) 0 → ⊥
+no_piece_from_nineteen zero enough rest = absurd (omega arith)
+no_piece_from_nineteen (suc most) enough rest = absurd (let same : ◌≡◌ {A = Piece} (18, 20) (19, 20) = cc in let low = ap (λ (piece : Piece). piece.0) same in omega arith)
+
+pub spot_inside_the_last : IsSpot 4 guided_twenty (spot_at 6 19) → ⊥
+spot_inside_the_last is = no_piece_from_nineteen is.most is.enough (is.rest 0)
 
 -- past the last piece stands the number of pieces, with the number of iterations
 pub spot_of_the_end : IsSpot 4 guided_twenty (spot_at 7 20)

@@ -1,27 +1,24 @@
 -- What the calls of the shares ask, answer and add: for each line of a definition what it says, and what it alone refuses.
-use Rattle.std.proofs.Common.{◌≡◌, ℕ, ◌+◌, ◌-◌, ◌<◌, ◌≤◌, ◌^◌, Bool, true, false, List, [], ◌∷◌, ◌++◌, Option, Some, None, Ok, Err, refl, ap, arith, pos, length}
-use Rattle.gomp_types.specs.declared.refusal.Refusal.{Refusal}
-use Rattle.gomp_types.specs.declared.refusal.Refusal.TheVariants.{NoMemory, ZeroStep, InsideShare, OutsideShare, InOrdered, EndDiffers, NotDrained, Drained as DrainedRefusal, TooManyShares}
+use Rattle.std.proofs.Common.{◌≡◌, ℕ, ◌-◌, ◌^◌, true, false, List, [], ◌∷◌, Some, None, Ok, Err, refl, ap, arith, length}
+use Rattle.gomp_types.specs.declared.refusal.Refusal.TheVariants.{NoMemory, InsideShare, OutsideShare, InOrdered, EndDiffers, NotDrained, Drained as DrainedRefusal, TooManyShares}
 use Rattle.gomp_types.specs.declared.refusal.Place.{Place}
 use Rattle.gomp_types.specs.declared.loop_desc.EndKind.TheVariants.{Wait as WaitEnd, Nowait}
 use Rattle.gomp_types.specs.declared.shape.Shape.{Shape}
 use Rattle.gomp_types.specs.declared.shape.ShareKind.TheVariants as kind
 use Rattle.gomp_types.specs.declared.event.Tag.{Tag}
-use Rattle.gomp_types.specs.declared.event.Event.{Event}
 use Rattle.gomp_types.specs.declared.event.Event.TheVariants.{Enter, Take, Drained, End, HandOn as Handed, Part, PartEnd, Put, Got, Arrive, Pass, Break}
 use Rattle.gomp_types.specs.Limits.{standard}
-use Rattle.gomp_types.specs.Pieces.{Piece, shape_of}
+use Rattle.gomp_types.specs.Pieces.{shape_of}
 use Rattle.gomp_types.specs.Singles.{single_shape}
 use Rattle.gomp_types.specs.Sections.{sections_shape}
-use Rattle.gomp_types.specs.Shapes.{is_loop}
 use Rattle.gomp_share_plain.specs.declared.Opening.TheVariants.{Entered, NotYet, Differs}
 use Rattle.gomp_share_plain.specs.declared.own.Construct.TheVariants.{Loop, Sections}
 use Rattle.gomp_share_plain.specs.declared.calls.ShareCall.TheVariants.{Open, OpenSections, OpenSingle, Claim, Leave, Begin, EndPart, HandOn}
 use Rattle.gomp_share_plain.specs.Calls.{seen_of, taken_of, was_taken, CanOpen, MayOpen, opened, CanClaim, Claims, claimed, is_done, CanLeave, left, CanBeginPart, CanEndPart, CanHandOn, own_turn, part_begun, part_ended, piece_handed, left_unless_refused, EachStands, IsAside}
 use Rattle.gomp_share_plain.specs.Own.{kinds_of, seen_in, outside_tests, in_part_of, next_tests_of, end_tests_of}
 use Rattle.gomp_share_plain.specs.Runs.{may_make, is_made}
-use Rattle.gomp_share_plain.specs.Examples.{asks, loop_of, ten, nine, ordered_two, ordered_four, no_step, no_chunk, ordered_single, events_of, took_all, told_none, both_hold, in_the_part, handed_on, in_single, left_single, eight_ahead, sees, sees_outside, sees_loop, sees_single}
-use Rattle.gomp_share_plain.proofs.RunExamples.{ten_fits, two_fit, single_fits}
+use Rattle.gomp_share_plain.specs.Examples.{asks, ten, nine, ordered_two, ordered_four, no_step, no_chunk, ordered_single, events_of, took_all, told_none, both_hold, in_the_part, handed_on, in_single, left_single, eight_ahead, sees, sees_outside, sees_loop, sees_single}
+use Rattle.gomp_share_plain.proofs.RunExamples.{ten_fits, two_fit}
 
 -- What a member sees
 

@@ -1,7 +1,6 @@
 -- Worked runs of calls on the shares, and wrong answers to calls after them: for each call those of other calls, and that it was not made.
-use Rattle.std.proofs.Common.{◌≡◌, ℕ, ◌+◌, ◌<◌, ◌≤◌, Bool, true, false, List, [], ◌∷◌, ◌++◌, Option, Some, None, refl, ap, arith, rules, pos}
-use Rattle.std.specs.Prelude.{FitsSigned, IfSome}
-use Rattle.std.specs.Int.{w64}
+use Rattle.std.proofs.Common.{◌≡◌, ℕ, ◌<◌, ◌≤◌, Bool, true, false, List, [], ◌∷◌, ◌++◌, Option, Some, None, refl, ap, arith, rules, pos}
+use Rattle.std.specs.Prelude.{IfSome}
 use Rattle.gomp_types.specs.declared.loop_desc.Sched.TheVariants.{Dynamic}
 use Rattle.gomp_types.specs.declared.loop_desc.EndKind.TheVariants.{Wait as WaitEnd}
 use Rattle.gomp_types.specs.declared.shape.Shape.{Shape}
@@ -17,10 +16,10 @@ use Rattle.gomp_types.proofs.IterationValues.{shape_is}
 use Rattle.gomp_share_plain.specs.declared.Opening.{Opening}
 use Rattle.gomp_share_plain.specs.declared.Opening.TheVariants.{Entered, NotYet, Differs}
 use Rattle.gomp_share_plain.specs.declared.calls.ShareCall.TheVariants.{Open, OpenSections, OpenSingle, Claim, Leave, Begin, EndPart, HandOn}
-use Rattle.gomp_share_plain.specs.declared.calls.ShareAnswer.TheVariants.{Opened, Claimed, Left, Turned, Ended, NotMade}
+use Rattle.gomp_share_plain.specs.declared.calls.ShareAnswer.TheVariants.{Opened, Claimed, Left, Turned, Ended}
 use Rattle.gomp_share_plain.specs.Calls.{Claims}
 use Rattle.gomp_share_plain.specs.Runs.{AreAnswers, answered}
-use Rattle.gomp_share_plain.specs.Examples.{Run, IsRun, IsWrong, NotOpened, NotClaimed, NotTurned, NotLeft, NotEnded, IsMade, events_of, asks, loop_of, ten, nine, static_ten, even_one, guided_ten, ordered_two, inside_ten, took_one, took_all, told_none, left_ten, both_hold, in_the_part, handed_on, parts_over, in_sections, in_single, left_single, in_static, in_even, in_guided, eight_ahead, ninth_share}
+use Rattle.gomp_share_plain.specs.Examples.{IsRun, IsWrong, NotOpened, NotClaimed, NotTurned, NotLeft, NotEnded, IsMade, events_of, asks, loop_of, ten, nine, static_ten, even_one, guided_ten, ordered_two, inside_ten, took_one, took_all, told_none, left_ten, both_hold, in_the_part, handed_on, parts_over, in_sections, in_single, left_single, in_static, in_even, in_guided, eight_ahead, ninth_share}
 
 -- The shapes of the constructs
 
@@ -51,50 +50,50 @@ sections_fit =
     record { trips = three.trips; chunk = three.chunk; some = three.some; moves = three.moves; fits = three.fits }
 
 -- what a claim is answered
-takes : (members m : ℕ) (share : ℕ × Shape) (answer : Option Piece) (h : List Event) → open_share m h ≡ Some share → IsShape share.1 →
+claims_piece : (members m : ℕ) (share : ℕ × Shape) (answer : Option Piece) (h : List Event) → open_share m h ≡ Some share → IsShape share.1 →
     answer ≡ next_for (schedule members) share.1 share.0 m h → IfSome answer (λ piece. (piece.0 < piece.1) × (piece.1 ≤ share.1.trips)) → Claims members m answer h
-takes members m share answer h there valid least within = record { share = share; there = there; valid = valid; least = least; within = within }
+claims_piece members m share answer h there valid least within = record { share = share; there = there; valid = valid; least = least; within = within }
 
 -- Worked runs
 
 -- a dynamic loop of two members, from its start to its end
 pub run_left_ten : IsRun 2 left_ten
 run_left_ten =
-    ((refl, (refl, refl)), ((refl, takes 2 0 (0, shape_of ten) _ _ refl ten_fits refl (omega arith, omega arith)), ((refl, (refl, refl)), ((refl, takes 2 1 (0, shape_of ten) _ _ refl ten_fits refl (omega arith, omega arith)), ((refl, takes 2 0 (0, shape_of ten) _ _ refl ten_fits refl (omega arith, omega arith)), ((refl, takes 2 1 (0, shape_of ten) _ _ refl ten_fits refl (omega arith, omega arith)), ((refl, takes 2 0 (0, shape_of ten) _ _ refl ten_fits refl tt), (refl, ((refl, tt), (refl, (refl, ((refl, takes 2 1 (0, shape_of ten) _ _ refl ten_fits refl tt), ((refl, tt), (refl, (refl, (refl, tt))))))))))))))))
+    ((refl, (refl, refl)), ((refl, claims_piece 2 0 (0, shape_of ten) _ _ refl ten_fits refl (omega arith, omega arith)), ((refl, (refl, refl)), ((refl, claims_piece 2 1 (0, shape_of ten) _ _ refl ten_fits refl (omega arith, omega arith)), ((refl, claims_piece 2 0 (0, shape_of ten) _ _ refl ten_fits refl (omega arith, omega arith)), ((refl, claims_piece 2 1 (0, shape_of ten) _ _ refl ten_fits refl (omega arith, omega arith)), ((refl, claims_piece 2 0 (0, shape_of ten) _ _ refl ten_fits refl tt), (refl, ((refl, tt), (refl, (refl, ((refl, claims_piece 2 1 (0, shape_of ten) _ _ refl ten_fits refl tt), ((refl, tt), (refl, (refl, (refl, tt))))))))))))))))
 
 -- the ordered parts of two iterations
 pub run_parts_over : IsRun 2 parts_over
 run_parts_over =
-    ((refl, (refl, refl)), ((refl, (refl, refl)), ((refl, takes 2 0 (0, shape_of ordered_two) _ _ refl two_fit refl (omega arith, omega arith)), ((refl, takes 2 1 (0, shape_of ordered_two) _ _ refl two_fit refl (omega arith, omega arith)), ((refl, refl), ((refl, refl), ((refl, refl), (refl, (refl, ((refl, tt), (refl, ((refl, refl), ((refl, refl), ((refl, refl), ((refl, refl), ((refl, tt), ((refl, refl), ((refl, takes 2 1 (0, shape_of ordered_two) _ _ refl two_fit refl tt), ((refl, tt), tt)))))))))))))))))))
+    ((refl, (refl, refl)), ((refl, (refl, refl)), ((refl, claims_piece 2 0 (0, shape_of ordered_two) _ _ refl two_fit refl (omega arith, omega arith)), ((refl, claims_piece 2 1 (0, shape_of ordered_two) _ _ refl two_fit refl (omega arith, omega arith)), ((refl, refl), ((refl, refl), ((refl, refl), (refl, (refl, ((refl, tt), (refl, ((refl, refl), ((refl, refl), ((refl, refl), ((refl, refl), ((refl, tt), ((refl, refl), ((refl, claims_piece 2 1 (0, shape_of ordered_two) _ _ refl two_fit refl tt), ((refl, tt), tt)))))))))))))))))))
 
 -- three sections
 pub run_in_sections : IsRun 2 in_sections
 run_in_sections =
-    (refl, ((refl, (refl, refl)), ((refl, takes 2 0 (0, sections_shape 3 WaitEnd) _ _ refl sections_fit refl (omega arith, omega arith)), ((refl, refl), ((refl, (refl, refl)), ((refl, takes 2 1 (0, sections_shape 3 WaitEnd) _ _ refl sections_fit refl (omega arith, omega arith)), ((refl, takes 2 0 (0, sections_shape 3 WaitEnd) _ _ refl sections_fit refl (omega arith, omega arith)), tt)))))))
+    (refl, ((refl, (refl, refl)), ((refl, claims_piece 2 0 (0, sections_shape 3 WaitEnd) _ _ refl sections_fit refl (omega arith, omega arith)), ((refl, refl), ((refl, (refl, refl)), ((refl, claims_piece 2 1 (0, sections_shape 3 WaitEnd) _ _ refl sections_fit refl (omega arith, omega arith)), ((refl, claims_piece 2 0 (0, sections_shape 3 WaitEnd) _ _ refl sections_fit refl (omega arith, omega arith)), tt)))))))
 
 -- a single, which one member executes
 pub run_left_single : IsRun 2 left_single
 run_left_single =
-    ((refl, (refl, refl)), (refl, ((refl, takes 2 0 (0, single_shape false) _ _ refl single_fits refl (omega arith, omega arith)), ((refl, tt), ((refl, refl), ((refl, (refl, refl)), (refl, ((refl, takes 2 1 (0, single_shape false) _ _ refl single_fits refl tt), ((refl, tt), tt)))))))))
+    ((refl, (refl, refl)), (refl, ((refl, claims_piece 2 0 (0, single_shape false) _ _ refl single_fits refl (omega arith, omega arith)), ((refl, tt), ((refl, refl), ((refl, (refl, refl)), (refl, ((refl, claims_piece 2 1 (0, single_shape false) _ _ refl single_fits refl tt), ((refl, tt), tt)))))))))
 
 -- a static loop with a chunk, and one without: the second member has its own pieces
 pub run_in_static : IsRun 2 in_static
 run_in_static =
-    ((refl, (refl, refl)), ((refl, takes 2 1 (0, shape_of static_ten) _ _ refl static_ten_fits refl (omega arith, omega arith)), tt))
+    ((refl, (refl, refl)), ((refl, claims_piece 2 1 (0, shape_of static_ten) _ _ refl static_ten_fits refl (omega arith, omega arith)), tt))
 
 pub run_in_even : IsRun 2 in_even
 run_in_even =
-    ((refl, (refl, refl)), ((refl, takes 2 1 (0, shape_of even_one) _ _ refl even_fits refl tt), tt))
+    ((refl, (refl, refl)), ((refl, claims_piece 2 1 (0, shape_of even_one) _ _ refl even_fits refl tt), tt))
 
 -- a guided loop
 pub run_in_guided : IsRun 2 in_guided
 run_in_guided =
-    ((refl, (refl, refl)), ((refl, takes 2 0 (0, shape_of guided_ten) _ _ refl guided_fits refl (omega arith, omega arith)), tt))
+    ((refl, (refl, refl)), ((refl, claims_piece 2 0 (0, shape_of guided_ten) _ _ refl guided_fits refl (omega arith, omega arith)), tt))
 
 -- a member that is eight shares ahead of the other
 pub run_ninth_share : IsRun 2 ninth_share
 run_ninth_share =
-    ((refl, (refl, refl)), ((refl, takes 2 0 (0, single_shape false) _ _ refl single_fits refl (omega arith, omega arith)), ((refl, tt), ((refl, (refl, refl)), ((refl, takes 2 0 (1, single_shape false) _ _ refl single_fits refl (omega arith, omega arith)), ((refl, tt), ((refl, (refl, refl)), ((refl, takes 2 0 (2, single_shape false) _ _ refl single_fits refl (omega arith, omega arith)), ((refl, tt), ((refl, (refl, refl)), ((refl, takes 2 0 (3, single_shape false) _ _ refl single_fits refl (omega arith, omega arith)), ((refl, tt), ((refl, (refl, refl)), ((refl, takes 2 0 (4, single_shape false) _ _ refl single_fits refl (omega arith, omega arith)), ((refl, tt), ((refl, (refl, refl)), ((refl, takes 2 0 (5, single_shape false) _ _ refl single_fits refl (omega arith, omega arith)), ((refl, tt), ((refl, (refl, refl)), ((refl, takes 2 0 (6, single_shape false) _ _ refl single_fits refl (omega arith, omega arith)), ((refl, tt), ((refl, (refl, refl)), ((refl, takes 2 0 (7, single_shape false) _ _ refl single_fits refl (omega arith, omega arith)), ((refl, tt), ((refl, (refl, refl)), ((refl, (refl, refl)), ((refl, takes 2 1 (0, single_shape false) _ _ refl single_fits refl tt), ((refl, (refl, refl)), ((refl, tt), tt)))))))))))))))))))))))))))))
+    ((refl, (refl, refl)), ((refl, claims_piece 2 0 (0, single_shape false) _ _ refl single_fits refl (omega arith, omega arith)), ((refl, tt), ((refl, (refl, refl)), ((refl, claims_piece 2 0 (1, single_shape false) _ _ refl single_fits refl (omega arith, omega arith)), ((refl, tt), ((refl, (refl, refl)), ((refl, claims_piece 2 0 (2, single_shape false) _ _ refl single_fits refl (omega arith, omega arith)), ((refl, tt), ((refl, (refl, refl)), ((refl, claims_piece 2 0 (3, single_shape false) _ _ refl single_fits refl (omega arith, omega arith)), ((refl, tt), ((refl, (refl, refl)), ((refl, claims_piece 2 0 (4, single_shape false) _ _ refl single_fits refl (omega arith, omega arith)), ((refl, tt), ((refl, (refl, refl)), ((refl, claims_piece 2 0 (5, single_shape false) _ _ refl single_fits refl (omega arith, omega arith)), ((refl, tt), ((refl, (refl, refl)), ((refl, claims_piece 2 0 (6, single_shape false) _ _ refl single_fits refl (omega arith, omega arith)), ((refl, tt), ((refl, (refl, refl)), ((refl, claims_piece 2 0 (7, single_shape false) _ _ refl single_fits refl (omega arith, omega arith)), ((refl, tt), ((refl, (refl, refl)), ((refl, (refl, refl)), ((refl, claims_piece 2 1 (0, single_shape false) _ _ refl single_fits refl tt), ((refl, (refl, refl)), ((refl, tt), tt)))))))))))))))))))))))))))))
 
 -- the calls of the loop give these events
 pub events_of_the_loop : events_of left_ten ≡
@@ -226,12 +225,12 @@ not_to members m share piece next h other there is claims =
     let told = is_next members m share (Some piece) h there claims in
     other (let same : piece ≡ next = cc in ap (λ (p : Piece). p.1) same)
 
-not_none : (members m : ℕ) (share : ℕ × Shape) (next : Piece) (h : List Event) → open_share m h ≡ Some share → next_for (schedule members) share.1 share.0 m h ≡ Some next → Claims members m None h → ⊥
-not_none members m share next h there is claims = let told = is_next members m share None h there claims in absurd (cc)
+never_none : (members m : ℕ) (share : ℕ × Shape) (next : Piece) (h : List Event) → open_share m h ≡ Some share → next_for (schedule members) share.1 share.0 m h ≡ Some next → Claims members m None h → ⊥
+never_none members m share next h there is claims = let told = is_next members m share None h there claims in absurd (cc)
 
 -- and where there is none, it is no piece
-not_some : (members m : ℕ) (share : ℕ × Shape) (piece : Piece) (h : List Event) → open_share m h ≡ Some share → next_for (schedule members) share.1 share.0 m h ≡ None → Claims members m (Some piece) h → ⊥
-not_some members m share piece h there is claims = let told = is_next members m share (Some piece) h there claims in absurd (cc)
+never_some : (members m : ℕ) (share : ℕ × Shape) (piece : Piece) (h : List Event) → open_share m h ≡ Some share → next_for (schedule members) share.1 share.0 m h ≡ None → Claims members m (Some piece) h → ⊥
+never_some members m share piece h there is claims = let told = is_next members m share (Some piece) h there claims in absurd (cc)
 
 -- a piece that was taken
 pub piece_again : IsWrong 2 took_one (asks 0 Claim) (Claimed (Some (0, 3)))
@@ -250,11 +249,11 @@ piece_too_short answer = not_to 2 0 (0, shape_of ten) (3, 5) (3, 6) _ (λ same. 
 
 -- none though pieces are left
 pub none_too_early : IsWrong 2 took_one (asks 0 Claim) (Claimed None)
-none_too_early answer = not_none 2 0 (0, shape_of ten) (3, 6) _ refl refl answer.1
+none_too_early answer = never_none 2 0 (0, shape_of ten) (3, 6) _ refl refl answer.1
 
 -- any piece though none is left
 pub piece_too_late : (piece : Piece) → IsWrong 2 took_all (asks 0 Claim) (Claimed (Some piece))
-piece_too_late piece answer = not_some 2 0 (0, shape_of ten) piece _ refl refl answer.1
+piece_too_late piece answer = never_some 2 0 (0, shape_of ten) piece _ refl refl answer.1
 
 -- a piece of a static loop that is another member's
 pub piece_of_another : IsWrong 2 in_static (asks 1 Claim) (Claimed (Some (6, 9)))
@@ -266,11 +265,11 @@ guided_piece_too_long answer = not_to 2 0 (0, shape_of guided_ten) (5, 10) (5, 8
 
 -- two sections at once
 pub two_sections : IsWrong 2 in_sections (asks 1 Claim) (Claimed (Some (1, 3)))
-two_sections answer = not_some 2 1 (0, sections_shape 3 WaitEnd) (1, 3) _ refl refl answer.1
+two_sections answer = never_some 2 1 (0, sections_shape 3 WaitEnd) (1, 3) _ refl refl answer.1
 
 -- a single for both members
 pub single_for_both : IsWrong 2 (in_single ++ (asks 1 (OpenSingle false), Opened Entered) ∷ []) (asks 1 Claim) (Claimed (Some (0, 1)))
-single_for_both answer = not_some 2 1 (0, single_shape false) (0, 1) _ refl refl answer.1
+single_for_both answer = never_some 2 1 (0, single_shape false) (0, 1) _ refl refl answer.1
 
 -- Wrong turns
 
