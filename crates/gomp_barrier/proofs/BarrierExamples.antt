@@ -27,6 +27,7 @@ seen_after_the_other = refl
 pub seen_behind : at_barrier 0 second_ahead ≡ sees_barrier 0 (Some at_barrier_tag) (Some at_barrier_tag) false
 seen_behind = refl
 
+-- the one that is ahead sees the region's end
 pub seen_ahead : at_barrier 1 second_ahead ≡ sees_barrier 1 (Some at_end_tag) (Some at_end_tag) false
 seen_ahead = refl
 
@@ -34,6 +35,7 @@ seen_ahead = refl
 pub seen_after_the_region : at_barrier 0 first_left ≡ sees_barrier 2 None None true
 seen_after_the_region = refl
 
+-- the other still waits at it
 pub seen_before_the_end : at_barrier 1 first_left ≡ sees_barrier 1 (Some at_end_tag) (Some at_end_tag) false
 seen_before_the_end = refl
 
@@ -43,6 +45,7 @@ seen_before_the_end = refl
 pub arrival_adds : arrived_after true 1 at_end_tag (Pass 0 1 ∷ both_arrived) ≡ second_ahead
 arrival_adds = refl
 
+-- an arrival that is refused adds nothing
 pub refused_arrival_adds : arrived_after false 1 at_end_tag both_arrived ≡ both_arrived
 refused_arrival_adds = refl
 
@@ -50,6 +53,7 @@ refused_arrival_adds = refl
 pub pass_adds : turn_after true 0 (Arrive 1 0 at_end_tag ∷ Pass 0 0 ∷ second_ahead) ≡ first_left
 pass_adds = refl
 
+-- nor does a pass
 pub refused_pass_adds : turn_after false 0 both_arrived ≡ both_arrived
 refused_pass_adds = refl
 
@@ -61,6 +65,7 @@ arrivals_are_seen barrier m tag = (λ is. is, λ is. is)
 pub shares_are_aside : (share m low high k : ℕ) (shape : Shape) → IsAside (Enter share m shape) × IsAside (Take share m low high) × IsAside (Drained share m) × IsAside (End share m) × IsAside (HandOn share m k) × IsAside (Part share m k) × IsAside (PartEnd share m)
 shares_are_aside share m low high k shape = (tt, tt, tt, tt, tt, tt, tt)
 
+-- nor words and a break
 pub words_and_breaks_are_aside : (share m : ℕ) (payload : List ℕ) (place : Place) → IsAside (Put share m payload) × IsAside (Got share m payload) × IsAside (Break m place)
 words_and_breaks_are_aside share m payload place = (tt, tt, tt)
 
@@ -70,12 +75,15 @@ words_and_breaks_are_aside share m payload place = (tt, tt, tt)
 pub parities_differ : (differ true false ≡ true) × (differ false true ≡ true)
 parities_differ = (refl, refl)
 
+-- where they agree it is not
 pub parities_agree : (differ true true ≡ false) × (differ false false ≡ false)
 parities_agree = (refl, refl)
 
+-- the second member has passed the front
 pub second_is_ahead : is_ahead front_between seat_ahead ≡ true
 second_is_ahead = refl
 
+-- the first has not
 pub first_is_not_ahead : is_ahead front_between seat_behind ≡ false
 first_is_not_ahead = refl
 
@@ -83,6 +91,7 @@ first_is_not_ahead = refl
 pub behind_an_odd_front : is_ahead (front_with true 1 None None) (seat_with true None false) ≡ false
 behind_an_odd_front = refl
 
+-- a member that has passed an even number is ahead there
 pub ahead_of_an_odd_front : is_ahead (front_with true 1 None None) new_seat ≡ true
 ahead_of_an_odd_front = refl
 
@@ -90,6 +99,7 @@ ahead_of_an_odd_front = refl
 pub tag_of_the_second : tag_for front_between seat_ahead ≡ Some at_end_tag
 tag_of_the_second = refl
 
+-- the first member that of the front
 pub tag_of_the_first : tag_for front_between seat_behind ≡ Some at_barrier_tag
 tag_of_the_first = refl
 
@@ -97,18 +107,23 @@ tag_of_the_first = refl
 pub number_of_the_second : number_for front_between seat_ahead ≡ 1
 number_of_the_second = refl
 
+-- the first member has the front's number
 pub number_of_the_first : number_for front_between seat_behind ≡ 0
 number_of_the_first = refl
 
+-- past the largest number it stays
 pub number_at_the_limit : number_for (front_with false (2 ^ 64 - 1) None None) seat_ahead ≡ 2 ^ 64 - 1
 number_at_the_limit = refl
 
+-- it reaches the largest number
 pub number_below_the_limit : number_for (front_with false (2 ^ 64 - 2) None None) seat_ahead ≡ 2 ^ 64 - 1
 number_below_the_limit = refl
 
+-- the barrier of the second member is the one after the front
 pub barrier_of_the_second : barrier_of front_between 0 seat_ahead ≡ 1
 barrier_of_the_second = refl
 
+-- that of the first is the front
 pub barrier_of_the_first : barrier_of front_between 0 seat_behind ≡ 0
 barrier_of_the_first = refl
 
@@ -116,9 +131,11 @@ barrier_of_the_first = refl
 pub arrived_is_there : IsThere front_between seat_behind
 arrived_is_there = refl
 
+-- a member that has passed is there
 pub passed_is_there : IsThere front_between (seat_with true None false)
 passed_is_there = refl
 
+-- one that has neither arrived nor passed is not
 pub others_are_not_there : IsThere front_between new_seat → ⊥
 others_are_not_there there = absurd (cc)
 
@@ -130,6 +147,7 @@ left_is_not_there there = absurd (cc)
 pub arrival_at_the_front : arrived_at (front_with false 6 None (Some at_end_tag)) new_seat at_barrier_tag ≡ front_with false 6 (Some at_barrier_tag) (Some at_end_tag)
 arrival_at_the_front = refl
 
+-- a member that is ahead arrives at the barrier after it
 pub arrival_after_the_front : arrived_at (front_with false 6 (Some at_barrier_tag) None) (seat_with true None false) at_end_tag ≡ front_with false 6 (Some at_barrier_tag) (Some at_end_tag)
 arrival_after_the_front = refl
 
@@ -137,9 +155,11 @@ arrival_after_the_front = refl
 pub passes_a_barrier : passed_by seat_behind false ≡ seat_with true None false
 passes_a_barrier = refl
 
+-- a member that passes the region's end has left
 pub passes_the_end : passed_by seat_ahead true ≡ seat_with false None true
 passes_the_end = refl
 
+-- and it stays so
 pub stays_left : passed_by (seat_with true (Some at_end_tag) true) false ≡ seat_with false None true
 stays_left = refl
 
@@ -147,9 +167,11 @@ stays_left = refl
 pub front_advances : advanced front_between ≡ front_with true 1 (Some at_end_tag) None
 front_advances = refl
 
+-- two barriers on the parity is the first again
 pub front_advances_back : advanced (front_with true 1 (Some at_end_tag) None) ≡ front_with false 2 None None
 front_advances_back = refl
 
+-- the number stays at the largest one
 pub front_at_the_limit : advanced (front_with true (2 ^ 64 - 1) None None) ≡ front_with false (2 ^ 64 - 1) None None
 front_at_the_limit = refl
 
@@ -184,9 +206,11 @@ second_stands = record { passed_is = refl; here = refl; behind = only_zero (λ g
     not_later (suc zero) below = absurd (omega arith)
     not_later (suc (suc g)) below = rw (not_the_first g, not_the_next g) refl
 
+-- the first member's seat
 pub seat_stands_behind : SeatStands front_between 0 0 seat_behind second_ahead
 seat_stands_behind = first_stands
 
+-- the second member's seat
 pub seat_stands_ahead : SeatStands front_between 0 1 seat_ahead second_ahead
 seat_stands_ahead = second_stands
 
@@ -216,6 +240,7 @@ front_seatless : (m : ℕ) (seat : Seat) → slice_get {X = Seat} [] m ≡ Some 
 front_seatless zero seat at = absurd (cc)
 front_seatless (suc m) seat at = absurd (cc)
 
+-- the front between them
 pub front_stands : FrontStands [] front_between 0 second_ahead
 front_stands = record { number = refl; tag = refl; next = refl; beyond = not_later; seat = front_seatless }
   where
@@ -224,19 +249,23 @@ front_stands = record { number = refl; tag = refl; next = refl; beyond = not_lat
     not_later (suc zero) below = absurd (omega arith)
     not_later (suc (suc g)) below = rw (not_the_first g, not_the_next g) refl
 
--- another number, another tag here, another tag at the next barrier, an arrival later on, another seat
+-- it has another number
 pub front_of_another_number : FrontStands [] (front_with false 1 None None) 0 [] → ⊥
 front_of_another_number front = absurd (let number = front.number in omega arith)
 
+-- members have arrived, and it has no tag
 pub front_without_its_tag : FrontStands [] new_front 0 both_arrived → ⊥
 front_without_its_tag front = absurd (let tag = front.tag in cc)
 
+-- a member has arrived at the next barrier, and it has no tag for that
 pub front_without_the_next_tag : FrontStands [] new_front 0 (Arrive 1 0 at_end_tag ∷ []) → ⊥
 front_without_the_next_tag front = absurd (let next = front.next in cc)
 
+-- a member has arrived two barriers on
 pub front_two_behind : FrontStands [] new_front 0 (Arrive 2 0 at_end_tag ∷ []) → ⊥
 front_two_behind front = absurd (let beyond = front.beyond 2 (omega arith) in cc)
 
+-- a seat that does not stand for the events
 pub front_of_another_seat : FrontStands (seat_with false None true ∷ []) new_front 0 [] → ⊥
 front_of_another_seat front = seat_not_left (front.seat 0 (seat_with false None true) refl)
 
@@ -249,6 +278,7 @@ both_ahead zero other below = refl
 both_ahead (suc zero) other below = refl
 both_ahead (suc (suc k)) other below = absurd (omega arith)
 
+-- nobody is where both have passed
 pub nobody_is_behind : SomeBehind front_between (seat_ahead ∷ seat_ahead ∷ []) → ⊥
 nobody_is_behind behind = behind both_ahead
 
@@ -260,6 +290,7 @@ two_seats P a b first second zero seat at = let same : a ≡ seat = cc in subst 
 two_seats P a b first second (suc zero) seat at = let same : b ≡ seat = cc in subst (P 1) same second
 two_seats P a b first second (suc (suc m)) seat at = absurd (cc)
 
+-- the barriers of the two members
 pub barriers_stand : Stands (barriers_with (seat_behind ∷ seat_ahead ∷ []) front_between) second_ahead
 barriers_stand = record {
   least = 0;
@@ -271,18 +302,22 @@ barriers_stand = record {
   );
 }
 
+-- the team has two members
 pub two_members : members_of (barriers_with (seat_behind ∷ seat_ahead ∷ []) front_between) ≡ 2
 two_members = refl
 
--- with another front, with a front that all have passed, and after events that keep no rule: a member passes alone, or arrives with another tag
+-- a front with a tag at which nobody has arrived
 pub barriers_of_another_front : Stands (barriers_with (new_seat ∷ []) (front_with false 0 (Some at_end_tag) None)) [] → ⊥
 barriers_of_another_front stands = absurd (let tag = stands.barrier.tag in cc)
 
+-- a front that all have passed
 pub barriers_all_passed : Stands (barriers_with (seat_ahead ∷ seat_ahead ∷ []) front_between) (Arrive 1 0 at_end_tag ∷ Pass 0 0 ∷ second_ahead) → ⊥
 barriers_all_passed stands = nobody_is_behind stands.behind
 
+-- members that arrived with two tags
 pub barriers_of_two_tags : Stands (barriers_with (seat_behind ∷ seat_with false (Some at_end_tag) false ∷ []) (front_with false 0 (Some at_end_tag) None)) (Arrive 0 1 at_end_tag ∷ Arrive 0 0 at_barrier_tag ∷ []) → ⊥
 barriers_of_two_tags stands = absurd (let same = ap (λ (tag : Tag). tag.kind) (stands.rule.0.same at_barrier_tag refl) in cc)
 
+-- a member that passed alone
 pub barriers_passed_alone : Stands (barriers_with (seat_with true None false ∷ new_seat ∷ []) (front_with false 0 (Some at_barrier_tag) None)) (Pass 0 0 ∷ Arrive 0 0 at_barrier_tag ∷ []) → ⊥
 barriers_passed_alone stands = absurd (let met = stands.rule.0.met in cc)

@@ -17,6 +17,7 @@ no_piece_from_six : (most : ℕ) → 14 ≤ most → slice_get (guided_pieces 20
 no_piece_from_six zero enough rest = absurd (omega arith)
 no_piece_from_six (suc most) enough rest = absurd (let same : ◌≡◌ {A = Piece} (5, 9) (6, 10) = cc in let low = ap (λ (piece : Piece). piece.0) same in omega arith)
 
+-- so no spot of the second piece lies at iteration 6
 pub spot_inside_a_piece : IsSpot 4 guided_twenty (spot_at 1 6) → ⊥
 spot_inside_a_piece is = no_piece_from_six is.most is.enough (is.rest 0)
 
@@ -25,6 +26,7 @@ no_piece_from_nineteen : (most : ℕ) → 1 ≤ most → slice_get (guided_piece
 no_piece_from_nineteen zero enough rest = absurd (omega arith)
 no_piece_from_nineteen (suc most) enough rest = absurd (let same : ◌≡◌ {A = Piece} (18, 20) (19, 20) = cc in let low = ap (λ (piece : Piece). piece.0) same in omega arith)
 
+-- so no spot of the last piece lies at iteration 19
 pub spot_inside_the_last : IsSpot 4 guided_twenty (spot_at 6 19) → ⊥
 spot_inside_the_last is = no_piece_from_nineteen is.most is.enough (is.rest 0)
 
@@ -45,5 +47,6 @@ some_piece_from_five : (most : ℕ) → 15 ≤ most → slice_get (guided_pieces
 some_piece_from_five zero enough rest = absurd (omega arith)
 some_piece_from_five (suc most) enough rest = absurd (cc)
 
+-- so the number of pieces does not stand with iteration 5
 pub spot_with_pieces_left : IsSpot 4 guided_twenty (spot_at 7 5) → ⊥
 spot_with_pieces_left is = some_piece_from_five is.most is.enough (is.rest 0)

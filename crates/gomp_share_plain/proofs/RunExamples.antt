@@ -23,9 +23,11 @@ use Rattle.gomp_share_plain.specs.Examples.{IsRun, IsWrong, NotOpened, NotClaime
 
 -- The shapes of the constructs
 
+-- the loop of ten has a shape that a construct has
 pub ten_fits : IsShape (shape_of ten)
 ten_fits = shape_is ten (search rules) (search rules) refl
 
+-- and so has the ordered loop of two
 pub two_fit : IsShape (shape_of ordered_two)
 two_fit = shape_is ordered_two (search rules) (search rules) refl
 
@@ -76,11 +78,12 @@ pub run_left_single : IsRun 2 left_single
 run_left_single =
     ((refl, (refl, refl)), (refl, ((refl, claims_piece 2 0 (0, single_shape false) _ _ refl single_fits refl (omega arith, omega arith)), ((refl, tt), ((refl, refl), ((refl, (refl, refl)), (refl, ((refl, claims_piece 2 1 (0, single_shape false) _ _ refl single_fits refl tt), ((refl, tt), tt)))))))))
 
--- a static loop with a chunk, and one without: the second member has its own pieces
+-- a static loop with a chunk: the second member has its own pieces
 pub run_in_static : IsRun 2 in_static
 run_in_static =
     ((refl, (refl, refl)), ((refl, claims_piece 2 1 (0, shape_of static_ten) _ _ refl static_ten_fits refl (omega arith, omega arith)), tt))
 
+-- a static loop of one iteration: the second member has no piece
 pub run_in_even : IsRun 2 in_even
 run_in_even =
     ((refl, (refl, refl)), ((refl, claims_piece 2 1 (0, shape_of even_one) _ _ refl even_fits refl tt), tt))
@@ -110,6 +113,7 @@ pub events_of_the_single : events_of left_single ≡
     End 0 1 ∷ Drained 0 1 ∷ Enter 0 1 (single_shape false) ∷ End 0 0 ∷ Take 0 0 0 1 ∷ Enter 0 0 (single_shape false) ∷ []
 events_of_the_single = refl
 
+-- the calls of the sections give these events
 pub events_of_the_sections : events_of in_sections ≡
     Take 0 0 2 3 ∷ Take 0 1 1 2 ∷ Enter 0 1 (sections_shape 3 WaitEnd) ∷ Take 0 0 0 1 ∷ Enter 0 0 (sections_shape 3 WaitEnd) ∷ []
 events_of_the_sections = refl
@@ -172,9 +176,11 @@ hand_on_turns = (λ opening answer. answer.1, λ piece answer. answer.1, λ answ
 pub loop_enters : IsWrong 2 [] (asks 0 (Open ten)) (Opened NotYet) × IsWrong 2 [] (asks 0 (Open ten)) (Opened Differs)
 loop_enters = (λ answer. absurd (let room = answer.1.1 in cc), λ answer. absurd (let differs = answer.1 in cc))
 
+-- so it is with sections
 pub sections_enter : IsWrong 2 [] (asks 0 (OpenSections 3 WaitEnd)) (Opened NotYet) × IsWrong 2 [] (asks 0 (OpenSections 3 WaitEnd)) (Opened Differs)
 sections_enter = (λ answer. absurd (let room = answer.1.1 in cc), λ answer. absurd (let differs = answer.1 in cc))
 
+-- and with a single
 pub single_enters : IsWrong 2 [] (asks 0 (OpenSingle false)) (Opened NotYet) × IsWrong 2 [] (asks 0 (OpenSingle false)) (Opened Differs)
 single_enters = (λ answer. absurd (let room = answer.1.1 in cc), λ answer. absurd (let differs = answer.1 in cc))
 
@@ -182,9 +188,11 @@ single_enters = (λ answer. absurd (let room = answer.1.1 in cc), λ answer. abs
 pub loop_waits : IsWrong 2 eight_ahead (asks 0 (Open ten)) (Opened Entered) × IsWrong 2 eight_ahead (asks 0 (Open ten)) (Opened Differs)
 loop_waits = (λ answer. absurd (let room = answer.1.1 in cc), λ answer. absurd (let differs = answer.1 in cc))
 
+-- it waits also with sections
 pub sections_wait : IsWrong 2 eight_ahead (asks 0 (OpenSections 3 WaitEnd)) (Opened Entered) × IsWrong 2 eight_ahead (asks 0 (OpenSections 3 WaitEnd)) (Opened Differs)
 sections_wait = (λ answer. absurd (let room = answer.1.1 in cc), λ answer. absurd (let differs = answer.1 in cc))
 
+-- and with a single
 pub single_waits : IsWrong 2 eight_ahead (asks 0 (OpenSingle false)) (Opened Entered) × IsWrong 2 eight_ahead (asks 0 (OpenSingle false)) (Opened Differs)
 single_waits = (λ answer. absurd (let room = answer.1.1 in cc), λ answer. absurd (let differs = answer.1 in cc))
 
@@ -196,9 +204,11 @@ single_waits_no_longer answer = absurd (let room = answer.1.1 in cc)
 pub loop_differs : IsWrong 2 inside_ten (asks 1 (Open nine)) (Opened Entered) × IsWrong 2 inside_ten (asks 1 (Open nine)) (Opened NotYet)
 loop_differs = (λ answer. absurd (let differs = answer.1.0 in cc), λ answer. absurd (let differs = answer.1.0 in cc))
 
+-- sections are no loop
 pub sections_differ : IsWrong 2 inside_ten (asks 1 (OpenSections 3 WaitEnd)) (Opened Entered) × IsWrong 2 inside_ten (asks 1 (OpenSections 3 WaitEnd)) (Opened NotYet)
 sections_differ = (λ answer. absurd (let differs = answer.1.0 in cc), λ answer. absurd (let differs = answer.1.0 in cc))
 
+-- nor is a single
 pub single_differs : IsWrong 2 inside_ten (asks 1 (OpenSingle false)) (Opened Entered) × IsWrong 2 inside_ten (asks 1 (OpenSingle false)) (Opened NotYet)
 single_differs = (λ answer. absurd (let differs = answer.1.0 in cc), λ answer. absurd (let differs = answer.1.0 in cc))
 
@@ -240,10 +250,11 @@ piece_again answer = not_from 2 0 (0, shape_of ten) (0, 3) (3, 6) _ (λ same. om
 pub piece_ahead : IsWrong 2 took_one (asks 0 Claim) (Claimed (Some (6, 9)))
 piece_ahead answer = not_from 2 0 (0, shape_of ten) (6, 9) (3, 6) _ (λ same. omega arith) refl refl answer.1
 
--- one iteration too many, and too few
+-- one iteration too many
 pub piece_too_long : IsWrong 2 took_one (asks 0 Claim) (Claimed (Some (3, 7)))
 piece_too_long answer = not_to 2 0 (0, shape_of ten) (3, 7) (3, 6) _ (λ same. omega arith) refl refl answer.1
 
+-- one iteration too few
 pub piece_too_short : IsWrong 2 took_one (asks 0 Claim) (Claimed (Some (3, 5)))
 piece_too_short answer = not_to 2 0 (0, shape_of ten) (3, 5) (3, 6) _ (λ same. omega arith) refl refl answer.1
 
@@ -273,10 +284,11 @@ single_for_both answer = never_some 2 1 (0, single_shape false) (0, 1) _ refl re
 
 -- Wrong turns
 
--- the member with the first piece has the turn, and the other has not
+-- the member with the first piece has the turn
 pub turn_denied : IsWrong 2 both_hold (asks 0 (Begin 0)) (Turned false) × IsWrong 2 both_hold (asks 0 HandOn) (Turned false)
 turn_denied = (λ answer. absurd (let turn = answer.1 in cc), λ answer. absurd (let turn = answer.1 in cc))
 
+-- the second member has no turn before the first has handed its piece on
 pub turn_too_early : IsWrong 2 both_hold (asks 1 (Begin 1)) (Turned true) × IsWrong 2 both_hold (asks 1 HandOn) (Turned true)
 turn_too_early = (λ answer. absurd (let turn = answer.1 in cc), λ answer. absurd (let turn = answer.1 in cc))
 
@@ -290,10 +302,11 @@ handed_on_again answer = absurd (let turn = answer.1 in cc)
 pub stranger_opens : (opening : Opening) → IsWrong 2 [] (asks 2 (Open ten)) (Opened opening)
 stranger_opens opening answer = absurd (let made = answer.0 in cc)
 
--- a claim of a member that is in no share, and of one that was told that nothing is left
+-- a claim of a member that is in no share
 pub claim_outside : (piece : Option Piece) → IsWrong 2 [] (asks 0 Claim) (Claimed piece)
 claim_outside piece answer = absurd (let made = answer.0 in cc)
 
+-- a claim of a member that was told that nothing is left
 pub claim_after_none : (piece : Option Piece) → IsWrong 2 told_none (asks 0 Claim) (Claimed piece)
 claim_after_none piece answer = absurd (let made = answer.0 in cc)
 
@@ -301,10 +314,11 @@ claim_after_none piece answer = absurd (let made = answer.0 in cc)
 pub left_too_early : IsWrong 2 took_one (asks 0 Leave) Left
 left_too_early answer = absurd (let made = answer.0 in cc)
 
--- a part that is begun in another one, and one that is ended and is not open
+-- a part that is begun in another one
 pub begun_in_a_part : IsWrong 2 in_the_part (asks 0 (Begin 0)) (Turned true)
 begun_in_a_part answer = absurd (let made = answer.0 in cc)
 
+-- a part that is ended where none is open
 pub ended_outside : IsWrong 2 both_hold (asks 0 EndPart) Ended
 ended_outside answer = absurd (let made = answer.0 in cc)
 
