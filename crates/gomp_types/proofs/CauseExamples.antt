@@ -1,6 +1,6 @@
 -- To each call, the answers of other calls, and want of memory where it asks for none: none of them has a cause.
 use Rattle.std.proofs.Common.{◌≡◌, ℕ, true, false, List, [], ◌∷◌, Some, None, refl, rules, inl, inr}
-use Rattle.std.specs.Prelude.{pos, take, ◌++◌, ◌≢◌}
+use Rattle.std.specs.Prelude.{pos, take, map, ◌++◌, ◌≢◌}
 use Rattle.gomp_types.specs.declared.call.Call.{Call}
 use Rattle.gomp_types.specs.declared.call.Step.{Step}
 use Rattle.gomp_types.specs.declared.event.Event.{Event}
@@ -13,7 +13,8 @@ use Rattle.gomp_types.specs.Causes.{Terms, MayAnswer, IsReply, OneReply, SomeRep
 use Rattle.gomp_types.specs.LawExamples.{newest_first, eight_entered, four}
 use Rattle.gomp_types.specs.declared.call.Call.TheVariants.{LoopNext, LoopEnd, LoopEndNowait, SectionsStart, SectionsNext, SectionsEnd, SectionsEndNowait, SingleStart, SingleCopyStart, SingleCopyEnd, OrderedStart, OrderedEnd, Barrier, RegionEnd, Resume, Stop}
 use Rattle.gomp_types.specs.declared.loop_desc.EndKind.TheVariants.{Nowait}
-use Rattle.gomp_types.specs.declared.refusal.Refusal.TheVariants.{InsideShare, NotInside, TooManyShares, NoMemory}
+use Rattle.gomp_types.specs.declared.refusal.Place.TheVariants.{Share, Barrier as AtBarrier, Stopped as AtStop}
+use Rattle.gomp_types.specs.declared.refusal.Refusal.TheVariants.{BadMember, Ended, Broken, Waiting, InsideShare, OutsideShare, InOrdered, ZeroStep, BadChunk, LoopTooLong, BadSections, EndDiffers, NotDrained, Drained, NotOrdered, OrderedBackwards, NotInside, TooManyShares, Mismatch, NoMemory, BadTeam}
 use Rattle.gomp_types.specs.declared.reply.Reply.{Reply}
 use Rattle.gomp_types.specs.declared.reply.Reply.TheVariants.{Chunk, NoChunk, Section, Executor, Copied, Finished, Passed, Wait, Stopped, Refused}
 use Rattle.gomp_types.specs.Examples.{IsWrong, AreWrong, IsNoRun, asks, one_nowait, loop_of_two, loop_alone, eight_ahead}
@@ -293,6 +294,107 @@ memory_at_copy_inside may = absurd (cc)
 pub memory_of_another_construct : IsWrong 2 (take 1 loop_alone) (asks 1 SingleCopyStart) (Refused NoMemory)
 memory_of_another_construct may = absurd (cc)
 
+-- Refusals where no test holds, and others than that whose test does
+
+-- all refusals but want of memory, and but one with a cause or a word
+abbrev all_refusals : List Reply
+all_refusals =
+    map Refused
+    (BadMember ∷ Ended ∷ Waiting ∷ InsideShare ∷ OutsideShare ∷ InOrdered ∷ ZeroStep ∷ BadChunk ∷ LoopTooLong ∷ BadSections ∷ EndDiffers
+    ∷ NotDrained ∷ Drained ∷ NotOrdered ∷ OrderedBackwards ∷ NotInside ∷ TooManyShares ∷ Mismatch ∷ BadTeam ∷ [])
+
+-- a loop's start
+pub refused_at_loop_start : AreWrong 2 [] (asks 0 one_nowait) all_refusals
+refused_at_loop_start = search rules
+
+-- the next iterations
+pub refused_at_loop_next : AreWrong 2 (take 2 loop_of_two) (asks 0 LoopNext) all_refusals
+refused_at_loop_next = search rules
+
+-- a loop's end that waits
+pub refused_at_loop_end : AreWrong 2 (take 6 loop_of_two) (asks 0 LoopEnd) all_refusals
+refused_at_loop_end = search rules
+
+-- and that does not
+pub refused_at_last_end : AreWrong 2 (take 7 loop_of_two) (asks 1 LoopEnd) all_refusals
+refused_at_last_end = search rules
+
+-- a loop's end without a barrier
+pub refused_at_nowait_end : AreWrong 2 (take 2 loop_alone) (asks 0 LoopEndNowait) all_refusals
+refused_at_nowait_end = search rules
+
+-- the start of sections
+pub refused_at_sections_start : AreWrong 2 [] (asks 0 three_sections) all_refusals
+refused_at_sections_start = search rules
+
+-- the next section
+pub refused_at_sections_next : AreWrong 2 (take 2 sections_of_two) (asks 0 SectionsNext) all_refusals
+refused_at_sections_next = search rules
+
+-- the end of sections
+pub refused_at_sections_end : AreWrong 2 (take 5 sections_of_two) (asks 0 SectionsEnd) all_refusals
+refused_at_sections_end = search rules
+
+-- and without a barrier
+pub refused_at_sections_nowait : AreWrong 1 (take 1 no_sections) (asks 0 SectionsEndNowait) all_refusals
+refused_at_sections_nowait = search rules
+
+-- a single
+pub refused_at_single : AreWrong 2 (take 1 single_of_two) (asks 1 SingleStart) all_refusals
+refused_at_single = search rules
+
+-- a single with words
+pub refused_at_copy : AreWrong 3 (take 1 copy_of_three) (asks 0 SingleCopyStart) all_refusals
+refused_at_copy = search rules
+
+-- the end of its executor
+pub refused_at_copy_end : AreWrong 3 (take 1 copy_of_three) (asks 1 (SingleCopyEnd [])) all_refusals
+refused_at_copy_end = search rules
+
+-- an ordered part
+pub refused_at_part : AreWrong 2 (take 1 ordered_of_two) (asks 0 (OrderedStart (pos 0))) all_refusals
+refused_at_part = search rules
+
+-- its end
+pub refused_at_part_end : AreWrong 1 (take 2 ordered_alone) (asks 0 OrderedEnd) all_refusals
+refused_at_part_end = search rules
+
+-- a barrier
+pub refused_at_barrier : AreWrong 2 [] (asks 0 Barrier) all_refusals
+refused_at_barrier = search rules
+
+-- the region's end
+pub refused_at_region_end : AreWrong 2 [] (asks 0 RegionEnd) all_refusals
+refused_at_region_end = search rules
+
+-- a stop
+pub refused_at_stop : AreWrong 1 [] (asks 0 Stop) all_refusals
+refused_at_stop = search rules
+
+-- a resume that waits again
+pub refused_at_waiting_resume : AreWrong 2 (take 7 loop_of_two) (asks 0 Resume) all_refusals
+refused_at_waiting_resume = search rules
+
+-- and one that does not
+pub refused_at_met_resume : AreWrong 2 (take 8 loop_of_two) (asks 0 Resume) all_refusals
+refused_at_met_resume = search rules
+
+-- a start that waits for room
+pub refused_at_ninth : AreWrong 2 eight_ahead (asks 0 SingleStart) all_refusals
+refused_at_ninth = search rules
+
+-- a call is refused for a share that it is inside of, and not for another reason, nor answered
+pub refused_otherwise : AreWrong 1 (take 1 loop_alone) (asks 0 SingleStart)
+    (Refused BadMember ∷ Refused Ended ∷ Refused Waiting ∷ Refused OutsideShare ∷ Refused NotInside ∷ Refused TooManyShares ∷ Refused Mismatch
+    ∷ Refused NoMemory ∷ Executor true ∷ Executor false ∷ Wait ∷ [])
+refused_otherwise = search rules
+
+-- the member that broke a team, and where, are told as they were
+pub broken_otherwise : AreWrong 2 ((asks 1 Stop, Stopped) ∷ []) (asks 0 Barrier)
+    (Refused (Broken (record { member = 0; place = AtStop })) ∷ Refused (Broken (record { member = 1; place = Share 0 }))
+    ∷ Refused (Broken (record { member = 1; place = AtBarrier 0 })) ∷ Refused Ended ∷ Passed ∷ Wait ∷ [])
+broken_otherwise = search rules
+
 -- After events that need be no team's, where one part of a cause alone refuses
 
 -- a single is executed where there is no room
@@ -346,6 +448,10 @@ no_memory_by_itself = search rules
 -- a resume, which is no call by itself
 pub resume_by_itself : IsWrongAfter 1 [] 0 Resume Passed
 resume_by_itself = search rules
+
+-- a call that was begun before arrives no second time
+pub resumed_alone : MayReply 1 true 0 Barrier Passed [] → ⊥
+resumed_alone met = absurd (cc)
 
 -- outside of every share, where the tests refuse before: no iterations
 pub none_in_no_loop : MayReply 1 false 0 LoopNext NoChunk [] → ⊥

@@ -165,14 +165,16 @@ pub words_of_a_single : (payload_at 0 (after words) ≡ Some (7 ∷ [])) × (pay
 words_of_a_single = (refl, refl, refl)
 
 -- who took its piece
-pub piece_of_a_single : (has_piece 0 0 (after words) ≡ true) × (has_piece 0 1 (after words) ≡ false) × (has_piece 1 0 (after words) ≡ false)
-piece_of_a_single = (refl, refl, refl)
+pub piece_of_a_single :
+    (has_piece 0 0 (after words) ≡ true) × (has_piece 0 1 (after words) ≡ false) × (has_piece 1 0 (after words) ≡ false)
+    × (has_piece 0 0 (after (Take 0 0 0 1 ∷ Take 1 1 0 1 ∷ [])) ≡ true) × (has_piece 1 0 (after (Take 0 0 0 1 ∷ Take 1 1 0 1 ∷ [])) ≡ false)
+piece_of_a_single = (refl, refl, refl, refl, refl)
 
 -- who has words of it
 pub words_of_a_member :
     (has_words 0 0 (after words) ≡ true) × (has_words 0 1 (after words) ≡ true) × (has_words 0 2 (after words) ≡ false)
-    × (has_words 1 0 (after words) ≡ false) × (has_words 1 1 (after words) ≡ true)
-words_of_a_member = (refl, refl, refl, refl, refl)
+    × (has_words 1 0 (after words) ≡ false) × (has_words 1 1 (after words) ≡ true) × (has_words 2 1 (after words) ≡ false)
+words_of_a_member = (refl, refl, refl, refl, refl, refl)
 
 -- Barriers
 
@@ -203,7 +205,8 @@ pub region_that_is_left :
     × (has_left_region 0 (after (Arrive 0 0 (at Barrier 0) ∷ Pass 0 0 ∷ Arrive 1 0 (at RegionEnd 0) ∷ [])) ≡ false)
     × (has_left_region 0 (after (Arrive 0 0 (at ShareEnd 1) ∷ Pass 0 0 ∷ [])) ≡ false) × (has_left_region 0 (after (Pass 0 0 ∷ [])) ≡ false)
     × (has_left_region 1 (after (Arrive 0 0 (at RegionEnd 0) ∷ Arrive 0 1 (at RegionEnd 0) ∷ Pass 0 0 ∷ [])) ≡ false)
-region_that_is_left = (refl, refl, refl, refl, refl, refl)
+    × (has_left_region 0 (after (Arrive 0 0 (at RegionEnd 0) ∷ Arrive 0 1 (at RegionEnd 0) ∷ Pass 0 0 ∷ Pass 0 1 ∷ [])) ≡ true)
+region_that_is_left = (refl, refl, refl, refl, refl, refl, refl)
 
 -- a team broke by the first of two causes
 pub first_of_two_causes :

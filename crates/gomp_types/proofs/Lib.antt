@@ -37,3 +37,4 @@ pub mod CauseExamples
 pub mod RecordExamples
 pub mod EventExamples
 pub mod ShapeExamples
+pub mod TestExamples

@@ -1,5 +1,5 @@
 -- What a record says: what its members wait for, and which events it gives, in their order.
-use Rattle.std.proofs.Common.{◌≡◌, true, false, [], ◌∷◌, Some, None, refl}
+use Rattle.std.proofs.Common.{◌≡◌, ℕ, true, false, [], ◌∷◌, Some, None, refl}
 use Rattle.std.specs.Prelude.{pos, take, ◌++◌}
 use Rattle.gomp_types.specs.declared.call.Call.TheVariants.{LoopEnd, SingleStart, SingleCopyStart, Barrier as BarrierCall, Resume, Stop}
 use Rattle.gomp_types.specs.declared.loop_desc.EndKind.TheVariants.{Wait as WaitEnd, Nowait}
@@ -13,7 +13,7 @@ use Rattle.gomp_types.specs.declared.event.Event.TheVariants.{Enter, Take, Drain
 use Rattle.gomp_types.specs.Sections.{sections_shape}
 use Rattle.gomp_types.specs.Singles.{single_shape}
 use Rattle.gomp_types.specs.Record.{no_waits, record_after, meant, waits_of, events, shown}
-use Rattle.gomp_types.specs.Examples.{recorded, asks, one_nowait, loop_of_two, loop_alone, ninth_share, differing_loop, stopped_team}
+use Rattle.gomp_types.specs.Examples.{recorded, asks, one_nowait, loop_of_two, loop_alone, empty_loops, ninth_share, differing_loop, stopped_team}
 use Rattle.gomp_types.specs.ShareExamples.{sections_of_two, no_sections, single_of_two, ordered_of_two, handed_of_two, differing_copy, differing_sections}
 use Rattle.gomp_types.specs.RegionExamples.{region_of_two, later_barrier, later_share, differing_at_resume, copied_at_once}
 use Rattle.gomp_types.specs.LawExamples.{newest_first, at}
@@ -67,6 +67,16 @@ pub nowait_events : events (recorded (loop_alone ++ take 1 loop_alone ++ (asks 0
     (Enter 0 0 nowait_shape ∷ Take 0 0 0 1 ∷ Drained 0 0 ∷ End 0 0 ∷ Enter 1 0 nowait_shape ∷ Take 1 0 0 1 ∷ Break 0 AtStop ∷ [])
     []
 nowait_events = refl
+
+-- a loop without iterations
+abbrev empty_shape : ℕ → Shape
+empty_shape start = record { start = pos start; incr = pos 1; trips = 0; kind = Dynamic; chunk = 3; ordered = false; end_kind = Nowait }
+
+-- two of them
+pub empty_events : events (recorded empty_loops []) ≡ newest_first
+    (Enter 0 0 (empty_shape 5) ∷ Drained 0 0 ∷ End 0 0 ∷ Enter 1 0 (empty_shape 10) ∷ Drained 1 0 ∷ End 1 0 ∷ [])
+    []
+empty_events = refl
 
 -- sections
 pub section_events : events (recorded sections_of_two []) ≡ newest_first
