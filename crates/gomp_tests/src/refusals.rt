@@ -105,11 +105,11 @@ fn prints<D: Display>(
 #[test]
 fn refusals_print(rt: HostRuntime) -> Result<(), Fail> {
     let alloc = rt.alloc();
-    for (place, where_it_broke) in PLACES {
-        prints(&rt, alloc, &place, where_it_broke)?;
-        for (member, who) in MEMBERS {
+    for (place, place_text) in PLACES {
+        prints(&rt, alloc, &place, place_text)?;
+        for (member, digits) in MEMBERS {
             let clash = Clash { member, place };
-            let cause = format!(in alloc; "{who} {where_it_broke}")?;
+            let cause = format!(in alloc; "{digits} {place_text}")?;
             prints(&rt, alloc, &clash, &cause)?;
             let refusal = format!(in alloc; "E3 Broken {cause}")?;
             prints(&rt, alloc, &Refusal::Broken(clash), &refusal)?;
