@@ -203,6 +203,7 @@ fn each_write_of_a_note_fails(rt: &impl Abort, alloc: Global, recovers: bool) ->
     Ok(())
 }
 
+/// As many reads and writes go well as there are bytes, and nothing fails; and then each fails in turn.
 #[test]
 fn streams_that_fail(rt: HostRuntime) -> Result<(), Fail> {
     let alloc = rt.alloc();
@@ -231,7 +232,10 @@ fn streams_that_fail(rt: HostRuntime) -> Result<(), Fail> {
         ),
     ] {
         let run = Run {
+            reads: TEXT.len() + 1,
             kind,
+            writes: output.len(),
+            error_writes: errors.len(),
             ..faultless(&*words)
         };
         let outcome = Outcome {
