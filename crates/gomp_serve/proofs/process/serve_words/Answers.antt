@@ -1,10 +1,10 @@
-use Rattle.std.proofs.Common.{◌≡◌, ◌∙◌, ℕ, Ok, length, map, refl, sym, ap, arith}
+use Rattle.std.proofs.Common.{◌≡◌, ◌∙◌, ℕ, Ok, length, map, refl, ap, arith}
 use Rattle.std.specs.Prelude.{string_bytes}
 use Rattle.std.specs.Vec.Iter.{into_iter_items, into_iter_len}
 use Rattle.std.proofs.lemmas.Iterator.{items_from_collect}
 use Rattle.std.proofs.lemmas.Iterator.Adapters.{YieldsList-from_vec}
 use Rattle.gomp_serve.specs.CommandLine.{faults_of, settings_of}
-use Rattle.gomp_serve.specs.Process.{EndsOn, texts_of}
+use Rattle.gomp_serve.specs.Process.{texts_of}
 use Rattle.gomp_serve.proofs.CommandLemmas.{memory_ends}
 use Rattle.gomp_serve.proofs.NumberLemmas.{words_number}
 use Rattle.gomp_serve.proofs.process.serve_words.Goals as goal
