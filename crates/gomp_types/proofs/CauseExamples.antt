@@ -5,6 +5,7 @@ use Rattle.gomp_types.specs.declared.call.Call.{Call}
 use Rattle.gomp_types.specs.declared.call.Step.{Step}
 use Rattle.gomp_types.specs.declared.event.Event.{Event}
 use Rattle.gomp_types.specs.declared.event.Event.TheVariants.{Enter, Take, Put}
+use Rattle.gomp_types.specs.Singles.{single_shape}
 use Rattle.gomp_types.specs.Limits.{standard}
 use Rattle.gomp_types.specs.Events.{entered, open_share, has_left_region, clash_of}
 use Rattle.gomp_types.specs.Record.{Record}
@@ -416,6 +417,10 @@ words_without_room = search rules
 -- words are given where the piece is left
 pub words_of_an_untaken : IsWrongAfter 2 (Put 0 1 (7 ∷ []) ∷ []) 0 SingleCopyStart (Copied (7 ∷ []))
 words_of_an_untaken = search rules
+
+-- words are put by a member of the single that did not take its piece
+pub words_of_no_executor : IsWrongAfter 2 (Enter 0 0 (single_shape true) ∷ []) 0 (SingleCopyEnd []) Finished
+words_of_no_executor = search rules
 
 -- a loop starts where there is no room
 pub chunk_without_room : IsWrongAfter 2 eight_entered 0 one_nowait (Chunk (pos 0) 1)

@@ -183,6 +183,12 @@ pieces_of_none = refl
 pub pieces_of_few : pieces_of 4 (record (ten kind.StaticEven) { trips = 2 }) ≡ (0, 1) ∷ (1, 2) ∷ []
 pieces_of_few = refl
 
+-- the last piece is shorter
+pub pieces_of_nine :
+    (pieces_of 4 (record (ten kind.Dynamic) { trips = 9 }) ≡ (0, 2) ∷ (2, 4) ∷ (4, 6) ∷ (6, 8) ∷ (8, 9) ∷ [])
+    × (pieces_of 4 (record (ten kind.StaticChunked) { trips = 9 }) ≡ (0, 2) ∷ (2, 4) ∷ (4, 6) ∷ (6, 8) ∷ (8, 9) ∷ [])
+pieces_of_nine = (refl, refl)
+
 -- what each member of three finds first: of a static loop its own pieces, of another the first
 pub first_pieces :
     (map (λ m. next_for (schedule 3) (ten kind.StaticChunked) 0 m []) (0 ∷ 1 ∷ 2 ∷ []) ≡ Some (0, 2) ∷ Some (2, 4) ∷ Some (4, 6) ∷ [])

@@ -128,8 +128,8 @@ single_resumed_otherwise = search rules
 
 -- Next iterations and sections
 
--- iterations in sections
-pub next_in_sections : IsWrong 1 (take 1 no_sections) (asks 0 LoopNext) (NoChunk)
+-- no iterations in sections
+pub next_in_sections : IsWrong 1 ((asks 0 (SectionsStart 1 Nowait), Section 1) ∷ []) (asks 0 LoopNext) NoChunk
 next_in_sections = search rules
 
 -- iterations in an ordered part
@@ -140,8 +140,8 @@ next_in_a_part = search rules
 pub next_once_more : IsWrong 1 (take 1 empty_loops) (asks 0 LoopNext) (NoChunk)
 next_once_more = search rules
 
--- a section in a loop
-pub section_in_a_loop : IsWrong 1 (take 1 empty_loops) (asks 0 SectionsNext) (Section 0)
+-- no section in a loop
+pub section_in_a_loop : IsWrong 1 (take 1 loop_alone) (asks 0 SectionsNext) (Section 0)
 section_in_a_loop = search rules
 
 -- no section, once more
@@ -150,13 +150,17 @@ section_once_more = search rules
 
 -- Ends of loops and sections
 
--- the end of no loop, with a barrier
-pub end_outside : IsWrong 1 [] (asks 0 LoopEnd) (Passed)
+-- the end of no loop is refused as one with iterations left
+pub end_outside : IsWrong 1 [] (asks 0 LoopEnd) (Refused NotDrained)
 end_outside = search rules
 
+-- sections end as a loop, with a barrier
+pub end_of_sections : IsWrong 1 ((asks 0 (SectionsStart 0 WaitEnd), Section 0) ∷ []) (asks 0 LoopEnd) Passed
+end_of_sections = search rules
+
 -- and without
-pub nowait_end_outside : IsWrong 1 [] (asks 0 LoopEndNowait) (Finished)
-nowait_end_outside = search rules
+pub nowait_end_of_sections : IsWrong 1 (take 1 no_sections) (asks 0 LoopEndNowait) Finished
+nowait_end_of_sections = search rules
 
 -- a loop that ends in an ordered part is refused as one with iterations left
 pub end_in_a_part : IsWrong 1 (take 2 ordered_alone) (asks 0 LoopEndNowait) (Refused NotDrained)
@@ -182,13 +186,17 @@ nowait_end_too_early = search rules
 pub end_otherwise : IsWrong 2 (take 7 early_arrivals) (asks 1 LoopEnd) (Passed)
 end_otherwise = search rules
 
--- the end of no sections, with a barrier
-pub sections_end_outside : IsWrong 1 [] (asks 0 SectionsEnd) (Passed)
+-- the end of no sections is refused as one with a section left
+pub sections_end_outside : IsWrong 1 [] (asks 0 SectionsEnd) (Refused NotDrained)
 sections_end_outside = search rules
 
+-- a loop ends as sections, with a barrier
+pub sections_end_of_loop : IsWrong 1 ((asks 0 (dynamic_loop (pos 1) (pos 0) (pos 0) WaitEnd), NoChunk) ∷ []) (asks 0 SectionsEnd) Passed
+sections_end_of_loop = search rules
+
 -- and without
-pub sections_nowait_outside : IsWrong 1 [] (asks 0 SectionsEndNowait) (Finished)
-sections_nowait_outside = search rules
+pub sections_nowait_of_loop : IsWrong 1 (take 1 empty_loops) (asks 0 SectionsEndNowait) Finished
+sections_nowait_of_loop = search rules
 
 -- sections with a barrier end without
 pub sections_nowait_differs : IsWrong 1 ((asks 0 (SectionsStart 0 WaitEnd), Section 0) ∷ []) (asks 0 SectionsEndNowait) (Finished)
