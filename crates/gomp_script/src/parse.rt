@@ -115,8 +115,10 @@ pub fn parse_steps(alloc: Global, text: &[u8]) -> Result<(u32, Vec<Step>), Parse
 /// Where memory is refused, the lines that are left are read without keeping their steps: a bad one
 /// comes before want of memory.
 fn parse_lines(alloc: Global, lines: Option<&[u8]>, first: u64) -> Result<Vec<Step>, ParseError>
-    ensures steps { Gives (λ steps. steps.items) result (steps_left first (option_copied lines.entry)) }
-    ensures memory { IsErrOf result Memory → HasStep (steps_left first (option_copied lines.entry)) }
+    ensures steps { Gives (λ steps. steps.items) result
+        (steps_left first (option_copied lines.entry)) }
+    ensures memory { IsErrOf result Memory →
+        HasStep (steps_left first (option_copied lines.entry)) }
 {
     let mut steps = Vec::new(alloc);
     let mut rest = lines;

@@ -78,7 +78,9 @@ pub fn print_refusal(alloc: Global, refusal: &Refusal) -> Result<String, AllocEr
 
 /// The lines of these replies. The error is want of memory, and no reply takes none.
 pub fn print_replies(alloc: Global, replies: &[Reply]) -> Result<String, AllocError>
-    ensures { MatchResult result (λ text. string_bytes text ≡ flat_map reply_line replies.now) (λ _. replies.now ≢ []) }
+    ensures { MatchResult result
+        (λ text. string_bytes text ≡ flat_map reply_line replies.now)
+        (λ _. replies.now ≢ []) }
 {
     let mut text = String::new(alloc);
     for reply in replies {
