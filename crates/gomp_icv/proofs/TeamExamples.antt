@@ -46,8 +46,8 @@ pub only_one_left : team_size initial (Some 100) true 64 ≡ 1
 only_one_left = refl
 
 -- where all threads are busy, the encountering one is left
-pub none_left : team_size initial (Some 100) true 65 ≡ 1
-none_left = refl
+pub encountering_thread_left : team_size initial (Some 100) true 65 ≡ 1
+encountering_thread_left = refl
 
 -- however many are busy
 pub most_busy : team_size initial (Some 100) true 4294967295 ≡ 1

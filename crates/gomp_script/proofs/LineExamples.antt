@@ -104,9 +104,9 @@ unfolding plain_step loop_step sections_step copy_end_step ordered_step team_of
 ordered_parts = refl
 
 -- the words of a single, from none to eight, up to the largest
-pub words_of_a_single : steps_said (parts (codes "0 single_copy_end|0 single_copy_end 18446744073709551615|0 single_copy_end 1 2 3 4 5 6 7 8")) ≡ map by_first (SingleCopyEnd [] ∷ SingleCopyEnd (18446744073709551615 ∷ []) ∷ SingleCopyEnd (1 ∷ 2 ∷ 3 ∷ 4 ∷ 5 ∷ 6 ∷ 7 ∷ 8 ∷ []) ∷ [])
+pub words_of_a_copying_single : steps_said (parts (codes "0 single_copy_end|0 single_copy_end 18446744073709551615|0 single_copy_end 1 2 3 4 5 6 7 8")) ≡ map by_first (SingleCopyEnd [] ∷ SingleCopyEnd (18446744073709551615 ∷ []) ∷ SingleCopyEnd (1 ∷ 2 ∷ 3 ∷ 4 ∷ 5 ∷ 6 ∷ 7 ∷ 8 ∷ []) ∷ [])
 unfolding plain_step loop_step sections_step copy_end_step ordered_step team_of
-words_of_a_single = refl
+words_of_a_copying_single = refl
 
 -- numbers beyond their types
 pub numbers_beyond : steps_said (parts (codes "0 sections 4294967296 wait|0 sections -1 wait|0 ordered 9223372036854775808|0 ordered -9223372036854775809|0 single_copy_end 18446744073709551616|0 single_copy_end -1|65536 next|-1 next|x single_copy_end")) ≡ each_bad 9 BadNumber

@@ -58,9 +58,9 @@ unfolding plain_step loop_step sections_step copy_end_step ordered_step team_of
 team_twice = refl
 
 -- of two bad lines the first is told
-pub first_of_two : IsBad 3 MissingWord (codes "team 2\n0 next\n0\n0 foo\n")
+pub first_fault_of_two : IsBad 3 MissingWord (codes "team 2\n0 next\n0\n0 foo\n")
 unfolding plain_step loop_step sections_step copy_end_step ordered_step team_of
-first_of_two = refl
+first_fault_of_two = refl
 
 -- a bad line at the end is told, whatever stands before it
 pub bad_last_line : IsBad 4 BadNumber (codes "team 2\n0 next\n0 next\nx next")

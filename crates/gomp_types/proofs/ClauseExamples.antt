@@ -47,10 +47,10 @@ not_second (suc zero) place own = absurd (let low = same_low _ _ _ _ place in om
 not_second (suc (suc later)) place own = absurd (cc)
 
 -- what begins in the middle of the first is neither
-no_piece : (number : ℕ) → slice_get halves_of_four number ≡ Some (1, 3) → ⊥
-no_piece zero place = absurd (let low = same_low _ _ _ _ place in omega arith)
-no_piece (suc zero) place = absurd (let low = same_low _ _ _ _ place in omega arith)
-no_piece (suc (suc later)) place = absurd (cc)
+no_halves_begin_inside : (number : ℕ) → slice_get halves_of_four number ≡ Some (1, 3) → ⊥
+no_halves_begin_inside zero place = absurd (let low = same_low _ _ _ _ place in omega arith)
+no_halves_begin_inside (suc zero) place = absurd (let low = same_low _ _ _ _ place in omega arith)
+no_halves_begin_inside (suc (suc later)) place = absurd (cc)
 
 -- a member alone has left the share that it left last
 pub alone_over : (share : ℕ) (earlier : List Event) → IsOver 1 share (End share 0 ∷ earlier)
@@ -179,12 +179,12 @@ pub own_other : RefusedAfter (TakesItsOwn 2) (Enter 0 1 static_four ∷ []) (Tak
 own_other law = let place = law static_four (inl refl) refl in not_second place.0 place.1 place.2
 
 -- and of a loop without a chunk
-pub own_even : RefusedAfter (TakesItsOwn 2) (Enter 0 1 even_four ∷ []) (Take 0 1 0 2)
-own_even law = let place = law even_four (inl refl) refl in not_second place.0 place.1 place.2
+pub own_without_chunk : RefusedAfter (TakesItsOwn 2) (Enter 0 1 even_four ∷ []) (Take 0 1 0 2)
+own_without_chunk law = let place = law even_four (inl refl) refl in not_second place.0 place.1 place.2
 
 -- what is no piece, though half of it is the member's own
 pub own_no_piece : RefusedAfter (TakesItsOwn 2) (Enter 0 1 static_four ∷ []) (Take 0 1 1 3)
-own_no_piece law = let place = law static_four (inl refl) refl in no_piece place.0 place.1
+own_no_piece law = let place = law static_four (inl refl) refl in no_halves_begin_inside place.0 place.1
 
 -- Whole
 

@@ -126,10 +126,10 @@ pub part_of_a_member :
 part_of_a_member = (refl, refl, refl, refl)
 
 -- and whose part of a loop is open
-pub part_of_a_loop :
+pub open_part_of_a_loop :
     (open_part 0 (after (Part 0 1 0 ∷ PartEnd 1 0 ∷ Part 1 0 0 ∷ [])) ≡ Some 1) × (open_part 1 (after (Part 0 1 0 ∷ [])) ≡ None)
     × (open_part 0 (after (Part 0 1 0 ∷ PartEnd 0 1 ∷ [])) ≡ None)
-part_of_a_loop = (refl, refl, refl)
+open_part_of_a_loop = (refl, refl, refl)
 
 -- two pieces are one where both ends are
 pub pieces_that_are_one :
@@ -161,8 +161,8 @@ abbrev words : List Event
 words = Take 0 0 0 1 ∷ Put 0 0 (7 ∷ []) ∷ Got 0 1 (7 ∷ []) ∷ Put 1 1 (8 ∷ 9 ∷ []) ∷ []
 
 -- which words each has
-pub words_of_a_single : (payload_at 0 (after words) ≡ Some (7 ∷ [])) × (payload_at 1 (after words) ≡ Some (8 ∷ 9 ∷ [])) × (payload_at 2 (after words) ≡ None)
-words_of_a_single = (refl, refl, refl)
+pub words_that_were_put : (payload_at 0 (after words) ≡ Some (7 ∷ [])) × (payload_at 1 (after words) ≡ Some (8 ∷ 9 ∷ [])) × (payload_at 2 (after words) ≡ None)
+words_that_were_put = (refl, refl, refl)
 
 -- who took its piece
 pub piece_of_a_single :
