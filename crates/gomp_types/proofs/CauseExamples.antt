@@ -498,6 +498,14 @@ two_replies (inl e) = absurd (cc)
 two_replies (inr (inl e)) = absurd (cc)
 two_replies (inr (inr e)) = absurd (cc)
 
+-- a member alone passes at once, since its own arrival counts
+pub alone_passes : IsReply standard 1 0 Barrier Passed []
+alone_passes = (refl, refl)
+
+-- and does not wait
+pub alone_waits : IsWrongAfter 1 [] 0 Barrier Wait
+alone_waits reply = absurd (let waits = reply.1 in cc)
+
 -- the reply that there is to each step is another than want of memory
 pub some_reply_tells : (terms : Terms) (run : Record) (step : Step) → (some : SomeReply terms run step) → (some.0 ≢ Refused NoMemory) × MayAnswer terms run step some.0
 some_reply_tells terms run step some = (some.1, some.2)

@@ -107,6 +107,10 @@ over_for_all (suc (suc m)) below = absurd (omega arith)
 pub over_but_one : Refuses (IsOver 2 0) (End 0 0 ∷ [])
 over_but_one over = elim (over 1 (omega arith)) [ inl e ↦ absurd (cc) | inr never ↦ never ]
 
+-- nor where the first has not
+pub over_but_first : Refuses (IsOver 2 0) (End 0 1 ∷ [])
+over_but_first over = elim (over 0 (omega arith)) [ inl e ↦ absurd (cc) | inr never ↦ never ]
+
 -- Taken once
 
 -- a member takes a piece of a share that it has not entered
@@ -214,6 +218,10 @@ enter_again law = absurd (let number = law.1 in omega arith)
 pub enter_nested : RefusedAfter (EntersOneByOne 2) (Enter 0 0 (four false) ∷ End 0 1 ∷ []) (Enter 1 0 (four false))
 enter_nested law = elim (law.2 0 (four false) (inr (inl refl))) [ inl e ↦ absurd (cc) | inr (inl e) ↦ absurd (cc) | inr (inr never) ↦ never ]
 
+-- also where the two are of different shapes
+pub enter_nested_otherwise : RefusedAfter (EntersOneByOne 1) (Enter 0 0 (four true) ∷ []) (Enter 1 0 (four false))
+enter_nested_otherwise law = elim (law.2 0 (four true) (inl refl)) [ inl e ↦ absurd (cc) | inr never ↦ never ]
+
 -- a member leaves a share that another has entered, and it has not
 pub end_unentered : RefusedAfter EndsInside (Enter 0 1 (four false) ∷ []) (End 0 0)
 end_unentered law = elim law.1 [ inl e ↦ absurd (cc) | inr never ↦ never ]
@@ -225,6 +233,15 @@ end_twice law = law.2 (inl refl)
 -- a ninth share while one of two is in the first
 pub enter_ninth : RefusedAfter (EntersWithRoom 2) (End 0 0 ∷ []) (Enter 8 0 (four false))
 enter_ninth law = elim (law 0 refl 1 (omega arith)) [ inl e ↦ absurd (cc) | inr never ↦ never ]
+
+-- a tenth share while one of two is in the second
+pub enter_tenth : RefusedAfter (EntersWithRoom 2) (End 0 0 ∷ End 0 1 ∷ End 1 0 ∷ []) (Enter 9 0 (four false))
+enter_tenth law = elim (law 1 refl 1 (omega arith)) [
+  | inl e ↦ absurd (cc)
+  | inr (inl e) ↦ absurd (cc)
+  | inr (inr (inl e)) ↦ absurd (cc)
+  | inr (inr (inr never)) ↦ never
+]
 
 -- two members enter one share with two constructs
 pub enter_otherwise : Refuses (SameShares 2) (Enter 0 0 (four false) ∷ Enter 0 1 (four true) ∷ [])
@@ -302,13 +319,23 @@ pass_unfinished law = elim (law (at ShareEnd 2) (inl refl) 1 (omega arith) 1 (om
   | inr (inr (inr (inr never))) ↦ never
 ]
 
+-- and while the other is in the first of two
+pub pass_unfinished_first : RefusedAfter (ClosesShares 2) (End 0 0 ∷ End 1 0 ∷ End 1 1 ∷ Arrive 0 0 (at ShareEnd 2) ∷ []) (Pass 0 0)
+pass_unfinished_first law = elim (law (at ShareEnd 2) (inl refl) 0 (omega arith) 1 (omega arith)) [
+  | inl e ↦ absurd (cc)
+  | inr (inl e) ↦ absurd (cc)
+  | inr (inr (inl e)) ↦ absurd (cc)
+  | inr (inr (inr (inl e))) ↦ absurd (cc)
+  | inr (inr (inr (inr never))) ↦ never
+]
+
 -- anything happens in a team that another member stopped
-pub happen_after_stop : RefusedAfter HappensUnbroken (Break 1 AtStop ∷ Drained 0 1 ∷ []) (Drained 0 0)
-happen_after_stop law = law 1 AtStop (inr (inl refl))
+pub happen_after_stop : (event : Event) → RefusedAfter HappensUnbroken (Break 1 AtStop ∷ Drained 0 1 ∷ []) event
+happen_after_stop event law = law 1 AtStop (inr (inl refl))
 
 -- a member does anything after the region's end
-pub happen_after_end : RefusedAfter HappensInside (Arrive 0 0 (at RegionEnd 0) ∷ Pass 0 0 ∷ Drained 0 1 ∷ []) (Drained 0 0)
-happen_after_end law = absurd (cc)
+pub happen_after_end : (event : Event) → member_of event ≡ 0 → RefusedAfter HappensInside (Arrive 0 0 (at RegionEnd 0) ∷ Pass 0 0 ∷ Drained 0 1 ∷ []) event
+happen_after_end event first law = absurd (let inside = rw first at law in cc)
 
 -- a member tells one share more than it has entered
 pub tell_more : RefusedAfter TellsShares [] (Arrive 0 0 (at Barrier 1))

@@ -66,6 +66,12 @@ pub piece_until_next :
     × (last_piece 0 (after (Enter 0 0 (four false) ∷ Take 0 0 0 2 ∷ Enter 1 0 wider ∷ [])) ≡ None)
 piece_until_next = (refl, refl, refl, refl)
 
+-- to leave a share changes neither
+pub kept_at_the_end :
+    (has_drained 0 (after (Enter 0 0 (four false) ∷ Drained 0 0 ∷ End 0 0 ∷ [])) ≡ true)
+    × (last_piece 0 (after (Enter 0 0 (single_shape false) ∷ Take 0 0 0 1 ∷ End 0 0 ∷ [])) ≡ Some (0, 1))
+kept_at_the_end = (refl, refl)
+
 -- two members leave some shares, and one of them both
 abbrev leaves : List Event
 leaves = End 0 1 ∷ End 1 0 ∷ End 2 0 ∷ End 2 1 ∷ []
@@ -207,6 +213,12 @@ pub region_that_is_left :
     × (has_left_region 1 (after (Arrive 0 0 (at RegionEnd 0) ∷ Arrive 0 1 (at RegionEnd 0) ∷ Pass 0 0 ∷ [])) ≡ false)
     × (has_left_region 0 (after (Arrive 0 0 (at RegionEnd 0) ∷ Arrive 0 1 (at RegionEnd 0) ∷ Pass 0 0 ∷ Pass 0 1 ∷ [])) ≡ true)
 region_that_is_left = (refl, refl, refl, refl, refl, refl, refl)
+
+-- nor where another member arrived there at the region's end, and it did not
+pub region_of_another :
+    (has_left_region 0 (after (Arrive 0 0 (at Barrier 0) ∷ Arrive 0 1 (at RegionEnd 0) ∷ Pass 0 0 ∷ [])) ≡ false)
+    × (has_left_region 1 (after (Arrive 0 0 (at Barrier 0) ∷ Arrive 0 1 (at RegionEnd 0) ∷ Pass 0 1 ∷ Arrive 0 2 (at Barrier 0) ∷ [])) ≡ true)
+region_of_another = (refl, refl)
 
 -- a team broke by the first of two causes
 pub first_of_two_causes :

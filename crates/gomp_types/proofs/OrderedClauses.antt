@@ -176,6 +176,18 @@ end_half_handed law =
       | inr (inr (inr (inr never))) ↦ never
     ]
 
+-- a piece that it took was handed on by another member, or in another loop
+pub end_handed_elsewhere : RefusedAfter (LeavesHandedOn 2) (Enter 0 0 (four true) ∷ Take 0 0 0 2 ∷ HandOn 0 1 0 ∷ HandOn 1 0 0 ∷ []) (End 0 0)
+end_handed_elsewhere law =
+    let handed = law (four true) 0 2 (inr (inr (inr (inl refl)))) refl (inr (inr (inl refl))) in
+    elim handed.1 [
+      | inl e ↦ absurd (cc)
+      | inr (inl e) ↦ absurd (cc)
+      | inr (inr (inl e)) ↦ absurd (cc)
+      | inr (inr (inr (inl e))) ↦ absurd (cc)
+      | inr (inr (inr (inr never))) ↦ never
+    ]
+
 -- Handed on
 
 -- all have left an ordered loop whose last piece was not handed on
@@ -187,6 +199,18 @@ handed_on_but_one law =
       | inr (inl e) ↦ absurd (cc)
       | inr (inr (inl e)) ↦ absurd (cc)
       | inr (inr (inr never)) ↦ never
+    ]
+
+-- or the first was not, or was in another loop
+pub handed_on_but_first : Refuses (HandedOnWhereOver 1) (Enter 0 0 (four true) ∷ HandOn 1 0 0 ∷ HandOn 0 0 1 ∷ End 0 0 ∷ [])
+handed_on_but_first law =
+    let first = law 0 0 0 (four true) (inr (inr (inr (inl refl)))) refl (alone_over 0 (HandOn 0 0 1 ∷ HandOn 1 0 0 ∷ Enter 0 0 (four true) ∷ [])) (omega arith) in
+    elim first.1 [
+      | inl e ↦ absurd (cc)
+      | inr (inl e) ↦ absurd (cc)
+      | inr (inr (inl e)) ↦ absurd (cc)
+      | inr (inr (inr (inl e))) ↦ absurd (cc)
+      | inr (inr (inr (inr never))) ↦ never
     ]
 
 -- Puts once
@@ -241,11 +265,28 @@ get_unput law = elim law.5 [ inl e ↦ absurd (cc) | inr never ↦ never ]
 pub get_other : RefusedAfter GetsWhatWasPut (Put 0 1 (7 ∷ []) ∷ Enter 0 0 (single_shape true) ∷ []) (Got 0 0 (8 ∷ []))
 get_other law = elim law.5 [ inl e ↦ absurd (cc) | inr (inl e) ↦ absurd (cc) | inr (inr never) ↦ never ]
 
+-- and those of another single
+pub get_of_another : RefusedAfter GetsWhatWasPut (Put 1 1 (7 ∷ []) ∷ Enter 0 0 (single_shape true) ∷ []) (Got 0 0 (7 ∷ []))
+get_of_another law = elim law.5 [ inl e ↦ absurd (cc) | inr (inl e) ↦ absurd (cc) | inr (inr never) ↦ never ]
+
 -- Leaves with words
 
 -- a member leaves a single without the words that another put, and was given
 pub end_without_words : RefusedAfter LeavesWithWords (Put 0 1 (7 ∷ []) ∷ Got 0 2 (7 ∷ []) ∷ Enter 0 0 (single_shape true) ∷ []) (End 0 0)
 end_without_words law = elim (law (single_shape true) (inl refl) refl).1 [
+  | inl (inl e) ↦ absurd (cc)
+  | inl (inr (inl e)) ↦ absurd (cc)
+  | inl (inr (inr (inl e))) ↦ absurd (cc)
+  | inl (inr (inr (inr never))) ↦ never
+  | inr (inl e) ↦ absurd (cc)
+  | inr (inr (inl e)) ↦ absurd (cc)
+  | inr (inr (inr (inl e))) ↦ absurd (cc)
+  | inr (inr (inr (inr never))) ↦ never
+]
+
+-- or with those of other singles
+pub end_with_other_words : RefusedAfter LeavesWithWords (Put 1 0 (7 ∷ []) ∷ Got 2 0 (7 ∷ []) ∷ Enter 0 0 (single_shape true) ∷ []) (End 0 0)
+end_with_other_words law = elim (law (single_shape true) (inl refl) refl).1 [
   | inl (inl e) ↦ absurd (cc)
   | inl (inr (inl e)) ↦ absurd (cc)
   | inl (inr (inr (inl e))) ↦ absurd (cc)

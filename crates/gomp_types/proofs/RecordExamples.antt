@@ -41,6 +41,12 @@ pub record_of_two : record_after (asks 0 BarrierCall ∷ asks 1 Stop ∷ []) (Wa
     ≡ (asks 1 Stop, Stopped) ∷ (asks 0 BarrierCall, Wait) ∷ (asks 1 BarrierCall, Wait) ∷ []
 record_of_two = refl
 
+-- a step without a reply, and a reply without a step, change nothing
+pub record_of_one :
+    (record_after (asks 0 BarrierCall ∷ asks 1 Stop ∷ []) (Wait ∷ []) ((asks 1 BarrierCall, Wait) ∷ []) ≡ (asks 0 BarrierCall, Wait) ∷ (asks 1 BarrierCall, Wait) ∷ [])
+    × (record_after [] (Wait ∷ []) ((asks 1 BarrierCall, Wait) ∷ []) ≡ (asks 1 BarrierCall, Wait) ∷ [])
+record_of_one = (refl, refl)
+
 -- a number that is too large is shown as the largest
 pub shown_at_most : (shown 18446744073709551615 ≡ 18446744073709551615) × (shown 18446744073709551616 ≡ 18446744073709551615) × (shown 7 ≡ 7)
 shown_at_most = (refl, refl, refl)

@@ -12,13 +12,13 @@ use Rattle.gomp_types.specs.declared.shape.ShareKind.TheVariants as kind
 use Rattle.gomp_types.specs.declared.event.Arrival.TheVariants.{Barrier, ShareEnd, RegionEnd}
 use Rattle.gomp_types.specs.declared.event.Event.{Event}
 use Rattle.gomp_types.specs.declared.event.Event.TheVariants.{Take}
-use Rattle.gomp_types.specs.Limits.{standard}
+use Rattle.gomp_types.specs.Limits.{standard, capped}
 use Rattle.gomp_types.specs.Tests.{first_refusal, outcome}
 use Rattle.gomp_types.specs.Shapes.{is_loop, is_static, is_sections, is_single, is_copy, same_kind, same_end, same_bool, same_shape, same_arrival, same_tag}
 use Rattle.gomp_types.specs.Iterations.{trip_count, iteration_value, lies_before_end, is_bad_chunk, loop_tests}
 use Rattle.gomp_types.specs.Sections.{sections_shape, sections_tests}
 use Rattle.gomp_types.specs.Singles.{single_shape, with_word}
-use Rattle.gomp_types.specs.Pieces.{resolved_chunk, kind_of, shape_of, pieces_of, Tiles}
+use Rattle.gomp_types.specs.Pieces.{resolved, resolved_chunk, kind_of, shape_of, pieces_of, Tiles}
 use Rattle.gomp_types.specs.Values.{IsShape}
 use Rattle.gomp_types.specs.Deals.{schedule, next_for, taken_in, takes_in, times}
 use Rattle.gomp_types.specs.LawExamples.{newest_first, four, at}
@@ -129,6 +129,13 @@ pub kinds_of_loops :
     (map (λ sched. kind_of sched (pos 0)) (Static ∷ Dynamic ∷ Guided ∷ Runtime ∷ []) ≡ kind.StaticEven ∷ kind.Dynamic ∷ kind.Guided ∷ kind.Dynamic ∷ [])
     × (map (λ sched. kind_of sched (pos 2)) (Static ∷ Dynamic ∷ Guided ∷ Runtime ∷ []) ≡ kind.StaticChunked ∷ kind.Dynamic ∷ kind.Guided ∷ kind.Dynamic ∷ [])
 kinds_of_loops = (refl, refl)
+
+-- a loop takes the schedule of the control variables where it leaves that to them and has no chunk
+pub loops_that_are_resolved :
+    (resolved Guided (pos 4) (loop_from (pos 0) (pos 9) (pos 3) Runtime (pos 0)) ≡ loop_from (pos 0) (pos 9) (pos 3) Guided (pos 4))
+    × (resolved Guided (pos 4) (loop_from (pos 0) (pos 9) (pos 3) Runtime (pos 2)) ≡ loop_from (pos 0) (pos 9) (pos 3) Runtime (pos 2))
+    × (resolved Guided (pos 4) (loop_from (pos 0) (pos 9) (pos 3) Static (pos 0)) ≡ loop_from (pos 0) (pos 9) (pos 3) Static (pos 0))
+loops_that_are_resolved = (refl, refl, refl)
 
 -- the chunk that counts
 pub chunks_of_loops : map resolved_chunk (pos 0 ∷ pos 1 ∷ pos 5 ∷ []) ≡ 1 ∷ 1 ∷ 5 ∷ []
@@ -270,3 +277,9 @@ first_test_that_holds = (refl, refl, refl, refl, refl)
 -- the limits of a team for which none are given
 pub limits_of_a_team : standard ≡ record { shares = 131064; tasks = 1048576; events = 16777216 }
 limits_of_a_team = refl
+
+-- each limit counts up to the standard one
+pub limits_that_count :
+    (capped (record { shares = 131065; tasks = 1048577; events = 16777217 }) ≡ standard)
+    × (capped (record { shares = 3; tasks = 1048575; events = 16777215 }) ≡ record { shares = 3; tasks = 1048575; events = 16777215 })
+limits_that_count = (refl, refl)
