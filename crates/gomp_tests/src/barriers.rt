@@ -84,9 +84,10 @@ fn teams_of_every_size(rt: HostRuntime) -> Result<(), Fail> {
         kind: Arrival::Barrier,
         shares: 0,
     };
-    for count in 1..65 {
+    for count in (1..65).chain([65, 255, 256]) {
         meet(&rt, rt.alloc(), count, tag)?;
     }
+    Barriers::make(rt.alloc(), 65_535)?;
     Ok(())
 }
 

@@ -7,7 +7,7 @@ use std::test::Fail;
 #[test]
 fn names_of_every_size(rt: HostRuntime) -> Result<(), Fail> {
     let alloc = rt.alloc();
-    for size in [0u32, 1, 255, 256, 65_535, 65_536, 100_000] {
+    for size in (0..301).chain([65_535, 65_536, 100_000]) {
         let mut text = String::new(alloc);
         for at in 0..size {
             text.push(if at % 251 == 0 { '_' } else { 'n' })?;

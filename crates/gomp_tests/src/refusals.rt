@@ -1,6 +1,7 @@
 //! Refusals, with the members and the places of a break, are printed at every size of their numbers: a
 //! contract says what is printed where nothing fails, and cannot say that printing does not fail by itself.
 
+use gomp_script::print_refusal;
 use gomp_types::{Clash, Name, Place, Refusal};
 use std::alloc::Global;
 use std::fmt::Display;
@@ -117,14 +118,19 @@ fn refusals_print(rt: HostRuntime) -> Result<(), Fail> {
     }
     for (refusal, expected) in REFUSALS {
         prints(&rt, alloc, &refusal, expected)?;
+        let line = format!(in alloc; "refused {expected}\n")?;
+        assert_eq!(rt; print_refusal(alloc, &refusal)?.as_str(), line.as_str());
     }
-    for name in ["", "OMP_NUM_THREADS"] {
-        prints(
-            &rt,
-            alloc,
-            &Refusal::BadEnv(Name::new(alloc, name)?),
-            "E41 BadEnv",
-        )?;
+    for member in 0..65 {
+        let place = Place::Stopped;
+        let cause = format!(in alloc; "{member} stopped")?;
+        prints(&rt, alloc, &Clash { member, place }, &cause)?;
+    }
+    let mut name = String::new(alloc);
+    for _ in 0..301 {
+        let refusal = Refusal::BadEnv(Name::new(alloc, &name)?);
+        prints(&rt, alloc, &refusal, "E41 BadEnv")?;
+        name.push('n')?;
     }
     Ok(())
 }

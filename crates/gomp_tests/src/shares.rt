@@ -346,7 +346,10 @@ fn teams_and_calls_of_every_size(rt: HostRuntime) -> Result<(), Fail> {
         make(rt.alloc(), members)?;
         claims(&rt, rt.alloc(), members, 3)?;
     }
-    for calls in [0, 1, 255, 256, 1_000, 1_001, 65_535, 65_536, 100_000] {
+    for members in [0, 65, 255, 256, 65_535] {
+        make(rt.alloc(), members)?;
+    }
+    for calls in (0..301).chain([1_000, 1_001, 65_535, 65_536, 100_000]) {
         claims(&rt, rt.alloc(), 2, calls)?;
     }
     Ok(())

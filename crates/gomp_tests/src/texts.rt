@@ -1,8 +1,7 @@
 //! Texts of steps and printed replies, called as a library: want of memory is not feigned.
 
 use gomp_script::{
-    BadLine, ParseError, Why, parse_steps, print_bad_line, print_refusal, print_replies,
-    print_reply,
+    BadLine, ParseError, Why, parse_steps, print_bad_line, print_replies, print_reply,
 };
 use gomp_types::{Call, Clash, Payload, Place, Refusal, Reply, Step};
 use std::alloc::Global;
@@ -43,6 +42,16 @@ const VALUES: [(i64, &str); 14] = [
     (-256, "-256"),
     (-65_536, "-65536"),
     (i64::MIN, "-9223372036854775808"),
+];
+
+/// The faults of a line, as they are written.
+const FAULTS: [(Why, &str); 6] = [
+    (Why::NotAscii, "not ascii"),
+    (Why::FirstLine, "first line"),
+    (Why::UnknownWord, "unknown word"),
+    (Why::MissingWord, "missing word"),
+    (Why::BadNumber, "bad number"),
+    (Why::ExtraWord, "extra word"),
 ];
 
 /// A front, a part so many times, and an end.
@@ -102,6 +111,46 @@ fn good_texts(rt: HostRuntime) -> Result<(), Fail> {
             );
             for found in &steps {
                 assert_eq!(rt; *found, step);
+            }
+        }
+    }
+    Ok(())
+}
+
+/// Steps of every call, of any member, are read however many of them there are.
+#[test]
+fn calls_of_small_numbers(rt: HostRuntime) -> Result<(), Fail> {
+    let alloc = rt.alloc();
+    let calls = [
+        "loop static 0 0 10 1 wait",
+        "loop runtime 9223372036854775807 0 -9223372036854775808 0 nowait ordered",
+        "next",
+        "end",
+        "end_nowait",
+        "sections 4294967295 wait",
+        "section_next",
+        "sections_end",
+        "sections_end_nowait",
+        "single",
+        "single_copy",
+        "single_copy_end",
+        "single_copy_end 0 1 2 3 4 5 6 18446744073709551615",
+        "ordered -9223372036854775808",
+        "ordered_end",
+        "barrier",
+        "region_end",
+        "resume",
+        "stop",
+    ];
+    for call in calls {
+        for member in [0u16, 64, 65_535] {
+            let line = format!(in alloc; "{member} {call}\n")?;
+            let text = text_of(alloc, "team 4294967295\n", &line, 300, "")?;
+            let (team, steps) = parse_steps(alloc, text.as_bytes()).unwrap_or((0, Vec::new(alloc)));
+            assert_eq!(rt; team, u32::MAX, "{call}");
+            assert_eq!(rt; steps.len(), 300, "{call}");
+            for step in &steps {
+                assert_eq!(rt; step.member, member, "{call}");
             }
         }
     }
@@ -246,12 +295,11 @@ fn numbers_of_every_size(rt: HostRuntime) -> Result<(), Fail> {
             "section {written}\ncopied {written} {written}\nrefused E3 Broken 65535 share {written}\n"
         )?;
         assert_eq!(rt; text.as_str(), expected.as_str());
-        let bad = BadLine {
-            line: number,
-            why: Why::MissingWord,
-        };
-        let expected = format!(in alloc; "bad line {written}: missing word\n")?;
-        assert_eq!(rt; print_bad_line(alloc, &bad)?.as_str(), expected.as_str());
+        for (why, fault) in FAULTS {
+            let bad = BadLine { line: number, why };
+            let expected = format!(in alloc; "bad line {written}: {fault}\n")?;
+            assert_eq!(rt; print_bad_line(alloc, &bad)?.as_str(), expected.as_str());
+        }
         for (first, value) in VALUES {
             let chunk = Reply::Chunk {
                 first,
@@ -261,9 +309,14 @@ fn numbers_of_every_size(rt: HostRuntime) -> Result<(), Fail> {
             assert_eq!(rt; print_replies(alloc, &[chunk])?.as_str(), expected.as_str());
         }
     }
-    assert_eq!(rt;
-        print_refusal(alloc, &Refusal::BadTeam)?.as_str(),
-        "refused E38 BadTeam\n"
-    );
+    for words in 0..9 {
+        let mut payload = Payload::new();
+        for _ in 0..words {
+            payload.push(7);
+        }
+        let expected = text_of(alloc, "copied", " 7", words, "\n")?;
+        let copied = [Reply::Copied(payload)];
+        assert_eq!(rt; print_replies(alloc, &copied)?.as_str(), expected.as_str());
+    }
     Ok(())
 }

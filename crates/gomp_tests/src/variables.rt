@@ -107,6 +107,19 @@ fn words_of_every_size(rt: HostRuntime) -> Result<(), Fail> {
     Ok(())
 }
 
+/// However few words are ignored, each of them is named, also one without a name and a value.
+#[test]
+fn ignored_words_of_small_numbers(rt: HostRuntime) -> Result<(), Fail> {
+    let alloc = rt.alloc();
+    let mut words = Vec::new(alloc);
+    for count in 0..301 {
+        let (_, ignored) = read_env(alloc, words.as_slice())?;
+        assert_eq!(rt; ignored.len(), count);
+        words.push(("", ""))?;
+    }
+    Ok(())
+}
+
 /// However long a name or a value is, it is read whole.
 #[test]
 fn words_of_every_length(rt: HostRuntime) -> Result<(), Fail> {
