@@ -1,5 +1,6 @@
 mod Words
 mod Parts
 mod Rows
+pub mod StandsExamples
 mod Answered
 mod Stepping

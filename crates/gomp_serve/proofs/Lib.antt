@@ -1,5 +1,6 @@
 mod AnswerLemmas
 mod CommandLemmas
+pub mod EndExamples
 mod NumberLemmas
 mod PlainSettings
 mod ServeLemmas
