@@ -84,9 +84,12 @@ fn teams_of_every_size(rt: HostRuntime) -> Result<(), Fail> {
         kind: Arrival::Barrier,
         shares: 0,
     };
-    for count in (1..65).chain([65, 255, 256]) {
+    // No team is larger than 64, but barriers are made for as many as are asked for.
+    for count in 1..67 {
         meet(&rt, rt.alloc(), count, tag)?;
     }
+    Barriers::make(rt.alloc(), 255)?;
+    Barriers::make(rt.alloc(), 256)?;
     Barriers::make(rt.alloc(), 65_535)?;
     Ok(())
 }

@@ -2,24 +2,34 @@
 //! allows want of memory, and cannot say that it is not feigned.
 
 use gomp_types::Name;
+use std::alloc::Global;
+use std::process::Abort;
 use std::test::Fail;
+
+/// That a name of so many bytes is made, has its text and prints as it.
+fn holds(rt: &impl Abort, alloc: Global, size: usize) -> Result<(), Fail> {
+    let mut text = String::new(alloc);
+    for at in 0..size {
+        text.push(if at % 251 == 0 { '_' } else { 'n' })?;
+    }
+    let name = Name::new(alloc, &text)?;
+    assert_eq!(rt; name.as_str().len(), size);
+    assert_eq!(rt; name.as_str(), text.as_str());
+    assert_eq!(rt;
+        name.to_string(alloc)?.as_str(),
+        text.as_str(),
+        "{size} bytes"
+    );
+    Ok(())
+}
 
 #[test]
 fn names_of_every_size(rt: HostRuntime) -> Result<(), Fail> {
-    let alloc = rt.alloc();
-    for size in (0..301).chain([65_535, 65_536, 100_000]) {
-        let mut text = String::new(alloc);
-        for at in 0..size {
-            text.push(if at % 251 == 0 { '_' } else { 'n' })?;
-        }
-        let name = Name::new(alloc, &text)?;
-        assert_eq!(rt; name.as_str().len(), size as usize);
-        assert_eq!(rt; name.as_str(), text.as_str());
-        assert_eq!(rt;
-            name.to_string(alloc)?.as_str(),
-            text.as_str(),
-            "{size} bytes"
-        );
+    for size in 0..301 {
+        holds(&rt, rt.alloc(), size)?;
+    }
+    for size in [65_535, 65_536, 100_000] {
+        holds(&rt, rt.alloc(), size)?;
     }
     Ok(())
 }
