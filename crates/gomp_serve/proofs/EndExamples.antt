@@ -33,8 +33,8 @@ three = 35 ∷ 97 ∷ 10 ∷ []
 -- What is written
 
 -- a team has 1 to 64 members
-pub sizes_of_teams : map is_size (0 ∷ 1 ∷ 64 ∷ 65 ∷ []) ≡ false ∷ true ∷ true ∷ false ∷ []
-sizes_of_teams = refl
+pub sizes_that_are_served : map is_size (0 ∷ 1 ∷ 64 ∷ 65 ∷ []) ≡ false ∷ true ∷ true ∷ false ∷ []
+sizes_that_are_served = refl
 
 -- the replies of a team that may be are one for each step, each with its cause and none for want of memory, and are printed in their order
 pub replied_has : (icv : Variables) (count : ℕ) (steps : List Step) (text : List ℕ) (code : ℕ) → Runs icv true count steps text code →
