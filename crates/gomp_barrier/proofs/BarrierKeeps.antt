@@ -8,7 +8,7 @@ use Rattle.gomp_types.specs.declared.event.Tag.{Tag}
 use Rattle.gomp_types.specs.declared.event.Event.{Event}
 use Rattle.gomp_types.specs.declared.event.Event.TheVariants.{Arrive, Pass}
 use Rattle.gomp_types.specs.Events.{passed, arrival, tag_at, has_left_region, is_region_end, barrier_met}
-use Rattle.gomp_types.specs.Record.{shown}
+use Rattle.gomp_types.specs.Limits.{shown}
 use Rattle.gomp_types.proofs.Booleans.{same_number, other_number, every_tells, every_by}
 use Rattle.gomp_types.proofs.Lists.{slice_get-set}
 use Rattle.gomp_barrier.specs.declared.front.Seat.{Seat}

@@ -8,9 +8,10 @@ use Rattle.gomp_types.specs.declared.event.Tag.{Tag}
 use Rattle.gomp_types.specs.declared.event.Event.{Event}
 use Rattle.gomp_types.specs.declared.event.Event.TheVariants.{Arrive, Pass}
 use Rattle.gomp_types.specs.Events.{passed, arrival, tag_at, has_left_region, was_region_end, is_region_end, barrier_met}
-use Rattle.gomp_types.specs.Record.{shown}
-use Rattle.gomp_types.specs.Refusals.{tag_differs}
-use Rattle.gomp_types.specs.Rules.{Always, ArrivalRule}
+use Rattle.gomp_types.specs.Limits.{shown}
+use Rattle.gomp_types.specs.Compare.{tag_differs}
+use Rattle.gomp_types.specs.Laws.{Always}
+use Rattle.gomp_types.specs.Arrivals.{ArrivalRule}
 use Rattle.gomp_types.proofs.Booleans.{some_of}
 use Rattle.gomp_types.proofs.Compared.{same_tags}
 use Rattle.gomp_types.proofs.Lists.{slice_get-set}

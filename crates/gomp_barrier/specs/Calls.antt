@@ -4,7 +4,7 @@ use Rattle.gomp_types.specs.declared.event.Tag.{Tag}
 use Rattle.gomp_types.specs.declared.event.Event.{Event}
 use Rattle.gomp_types.specs.declared.event.Event.TheVariants.{Arrive, Pass}
 use Rattle.gomp_types.specs.Events.{passed, arrival, tag_at, has_left_region}
-use Rattle.gomp_types.specs.Record.{shown}
+use Rattle.gomp_types.specs.Limits.{shown}
 use Rattle.gomp_barrier.specs.declared.barriers.AtBarrier.{AtBarrier}
 
 -- what these events say of the member's next barrier

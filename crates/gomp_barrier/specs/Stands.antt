@@ -1,7 +1,8 @@
 -- When the barriers of a team stand for a list of events. (own)
 use Rattle.std.specs.Prelude.{ℕ, List, length}
 use Rattle.gomp_types.specs.declared.event.Event.{Event}
-use Rattle.gomp_types.specs.Rules.{Always, ArrivalRule}
+use Rattle.gomp_types.specs.Laws.{Always}
+use Rattle.gomp_types.specs.Arrivals.{ArrivalRule}
 use Rattle.gomp_barrier.specs.declared.front.Seat.{Seat}
 use Rattle.gomp_barrier.specs.declared.front.Front.{Front}
 use Rattle.gomp_barrier.specs.Seats.{FrontStands, SomeBehind}

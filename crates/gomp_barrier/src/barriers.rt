@@ -3,8 +3,8 @@
 ghost use Rattle.std.specs.Prelude.{◌≡◌, ◌<◌, List, [], ◌∷◌, IfOk, not, false};
 ghost use Rattle.gomp_types.specs.declared.event.Event.{Event};
 ghost use Rattle.gomp_types.specs.Events.{passed, tag_at, barrier_met};
-ghost use Rattle.gomp_types.specs.Refusals.{tag_differs};
-ghost use Rattle.gomp_types.specs.Laws.{ArrivalLaws};
+ghost use Rattle.gomp_types.specs.Compare.{tag_differs};
+ghost use Rattle.gomp_types.specs.Arrivals.{ArrivalLaws};
 ghost use Rattle.gomp_barrier.specs.Calls.{at_barrier, arrived_after, turn_after, IsAside};
 ghost use Rattle.gomp_barrier.specs.Stands.{BarriersView, Stands, members_of};
 

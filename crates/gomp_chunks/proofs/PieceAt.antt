@@ -1,8 +1,9 @@
 -- The pieces of a share by their numbers: how many there are, which one has a number, and that it lies within the loop.
-use Rattle.std.proofs.Common.{◌≡◌, ℕ, ◌+◌, ◌*◌, ◌/◌, ◌%◌, ◌<◌, ◌≤◌, ◌∙◌, Some, suc, zero, ap, zero-add, suc-mul, add-one, arith}
+use Rattle.std.proofs.Common.{◌≡◌, ℕ, ◌+◌, ◌*◌, ◌-◌, ◌/◌, ◌%◌, ◌<◌, ◌≤◌, ◌∙◌, Some, inl, inr, suc, zero, ap, zero-add, suc-mul, add-one, arith}
 use Rattle.std.specs.Prelude.{min, length, slice_get}
 use Rattle.std.specs.Int.{div_ceil}
-use Rattle.std.proofs.Math.Nat.{mul-le-mul_right, mul_comm, mod-lt}
+use Rattle.std.proofs.lemmas.Bool.{cases_lt}
+use Rattle.std.proofs.Math.Nat.{mul-le-mul_left, mul-le-mul_right, mul_comm, mod-lt}
 use Rattle.std.proofs.lemmas.Nat.{div-add-mod'}
 use Rattle.std.proofs.lemmas.Grind.{div_ceil_times}
 use Rattle.std.proofs.lemmas.List.FromFn.{length-map-range_with_len, get_or-map-range_with_len}
@@ -31,6 +32,17 @@ dynamic_begins_within trips chunk j some inside =
     let whole : suc j * chunk ≤ div_ceil trips chunk * chunk = mul-le-mul_right chunk below in
     let next : suc j * chunk ≡ j * chunk + chunk = suc-mul j chunk in
     omega arith
+
+-- and there are no more of them than iterations
+pub chunks_within : (trips chunk : ℕ) → 0 < chunk → length (dynamic_pieces trips chunk) ≤ trips
+chunks_within trips chunk some = elim (cases_lt 0 (length (dynamic_pieces trips chunk))) [
+  | inl any ↦
+      let last : ℕ = length (dynamic_pieces trips chunk) - 1 in
+      let begins = dynamic_begins_within trips chunk last some (omega arith) in
+      let least : last * 1 ≤ last * chunk = mul-le-mul_left last some in
+      omega arith
+  | inr none ↦ omega arith
+]
 
 -- A piece for each member
 

@@ -1,8 +1,9 @@
 -- Worked spots of a guided loop, and for each line of their definition a spot that it alone refuses.
 use Rattle.std.proofs.Common.{◌≡◌, ℕ, ◌+◌, ◌≤◌, zero, suc, slice_get, refl, ap, arith}
 use Rattle.gomp_types.specs.Pieces.{Piece, guided_from, guided_pieces}
-use Rattle.gomp_chunks.specs.Spots.{IsSpot}
-use Rattle.gomp_chunks.specs.Examples.{guided_twenty, spot_at}
+use Rattle.gomp_chunks.specs.Spots.{IsSpot, IsCursor}
+use Rattle.gomp_chunks.specs.declared.guided.Spot.{Spot}
+use Rattle.gomp_chunks.specs.Examples.{plan_for, dynamic_ten, guided_twenty, spot_at}
 
 -- the first piece
 pub spot_of_the_first : IsSpot 4 guided_twenty (spot_at 0 0)
@@ -50,3 +51,21 @@ some_piece_from_five (suc most) enough rest = absurd (cc)
 -- so the number of pieces does not stand with iteration 5
 pub spot_with_pieces_left : IsSpot 4 guided_twenty (spot_at 7 5) → ⊥
 spot_with_pieces_left is = some_piece_from_five is.most is.enough (is.rest 0)
+
+-- What a cursor keeps
+
+-- ten iterations in chunks of three are four pieces
+pub cursor_of_four : IsCursor dynamic_ten (spot_at 0 0) 4
+cursor_of_four = record { there = record { within = omega arith; number = omega arith; most = 10; enough = omega arith; rest = λ i. let same : 0 + i ≡ i = omega arith in rw same refl }; counted = λ other. refl }
+
+-- and not three
+pub cursor_of_three : (spot : Spot) → IsCursor dynamic_ten spot 3 → ⊥
+cursor_of_three spot is = absurd (let all = is.counted (λ e. absurd (cc)) in omega arith)
+
+-- those of a guided loop are not counted
+pub cursor_of_guided : (count : ℕ) → IsCursor (plan_for 4 guided_twenty) (spot_at 1 5) count
+cursor_of_guided count = record { there = spot_of_the_second; counted = λ other. absurd (other refl) }
+
+-- but its spot has to be one of its pieces
+pub cursor_inside_a_piece : (count : ℕ) → IsCursor (plan_for 4 guided_twenty) (spot_at 1 6) count → ⊥
+cursor_inside_a_piece count is = spot_inside_a_piece is.there

@@ -16,14 +16,15 @@ pub fn chunked_count(shape: &Shape) -> u64
     shape.trips.div_ceil(shape.chunk)
 }
 
-/// Piece number `j`, in constant time.
-pub fn chunked_piece(shape: &Shape, j: u64) -> Option<(u64, u64)>
-    requires { IsShape shape.now }
+/// Piece number `j` of these `count`, in constant time and without a division.
+pub fn chunked_piece(shape: &Shape, count: u64, j: u64) -> Option<(u64, u64)>
+    requires shape { IsShape shape.now }
+    requires count { count ≡ length (dynamic_pieces shape.now.trips shape.now.chunk) }
     ensures piece { result ≡ slice_get (dynamic_pieces shape.now.trips shape.now.chunk) j }
     ensures within { IfSome result (λ piece. (piece.0 < piece.1) × (piece.1 ≤ shape.now.trips)) }
     ensures number { OnSome result (j < shape.now.trips) }
 {
-    if j >= chunked_count(shape) {
+    if j >= count {
         return None;
     }
     let first = j * shape.chunk;

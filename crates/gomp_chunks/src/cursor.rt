@@ -9,23 +9,25 @@ use crate::guided::{Spot, forward};
 use std::marker::Model;
 
 /// A plan with the place of the piece of a guided loop that was asked for last, from which the next
-/// one is found without going over those before it anew. Pieces of other loops need no place.
+/// one is found without going over those before it anew. Pieces of other loops need no place: they are
+/// counted once, so that no call divides to find the last one.
 #[derive(Clone, Copy, Debug)]
 pub struct Cursor {
     plan: Plan,
     spot: Spot,
+    count: u64,
 }
 
 impl Model for Cursor {
-    ghost use Rattle.gomp_chunks.specs.Spots.{CursorView, IsSpot};
+    ghost use Rattle.gomp_chunks.specs.Spots.{CursorView, IsCursor};
 
     ghost Value = { CursorView };
 
-    ghost view = { λ cursor. record { plan = cursor.plan; spot = cursor.spot } };
+    ghost view = { λ cursor. record { plan = cursor.plan; spot = cursor.spot; count = cursor.count } };
 
-    ghost invariant = { λ cursor. IsSpot cursor.plan.members cursor.plan.shape cursor.spot };
+    ghost invariant = { λ cursor. IsCursor cursor.plan cursor.spot cursor.count };
 
-    ghost inverse = { λ cursor. record { plan = cursor.plan; spot = cursor.spot } };
+    ghost inverse = { λ cursor. record { plan = cursor.plan; spot = cursor.spot; count = cursor.count } };
 }
 
 impl Cursor {
@@ -37,6 +39,7 @@ impl Cursor {
         Cursor {
             plan,
             spot: Spot::START,
+            count: plan.count_ahead(),
         }
     }
 
@@ -55,7 +58,7 @@ impl Cursor {
             self.spot
         };
         self.spot = self.plan.spot_from(start, j);
-        self.plan.piece_from(self.spot, j)
+        self.plan.piece_from(self.spot, self.count, j)
     }
 
     /// The piece that a member takes next, with its number, where it took `own` pieces and all members

@@ -13,7 +13,7 @@ mod guided;
 mod sections;
 mod single;
 
-ghost use Rattle.std.specs.Prelude.{◌≡◌, ◌<◌, ◌≤◌, ◌^◌, ◌⊎◌, length, slice_get, IfSome, OnSome};
+ghost use Rattle.std.specs.Prelude.{◌≡◌, ◌≢◌, ◌<◌, ◌≤◌, ◌^◌, ◌⊎◌, length, slice_get, IfSome, OnSome};
 ghost use Rattle.gomp_types.specs.declared.shape.ShareKind.TheVariants.{Guided};
 ghost use Rattle.gomp_types.specs.Pieces.{Tiles};
 ghost use Rattle.gomp_types.specs.Values.{IsShape};
@@ -98,7 +98,7 @@ impl Plan {
         ensures within { IfSome result (λ piece. (piece.0 < piece.1) × (piece.1 ≤ self.now.shape.trips)) }
         ensures number { OnSome result (j < self.now.shape.trips) }
     {
-        self.piece_from(self.spot_from(Spot::START, j), j)
+        self.piece_from(self.spot_from(Spot::START, j), self.count_ahead(), j)
     }
 
     /// The member that owns piece number `j` of a static loop. `None` where `j` is past the last
@@ -126,7 +126,8 @@ impl Plan {
         ensures { next_piece self.now member own all ≡ piece_at self.now result }
     {
         match self.shape.kind {
-            ShareKind::StaticChunked if own >= chunked_count(&self.shape) => None,
+            // There are no more pieces than iterations.
+            ShareKind::StaticChunked if own >= self.shape.trips => None,
             ShareKind::StaticChunked => Some(own * self.members as u64 + member as u64),
             ShareKind::StaticEven if own > 0 => None,
             ShareKind::StaticEven => Some(member as u64),
@@ -148,17 +149,29 @@ impl Plan {
         }
     }
 
-    /// Piece number `j`, where this is its spot.
-    fn piece_from(&self, spot: Spot, j: u64) -> Option<(u64, u64)>
+    /// How many pieces there are, where that is known ahead: 0 for a guided loop, whose pieces are not
+    /// gone over.
+    fn count_ahead(&self) -> u64
+        ensures { self.now.shape.kind ≢ Guided → result ≡ length (pieces self.now) }
+    {
+        match self.shape.kind {
+            ShareKind::Guided => 0,
+            _ => self.chunks(),
+        }
+    }
+
+    /// Piece number `j`, where this is its spot, and there are `count` pieces if the loop is not guided.
+    fn piece_from(&self, spot: Spot, count: u64, j: u64) -> Option<(u64, u64)>
         requires spot { IsSpot self.now.members self.now.shape spot }
         requires ahead { spot.number ≤ j }
         requires there { self.now.shape.kind ≡ Guided → (spot.number ≡ j) ⊎ (spot.first ≡ self.now.shape.trips) }
+        requires count { self.now.shape.kind ≢ Guided → count ≡ length (pieces self.now) }
         ensures piece { result ≡ slice_get (pieces self.now) j }
         ensures within { IfSome result (λ piece. (piece.0 < piece.1) × (piece.1 ≤ self.now.shape.trips)) }
         ensures number { OnSome result (j < self.now.shape.trips) }
     {
         match self.shape.kind {
-            ShareKind::StaticChunked | ShareKind::Dynamic => chunked_piece(&self.shape, j),
+            ShareKind::StaticChunked | ShareKind::Dynamic => chunked_piece(&self.shape, count, j),
             ShareKind::Sections => section_piece(&self.shape, j),
             ShareKind::Single | ShareKind::SingleCopy => whole_piece(&self.shape, j),
             ShareKind::StaticEven => even_piece(&self.shape, self.members, j),

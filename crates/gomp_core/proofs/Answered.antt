@@ -1,316 +1,184 @@
--- The answer to each call is one that its row and its line of replies allow.
-use Rattle.std.proofs.Common.{◌≡◌, ℕ, Bool, true, false, List, Option, Some, None, Result, Ok, Err, refl, ap, ◌∙◌, sym}
-use Rattle.std.specs.Prelude.{not}
+-- What the crates' calls answer is what the call's row has, and what a call gives leaves the other parts as they were.
+use Rattle.std.proofs.Common.{◌≡◌, ℕ, Bool, true, false, List, [], ◌∷◌, ◌++◌, Option, Some, None, refl, ap, sym, ◌∙◌, subst}
+use Rattle.std.specs.Prelude.{not, is_some}
 use Rattle.gomp_types.specs.declared.call.Call.{Call}
-use Rattle.gomp_types.specs.declared.call.Call.TheVariants.{LoopStart, LoopNext, LoopEnd, LoopEndNowait, SectionsStart, SectionsNext, SectionsEnd, SectionsEndNowait, SingleStart, SingleCopyStart, SingleCopyEnd, OrderedStart, OrderedEnd, Barrier, RegionEnd, Resume, Stop}
+use Rattle.gomp_types.specs.declared.call.Call.TheVariants.{Resume}
 use Rattle.gomp_types.specs.declared.limits.Limits.{Limits}
+use Rattle.gomp_types.specs.declared.refusal.Refusal.{Refusal}
 use Rattle.gomp_types.specs.declared.reply.Reply.{Reply}
-use Rattle.gomp_types.specs.declared.reply.Reply.TheVariants.{Finished, Passed, Wait, Refused}
-use Rattle.gomp_types.specs.declared.refusal.Refusal.TheVariants.{Mismatch}
-use Rattle.gomp_types.specs.declared.refusal.Place.{Place}
-use Rattle.gomp_types.specs.declared.refusal.Place.TheVariants.{Share, Barrier as AtBarrierPlace}
+use Rattle.gomp_types.specs.declared.reply.Reply.TheVariants.{Finished, Passed, Wait, Stopped, Refused}
 use Rattle.gomp_types.specs.declared.shape.Shape.{Shape}
-use Rattle.gomp_types.specs.declared.event.Event.{Event}
+use Rattle.gomp_types.specs.declared.seen.Seen.{Seen}
+use Rattle.gomp_types.specs.declared.event.Arrival.{Arrival}
 use Rattle.gomp_types.specs.declared.event.Tag.{Tag}
-use Rattle.gomp_types.specs.Tests.{first_refusal}
-use Rattle.gomp_types.specs.Pieces.{shape_of}
-use Rattle.gomp_types.specs.Sections.{sections_shape}
-use Rattle.gomp_types.specs.Singles.{single_shape}
-use Rattle.gomp_types.specs.Events.{entered, passed, shape_at, tag_at, barrier_met}
-use Rattle.gomp_types.specs.Record.{added, begun, shown, tag_with, meant, is_resume, part_added, pass_added, arrival_kind}
-use Rattle.gomp_types.specs.Refusals.{call_tests, start_tests, shape_differs, tag_differs}
-use Rattle.gomp_types.specs.Replies.{Awaits}
-use Rattle.gomp_types.specs.Causes.{IsReply}
-use Rattle.gomp_core.specs.declared.waiting.Starting.{Starting}
-use Rattle.gomp_core.specs.declared.waiting.Starting.TheVariants.{Loop, Sections, Single, SingleCopy}
-use Rattle.gomp_core.specs.declared.waiting.Turning.{Turning}
-use Rattle.gomp_core.specs.declared.waiting.Turning.TheVariants.{Next, Part}
-use Rattle.gomp_core.specs.declared.waiting.Arriving.{Arriving}
-use Rattle.gomp_core.specs.declared.waiting.Arriving.TheVariants.{LoopEnd as AtLoopEnd, SectionsEnd as AtSectionsEnd, Barrier as AtBarrier, RegionEnd as AtRegionEnd}
-use Rattle.gomp_core.specs.declared.waiting.Waiting.{Waiting}
-use Rattle.gomp_core.specs.declared.waiting.Waiting.TheVariants.{Start, Turn, Arrive}
-use Rattle.gomp_core.specs.Waits.{start_call, turn_call, arrival_call, arrival_of, open_call, wait_for}
-use Rattle.gomp_core.specs.Answers.{place_tests, comparison_tests, IsReady, IsAnswer, MayLeave, is_at_once}
-use Rattle.gomp_types.proofs.TestRows.{front_fails, alone_finds}
+use Rattle.gomp_types.specs.declared.event.Event.{Event}
+use Rattle.gomp_types.specs.declared.event.Event.TheVariants.{Put, Arrive, Pass}
+use Rattle.gomp_types.specs.declared.refusal.Refusal.TheVariants.{Mismatch}
+use Rattle.gomp_types.specs.Tests.{Test}
+use Rattle.gomp_types.specs.Compare.{tag_with, tag_differs}
+use Rattle.gomp_types.specs.Events.{entered, passed, tag_at, barrier_met}
+use Rattle.gomp_types.specs.Least.{lesser, least, Answers}
+use Rattle.gomp_types.specs.Seen.{seen_of}
+use Rattle.gomp_types.proofs.LeastTests.{least_append}
+use Rattle.gomp_laws.proofs.WordsToCome.{PutsNone}
+use Rattle.gomp_shares.specs.Calls.{IsAside as SharesAside}
+use Rattle.gomp_shares.specs.Starts.{Deals, Starts, start_tests, compared_share, share_tests, AnswersStart, done_given}
+use Rattle.gomp_shares.specs.Loops.{DealsNext}
+use Rattle.gomp_shares.specs.Sections.{DealsSections}
+use Rattle.gomp_shares.specs.OrderedParts.{BeginsPart}
+use Rattle.gomp_barrier.specs.Calls.{IsAside as BarriersAside, arrived_after}
+use Rattle.gomp_model.specs.Past.{Past}
+use Rattle.gomp_model.specs.Row.{at_once, once, since, events_after}
+use Rattle.gomp_model.specs.Starts.{start}
+use Rattle.gomp_model.specs.Arrivals.{Awaits, compared_arrival, arrival, ending}
+use Rattle.gomp_model.specs.Calls.{row_of}
+use Rattle.gomp_laws.proofs.Sound.{Gives, gives_of, IsLast}
+use Rattle.gomp_laws.proofs.Steps.{step_keeps}
+use Rattle.gomp_laws.proofs.Calls.{sound}
+use Rattle.gomp_core.specs.Answers.{IsReady, MayReply, given_after, left_once}
 
--- Tests that hold or not
+-- By its own tests
 
-not_true : (b : Bool) → false ≡ not b → b ≡ true
-not_true true e = refl
-not_true false e = absurd (cc)
+pub answers_may : (tests : List Test) (may : Reply → Type 0) (reply : Reply) → least tests ≡ None → Answers tests may reply → may reply
+answers_may tests may (Refused refusal) none answers = absurd (let some = answers in cc)
+answers_may tests may reply none answers = answers.1
 
-not_false : (b : Bool) → true ≡ not b → b ≡ false
-not_false true e = absurd (cc)
-not_false false e = refl
+-- a reply that the construct never gives
+pub answers_never : (tests : List Test) (may : Reply → Type 0) (reply never : Reply) → Answers tests may reply → (Answers tests may never → ⊥) → reply ≡ never → ⊥
+answers_never tests may reply never answers not_so same = not_so (subst (Answers tests may) same answers)
 
--- Which call is answered
+pub stays_may : (tests : List Test) (may : ℕ → Reply → Type 0) (members n : ℕ) (reply : Reply) → n ≡ members → least tests ≡ None → Answers tests (may members) reply → may n reply
+stays_may tests may members n reply is none answers = subst (λ (k : ℕ). may k reply) (sym is) (answers_may tests (may members) reply none answers)
 
-meant_start : (call : Call) (waiting : Option Waiting) (what : Starting) → wait_for call waiting ≡ Some (Start what) → meant call (open_call waiting) ≡ start_call what
-meant_start (LoopStart loop) waiting what e = let same : Loop loop ≡ what = cc in ap start_call same
-meant_start LoopNext waiting what e = absurd (cc)
-meant_start LoopEnd waiting what e = absurd (cc)
-meant_start LoopEndNowait waiting what e = absurd (cc)
-meant_start (SectionsStart count end_kind) waiting what e = let same : Sections count end_kind ≡ what = cc in ap start_call same
-meant_start SectionsNext waiting what e = absurd (cc)
-meant_start SectionsEnd waiting what e = absurd (cc)
-meant_start SectionsEndNowait waiting what e = absurd (cc)
-meant_start SingleStart waiting what e = let same : Single ≡ what = cc in ap start_call same
-meant_start SingleCopyStart waiting what e = let same : SingleCopy ≡ what = cc in ap start_call same
-meant_start (SingleCopyEnd words) waiting what e = absurd (cc)
-meant_start (OrderedStart value) waiting what e = absurd (cc)
-meant_start OrderedEnd waiting what e = absurd (cc)
-meant_start Barrier waiting what e = absurd (cc)
-meant_start RegionEnd waiting what e = absurd (cc)
-meant_start Resume None what e = absurd (cc)
-meant_start Resume (Some (Start other)) what e = let same : other ≡ what = cc in ap start_call same
-meant_start Resume (Some (Turn turn)) what e = absurd (cc)
-meant_start Resume (Some (Arrive how)) what e = absurd (cc)
-meant_start Stop waiting what e = absurd (cc)
+both_fail : (tests more : List Test) → least tests ≡ None → least more ≡ None → least (tests ++ more) ≡ None
+both_fail tests more one two = least_append tests more ∙ ap (λ (x : Option Refusal). lesser x (least more)) one ∙ two
 
-pub to_start : (call : Call) (kept waiting : Option Waiting) (what : Starting) → kept ≡ wait_for call waiting → kept ≡ Some (Start what) → meant call (open_call waiting) ≡ start_call what
-to_start call kept waiting what e is = meant_start call waiting what (sym e ∙ is)
+pub start_may : (memory : Bool) (own : List Test) (shape : Shape) (deals : Deals) (Given : ℕ → Shape → ℕ → Reply → List Event) (members : ℕ) (limits : Limits) (again : Bool) (m : ℕ) (p : Past) (reply : Reply) →
+    IsReady (start memory own shape deals Given) members limits again m p → AnswersStart own shape deals limits members m reply p.events → Starts deals p.terms.members m shape reply p.events
+start_may memory own shape deals Given members limits again m p reply ready answers =
+    stays_may (share_tests own shape limits m p.events) (λ n given. Starts deals n m shape given p.events) members p.terms.members reply ready.members_are
+    (both_fail (start_tests own limits (seen_of m p.events)) (compared_share shape m p.events) (ready.place refl) ready.compared) answers
 
-meant_arrival : (call : Call) (waiting : Option Waiting) (how : Arriving) → wait_for call waiting ≡ Some (Arrive how) → meant call (open_call waiting) ≡ arrival_call how
-meant_arrival (LoopStart loop) waiting how e = absurd (cc)
-meant_arrival LoopNext waiting how e = absurd (cc)
-meant_arrival LoopEnd waiting how e = let same : AtLoopEnd ≡ how = cc in ap arrival_call same
-meant_arrival LoopEndNowait waiting how e = absurd (cc)
-meant_arrival (SectionsStart count end_kind) waiting how e = absurd (cc)
-meant_arrival SectionsNext waiting how e = absurd (cc)
-meant_arrival SectionsEnd waiting how e = let same : AtSectionsEnd ≡ how = cc in ap arrival_call same
-meant_arrival SectionsEndNowait waiting how e = absurd (cc)
-meant_arrival SingleStart waiting how e = absurd (cc)
-meant_arrival SingleCopyStart waiting how e = absurd (cc)
-meant_arrival (SingleCopyEnd words) waiting how e = absurd (cc)
-meant_arrival (OrderedStart value) waiting how e = absurd (cc)
-meant_arrival OrderedEnd waiting how e = absurd (cc)
-meant_arrival Barrier waiting how e = let same : AtBarrier ≡ how = cc in ap arrival_call same
-meant_arrival RegionEnd waiting how e = let same : AtRegionEnd ≡ how = cc in ap arrival_call same
-meant_arrival Resume None how e = absurd (cc)
-meant_arrival Resume (Some (Start what)) how e = absurd (cc)
-meant_arrival Resume (Some (Turn what)) how e = absurd (cc)
-meant_arrival Resume (Some (Arrive other)) how e = let same : other ≡ how = cc in ap arrival_call same
-meant_arrival Stop waiting how e = absurd (cc)
+-- Calls that are done at once
 
-pub to_arrival : (call : Call) (kept waiting : Option Waiting) (how : Arriving) → kept ≡ wait_for call waiting → kept ≡ Some (Arrive how) → meant call (open_call waiting) ≡ arrival_call how
-to_arrival call kept waiting how e is = meant_arrival call waiting how (sym e ∙ is)
+pub once_made : (tests : Seen → List Test) (events : ℕ → List Event → List Event) (members : ℕ) (limits : Limits) (again : Bool) (m : ℕ) (p : Past) → IsReady (at_once tests events) members limits again m p → again ≡ false
+once_made tests events members limits true m p ready = absurd (let wait = (ready.waits refl).1 in cc)
+once_made tests events members limits false m p ready = refl
 
-meant_turn : (call : Call) (waiting : Option Waiting) (what : Turning) → wait_for call waiting ≡ Some (Turn what) → meant call (open_call waiting) ≡ turn_call what
-meant_turn LoopNext waiting what e = let same : Next ≡ what = cc in ap turn_call same
-meant_turn (OrderedStart value) waiting what e = let same : Part value ≡ what = cc in ap turn_call same
-meant_turn (LoopStart loop) waiting what e = absurd (cc)
-meant_turn LoopEnd waiting what e = absurd (cc)
-meant_turn LoopEndNowait waiting what e = absurd (cc)
-meant_turn (SectionsStart count end_kind) waiting what e = absurd (cc)
-meant_turn SectionsNext waiting what e = absurd (cc)
-meant_turn SectionsEnd waiting what e = absurd (cc)
-meant_turn SectionsEndNowait waiting what e = absurd (cc)
-meant_turn SingleStart waiting what e = absurd (cc)
-meant_turn SingleCopyStart waiting what e = absurd (cc)
-meant_turn (SingleCopyEnd words) waiting what e = absurd (cc)
-meant_turn OrderedEnd waiting what e = absurd (cc)
-meant_turn Barrier waiting what e = absurd (cc)
-meant_turn RegionEnd waiting what e = absurd (cc)
-meant_turn Resume None what e = absurd (cc)
-meant_turn Resume (Some (Start start)) what e = absurd (cc)
-meant_turn Resume (Some (Turn other)) what e = let same : other ≡ what = cc in ap turn_call same
-meant_turn Resume (Some (Arrive how)) what e = absurd (cc)
-meant_turn Stop waiting what e = absurd (cc)
+pub once_done : (tests : Seen → List Test) (events : ℕ → List Event → List Event) (members : ℕ) (limits : Limits) (again : Bool) (m : ℕ) (p : Past) (reply : Reply) → IsReady (at_once tests events) members limits again m p →
+    Answers (tests (seen_of m p.events)) (λ given. given ≡ Finished) reply → reply ≡ Finished
+once_done tests events members limits again m p reply ready answers =
+    answers_may (tests (seen_of m p.events)) (λ given. given ≡ Finished) reply (ready.place (ap not (once_made tests events members limits again m p ready))) answers
 
-pub to_turn : (call : Call) (kept waiting : Option Waiting) (what : Turning) → kept ≡ wait_for call waiting → kept ≡ Some (Turn what) → meant call (open_call waiting) ≡ turn_call what
-to_turn call kept waiting what e is = meant_turn call waiting what (sym e ∙ is)
+made_first : (events : List Event) → once events false ≡ events
+made_first [] = refl
+made_first (event ∷ events) = refl
 
--- a call that never waits is no resume
-pub record AtOnce (limits : Limits) (m : ℕ) (call : Call) (waiting : Option Waiting) (h : List Event) : Type 0 where
-  pub again : is_resume call ≡ false
-  pub same : meant call (open_call waiting) ≡ call
-  pub test : is_at_once call ≡ true
-  pub may : IsReady limits false m call h
+pub once_after : (P : List Event → Type 0) (tests : Seen → List Test) (events : ℕ → List Event → List Event) (members : ℕ) (limits : Limits) (again : Bool) (m : ℕ) (p : Past) (reply : Reply) → IsReady (at_once tests events) members limits again m p →
+    Answers (tests (seen_of m p.events)) (λ given. given ≡ Finished) reply → P (done_given (events m p.events) reply ++ p.events) → P (given_after (at_once tests events) again m p reply)
+once_after P tests events members limits again m p reply ready answers holds =
+    let done = once_done tests events members limits again m p reply ready answers in
+    let now : P (events m p.events ++ p.events) = subst (λ (r : Reply). P (done_given (events m p.events) r ++ p.events)) done holds in
+    let first = once_made tests events members limits again m p ready in
+    subst (λ (b : Bool). P (once (events m p.events) b ++ p.events)) (sym first) (subst (λ (es : List Event). P (es ++ p.events)) (sym (made_first (events m p.events))) now)
 
-at_once : (limits : Limits) (m : ℕ) (call : Call) (waiting : Option Waiting) (h : List Event) → wait_for call waiting ≡ None → IsReady limits (is_resume call) m (meant call (open_call waiting)) h → AtOnce limits m call waiting h
-at_once limits m (LoopStart loop) waiting h e may = absurd (cc)
-at_once limits m LoopNext waiting h e may = absurd (cc)
-at_once limits m LoopEnd waiting h e may = absurd (cc)
-at_once limits m LoopEndNowait waiting h e may = record { again = refl; same = refl; test = refl; may = may }
-at_once limits m (SectionsStart count end_kind) waiting h e may = absurd (cc)
-at_once limits m SectionsNext waiting h e may = record { again = refl; same = refl; test = refl; may = may }
-at_once limits m SectionsEnd waiting h e may = absurd (cc)
-at_once limits m SectionsEndNowait waiting h e may = record { again = refl; same = refl; test = refl; may = may }
-at_once limits m SingleStart waiting h e may = absurd (cc)
-at_once limits m SingleCopyStart waiting h e may = absurd (cc)
-at_once limits m (SingleCopyEnd words) waiting h e may = record { again = refl; same = refl; test = refl; may = may }
-at_once limits m (OrderedStart value) waiting h e may = absurd (cc)
-at_once limits m OrderedEnd waiting h e may = record { again = refl; same = refl; test = refl; may = may }
-at_once limits m Barrier waiting h e may = absurd (cc)
-at_once limits m RegionEnd waiting h e may = absurd (cc)
-at_once limits m Resume None h e may = absurd may
-at_once limits m Resume (Some waiting) h e may = absurd (cc)
-at_once limits m Stop waiting h e may = record { again = refl; same = refl; test = refl; may = may }
+-- Replies that a construct never gives
 
-pub to_at_once : (limits : Limits) (m : ℕ) (call : Call) (kept waiting : Option Waiting) (h : List Event) → kept ≡ wait_for call waiting → kept ≡ None → IsReady limits (is_resume call) m (meant call (open_call waiting)) h → AtOnce limits m call waiting h
-to_at_once limits m call kept waiting h e is may = at_once limits m call waiting h (sym e ∙ is) may
+pub next_stops : (members m : ℕ) (share : Option (ℕ × Shape)) (h : List Event) → DealsNext members m share Stopped h → ⊥
+next_stops members m None h may = may
+next_stops members m (Some share) h may = may.1
 
--- the others are not answered at once
-pub not_at_once : (call : Call) → is_at_once call ≡ true → (call ≡ LoopEndNowait → ⊥) → (call ≡ SectionsNext → ⊥) → (call ≡ SectionsEndNowait → ⊥) → ((words : List ℕ) → call ≡ SingleCopyEnd words → ⊥) → (call ≡ OrderedEnd → ⊥) → (call ≡ Stop → ⊥) → ⊥
-not_at_once OrderedEnd e b c d put a s = a refl
-not_at_once LoopEndNowait e b c d put a s = b refl
-not_at_once SectionsNext e b c d put a s = c refl
-not_at_once SectionsEndNowait e b c d put a s = d refl
-not_at_once (SingleCopyEnd words) e b c d put a s = put words refl
-not_at_once Stop e b c d put a s = s refl
-not_at_once (LoopStart loop) e b c d put a s = cc
-not_at_once LoopEnd e b c d put a s = cc
-not_at_once (SectionsStart count end_kind) e b c d put a s = cc
-not_at_once SectionsEnd e b c d put a s = cc
-not_at_once SingleStart e b c d put a s = cc
-not_at_once SingleCopyStart e b c d put a s = cc
-not_at_once LoopNext e b c d put a s = cc
-not_at_once (OrderedStart value) e b c d put a s = cc
-not_at_once Barrier e b c d put a s = cc
-not_at_once RegionEnd e b c d put a s = cc
-not_at_once Resume e b c d put a s = cc
+pub section_stops : (members m : ℕ) (share : Option (ℕ × Shape)) (h : List Event) → DealsSections members m share Stopped h → ⊥
+section_stops members m None h may = may
+section_stops members m (Some share) h may = may
 
--- A call that is answered at once
+pub section_waits : (members m : ℕ) (share : Option (ℕ × Shape)) (h : List Event) → DealsSections members m share Wait h → ⊥
+section_waits members m None h may = may
+section_waits members m (Some share) h may = may
 
-pub reply_answers : (limits : Limits) (members m : ℕ) (call : Call) (reply : Reply) (h : List Event) → first_refusal (call_tests limits m call h) ≡ None → first_refusal (comparison_tests false m call h) ≡ None →
-    IsReply limits members m call reply h → IsAnswer members false m call (Ok reply) h
-reply_answers limits members m call (Refused refusal) h none alone is = absurd (cc)
-reply_answers limits members m call reply h none alone is = (alone, is.1)
+pub part_stops : (members m : ℕ) (share : Option (ℕ × Shape)) (h : List Event) → BeginsPart members m share Stopped h → ⊥
+part_stops members m None h may = may
+part_stops members m (Some share) h may = may
 
--- A start
+-- What a call gives that neither arrives nor puts words
 
-abbrev started : Starting → Shape
-started (Loop loop) = shape_of loop
-started (Sections count end_kind) = sections_shape count end_kind
-started Single = single_shape false
-started SingleCopy = single_shape true
+abbrev pub KeepsAside : (Event → Type 0) → (List Event → Type 0) → Type 0
+KeepsAside IsAside P = (h : List Event) (event : Event) → IsAside event → P h → P (event ∷ h)
 
-compared : (m : ℕ) (what : Starting) (h : List Event) → comparison_tests false m (start_call what) h ≡ start_tests m (started what) h
-compared m (Loop loop) h = refl
-compared m (Sections count end_kind) h = refl
-compared m Single h = refl
-compared m SingleCopy h = refl
+-- no row gives a refusal
+pub events_given : (call : Call) (again : Bool) (m : ℕ) (p : Past) (reply : Reply) → MayReply (row_of call) again m p reply → events_after again (row_of call) m p reply ≡ given_after (row_of call) again m p reply
+events_given call again m p (Refused refusal) may = absurd ((sound call).accepts m (since again (row_of call) m p) refusal may)
+events_given call again m p _ may = refl
 
--- the row of a start: what the member can test alone, and then the comparison
-start_row : (limits : Limits) (m : ℕ) (what : Starting) (h : List Event) → IsReady limits false m (start_call what) h →
-    first_refusal (call_tests limits m (start_call what) h) ≡ first_refusal (comparison_tests false m (start_call what) h)
-start_row limits m (Loop loop) h ready = front_fails (place_tests limits m h (LoopStart loop)) (start_tests m (shape_of loop) h) ready
-start_row limits m (Sections count end_kind) h ready = front_fails (place_tests limits m h (SectionsStart count end_kind)) (start_tests m (sections_shape count end_kind) h) ready
-start_row limits m Single h ready = front_fails (place_tests limits m h SingleStart) (start_tests m (single_shape false) h) ready
-start_row limits m SingleCopy h ready = front_fails (place_tests limits m h SingleCopyStart) (start_tests m (single_shape true) h) ready
+last_aloof : (can : Gives) (m : ℕ) (reply : Reply) (event : Event) → can.arrives ≡ false → IsLast can m reply event → BarriersAside event
+last_aloof can m reply (Arrive barrier n tag) none by = absurd (let arrives = by.1 in cc)
+last_aloof can m reply (Pass barrier n) none by = absurd (let arrives = by.1 in cc)
+last_aloof can m reply _ none by = tt
 
-pub start_answers : (limits : Limits) (members m : ℕ) (what : Starting) (reply : Reply) (h : List Event) → (reply ≡ Refused Mismatch → ⊥) → IsReady limits false m (start_call what) h →
-    IsReply limits members m (start_call what) reply h → IsAnswer members false m (start_call what) (Ok reply) h
-start_answers limits members m what (Refused refusal) h other ready is =
-    absurd (other (ap Refused (alone_finds (shape_differs (started what) (shape_at (entered m h) h)) Mismatch refusal
-    (ap first_refusal (sym (compared m what h)) ∙ sym (start_row limits m what h ready) ∙ is))))
-start_answers limits members m what reply h other ready is = (sym (start_row limits m what h ready) ∙ is.0, is.1)
+last_silent : (can : Gives) (m : ℕ) (reply : Reply) (event : Event) → can.puts ≡ false → IsLast can m reply event → PutsNone event
+last_silent can m reply (Put share n words) none by = absurd (let puts = by.1 in cc)
+last_silent can m reply _ none by = tt
 
-differs_there : (members m : ℕ) (what : Starting) (place : Place) (h : List Event) → first_refusal (comparison_tests false m (start_call what) h) ≡ Some Mismatch →
-    place ≡ Share (shown (entered m h)) → IsAnswer members false m (start_call what) (Err place) h
-differs_there members m (Loop loop) place h is at = (is, at)
-differs_there members m (Sections count end_kind) place h is at = (is, at)
-differs_there members m Single place h is at = (is, at)
-differs_there members m SingleCopy place h is at = (is, at)
+pub aloof_stands : (P : List Event → Type 0) → KeepsAside BarriersAside P → (call : Call) (again : Bool) (m : ℕ) (p : Past) (reply : Reply) → (row_of call).arrives ≡ None → MayReply (row_of call) again m p reply → P p.events →
+    P (given_after (row_of call) again m p reply)
+aloof_stands P keeps call again m p reply none may holds =
+    subst P (events_given call again m p reply may)
+    (step_keeps (row_of call) (sound call) again m p reply P (λ event h by. keeps h event (last_aloof (gives_of (row_of call)) m reply event (ap is_some none) by)) holds)
 
-pub start_differs : (limits : Limits) (members m : ℕ) (what : Starting) (place : Place) (h : List Event) → IsReady limits false m (start_call what) h → IsReply limits members m (start_call what) (Refused Mismatch) h →
-    place ≡ Share (shown (entered m h)) → IsAnswer members false m (start_call what) (Err place) h
-start_differs limits members m what place h ready is at = differs_there members m what place h (sym (start_row limits m what h ready) ∙ is) at
+pub silent_stands : (P : List Event → Type 0) → KeepsAside PutsNone P → (call : Call) (again : Bool) (m : ℕ) (p : Past) (reply : Reply) → (row_of call).puts ≡ false → MayReply (row_of call) again m p reply → P p.events →
+    P (given_after (row_of call) again m p reply)
+silent_stands P keeps call again m p reply none may holds =
+    subst P (events_given call again m p reply may)
+    (step_keeps (row_of call) (sound call) again m p reply P (λ event h by. keeps h event (last_silent (gives_of (row_of call)) m reply event none by)) holds)
 
--- a start that is asked again is answered as the first time
-pub start_ready : (limits : Limits) (again : Bool) (m : ℕ) (what : Starting) (h : List Event) → IsReady limits again m (start_call what) h → IsReady limits false m (start_call what) h
-start_ready limits false m what h ready = ready
-start_ready limits true m (Loop loop) h ready = ready
-start_ready limits true m (Sections count end_kind) h ready = ready
-start_ready limits true m Single h ready = ready
-start_ready limits true m SingleCopy h ready = ready
+-- Arrivals
 
-pub start_again : (members : ℕ) (again : Bool) (m : ℕ) (what : Starting) (result : Result Reply Place) (h : List Event) → IsAnswer members false m (start_call what) result h → IsAnswer members again m (start_call what) result h
-start_again members false m what result h is = is
-start_again members true m (Loop loop) (Ok reply) h is = is
-start_again members true m (Sections count end_kind) (Ok reply) h is = is
-start_again members true m Single (Ok reply) h is = is
-start_again members true m SingleCopy (Ok reply) h is = is
-start_again members true m (Loop loop) (Err place) h is = is
-start_again members true m (Sections count end_kind) (Err place) h is = is
-start_again members true m Single (Err place) h is = is
-start_again members true m SingleCopy (Err place) h is = is
+-- an arrival whose tag was compared is accepted
+pub arrival_accepted : (kind : Arrival) (again : Bool) (m : ℕ) (h : List Event) (tag : Tag) (answer : Bool) → again ≡ false → tag ≡ tag_with kind (entered m h) → least (compared_arrival kind again m h) ≡ None →
+    answer ≡ not (tag_differs tag (tag_at (passed m h) h)) → answer ≡ false → ⊥
+arrival_accepted kind true m h tag answer first same none told shut = absurd (cc)
+arrival_accepted kind false m h tag answer first same none told shut = differs_not (tag_differs (tag_with kind (entered m h)) (tag_at (passed m h) h)) none (rw same at (sym told ∙ shut))
+  where
+    differs_not : (b : Bool) → least ((b, Mismatch) ∷ []) ≡ None → not b ≡ false → ⊥
+    differs_not true none e = cc
+    differs_not false none e = cc
 
-begins_nothing : (m shares : ℕ) (what : Starting) (h : List Event) → begun m shares (start_call what) h ≡ h
-begins_nothing m shares (Loop loop) h = refl
-begins_nothing m shares (Sections count end_kind) h = refl
-begins_nothing m shares Single h = refl
-begins_nothing m shares SingleCopy h = refl
+pub arrival_stood : (P : List Event → Type 0) (m : ℕ) (kind : Arrival) (tag : Tag) (answer : Bool) (h : List Event) → tag ≡ tag_with kind (entered m h) → answer ≡ true → P (arrived_after answer m tag h) → P (Arrive (passed m h) m (tag_with kind (entered m h)) ∷ h)
+arrival_stood P m kind tag answer h is accepted holds = rw (accepted, is) at holds
 
-pub start_adds : (again : Bool) (m shares : ℕ) (what : Starting) (reply : Reply) (h : List Event) → added false m shares reply (start_call what) h ≡ added again m shares reply (start_call what) h
-start_adds false m shares what reply h = refl
-start_adds true m shares what Finished h = ap (λ (begins : List Event). part_added (start_call what) m begins) (begins_nothing m shares what h)
-start_adds true m shares what Passed h = ap (λ (begins : List Event). pass_added (arrival_kind (start_call what)) (passed m h) m begins) (begins_nothing m shares what h)
-start_adds true m shares what Wait h = begins_nothing m shares what h
-start_adds true m shares what _ h = refl
+-- as many members
+pub awaits_so : (n k m : ℕ) (h : List Event) (reply : Reply) → n ≡ k → Awaits (barrier_met n (passed m h) h) reply → Awaits (barrier_met k (passed m h) h) reply
+awaits_so n k m h reply same awaits = subst (λ (i : ℕ). Awaits (barrier_met i (passed m h) h) reply) same awaits
 
--- A call that waits for the turn
+-- the shares do not see one
+pub arrival_aside : (P : List Event → Type 0) → KeepsAside SharesAside P → (kind : Arrival) (again : Bool) (m : ℕ) (p : Past) (reply : Reply) → P p.events → P (given_after (arrival kind) again m p reply)
+arrival_aside P keeps kind true m p Passed holds = keeps _ _ tt holds
+arrival_aside P keeps kind true m p _ holds = holds
+arrival_aside P keeps kind false m p Passed holds = keeps _ _ tt (keeps _ _ tt holds)
+arrival_aside P keeps kind false m p _ holds = keeps _ _ tt holds
 
-pub turn_ready : (limits : Limits) (again : Bool) (m : ℕ) (what : Turning) (h : List Event) → IsReady limits again m (turn_call what) h → first_refusal (call_tests limits m (turn_call what) h) ≡ None
-turn_ready limits false m Next h ready = ready
-turn_ready limits false m (Part value) h ready = ready
-turn_ready limits true m Next h ready = ready
-turn_ready limits true m (Part value) h ready = ready
+-- the past in which the member has left the construct that ends
+abbrev pub left_past : Bool → ℕ → Past → Past
+left_past again m p = record p { events = left_once again m p.events }
 
-pub turn_again : (limits : Limits) (members : ℕ) (again : Bool) (m : ℕ) (what : Turning) (reply : Reply) (h : List Event) → first_refusal (call_tests limits m (turn_call what) h) ≡ None → IsReply limits members m (turn_call what) reply h →
-    IsAnswer members again m (turn_call what) (Ok reply) h
-turn_again limits members again m what (Refused refusal) h none is = absurd (cc)
-turn_again limits members again m Next reply h none is = (refl, is.1)
-turn_again limits members again m (Part value) reply h none is = (refl, is.1)
+pub end_may : (tests : Seen → List Test) (kind : Arrival) (again : Bool) (m : ℕ) (p : Past) (reply : Reply) → MayReply (arrival kind) again m (left_past again m p) reply → MayReply (ending tests (arrival kind)) again m p reply
+end_may tests kind true m p reply may = may
+end_may tests kind false m p reply may = may
 
-turn_begins_nothing : (m shares : ℕ) (what : Turning) (h : List Event) → begun m shares (turn_call what) h ≡ h
-turn_begins_nothing m shares Next h = refl
-turn_begins_nothing m shares (Part value) h = refl
+pub end_after : (P : List Event → Type 0) (tests : Seen → List Test) (kind : Arrival) (again : Bool) (m : ℕ) (p : Past) (reply : Reply) → P (given_after (arrival kind) again m (left_past again m p) reply) →
+    P (given_after (ending tests (arrival kind)) again m p reply)
+end_after P tests kind true m p reply holds = holds
+end_after P tests kind false m p reply holds = holds
 
-pub turn_adds : (again : Bool) (m shares : ℕ) (what : Turning) (reply : Reply) (h : List Event) → added false m shares reply (turn_call what) h ≡ added again m shares reply (turn_call what) h
-turn_adds false m shares what reply h = refl
-turn_adds true m shares what Finished h = ap (λ (begins : List Event). part_added (turn_call what) m begins) (turn_begins_nothing m shares what h)
-turn_adds true m shares what Passed h = ap (λ (begins : List Event). pass_added (arrival_kind (turn_call what)) (passed m h) m begins) (turn_begins_nothing m shares what h)
-turn_adds true m shares what Wait h = turn_begins_nothing m shares what h
-turn_adds true m shares what _ h = refl
+pub left_aside : (P : List Event → Type 0) → KeepsAside BarriersAside P → (again : Bool) (m : ℕ) (h : List Event) → P h → P (left_once again m h)
+left_aside P keeps true m h holds = holds
+left_aside P keeps false m h holds = keeps _ _ tt holds
 
--- An arrival
+pub left_compared : (kind : Arrival) (again : Bool) (m : ℕ) (h : List Event) → least (compared_arrival kind again m h) ≡ None → least (compared_arrival kind again m (left_once again m h)) ≡ None
+left_compared kind true m h same = same
+left_compared kind false m h same = same
 
-pub arrival_ready : (limits : Limits) (m : ℕ) (how : Arriving) (h : List Event) → IsReady limits false m (arrival_call how) h → MayLeave how m h
-arrival_ready limits m AtLoopEnd h ready = ready
-arrival_ready limits m AtSectionsEnd h ready = ready
-arrival_ready limits m AtBarrier h ready = tt
-arrival_ready limits m AtRegionEnd h ready = tt
-
-differs_by : (members m : ℕ) (how : Arriving) (place : Place) (h : List Event) → tag_differs (tag_with (arrival_of how) (entered m h)) (tag_at (passed m h) h) ≡ true →
-    place ≡ AtBarrierPlace (shown (passed m h)) → IsAnswer members false m (arrival_call how) (Err place) h
-differs_by members m AtLoopEnd place h other at = (rw other refl, at)
-differs_by members m AtSectionsEnd place h other at = (rw other refl, at)
-differs_by members m AtBarrier place h other at = (rw other refl, at)
-differs_by members m AtRegionEnd place h other at = (rw other refl, at)
-
-pub arrive_differs : (members m : ℕ) (how : Arriving) (tag : Tag) (answer : Bool) (place : Place) (h : List Event) → tag ≡ tag_with (arrival_of how) (entered m h) → answer ≡ not (tag_differs tag (tag_at (passed m h) h)) → answer ≡ false →
-    place ≡ AtBarrierPlace (shown (passed m h)) → IsAnswer members false m (arrival_call how) (Err place) h
-arrive_differs members m how tag answer place h is told refused at =
-    let other : tag_differs (tag_with (arrival_of how) (entered m h)) (tag_at (passed m h) h) ≡ true = rw is at (not_true _ (sym refused ∙ told)) in
-    differs_by members m how place h other at
-
-answers_by : (members m : ℕ) (how : Arriving) (reply : Reply) (h : List Event) → tag_differs (tag_with (arrival_of how) (entered m h)) (tag_at (passed m h) h) ≡ false →
-    Awaits (barrier_met members (passed m (begun m (entered m h) (arrival_call how) h)) (begun m (entered m h) (arrival_call how) h)) reply → IsAnswer members false m (arrival_call how) (Ok reply) h
-answers_by members m AtLoopEnd reply h same may = (rw same refl, may)
-answers_by members m AtSectionsEnd reply h same may = (rw same refl, may)
-answers_by members m AtBarrier reply h same may = (rw same refl, may)
-answers_by members m AtRegionEnd reply h same may = (rw same refl, may)
-
-pub arrive_answers : (members m : ℕ) (how : Arriving) (tag : Tag) (answer : Bool) (reply : Reply) (h : List Event) → tag ≡ tag_with (arrival_of how) (entered m h) → answer ≡ not (tag_differs tag (tag_at (passed m h) h)) → answer ≡ true →
-    Awaits (barrier_met members (passed m (begun m (entered m h) (arrival_call how) h)) (begun m (entered m h) (arrival_call how) h)) reply → IsAnswer members false m (arrival_call how) (Ok reply) h
-arrive_answers members m how tag answer reply h is told accepted may =
-    let same : tag_differs (tag_with (arrival_of how) (entered m h)) (tag_at (passed m h) h) ≡ false = rw is at (not_false _ (sym accepted ∙ told)) in
-    answers_by members m how reply h same may
-
--- an arrival that is asked about again
-pub turn_answers : (members m : ℕ) (how : Arriving) (reply : Reply) (h : List Event) → Awaits (barrier_met members (passed m h) h) reply → IsAnswer members true m (arrival_call how) (Ok reply) h
-turn_answers members m AtLoopEnd reply h may = (refl, may)
-turn_answers members m AtSectionsEnd reply h may = (refl, may)
-turn_answers members m AtBarrier reply h may = (refl, may)
-turn_answers members m AtRegionEnd reply h may = (refl, may)
+-- a resume has no answer of its own
+pub not_resume : (call : Call) (members : ℕ) (limits : Limits) (again : Bool) (m : ℕ) (p : Past) → IsReady (row_of call) members limits again m p → call ≡ Resume → ⊥
+not_resume call members limits again m p ready same =
+    let none : least ((row_of Resume).compared again m p) ≡ None = rw same at ready.compared in cc

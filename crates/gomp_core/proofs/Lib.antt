@@ -1,6 +1,6 @@
-mod Words
-mod Parts
-mod Rows
+pub mod Refused
+pub mod Waits
+pub mod Answered
+pub mod Words
+pub mod Stepping
 pub mod StandsExamples
-mod Answered
-mod Stepping

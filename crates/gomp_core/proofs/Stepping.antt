@@ -1,63 +1,53 @@
 -- A step leaves the team standing for the record with this step and its reply.
-use Rattle.std.proofs.Common.{◌≡◌, ℕ, Bool, true, false, List, [], ◌∷◌, ◌++◌, Option, Some, None, Result, Ok, Err, length, slice_get, slice_set, replicate, refl, ap, ◌∙◌, sym, subst, arith, suc, zero, inl, inr}
-use Rattle.std.specs.Prelude.{◌==◌, ◌≢◌, if◌then◌else◌}
+use Rattle.std.proofs.Common.{◌≡◌, ℕ, ◌<◌, Bool, true, false, List, [], ◌∷◌, ◌++◌, Option, Some, None, length, slice_get, slice_set, replicate, refl, ap, ◌∙◌, sym, subst, arith, suc, zero, inl, inr}
+use Rattle.std.specs.Prelude.{◌==◌, ◌≢◌, if◌then◌else◌, nat_le}
 use Rattle.std.proofs.lemmas.Bool.Decides.{nat_tests}
 use Rattle.std.proofs.lemmas.List.{map-append, length-map, length-set}
 use Rattle.gomp_types.specs.declared.call.Call.{Call}
-use Rattle.gomp_types.specs.declared.call.Call.TheVariants.{LoopStart, LoopNext, LoopEnd, LoopEndNowait, SectionsStart, SectionsNext, SectionsEnd, SectionsEndNowait, SingleStart, SingleCopyStart, SingleCopyEnd, OrderedStart, OrderedEnd, Barrier, RegionEnd, Resume, Stop}
+use Rattle.gomp_types.specs.declared.call.Call.TheVariants.{Resume, Stop}
 use Rattle.gomp_types.specs.declared.call.Step.{Step}
-use Rattle.gomp_types.specs.declared.limits.Limits.{Limits}
 use Rattle.gomp_types.specs.declared.refusal.Clash.{Clash}
 use Rattle.gomp_types.specs.declared.refusal.Place.{Place}
 use Rattle.gomp_types.specs.declared.refusal.Refusal.{Refusal}
-use Rattle.gomp_types.specs.declared.refusal.Refusal.TheVariants.{Mismatch, NoMemory}
+use Rattle.gomp_types.specs.declared.refusal.Refusal.TheVariants.{BadMember, Ended, Broken, Mismatch, NoMemory}
 use Rattle.gomp_types.specs.declared.reply.Reply.{Reply}
 use Rattle.gomp_types.specs.declared.reply.Reply.TheVariants.{Wait, Stopped, Refused}
 use Rattle.gomp_types.specs.declared.event.Event.{Event}
 use Rattle.gomp_types.specs.declared.event.Event.TheVariants.{Break}
-use Rattle.gomp_types.specs.Limits.{standard, capped}
-use Rattle.gomp_types.specs.Tests.{first_refusal}
-use Rattle.gomp_types.specs.Events.{entered, open_share, clash_of}
-use Rattle.gomp_types.specs.Record.{Record, record_after, Waits, waits_of, waits_after, events, added, meant, is_resume, since_begun}
-use Rattle.gomp_types.specs.Replies.{MayReply}
-use Rattle.gomp_types.specs.Causes.{Terms, refusal_of, MayAnswer, Caused}
+use Rattle.gomp_types.specs.Limits.{standard, IsTeamSize}
+use Rattle.gomp_types.specs.Events.{has_left_region, clash_of}
+use Rattle.gomp_types.specs.Least.{lesser, least}
+use Rattle.gomp_types.proofs.Lists.{slice_get-set}
+use Rattle.gomp_types.proofs.LeastTests.{AllFail, lesser_low}
+use Rattle.gomp_model.specs.Past.{Terms, Past}
+use Rattle.gomp_model.specs.Row.{row_tests, refusal_gives}
+use Rattle.gomp_model.specs.Calls.{row_of}
+use Rattle.gomp_model.specs.Team.{Record, record_after, meant, is_resume, row_at, broken_tests, refusal_of, MayAnswer, wait_after, past_of, Caused}
 use Rattle.gomp_barrier.specs.Stands.{BarriersView, Stands as BarriersStand, members_of as barrier_members}
-use Rattle.gomp_core.specs.declared.waiting.Waiting.{Waiting}
-use Rattle.gomp_core.specs.declared.waiting.Waiting.TheVariants.{Start, Turn, Arrive}
+use Rattle.gomp_laws.proofs.Sound.{Gives, gives_of, IsLast, breaks}
+use Rattle.gomp_laws.proofs.Steps.{step_keeps}
+use Rattle.gomp_laws.proofs.Known.{passes}
+use Rattle.gomp_laws.proofs.Layers.{step_layers}
+use Rattle.gomp_laws.proofs.Calls.{sound}
+use Rattle.gomp_icv.specs.Variables.{Variables}
 use Rattle.gomp_core.specs.declared.payloads.Put.{Put}
 use Rattle.gomp_core.specs.Payloads.{PayloadsStand}
-use Rattle.gomp_core.specs.Waits.{open_call, waiting_after, wait_for}
-use Rattle.gomp_core.specs.Answers.{IsReady, IsAnswer, reply_to, broken_after, PartsStand, ArePartsKept}
-use Rattle.gomp_icv.specs.Variables.{Variables}
+use Rattle.gomp_core.specs.Answers.{MayReply, given_after, broken_after, PartsStand, ArePartsKept}
 use Rattle.gomp_core.specs.Resolved.{resolved_step, resolved_steps, record_of}
-use Rattle.gomp_core.specs.Stands.{TeamView, IsTeamSize, MayBeRepeated, WaitStands, Stands, terms_of, members_of, standard_terms, NoneForMemory}
-use Rattle.gomp_types.proofs.Lists.{slice_get-set}
-use Rattle.gomp_types.proofs.Booleans.{other_number}
-use Rattle.gomp_types.proofs.Places.{SamePlace, same_other, KeptBy, breaks, added_keeps}
-use Rattle.gomp_core.proofs.Rows.{alone, refused_alone, compared_last, whole, ready, quiet_alone, quiet_memory, quiet_adds}
-use Rattle.gomp_types.proofs.SomeReply.{not_refused, may_answer}
-use Rattle.gomp_types.proofs.CallsKeep.{section_never_waits}
+use Rattle.gomp_core.specs.Stands.{TeamView, Stands, past, terms_of, members_of, standard_terms, NoneForMemory}
+use Rattle.gomp_core.proofs.Waits.{same_members, step_below}
+use Rattle.gomp_core.proofs.Answered.{events_given}
 
 -- A new team
 
-only_nones : (count m : ℕ) (waiting : Option Waiting) → slice_get (replicate {A = Option Waiting} count None) m ≡ Some waiting → waiting ≡ None
+only_nones : (count m : ℕ) (waiting : Option Call) → slice_get (replicate {A = Option Call} count None) m ≡ Some waiting → None ≡ waiting
 only_nones zero m waiting at = absurd (cc)
 only_nones (suc count) zero waiting at = cc
 only_nones (suc count) (suc m) waiting at = only_nones count m waiting at
 
-only_none : {A : Type 0} (copies : Option A → Type 0) → ((x : A) → copies (Some x) → ⊥) → (y : Option A) → copies y → y ≡ None
-only_none copies never None e = refl
-only_none copies never (Some x) e = absurd (never x e)
-
--- copies of none are none
-pub all_none : {A : Type 0} (copies : Option A → Type 0) (kept : List (Option A)) (count : ℕ) → (((y : Option A) → copies y → y ≡ None) → kept ≡ replicate count None) → ((x : A) → copies (Some x) → ⊥) → kept ≡ replicate count None
-all_none copies kept count all never = all (only_none copies never)
-
 -- nobody waits
-pub fresh : (limits : Limits) (kept : List (Option Waiting)) (count m : ℕ) (waiting : Option Waiting) → kept ≡ replicate count None → slice_get kept m ≡ Some waiting → WaitStands limits m waiting []
-fresh limits kept count m waiting all at =
-    let is : waiting ≡ None = only_nones count m waiting (subst (λ (xs : List (Option Waiting)). slice_get xs m ≡ Some waiting) all at) in
-    rw is (record { call_is = refl; tested = tt })
+pub nobody_waits : (kept : List (Option Call)) (count m : ℕ) (waiting : Option Call) → kept ≡ replicate count None → slice_get kept m ≡ Some waiting → None ≡ waiting
+nobody_waits kept count m waiting all at = only_nones count m waiting (subst (λ (xs : List (Option Call)). slice_get xs m ≡ Some waiting) all at)
 
 -- A record that grows
 
@@ -65,247 +55,173 @@ same_of : {A : Type 0} (test : Bool) (x : A) → (if test then x else x) ≡ x
 same_of true x = refl
 same_of false x = refl
 
-waits_refused : (k : ℕ) (step : Step) (refusal : Refusal) (before : Record) → waits_of k ((step, Refused refusal) ∷ before) ≡ waits_of k before
-waits_refused k step refusal before = same_of (step.member == k) (waits_of k before)
-
 at_own : {A : Type 0} (n : ℕ) (x y : A) → (if n == n then x else y) ≡ x
 at_own n x y = grind (arith, nat_tests)
-
-waits_own : (step : Step) (reply : Reply) (before : Record) → waits_of step.member ((step, reply) ∷ before) ≡ waits_after reply step.call (waits_of step.member before)
-waits_own step reply before = at_own step.member (waits_after reply step.call (waits_of step.member before)) (waits_of step.member before)
 
 at_other : {A : Type 0} (n k : ℕ) (x y : A) → k ≢ n → (if n == k then x else y) ≡ y
 at_other n k x y differ = grind (arith, nat_tests, differ)
 
-waits_other : (k : ℕ) (step : Step) (reply : Reply) (before : Record) → k ≢ step.member → waits_of k ((step, reply) ∷ before) ≡ waits_of k before
-waits_other k step reply before other = at_other step.member k (waits_after reply step.call (waits_of k before)) (waits_of k before) other
+waits_refused : (p : Past) (step : Step) (k : ℕ) → (if step.member == k then p.waits k else p.waits k) ≡ p.waits k
+waits_refused p step k = same_of (step.member == k) (p.waits k)
 
--- A refusal by a test that the member can make alone
+-- A team that is the other
 
--- the first of the tests that a member can make alone
-abbrev pub IsFirst : Terms → Step → Record → Option Refusal → Type 0
-IsFirst terms step before found = found ≡ first_refusal (alone terms step (waits_of step.member before).open_call (events before))
+pub same_stands : {S : Type 0} (stands : S → List Event → Type 0) (members : S → ℕ) (team other : TeamView S) (before : Record) → team ≡ other → Stands stands members other before → Stands stands members team before
+same_stands stands members team other before same st = subst (λ (t : TeamView _). Stands stands members t before) (sym same) st
 
-pub stands_refused : {S : Type 0} (stands : S → List Event → Type 0) (members : S → ℕ) (team : TeamView S) (before : Record) (step : Step) (found : Option Refusal) (refusal : Refusal) → Stands stands members team before →
-    MayAnswer (terms_of team) before step (Refused refusal) → IsFirst (terms_of team) step before found → found ≡ Some refusal → Stands stands members team ((step, Refused refusal) ∷ before)
-stands_refused stands members team before step found refusal st may first some =
-    let is = sym first ∙ some in
-    let same : events ((step, Refused refusal) ∷ before) ≡ events before = quiet_adds refusal step.member _ (events before) (quiet_alone (terms_of team) step (waits_of step.member before).open_call (events before) refusal is) in
+pub other_stands : {S : Type 0} (stands : S → List Event → Type 0) (members : S → ℕ) (team other : TeamView S) (before : Record) → team ≡ other → Stands stands members team before → Stands stands members other before
+other_stands stands members team other before same st = subst (λ (t : TeamView _). Stands stands members t before) same st
+
+pub step_found : {S : Type 0} (team other : TeamView S) (before : Record) (step : Step) (found one : Option Refusal) → team ≡ other → found ≡ refusal_of (past other before) step → found ≡ one → refusal_of (past team before) step ≡ one
+step_found team other before step found one same is told = subst (λ (t : TeamView _). refusal_of (past t before) step ≡ one) (sym same) (sym is ∙ told)
+
+-- a step that is not refused, or only where it is compared, is one of a member
+pub member_free : {S : Type 0} (team : TeamView S) (before : Record) (step : Step) → refusal_of (past team before) step ≡ None → step.member < members_of team
+member_free team before step none = subst (λ (n : ℕ). step.member < n) (same_members (terms_of team) before) (step_below (past team before) step (λ bad. let both = sym none ∙ bad in cc))
+
+pub member_differs : {S : Type 0} (team : TeamView S) (before : Record) (step : Step) → refusal_of (past team before) step ≡ Some Mismatch → step.member < members_of team
+member_differs team before step is = subst (λ (n : ℕ). step.member < n) (same_members (terms_of team) before) (step_below (past team before) step (λ bad. let both = sym is ∙ bad in cc))
+
+-- A refusal
+
+quiet_gives : (refusal : Refusal) (m : ℕ) (place : Place) → (refusal ≡ Mismatch → ⊥) → refusal_gives refusal m place ≡ []
+quiet_gives Mismatch m place other = absurd (other refl)
+quiet_gives _ m place other = refl
+
+-- one that is no mismatch changes nothing
+pub stands_refused : {S : Type 0} (stands : S → List Event → Type 0) (members : S → ℕ) (team : TeamView S) (before : Record) (step : Step) (refusal : Refusal) → Stands stands members team before →
+    MayAnswer (past team before) step (Refused refusal) → (refusal ≡ Mismatch → ⊥) → Stands stands members team ((step, Refused refusal) ∷ before)
+stands_refused stands members team before step refusal st may other =
+    let p = past team before in
+    let same : (past team ((step, Refused refusal) ∷ before)).events ≡ p.events = ap (λ (es : List Event). es ++ p.events) (quiet_gives refusal step.member ((row_at p step).place step.member p.events) other) in
     record {
       caused = (may, st.caused);
       shares_are = subst (stands team.shares) (sym same) st.shares_are;
       barriers_are = subst (BarriersStand team.barriers) (sym same) st.barriers_are;
       payloads_are = subst (PayloadsStand (members_of team) team.payloads) (sym same) st.payloads_are;
       broken_is = st.broken_is ∙ ap clash_of (sym same);
-      wait = λ k waiting at. let old = st.wait k waiting at in record {
-        call_is = ap (λ (w : Waits). w.open_call) (waits_refused k step refusal before) ∙ old.call_is;
-        tested = subst (MayBeRepeated team.limits k (open_call waiting)) (sym same) old.tested;
-      };
+      wait = λ k waiting at. waits_refused p step k ∙ st.wait k waiting at;
       size = st.size;
       limits_are = st.limits_are;
       shares_size = st.shares_size;
       barriers_size = st.barriers_size;
     }
 
-pub answer_refused : {S : Type 0} (stands : S → List Event → Type 0) (members : S → ℕ) (team : TeamView S) (before : Record) (step : Step) (found : Option Refusal) (refusal : Refusal) → Stands stands members team before →
-    IsFirst (terms_of team) step before found → found ≡ Some refusal →
-    refusal_of (terms_of team) step (waits_of step.member before).open_call (events before) ≡ Some refusal
-answer_refused stands members team before step found refusal st first some = refused_alone (terms_of team) step (waits_of step.member before).open_call (events before) refusal st.limits_are (sym first ∙ some)
+-- a refusal with a greater number than that of a broken team tells that it is not broken
+after_broken : (bad left : Bool) (clash : Option Clash) (rest : Option Refusal) → lesser (least ((bad, BadMember) ∷ (left, Ended) ∷ broken_tests clash)) rest ≡ Some Mismatch → clash ≡ None
+after_broken bad left None rest e = refl
+after_broken true true (Some clash) rest e = absurd (let low = lesser_low BadMember Mismatch rest e in omega arith)
+after_broken true false (Some clash) rest e = absurd (let low = lesser_low BadMember Mismatch rest e in omega arith)
+after_broken false true (Some clash) rest e = absurd (let low = lesser_low Ended Mismatch rest e in omega arith)
+after_broken false false (Some clash) rest e = absurd (let low = lesser_low (Broken clash) Mismatch rest e in omega arith)
 
--- The cause of an answer
+pub whole_before : (p : Past) (step : Step) → refusal_of p step ≡ Some Mismatch → clash_of p.events ≡ None
+whole_before p step e = after_broken (nat_le p.terms.members step.member) (has_left_region step.member p.events) (clash_of p.events) _ (sym (step_layers p step) ∙ e)
 
-pub answered : (terms : Terms) (before : Record) (step : Step) (result : Result Reply Place) → capped terms.limits ≡ terms.limits →
-    ((refusal : Refusal) → refusal_of terms step (waits_of step.member before).open_call (events before) ≡ Some refusal → MayAnswer terms before step (Refused refusal)) →
-    first_refusal (alone terms step (waits_of step.member before).open_call (events before)) ≡ None →
-    IsAnswer terms.members (is_resume step.call) step.member (meant step.call (waits_of step.member before).open_call) result (events before) → MayAnswer terms before step (reply_to result)
-answered terms before step (Ok reply) small law none is =
-    may_answer terms before step reply (compared_last terms step (waits_of step.member before).open_call (events before) small none ∙ is.0) is.1
-answered terms before step (Err place) small law none is =
-    law Mismatch (compared_last terms step (waits_of step.member before).open_call (events before) small none ∙ is.0)
-
--- What another member's call leaves as it is
-
-tested_kept : (limits : Limits) (k : ℕ) (waiting : Option Call) (h after : List Event) → SamePlace k h after → MayBeRepeated limits k waiting h → MayBeRepeated limits k waiting after
-tested_kept limits k None h after same tested = tt
-tested_kept limits k (Some (LoopStart loop)) h after same tested = rw (same.number, same.share) tested
-tested_kept limits k (Some LoopNext) h after same tested = rw (same.share, same.within, same.drained) tested
-tested_kept limits k (Some LoopEnd) h after same tested = tt
-tested_kept limits k (Some LoopEndNowait) h after same tested = tested
-tested_kept limits k (Some (SectionsStart count end_kind)) h after same tested = rw (same.number, same.share) tested
-tested_kept limits k (Some SectionsNext) h after same tested = tested
-tested_kept limits k (Some SectionsEnd) h after same tested = tt
-tested_kept limits k (Some SectionsEndNowait) h after same tested = tested
-tested_kept limits k (Some SingleStart) h after same tested = rw (same.number, same.share) tested
-tested_kept limits k (Some SingleCopyStart) h after same tested = rw (same.number, same.share) tested
-tested_kept limits k (Some (SingleCopyEnd words)) h after same tested = tested
-tested_kept limits k (Some (OrderedStart value)) h after same tested = rw (same.share, same.within, same.piece, same.begun) tested
-tested_kept limits k (Some OrderedEnd) h after same tested = tested
-tested_kept limits k (Some Barrier) h after same tested = tt
-tested_kept limits k (Some RegionEnd) h after same tested = tt
-tested_kept limits k (Some Resume) h after same tested = tested
-tested_kept limits k (Some Stop) h after same tested = tested
-
--- What the member's own call leaves
-
--- a call that waits may be repeated
-waits_tested : (limits : Limits) (members : ℕ) (again : Bool) (m shares : ℕ) (call : Call) (h : List Event) → IsReady limits again m call h → MayReply members again m call Wait h →
-    MayBeRepeated limits m (Some call) (since_begun again m shares call h)
-waits_tested limits members true m shares (LoopStart loop) h ready may = ready
-waits_tested limits members false m shares (LoopStart loop) h ready may = ready
-waits_tested limits members true m shares LoopNext h ready may = ready
-waits_tested limits members false m shares LoopNext h ready may = ready
-waits_tested limits members true m shares (OrderedStart value) h ready may = ready
-waits_tested limits members false m shares (OrderedStart value) h ready may = ready
-waits_tested limits members again m shares OrderedEnd h ready may = absurd (cc)
-waits_tested limits members again m shares LoopEnd h ready may = tt
-waits_tested limits members again m shares LoopEndNowait h ready may = absurd (cc)
-waits_tested limits members true m shares (SectionsStart count end_kind) h ready may = ready
-waits_tested limits members false m shares (SectionsStart count end_kind) h ready may = ready
-waits_tested limits members again m shares SectionsNext h ready may = absurd (section_never_waits members m (open_share m h) h may)
-waits_tested limits members again m shares SectionsEnd h ready may = tt
-waits_tested limits members again m shares SectionsEndNowait h ready may = absurd (cc)
-waits_tested limits members true m shares SingleStart h ready may = ready
-waits_tested limits members false m shares SingleStart h ready may = ready
-waits_tested limits members true m shares SingleCopyStart h ready may = ready
-waits_tested limits members false m shares SingleCopyStart h ready may = ready
-waits_tested limits members again m shares (SingleCopyEnd words) h ready may = absurd (cc)
-waits_tested limits members again m shares Barrier h ready may = tt
-waits_tested limits members again m shares RegionEnd h ready may = tt
-waits_tested limits members again m shares Resume h ready may = absurd may
-waits_tested limits members again m shares Stop h ready may = absurd (cc)
-
--- and it is what is kept
-some_meant : (waiting : Waiting) → Some (meant Resume (open_call (Some waiting))) ≡ open_call (Some waiting)
-some_meant (Start what) = refl
-some_meant (Turn what) = refl
-some_meant (Arrive how) = refl
-
-kept_is : (members : ℕ) (again : Bool) (m : ℕ) (call : Call) (waiting : Option Waiting) (h : List Event) → MayReply members again m (meant call (open_call waiting)) Wait h →
-    Some (meant call (open_call waiting)) ≡ open_call (wait_for call waiting)
-kept_is members again m (LoopStart loop) waiting h may = refl
-kept_is members again m LoopNext waiting h may = refl
-kept_is members again m (OrderedStart value) waiting h may = refl
-kept_is members again m OrderedEnd waiting h may = absurd (cc)
-kept_is members again m LoopEnd waiting h may = refl
-kept_is members again m LoopEndNowait waiting h may = absurd (cc)
-kept_is members again m (SectionsStart count end_kind) waiting h may = refl
-kept_is members again m SectionsNext waiting h may = absurd (section_never_waits members m (open_share m h) h may)
-kept_is members again m SectionsEnd waiting h may = refl
-kept_is members again m SectionsEndNowait waiting h may = absurd (cc)
-kept_is members again m SingleStart waiting h may = refl
-kept_is members again m SingleCopyStart waiting h may = refl
-kept_is members again m (SingleCopyEnd words) waiting h may = absurd (cc)
-kept_is members again m Barrier waiting h may = refl
-kept_is members again m RegionEnd waiting h may = refl
-kept_is members again m Resume None h may = absurd may
-kept_is members again m Resume (Some waiting) h may = some_meant waiting
-kept_is members again m Stop waiting h may = absurd (cc)
-
-own_wait : (limits : Limits) (members : ℕ) (step : Step) (reply : Reply) (waiting : Option Waiting) (before : Record) → (waits_of step.member before).open_call ≡ open_call waiting → MayBeRepeated limits step.member (open_call waiting) (events before) →
-    IsReady limits (is_resume step.call) step.member (meant step.call (open_call waiting)) (events before) →
-    MayReply members (is_resume step.call) step.member (meant step.call (open_call waiting)) reply (events before) →
-    WaitStands limits step.member (waiting_after reply step.call waiting) ((step, reply) ∷ before)
-own_wait limits members step Wait waiting before is tested ready may =
-    let kept = kept_is members (is_resume step.call) step.member step.call waiting (events before) may in
-    let again = waits_tested limits members (is_resume step.call) step.member (entered step.member (events before)) (meant step.call (open_call waiting)) (events before) ready may in
+-- a mismatch breaks the team at its place, and changes no more
+pub stands_broken : {S : Type 0} (stands : S → List Event → Type 0) (members : S → ℕ) (team : TeamView S) (before : Record) (step : Step) (place : Place) → Stands stands members team before →
+    MayAnswer (past team before) step (Refused Mismatch) → refusal_of (past team before) step ≡ Some Mismatch → place ≡ (row_at (past team before) step).place step.member (past team before).events →
+    ((h : List Event) → stands team.shares h → stands team.shares (Break step.member place ∷ h)) → ((h : List Event) → BarriersStand team.barriers h → BarriersStand team.barriers (Break step.member place ∷ h)) →
+    ((h : List Event) → PayloadsStand (members_of team) team.payloads h → PayloadsStand (members_of team) team.payloads (Break step.member place ∷ h)) →
+    Stands stands members (record team { broken = Some (record { member = step.member; place = place }) }) ((step, Refused Mismatch) ∷ before)
+stands_broken stands members team before step place st may is at shares barriers payloads =
+    let p = past team before in
+    let same : (past team ((step, Refused Mismatch) ∷ before)).events ≡ Break step.member place ∷ p.events = ap (λ (there : Place). Break step.member there ∷ p.events) (sym at) in
+    let clash : Some (record { member = step.member; place = place }) ≡ clash_of (Break step.member place ∷ p.events) = rw (whole_before p step is) refl in
     record {
-      call_is = ap (λ (w : Waits). w.open_call) (waits_own step Wait before) ∙ ap (λ (w : Option Call). Some (meant step.call w)) is ∙ kept;
-      tested = rw (is, ← kept) again;
+      caused = (may, st.caused);
+      shares_are = subst (stands team.shares) (sym same) (shares p.events st.shares_are);
+      barriers_are = subst (BarriersStand team.barriers) (sym same) (barriers p.events st.barriers_are);
+      payloads_are = subst (PayloadsStand (members_of team) team.payloads) (sym same) (payloads p.events st.payloads_are);
+      broken_is = clash ∙ ap clash_of (sym same);
+      wait = λ k waiting there. waits_refused p step k ∙ st.wait k waiting there;
+      size = st.size;
+      limits_are = st.limits_are;
+      shares_size = st.shares_size;
+      barriers_size = st.barriers_size;
     }
-own_wait limits members step (Refused refusal) waiting before is tested ready may =
-    absurd (not_refused members (is_resume step.call) step.member (meant step.call (open_call waiting)) refusal (events before) may)
-own_wait limits members step reply waiting before is tested ready may = record { call_is = ap (λ (w : Waits). w.open_call) (waits_own step reply before); tested = tt }
+
+-- No refusal is for want of memory
+pub refused_memory : (p : Past) (step : Step) (refusal : Refusal) → MayAnswer p step (Refused refusal) → refusal_of p step ≡ Some refusal → Refused refusal ≢ Refused NoMemory
+refused_memory p step NoMemory may is same = absurd (let none = may.0 in cc)
+refused_memory p step refusal may is same = cc
+
+-- An answer
+
+pub may_answer : (p : Past) (step : Step) (reply : Reply) → refusal_of p step ≡ None → MayReply (row_at p step) (is_resume step.call) step.member p reply → MayAnswer p step reply
+may_answer p step (Refused refusal) none may = absurd ((sound (meant step.call (p.waits step.member))).accepts step.member _ refusal may)
+may_answer p step reply none may = (none, may)
+
+pub never_refused : (p : Past) (step : Step) (refusal : Refusal) (reply : Reply) → MayReply (row_at p step) (is_resume step.call) step.member p reply → reply ≡ Refused refusal → ⊥
+never_refused p step refusal (Refused other) may same = (sound (meant step.call (p.waits step.member))).accepts step.member _ other may
+never_refused p step refusal _ may same = cc
 
 -- a reply that breaks nothing leaves the team as whole as it was
-whole_since : (reply : Reply) (m : ℕ) (call : Call) (h : List Event) → breaks reply ≡ false → KeptBy reply m call (λ after. clash_of after ≡ clash_of h)
-whole_since reply m call h whole (Break n place) after by same = absurd (let broken = by.1 in cc)
-whole_since reply m call h whole _ after by same = same
+last_whole : (can : Gives) (m : ℕ) (reply : Reply) (event : Event) (h after : List Event) → breaks reply ≡ false → IsLast can m reply event → clash_of after ≡ clash_of h → clash_of (event ∷ after) ≡ clash_of h
+last_whole can m reply (Break n place) h after whole by same = absurd (let broken = by.1 in cc)
+last_whole can m reply _ h after whole by same = same
 
-clash_kept : (again : Bool) (m shares : ℕ) (call : Call) (reply : Reply) (h : List Event) → breaks reply ≡ false → clash_of (added again m shares reply call h) ≡ clash_of h
-clash_kept again m shares call reply h whole = added_keeps (λ after. clash_of after ≡ clash_of h) again m shares reply call h (whole_since reply m call h whole) refl
+clash_kept : (call : Call) (again : Bool) (m : ℕ) (p : Past) (reply : Reply) → breaks reply ≡ false → MayReply (row_of call) again m p reply → clash_of (given_after (row_of call) again m p reply) ≡ clash_of p.events
+clash_kept call again m p reply whole may =
+    subst (λ (h : List Event). clash_of h ≡ clash_of p.events) (events_given call again m p reply may)
+    (step_keeps (row_of call) (sound call) again m p reply (λ h. clash_of h ≡ clash_of p.events) (λ event h by same. last_whole (gives_of (row_of call)) m reply event p.events h whole by same) refl)
 
-breaks_not : (members : ℕ) (again : Bool) (m : ℕ) (call : Call) (reply : Reply) (h : List Event) → (reply ≡ Stopped → ⊥) → MayReply members again m call reply h → breaks reply ≡ false
-breaks_not members again m call Stopped h goes may = absurd (goes refl)
-breaks_not members again m call (Refused refusal) h goes may = absurd (not_refused members again m call refusal h may)
-breaks_not members again m call _ h goes may = refl
+stops_there : (call : Call) (again : Bool) (m : ℕ) (p : Past) (broken : Option Clash) → call ≡ Stop → clash_of p.events ≡ None → broken_after broken m Stopped ≡ clash_of (given_after (row_of call) again m p Stopped)
+stops_there call again m p broken stop whole = rw stop (rw whole refl)
 
-clash_after : (members : ℕ) (again : Bool) (m : ℕ) (call : Call) (result : Result Reply Place) (broken : Option Clash) (h : List Event) → IsAnswer members again m call result h → broken ≡ clash_of h → clash_of h ≡ None →
-    broken_after broken m result ≡ clash_of (added again m (entered m h) (reply_to result) call h)
-clash_after members again m call (Ok Stopped) broken h is same sound = rw sound refl
-clash_after members again m call (Ok reply) broken h is same sound = same ∙ sym (clash_kept again m (entered m h) call reply h (breaks_not members again m call reply h (λ e. cc) is.1))
-clash_after members again m call (Err place) broken h is same sound = rw (is.1, sound) refl
+clash_after : (call : Call) (again : Bool) (m : ℕ) (p : Past) (reply : Reply) (broken : Option Clash) → MayReply (row_of call) again m p reply → (reply ≡ Stopped → call ≡ Stop) → broken ≡ clash_of p.events → clash_of p.events ≡ None →
+    broken_after broken m reply ≡ clash_of (given_after (row_of call) again m p reply)
+clash_after call again m p Stopped broken may stops is whole = stops_there call again m p broken (stops refl) whole
+clash_after call again m p (Refused refusal) broken may stops is whole = absurd ((sound call).accepts m _ refusal may)
+clash_after call again m p reply broken may stops is whole = is ∙ sym (clash_kept call again m p reply refl may)
 
--- what is kept of the member's wait, after its answer
-wait_after : (limits : Limits) (members : ℕ) (step : Step) (result : Result Reply Place) (waiting : Option Waiting) (before : Record) → (waits_of step.member before).open_call ≡ open_call waiting → MayBeRepeated limits step.member (open_call waiting) (events before) →
-    IsReady limits (is_resume step.call) step.member (meant step.call (open_call waiting)) (events before) →
-    IsAnswer members (is_resume step.call) step.member (meant step.call (open_call waiting)) result (events before) →
-    WaitStands limits step.member (waiting_after (reply_to result) step.call waiting) ((step, reply_to result) ∷ before)
-wait_after limits members step (Ok reply) waiting before is tested ready answer = own_wait limits members step reply waiting before is tested ready answer.1
-wait_after limits members step (Err place) waiting before is tested ready answer = record {
-  call_is = ap (λ (w : Waits). w.open_call) (waits_own step (Refused Mismatch) before) ∙ is;
-  tested = tested_kept limits step.member (open_call waiting) (events before) (events ((step, Refused Mismatch) ∷ before)) (record { number = refl; share = refl; drained = refl; piece = refl; begun = refl; within = refl }) tested;
-}
+whole_tests : (clash : Option Clash) → AllFail (broken_tests clash) → clash ≡ None
+whole_tests None fail = refl
+whole_tests (Some clash) fail = absurd (let broken = fail.0 in cc)
 
--- A step that none of those tests refuses, and its answer
+pub whole_now : (p : Past) (step : Step) → refusal_of p step ≡ None → clash_of p.events ≡ None
+whole_now p step none = whole_tests (clash_of p.events) (passes p step none).member.1.1
 
--- a step that no test of the member alone refuses
-pub step_ready : {S : Type 0} (stands : S → List Event → Type 0) (members : S → ℕ) (team : TeamView S) (before : Record) (step : Step) (waiting : Option Waiting) → Stands stands members team before → slice_get team.waiting step.member ≡ Some waiting →
-    first_refusal (alone (terms_of team) step (waits_of step.member before).open_call (events before)) ≡ None →
-    IsReady team.limits (is_resume step.call) step.member (meant step.call (open_call waiting)) (events before)
-step_ready stands members team before step waiting st at none =
-    let own = st.wait step.member waiting at in
-    subst (λ (w : Option Call). IsReady team.limits (is_resume step.call) step.member (meant step.call w) (events before)) own.call_is
-    (ready (terms_of team) step (waits_of step.member before).open_call (events before) none (subst (λ (w : Option Call). MayBeRepeated team.limits step.member w (events before)) (sym own.call_is) own.tested))
+-- the team with what an answer to this step leaves
+abbrev pub team_after : {S : Type 0} → TeamView S → S → BarriersView → List (Option Put) → Step → Option Call → Reply → TeamView S
+team_after team shares barriers payloads step waiting reply = record { icv = team.icv; limits = team.limits; broken = broken_after team.broken step.member reply; waiting = slice_set team.waiting step.member (wait_after reply step.call waiting); barriers = barriers; payloads = payloads; shares = shares }
 
--- what is known of such a step, of a member that waits for this, and of its answer
-pub record Admitted {S : Type 0} (stands : S → List Event → Type 0) (members : S → ℕ) (team : TeamView S) (before : Record) (step : Step) (waiting : Option Waiting) (result : Result Reply Place) : Type 0 where
-  pub stand : Stands stands members team before
-  pub at : slice_get team.waiting step.member ≡ Some waiting
-  pub none : first_refusal (alone (terms_of team) step (waits_of step.member before).open_call (events before)) ≡ None
-  pub may : IsReady team.limits (is_resume step.call) step.member (meant step.call (open_call waiting)) (events before)
-  pub answer : IsAnswer (members_of team) (is_resume step.call) step.member (meant step.call (open_call waiting)) result (events before)
-
--- a refusal has its cause where it is the first test that holds
-abbrev pub RefusedFirst : Terms → Record → Step → Type 0
-RefusedFirst terms before step = (refusal : Refusal) → refusal_of terms step (waits_of step.member before).open_call (events before) ≡ Some refusal → MayAnswer terms before step (Refused refusal)
-
-pub step_answered : {S : Type 0} (stands : S → List Event → Type 0) (members : S → ℕ) (team : TeamView S) (before : Record) (step : Step) (waiting : Option Waiting) (result : Result Reply Place) →
-    Admitted stands members team before step waiting result → RefusedFirst (terms_of team) before step → MayAnswer (terms_of team) before step (reply_to result)
-step_answered stands members team before step waiting result admitted law =
-    answered (terms_of team) before step result admitted.stand.limits_are law admitted.none
-    (subst (λ (w : Option Call). IsAnswer (members_of team) (is_resume step.call) step.member (meant step.call w) result (events before)) (sym (admitted.stand.wait step.member waiting admitted.at).call_is) admitted.answer)
-
-pub stands_answered : {S : Type 0} (stands : S → List Event → Type 0) (members : S → ℕ) (team : TeamView S) (shares : S) (barriers : BarriersView) (payloads : List (Option Put)) (before : Record) (step : Step) (waiting : Option Waiting) (result : Result Reply Place) →
-    Admitted stands members team before step waiting result → RefusedFirst (terms_of team) before step →
-    PartsStand stands (members_of team) shares barriers payloads (added (is_resume step.call) step.member (entered step.member (events before)) (reply_to result) (meant step.call (open_call waiting)) (events before)) →
+pub stands_answered : {S : Type 0} (stands : S → List Event → Type 0) (members : S → ℕ) (team : TeamView S) (shares : S) (barriers : BarriersView) (payloads : List (Option Put)) (before : Record) (step : Step) (waiting : Option Call) (reply : Reply) →
+    Stands stands members team before → slice_get team.waiting step.member ≡ Some waiting → refusal_of (past team before) step ≡ None → MayReply (row_at (past team before) step) (is_resume step.call) step.member (past team before) reply →
+    (reply ≡ Stopped → meant step.call ((past team before).waits step.member) ≡ Stop) →
+    PartsStand stands (members_of team) shares barriers payloads (given_after (row_at (past team before) step) (is_resume step.call) step.member (past team before) reply) →
     members shares ≡ members team.shares → barrier_members barriers ≡ barrier_members team.barriers →
-    Stands stands members (record { icv = team.icv; limits = team.limits; broken = broken_after team.broken step.member result; waiting = slice_set team.waiting step.member (waiting_after (reply_to result) step.call waiting); barriers = barriers; payloads = payloads; shares = shares }) ((step, reply_to result) ∷ before)
-stands_answered stands members team shares barriers payloads before step waiting result admitted law parts shares_same barriers_same =
-    let st = admitted.stand in
-    let own = st.wait step.member waiting admitted.at in
-    let adds : events ((step, reply_to result) ∷ before) ≡ added (is_resume step.call) step.member (entered step.member (events before)) (reply_to result) (meant step.call (open_call waiting)) (events before) =
-    ap (λ (w : Option Call). added (is_resume step.call) step.member (entered step.member (events before)) (reply_to result) (meant step.call w) (events before)) own.call_is in
-    let size : length (slice_set team.waiting step.member (waiting_after (reply_to result) step.call waiting)) ≡ length team.waiting = length-set team.waiting step.member (waiting_after (reply_to result) step.call waiting) in
+    Stands stands members (team_after team shares barriers payloads step waiting reply) ((step, reply) ∷ before)
+stands_answered stands members team shares barriers payloads before step waiting reply st at none may stops parts shares_same barriers_same =
+    let p = past team before in
+    let call = meant step.call (p.waits step.member) in
+    let adds : (past team ((step, reply) ∷ before)).events ≡ given_after (row_of call) (is_resume step.call) step.member p reply = events_given call (is_resume step.call) step.member p reply may in
+    let after = team_after team shares barriers payloads step waiting reply in
+    let size : members_of after ≡ members_of team = length-set team.waiting step.member (wait_after reply step.call waiting) in
+    let terms : terms_of team ≡ terms_of after = ap (λ (n : ℕ). record { members = n; limits = team.limits; cancellation = team.icv.cancellation }) (sym size) in
+    let here : Past = past_of (terms_of team) ((step, reply) ∷ before) in
     record {
-      caused = subst (λ (n : ℕ). Caused (record { members = n; limits = team.limits; cancellation = team.icv.cancellation }) ((step, reply_to result) ∷ before)) (sym size)
-          (step_answered stands members team before step waiting result admitted law, st.caused);
-      shares_are = subst (stands shares) (sym adds) parts.0.0;
-      barriers_are = subst (BarriersStand barriers) (sym adds) parts.0.1;
-      payloads_are = subst (λ (n : ℕ). PayloadsStand n payloads (events ((step, reply_to result) ∷ before))) (sym size) (subst (PayloadsStand (members_of team) payloads) (sym adds) parts.1);
-      broken_is = clash_after (members_of team) (is_resume step.call) step.member (meant step.call (open_call waiting)) result team.broken (events before) admitted.answer st.broken_is (whole (terms_of team) step (waits_of step.member before).open_call (events before) admitted.none) ∙ ap clash_of (sym adds);
-      wait = λ k other there. elim (slice_get-set team.waiting step.member k (waiting_after (reply_to result) step.call waiting) other there) [
-        | inl e ↦ rw (e.0, e.1) (wait_after team.limits (members_of team) step result waiting before own.call_is own.tested admitted.may admitted.answer)
-        | inr e ↦ let old = st.wait k other e.1 in record {
-          call_is = ap (λ (w : Waits). w.open_call) (waits_other k step (reply_to result) before e.0) ∙ old.call_is;
-          tested = subst (MayBeRepeated team.limits k (open_call other)) (sym adds)
-              (tested_kept team.limits k (open_call other) (events before) _ (same_other (is_resume step.call) k step.member (entered step.member (events before)) (reply_to result) (meant step.call (open_call waiting)) (events before) (other_number step.member k (λ same. e.0 (sym same)))) old.tested);
-        }
-      ];
+      caused = subst (λ (t : Terms). Caused t ((step, reply) ∷ before)) terms (may_answer p step reply none may, st.caused);
+      shares_are = subst (λ (t : Terms). stands shares (past_of t ((step, reply) ∷ before)).events) terms (subst (stands shares) (sym adds) parts.0);
+      barriers_are = subst (λ (t : Terms). BarriersStand barriers (past_of t ((step, reply) ∷ before)).events) terms (subst (BarriersStand barriers) (sym adds) parts.1);
+      payloads_are = subst (λ (n : ℕ). PayloadsStand n payloads (past after ((step, reply) ∷ before)).events) (sym size)
+          (subst (λ (t : Terms). PayloadsStand (members_of team) payloads (past_of t ((step, reply) ∷ before)).events) terms (subst (PayloadsStand (members_of team) payloads) (sym adds) parts.2));
+      broken_is = subst (λ (t : Terms). broken_after team.broken step.member reply ≡ clash_of (past_of t ((step, reply) ∷ before)).events) terms
+          (clash_after call (is_resume step.call) step.member p reply team.broken may stops st.broken_is (whole_now p step none) ∙ ap clash_of (sym adds));
+      wait = λ k other there. subst (λ (t : Terms). (past_of t ((step, reply) ∷ before)).waits k ≡ other) terms (elim (slice_get-set team.waiting step.member k (wait_after reply step.call waiting) other there) [
+        | inl e ↦ own_wait p step reply k other waiting (st.wait step.member waiting at) e.0 e.1
+        | inr e ↦ at_other step.member k (wait_after reply step.call (p.waits k)) (p.waits k) e.0 ∙ st.wait k other e.1
+      ]);
       size = subst IsTeamSize (sym size) st.size;
       limits_are = st.limits_are;
       shares_size = shares_same ∙ st.shares_size ∙ sym size;
       barriers_size = barriers_same ∙ st.barriers_size ∙ sym size;
     }
+  where
+    own_wait : (p : Past) (step : Step) (reply : Reply) (k : ℕ) (other waiting : Option Call) → p.waits step.member ≡ waiting → k ≡ step.member → other ≡ wait_after reply step.call waiting →
+        (if step.member == k then wait_after reply step.call (p.waits k) else p.waits k) ≡ other
+    own_wait p step reply k other waiting is same e =
+        rw (same, e) (at_own step.member (wait_after reply step.call (p.waits step.member)) (p.waits step.member) ∙ ap (wait_after reply step.call) is)
 
 -- A list of steps
 
@@ -339,31 +255,11 @@ all_done yielded (s ∷ rest) steps e none = absurd (omega arith)
 pub terms_are : {S : Type 0} (team : TeamView S) (count : ℕ) (icv : Variables) → length team.waiting ≡ count → team.icv ≡ icv → team.limits ≡ standard → terms_of team ≡ standard_terms count icv
 terms_are team count icv members same limits = rw (members, same, limits) refl
 
--- No reply for want of memory
-
-no_refusal_kept : (reply : Reply) (members : ℕ) (again : Bool) (m : ℕ) (call : Call) (h : List Event) → MayReply members again m call reply h → reply ≢ Refused NoMemory
-no_refusal_kept (Refused refusal) members again m call h may = absurd (not_refused members again m call refusal h may)
-no_refusal_kept _ members again m call h may = λ same. absurd (cc)
-
-pub answer_memory : (members : ℕ) (again : Bool) (m : ℕ) (call : Call) (result : Result Reply Place) (h : List Event) → IsAnswer members again m call result h → reply_to result ≢ Refused NoMemory
-answer_memory members again m call (Ok reply) h is = no_refusal_kept reply members again m call h is.1
-answer_memory members again m call (Err place) h is = λ same. absurd (cc)
-
-pub refused_memory : (terms : Terms) (step : Step) (before : Record) (found : Option Refusal) (refusal : Refusal) → IsFirst terms step before found → found ≡ Some refusal → Refused refusal ≢ Refused NoMemory
-refused_memory terms step before found refusal first some same =
-    let one : refusal ≡ NoMemory = cc in
-    absurd (quiet_memory refusal (quiet_alone terms step (waits_of step.member before).open_call (events before) refusal (sym first ∙ some)) one)
+-- Replies
 
 pub memory_more : (replies : List Reply) (reply : Reply) → NoneForMemory replies → reply ≢ Refused NoMemory → NoneForMemory (replies ++ reply ∷ [])
 memory_more [] reply all one = (one, tt)
 memory_more (first ∷ replies) reply all one = (all.0, memory_more replies reply all.1 one)
-
--- A refusal that is no mismatch
-
-pub answer_breaks : (members : ℕ) (again : Bool) (m : ℕ) (call : Call) (result : Result Reply Place) (refusal : Refusal) (h : List Event) → IsAnswer members again m call result h → reply_to result ≡ Refused refusal → refusal ≡ Mismatch
-answer_breaks members again m call (Ok (Refused other)) refusal h is same = absurd (not_refused members again m call other h is.1)
-answer_breaks members again m call (Ok reply) refusal h is same = absurd (cc)
-answer_breaks members again m call (Err place) refusal h is same = cc
 
 -- What stays as it was
 
@@ -373,26 +269,27 @@ set_there [] i item at = absurd (cc)
 set_there (first ∷ items) zero item at = let same : first ≡ item = cc in ap (λ x. x ∷ items) (sym same)
 set_there (first ∷ items) (suc i) item at = ap (λ xs. first ∷ xs) (set_there items i item at)
 
--- the team with what an answer to this step leaves
-abbrev pub team_after : {S : Type 0} → TeamView S → S → BarriersView → List (Option Put) → Step → Option Waiting → Result Reply Place → TeamView S
-team_after team shares barriers payloads step waiting result = record { icv = team.icv; limits = team.limits; broken = broken_after team.broken step.member result; waiting = slice_set team.waiting step.member (waiting_after (reply_to result) step.call waiting); barriers = barriers; payloads = payloads; shares = shares }
+-- what is put twice is what was put last
+pub set_twice : {A : Type 0} (items : List A) (i : ℕ) (one other : A) → slice_set (slice_set items i one) i other ≡ slice_set items i other
+set_twice [] i one other = refl
+set_twice (first ∷ items) zero one other = refl
+set_twice (first ∷ items) (suc i) one other = ap (λ xs. first ∷ xs) (set_twice items i one other)
 
--- where the construct differs, the team breaks, and no more
-pub only_broken : {S : Type 0} (team : TeamView S) (shares : S) (barriers : BarriersView) (payloads : List (Option Put)) (step : Step) (waiting : Option Waiting) (result : Result Reply Place) (members : ℕ) (again : Bool) (call : Call) (h : List Event) →
-    slice_get team.waiting step.member ≡ Some waiting → IsAnswer members again step.member call result h → ((place : Place) → result ≡ Err place → ArePartsKept team.shares team.barriers team.payloads shares barriers payloads) → reply_to result ≡ Refused Mismatch →
-    team_after team shares barriers payloads step waiting result ≡ record team { broken = broken_after team.broken step.member result }
-only_broken team shares barriers payloads step waiting (Ok reply) members again call h at is kept same =
-    let refused : MayReply members again step.member call (Refused Mismatch) h = rw same at is.1 in
-    absurd (not_refused members again step.member call Mismatch h refused)
-only_broken team shares barriers payloads step waiting (Err place) members again call h at is kept same =
-    let parts = kept place refl in
-    rw (parts.0, parts.1, parts.2, set_there team.waiting step.member waiting at) refl
+-- a resume that is answered keeps the call open
+open_again : (m : ℕ) (p : Past) (call : Call) (waiting : Option Call) → AllFail ((row_of (meant call waiting)).compared (is_resume call) m p) → call ≡ Resume → wait_after Wait call waiting ≡ waiting
+open_again m p Resume None fail again = absurd (let shut = fail.0 in cc)
+open_again m p Resume (Some call) fail again = refl
+open_again m p _ waiting fail again = absurd (cc)
+
+compared_fails : (m : ℕ) (p : Past) (call : Call) (waiting : Option Call) → call ≡ Resume → AllFail (row_tests (is_resume call) (row_of (meant call waiting)) m p) → AllFail ((row_of (meant call waiting)).compared (is_resume call) m p)
+compared_fails m p Resume waiting again fail = fail
+compared_fails m p _ waiting again fail = absurd (cc)
 
 -- where a call that waits is asked about again and waits on, nothing changes
-pub waits_on : {S : Type 0} (team : TeamView S) (shares : S) (barriers : BarriersView) (payloads : List (Option Put)) (step : Step) (waiting : Option Waiting) (result : Result Reply Place) →
-    slice_get team.waiting step.member ≡ Some waiting → (result ≡ Ok Wait → ArePartsKept team.shares team.barriers team.payloads shares barriers payloads) → reply_to result ≡ Wait → step.call ≡ Resume →
-    team_after team shares barriers payloads step waiting result ≡ team
-waits_on team shares barriers payloads step waiting (Ok reply) at kept same resume =
-    let parts = kept (ap Ok same) in
-    rw (same, resume, parts.0, parts.1, parts.2, set_there team.waiting step.member waiting at) refl
-waits_on team shares barriers payloads step waiting (Err place) at kept same resume = absurd (cc)
+pub waits_on : {S : Type 0} (team : TeamView S) (shares : S) (barriers : BarriersView) (payloads : List (Option Put)) (p : Past) (step : Step) (waiting : Option Call) (reply : Reply) →
+    slice_get team.waiting step.member ≡ Some waiting → p.waits step.member ≡ waiting → refusal_of p step ≡ None → ArePartsKept team.shares team.barriers team.payloads shares barriers payloads → reply ≡ Wait → step.call ≡ Resume →
+    team_after team shares barriers payloads step waiting reply ≡ team
+waits_on team shares barriers payloads p step waiting reply at is none parts same resume =
+    let fail = compared_fails step.member p step.call (p.waits step.member) resume (passes p step none).row in
+    let stays : wait_after Wait step.call waiting ≡ waiting = rw (← is) (open_again step.member p step.call (p.waits step.member) fail resume) in
+    rw (same, parts.0, parts.1, parts.2, stays, set_there team.waiting step.member waiting at) refl

@@ -1,28 +1,24 @@
 -- The places of the words that executors of singles put stand for the events that follow.
-use Rattle.std.proofs.Common.{◌≡◌, ◌≢◌, ℕ, ◌+◌, ◌*◌, ◌-◌, ◌%◌, ◌/◌, ◌<◌, Bool, true, false, List, [], ◌∷◌, Option, Some, None, length, slice_get, slice_set, replicate, refl, ap, ◌∙◌, sym, subst, arith, suc, zero, inl, inr}
-use Rattle.std.specs.Prelude.{◌==◌, is_some, if◌then◌else◌}
+use Rattle.std.proofs.Common.{◌≡◌, ◌≢◌, ℕ, ◌+◌, ◌*◌, ◌-◌, ◌%◌, ◌/◌, ◌<◌, Bool, true, false, List, [], ◌∷◌, ◌++◌, Option, Some, None, length, slice_get, slice_set, replicate, refl, ap, ◌∙◌, sym, subst, arith, suc, zero, inl, inr}
+use Rattle.std.specs.Prelude.{◌==◌, not, is_some, if◌then◌else◌}
 use Rattle.std.proofs.lemmas.Bool.{cases_Bool, cases_lt}
 use Rattle.std.proofs.lemmas.List.{length-set}
 use Rattle.std.proofs.Math.Nat.{div-add-mod}
-use Rattle.gomp_types.specs.declared.call.Call.{Call}
-use Rattle.gomp_types.specs.declared.call.Call.TheVariants.{SingleCopyEnd}
-use Rattle.gomp_types.specs.declared.limits.Limits.{Limits}
-use Rattle.gomp_types.specs.declared.reply.Reply.{Reply}
-use Rattle.gomp_types.specs.declared.reply.Reply.TheVariants.{Finished}
+use Rattle.gomp_types.specs.declared.refusal.Refusal.{Refusal}
+use Rattle.gomp_types.specs.declared.refusal.Refusal.TheVariants.{NotInside}
 use Rattle.gomp_types.specs.declared.shape.Shape.{Shape}
+use Rattle.gomp_types.specs.declared.seen.Seen.{Seen}
 use Rattle.gomp_types.specs.declared.event.Event.{Event}
 use Rattle.gomp_types.specs.declared.event.Event.TheVariants.{Enter, End, Put}
 use Rattle.gomp_types.specs.Events.{open_share, open_number, share_number, shape_at, is_over, payload_at}
-use Rattle.gomp_types.specs.Record.{added}
-use Rattle.gomp_core.specs.Answers.{IsReady}
 use Rattle.gomp_types.proofs.Booleans.{tells, is_equal, differs, same_number, not_both, some_of}
-use Rattle.gomp_types.proofs.Windows.{over_stays}
+use Rattle.gomp_shares.proofs.Windows.{over_stays}
 use Rattle.gomp_types.proofs.Lists.{slice_get-set_same, slice_get-set_other}
+use Rattle.gomp_types.specs.Least.{lesser, least}
+use Rattle.gomp_shares.specs.Singles.{is_executor, put_tests, words_put}
 use Rattle.gomp_core.specs.declared.payloads.Put.{Put as Kept}
 use Rattle.gomp_core.specs.Payloads.{there, PayloadsStand}
-use Rattle.gomp_types.proofs.Places.{puts, added_keeps}
-use Rattle.gomp_types.proofs.WordsToCome.{PutsNone}
-use Rattle.gomp_types.proofs.CallsKeep.{puts_none}
+use Rattle.gomp_laws.proofs.WordsToCome.{PutsNone}
 
 -- No words
 
@@ -68,17 +64,17 @@ aside_stands members places event h aside st = record {
   entered = λ i words at. entered_stays i event h (st.entered i words (sym (words_stay i event h aside) ∙ at));
 }
 
--- and so whatever a call that puts none adds
-pub rest_stands : (members : ℕ) (places : List (Option Kept)) (again : Bool) (m shares : ℕ) (reply : Reply) (call : Call) (h : List Event) → puts call ≡ false → PayloadsStand members places h →
-    PayloadsStand members places (added again m shares reply call h)
-rest_stands members places again m shares reply call h none st =
-    added_keeps (PayloadsStand members places) again m shares reply call h (λ event after by st. aside_stands members places event after (puts_none reply m call event none by) st) st
+pub words_aside : (members : ℕ) (places : List (Option Kept)) (h : List Event) (event : Event) → PutsNone event → PayloadsStand members places h → PayloadsStand members places (event ∷ h)
+words_aside members places h event aside st = aside_stands members places event h aside st
 
 -- The share that the member is in
 
+not_held : (b : Bool) (one : Refusal) → least ((b, one) ∷ []) ≡ None → b ≡ true → ⊥
+not_held b one none held = let some : lesser (Some one) None ≡ None = rw held at none in cc
+
 -- a member that is in no share executes no single
-pub needs_share : (limits : Limits) (m : ℕ) (words : List ℕ) (h : List Event) → open_share m h ≡ None → IsReady limits false m (SingleCopyEnd words) h → ⊥
-needs_share limits m words h outside ready = let none = rw outside at ready in cc
+pub needs_share : (seen : Seen) → least (put_tests seen) ≡ None → seen.current ≡ None → ⊥
+needs_share seen none outside = not_held (not (is_executor seen)) NotInside none (rw outside refl)
 
 -- two numbers with one place are a multiple of eight apart
 apart : (i j : ℕ) → j < i → i % 8 ≡ j % 8 → (k : ℕ) × (i ≡ 8 * suc k + j)
@@ -132,10 +128,10 @@ put_stands members places i m shape words h before st at open_ = record {
   ];
 }
 
-pub words_stand : (members : ℕ) (places after : List (Option Kept)) (i m shares : ℕ) (shape : Shape) (words : List ℕ) (h : List Event) → EightBefore members h → PayloadsStand members places h →
+pub words_stand : (members : ℕ) (places after : List (Option Kept)) (i m : ℕ) (shape : Shape) (words : List ℕ) (h : List Event) → EightBefore members h → PayloadsStand members places h →
     open_share m h ≡ Some (i, shape) → (shape_at i h ≡ Some shape) × (is_over members i h ≡ false) → after ≡ slice_set places (i % 8) (Some (record { share = i; words = words })) →
-    PayloadsStand members after (added false m shares Finished (SingleCopyEnd words) h)
-words_stand members places after i m shares shape words h before st own known is =
+    PayloadsStand members after (words_put words m h ++ h)
+words_stand members places after i m shape words h before st own known is =
     let number : open_number m h ≡ i = ap share_number own in
-    aside_stands members after (End (open_number m (Put (open_number m h) m words ∷ h)) m) (Put (open_number m h) m words ∷ h) tt
+    aside_stands members after (End (open_number m h) m) (Put (open_number m h) m words ∷ h) tt
     (rw (number, is) (put_stands members places i m shape words h before st known.0 known.1))

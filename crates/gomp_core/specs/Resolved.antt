@@ -5,7 +5,7 @@ use Rattle.gomp_types.specs.declared.call.Call.TheVariants.{LoopStart}
 use Rattle.gomp_types.specs.declared.call.Step.{Step}
 use Rattle.gomp_types.specs.declared.reply.Reply.{Reply}
 use Rattle.gomp_types.specs.Pieces.{resolved}
-use Rattle.gomp_types.specs.Record.{Record, record_after}
+use Rattle.gomp_model.specs.Team.{Record, record_after}
 use Rattle.gomp_icv.specs.Variables.{Variables}
 
 -- the call with the schedule that counts, where it is the start of a loop

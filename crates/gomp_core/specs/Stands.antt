@@ -1,5 +1,5 @@
 -- When a team stands for a record. (own)
-use Rattle.std.specs.Prelude.{ℕ, ◌≡◌, ◌≢◌, ◌≤◌, true, List, [], ◌∷◌, Option, Some, None, length, slice_get}
+use Rattle.std.specs.Prelude.{ℕ, ◌≡◌, ◌≢◌, List, [], ◌∷◌, Option, Some, length, slice_get}
 use Rattle.gomp_types.specs.declared.call.Call.{Call}
 use Rattle.gomp_types.specs.declared.limits.Limits.{Limits}
 use Rattle.gomp_types.specs.declared.refusal.Clash.{Clash}
@@ -7,62 +7,49 @@ use Rattle.gomp_types.specs.declared.refusal.Refusal.TheVariants.{NoMemory}
 use Rattle.gomp_types.specs.declared.reply.Reply.{Reply}
 use Rattle.gomp_types.specs.declared.reply.Reply.TheVariants.{Refused}
 use Rattle.gomp_types.specs.declared.event.Event.{Event}
-use Rattle.gomp_types.specs.declared.limits.TheConstants.{MAX_MEMBERS}
-use Rattle.gomp_types.specs.Limits.{standard, capped}
+use Rattle.gomp_types.specs.Limits.{standard, capped, IsTeamSize}
 use Rattle.gomp_types.specs.Events.{clash_of}
-use Rattle.gomp_types.specs.Record.{Record, waits_of, events}
-use Rattle.gomp_types.specs.Causes.{Terms, Caused}
+use Rattle.gomp_model.specs.Past.{Terms, Past}
+use Rattle.gomp_model.specs.Team.{Record, past_of, Caused}
 use Rattle.gomp_icv.specs.Variables.{Variables}
 use Rattle.gomp_barrier.specs.Stands.{BarriersView, Stands as BarriersStand, members_of as barrier_members}
-use Rattle.gomp_core.specs.declared.waiting.Waiting.{Waiting}
 use Rattle.gomp_core.specs.declared.payloads.Put.{Put}
 use Rattle.gomp_core.specs.Payloads.{PayloadsStand}
-use Rattle.gomp_core.specs.Waits.{open_call}
-use Rattle.gomp_core.specs.Answers.{IsReady}
 
 -- what a team keeps
 pub record TeamView (S : Type 0) : Type 0 where
   pub icv : Variables
   pub limits : Limits
   pub broken : Option Clash
-  -- what each member waits for
-  pub waiting : List (Option Waiting)
+  -- of each member the call that waits
+  pub waiting : List (Option Call)
   pub barriers : BarriersView
   -- the words that executors of singles put
   pub payloads : List (Option Put)
   pub shares : S
 
--- a call that waits may be repeated
-abbrev pub MayBeRepeated : Limits → ℕ → Option Call → List Event → Type 0
-MayBeRepeated limits m None h = Unit {0}
-MayBeRepeated limits m (Some call) h = IsReady limits true m call h
-
--- what is kept of a member's wait is what the record says of it
-pub record WaitStands (limits : Limits) (m : ℕ) (waiting : Option Waiting) (before : Record) : Type 0 where
-  pub call_is : (waits_of m before).open_call ≡ open_call waiting
-  pub tested : MayBeRepeated limits m (open_call waiting) (events before)
-
 abbrev pub members_of : {S : Type 0} → TeamView S → ℕ
 members_of team = length team.waiting
-
--- a team may have so many members
-abbrev pub IsTeamSize : ℕ → Type 0
-IsTeamSize count = (1 ≤ count) × (count ≤ MAX_MEMBERS)
 
 -- what the team was made with
 abbrev pub terms_of : {S : Type 0} → TeamView S → Terms
 terms_of team = record { members = members_of team; limits = team.limits; cancellation = team.icv.cancellation }
+
+-- what was before the team's next step
+abbrev pub past : {S : Type 0} → TeamView S → Record → Past
+past team before = past_of (terms_of team) before
 
 -- a team is as the record leaves it
 pub record Stands {S : Type 0} (stands : S → List Event → Type 0) (members : S → ℕ) (team : TeamView S) (before : Record) : Type 0 where
   -- every reply of the record has its cause
   pub caused : Caused (terms_of team) before
   -- the shares, the barriers and the words stand for the record's events
-  pub shares_are : stands team.shares (events before)
-  pub barriers_are : BarriersStand team.barriers (events before)
-  pub payloads_are : PayloadsStand (members_of team) team.payloads (events before)
-  pub broken_is : team.broken ≡ clash_of (events before)
-  pub wait : (m : ℕ) (waiting : Option Waiting) → slice_get team.waiting m ≡ Some waiting → WaitStands team.limits m waiting before
+  pub shares_are : stands team.shares (past team before).events
+  pub barriers_are : BarriersStand team.barriers (past team before).events
+  pub payloads_are : PayloadsStand (members_of team) team.payloads (past team before).events
+  pub broken_is : team.broken ≡ clash_of (past team before).events
+  -- and of each member the call that waits is kept
+  pub wait : (m : ℕ) (waiting : Option Call) → slice_get team.waiting m ≡ Some waiting → (past team before).waits m ≡ waiting
   -- it has 1 to 64 members
   pub size : IsTeamSize (members_of team)
   -- no limit is above the standard one

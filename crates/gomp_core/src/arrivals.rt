@@ -4,78 +4,121 @@
 //! OpenMP API 5.2, sections 15.3.1 and 15.3.2; libgomp's `GOMP_barrier`, `GOMP_loop_end`,
 //! `GOMP_sections_end` and `GOMP_parallel_end`.
 
-ghost use Rattle.std.specs.Prelude.{◌≡◌, ◌<◌, ℕ, List, false, Ok, Err};
+ghost use Rattle.std.specs.Prelude.{◌≡◌, ◌≢◌, ◌<◌, ◌++◌, ℕ, List, false, true, None};
 ghost use Rattle.gomp_types.specs.declared.event.Event.{Event};
-ghost use Rattle.gomp_types.specs.Events.{entered, passed, barrier_met};
-ghost use Rattle.gomp_types.specs.Record.{added, share_left, ends_share};
-ghost use Rattle.gomp_types.specs.Replies.{Awaits};
-ghost use Rattle.gomp_types.specs.declared.reply.Reply.TheVariants.{Wait};
-ghost use Rattle.gomp_types.specs.declared.refusal.Place.{Place};
-ghost use Rattle.gomp_share_plain.specs.Calls.{EachStands};
+ghost use Rattle.gomp_types.specs.declared.event.Arrival.TheVariants.{ShareEnd};
+ghost use Rattle.gomp_types.specs.declared.loop_desc.EndKind.TheVariants.{Wait as WaitEnd};
+ghost use Rattle.gomp_types.specs.Events.{passed, barrier_met};
+ghost use Rattle.gomp_types.specs.declared.reply.Reply.TheVariants.{Wait, Stopped};
+ghost use Rattle.gomp_types.specs.Least.{least};
+ghost use Rattle.gomp_types.specs.Seen.{seen_of};
+ghost use Rattle.gomp_types.specs.Tests.{outcome};
+ghost use Rattle.gomp_shares.specs.Calls.{EachStands, left_unless_refused};
+ghost use Rattle.gomp_shares.specs.Own.{end_tests_of};
 ghost use Rattle.gomp_barrier.specs.Stands.{Stands as BarriersStand, members_of as barrier_members};
-ghost use Rattle.gomp_core.specs.Waits.{arrival_call};
-ghost use Rattle.gomp_core.specs.Answers.{EachBothStand, BothStand, MayLeave, IsAnswer, reply_to, passed_after};
+ghost use Rattle.gomp_model.specs.Past.{Past};
+ghost use Rattle.gomp_model.specs.Arrivals.{Awaits, passes, compared_arrival, arrival, ending};
+ghost use Rattle.gomp_core.specs.Answers.{MayReply, given_after, BothStand, left_once};
 
-use crate::waiting::Arriving;
 use gomp_barrier::Barriers;
-use gomp_share_plain::Shares;
-use gomp_types::{Place, Refusal, Reply, Tag};
+use gomp_shares::{Construct, Shares};
+use gomp_types::{Arrival, Refusal, Reply, Tag};
 
-/// The member arrives at its next barrier, and passes it where all have arrived. Where a
-/// construct ends there, the member has left it before it arrives.
-///
-/// The error is the place where its arrival differs from those of other members; then it stays where
-/// it is, in its construct too, and so the arrival is compared before that is left.
-pub fn arrive<S: Shares>(
+/// Ends a construct with a barrier at its end, or goes on at that (`again`): the member leaves the
+/// construct, arrives, and passes where all have arrived.
+pub fn end_reply<S: Shares>(
     shares: &mut S,
     barriers: &mut Barriers,
     member: u16,
-    how: Arriving,
-) -> Result<Reply, Place>
-    requires shares { member < S.members shares.old }
-    requires barriers { member < barrier_members barriers.old }
+    construct: Construct,
+    again: bool,
+) -> Reply
+    requires member { member < S.members shares.old }
+    requires team { barrier_members barriers.old ≡ S.members shares.old }
+    requires place { again ≡ false → least (end_tests_of construct WaitEnd (S.seen shares.old member)) ≡ None }
+    requires same { (h : List Event) × BothStand S.stands shares.old barriers.old h × least (compared_arrival ShareEnd again member h) ≡ None }
     ensures members { S.members shares.new ≡ S.members shares.old }
     ensures barriers { barrier_members barriers.new ≡ barrier_members barriers.old }
-    ensures kept_shares { (place : Place) → result ≡ Err place → shares.new ≡ shares.old }
-    ensures kept_barriers { (place : Place) → result ≡ Err place → barriers.new ≡ barriers.old }
-    ensures answer { EachBothStand S.stands shares.old barriers.old (λ h. MayLeave how member h → IsAnswer (barrier_members barriers.old) false member (arrival_call how) result h) }
-    ensures stands { EachBothStand S.stands shares.old barriers.old (λ h. MayLeave how member h → BothStand S.stands shares.new barriers.new (added false member (entered member h) (reply_to result) (arrival_call how) h)) }
+    ensures again { again ≡ true → result ≡ Wait → (shares.new ≡ shares.old) × (barriers.new ≡ barriers.old) }
+    ensures stops { result ≢ Stopped }
+    ensures answer { (p : Past) → p.terms.members ≡ S.members shares.old → BothStand S.stands shares.old barriers.old p.events → MayReply (ending (end_tests_of construct WaitEnd) (arrival ShareEnd)) again member p result }
+    ensures stands { (p : Past) → p.terms.members ≡ S.members shares.old → BothStand S.stands shares.old barriers.old p.events → BothStand S.stands shares.new barriers.new (given_after (ending (end_tests_of construct WaitEnd) (arrival ShareEnd)) again member p result) }
 {
     gomp_barrier::aside();
+    leave(shares, member, construct, again);
+    arrival_reply(shares, barriers, member, Arrival::ShareEnd, again)
+}
+
+/// The member arrives at its next barrier, or goes on there (`again`), and passes it where all have
+/// arrived.
+pub fn arrival_reply<S: Shares>(
+    shares: &S,
+    barriers: &mut Barriers,
+    member: u16,
+    kind: Arrival,
+    again: bool,
+) -> Reply
+    requires member { member < S.members shares.now }
+    requires team { barrier_members barriers.old ≡ S.members shares.now }
+    requires same { (h : List Event) × BothStand S.stands shares.now barriers.old h × least (compared_arrival kind again member h) ≡ None }
+    ensures barriers { barrier_members barriers.new ≡ barrier_members barriers.old }
+    ensures again { again ≡ true → result ≡ Wait → barriers.new ≡ barriers.old }
+    ensures stops { result ≢ Stopped }
+    ensures answer { (p : Past) → p.terms.members ≡ S.members shares.now → BothStand S.stands shares.now barriers.old p.events → MayReply (arrival kind) again member p result }
+    ensures stands { (p : Past) → p.terms.members ≡ S.members shares.now → BothStand S.stands shares.now barriers.old p.events → BothStand S.stands shares.now barriers.new (given_after (arrival kind) again member p result) }
+{
+    if again {
+        return pass_or_wait(barriers, member);
+    }
     let tag = Tag {
-        kind: how.kind(),
+        kind,
         shares: shares.look(member).entered,
     };
     if !barriers.arrive(member, tag) {
-        return Err(Place::Barrier(barriers.look(member).number));
+        unreachable!()
     }
-    match leave(shares, member, how) {
-        Ok(()) => Ok(pass_or_wait(barriers, member)),
-        // Not where `MayLeave` holds, as `answer` sees to.
-        Err(refusal) => Ok(Reply::Refused(refusal)),
-    }
+    pass_or_wait(barriers, member)
 }
 
-/// Leaves the construct that ends with this arrival, where one does.
-fn leave<S: Shares>(shares: &mut S, member: u16, how: Arriving) -> Result<(), Refusal>
+/// Leaves the construct, at the end of which a barrier stands; nothing changes where the call is
+/// repeated (`again`).
+fn leave<S: Shares>(shares: &mut S, member: u16, construct: Construct, again: bool)
     requires member { member < S.members shares.old }
+    requires place { again ≡ false → least (end_tests_of construct WaitEnd (S.seen shares.old member)) ≡ None }
     ensures members { S.members shares.new ≡ S.members shares.old }
-    ensures left { EachStands (S.stands shares.old) (λ h. MayLeave how member h → (result ≡ Ok tt) × S.stands shares.new (share_left (ends_share (arrival_call how)) member h)) }
+    ensures kept { again ≡ true → shares.new ≡ shares.old }
+    ensures left { EachStands (S.stands shares.old) (λ h. S.stands shares.new (left_once again member h)) }
 {
-    match how {
-        Arriving::LoopEnd => gomp_loops::loop_end(shares, member),
-        Arriving::SectionsEnd => gomp_sections::sections_end(shares, member),
-        Arriving::Barrier | Arriving::RegionEnd => Ok(()),
+    if again {
+        return;
+    }
+    let Ok(()) = end(shares, member, construct) else {
+        unreachable!()
+    };
+}
+
+/// Ends the construct, at the end of which a barrier stands.
+fn end<S: Shares>(shares: &mut S, member: u16, construct: Construct) -> Result<(), Refusal>
+    requires { member < S.members shares.old }
+    ensures members { S.members shares.new ≡ S.members shares.old }
+    ensures known { (h : List Event) × S.stands shares.old h }
+    ensures answer { EachStands (S.stands shares.old) (λ h. result ≡ outcome (least (end_tests_of construct WaitEnd (seen_of member h))) tt) }
+    ensures stands { EachStands (S.stands shares.old) (λ h. S.stands shares.new (left_unless_refused result member h)) }
+{
+    match construct {
+        Construct::Loop => gomp_loops::loop_end(shares, member),
+        Construct::Sections => gomp_sections::sections_end(shares, member),
     }
 }
 
 /// The member passes the barrier at which it has arrived, where every member has; else it waits on.
-pub fn pass_or_wait(barriers: &mut Barriers, member: u16) -> Reply
+fn pass_or_wait(barriers: &mut Barriers, member: u16) -> Reply
     requires member { member < barrier_members barriers.old }
     ensures barriers { barrier_members barriers.new ≡ barrier_members barriers.old }
     ensures waits { result ≡ Wait → barriers.new ≡ barriers.old }
-    ensures answer { (h : List Event) → BarriersStand barriers.old h → Awaits (barrier_met (barrier_members barriers.old) (passed member h) h) result }
-    ensures stands { (h : List Event) → BarriersStand barriers.old h → BarriersStand barriers.new (passed_after result member h) }
+    ensures stops { result ≢ Stopped }
+    ensures answer { EachStands (BarriersStand barriers.old) (λ h. Awaits (barrier_met (barrier_members barriers.old) (passed member h) h) result) }
+    ensures stands { EachStands (BarriersStand barriers.old) (λ h. BarriersStand barriers.new (passes member h result ++ h)) }
 {
     if barriers.turn(member) {
         Reply::Passed

@@ -3,18 +3,21 @@
 ghost use Rattle.std.specs.Prelude.{◌≡◌, ◌↔◌, ◌⊎◌, length, IfOk, Err, vec_len};
 ghost use Rattle.gomp_types.specs.declared.refusal.Refusal.{Refusal};
 ghost use Rattle.gomp_types.specs.declared.refusal.Refusal.TheVariants.{BadTeam, NoMemory};
-ghost use Rattle.gomp_types.specs.Record.{events};
-ghost use Rattle.gomp_types.specs.Causes.{Caused};
+ghost use Rattle.gomp_model.specs.Team.{events, Caused};
 ghost use Rattle.gomp_types.specs.Deals.{schedule};
-ghost use Rattle.gomp_types.specs.Rules.{Always};
-ghost use Rattle.gomp_types.specs.Laws.{TakenOnce, TakesItsOwn, WholeWhereOver, OrderedLaws, LeavesHandedOn, HandedOnWhereOver, PutsOnce, GetsWhatWasPut, LeavesWithWords, SameShares, SameArrivals, ArrivesOnce, ArrivesOutside, HappensUnbroken, HappensInside, TellsShares, PassesAfterAll, ClosesShares};
-ghost use Rattle.gomp_core.specs.Stands.{Stands, IsTeamSize, terms_of, standard_terms, NoneForMemory};
+ghost use Rattle.gomp_types.specs.Laws.{Always};
+ghost use Rattle.gomp_shares.specs.Laws.{TakenOnce, TakesItsOwn, WholeWhereOver, OrderedLaws, SameShares};
+ghost use Rattle.gomp_laws.specs.Laws.{LeavesHandedOn, HandedOnWhereOver, PutsOnce, GetsWhatWasPut, LeavesWithWords, ArrivesOnce, ArrivesOutside, HappensUnbroken, HappensInside, TellsShares, ClosesShares};
+ghost use Rattle.gomp_types.specs.Arrivals.{SameArrivals, PassesAfterAll};
+ghost use Rattle.gomp_core.specs.Stands.{Stands, terms_of, standard_terms, NoneForMemory};
+ghost use Rattle.gomp_types.specs.Limits.{IsTeamSize};
 ghost use Rattle.gomp_core.specs.Resolved.{record_of};
 
 use crate::team::Team;
 use gomp_icv::Icv;
-use gomp_share_plain::Shares;
-use gomp_types::{Refusal, Reply, Step, laws};
+use gomp_laws::laws;
+use gomp_shares::Shares;
+use gomp_types::{Refusal, Reply, Step};
 use std::alloc::Global;
 
 /// The replies of a new team of `count` members, by these control variables, to these steps, in
@@ -46,24 +49,24 @@ pub fn run<S: Shares + Drop>(
     ensures memory { IfOk result (λ ran. NoneForMemory ran.1.items) }
     ensures caused { IfOk result (λ ran. Caused (standard_terms count icv) (record_of icv steps.items ran.1.items)) }
     ensures stands { IfOk result (λ ran. Stands S.stands S.members ran.0 (record_of icv steps.items ran.1.items)) }
-    ensures taken_once { IfOk result (λ ran. TakenOnce (schedule count) (events (record_of icv steps.items ran.1.items))) }
-    ensures owned { IfOk result (λ ran. Always (TakesItsOwn count) (events (record_of icv steps.items ran.1.items))) }
-    ensures whole { IfOk result (λ ran. WholeWhereOver count (events (record_of icv steps.items ran.1.items))) }
-    ensures ordered { IfOk result (λ ran. OrderedLaws count (events (record_of icv steps.items ran.1.items))) }
-    ensures none_held { IfOk result (λ ran. Always (LeavesHandedOn count) (events (record_of icv steps.items ran.1.items))) }
-    ensures all_handed_on { IfOk result (λ ran. HandedOnWhereOver count (events (record_of icv steps.items ran.1.items))) }
-    ensures put_once { IfOk result (λ ran. Always PutsOnce (events (record_of icv steps.items ran.1.items))) }
-    ensures given_what_was_put { IfOk result (λ ran. Always GetsWhatWasPut (events (record_of icv steps.items ran.1.items))) }
-    ensures none_without_words { IfOk result (λ ran. Always LeavesWithWords (events (record_of icv steps.items ran.1.items))) }
-    ensures same_shares { IfOk result (λ ran. SameShares count (events (record_of icv steps.items ran.1.items))) }
-    ensures same_arrivals { IfOk result (λ ran. SameArrivals (events (record_of icv steps.items ran.1.items))) }
-    ensures arrive_once { IfOk result (λ ran. Always (ArrivesOnce count) (events (record_of icv steps.items ran.1.items))) }
-    ensures arrive_outside { IfOk result (λ ran. Always ArrivesOutside (events (record_of icv steps.items ran.1.items))) }
-    ensures one_order { IfOk result (λ ran. Always TellsShares (events (record_of icv steps.items ran.1.items))) }
-    ensures unbroken { IfOk result (λ ran. Always HappensUnbroken (events (record_of icv steps.items ran.1.items))) }
-    ensures in_region { IfOk result (λ ran. Always HappensInside (events (record_of icv steps.items ran.1.items))) }
-    ensures passes { IfOk result (λ ran. Always (PassesAfterAll count) (events (record_of icv steps.items ran.1.items))) }
-    ensures closes { IfOk result (λ ran. Always (ClosesShares count) (events (record_of icv steps.items ran.1.items))) }
+    ensures taken_once { IfOk result (λ ran. TakenOnce (schedule count) (events (standard_terms count icv) (record_of icv steps.items ran.1.items))) }
+    ensures owned { IfOk result (λ ran. Always (TakesItsOwn count) (events (standard_terms count icv) (record_of icv steps.items ran.1.items))) }
+    ensures whole { IfOk result (λ ran. WholeWhereOver count (events (standard_terms count icv) (record_of icv steps.items ran.1.items))) }
+    ensures ordered { IfOk result (λ ran. OrderedLaws count (events (standard_terms count icv) (record_of icv steps.items ran.1.items))) }
+    ensures none_held { IfOk result (λ ran. Always (LeavesHandedOn count) (events (standard_terms count icv) (record_of icv steps.items ran.1.items))) }
+    ensures all_handed_on { IfOk result (λ ran. HandedOnWhereOver count (events (standard_terms count icv) (record_of icv steps.items ran.1.items))) }
+    ensures put_once { IfOk result (λ ran. Always PutsOnce (events (standard_terms count icv) (record_of icv steps.items ran.1.items))) }
+    ensures given_what_was_put { IfOk result (λ ran. Always GetsWhatWasPut (events (standard_terms count icv) (record_of icv steps.items ran.1.items))) }
+    ensures none_without_words { IfOk result (λ ran. Always LeavesWithWords (events (standard_terms count icv) (record_of icv steps.items ran.1.items))) }
+    ensures same_shares { IfOk result (λ ran. SameShares count (events (standard_terms count icv) (record_of icv steps.items ran.1.items))) }
+    ensures same_arrivals { IfOk result (λ ran. SameArrivals (events (standard_terms count icv) (record_of icv steps.items ran.1.items))) }
+    ensures arrive_once { IfOk result (λ ran. Always (ArrivesOnce count) (events (standard_terms count icv) (record_of icv steps.items ran.1.items))) }
+    ensures arrive_outside { IfOk result (λ ran. Always ArrivesOutside (events (standard_terms count icv) (record_of icv steps.items ran.1.items))) }
+    ensures one_order { IfOk result (λ ran. Always TellsShares (events (standard_terms count icv) (record_of icv steps.items ran.1.items))) }
+    ensures unbroken { IfOk result (λ ran. Always HappensUnbroken (events (standard_terms count icv) (record_of icv steps.items ran.1.items))) }
+    ensures in_region { IfOk result (λ ran. Always HappensInside (events (standard_terms count icv) (record_of icv steps.items ran.1.items))) }
+    ensures passes { IfOk result (λ ran. Always (PassesAfterAll count) (events (standard_terms count icv) (record_of icv steps.items ran.1.items))) }
+    ensures closes { IfOk result (λ ran. Always (ClosesShares count) (events (standard_terms count icv) (record_of icv steps.items ran.1.items))) }
 {
     laws::headline();
     let mut team = Team::new(alloc, count, icv)?;

@@ -1,28 +1,30 @@
 //! A team that one thread steps.
 
-ghost use Rattle.std.specs.Prelude.{◌≡◌, ◌≢◌, ◌<◌, ◌↔◌, ◌⊎◌, ◌∷◌, ◌++◌, [], IfOk, Err};
+ghost use Rattle.std.specs.Prelude.{◌≡◌, ◌≢◌, ◌<◌, ◌↔◌, ◌⊎◌, ◌∷◌, List, [], IfOk, Err, None, replicate};
 ghost use Rattle.gomp_types.specs.declared.refusal.Refusal.{Refusal};
 ghost use Rattle.gomp_types.specs.declared.refusal.Refusal.TheVariants.{BadTeam, NoMemory, Mismatch};
-ghost use Rattle.gomp_types.specs.Limits.{capped, standard};
-ghost use Rattle.gomp_types.specs.Tests.{first_refusal};
-ghost use Rattle.gomp_types.specs.Record.{Record, events, waits_of};
-ghost use Rattle.gomp_types.specs.Refusals.{member_tests};
+ghost use Rattle.gomp_types.specs.Limits.{capped, standard, IsTeamSize};
 ghost use Rattle.gomp_types.specs.declared.reply.Reply.TheVariants.{Wait, Refused};
+ghost use Rattle.gomp_types.specs.declared.call.Call.{Call};
 ghost use Rattle.gomp_types.specs.declared.call.Call.TheVariants.{Resume};
-ghost use Rattle.gomp_types.specs.Causes.{MayAnswer};
-ghost use Rattle.gomp_types.specs.Headline.{Headline};
-ghost use Rattle.gomp_core.specs.Answers.{own_row};
-ghost use Rattle.gomp_core.specs.Stands.{Stands, IsTeamSize, terms_of, members_of};
+ghost use Rattle.gomp_types.specs.declared.event.Event.{Event};
+ghost use Rattle.gomp_types.specs.Events.{clash_of};
+ghost use Rattle.gomp_laws.specs.Headline.{Headline};
+ghost use Rattle.gomp_types.specs.Least.{least};
+ghost use Rattle.gomp_model.specs.Team.{Record, row_at, meant, is_resume, member_tests, wait_tests, wait_after, refusal_of, MayAnswer, events};
+ghost use Rattle.gomp_barrier.specs.Stands.{Stands as BarriersStand, members_of as barrier_members};
+ghost use Rattle.gomp_core.specs.Answers.{broken_after};
+ghost use Rattle.gomp_core.specs.Stands.{Stands, past, terms_of, members_of};
 ghost use Rattle.gomp_core.specs.Resolved.{resolved_call, resolved_step};
 
-use crate::answer::{answer, broken_after, reply_to};
+use crate::answer::answer;
 use crate::payloads::Payloads;
-use crate::refusals::own_refusal;
-use crate::waiting::{Waiting, waiting_after};
+use crate::refusals::{call_refusal, lesser, place_of};
 use gomp_barrier::Barriers;
 use gomp_icv::Icv;
-use gomp_share_plain::Shares;
-use gomp_types::{Call, Clash, Limits, Refusal, Reply, is_team_size, laws};
+use gomp_laws::laws;
+use gomp_shares::Shares;
+use gomp_types::{Call, Clash, Limits, Place, Refusal, Reply, is_team_size};
 use std::alloc::{AllocError, Global};
 use std::marker::Model;
 
@@ -30,21 +32,21 @@ use std::marker::Model;
 ///
 /// Every value stands for some record of steps and replies (its invariant), so a team may lie
 /// anywhere, and be stepped with nothing to prove. A record is the list of steps and replies, the newest
-/// first (specs/Record.antt of gomp_types); what it means that a team stands for one is `Stands` in
+/// first (specs/Team.antt of gomp_model); what it means that a team stands for one is `Stands` in
 /// specs/Stands.antt.
 #[derive(Drop)]
 pub struct Team<S: Shares> {
     icv: Icv,
     limits: Limits,
     broken: Option<Clash>,
-    waiting: Vec<Option<Waiting>>,
+    waiting: Vec<Option<Call>>,
     barriers: Barriers,
     payloads: Payloads,
     shares: S,
 }
 
 impl<S: Shares> Model for Team<S> {
-    ghost use Rattle.gomp_types.specs.Record.{Record};
+    ghost use Rattle.gomp_model.specs.Team.{Record};
     ghost use Rattle.gomp_core.specs.Stands.{TeamView, Stands};
 
     ghost Value = { TeamView S };
@@ -105,12 +107,11 @@ impl<S: Shares> Team<S> {
         ensures limits { IfOk result (λ team. team.limits ≡ limits) }
         ensures stands { IfOk result (λ team. Stands S.stands S.members team []) }
     {
-        let none: Option<Waiting> = None;
         Ok(Team {
             icv,
             limits,
             broken: None,
-            waiting: vec![in alloc; none; count as usize]?,
+            waiting: no_calls(alloc, count)?,
             barriers: Barriers::make(alloc, count)?,
             payloads: Payloads::new(),
             shares: S::make(alloc, count)?,
@@ -127,7 +128,7 @@ impl<S: Shares> Team<S> {
     /// a record, as `Stands` in specs/Stands.antt says.
     ///
     /// It takes no memory, so `NoMemory` (E37) is no answer to any call here. Which replies have a
-    /// cause is `MayAnswer` in specs/Causes.antt of gomp_types (OpenMP API 5.2, chapters 11 and 15).
+    /// cause is `MayAnswer` in specs/Team.antt of gomp_model (OpenMP API 5.2, chapters 11 and 15).
     pub fn step(&mut self, member: u16, call: Call) -> Reply
         ensures known { (before : Record) × Stands S.stands S.members self.old before }
         ensures size { IsTeamSize (members_of self.old) }
@@ -138,7 +139,7 @@ impl<S: Shares> Team<S> {
         ensures kept { (refusal : Refusal) → result ≡ Refused refusal → refusal ≢ Mismatch → self.new ≡ self.old }
         ensures broken { result ≡ Refused Mismatch → self.new ≡ record self.old { broken = self.new.broken } }
         ensures again { result ≡ Wait → call ≡ Resume → self.new ≡ self.old }
-        ensures answer { (before : Record) → Stands S.stands S.members self.old before → MayAnswer (terms_of self.old) before (resolved_step self.old.icv (record { member = member; call = call })) result }
+        ensures answer { (before : Record) → Stands S.stands S.members self.old before → MayAnswer (past self.old before) (resolved_step self.old.icv (record { member = member; call = call })) result }
         ensures stands { (before : Record) → Stands S.stands S.members self.old before → Stands S.stands S.members self.new ((resolved_step self.old.icv (record { member = member; call = call }), result) ∷ before) }
     {
         let call = resolved(&self.icv, call);
@@ -154,70 +155,162 @@ impl<S: Shares> Team<S> {
         ensures kept { (refusal : Refusal) → result ≡ Refused refusal → refusal ≢ Mismatch → self.new ≡ self.old }
         ensures broken { result ≡ Refused Mismatch → self.new ≡ record self.old { broken = self.new.broken } }
         ensures again { result ≡ Wait → call ≡ Resume → self.new ≡ self.old }
-        ensures answer { (before : Record) → Stands S.stands S.members self.old before → MayAnswer (terms_of self.old) before (record { member = member; call = call }) result }
+        ensures answer { (before : Record) → Stands S.stands S.members self.old before → MayAnswer (past self.old before) (record { member = member; call = call }) result }
         ensures stands { (before : Record) → Stands S.stands S.members self.old before → Stands S.stands S.members self.new ((record { member = member; call = call }, result) ∷ before) }
     {
         laws::first_refused();
-        if let Some(refusal) = self.refusal(member, &call) {
-            return Reply::Refused(refusal);
+        gomp_barrier::aside();
+        match self.refusal(member, &call) {
+            None => {
+                let waiting = self.waiting[member as usize].take();
+                let reply = answer(
+                    &mut self.shares,
+                    &mut self.barriers,
+                    &mut self.payloads,
+                    &self.limits,
+                    member,
+                    meant(&call, &waiting),
+                    is_resume(&call),
+                );
+                self.broken = broken_after(self.broken, member, &reply);
+                self.waiting[member as usize] = wait_after(&reply, call, waiting);
+                reply
+            }
+            Some(refusal) => {
+                if let Refusal::Mismatch = refusal {
+                    let place = self.place(member, &call);
+                    self.broken = Some(Clash { member, place });
+                    return Reply::Refused(Refusal::Mismatch);
+                }
+                Reply::Refused(refusal)
+            }
         }
-        let waiting = self.waiting[member as usize];
-        let outcome = answer(
-            &mut self.shares,
-            &mut self.barriers,
-            &mut self.payloads,
-            &self.limits,
-            member,
-            &call,
-            waiting,
-        );
-        self.broken = broken_after(self.broken, member, &outcome);
-        let reply = reply_to(outcome);
-        self.waiting[member as usize] = waiting_after(&reply, &call, waiting);
-        reply
     }
 
     /// Whatever was asked, the headline holds of each record that the team stands for
-    /// (`laws::headline` of gomp_types): no iteration, section or single is taken twice, what all
+    /// (`laws::headline` of gomp_laws): no iteration, section or single is taken twice, what all
     /// members left was all taken, ordered parts run in order, words are copied as they were put, and
     /// no member passes a barrier early.
     pub fn laws(&self)
         ensures known { (before : Record) × Stands S.stands S.members self.now before }
         ensures size { IsTeamSize (members_of self.now) }
-        ensures laws { (before : Record) → Stands S.stands S.members self.now before → Headline (members_of self.now) (events before) }
+        ensures laws { (before : Record) → Stands S.stands S.members self.now before → Headline (members_of self.now) (events (terms_of self.now) before) }
     {
         let _ = &self.waiting;
         laws::headline();
     }
 
-    /// The first test of the step that holds, of all but `Mismatch`, which stands last where a row has it.
-    fn refusal(&self, member: u16, call: &Call) -> Option<Refusal>
-        ensures { (before : Record) → Stands S.stands S.members self.now before → result ≡ first_refusal (member_tests (members_of self.now) member (events before) ++ own_row self.now.limits member call.now (waits_of member before).open_call (events before)) }
+    /// Why the step is refused: of its tests that hold the refusal with the least number.
+    fn refusal(&mut self, member: u16, call: &Call) -> Option<Refusal>
+        ensures kept { self.new ≡ self.old }
+        ensures least { (before : Record) → Stands S.stands S.members self.old before → result ≡ refusal_of (past self.old before) (record { member = member; call = call.now }) }
     {
         if member as usize >= self.waiting.len() {
             return Some(Refusal::BadMember);
         }
-        if self.barriers.look(member).left {
-            return Some(Refusal::Ended);
-        }
-        if let Some(clash) = self.broken {
-            return Some(Refusal::Broken(clash));
-        }
-        if let Call::Stop = call {
-            return None;
-        }
-        let waits = self.waiting[member as usize].is_some();
-        if let Call::Resume = call {
-            return if waits {
-                None
-            } else {
-                Some(Refusal::NotInside)
-            };
-        }
-        if waits {
-            return Some(Refusal::Waiting);
-        }
-        own_refusal(&self.shares, member, &self.limits, call)
+        let waiting = &self.waiting[member as usize];
+        let by_member = member_refusal(&self.barriers, self.broken, member);
+        let by_wait = wait_refusal(call, waiting);
+        let by_call = call_refusal(
+            &mut self.shares,
+            &self.barriers,
+            &self.limits,
+            member,
+            meant(call, waiting),
+            is_resume(call),
+        );
+        lesser(by_member, lesser(by_wait, by_call))
+    }
+
+    /// Where the team breaks if the call, or the one that it repeats, is another than other members'.
+    fn place(&self, member: u16, call: &Call) -> Place
+        requires member { member < members_of self.now }
+        ensures { (before : Record) → Stands S.stands S.members self.now before → result ≡ (row_at (past self.now before) (record { member = member; call = call.now })).place member (events (terms_of self.now) before) }
+    {
+        let waiting = &self.waiting[member as usize];
+        place_of(&self.shares, &self.barriers, member, meant(call, waiting))
+    }
+}
+
+/// No member of `count` waits.
+fn no_calls(alloc: Global, count: u16) -> Result<Vec<Option<Call>>, AllocError>
+    ensures { IfOk result (λ waiting. waiting.items ≡ replicate count None) }
+{
+    let mut waiting = Vec::with_capacity(alloc, count as usize)?;
+    for _ in 0..count {
+        waiting.push_reserved(None);
+    }
+    Ok(waiting)
+}
+
+/// Why no call of this member of the team is answered: it has passed the region's end, or the team
+/// is broken.
+fn member_refusal(barriers: &Barriers, broken: Option<Clash>, member: u16) -> Option<Refusal>
+    requires member { member < barrier_members barriers.now }
+    ensures { (h : List Event) → BarriersStand barriers.now h → broken ≡ clash_of h → result ≡ least (member_tests (barrier_members barriers.now) member h) }
+{
+    if barriers.look(member).left {
+        return Some(Refusal::Ended);
+    }
+    match broken {
+        Some(clash) => Some(Refusal::Broken(clash)),
+        None => None,
+    }
+}
+
+/// Why a member that waits may not make this call: only a resume and a stop are answered then.
+fn wait_refusal(call: &Call, waiting: &Option<Call>) -> Option<Refusal>
+    ensures { result ≡ least (wait_tests call.now waiting.now) }
+{
+    match call {
+        Call::Resume | Call::Stop => None,
+        _ if waiting.is_some() => Some(Refusal::Waiting),
+        _ => None,
+    }
+}
+
+/// Whether the call repeats one that waits.
+fn is_resume(call: &Call) -> bool
+    ensures { result ≡ is_resume call.now }
+{
+    matches!(call, Call::Resume)
+}
+
+/// The call that is made, or that waits and is repeated.
+fn meant<'a>(call: &'a Call, waiting: &'a Option<Call>) -> &'a Call
+    ensures { result.now ≡ meant call.now waiting.now }
+{
+    match (call, waiting) {
+        (Call::Resume, Some(open)) => open,
+        _ => call,
+    }
+}
+
+/// The call that waits after this reply to the member's call, if one does: a refusal leaves the wait
+/// as it is, `Wait` opens one or keeps it open, every other reply closes it.
+fn wait_after(reply: &Reply, call: Call, waiting: Option<Call>) -> Option<Call>
+    ensures { result ≡ wait_after reply.now call waiting }
+{
+    match reply {
+        Reply::Refused(_) => waiting,
+        Reply::Wait => match (call, waiting) {
+            (Call::Resume, Some(open)) => Some(open),
+            (call, _) => Some(call),
+        },
+        _ => None,
+    }
+}
+
+/// Why the team is broken after this reply to a member: by it, where it stopped the team.
+fn broken_after(broken: Option<Clash>, member: u16, reply: &Reply) -> Option<Clash>
+    ensures { result ≡ broken_after broken member reply.now }
+{
+    match reply {
+        Reply::Stopped => Some(Clash {
+            member,
+            place: Place::Stopped,
+        }),
+        _ => broken,
     }
 }
 

@@ -1,77 +1,79 @@
 -- What a member sees, and the piece that it was given, in the words of the events.
-use Rattle.std.proofs.Common.{◌≡◌, ℕ, ◌+◌, ◌-◌, ◌<◌, ◌≤◌, Bool, true, false, List, [], ◌∷◌, ◌++◌, Option, Some, None, refl, ap, ◌∙◌, sym, subst, arith}
-use Rattle.std.specs.Prelude.{pos, not, if◌then◌else◌, ◌≢◌, ◌&&◌, nat_le, is_some}
-use Rattle.gomp_types.specs.declared.call.Call.TheVariants.{LoopStart, LoopNext}
+use Rattle.std.proofs.Common.{◌≡◌, ℕ, ◌+◌, ◌-◌, ◌<◌, ◌≤◌, Bool, true, false, List, [], ◌∷◌, ◌++◌, Option, Some, None, refl, ap, ◌∙◌, sym, subst, arith, inl}
+use Rattle.std.specs.Prelude.{pos, not, ◌≢◌, ◌&&◌, if◌then◌else◌, nat_le, is_some}
 use Rattle.gomp_types.specs.declared.reply.Reply.TheVariants.{Wait}
 use Rattle.gomp_types.specs.declared.loop_desc.LoopDesc.{LoopDesc}
 use Rattle.gomp_types.specs.declared.loop_desc.EndKind.{EndKind}
 use Rattle.gomp_types.specs.declared.limits.Limits.{Limits}
 use Rattle.gomp_types.specs.declared.refusal.Refusal.{Refusal}
-use Rattle.gomp_types.specs.declared.refusal.Refusal.TheVariants.{InsideShare, OutsideShare, InOrdered, Drained as DrainedTest, TooManyShares, Mismatch}
+use Rattle.gomp_types.specs.declared.refusal.Refusal.TheVariants.{InsideShare, TooManyShares, Mismatch}
+use Rattle.gomp_types.specs.declared.seen.Seen.{Seen}
 use Rattle.gomp_types.specs.declared.shape.Shape.{Shape}
 use Rattle.gomp_types.specs.declared.event.Event.{Event}
 use Rattle.gomp_types.specs.declared.event.Event.TheVariants.{Enter, HandOn}
 use Rattle.gomp_types.specs.Tests.{first_refusal}
+use Rattle.gomp_types.specs.Least.{least}
+use Rattle.gomp_types.specs.Seen.{seen_of}
 use Rattle.gomp_types.specs.Iterations.{loop_tests}
 use Rattle.gomp_types.specs.Pieces.{Piece, shape_of}
 use Rattle.gomp_types.specs.Values.{IsShape, value_at, iteration_at}
-use Rattle.gomp_types.specs.Events.{entered, open_share, open_number, share_number, in_kind, has_drained, in_part, turn, shape_at, has_room}
+use Rattle.gomp_types.specs.Events.{entered, open_share, open_number, share_number, turn, shape_at, has_room}
 use Rattle.gomp_types.specs.Ordered.{has_turn, must_wait}
-use Rattle.gomp_types.specs.Record.{handed_in, handed_on, added}
-use Rattle.gomp_types.specs.Refusals.{loop_end_tests, call_tests, shape_differs}
-use Rattle.gomp_types.specs.Replies.{DealsOut}
-use Rattle.gomp_types.specs.Causes.{IsReply}
-use Rattle.gomp_types.specs.Shapes.{is_loop}
+use Rattle.gomp_types.specs.Compare.{shape_differs}
 use Rattle.gomp_types.proofs.Booleans.{same_number}
-use Rattle.gomp_share_plain.specs.declared.Seen.{Seen}
-use Rattle.gomp_share_plain.specs.declared.own.Construct.TheVariants.{Loop}
-use Rattle.gomp_share_plain.specs.Calls.{seen_of, CanClaim, Claims, claimed, own_turn, piece_handed}
-use Rattle.gomp_share_plain.specs.Own.{next_tests_of, end_tests_of}
+use Rattle.gomp_types.proofs.LeastTests.{all_fail, first_is_least}
 use Rattle.gomp_types.proofs.TestRows.{front_holds, front_fails, head_fails}
-use Rattle.gomp_types.proofs.CallsKeep.{open_entered}
-use Rattle.gomp_share_plain.proofs.Entered.{row_is}
-use Rattle.gomp_loops.specs.OwnTests.{own_start_tests}
+use Rattle.gomp_shares.specs.Calls.{CanClaim, Claims, claimed, own_turn, piece_handed}
+use Rattle.gomp_shares.specs.Starts.{start_tests, share_tests, compared_share}
+use Rattle.gomp_shares.specs.Loops.{DealsOut, handed_on, next_tests, end_tests, AnswersLoopStart, loop_started, AnswersLoopNext, loop_next_taken}
+use Rattle.gomp_shares.proofs.Entered.{row_is, open_entered}
 use Rattle.gomp_loops.specs.Answers.{reply_of}
 
 -- The tests
 
-pub end_is : (kind : EndKind) (m : ℕ) (seen : Seen) (h : List Event) (found : Option Refusal) → seen ≡ seen_of m h → found ≡ first_refusal (end_tests_of Loop kind seen) → first_refusal (loop_end_tests kind m h) ≡ found
-end_is kind m seen h found e is = row_is (end_tests_of Loop kind) seen (seen_of m h) found e is
+pub end_is : (kind : EndKind) (m : ℕ) (seen : Seen) (h : List Event) (found : Option Refusal) → seen ≡ seen_of m h → found ≡ first_refusal (end_tests kind seen) → least (end_tests kind (seen_of m h)) ≡ found
+end_is kind m seen h found e is = sym (first_is_least 0 (end_tests kind (seen_of m h)) refl) ∙ row_is (end_tests kind) seen (seen_of m h) found e is
 
-pub next_own : (m : ℕ) (seen : Seen) (h : List Event) (found : Option Refusal) → seen ≡ seen_of m h → found ≡ first_refusal (next_tests_of Loop seen) → first_refusal (next_tests_of Loop (seen_of m h)) ≡ found
-next_own m seen h found e is = row_is (next_tests_of Loop) seen (seen_of m h) found e is
+pub next_is : (m : ℕ) (seen : Seen) (h : List Event) (found : Option Refusal) → seen ≡ seen_of m h → found ≡ first_refusal (next_tests seen) → least (next_tests (seen_of m h)) ≡ found
+next_is m seen h found e is = sym (first_is_least 0 (next_tests (seen_of m h)) refl) ∙ row_is next_tests seen (seen_of m h) found e is
 
-pub next_is : (limits : Limits) (m : ℕ) (seen : Seen) (h : List Event) (found : Option Refusal) → seen ≡ seen_of m h → found ≡ first_refusal (next_tests_of Loop seen) → first_refusal (call_tests limits m LoopNext h) ≡ found
-next_is limits m seen h found e is = next_own m seen h found e is
+-- the tests of a start stand in the order of their numbers, and the comparison is the last
+start_first : (limits : Limits) (m : ℕ) (loop : LoopDesc) (h : List Event) (found : Option Refusal) → first_refusal (share_tests (loop_tests loop) (shape_of loop) limits m h) ≡ found → least (share_tests (loop_tests loop) (shape_of loop) limits m h) ≡ found
+start_first limits m loop h found first = sym (first_is_least 0 (share_tests (loop_tests loop) (shape_of loop) limits m h) refl) ∙ first
 
--- a start whose own tests fail is refused only where the shares differ
-pub start_refused : (limits : Limits) (m : ℕ) (loop : LoopDesc) (seen : Seen) (h : List Event) (refusal : Refusal) → seen ≡ seen_of m h → Some refusal ≡ first_refusal (own_start_tests limits seen loop) →
-    first_refusal (call_tests limits m (LoopStart loop) h) ≡ Some refusal
+pub start_refused : (limits : Limits) (m : ℕ) (loop : LoopDesc) (seen : Seen) (h : List Event) (refusal : Refusal) → seen ≡ seen_of m h → Some refusal ≡ first_refusal (start_tests (loop_tests loop) limits seen) →
+    least (share_tests (loop_tests loop) (shape_of loop) limits m h) ≡ Some refusal
 start_refused limits m loop seen h refusal e is =
-    front_holds (own_start_tests limits (seen_of m h) loop) ((shape_differs (shape_of loop) (shape_at (entered m h) h), Mismatch) ∷ []) refusal
-    (row_is (λ s. own_start_tests limits s loop) seen (seen_of m h) (Some refusal) e is)
+    start_first limits m loop h (Some refusal) (front_holds (start_tests (loop_tests loop) limits (seen_of m h)) (compared_share (shape_of loop) m h) refusal
+    (row_is (start_tests (loop_tests loop) limits) seen (seen_of m h) (Some refusal) e is))
 
-pub start_compared : (limits : Limits) (m : ℕ) (loop : LoopDesc) (seen : Seen) (h : List Event) → seen ≡ seen_of m h → None ≡ first_refusal (own_start_tests limits seen loop) →
-    first_refusal (call_tests limits m (LoopStart loop) h) ≡ first_refusal ((shape_differs (shape_of loop) (shape_at (entered m h) h), Mismatch) ∷ [])
-start_compared limits m loop seen h e is =
-    front_fails (own_start_tests limits (seen_of m h) loop) ((shape_differs (shape_of loop) (shape_at (entered m h) h), Mismatch) ∷ [])
-    (row_is (λ s. own_start_tests limits s loop) seen (seen_of m h) None e is)
+-- where no other holds, it alone decides
+compared_by : (differs : Bool) → first_refusal ((differs, Mismatch) ∷ []) ≡ (if differs then Some Mismatch else None)
+compared_by true = refl
+compared_by false = refl
+
+pub start_compared : (limits : Limits) (m : ℕ) (loop : LoopDesc) (seen : Seen) (h : List Event) (differs : Bool) → seen ≡ seen_of m h → None ≡ first_refusal (start_tests (loop_tests loop) limits seen) →
+    shape_differs (shape_of loop) (shape_at (entered m h) h) ≡ differs → least (share_tests (loop_tests loop) (shape_of loop) limits m h) ≡ (if differs then Some Mismatch else None)
+start_compared limits m loop seen h differs e is same =
+    start_first limits m loop h (if differs then Some Mismatch else None) (
+    front_fails (start_tests (loop_tests loop) limits (seen_of m h)) (compared_share (shape_of loop) m h) (row_is (start_tests (loop_tests loop) limits) seen (seen_of m h) None e is)
+    ∙ subst (λ (test : Bool). first_refusal ((test, Mismatch) ∷ []) ≡ (if differs then Some Mismatch else None)) (sym same) (compared_by differs))
 
 -- a start whose own tests fail is outside of every share
-pub start_outside : (limits : Limits) (seen : Seen) (loop : LoopDesc) → first_refusal (own_start_tests limits seen loop) ≡ None → is_some seen.current ≡ false
+pub start_outside : (limits : Limits) (seen : Seen) (loop : LoopDesc) → first_refusal (start_tests (loop_tests loop) limits seen) ≡ None → is_some seen.current ≡ false
 start_outside limits seen loop e = head_fails (is_some seen.current) InsideShare (loop_tests loop ++ (nat_le limits.shares seen.entered, TooManyShares) ∷ []) e
 
 -- a member outside of every share is refused as its loop is
-pub start_own : (limits : Limits) (seen : Seen) (loop : LoopDesc) (refusal : Refusal) → is_some seen.current ≡ false → first_refusal (loop_tests loop) ≡ Some refusal → first_refusal (own_start_tests limits seen loop) ≡ Some refusal
+pub start_own : (limits : Limits) (seen : Seen) (loop : LoopDesc) (refusal : Refusal) → is_some seen.current ≡ false → first_refusal (loop_tests loop) ≡ Some refusal → first_refusal (start_tests (loop_tests loop) limits seen) ≡ Some refusal
 start_own limits seen loop refusal out e = rw out (front_holds (loop_tests loop) ((nat_le limits.shares seen.entered, TooManyShares) ∷ []) refusal e)
 
 -- Replies
 
 -- a next whose tests fail is answered what the share deals out, once the turn is the member's
-pub next_reply : (limits : Limits) (members m i : ℕ) (shape : Shape) (answer : Option Piece) (h : List Event) → open_share m h ≡ Some (i, shape) → first_refusal (call_tests limits m LoopNext h) ≡ None →
-    must_wait members (i, shape) m h ≡ false → DealsOut members m (Some (i, shape)) (reply_of shape answer) h → IsReply limits members m LoopNext (reply_of shape answer) h
-next_reply limits members m i shape None h there none turn dealt = (none, rw there (turn, dealt))
-next_reply limits members m i shape (Some piece) h there none turn dealt = (none, rw there (turn, dealt))
+pub next_reply : (members m i : ℕ) (shape : Shape) (answer : Option Piece) (h : List Event) → open_share m h ≡ Some (i, shape) → least (next_tests (seen_of m h)) ≡ None →
+    must_wait members (i, shape) m h ≡ false → DealsOut members m (Some (i, shape)) (reply_of shape answer) h → AnswersLoopNext members m (reply_of shape answer) h
+next_reply members m i shape None h there none turn dealt = (none, rw there (turn, dealt))
+next_reply members m i shape (Some piece) h there none turn dealt = (none, rw there (turn, dealt))
 
 -- and waits before that
 must_by : (ordered turn : Bool) → ordered ≡ true → turn ≡ false → (ordered && not turn) ≡ true
@@ -81,18 +83,20 @@ may_by : (ordered turn : Bool) → turn ≡ true → (ordered && not turn) ≡ f
 may_by true turn e = rw e refl
 may_by false turn e = refl
 
-pub next_waits : (limits : Limits) (members m i : ℕ) (shape : Shape) (h : List Event) → open_share m h ≡ Some (i, shape) → first_refusal (call_tests limits m LoopNext h) ≡ None →
-    shape.ordered ≡ true → false ≡ own_turn members m h → IsReply limits members m LoopNext Wait h
-next_waits limits members m i shape h there none ordered e =
+pub next_waits : (members m i : ℕ) (shape : Shape) (h : List Event) → open_share m h ≡ Some (i, shape) → least (next_tests (seen_of m h)) ≡ None → shape.ordered ≡ true → false ≡ own_turn members m h → AnswersLoopNext members m Wait h
+next_waits members m i shape h there none ordered e =
     let last : has_turn members (i, shape) m h ≡ false = sym (rw there at e) in
     let waits : must_wait members (i, shape) m h ≡ true = must_by shape.ordered (has_turn members (i, shape) m h) ordered last in
     (none, rw there waits)
 
 -- and so is a start, where there is room
-pub start_reply : (limits : Limits) (members m : ℕ) (loop : LoopDesc) (answer : Option Piece) (h : List Event) → first_refusal (call_tests limits m (LoopStart loop) h) ≡ None → has_room members (entered m h) h ≡ true →
-    DealsOut members m (Some (entered m h, shape_of loop)) (reply_of (shape_of loop) answer) h → IsReply limits members m (LoopStart loop) (reply_of (shape_of loop) answer) h
+pub start_reply : (limits : Limits) (members m : ℕ) (loop : LoopDesc) (answer : Option Piece) (h : List Event) → least (share_tests (loop_tests loop) (shape_of loop) limits m h) ≡ None → has_room members (entered m h) h ≡ true →
+    DealsOut members m (Some (entered m h, shape_of loop)) (reply_of (shape_of loop) answer) h → AnswersLoopStart loop limits members m (reply_of (shape_of loop) answer) h
 start_reply limits members m loop None h none room dealt = (none, (room, dealt))
 start_reply limits members m loop (Some piece) h none room dealt = (none, (room, dealt))
+
+pub start_waits : (limits : Limits) (members m : ℕ) (loop : LoopDesc) (h : List Event) → least (share_tests (loop_tests loop) (shape_of loop) limits m h) ≡ None → has_room members (entered m h) h ≡ false → AnswersLoopStart loop limits members m Wait h
+start_waits limits members m loop h none full = (none, inl full)
 
 -- Pieces
 
@@ -131,43 +135,27 @@ deals members m i shape answer h there claims = deals_by members m (i, shape) an
 
 -- A next piece
 
--- a next whose tests fail is in no ordered part, and was not told that nothing is left
-next_by : (loop part drained : Bool) → first_refusal ((not loop, OutsideShare) ∷ (part, InOrdered) ∷ (drained, DrainedTest) ∷ []) ≡ None → (part ≡ false) × (drained ≡ false)
-next_by true false false e = (refl, refl)
-next_by true false true e = absurd (cc)
-next_by true true drained e = absurd (cc)
-next_by false part drained e = absurd (cc)
-
 -- that a piece is handed on changes nothing of what the member sees
-handed_by : (m i n : ℕ) (ordered : Bool) (h : List Event) → seen_of m (if ordered then HandOn i m n ∷ h else h) ≡ seen_of m h
+handed_by : (m i n : ℕ) (ordered : Bool) (h : List Event) → seen_of m ((if ordered then HandOn i m n ∷ [] else []) ++ h) ≡ seen_of m h
 handed_by m i n true h = refl
 handed_by m i n false h = refl
 
-handed_sees : (m : ℕ) (current : Option (ℕ × Shape)) (h : List Event) → seen_of m (handed_in current m h) ≡ seen_of m h
-handed_sees m None h = refl
-handed_sees m (Some share) h = handed_by m share.0 (turn share.0 h) share.1.ordered h
+handed_seen : (m : ℕ) (share : ℕ × Shape) (h : List Event) → seen_of m (handed_on share m h ++ h) ≡ seen_of m h
+handed_seen m share h = handed_by m share.0 (turn share.0 h) share.1.ordered h
 
-pub handed_seen : (m : ℕ) (h : List Event) → seen_of m (handed_on m h) ≡ seen_of m h
-handed_seen m h = handed_sees m (open_share m h) h
-
-pub handed_there : (m i : ℕ) (shape : Shape) (h : List Event) → open_share m h ≡ Some (i, shape) → open_share m (handed_on m h) ≡ Some (i, shape)
-handed_there m i shape h there = ap (λ (s : Seen). s.current) (handed_seen m h) ∙ there
+pub handed_there : (m i : ℕ) (shape : Shape) (h : List Event) → open_share m h ≡ Some (i, shape) → open_share m (handed_on (i, shape) m h ++ h) ≡ Some (i, shape)
+handed_there m i shape h there = ap (λ (s : Seen). s.current) (handed_seen m (i, shape) h) ∙ there
 
 -- nor of what is dealt out
-handed_deals_by : (members m j n : ℕ) (ordered : Bool) (share : ℕ × Shape) (answer : Option Piece) (h : List Event) → DealsOut members m (Some share) (reply_of share.1 answer) (if ordered then HandOn j m n ∷ h else h) →
-    DealsOut members m (Some share) (reply_of share.1 answer) h
-handed_deals_by members m j n true share None h dealt = dealt
-handed_deals_by members m j n true share (Some piece) h dealt = dealt
-handed_deals_by members m j n false share answer h dealt = dealt
-
-handed_deals : (members m : ℕ) (current : Option (ℕ × Shape)) (share : ℕ × Shape) (answer : Option Piece) (h : List Event) → DealsOut members m (Some share) (reply_of share.1 answer) (handed_in current m h) →
-    DealsOut members m (Some share) (reply_of share.1 answer) h
-handed_deals members m None share answer h dealt = dealt
-handed_deals members m (Some own) share answer h dealt = handed_deals_by members m own.0 (turn own.0 h) own.1.ordered share answer h dealt
+handed_deals : (members m n : ℕ) (ordered : Bool) (share : ℕ × Shape) (answer : Option Piece) (h : List Event) →
+    DealsOut members m (Some share) (reply_of share.1 answer) ((if ordered then HandOn share.0 m n ∷ [] else []) ++ h) → DealsOut members m (Some share) (reply_of share.1 answer) h
+handed_deals members m n true share None h dealt = dealt
+handed_deals members m n true share (Some piece) h dealt = dealt
+handed_deals members m n false share answer h dealt = dealt
 
 -- what a next has of the shares before it claims: they stand for the events in which its piece was handed on, and the turn was the member's
 pub record Handed (Stand : List Event → Type 0) (members now m i : ℕ) (shape : Shape) (h : List Event) : Type 0 where
-  pub stands : Stand (handed_on m h)
+  pub stands : Stand (handed_on (i, shape) m h ++ h)
   pub turn : must_wait members (i, shape) m h ≡ false
   pub same : now ≡ members
 
@@ -175,7 +163,7 @@ pub handed : (stands : List Event → Type 0) (members now m i : ℕ) (shape : S
     true ≡ own_turn members m h → now ≡ members → stands (piece_handed m true h) → Handed stands members now m i shape h
 handed stands members now m i shape h there ordered e same st =
     let last : has_turn members (i, shape) m h ≡ true = sym (rw there at e) in
-    let is : piece_handed m true h ≡ handed_on m h = rw (there, ordered) refl in
+    let is : piece_handed m true h ≡ handed_on (i, shape) m h ++ h = rw (there, ordered) refl in
     record {
       stands = subst stands is st;
       turn = may_by shape.ordered (has_turn members (i, shape) m h) last;
@@ -183,44 +171,43 @@ handed stands members now m i shape h there ordered e same st =
     }
 
 -- a piece of another loop is not handed on
-pub kept : (stands : List Event → Type 0) (members now m i : ℕ) (shape : Shape) (h : List Event) → open_share m h ≡ Some (i, shape) → shape.ordered ≡ false →
-    now ≡ members → stands h → Handed stands members now m i shape h
-kept stands members now m i shape h there ordered same st =
-    let is : h ≡ handed_on m h = rw (there, ordered) refl in
+pub kept : (stands : List Event → Type 0) (members now m i : ℕ) (shape : Shape) (h : List Event) → shape.ordered ≡ false → now ≡ members → stands h → Handed stands members now m i shape h
+kept stands members now m i shape h ordered same st =
+    let is : h ≡ handed_on (i, shape) m h ++ h = rw ordered refl in
     record {
       stands = subst stands is st;
       turn = rw ordered refl;
       same = same;
     }
 
-pub next_claims : (members m i : ℕ) (shape : Shape) (seen : Seen) (h : List Event) → m < members → seen ≡ seen_of m (handed_on m h) → open_share m h ≡ Some (i, shape) → first_refusal (next_tests_of Loop (seen_of m h)) ≡ None →
+pub next_claims : (members m i : ℕ) (shape : Shape) (seen : Seen) (h : List Event) → m < members → seen ≡ seen_of m (handed_on (i, shape) m h ++ h) → open_share m h ≡ Some (i, shape) → least (next_tests (seen_of m h)) ≡ None →
     CanClaim members m seen
 next_claims members m i shape seen h lt e there none =
-    let tests = next_by (in_kind is_loop (open_share m h)) (in_part m h) (has_drained m h) none in
-    rw (e, handed_seen m h) (record {
+    let tests = all_fail (next_tests (seen_of m h)) none in
+    rw (e, handed_seen m (i, shape) h) (record {
       member = lt;
       inside = rw there refl;
-      more = tests.1;
-      apart = tests.0;
+      more = tests.1.1.0;
+      apart = tests.1.0;
     })
 
-pub next_deals : (members m i : ℕ) (shape : Shape) (answer : Option Piece) (h : List Event) → open_share m h ≡ Some (i, shape) → Claims members m answer (handed_on m h) → DealsOut members m (Some (i, shape)) (reply_of shape answer) h
+pub next_deals : (members m i : ℕ) (shape : Shape) (answer : Option Piece) (h : List Event) → open_share m h ≡ Some (i, shape) → Claims members m answer (handed_on (i, shape) m h ++ h) → DealsOut members m (Some (i, shape)) (reply_of shape answer) h
 next_deals members m i shape answer h there claims =
-    handed_deals members m (open_share m h) (i, shape) answer h (deals members m i shape answer (handed_on m h) (handed_there m i shape h there) claims)
+    handed_deals members m (turn i h) shape.ordered (i, shape) answer h (deals members m i shape answer (handed_on (i, shape) m h ++ h) (handed_there m i shape h there) claims)
 
--- and it adds what the shares add
-pub next_adds : (members m i shares : ℕ) (shape : Shape) (answer : Option Piece) (h : List Event) → ValuesTell → open_share m h ≡ Some (i, shape) → Claims members m answer (handed_on m h) →
-    added false m shares (reply_of shape answer) LoopNext h ≡ claimed m answer (handed_on m h)
-next_adds members m i shares shape None h tell there claims =
-    let same : open_number m (handed_on m h) ≡ open_number m h = ap (λ (s : Seen). share_number s.current) (handed_seen m h) in
-    rw same refl
-next_adds members m i shares shape (Some piece) h tell there claims =
+-- and it gives what the shares give
+pub next_adds : (members m i : ℕ) (shape : Shape) (answer : Option Piece) (h : List Event) → ValuesTell → open_share m h ≡ Some (i, shape) → Claims members m answer (handed_on (i, shape) m h ++ h) →
+    loop_next_taken m (reply_of shape answer) h ≡ claimed m answer (handed_on (i, shape) m h ++ h)
+next_adds members m i shape None h tell there claims =
+    let same : open_number m (handed_on (i, shape) m h ++ h) ≡ i = ap share_number (handed_there m i shape h there) in
+    rw (same, there) refl
+next_adds members m i shape (Some piece) h tell there claims =
     let here = handed_there m i shape h there in
-    let valid = claim_valid members m i shape (Some piece) (handed_on m h) here claims in
-    let within = claim_within members m i shape (Some piece) (handed_on m h) here claims piece refl in
+    let valid = claim_valid members m i shape (Some piece) (handed_on (i, shape) m h ++ h) here claims in
+    let within = claim_within members m i shape (Some piece) (handed_on (i, shape) m h ++ h) here claims piece refl in
     let some = within.0 in
     let back : piece.0 + (piece.1 - piece.0) ≡ piece.1 = omega arith in
-    let same : open_number m (handed_on m h) ≡ i = ap share_number here in
+    let same : open_number m (handed_on (i, shape) m h ++ h) ≡ i = ap share_number here in
     rw (same, there, tell shape piece.0 valid.moves, back) refl
 
 -- A start
@@ -230,13 +217,13 @@ pub start_deals : (members m i : ℕ) (shape : Shape) (answer : Option Piece) (h
 start_deals members m i shape None h claims = deals members m i shape None (Enter i m shape ∷ h) (open_entered m i shape h) claims
 start_deals members m i shape (Some piece) h claims = deals members m i shape (Some piece) (Enter i m shape ∷ h) (open_entered m i shape h) claims
 
-pub start_adds : (members m shares : ℕ) (loop : LoopDesc) (answer : Option Piece) (h : List Event) → ValuesTell → Claims members m answer (Enter shares m (shape_of loop) ∷ h) →
-    added false m shares (reply_of (shape_of loop) answer) (LoopStart loop) h ≡ claimed m answer (Enter shares m (shape_of loop) ∷ h)
-start_adds members m shares loop None h tell claims = rw (same_number m) refl
-start_adds members m shares loop (Some piece) h tell claims =
-    let there = open_entered m shares (shape_of loop) h in
-    let valid = claim_valid members m shares (shape_of loop) (Some piece) (Enter shares m (shape_of loop) ∷ h) there claims in
-    let within = claim_within members m shares (shape_of loop) (Some piece) (Enter shares m (shape_of loop) ∷ h) there claims piece refl in
+pub start_adds : (members m : ℕ) (loop : LoopDesc) (answer : Option Piece) (h : List Event) → ValuesTell → Claims members m answer (Enter (entered m h) m (shape_of loop) ∷ h) →
+    loop_started loop m (reply_of (shape_of loop) answer) h ≡ claimed m answer (Enter (entered m h) m (shape_of loop) ∷ h)
+start_adds members m loop None h tell claims = rw (same_number m) refl
+start_adds members m loop (Some piece) h tell claims =
+    let there = open_entered m (entered m h) (shape_of loop) h in
+    let valid = claim_valid members m (entered m h) (shape_of loop) (Some piece) (Enter (entered m h) m (shape_of loop) ∷ h) there claims in
+    let within = claim_within members m (entered m h) (shape_of loop) (Some piece) (Enter (entered m h) m (shape_of loop) ∷ h) there claims piece refl in
     let some = within.0 in
     let back : piece.0 + (piece.1 - piece.0) ≡ piece.1 = omega arith in
     rw (same_number m, tell (shape_of loop) piece.0 valid.moves, back) refl

@@ -1,2 +1,1 @@
-pub mod OwnTests
 pub mod Answers

@@ -1,16 +1,16 @@
 //! The calls of a member on the loops of its team.
 //!
-//! A loop is one work-share. Each call makes the tests of its row (`call_tests`), so it has no premise
-//! but a member of the team, and answers what `MayReply` allows where none of them holds. Whether the
-//! team is broken, the member has left the region or has a wait open, and how it arrives at a
-//! barrier, is tested by the layer above.
+//! A loop is one work-share. Each call makes the tests of its own (specs/Loops.antt of gomp_shares), so
+//! it has no premise but a member of the team, and answers what is defined there where none of them
+//! holds. Whether the team is broken, the member has left the region or has a wait open, and how it
+//! arrives at a barrier, is tested by the layer above.
 //!
 //! The pieces of an ordered loop are handed on in their order: a member that asks for its next chunk
 //! waits until every piece before its own was handed on, and hands its own on first. The ordered parts
 //! themselves are in `gomp_ordered`.
 //!
 //! [`own`] has what does not ask the shares: a member's own tests, and the reply that a piece gives.
-//! The tests of a next chunk and of an end are those of `gomp_share_plain::own`, which sections have
+//! The tests of a next chunk and of an end are those of `gomp_shares::own`, which sections have
 //! in common; a call here on a member in sections finds it outside of every loop.
 //!
 //! OpenMP API 5.2, section 11.5. The calls have the form of libgomp's `GOMP_loop_*_start`, `_next`,
@@ -20,4 +20,4 @@
 pub mod calls;
 pub mod own;
 
-pub use calls::{first_refusal, loop_end, loop_end_nowait, loop_next, loop_start};
+pub use calls::{loop_end, loop_end_nowait, loop_next, loop_start};

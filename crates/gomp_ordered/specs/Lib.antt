@@ -1,1 +1,1 @@
-pub mod OwnTests
+pub mod Iterations

@@ -1,32 +1,15 @@
 //! The calls of libgomp's ordered parts, over any body of the shares.
 
-ghost use Rattle.std.specs.Prelude.{◌≡◌, ◌<◌, ℕ, List, false};
+ghost use Rattle.std.specs.Prelude.{◌≡◌, ◌<◌, List};
 ghost use Rattle.gomp_types.specs.declared.event.Event.{Event};
-ghost use Rattle.gomp_types.specs.declared.call.Call.TheVariants.{OrderedStart, OrderedEnd};
 ghost use Rattle.gomp_types.specs.declared.reply.Reply.TheVariants.{Wait, Refused};
 ghost use Rattle.gomp_types.specs.declared.refusal.Refusal.{Refusal};
-ghost use Rattle.gomp_types.specs.declared.limits.Limits.{Limits};
-ghost use Rattle.gomp_types.specs.Tests.{first_refusal};
-ghost use Rattle.gomp_types.specs.Events.{entered};
-ghost use Rattle.gomp_types.specs.Record.{added};
-ghost use Rattle.gomp_types.specs.Causes.{IsReply};
-ghost use Rattle.gomp_share_plain.specs.Calls.{EachStands, seen_of};
-ghost use Rattle.gomp_ordered.specs.OwnTests.{own_tests};
+ghost use Rattle.gomp_shares.specs.Calls.{EachStands};
+ghost use Rattle.gomp_shares.specs.OrderedParts.{AnswersPart, part_started, AnswersPartEnd, part_ended_at_once};
 
-use crate::own::{iteration_of, own_refusal, start_refusal};
-use gomp_share_plain::Shares;
-use gomp_types::{Call, Refusal, Reply};
-
-/// Why the member may not make this call: the first test that holds of those that its place among
-/// the shares decides. A call on another construct has none here.
-pub fn first_refusal<S: Shares>(shares: &S, member: u16, call: &Call) -> Option<Refusal>
-    requires member { member < S.members shares.now }
-    ensures known { (h : List Event) × S.stands shares.now h }
-    ensures first { EachStands (S.stands shares.now) (λ h. result ≡ first_refusal (own_tests (seen_of member h) call.now)) }
-{
-    let seen = shares.look(member);
-    own_refusal(&seen, call)
-}
+use crate::own::{iteration_of, start_refusal};
+use gomp_shares::Shares;
+use gomp_types::{Refusal, Reply};
 
 /// Begins the ordered part of the iteration with this value.
 ///
@@ -39,8 +22,8 @@ pub fn ordered_start<S: Shares>(shares: &mut S, member: u16, value: i64) -> Repl
     requires member { member < S.members shares.old }
     ensures members { S.members shares.new ≡ S.members shares.old }
     ensures known { (h : List Event) × S.stands shares.old h }
-    ensures answer { (limits : Limits) → EachStands (S.stands shares.old) (IsReply limits (S.members shares.old) member (OrderedStart value) result) }
-    ensures stands { EachStands (S.stands shares.old) (λ h. S.stands shares.new (added false member (entered member h) result (OrderedStart value) h)) }
+    ensures answer { EachStands (S.stands shares.old) (AnswersPart (S.members shares.old) value member result) }
+    ensures stands { EachStands (S.stands shares.old) (λ h. S.stands shares.new (part_started value member result h)) }
     ensures kept { (refusal : Refusal) → result ≡ Refused refusal → shares.new ≡ shares.old }
     ensures waits { result ≡ Wait → shares.new ≡ shares.old }
 {
@@ -65,8 +48,8 @@ pub fn ordered_end<S: Shares>(shares: &mut S, member: u16) -> Reply
     requires member { member < S.members shares.old }
     ensures members { S.members shares.new ≡ S.members shares.old }
     ensures known { (h : List Event) × S.stands shares.old h }
-    ensures answer { (limits : Limits) → EachStands (S.stands shares.old) (IsReply limits (S.members shares.old) member OrderedEnd result) }
-    ensures stands { EachStands (S.stands shares.old) (λ h. S.stands shares.new (added false member (entered member h) result OrderedEnd h)) }
+    ensures answer { EachStands (S.stands shares.old) (AnswersPartEnd member result) }
+    ensures stands { EachStands (S.stands shares.old) (λ h. S.stands shares.new (part_ended_at_once member result h)) }
     ensures kept { (refusal : Refusal) → result ≡ Refused refusal → shares.new ≡ shares.old }
 {
     let seen = shares.look(member);

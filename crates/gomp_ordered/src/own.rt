@@ -3,31 +3,18 @@
 
 ghost use Rattle.std.specs.Prelude.{◌≡◌};
 ghost use Rattle.gomp_types.specs.Tests.{first_refusal};
-ghost use Rattle.gomp_types.specs.Ordered.{comes_next, is_ordered};
-ghost use Rattle.gomp_ordered.specs.OwnTests.{HasShape, seen_iteration, own_start_tests, own_tests};
+ghost use Rattle.gomp_types.specs.Ordered.{comes_next};
+ghost use Rattle.gomp_shares.specs.OrderedParts.{part_tests};
+ghost use Rattle.gomp_ordered.specs.Iterations.{HasShape, seen_iteration};
 
-use gomp_share_plain::Seen;
-use gomp_share_plain::own::is_in_rest;
-use gomp_types::{Call, Refusal};
-
-/// Why a member that sees this of its place may not make this call: the first test that holds of
-/// those that its place among the shares decides. A call on another construct has none here.
-pub fn own_refusal(seen: &Seen, call: &Call) -> Option<Refusal>
-    requires shape { HasShape seen.now }
-    ensures first { result ≡ first_refusal (own_tests seen.now call.now) }
-{
-    match call {
-        Call::OrderedStart(value) => start_refusal(seen, *value),
-        Call::OrderedEnd if !seen.in_part => Some(Refusal::NotInside),
-        _ => None,
-    }
-}
+use gomp_shares::own::is_in_rest;
+use gomp_types::{Refusal, Seen};
 
 /// Why a member may not begin the ordered part of the iteration with this value: `OutsideShare`,
 /// `InOrdered`, `NotOrdered` or `OrderedBackwards`.
 pub fn start_refusal(seen: &Seen, value: i64) -> Option<Refusal>
     requires shape { HasShape seen.now }
-    ensures first { result ≡ first_refusal (own_start_tests seen.now value) }
+    ensures first { result ≡ first_refusal (part_tests value seen.now) }
 {
     let Some((_, shape)) = seen.current else {
         return Some(Refusal::OutsideShare);

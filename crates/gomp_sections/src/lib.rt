@@ -1,8 +1,9 @@
 //! The calls of a member on the sections and `single` constructs of its team.
 //!
 //! Each construct is one work-share: sections are its pieces, one each, and a `single` has one piece,
-//! whose taker executes it. Each call makes the tests of its row (`call_tests`) and asks for a member
-//! of the team alone. Where none of them holds it answers what `MayReply` allows, but for three calls:
+//! whose taker executes it. Each call makes the tests of its own (specs/Sections.antt and
+//! specs/Singles.antt of gomp_shares) and asks for a member of the team alone. Where none of them
+//! holds it answers what is defined there, but for three calls:
 //! `single_copy_start` does so where the words that it is handed are those that were put, and the two
 //! ends that have a part above them (`sections_end`, whose arrival is compared there, and
 //! `single_copy_end`, whose words are kept there) answer that the member has left.
@@ -16,11 +17,9 @@
 //! (libgomp manual, the ABI chapter).
 #![tactic(auto)]
 
-pub mod calls;
 pub mod own;
 pub mod sections;
 pub mod single;
 
-pub use calls::first_refusal;
 pub use sections::{sections_end, sections_end_nowait, sections_next, sections_start};
 pub use single::{single_copy_end, single_copy_start, single_start};

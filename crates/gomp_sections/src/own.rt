@@ -2,31 +2,16 @@
 
 ghost use Rattle.std.specs.Prelude.{◌≡◌, ◌<◌, ◌^◌, IfNone};
 ghost use Rattle.gomp_types.specs.Tests.{first_refusal};
-ghost use Rattle.gomp_sections.specs.OwnTests.{own_tests, own_start_tests, own_copy_end_tests};
+ghost use Rattle.gomp_types.specs.Sections.{sections_tests};
+ghost use Rattle.gomp_shares.specs.Starts.{start_tests};
+ghost use Rattle.gomp_shares.specs.Singles.{put_tests};
 
-use gomp_share_plain::own::{end_refusal, next_refusal, outside_refusal};
-use gomp_share_plain::{Construct, Seen};
-use gomp_types::{Call, EndKind, Limits, MAX_SECTIONS, Refusal, ShareKind};
-
-/// Why a member that sees this of its place may not make this call.
-pub fn own_refusal(seen: &Seen, limits: &Limits, call: &Call) -> Option<Refusal>
-    ensures first { result ≡ first_refusal (own_tests limits.now seen.now call.now) }
-{
-    match call {
-        Call::SectionsStart { count, .. } => start_refusal(seen, limits, *count),
-        Call::SectionsNext => next_refusal(seen, Construct::Sections),
-        Call::SectionsEnd => end_refusal(seen, Construct::Sections, EndKind::Wait),
-        Call::SectionsEndNowait => end_refusal(seen, Construct::Sections, EndKind::Nowait),
-        Call::SingleStart | Call::SingleCopyStart => outside_refusal(seen, limits),
-        Call::SingleCopyEnd(_) => copy_end_refusal(seen),
-        _ => None,
-    }
-}
+use gomp_types::{Limits, MAX_SECTIONS, Refusal, Seen, ShareKind};
 
 /// Why a member may not start a construct of so many sections: `InsideShare`, `BadSections` or
 /// `TooManyShares`.
 pub fn start_refusal(seen: &Seen, limits: &Limits, count: u32) -> Option<Refusal>
-    ensures first { result ≡ first_refusal (own_start_tests limits.now seen.now count) }
+    ensures first { result ≡ first_refusal (start_tests (sections_tests count) limits.now seen.now) }
     ensures few { IfNone result (seen.now.entered < 2 ^ 32) }
 {
     if seen.current.is_some() {
@@ -44,7 +29,7 @@ pub fn start_refusal(seen: &Seen, limits: &Limits, count: u32) -> Option<Refusal
 /// Why a member may not put the words of a `single`: `NotInside` where it does not execute one whose
 /// words are still to be put.
 pub fn copy_end_refusal(seen: &Seen) -> Option<Refusal>
-    ensures first { result ≡ first_refusal (own_copy_end_tests seen.now) }
+    ensures first { result ≡ first_refusal (put_tests seen.now) }
 {
     let Some((_, shape)) = seen.current else {
         return Some(Refusal::NotInside);

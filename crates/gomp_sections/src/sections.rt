@@ -2,26 +2,24 @@
 //!
 //! OpenMP API 5.2, section 11.3.
 
-ghost use Rattle.std.specs.Prelude.{◌≡◌, ◌<◌, ℕ, List, Err, false};
+ghost use Rattle.std.specs.Prelude.{◌≡◌, ◌<◌, ℕ, List, Err};
+ghost use Rattle.std.specs.Option.{ForSome};
 ghost use Rattle.gomp_types.specs.declared.event.Event.{Event};
-ghost use Rattle.gomp_types.specs.declared.call.Call.TheVariants.{SectionsStart, SectionsNext, SectionsEndNowait};
-ghost use Rattle.gomp_types.specs.declared.loop_desc.EndKind.TheVariants.{Wait as WaitEnd};
+ghost use Rattle.gomp_types.specs.declared.loop_desc.EndKind.TheVariants.{Wait as WaitEnd, Nowait};
 ghost use Rattle.gomp_types.specs.declared.reply.Reply.TheVariants.{Wait, Refused};
 ghost use Rattle.gomp_types.specs.declared.refusal.Refusal.{Refusal};
-ghost use Rattle.gomp_types.specs.declared.limits.Limits.{Limits};
-ghost use Rattle.gomp_types.specs.Tests.{first_refusal, outcome};
-ghost use Rattle.gomp_types.specs.Events.{entered};
-ghost use Rattle.gomp_types.specs.Record.{added};
-ghost use Rattle.gomp_types.specs.Refusals.{sections_end_tests};
-ghost use Rattle.gomp_types.specs.Causes.{IsReply};
-ghost use Rattle.std.specs.Option.{ForSome};
-ghost use Rattle.gomp_share_plain.specs.Calls.{EachStands, left_unless_refused};
+ghost use Rattle.gomp_types.specs.Tests.{outcome};
+ghost use Rattle.gomp_types.specs.Least.{least};
+ghost use Rattle.gomp_types.specs.Seen.{seen_of};
+ghost use Rattle.gomp_shares.specs.Calls.{EachStands, left_unless_refused};
+ghost use Rattle.gomp_shares.specs.Starts.{left_at_once};
+ghost use Rattle.gomp_shares.specs.Sections.{AnswersSectionsStart, sections_started, AnswersSectionsNext, section_next_taken, AnswersSectionsEnd, sections_end_tests};
 ghost use Rattle.gomp_sections.specs.Answers.{section_of};
 
 use crate::own::start_refusal;
-use gomp_share_plain::own::{end_refusal, next_refusal};
-use gomp_share_plain::{Construct, Opening, Shares};
-use gomp_types::{EndKind, Limits, Refusal, Reply, laws, sections_shape};
+use gomp_shares::own::{end_refusal, next_refusal};
+use gomp_shares::{Construct, Opening, Shares};
+use gomp_types::{EndKind, Limits, Refusal, Reply, sections_shape};
 
 /// Enters the member's next share for a construct of `count` sections, 0 to 65,536, and answers the
 /// first section that nobody took, numbered from 1, or 0 where none is left; the member is in the
@@ -40,8 +38,8 @@ pub fn sections_start<S: Shares>(
     requires member { member < S.members shares.old }
     ensures members { S.members shares.new ≡ S.members shares.old }
     ensures known { (h : List Event) × S.stands shares.old h }
-    ensures answer { EachStands (S.stands shares.old) (IsReply limits.now (S.members shares.old) member (SectionsStart count end_kind) result) }
-    ensures stands { EachStands (S.stands shares.old) (λ h. S.stands shares.new (added false member (entered member h) result (SectionsStart count end_kind) h)) }
+    ensures answer { EachStands (S.stands shares.old) (AnswersSectionsStart count end_kind limits.now (S.members shares.old) member result) }
+    ensures stands { EachStands (S.stands shares.old) (λ h. S.stands shares.new (sections_started count end_kind member result h)) }
     ensures kept { (refusal : Refusal) → result ≡ Refused refusal → shares.new ≡ shares.old }
     ensures waits { result ≡ Wait → shares.new ≡ shares.old }
 {
@@ -68,11 +66,11 @@ pub fn sections_next<S: Shares>(shares: &mut S, member: u16) -> Reply
     requires member { member < S.members shares.old }
     ensures members { S.members shares.new ≡ S.members shares.old }
     ensures known { (h : List Event) × S.stands shares.old h }
-    ensures answer { (limits : Limits) → EachStands (S.stands shares.old) (IsReply limits (S.members shares.old) member SectionsNext result) }
-    ensures stands { EachStands (S.stands shares.old) (λ h. S.stands shares.new (added false member (entered member h) result SectionsNext h)) }
+    ensures answer { EachStands (S.stands shares.old) (AnswersSectionsNext (S.members shares.old) member result) }
+    ensures stands { EachStands (S.stands shares.old) (λ h. S.stands shares.new (section_next_taken member result h)) }
     ensures kept { (refusal : Refusal) → result ≡ Refused refusal → shares.new ≡ shares.old }
 {
-    laws::part_inside();
+    gomp_shares::laws::part_inside();
     let seen = shares.look(member);
     if let Some(refusal) = next_refusal(&seen, Construct::Sections) {
         return Reply::Refused(refusal);
@@ -81,7 +79,7 @@ pub fn sections_next<S: Shares>(shares: &mut S, member: u16) -> Reply
 }
 
 /// Leaves the member's sections, at the end of which a barrier stands: this crate's part of that
-/// call, as for a loop. The layer above asks [`first_refusal`](crate::first_refusal) first, compares
+/// call, as for a loop. The layer above asks for its refusal first, compares
 /// the arrival with those of the other members, and calls this last; then the member arrives.
 ///
 /// Refused with `OutsideShare`, `EndDiffers` or `NotDrained`.
@@ -89,11 +87,11 @@ pub fn sections_end<S: Shares>(shares: &mut S, member: u16) -> Result<(), Refusa
     requires member { member < S.members shares.old }
     ensures members { S.members shares.new ≡ S.members shares.old }
     ensures known { (h : List Event) × S.stands shares.old h }
-    ensures answer { EachStands (S.stands shares.old) (λ h. result ≡ outcome (first_refusal (sections_end_tests WaitEnd member h)) tt) }
+    ensures answer { EachStands (S.stands shares.old) (λ h. result ≡ outcome (least (sections_end_tests WaitEnd (seen_of member h))) tt) }
     ensures stands { EachStands (S.stands shares.old) (λ h. S.stands shares.new (left_unless_refused result member h)) }
     ensures kept { (refusal : Refusal) → result ≡ Err refusal → shares.new ≡ shares.old }
 {
-    laws::part_inside();
+    gomp_shares::laws::part_inside();
     let seen = shares.look(member);
     if let Some(refusal) = end_refusal(&seen, Construct::Sections, EndKind::Wait) {
         return Err(refusal);
@@ -109,11 +107,11 @@ pub fn sections_end_nowait<S: Shares>(shares: &mut S, member: u16) -> Reply
     requires member { member < S.members shares.old }
     ensures members { S.members shares.new ≡ S.members shares.old }
     ensures known { (h : List Event) × S.stands shares.old h }
-    ensures answer { (limits : Limits) → EachStands (S.stands shares.old) (IsReply limits (S.members shares.old) member SectionsEndNowait result) }
-    ensures stands { EachStands (S.stands shares.old) (λ h. S.stands shares.new (added false member (entered member h) result SectionsEndNowait h)) }
+    ensures answer { EachStands (S.stands shares.old) (AnswersSectionsEnd Nowait member result) }
+    ensures stands { EachStands (S.stands shares.old) (λ h. S.stands shares.new (left_at_once member result h)) }
     ensures kept { (refusal : Refusal) → result ≡ Refused refusal → shares.new ≡ shares.old }
 {
-    laws::part_inside();
+    gomp_shares::laws::part_inside();
     let seen = shares.look(member);
     if let Some(refusal) = end_refusal(&seen, Construct::Sections, EndKind::Nowait) {
         return Reply::Refused(refusal);

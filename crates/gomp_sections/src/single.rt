@@ -3,23 +3,23 @@
 //!
 //! OpenMP API 5.2, sections 11.1 and 5.7.2 (the `copyprivate` clause).
 
-ghost use Rattle.std.specs.Prelude.{◌≡◌, ◌<◌, ◌↔◌, ℕ, List, Some, Err, false, option_copied};
+ghost use Rattle.std.specs.Prelude.{◌≡◌, ◌<◌, ◌↔◌, ℕ, List, [], Some, Err, true, option_copied};
 ghost use Rattle.gomp_types.specs.declared.event.Event.{Event};
-ghost use Rattle.gomp_types.specs.declared.call.Call.TheVariants.{SingleStart, SingleCopyStart};
-ghost use Rattle.gomp_types.specs.Tests.{first_refusal, outcome};
 ghost use Rattle.gomp_types.specs.declared.reply.Reply.TheVariants.{Wait, Refused};
 ghost use Rattle.gomp_types.specs.declared.refusal.Refusal.{Refusal};
+ghost use Rattle.gomp_types.specs.Tests.{outcome};
+ghost use Rattle.gomp_types.specs.Least.{least};
+ghost use Rattle.gomp_types.specs.Singles.{single_shape};
 ghost use Rattle.gomp_types.specs.Events.{entered, payload_at};
-ghost use Rattle.gomp_types.specs.Record.{added};
-ghost use Rattle.gomp_types.specs.Refusals.{call_tests};
-ghost use Rattle.gomp_types.specs.Causes.{IsReply};
-ghost use Rattle.gomp_share_plain.specs.Calls.{EachStands, seen_of, left_unless_refused};
-ghost use Rattle.gomp_sections.specs.OwnTests.{own_copy_end_tests};
+ghost use Rattle.gomp_types.specs.Seen.{seen_of};
+ghost use Rattle.gomp_shares.specs.Calls.{EachStands, left_unless_refused};
+ghost use Rattle.gomp_shares.specs.Starts.{share_tests};
+ghost use Rattle.gomp_shares.specs.Singles.{AnswersSingle, single_started, AnswersCopy, copy_started, put_tests};
 
 use crate::own::copy_end_refusal;
-use gomp_share_plain::own::outside_refusal;
-use gomp_share_plain::{Opening, Shares};
-use gomp_types::{Limits, Payload, Refusal, Reply, laws, single_shape};
+use gomp_shares::own::outside_refusal;
+use gomp_shares::{Opening, Shares};
+use gomp_types::{Limits, Payload, Refusal, Reply, single_shape};
 
 /// The member goes through a `single`: it enters its next share, executes it where nobody else does,
 /// and has left it. The body has no end call, and a barrier at its end is a call of its own.
@@ -31,8 +31,8 @@ pub fn single_start<S: Shares>(shares: &mut S, member: u16, limits: &Limits) -> 
     requires member { member < S.members shares.old }
     ensures members { S.members shares.new ≡ S.members shares.old }
     ensures known { (h : List Event) × S.stands shares.old h }
-    ensures answer { EachStands (S.stands shares.old) (IsReply limits.now (S.members shares.old) member SingleStart result) }
-    ensures stands { EachStands (S.stands shares.old) (λ h. S.stands shares.new (added false member (entered member h) result SingleStart h)) }
+    ensures answer { EachStands (S.stands shares.old) (AnswersSingle limits.now (S.members shares.old) member result) }
+    ensures stands { EachStands (S.stands shares.old) (λ h. S.stands shares.new (single_started member result h)) }
     ensures kept { (refusal : Refusal) → result ≡ Refused refusal → shares.new ≡ shares.old }
     ensures waits { result ≡ Wait → shares.new ≡ shares.old }
 {
@@ -68,9 +68,9 @@ pub fn single_copy_start<S: Shares>(
     requires member { member < S.members shares.old }
     ensures members { S.members shares.new ≡ S.members shares.old }
     ensures known { (h : List Event) × S.stands shares.old h }
-    ensures refused { (refusal : Refusal) → EachStands (S.stands shares.old) (λ h. result ≡ Refused refusal ↔ first_refusal (call_tests limits.now member SingleCopyStart h) ≡ Some refusal) }
-    ensures answer { EachStands (S.stands shares.old) (λ h. payload_at (entered member h) h ≡ option_copied put.entry → IsReply limits.now (S.members shares.old) member SingleCopyStart result h) }
-    ensures stands { EachStands (S.stands shares.old) (λ h. S.stands shares.new (added false member (entered member h) result SingleCopyStart h)) }
+    ensures refused { (refusal : Refusal) → EachStands (S.stands shares.old) (λ h. result ≡ Refused refusal ↔ least (share_tests [] (single_shape true) limits.now member h) ≡ Some refusal) }
+    ensures answer { EachStands (S.stands shares.old) (λ h. payload_at (entered member h) h ≡ option_copied put.entry → AnswersCopy limits.now (S.members shares.old) member result h) }
+    ensures stands { EachStands (S.stands shares.old) (λ h. S.stands shares.new (copy_started member result h)) }
     ensures kept { (refusal : Refusal) → result ≡ Refused refusal → shares.new ≡ shares.old }
     ensures waits { result ≡ Wait → shares.new ≡ shares.old }
 {
@@ -86,7 +86,8 @@ pub fn single_copy_start<S: Shares>(
         return Reply::Wait;
     }
     match shares.try_open(member, &shape) {
-        Opening::Differs => Reply::Refused(Refusal::Mismatch),
+        // The shapes were compared above.
+        Opening::Differs => unreachable!(),
         Opening::NotYet => Reply::Wait,
         Opening::Entered => {
             if shares.claim(member).is_some() {
@@ -95,8 +96,8 @@ pub fn single_copy_start<S: Shares>(
             shares.leave(member);
             match put {
                 Some(words) => Reply::Copied(words.copied()),
-                // Not here: nobody took the piece, so this member did.
-                None => Reply::Wait,
+                // Nobody took the piece, so this member did.
+                None => unreachable!(),
             }
         }
     }
@@ -110,11 +111,11 @@ pub fn single_copy_end<S: Shares>(shares: &mut S, member: u16) -> Result<(), Ref
     requires member { member < S.members shares.old }
     ensures members { S.members shares.new ≡ S.members shares.old }
     ensures known { (h : List Event) × S.stands shares.old h }
-    ensures answer { EachStands (S.stands shares.old) (λ h. result ≡ outcome (first_refusal (own_copy_end_tests (seen_of member h))) tt) }
+    ensures answer { EachStands (S.stands shares.old) (λ h. result ≡ outcome (least (put_tests (seen_of member h))) tt) }
     ensures stands { EachStands (S.stands shares.old) (λ h. S.stands shares.new (left_unless_refused result member h)) }
     ensures kept { (refusal : Refusal) → result ≡ Err refusal → shares.new ≡ shares.old }
 {
-    laws::part_inside();
+    gomp_shares::laws::part_inside();
     let seen = shares.look(member);
     if let Some(refusal) = copy_end_refusal(&seen) {
         return Err(refusal);

@@ -9,8 +9,7 @@ use Rattle.clap.specs.declared.error.kind.ErrorKind.TheVariants as kinds
 use Rattle.gomp_types.specs.declared.call.Step.{Step}
 use Rattle.gomp_types.specs.declared.reply.Reply.{Reply}
 use Rattle.gomp_types.specs.declared.refusal.Refusal.TheVariants.{BadTeam, BadEnv}
-use Rattle.gomp_types.specs.Record.{record_after}
-use Rattle.gomp_types.specs.Causes.{Caused}
+use Rattle.gomp_model.specs.Team.{record_after, Caused}
 use Rattle.gomp_icv.specs.Variables.{Variables, initial}
 use Rattle.gomp_core.specs.Stands.{standard_terms, NoneForMemory}
 use Rattle.gomp_core.specs.Resolved.{resolved_steps}

@@ -3,8 +3,7 @@ use Rattle.std.specs.Prelude.{ℕ, ◌≡◌, ◌&&◌, nat_le, Bool, true, fals
 use Rattle.gomp_types.specs.declared.call.Step.{Step}
 use Rattle.gomp_types.specs.declared.reply.Reply.{Reply}
 use Rattle.gomp_types.specs.declared.refusal.Refusal.TheVariants.{BadTeam}
-use Rattle.gomp_types.specs.Record.{record_after}
-use Rattle.gomp_types.specs.Causes.{Caused}
+use Rattle.gomp_model.specs.Team.{record_after, Caused}
 use Rattle.gomp_icv.specs.Variables.{Variables}
 use Rattle.gomp_core.specs.Stands.{standard_terms, NoneForMemory}
 use Rattle.gomp_core.specs.Resolved.{resolved_steps}

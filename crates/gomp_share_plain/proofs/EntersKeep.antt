@@ -1,58 +1,25 @@
 -- A member that enters a share, which it opens where nobody else has, keeps the plain shares in step with the events.
-use Rattle.std.proofs.Common.{◌≡◌, ◌≢◌, ℕ, ◌+◌, ◌%◌, ◌<◌, ◌≤◌, true, false, List, ◌∷◌, length, slice_get, slice_set, Some, None, inl, inr, refl, ap, ◌∙◌, sym, subst, arith}
+use Rattle.std.proofs.Common.{◌≡◌, ◌≢◌, ℕ, ◌+◌, ◌%◌, ◌<◌, ◌≤◌, List, ◌∷◌, length, slice_get, slice_set, Some, None, inl, inr, refl, ap, ◌∙◌, sym, subst, arith}
 use Rattle.std.specs.Prelude.{Option}
 use Rattle.std.proofs.lemmas.Bool.Decides.{nat_tests, eqb_tells}
 use Rattle.std.proofs.lemmas.List.{length-set}
-use Rattle.std.proofs.lemmas.Option.{slice_get_within}
 use Rattle.gomp_types.specs.declared.shape.Shape.{Shape}
 use Rattle.gomp_types.specs.declared.event.Event.{Event}
 use Rattle.gomp_types.specs.declared.event.Event.TheVariants.{Enter}
-use Rattle.gomp_types.specs.Pieces.{Tiles, pieces_of}
-use Rattle.gomp_types.specs.Shapes.{is_loop}
-use Rattle.gomp_types.specs.Events.{entered, open_share, turn, shape_at, is_inside, has_room}
-use Rattle.gomp_types.specs.Values.{IsShape}
-use Rattle.gomp_types.specs.Deals.{IsDealt, schedule}
-use Rattle.gomp_types.specs.Record.{shown}
+use Rattle.gomp_types.specs.Events.{entered, turn, shape_at}
+use Rattle.gomp_types.specs.Limits.{shown}
 use Rattle.gomp_chunks.specs.Spots.{CursorView}
-use Rattle.gomp_types.specs.Rules.{MayEnter}
-use Rattle.gomp_types.proofs.Booleans.{none_of}
 use Rattle.gomp_types.proofs.Lists.{slice_get-set, slice_get-set_same, slice_get-set_other}
-use Rattle.gomp_share_plain.specs.Calls.{CanOpen, taken_of}
-use Rattle.gomp_share_plain.specs.declared.Seen.{Seen}
+use Rattle.gomp_types.specs.Seen.{seen_of}
+use Rattle.gomp_shares.specs.declared.Opening.TheVariants.{Entered}
+use Rattle.gomp_shares.specs.Calls.{CanOpen, MayOpen, taken_of}
+use Rattle.gomp_shares.proofs.AnswerRules.{enter_rule}
 use Rattle.gomp_share_plain.specs.declared.seat.Seat.{Seat}
 use Rattle.gomp_share_plain.specs.declared.open_share.OpenShare.{OpenShare}
 use Rattle.gomp_share_plain.specs.Plain.{SeatStands, StandsFor, new_seat}
 use Rattle.gomp_share_plain.specs.Same.{seat_near, SamePlaces, place_same}
 use Rattle.gomp_share_plain.proofs.Seats.{outside, other_number, other_seat, seat_steps}
-use Rattle.gomp_share_plain.proofs.Room.{room_by, room_before}
 use Rattle.gomp_share_plain.proofs.Places.{places_differ}
-
--- The shape with which a member enters
-
--- a shape in which a member may enter
-pub record CanEnter (members : ℕ) (shape : Shape) : Type 0 where
-  pub valid : IsShape shape
-  pub dealt : IsDealt (schedule members) members shape
-  pub tiles : Tiles 0 (pieces_of members shape) shape.trips
-  pub ordered : shape.ordered ≡ true → is_loop shape.kind ≡ true
-
--- the law of the schedules, at a shape that a member comes with
-abbrev pub FairSchedule : Type 0
-FairSchedule = (members : ℕ) (shape : Shape) → 0 < members → IsShape shape → IsDealt (schedule members) members shape
-
--- the law of the pieces
-abbrev pub PiecesTile : Type 0
-PiecesTile = (members : ℕ) (shape : Shape) → 0 < members → IsShape shape → Tiles 0 (pieces_of members shape) shape.trips
-
-pub can_enter : (members m : ℕ) (shape : Shape) (seen : Seen) → CanOpen members m shape seen → FairSchedule → PiecesTile → CanEnter members shape
-can_enter members m shape seen can fair tile = let lt = can.member in record {
-  valid = can.valid;
-  dealt = fair members shape (omega arith) can.valid;
-  tiles = tile members shape (omega arith) can.valid;
-  ordered = can.ordered;
-}
-
--- Entering
 
 -- the seat of the member that enters
 own_enters : (members m : ℕ) (seat : Seat) (opened more : ℕ) (shape : Shape) (h : List Event) → SeatStands members m seat opened h → seat.started ≡ seat.ended → seat.started + 1 ≤ more → more ≤ seat.ended + 8 →
@@ -77,20 +44,6 @@ own_enters members m seat opened more shape h s even known near there = record {
   inside = λ e. (shape, (let here = s.started in grind (arith, nat_tests, here, even)), subst (λ n. shape_at n (Enter (entered m h) m shape ∷ h) ≡ Some shape) even there);
 }
 
-enter_rule : (members m : ℕ) (shape : Shape) (h : List Event) → m < members → is_inside m h ≡ false → CanEnter members shape →
-    ((other : Shape) → shape_at (entered m h) h ≡ Some other → other ≡ shape) → has_room members (entered m h) h ≡ true → MayEnter (schedule members) members (entered m h) m shape h
-enter_rule members m shape h lt out fine same room = record {
-  member = lt;
-  number = refl;
-  outside = none_of (open_share m h) out;
-  dealt = fine.dealt;
-  tiles = fine.tiles;
-  moves = fine.valid.moves;
-  ordered = fine.ordered;
-  same = same;
-  room = room;
-}
-
 -- one more entry into a share, in its shape, changes no place
 entered_again : (i m : ℕ) (shape : Shape) (h : List Event) → shape_at i h ≡ Some shape → SamePlaces (Enter i m shape ∷ h) h
 entered_again i m shape h here = record {
@@ -104,34 +57,30 @@ entered_again i m shape h here = record {
 
 -- a member enters a share that another opened
 pub enters : (members : ℕ) (seats : List Seat) (opened : ℕ) (places : List (Option OpenShare)) (h : List Event) (m : ℕ) (seat : Seat) (shape : Shape) →
-    StandsFor members seats opened places h → slice_get seats m ≡ Some seat → is_inside m h ≡ false → seat.started < opened → CanEnter members shape →
+    StandsFor members seats opened places h → slice_get seats m ≡ Some seat → CanOpen members m shape (seen_of m h) → MayOpen members m shape Entered h → seat.started < opened →
     shape_at seat.started h ≡ Some shape →
     StandsFor members (slice_set seats m (record new_seat { started = seat.started + 1; ended = seat.ended })) opened places (Enter (entered m h) m shape ∷ h)
-enters members seats opened places h m seat shape st at out before fine same =
+enters members seats opened places h m seat shape st at can may before same =
     let s : SeatStands members m seat opened h = st.seat m seat at in
-    let even : seat.started ≡ seat.ended = outside members m seat opened h s out in
-    let lt : m < members = rw (← st.size) (slice_get_within seats m seat at) in
+    let even : seat.started ≡ seat.ended = outside members m seat opened h s can.outside in
     let here : shape_at (entered m h) h ≡ Some shape = ap (λ n. shape_at n h) s.started ∙ same in
     let near = s.near in
     seat_steps members seats opened places h (Enter (entered m h) m shape) (record new_seat { started = seat.started + 1; ended = seat.ended }) st
     (entered_again (entered m h) m shape h here)
     (own_enters members m seat opened opened shape h s even (omega arith) near (let w = s.started in grind (arith, nat_tests, w)))
-    (enter_rule members m shape h lt out fine
-    (λ other found. let one : Some other ≡ Some shape = sym found ∙ here in cc)
-    (subst (λ n. has_room members n h ≡ true) (sym s.started) (room_before members seats opened places h seat.started st before)))
+    (enter_rule members m shape h can may)
 
 -- a member opens the next share
 pub opens : (members : ℕ) (seats : List Seat) (count : ℕ) (places : List (Option OpenShare)) (h : List Event) (m : ℕ) (seat : Seat) (shape : Shape) (cursor : CursorView) → cursor.plan ≡ record { members = members; shape = shape } →
-    StandsFor members seats count places h → slice_get seats m ≡ Some seat → is_inside m h ≡ false → seat.started ≡ count → CanEnter members shape →
+    StandsFor members seats count places h → slice_get seats m ≡ Some seat → CanOpen members m shape (seen_of m h) → MayOpen members m shape Entered h → seat.started ≡ count →
     ((k : ℕ) (other : Seat) → slice_get seats k ≡ Some other → count < other.ended + 8) →
     StandsFor members (slice_set seats m (record new_seat { started = count + 1; ended = seat.ended })) (count + 1) (slice_set places (count % 8) (Some (record { shape = shape; taken = 0; turn = 0; cursor = cursor }))) (Enter (entered m h) m shape ∷ h)
-opens members seats count places h m seat shape cursor plan st at out now fine room =
+opens members seats count places h m seat shape cursor plan st at can may now room =
     let s : SeatStands members m seat count h = st.seat m seat at in
     let here : entered m h ≡ count = s.started ∙ now in
-    let even : seat.started ≡ seat.ended = outside members m seat count h s out in
+    let even : seat.started ≡ seat.ended = outside members m seat count h s can.outside in
     let none = st.beyond count (omega arith) in
     let within : (count % 8) < length places = rw st.eight (omega arith) in
-    let lt : m < members = rw (← st.size) (slice_get_within seats m seat at) in
     let away : (i : ℕ) → i ≢ count → shape_at i (Enter (entered m h) m shape ∷ h) ≡ shape_at i h = λ i differ. rw (here, other_number i count differ) refl in
     record {
       size = length-set seats m _ ∙ st.size;
@@ -153,16 +102,11 @@ opens members seats count places h m seat shape cursor plan st at out now fine r
           taken_is = let zero_taken = none.1 (λ k. 0) 0 in ap (λ n. shown (taken_of n h)) e.1 ∙ ap shown zero_taken;
           turn_is = ap (λ n. turn n h) e.1 ∙ none.2;
           cursor_is = plan;
-          valid = fine.valid;
+          valid = can.valid;
         }
         | inr e ↦ place_same members i (slice_get places (i % 8)) _ (Enter (entered m h) m shape ∷ h) h (st.place i (omega (arith, e.1)) (omega arith))
             (slice_get-set_other places (count % 8) (i % 8) _ (places_differ i count (omega (arith, e.1)) (omega arith))) (away i e.1) refl refl
       ];
       beyond = λ i past. let b = st.beyond i (omega arith) in (away i (λ same. omega arith) ∙ b.0, b.1, b.2);
-      rule = (
-        enter_rule members m shape h lt out fine
-            (λ other found. absurd (let n : Some other ≡ None = sym found ∙ ap (λ n. shape_at n h) here ∙ none.0 in cc))
-            (subst (λ n. has_room members n h ≡ true) (sym here) (room_by members seats count places h count st room)),
-        st.rule,
-      );
+      rule = (enter_rule members m shape h can may, st.rule);
     }

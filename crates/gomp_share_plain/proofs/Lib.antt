@@ -1,12 +1,8 @@
-pub mod CallExamples
-pub mod CallRuns
-pub mod Entered
 pub mod EntersKeep
 pub mod LeavesKeep
 pub mod PartsKeep
 pub mod Places
 pub mod Room
-pub mod RunExamples
 pub mod Seats
 pub mod Takes
 pub mod TakesKeep

@@ -1,5 +1,5 @@
 -- The calls of ordered parts keep the plain shares in step with the events.
-use Rattle.std.proofs.Common.{◌≡◌, ◌≢◌, ℕ, ◌+◌, ◌%◌, ◌^◌, ◌<◌, ◌≤◌, true, false, nat_lt, nat_le, List, ◌∷◌, length, slice_get, slice_set, Option, Some, None, inl, inr, refl, ap, ◌∙◌, sym, subst, arith}
+use Rattle.std.proofs.Common.{◌≡◌, ◌≢◌, ℕ, ◌+◌, ◌%◌, ◌^◌, ◌<◌, ◌≤◌, true, false, List, ◌∷◌, length, slice_get, slice_set, Option, Some, inl, inr, refl, ap, ◌∙◌, sym, subst, arith}
 use Rattle.std.specs.Prelude.{◌==◌, ◌&&◌, is_some}
 use Rattle.std.proofs.lemmas.Bool.Decides.{nat_tests, eqb_tells}
 use Rattle.std.proofs.lemmas.List.{length-set}
@@ -7,13 +7,14 @@ use Rattle.gomp_types.specs.declared.shape.Shape.{Shape}
 use Rattle.gomp_types.specs.declared.event.Event.{Event}
 use Rattle.gomp_types.specs.declared.event.Event.TheVariants.{HandOn, Part, PartEnd}
 use Rattle.gomp_types.specs.Pieces.{Piece, Tiles, pieces_of}
-use Rattle.gomp_types.specs.Events.{open_share, open_number, share_number, last_piece, has_iteration, turn, next_part, in_part, is_inside, shape_at}
-use Rattle.gomp_types.specs.Ordered.{is_ordered, is_in_rest}
-use Rattle.gomp_types.specs.Record.{shown}
-use Rattle.gomp_types.specs.Rules.{MayHandOn, MayPart, MayEndPart}
-use Rattle.gomp_types.proofs.Booleans.{some_of, and_left, and_right, same_number}
+use Rattle.gomp_types.specs.Events.{open_number, turn, is_inside, shape_at}
+use Rattle.gomp_types.specs.Values.{IsShape}
+use Rattle.gomp_types.specs.Limits.{shown}
+use Rattle.gomp_types.proofs.Booleans.{same_number}
 use Rattle.gomp_types.proofs.Lists.{slice_get-set_same, slice_get-set_other}
-use Rattle.gomp_share_plain.specs.Calls.{CanBeginPart, CanEndPart, CanHandOn, own_turn, seen_of, taken_of}
+use Rattle.gomp_shares.specs.Calls.{CanBeginPart, CanEndPart, CanHandOn, own_turn, taken_of}
+use Rattle.gomp_shares.proofs.AnswerRules.{part_rule, part_end_rule, hand_on_rule, begins_inside, hands_inside}
+use Rattle.gomp_types.specs.Seen.{seen_of}
 use Rattle.gomp_share_plain.specs.declared.seat.Seat.{Seat}
 use Rattle.gomp_share_plain.specs.declared.open_share.OpenShare.{OpenShare}
 use Rattle.gomp_share_plain.specs.Plain.{SeatStands, StandsFor}
@@ -21,9 +22,12 @@ use Rattle.gomp_share_plain.proofs.Turns.{lies, turn_of}
 use Rattle.gomp_share_plain.specs.Same.{seat_same, place_same}
 use Rattle.gomp_share_plain.proofs.Seats.{inside, inside_number, seat_steps}
 use Rattle.gomp_share_plain.proofs.Places.{places_apart, here_is, here_valid, shape_here, own_place, own_share}
-use Rattle.gomp_share_plain.proofs.EntersKeep.{PiecesTile}
 
 -- The turn
+
+-- the law of the pieces
+abbrev PiecesTile : Type 0
+PiecesTile = (members : ℕ) (shape : Shape) → 0 < members → IsShape shape → Tiles 0 (pieces_of members shape) shape.trips
 
 -- the pieces of the share that a member is in
 tiled : (members : ℕ) (seats : List Seat) (count : ℕ) (places : List (Option OpenShare)) (h : List Event) (m : ℕ) (seat : Seat) (share : OpenShare) →
@@ -60,78 +64,6 @@ number_below members seats count places h m seat share piece st at within found 
     let from = lie.from in let some = lie.some in let most = lie.within in let few = valid.trips in
     (omega arith, omega arith)
 
--- The rules
-
-ordered_some : (own : Option (ℕ × Shape)) → is_ordered own ≡ true → is_some own ≡ true
-ordered_some None e = absurd (cc)
-ordered_some (Some share) e = refl
-
-pub begins_inside : (members m iteration : ℕ) (h : List Event) → CanBeginPart members m iteration (seen_of m h) → is_inside m h ≡ true
-begins_inside members m iteration h can = ordered_some (open_share m h) can.ordered
-
-pub hands_inside : (members m : ℕ) (h : List Event) → CanHandOn members m (seen_of m h) → is_inside m h ≡ true
-hands_inside members m h can = ordered_some (open_share m h) can.ordered
-
--- what the test of an iteration tells
-pub record InRest (own : Option Piece) (least k : ℕ) : Type 0 where
-  pub piece : Piece
-  pub is : own ≡ Some piece
-  pub from : piece.0 ≤ k
-  pub before : k < piece.1
-  pub after : least ≤ k
-
-pub in_rest : (own : Option Piece) (after k : ℕ) → is_in_rest own after (Some k) ≡ true → InRest own after k
-in_rest None after k e = absurd (cc)
-in_rest (Some piece) after k e =
-    let both = and_left (has_iteration k piece.0 piece.1) (nat_le after k) e in
-    let last = and_right (has_iteration k piece.0 piece.1) (nat_le after k) e in
-    let low = and_left (nat_le piece.0 k) (nat_lt k piece.1) both in
-    let high = and_right (nat_le piece.0 k) (nat_lt k piece.1) both in
-    record { piece = piece; is = refl; from = grind (arith, nat_tests, low); before = grind (arith, nat_tests, high); after = grind (arith, nat_tests, last) }
-
-begin_rule : (members m iteration : ℕ) (h : List Event) → CanBeginPart members m iteration (seen_of m h) → own_turn members m h ≡ true → MayPart members (open_number m h) m iteration h
-begin_rule members m iteration h can next =
-    let own = some_of (open_share m h) (begins_inside members m iteration h can) in
-    let number : open_number m h ≡ own.0.0 = ap share_number own.1 in
-    let rest = in_rest (last_piece m h) (next_part m h) iteration can.rest in
-    rw number (record {
-      shape = own.0.1;
-      inside = own.1;
-      ordered = rw own.1 at can.ordered;
-      apart = can.apart;
-      next = rw own.1 at next;
-      low = rest.piece.0;
-      high = rest.piece.1;
-      piece = rest.is;
-      from = rest.from;
-      before = rest.before;
-      after = rest.after;
-    })
-
-hand_rule : (members m : ℕ) (h : List Event) → CanHandOn members m (seen_of m h) → own_turn members m h ≡ true → MayHandOn members (open_number m h) m (turn (open_number m h) h) h
-hand_rule members m h can next =
-    let own = some_of (open_share m h) (hands_inside members m h can) in
-    let number : open_number m h ≡ own.0.0 = ap share_number own.1 in
-    rw number (record {
-      shape = own.0.1;
-      inside = own.1;
-      ordered = rw own.1 at can.ordered;
-      apart = can.apart;
-      number = refl;
-      next = rw own.1 at next;
-    })
-
--- a member that is in a part is in a share
-end_rule : (members m : ℕ) (seat : Seat) (opened : ℕ) (h : List Event) → SeatStands members m seat opened h → in_part m h ≡ true → MayEndPart (open_number m h) m h
-end_rule members m seat opened h s within =
-    elim (eqb_tells seat.started seat.ended) [
-      | inl e ↦ absurd (let out = s.apart e.1 in let shown = s.in_part in cc)
-      | inr e ↦ let in_order = s.in_order in let one = s.one in
-          let own = s.inside (omega (arith, e.1)) in
-          let number : open_number m h ≡ seat.ended = ap share_number own.1 in
-          rw number (record { shape = own.0; inside = own.1; within = within })
-    ]
-
 -- Beginning and ending a part
 
 -- a member begins a part
@@ -161,7 +93,7 @@ begins members seats count places h m seat iteration st at can next =
       outside = s.outside;
       inside = s.inside;
     })
-    (begin_rule members m iteration h can next)
+    (part_rule members m iteration h can next)
 
 -- and ends it
 pub ends : (members : ℕ) (seats : List Seat) (count : ℕ) (places : List (Option OpenShare)) (h : List Event) (m : ℕ) (seat : Seat) →
@@ -189,7 +121,7 @@ ends members seats count places h m seat st at can =
       outside = s.outside;
       inside = s.inside;
     })
-    (end_rule members m seat count h s can.within)
+    (part_end_rule members m h st.rule can)
 
 -- Handing on
 
@@ -237,5 +169,5 @@ hands members seats count places h m seat share st at found can next is =
       ];
       beyond = λ i past. let b = st.beyond i past in
           (b.0, b.1, rw here (turn_else i seat.ended m (turn seat.ended h) h (λ same. let k = s.known in omega arith) ∙ b.2));
-      rule = (hand_rule members m h can next, st.rule);
+      rule = (hand_on_rule members m h can next, st.rule);
     }

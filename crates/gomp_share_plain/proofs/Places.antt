@@ -6,11 +6,11 @@ use Rattle.gomp_types.specs.declared.shape.Shape.{Shape}
 use Rattle.gomp_types.specs.declared.event.Event.{Event}
 use Rattle.gomp_types.specs.Shapes.{same_shape}
 use Rattle.gomp_types.specs.Events.{entered, open_share, shape_at, is_inside}
-use Rattle.gomp_types.specs.Refusals.{shape_differs}
+use Rattle.gomp_types.specs.Compare.{shape_differs}
 use Rattle.gomp_types.specs.Values.{IsShape}
-use Rattle.gomp_types.specs.Record.{shown}
+use Rattle.gomp_types.specs.Limits.{shown}
 use Rattle.gomp_types.proofs.Compared.{same_shape_is}
-use Rattle.gomp_share_plain.specs.Calls.{taken_of, was_taken}
+use Rattle.gomp_shares.specs.Calls.{taken_of, was_taken}
 use Rattle.gomp_share_plain.specs.declared.seat.Seat.{Seat}
 use Rattle.gomp_share_plain.specs.declared.open_share.OpenShare.{OpenShare}
 use Rattle.gomp_share_plain.specs.Plain.{SeatStands, PlaceStands, StandsFor}

@@ -9,13 +9,13 @@ use Rattle.gomp_types.specs.declared.shape.ShareKind.{ShareKind}
 use Rattle.gomp_types.specs.declared.shape.ShareKind.TheVariants.{StaticChunked, StaticEven, Dynamic, Guided, Sections, Single, SingleCopy}
 use Rattle.gomp_types.specs.declared.event.Event.{Event}
 use Rattle.gomp_types.specs.declared.event.Event.TheVariants.{Take}
-use Rattle.gomp_types.specs.Record.{shown}
+use Rattle.gomp_types.specs.Limits.{shown}
 use Rattle.gomp_types.specs.Values.{IsShape}
 use Rattle.gomp_types.specs.Pieces.{Piece, Tiles, pieces_of, kind_pieces, owner_by}
 use Rattle.gomp_types.specs.Deals.{deal_of, schedule, owned_from, taken_in, next_for}
 use Rattle.gomp_types.proofs.Booleans.{same_number}
 use Rattle.gomp_chunks.specs.Plans.{count_for, next_piece, own_queue}
-use Rattle.gomp_share_plain.specs.Calls.{taken_of}
+use Rattle.gomp_shares.specs.Calls.{taken_of}
 use Rattle.gomp_share_plain.specs.Plain.{taken_by}
 
 -- the takes that count for a member are its own of a static share, and else all

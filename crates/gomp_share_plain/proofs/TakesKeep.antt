@@ -7,15 +7,15 @@ use Rattle.gomp_types.specs.declared.shape.Shape.{Shape}
 use Rattle.gomp_types.specs.declared.event.Event.{Event}
 use Rattle.gomp_types.specs.declared.event.Event.TheVariants.{Take, Drained}
 use Rattle.gomp_types.specs.Pieces.{Piece, Tiles, pieces_of}
-use Rattle.gomp_types.specs.Events.{open_share, open_number, share_number, turn, in_part, shape_at, is_inside}
+use Rattle.gomp_types.specs.Events.{open_share, open_number, turn, shape_at, is_inside}
 use Rattle.gomp_types.specs.Values.{IsShape}
-use Rattle.gomp_types.specs.Deals.{schedule}
-use Rattle.gomp_types.specs.Record.{shown}
+use Rattle.gomp_types.specs.Limits.{shown}
 use Rattle.gomp_chunks.specs.Plans.{PlanView, next_piece, pieces}
 use Rattle.gomp_chunks.specs.Spots.{CursorView}
-use Rattle.gomp_types.specs.Rules.{MayTake, HasNone}
 use Rattle.gomp_types.proofs.Lists.{slice_get-set, slice_get-set_same, slice_get-set_other}
-use Rattle.gomp_share_plain.specs.Calls.{Claims, taken_of}
+use Rattle.gomp_types.specs.Seen.{seen_of}
+use Rattle.gomp_shares.specs.Calls.{CanClaim, Claims, taken_of}
+use Rattle.gomp_shares.proofs.AnswerRules.{take_rule, none_rule}
 use Rattle.gomp_share_plain.specs.declared.seat.Seat.{Seat}
 use Rattle.gomp_share_plain.specs.declared.open_share.OpenShare.{OpenShare}
 use Rattle.gomp_share_plain.specs.Plain.{SeatStands, StandsFor, taken_by}
@@ -59,21 +59,11 @@ piece_at members seats count places h m seat share answer st at within found is 
       within = subst (λ (plan : PlanView). IfSome answer (λ piece. (piece.0 < piece.1) × (piece.1 ≤ plan.shape.trips))) plan size;
     }
 
-take_rule : (members m : ℕ) (piece : Piece) (h : List Event) → Claims members m (Some piece) h → in_part m h ≡ false → MayTake (schedule members) (open_number m h) m piece.0 piece.1 h
-take_rule members m piece h claims apart =
-    let number : open_number m h ≡ claims.share.0 = ap share_number claims.there in
-    rw number (record { shape = claims.share.1; inside = claims.there; next = sym claims.least; apart = apart })
-
-none_rule : (members m : ℕ) (h : List Event) → Claims members m None h → in_part m h ≡ false → HasNone (schedule members) (open_number m h) m h
-none_rule members m h claims apart =
-    let number : open_number m h ≡ claims.share.0 = ap share_number claims.there in
-    rw number (record { shape = claims.share.1; inside = claims.there; none = sym claims.least; apart = apart })
-
 -- a member takes a piece
 pub claims : (members : ℕ) (seats : List Seat) (count : ℕ) (places : List (Option OpenShare)) (h : List Event) (m : ℕ) (seat : Seat) (share : OpenShare) (number : ℕ) (piece : Piece) (cursor : CursorView) → cursor.plan ≡ share.cursor.plan → slice_get (pieces share.cursor.plan) number ≡ Some piece →
-    StandsFor members seats count places h → slice_get seats m ≡ Some seat → is_inside m h ≡ true → slice_get places (seat.ended % 8) ≡ Some (Some share) → in_part m h ≡ false → Claims members m (Some piece) h →
+    StandsFor members seats count places h → slice_get seats m ≡ Some seat → is_inside m h ≡ true → slice_get places (seat.ended % 8) ≡ Some (Some share) → CanClaim members m (seen_of m h) → Claims members m (Some piece) h →
     StandsFor members (slice_set seats m (record seat { piece = Some piece; taken = shown (seat.taken + 1); number = number })) count (slice_set places (seat.ended % 8) (Some (record share { taken = shown (share.taken + 1); cursor = cursor }))) (Take (open_number m h) m piece.0 piece.1 ∷ h)
-claims members seats count places h m seat share number piece cursor plan is st at within found apart may =
+claims members seats count places h m seat share number piece cursor plan is st at within found can may =
     let s : SeatStands members m seat count h = st.seat m seat at in
     let here : open_number m h ≡ seat.ended = inside_number members m seat count h s within in
     let one : seat.started ≡ seat.ended + 1 = inside members m seat count h s within in
@@ -131,14 +121,14 @@ claims members seats count places h m seat share number piece cursor plan is st 
         λ queue_of q. taken_else queue_of q i (open_number m h) m piece.0 piece.1 h (away i (λ same. let k = s.known in omega arith)) ∙ b.1 queue_of q,
         b.2,
       );
-      rule = (take_rule members m piece h may apart, st.rule);
+      rule = (take_rule members m piece h can may, st.rule);
     }
 
 -- a member is told that nothing is left
 pub drains : (members : ℕ) (seats : List Seat) (count : ℕ) (places : List (Option OpenShare)) (h : List Event) (m : ℕ) (seat : Seat) →
-    StandsFor members seats count places h → slice_get seats m ≡ Some seat → in_part m h ≡ false → Claims members m None h →
+    StandsFor members seats count places h → slice_get seats m ≡ Some seat → CanClaim members m (seen_of m h) → Claims members m None h →
     StandsFor members (slice_set seats m (record seat { drained = true; piece = None })) count places (Drained (open_number m h) m ∷ h)
-drains members seats count places h m seat st at apart may =
+drains members seats count places h m seat st at can may =
     let s : SeatStands members m seat count h = st.seat m seat at in
     seat_steps members seats count places h (Drained (open_number m h) m) _ st
     (record { shape = λ i. refl; taken = λ queue_of i q. refl; turn = λ i. refl })
@@ -160,4 +150,4 @@ drains members seats count places h m seat st at apart may =
       outside = s.outside;
       inside = s.inside;
     })
-    (none_rule members m h may apart)
+    (none_rule members m h can may)

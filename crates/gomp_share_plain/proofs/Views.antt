@@ -4,8 +4,8 @@ use Rattle.std.proofs.lemmas.Bool.Decides.{nat_tests}
 use Rattle.std.proofs.lemmas.List.{get_or-replicate, length-replicate}
 use Rattle.std.proofs.lemmas.Option.{slice_get_within, get_or_from_slice_get}
 use Rattle.gomp_types.specs.declared.event.Event.{Event}
-use Rattle.gomp_share_plain.specs.Calls.{seen_of}
-use Rattle.gomp_share_plain.specs.declared.Seen.{Seen}
+use Rattle.gomp_types.specs.Seen.{seen_of}
+use Rattle.gomp_types.specs.declared.seen.Seen.{Seen}
 use Rattle.gomp_share_plain.specs.declared.seat.Seat.{Seat}
 use Rattle.gomp_share_plain.specs.Plain.{StandsFor, PlainView, new_seat, plain_seen}
 use Rattle.gomp_share_plain.specs.PlainLaws.{plain_agrees}

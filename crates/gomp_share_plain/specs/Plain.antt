@@ -5,11 +5,13 @@ use Rattle.gomp_types.specs.declared.event.Event.{Event}
 use Rattle.gomp_types.specs.Values.{IsShape}
 use Rattle.gomp_types.specs.Pieces.{Piece, pieces_of}
 use Rattle.gomp_types.specs.Events.{entered, open_share, has_ended, has_drained, last_piece, turn, next_part, in_part, shape_at}
-use Rattle.gomp_types.specs.Record.{shown}
+use Rattle.gomp_types.specs.Limits.{shown}
+use Rattle.gomp_types.specs.declared.limits.TheConstants.{OPEN_SHARES}
 use Rattle.gomp_types.specs.Deals.{schedule, taken_in}
-use Rattle.gomp_types.specs.Rules.{Always, ShareRule}
-use Rattle.gomp_share_plain.specs.declared.Seen.{Seen}
-use Rattle.gomp_share_plain.specs.Calls.{taken_of}
+use Rattle.gomp_types.specs.Laws.{Always}
+use Rattle.gomp_shares.specs.Rules.{ShareRule}
+use Rattle.gomp_types.specs.declared.seen.Seen.{Seen}
+use Rattle.gomp_shares.specs.Calls.{taken_of}
 use Rattle.gomp_share_plain.specs.declared.seat.Seat.{Seat}
 use Rattle.gomp_share_plain.specs.declared.open_share.OpenShare.{OpenShare}
 
@@ -45,7 +47,7 @@ pub record SeatStands (members m : ℕ) (seat : Seat) (opened : ℕ) (h : List E
   pub in_order : seat.ended ≤ seat.started
   pub one : seat.started ≤ seat.ended + 1
   pub known : seat.started ≤ opened
-  pub near : opened ≤ seat.ended + 8
+  pub near : opened ≤ seat.ended + OPEN_SHARES
   pub outside : seat.started ≡ seat.ended → open_share m h ≡ None
   pub inside : seat.started ≡ seat.ended + 1 → (shape : Shape) × (open_share m h ≡ Some (seat.ended, shape)) × (shape_at seat.ended h ≡ Some shape)
 
@@ -67,9 +69,9 @@ Untouched i h = (shape_at i h ≡ None) × ((queue_of : ℕ → ℕ) (q : ℕ) �
 pub record StandsFor (members : ℕ) (seats : List Seat) (opened : ℕ) (places : List (Option OpenShare)) (h : List Event) : Type 0 where
   pub size : length seats ≡ members
   pub team : members < 2 ^ 16
-  pub eight : length places ≡ 8
+  pub eight : length places ≡ OPEN_SHARES
   pub seat : (m : ℕ) (seat : Seat) → slice_get seats m ≡ Some seat → SeatStands members m seat opened h
-  pub place : (i : ℕ) → i < opened → opened ≤ i + 8 → PlaceStands members i (slice_get places (i % 8)) h
+  pub place : (i : ℕ) → i < opened → opened ≤ i + OPEN_SHARES → PlaceStands members i (slice_get places (i % OPEN_SHARES)) h
   pub beyond : (i : ℕ) → opened ≤ i → Untouched i h
   pub rule : Always (ShareRule (schedule members) members) h
 
@@ -84,7 +86,7 @@ abbrev pub seat_seen : List (Option OpenShare) → Option Seat → Seen
 seat_seen places None = record { entered = 0; current = None; drained = false; piece = None; next_part = 0; in_part = false }
 seat_seen places (Some seat) = record {
   entered = seat.started;
-  current = if nat_lt seat.ended seat.started then share_there seat.ended (slice_get places (seat.ended % 8)) else None;
+  current = if nat_lt seat.ended seat.started then share_there seat.ended (slice_get places (seat.ended % OPEN_SHARES)) else None;
   drained = seat.drained;
   piece = seat.piece;
   next_part = seat.next_part;

@@ -4,16 +4,18 @@ use Rattle.std.proofs.Common.{sym, ap, ◌∙◌, arith, inl, inr, get_or}
 use Rattle.std.proofs.lemmas.Bool.Decides.{nat_tests, eqb_tells}
 use Rattle.std.proofs.lemmas.Option.{slice_get-get_or}
 use Rattle.gomp_types.specs.declared.event.Event.{Event}
-use Rattle.gomp_types.specs.declared.event.Event.TheVariants.{Put, Got, Arrive, Pass, Break}
-use Rattle.gomp_types.specs.Rules.{ShareRule}
+use Rattle.gomp_types.specs.declared.event.Event.TheVariants.{Enter, Take, Drained, End, HandOn, Part, PartEnd}
+use Rattle.gomp_shares.specs.Rules.{ShareRule}
 use Rattle.gomp_types.specs.Values.{IsShape}
+use Rattle.gomp_types.specs.declared.limits.TheConstants.{OPEN_SHARES}
 use Rattle.gomp_types.specs.declared.shape.Shape.{Shape}
 use Rattle.gomp_types.proofs.Booleans.{share_is}
-use Rattle.gomp_types.proofs.SharesKeep.{inside}
+use Rattle.gomp_shares.proofs.SharesKeep.{inside}
 use Rattle.gomp_types.specs.Deals.{schedule}
 use Rattle.gomp_types.specs.Events.{open_share}
 use Rattle.gomp_share_plain.specs.Same.{SameSeat, SamePlaces, seat_same, place_kept, beyond_kept}
-use Rattle.gomp_share_plain.specs.Calls.{IsAside, seen_of}
+use Rattle.gomp_shares.specs.Calls.{IsAside}
+use Rattle.gomp_types.specs.Seen.{seen_of}
 use Rattle.gomp_share_plain.specs.Plain.{SeatStands, PlaceStands, StandsFor, new_seat, seat_seen, plain_seen}
 use Rattle.gomp_share_plain.specs.declared.seat.Seat.{Seat}
 use Rattle.gomp_share_plain.specs.declared.open_share.OpenShare.{OpenShare}
@@ -26,7 +28,7 @@ seen_outside members m seat opened places h s even =
     rw (not_in, s.started, out, s.drained, s.piece, s.next_part, s.in_part) refl
 
 seen_inside : (members m : ℕ) (seat : Seat) (opened : ℕ) (places : List (Option OpenShare)) (h : List Event) → SeatStands members m seat opened h → seat.started ≡ seat.ended + 1 →
-    PlaceStands members seat.ended (slice_get places (seat.ended % 8)) h → seat_seen places (Some seat) ≡ seen_of m h
+    PlaceStands members seat.ended (slice_get places (seat.ended % OPEN_SHARES)) h → seat_seen places (Some seat) ≡ seen_of m h
 seen_inside members m seat opened places h s one p =
     let own = s.inside one in
     let within : nat_lt seat.ended seat.started ≡ true = grind (arith, nat_tests) in
@@ -70,41 +72,35 @@ plain_valid members seats opened places h m i shape st there =
           valid_inside members m i shape _ opened _ h s full (st.place _ (let k = s.known in omega arith) (let k = s.near in omega arith)) there
     ]
 
--- such an event says the same of each seat and each place
-aside_seat : (event : Event) (m : ℕ) (h : List Event) → IsAside event → SameSeat m (event ∷ h) h
-aside_seat (Put share k payload) m h is = record { seen = refl; left = λ i. refl; taken = λ i. refl; shape = λ i shape at. at }
-aside_seat (Got share k payload) m h is = record { seen = refl; left = λ i. refl; taken = λ i. refl; shape = λ i shape at. at }
-aside_seat (Arrive barrier k tag) m h is = record { seen = refl; left = λ i. refl; taken = λ i. refl; shape = λ i shape at. at }
-aside_seat (Pass barrier k) m h is = record { seen = refl; left = λ i. refl; taken = λ i. refl; shape = λ i shape at. at }
-aside_seat (Break k place) m h is = record { seen = refl; left = λ i. refl; taken = λ i. refl; shape = λ i shape at. at }
-aside_seat _ m h is = absurd is
+-- such an event says the same of each seat and each place, and the rule asks nothing of it
+pub record SaysNothing (members : ℕ) (event : Event) (h : List Event) : Type 0 where
+  pub seat : (m : ℕ) → SameSeat m (event ∷ h) h
+  pub places : SamePlaces (event ∷ h) h
+  pub rule : ShareRule (schedule members) members event h
 
-aside_places : (event : Event) (h : List Event) → IsAside event → SamePlaces (event ∷ h) h
-aside_places (Put share k payload) h is = record { shape = λ i. refl; taken = λ queue_of i q. refl; turn = λ i. refl }
-aside_places (Got share k payload) h is = record { shape = λ i. refl; taken = λ queue_of i q. refl; turn = λ i. refl }
-aside_places (Arrive barrier k tag) h is = record { shape = λ i. refl; taken = λ queue_of i q. refl; turn = λ i. refl }
-aside_places (Pass barrier k) h is = record { shape = λ i. refl; taken = λ queue_of i q. refl; turn = λ i. refl }
-aside_places (Break k place) h is = record { shape = λ i. refl; taken = λ queue_of i q. refl; turn = λ i. refl }
-aside_places _ h is = absurd is
-
--- and the rule asks nothing of it
-aside_rule : (members : ℕ) (event : Event) (h : List Event) → IsAside event → ShareRule (schedule members) members event h
-aside_rule members (Put share m payload) h is = tt
-aside_rule members (Got share m payload) h is = tt
-aside_rule members (Arrive barrier m tag) h is = tt
-aside_rule members (Pass barrier m) h is = tt
-aside_rule members (Break m place) h is = tt
-aside_rule members _ h is = absurd is
+aside_says : (members : ℕ) (event : Event) (h : List Event) → IsAside event → SaysNothing members event h
+aside_says members (Enter share k shape) h is = absurd is
+aside_says members (Take share k low high) h is = absurd is
+aside_says members (Drained share k) h is = absurd is
+aside_says members (End share k) h is = absurd is
+aside_says members (HandOn share k piece) h is = absurd is
+aside_says members (Part share k iteration) h is = absurd is
+aside_says members (PartEnd share k) h is = absurd is
+aside_says members _ h is = record {
+  seat = λ m. record { seen = refl; left = λ i. refl; taken = λ i. refl; shape = λ i shape at. at };
+  places = record { shape = λ i. refl; taken = λ queue_of i q. refl; turn = λ i. refl };
+  rule = tt;
+}
 
 -- so nothing that is kept depends on arrivals and the like
 pub plain_aside : (members : ℕ) (seats : List Seat) (opened : ℕ) (places : List (Option OpenShare)) (h : List Event) (event : Event) → IsAside event → StandsFor members seats opened places h → StandsFor members seats opened places (event ∷ h)
 plain_aside members seats opened places h event is st =
-    let same = aside_places event h is in record {
+    let nothing = aside_says members event h is in record {
       size = st.size;
       team = st.team;
       eight = st.eight;
-      seat = λ k seat at. seat_same members k seat opened (event ∷ h) h (aside_seat event k h is) (st.seat k seat at);
-      place = λ i low high. place_kept members i (slice_get places (i % 8)) (event ∷ h) h same (st.place i low high);
-      beyond = λ i past. beyond_kept i (event ∷ h) h same (st.beyond i past);
-      rule = (aside_rule members event h is, st.rule);
+      seat = λ k seat at. seat_same members k seat opened (event ∷ h) h (nothing.seat k) (st.seat k seat at);
+      place = λ i low high. place_kept members i (slice_get places (i % OPEN_SHARES)) (event ∷ h) h nothing.places (st.place i low high);
+      beyond = λ i past. beyond_kept i (event ∷ h) h nothing.places (st.beyond i past);
+      rule = (nothing.rule, st.rule);
     }

@@ -4,11 +4,13 @@ use Rattle.std.proofs.Common.{sym, ap, ◌∙◌, arith}
 use Rattle.gomp_types.specs.declared.shape.Shape.{Shape}
 use Rattle.gomp_types.specs.declared.event.Event.{Event}
 use Rattle.gomp_types.specs.Events.{open_share, has_ended, turn, shape_at}
-use Rattle.gomp_types.specs.Record.{shown}
+use Rattle.gomp_types.specs.Limits.{shown}
+use Rattle.gomp_types.specs.declared.limits.TheConstants.{OPEN_SHARES}
 use Rattle.gomp_types.specs.Deals.{taken_in}
-use Rattle.gomp_share_plain.specs.Calls.{seen_of, taken_of}
+use Rattle.gomp_types.specs.Seen.{seen_of}
+use Rattle.gomp_shares.specs.Calls.{taken_of}
 use Rattle.gomp_share_plain.specs.Plain.{SeatStands, PlaceStands, Untouched, taken_by}
-use Rattle.gomp_share_plain.specs.declared.Seen.{Seen}
+use Rattle.gomp_types.specs.declared.seen.Seen.{Seen}
 use Rattle.gomp_share_plain.specs.declared.seat.Seat.{Seat}
 use Rattle.gomp_share_plain.specs.declared.open_share.OpenShare.{OpenShare}
 
@@ -22,7 +24,7 @@ pub record SameSeat (m : ℕ) (after before : List Event) : Type 0 where
   pub shape : (i : ℕ) (shape : Shape) → shape_at i before ≡ Some shape → shape_at i after ≡ Some shape
 
 -- then its seat stands as before, also where more shares were opened, but not too many for it
-pub seat_near : (members m : ℕ) (seat : Seat) (opened more : ℕ) (after before : List Event) → SameSeat m after before → SeatStands members m seat opened before → opened ≤ more → more ≤ seat.ended + 8 → SeatStands members m seat more after
+pub seat_near : (members m : ℕ) (seat : Seat) (opened more : ℕ) (after before : List Event) → SameSeat m after before → SeatStands members m seat opened before → opened ≤ more → more ≤ seat.ended + OPEN_SHARES → SeatStands members m seat more after
 seat_near members m seat opened more after before same s le near =
     let own : open_share m after ≡ open_share m before = ap (λ (seen : Seen). seen.current) same.seen in
     record {

@@ -7,9 +7,9 @@ ghost use Rattle.gomp_share_plain.specs.PlainLaws.{plain_aside, plain_agrees, pl
 
 use crate::open_share::{OpenShare, is_next, shape_there, share_at};
 use crate::seat::{Seat, has_room};
-use crate::{Opening, Seen, Shares};
 use gomp_chunks::{Cursor, Plan};
-use gomp_types::{Shape, laws};
+use gomp_shares::{Opening, Shares};
+use gomp_types::{Seen, Shape, laws};
 use std::alloc::{AllocError, Global};
 use std::marker::Model;
 
@@ -75,31 +75,29 @@ impl Shares for PlainShares {
         }
     }
 
-    fn next_differs(&self, member: u16, shape: &Shape) -> bool {
+    fn next_differs(&mut self, member: u16, shape: &Shape) -> bool {
         let next = self.seats[member as usize].started;
         if next >= self.opened {
             return false;
         }
-        match share_at(&self.places, next) {
-            Some(share) => !share.shape.is_same(shape),
-            None => false,
-        }
+        let Some(share) = share_at(&self.places, next) else {
+            return false;
+        };
+        !share.shape.is_same(shape)
     }
 
-    fn next_is_taken(&self, member: u16) -> bool {
+    fn next_is_taken(&mut self, member: u16) -> bool {
         let number = self.seats[member as usize].started;
         if number >= self.opened {
             return false;
         }
-        match share_at(&self.places, number) {
-            Some(share) => share.taken > 0,
-            None => false,
-        }
+        let Some(share) = share_at(&self.places, number) else {
+            return false;
+        };
+        share.taken > 0
     }
 
     fn try_open(&mut self, member: u16, shape: &Shape) -> Opening {
-        laws::fair_schedule();
-        laws::pieces_tile();
         let members = self.seats.len() as u16;
         let seat = self.seats[member as usize];
         let number = seat.started;
@@ -205,8 +203,6 @@ impl Shares for PlainShares {
     }
 
     fn leave(&mut self, member: u16) {
-        laws::told_none();
-        laws::single_done();
         self.seats[member as usize].ended += 1;
     }
 }

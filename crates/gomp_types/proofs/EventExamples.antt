@@ -11,7 +11,7 @@ use Rattle.gomp_types.specs.Shapes.{is_loop}
 use Rattle.gomp_types.specs.Values.{value_at, iteration_of}
 use Rattle.gomp_types.specs.Events.{every_member, member_of, entered, open_share, is_inside, open_number, has_drained, last_piece, in_kind, shape_at, has_ended, is_over, has_room, has_iteration, times_taken, turn, holds_piece, next_part, in_part, open_part, payload_at, has_piece, has_words, passed, arrival, tag_at, barrier_met, has_left_region, clash_of}
 use Rattle.gomp_types.specs.Ordered.{same_piece, has_turn, is_ordered, must_wait, is_in_rest, comes_next}
-use Rattle.gomp_types.specs.LawExamples.{newest_first, four, wider, at}
+use Rattle.gomp_types.specs.EventLists.{newest_first, four, wider, at}
 
 -- after these events, the oldest first
 abbrev after : List Event → List Event

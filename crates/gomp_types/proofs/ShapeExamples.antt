@@ -21,7 +21,7 @@ use Rattle.gomp_types.specs.Singles.{single_shape, with_word}
 use Rattle.gomp_types.specs.Pieces.{resolved, resolved_chunk, kind_of, shape_of, pieces_of, Tiles}
 use Rattle.gomp_types.specs.Values.{IsShape}
 use Rattle.gomp_types.specs.Deals.{schedule, next_for, taken_in, takes_in, times}
-use Rattle.gomp_types.specs.LawExamples.{newest_first, four, at}
+use Rattle.gomp_types.specs.EventLists.{newest_first, four, at}
 
 -- Kinds
 

@@ -7,19 +7,16 @@
 
 pub mod call;
 pub mod event;
-pub mod examples;
-pub mod law_examples;
 pub mod laws;
 pub mod limits;
 pub mod loop_desc;
 pub mod name;
 pub mod payload;
 pub mod refusal;
-pub mod region_examples;
 pub mod reply;
 pub mod sections;
+pub mod seen;
 pub mod shape;
-pub mod share_examples;
 pub mod single;
 
 pub use call::{Call, Step};
@@ -33,5 +30,6 @@ pub use payload::Payload;
 pub use refusal::{Clash, Place, Refusal};
 pub use reply::Reply;
 pub use sections::sections_shape;
+pub use seen::Seen;
 pub use shape::{Shape, ShareKind};
 pub use single::single_shape;

@@ -1,5 +1,6 @@
 use Rattle.std.proofs.Common.{◌≡◌, ◌+◌, ◌*◌, ◌<◌, None, slice_get, sym, subst, arith, rules}
 use Rattle.gomp_chunks.specs.Plans.{PlanView, next_piece, pieces}
+use Rattle.gomp_chunks.proofs.PieceAt.{chunks_within}
 use Rattle.gomp_chunks.proofs.Queues.{own_chunked, own_chunked_none, own_even, own_even_none}
 use Rattle.gomp_chunks.proofs.Plan.next_number.Goals as goal
 
@@ -7,8 +8,8 @@ pub returns-in-StaticChunked : goal.returns-in-StaticChunked
 returns-in-StaticChunked c =
     let plan : PlanView = record { members = c.self.inside.members; shape = c.self.inside.shape } in
     let lt : c.args.member < plan.members = subst (λ (p : PlanView). c.args.member < p.members) (sym c.self.view_is) c.requires in
-    let count = c.chunked_count.ensures.count in
-    let past = c.if-own-chunked_count.true in
+    let few = chunks_within plan.shape.trips plan.shape.chunk c.self.invariant.0.some in
+    let past = c.if-own-self.true in
     subst (λ (p : PlanView). next_piece p c.args.member c.args.own c.args.all ≡ None) c.self.view_is (own_chunked_none plan c.args.member c.args.own c.args.all c.in-StaticChunked.is lt (omega arith))
 
 pub returns-in-StaticChunked-2 : goal.returns-in-StaticChunked-2

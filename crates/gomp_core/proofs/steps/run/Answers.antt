@@ -1,8 +1,8 @@
 use Rattle.std.proofs.Common.{◌≡◌, ◌+◌, ◌∙◌, ◌∷◌, ◌++◌, List, length, refl, ap, sym, subst, arith, length-append}
 use Rattle.gomp_types.specs.declared.call.Step.{Step}
-use Rattle.gomp_types.specs.Record.{events}
-use Rattle.gomp_types.specs.Causes.{Terms, Caused}
-use Rattle.gomp_types.specs.Headline.{Headline}
+use Rattle.gomp_model.specs.Past.{Terms}
+use Rattle.gomp_model.specs.Team.{Caused, events}
+use Rattle.gomp_laws.specs.Headline.{Headline}
 use Rattle.gomp_core.specs.Stands.{Stands, standard_terms}
 use Rattle.gomp_core.specs.Resolved.{record_of}
 use Rattle.gomp_core.proofs.Stepping.{resolved_grows, moved_on, all_done, terms_are, memory_more}
@@ -75,7 +75,7 @@ returns-in-None-clause-caused g c =
     let stands = returns-in-None-clause-stands g c in
     subst (λ (terms : Terms). Caused terms (record_of c.args.icv c.args.steps.items c.loop-step.replies.items)) (returns-in-None-clause-terms g c) stands.caused
 
-the_headline : (g : Over) (c : goal.After-drop-step-iterator g) → Headline c.args.count (events (record_of c.args.icv c.args.steps.items c.loop-step.replies.items))
+the_headline : (g : Over) (c : goal.After-drop-step-iterator g) → Headline c.args.count (events (standard_terms c.args.count c.args.icv) (record_of c.args.icv c.args.steps.items c.loop-step.replies.items))
 the_headline g c = c.headline.ensures (standard_terms c.args.count c.args.icv) (record_of c.args.icv c.args.steps.items c.loop-step.replies.items) (returns-in-None-clause-caused g c)
 
 pub returns-in-None-clause-taken_once : goal.returns-in-None-clause-taken_once

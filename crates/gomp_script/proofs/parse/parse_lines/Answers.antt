@@ -1,6 +1,6 @@
 use Rattle.std.proofs.Common.{◌≡◌, ◌+◌, ◌∙◌, Some, ap, sym, length, rules}
 use Rattle.std.specs.Prelude.{IsSome, option_copied}
-use Rattle.gomp_types.specs.Record.{shown}
+use Rattle.gomp_types.specs.Limits.{shown}
 use Rattle.gomp_script.specs.StepText.{steps_left, kept}
 use Rattle.gomp_script.proofs.TextLemmas.{left_less, lines_here, line_kept, fault_behind, step_refused}
 use Rattle.gomp_script.proofs.parse.parse_lines.Goals as goal

@@ -1,6 +1,6 @@
 use Rattle.std.proofs.Common.{◌≡◌, ◌+◌, ◌∙◌, Some, Ok, ap, sym, length, rules}
 use Rattle.std.specs.Prelude.{option_copied}
-use Rattle.gomp_types.specs.Record.{shown}
+use Rattle.gomp_types.specs.Limits.{shown}
 use Rattle.gomp_script.specs.StepText.{steps_left}
 use Rattle.gomp_script.proofs.TextLemmas.{left_less, lines_here, gives_team, team_has_step}
 use Rattle.gomp_script.proofs.parse.parse_steps.Goals as goal

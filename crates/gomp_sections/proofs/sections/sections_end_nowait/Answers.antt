@@ -1,9 +1,7 @@
 use Rattle.std.proofs.Common.{refl, ◌∙◌, sym}
 use Rattle.gomp_types.specs.declared.loop_desc.EndKind.TheVariants.{Nowait}
-use Rattle.gomp_share_plain.specs.declared.own.Construct.TheVariants.{Sections}
-use Rattle.gomp_share_plain.specs.Own.{end_tests_of}
-use Rattle.gomp_share_plain.specs.Calls.{seen_of}
-use Rattle.gomp_share_plain.proofs.Entered.{row_is}
+use Rattle.gomp_shares.specs.Sections.{sections_end_tests}
+use Rattle.gomp_sections.proofs.Tests.{least_seen}
 use Rattle.gomp_sections.proofs.SectionSteps.{end_may_leave}
 use Rattle.gomp_sections.proofs.sections.sections_end_nowait.Goals as goal
 
@@ -12,15 +10,15 @@ leave-requires g c =
     let (h, st) = c.look-seen.ensures.known in
     let seen = g.met.S.Shares.agrees c.args.shares.now h c.args.member st c.requires.member in
     let law = c.part_inside.ensures (g.S.Shares.members c.args.shares.now) c.args.member h (g.met.S.Shares.ruled c.args.shares.now h st) in
-    let none = row_is (end_tests_of Sections Nowait) c.look-seen.result (seen_of c.args.member h) _ (c.look-seen.ensures.value ∙ seen) (sym c.in_default.is ∙ c.end_refusal.ensures.first) in
+    let none = least_seen (sections_end_tests Nowait) c.args.member c.look-seen.result h _ refl (c.look-seen.ensures.value ∙ seen) (sym c.in_default.is ∙ c.end_refusal.ensures.first) in
     record { place = end_may_leave _ c.args.member Nowait _ h c.requires.member seen law none }
 
 pub returns-in-Some-clause-answer : goal.returns-in-Some-clause-answer
-returns-in-Some-clause-answer g c = λ limits h st.
+returns-in-Some-clause-answer g c = λ h st.
     let e = c.look-seen.ensures.value ∙ g.met.S.Shares.agrees c.args.shares.now h c.args.member st c.requires.member in
-    row_is (end_tests_of Sections Nowait) c.look-seen.result (seen_of c.args.member h) _ e (sym c.in-Some.is ∙ c.end_refusal.ensures.first)
+    least_seen (sections_end_tests Nowait) c.args.member c.look-seen.result h _ refl e (sym c.in-Some.is ∙ c.end_refusal.ensures.first)
 
 pub returns-clause-answer : goal.returns-clause-answer
-returns-clause-answer g c = λ limits h st.
+returns-clause-answer g c = λ h st.
     let e = c.look-seen.ensures.value ∙ g.met.S.Shares.agrees c.args.shares.now h c.args.member st c.requires.member in
-    (row_is (end_tests_of Sections Nowait) c.look-seen.result (seen_of c.args.member h) _ e (sym c.in_default.is ∙ c.end_refusal.ensures.first), refl)
+    (least_seen (sections_end_tests Nowait) c.args.member c.look-seen.result h _ refl e (sym c.in_default.is ∙ c.end_refusal.ensures.first), refl)

@@ -1,8 +1,7 @@
-use Rattle.std.proofs.Common.{ap, ◌∙◌, sym}
+use Rattle.std.proofs.Common.{refl, ap, ◌∙◌, sym}
 use Rattle.gomp_types.specs.Tests.{outcome}
-use Rattle.gomp_share_plain.specs.Calls.{seen_of}
-use Rattle.gomp_sections.specs.OwnTests.{own_copy_end_tests}
-use Rattle.gomp_share_plain.proofs.Entered.{row_is}
+use Rattle.gomp_shares.specs.Singles.{put_tests}
+use Rattle.gomp_sections.proofs.Tests.{least_seen}
 use Rattle.gomp_sections.proofs.SingleSteps.{copy_may_leave}
 use Rattle.gomp_sections.proofs.single.single_copy_end.Goals as goal
 
@@ -11,15 +10,15 @@ leave-requires g c =
     let (h, st) = c.look-seen.ensures.known in
     let seen = g.met.S.Shares.agrees c.args.shares.now h c.args.member st c.requires.member in
     let law = c.part_inside.ensures (g.S.Shares.members c.args.shares.now) c.args.member h (g.met.S.Shares.ruled c.args.shares.now h st) in
-    let none = row_is own_copy_end_tests c.look-seen.result (seen_of c.args.member h) _ (c.look-seen.ensures.value ∙ seen) (sym c.in_default.is ∙ c.copy_end_refusal.ensures.first) in
+    let none = least_seen put_tests c.args.member c.look-seen.result h _ refl (c.look-seen.ensures.value ∙ seen) (sym c.in_default.is ∙ c.copy_end_refusal.ensures.first) in
     record { place = copy_may_leave _ c.args.member _ h c.requires.member seen law none }
 
 pub returns-in-Some-clause-answer : goal.returns-in-Some-clause-answer
 returns-in-Some-clause-answer g c = λ h st.
     let e = c.look-seen.ensures.value ∙ g.met.S.Shares.agrees c.args.shares.now h c.args.member st c.requires.member in
-    sym (ap (λ first. outcome first tt) (row_is own_copy_end_tests c.look-seen.result (seen_of c.args.member h) _ e (sym c.in-Some.is ∙ c.copy_end_refusal.ensures.first)))
+    sym (ap (λ first. outcome first tt) (least_seen put_tests c.args.member c.look-seen.result h _ refl e (sym c.in-Some.is ∙ c.copy_end_refusal.ensures.first)))
 
 pub returns-clause-answer : goal.returns-clause-answer
 returns-clause-answer g c = λ h st.
     let e = c.look-seen.ensures.value ∙ g.met.S.Shares.agrees c.args.shares.now h c.args.member st c.requires.member in
-    sym (ap (λ first. outcome first tt) (row_is own_copy_end_tests c.look-seen.result (seen_of c.args.member h) _ e (sym c.in_default.is ∙ c.copy_end_refusal.ensures.first)))
+    sym (ap (λ first. outcome first tt) (least_seen put_tests c.args.member c.look-seen.result h _ refl e (sym c.in_default.is ∙ c.copy_end_refusal.ensures.first)))

@@ -1,68 +1,99 @@
-use Rattle.std.proofs.Common.{◌≡◌, ◌<◌, true, false, List, refl, ◌∙◌, sym}
+use Rattle.std.proofs.Common.{◌≡◌, ◌<◌, [], true, false, List, None, refl, ◌∙◌, sym}
 use Rattle.std.specs.Prelude.{is_some}
-use Rattle.gomp_types.specs.Events.{entered, shape_at}
+use Rattle.gomp_types.specs.Events.{entered}
 use Rattle.gomp_types.specs.Singles.{single_shape}
 use Rattle.gomp_types.specs.declared.event.Event.{Event}
 use Rattle.gomp_types.specs.declared.event.Event.TheVariants.{Got}
-use Rattle.gomp_share_plain.specs.Calls.{seen_of}
-use Rattle.gomp_share_plain.specs.Own.{outside_tests}
-use Rattle.gomp_share_plain.proofs.Entered.{may_claim}
-use Rattle.gomp_sections.proofs.Tests.{start_passes, none_and_some}
-use Rattle.gomp_sections.proofs.SingleSteps.{may_leave, single_least, no_piece, not_given, copy_adds}
+use Rattle.gomp_types.specs.Least.{least}
+use Rattle.gomp_shares.specs.Starts.{share_tests}
+use Rattle.gomp_shares.proofs.Entered.{may_claim}
+use Rattle.gomp_sections.proofs.Tests.{own_refuses, share_decides, refused_by_least, none_and_some}
+use Rattle.gomp_sections.proofs.SingleSteps.{may_leave, single_least, given_no_piece, not_given, copy_dealt, executor_adds, copy_adds}
 use Rattle.gomp_sections.proofs.single.single_copy_start.Given.{Over}
 use Rattle.gomp_sections.proofs.single.single_copy_start.Goals as goal
-use Rattle.gomp_sections.proofs.single.single_copy_start.Goals.{else-is_none-via-then-is_none+else-next_is_taken, else-is_none-via-else-is_none}
+use Rattle.gomp_sections.proofs.single.single_copy_start.Goals.{In-Entered, else-is_none-via-then-is_none+else-next_is_taken, else-is_none-via-else-is_none}
+
+-- nothing changes before the share is opened
+unchanged : (g : Over) (c : In-Entered g) → c.else-is_none.shares ≡ c.args.shares.now
+unchanged g c =
+    elim c.else-is_none.branch [
+      | else-is_none-via-then-is_none+else-next_is_taken w ↦ w.shares-is ∙ w.next_is_taken.ensures.kept ∙ c.next_differs.ensures.kept
+      | else-is_none-via-else-is_none w ↦ w.shares-is ∙ c.next_differs.ensures.kept
+    ]
+
+-- so it is opened after the same events
+opens : (g : Over) (c : In-Entered g) (h : List Event) → g.S.Shares.stands c.args.shares.now h → g.S.Shares.stands c.else-is_none.shares h
+opens g c h st = rw (unchanged g c) st
+
+-- and no test refuses
+passes : (g : Over) (c : In-Entered g) (h : List Event) → g.S.Shares.stands c.args.shares.now h → least (share_tests [] (single_shape true) c.args.limits.now c.args.member h) ≡ None
+passes g c h st =
+    let e = c.look-seen.ensures.value ∙ g.met.S.Shares.agrees c.args.shares.now h c.args.member st c.requires.member in
+    let may = rw c.single_shape-shape.ensures.shape at (c.in-Entered.ensures.answer h (opens g c h st)) in
+    share_decides [] (single_shape true) c.args.limits.now c.args.member c.look-seen.result h false refl e (sym c.in_default.is ∙ c.outside_refusal.ensures.first) may.0
+
+pub returns-in-Some-clause-refused : goal.returns-in-Some-clause-refused
+returns-in-Some-clause-refused g c = λ refusal h st.
+    let e = c.look-seen.ensures.value ∙ g.met.S.Shares.agrees c.args.shares.now h c.args.member st c.requires.member in
+    refused_by_least c.in-Some.refusal refusal _ (own_refuses [] (single_shape true) c.args.limits.now c.args.member c.look-seen.result h c.in-Some.refusal refl e (sym c.in-Some.is ∙ c.outside_refusal.ensures.first))
 
 pub claim-requires : goal.claim-requires
 claim-requires g c =
     let (h, st) = c.in-Entered.ensures.known in
     let now = c.in-Entered.ensures.stands h st in
-    let lt : c.args.member < g.S.Shares.members c.try_open.new.self = rw c.try_open.ensures.members c.requires.member in
+    let same = unchanged g (goal.at.claim-requires g c).In-Entered in
+    let lt : c.args.member < g.S.Shares.members c.try_open.new.self = rw (c.try_open.ensures.members, same) c.requires.member in
     let e = g.met.S.Shares.agrees c.try_open.new.self _ c.args.member now lt in
     record { place = may_claim _ c.args.member (entered c.args.member h) c.single_shape-shape.result _ h e lt }
+
+pub returns-then-is_some-clause-answer : goal.returns-then-is_some-clause-answer
+returns-then-is_some-clause-answer g c = λ h st put.
+    let at = (goal.at.returns-then-is_some-clause-answer g c).In-Entered in
+    let may = rw (c.single_shape-shape.ensures.shape, unchanged g at) at (c.in-Entered.ensures.answer h (opens g at h st)) in
+    let claims = rw (c.single_shape-shape.ensures.shape, c.try_open.ensures.members, unchanged g at) at (c.claim.ensures.answer _ (c.in-Entered.ensures.stands h (opens g at h st))) in
+    (passes g at h st, (may.1, copy_dealt (g.S.Shares.members c.args.shares.now) c.args.member (entered c.args.member h) c.claim.result h (sym c.if-is_some.true ∙ c.is_some.ensures) claims))
+
+pub returns-then-is_some-clause-stands : goal.returns-then-is_some-clause-stands
+returns-then-is_some-clause-stands g c = λ h st.
+    let at = (goal.at.returns-then-is_some-clause-stands g c).In-Entered in
+    let now = c.in-Entered.ensures.stands h (opens g at h st) in
+    let claims = rw c.single_shape-shape.ensures.shape at (c.claim.ensures.answer _ now) in
+    let adds = executor_adds _ c.args.member c.claim.result h (sym c.if-is_some.true ∙ c.is_some.ensures) claims in
+    rw adds (rw c.single_shape-shape.ensures.shape at (c.claim.ensures.stands _ now))
 
 pub leave-requires : goal.leave-requires
 leave-requires g c =
     let (h, st) = c.in-Entered.ensures.known in
+    let same = unchanged g (goal.at.leave-requires g c).In-Entered in
     let now = rw c.single_shape-shape.ensures.shape at (c.claim.ensures.stands _ (c.in-Entered.ensures.stands h st)) in
-    let lt : c.args.member < g.S.Shares.members c.claim.new.self = rw (c.claim.ensures.members, c.try_open.ensures.members) c.requires.member in
+    let lt : c.args.member < g.S.Shares.members c.claim.new.self = rw (c.claim.ensures.members, c.try_open.ensures.members, same) c.requires.member in
     let e = g.met.S.Shares.agrees c.claim.new.self _ c.args.member now lt in
     record { place = may_leave _ c.args.member (entered c.args.member h) true c.claim.result _ h e lt }
 
 pub returns-in-Some-put-clause-answer : goal.returns-in-Some-put-clause-answer
 returns-in-Some-put-clause-answer g c = λ h st put.
-    let e = c.look-seen.ensures.value ∙ g.met.S.Shares.agrees c.args.shares.now h c.args.member st c.requires.member in
-    let may = rw c.single_shape-shape.ensures.shape at (c.in-Entered.ensures.answer h st) in
-    let none = start_passes (outside_tests c.args.limits.now) (single_shape true) (shape_at (entered c.args.member h) h) c.look-seen.result (seen_of c.args.member h) e
-    (sym c.in_default.is ∙ c.outside_refusal.ensures.first) may.0 in
-    let now = c.in-Entered.ensures.stands h st in
-    let claims = rw (c.single_shape-shape.ensures.shape, c.try_open.ensures.members) at (c.claim.ensures.answer _ now) in
-    let left = single_least (g.S.Shares.members c.args.shares.now) c.args.member (entered c.args.member h) true c.claim.result h claims ∙ no_piece c.claim.result (sym c.if-is_some.false ∙ c.is_some.ensures) in
-    (none, (may.1, left, rw c.copied.ensures (rw c.in-Some-put.is at put)))
+    let at = (goal.at.returns-in-Some-put-clause-answer g c).In-Entered in
+    let may = rw (c.single_shape-shape.ensures.shape, unchanged g at) at (c.in-Entered.ensures.answer h (opens g at h st)) in
+    let claims = rw (c.single_shape-shape.ensures.shape, c.try_open.ensures.members, unchanged g at) at (c.claim.ensures.answer _ (c.in-Entered.ensures.stands h (opens g at h st))) in
+    let gone = single_least (g.S.Shares.members c.args.shares.now) c.args.member (entered c.args.member h) true c.claim.result h claims ∙ given_no_piece c.claim.result (sym c.if-is_some.false ∙ c.is_some.ensures) in
+    (passes g at h st, (may.1, (gone, rw c.copied.ensures (rw c.in-Some-put.is at put))))
 
 pub returns-in-Some-put-clause-stands : goal.returns-in-Some-put-clause-stands
 returns-in-Some-put-clause-stands g c = λ h st.
-    let now = rw c.single_shape-shape.ensures.shape at (c.claim.ensures.stands _ (c.in-Entered.ensures.stands h st)) in
-    let adds = copy_adds c.args.member (entered c.args.member h) c.copied.result c.claim.result h (sym c.if-is_some.false ∙ c.is_some.ensures) in
+    let at = (goal.at.returns-in-Some-put-clause-stands g c).In-Entered in
+    let now = rw c.single_shape-shape.ensures.shape at (c.claim.ensures.stands _ (c.in-Entered.ensures.stands h (opens g at h st))) in
+    let adds = copy_adds c.args.member c.copied.result c.claim.result h (sym c.if-is_some.false ∙ c.is_some.ensures) in
     rw adds (c.leave.ensures.stands _ (g.met.S.Shares.aside c.claim.new.self _ (Got (entered c.args.member h) c.args.member c.copied.result) tt now))
 
 -- no words were put, so nobody took the piece before, and this member was given it
-unreached : (g : Over) (c : goal.In-None g) (h : List Event) → g.S.Shares.stands c.args.shares.now h → ⊥
-unreached g c h st =
-    let now = c.in-Entered.ensures.stands h st in
-    let claims = rw c.single_shape-shape.ensures.shape at (c.claim.ensures.answer _ now) in
+pub unreachable-requires-in-None : goal.unreachable-requires-in-None
+unreachable-requires-in-None g c =
+    let (h, st) = c.look-seen.ensures.known in
+    let at = (goal.at.unreachable-requires-in-None g c).In-Entered in
+    let claims = rw c.single_shape-shape.ensures.shape at (c.claim.ensures.answer _ (c.in-Entered.ensures.stands h (opens g at h st))) in
     let asked : is_some c.args.put ≡ false = rw c.in-None.is refl in
     elim c.else-is_none.branch [
       | else-is_none-via-then-is_none+else-next_is_taken w ↦
-          not_given _ c.args.member (entered c.args.member h) c.claim.result h claims (sym c.if-is_some.false ∙ c.is_some.ensures) (sym w.if-next_is_taken.false ∙ w.next_is_taken.ensures.answer h st)
+          not_given _ c.args.member (entered c.args.member h) c.claim.result h claims (sym c.if-is_some.false ∙ c.is_some.ensures) (sym w.if-next_is_taken.false ∙ w.next_is_taken.ensures.answer h (rw c.next_differs.ensures.kept st))
       | else-is_none-via-else-is_none w ↦ none_and_some (is_some c.args.put) c.is_none.result c.is_none.ensures w.if-is_none.false asked
     ]
-
-pub returns-in-None-clause-answer : goal.returns-in-None-clause-answer
-returns-in-None-clause-answer g c = λ h st put. absurd (unreached g c h st)
-
-pub returns-in-None-clause-stands : goal.returns-in-None-clause-stands
-returns-in-None-clause-stands g c = λ h st. absurd (unreached g c h st)
-
-pub returns-in-None-clause-waits : goal.returns-in-None-clause-waits
-returns-in-None-clause-waits g c = λ waits. let (h, st) = c.look-seen.ensures.known in absurd (unreached g c h st)

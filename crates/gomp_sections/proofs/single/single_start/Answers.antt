@@ -1,11 +1,9 @@
-use Rattle.std.proofs.Common.{◌<◌, false, ◌∙◌, sym}
-use Rattle.gomp_types.specs.Events.{entered, shape_at}
+use Rattle.std.proofs.Common.{◌<◌, [], false, refl, ◌∙◌, sym}
+use Rattle.gomp_types.specs.Events.{entered}
 use Rattle.gomp_types.specs.Singles.{single_shape}
-use Rattle.gomp_share_plain.specs.Calls.{seen_of}
-use Rattle.gomp_share_plain.specs.Own.{outside_tests}
-use Rattle.gomp_share_plain.proofs.Entered.{may_claim}
-use Rattle.gomp_sections.proofs.Tests.{start_passes}
-use Rattle.gomp_sections.proofs.SingleSteps.{may_leave, executes, single_adds}
+use Rattle.gomp_shares.proofs.Entered.{may_claim}
+use Rattle.gomp_sections.proofs.Tests.{share_decides}
+use Rattle.gomp_sections.proofs.SingleSteps.{may_leave, single_dealt, single_adds}
 use Rattle.gomp_sections.proofs.single.single_start.Goals as goal
 
 pub claim-requires : goal.claim-requires
@@ -28,15 +26,14 @@ pub returns-in-Entered-clause-answer : goal.returns-in-Entered-clause-answer
 returns-in-Entered-clause-answer g c = λ h st.
     let e = c.look-seen.ensures.value ∙ g.met.S.Shares.agrees c.args.shares.now h c.args.member st c.requires.member in
     let may = rw c.single_shape.ensures.shape at (c.in-Entered.ensures.answer h st) in
-    let none = start_passes (outside_tests c.args.limits.now) (single_shape false) (shape_at (entered c.args.member h) h) c.look-seen.result (seen_of c.args.member h) e
-    (sym c.in_default.is ∙ c.outside_refusal.ensures.first) may.0 in
+    let none = share_decides [] (single_shape false) c.args.limits.now c.args.member c.look-seen.result h false refl e (sym c.in_default.is ∙ c.outside_refusal.ensures.first) may.0 in
     let now = c.in-Entered.ensures.stands h st in
     let claims = rw (c.single_shape.ensures.shape, c.try_open.ensures.members) at (c.claim.ensures.answer _ now) in
-    (none, rw c.is_some-executes.ensures (executes (g.S.Shares.members c.args.shares.now) c.args.member c.claim.result h may.1 claims))
+    (none, (may.1, rw c.is_some-executes.ensures (single_dealt (g.S.Shares.members c.args.shares.now) c.args.member (entered c.args.member h) c.claim.result h claims)))
 
 pub returns-in-Entered-clause-stands : goal.returns-in-Entered-clause-stands
 returns-in-Entered-clause-stands g c = λ h st.
     let now = c.in-Entered.ensures.stands h st in
     let claims = rw c.single_shape.ensures.shape at (c.claim.ensures.answer _ now) in
-    let adds = single_adds _ c.args.member (entered c.args.member h) c.claim.result h claims in
+    let adds = single_adds _ c.args.member c.claim.result h claims in
     rw (c.is_some-executes.ensures, adds) (rw c.single_shape.ensures.shape at (c.leave.ensures.stands _ (c.claim.ensures.stands _ now)))

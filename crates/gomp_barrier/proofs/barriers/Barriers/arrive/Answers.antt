@@ -1,6 +1,6 @@
 use Rattle.std.proofs.Common.{not, ◌<◌, length, refl, subst, sym, ◌∙◌, ap}
 use Rattle.std.proofs.lemmas.Option.{slice_get_read}
-use Rattle.gomp_types.specs.Refusals.{tag_differs}
+use Rattle.gomp_types.specs.Compare.{tag_differs}
 use Rattle.gomp_barrier.specs.Stands.{BarriersView, members_of}
 use Rattle.gomp_barrier.proofs.BarrierSteps.{within, differs_is, arrive_keeps}
 use Rattle.gomp_barrier.proofs.barriers.Barriers.arrive.Goals as goal

@@ -6,7 +6,7 @@ use Rattle.gomp_chunks.proofs.cursor.Cursor.advance_to.Goals as goal
 pub spot_from-self-inside-requires-clause-spot : goal.spot_from-self-inside-requires-clause-spot
 spot_from-self-inside-requires-clause-spot c = elim c.if-j-self.branch [
   | then-j-self w ↦ rw w.start-is (start_is_spot _ _ _ refl refl)
-  | else-j-self w ↦ rw w.start-is c.self.invariant
+  | else-j-self w ↦ rw w.start-is c.self.invariant.there
 ]
 
 pub invariant_of-self : goal.invariant_of-self

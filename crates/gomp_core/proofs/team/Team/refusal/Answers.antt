@@ -1,54 +1,42 @@
-use Rattle.std.proofs.Common.{◌≡◌, ◌∙◌, ◌<◌, ap, sym, subst, refl, length, false, Some, None, arith}
-use Rattle.std.specs.Prelude.{is_some}
+use Rattle.std.proofs.Common.{◌≡◌, ◌∙◌, ℕ, ◌<◌, ◌≤◌, Option, length, refl, ap, sym, subst, arith}
 use Rattle.std.proofs.lemmas.Option.{slice_get_read}
-use Rattle.gomp_types.specs.declared.refusal.Refusal.TheVariants.{Waiting, NotInside}
-use Rattle.gomp_types.specs.Events.{has_left_region, clash_of}
-use Rattle.gomp_types.specs.Record.{events, waits_of}
-use Rattle.gomp_barrier.specs.declared.barriers.AtBarrier.{AtBarrier as Sight}
-use Rattle.gomp_core.specs.Stands.{TeamView, Stands}
-use Rattle.gomp_core.proofs.Rows.{alone_is, resume_open, resume_closed, call_waits, call_goes_on, some_open}
+use Rattle.gomp_types.specs.declared.call.Call.{Call}
+use Rattle.gomp_types.specs.declared.call.Step.{Step}
+use Rattle.gomp_types.specs.Least.{lesser, least}
+use Rattle.gomp_model.specs.Team.{meant, member_tests, wait_tests, refusal_of}
+use Rattle.gomp_core.specs.Stands.{TeamView, past, terms_of, members_of}
+use Rattle.gomp_core.proofs.Refused.{bad_member, step_refused}
+use Rattle.gomp_core.proofs.Waits.{same_members, same_limits, step_place}
+use Rattle.gomp_core.proofs.Stepping.{same_stands}
 use Rattle.gomp_core.proofs.team.Team.refusal.Goals as goal
 
-pub returns-then-waits : goal.returns-then-waits
-returns-then-waits g c = λ before st0.
-    let st = subst (λ (t : TeamView g.row.S.Denot). Stands g.S.Shares.stands g.S.Shares.members t before) (sym c.self.view_is) st0 in
-    let lt : c.args.member < length c.self.inside.waiting.items = let under = c.if-member-len.false in let len = c.len.ensures in omega arith in
-    let stays : has_left_region c.args.member (events before) ≡ false = ap (λ (b : Sight). b.left) (sym (c.look.ensures.value (events before) st.barriers_are)) ∙ c.if-look.false in
-    let sound : clash_of (events before) ≡ None = sym st.broken_is ∙ c.in_default.is in
-    let at = slice_get_read c.self.inside.waiting.items _ c.args.member _ refl lt c.index.ensures in
-    let waits : is_some (waits_of c.args.member before).open_call ≡ c.is_some-waits.result = ap is_some (st.wait c.args.member _ at).call_is ∙ some_open c.index.result.now ∙ sym c.is_some-waits.ensures in
-    rw (← c.self.view_is) (alone_is (record { members = length c.self.inside.waiting.items; limits = c.self.inside.limits; cancellation = c.self.inside.icv.cancellation }) (record { member = c.args.member; call = c.args.call.now }) (waits_of c.args.member before).open_call (events before) None lt stays sound
-    (rw c.in-Resume.is (resume_open c.self.inside.limits c.args.member (waits_of c.args.member before).open_call (events before) (waits ∙ c.if-waits.true))))
+pub returns-then-member-len-clause-least : goal.returns-then-member-len-clause-least
+returns-then-member-len-clause-least g c = λ before st0.
+    let size = same_members (terms_of c.args.self.now) before ∙ ap (λ (t : TeamView g.row.S.Denot). members_of t) (sym c.self.view_is) in
+    let le : (past c.args.self.now before).terms.members ≤ c.args.member = let over = c.if-member-len.true in let len = c.len.ensures in omega arith in
+    bad_member (past c.args.self.now before) (record { member = c.args.member; call = c.args.call.now }) le
 
-pub returns-else-waits : goal.returns-else-waits
-returns-else-waits g c = λ before st0.
-    let st = subst (λ (t : TeamView g.row.S.Denot). Stands g.S.Shares.stands g.S.Shares.members t before) (sym c.self.view_is) st0 in
+pub call_refusal-by_call-requires-clause-place : goal.call_refusal-by_call-requires-clause-place
+call_refusal-by_call-requires-clause-place g c = λ again stays.
+    let team : TeamView g.row.S.Denot = record { icv = c.self.inside.icv; limits = c.self.inside.limits; broken = c.self.inside.broken; waiting = c.self.inside.waiting.items; barriers = c.self.inside.barriers; payloads = c.self.inside.payloads; shares = c.self.inside.shares } in
+    let (before, st) = c.self.invariant in
+    let step : Step = record { member = c.args.member; call = c.args.call.now } in
     let lt : c.args.member < length c.self.inside.waiting.items = let under = c.if-member-len.false in let len = c.len.ensures in omega arith in
-    let stays : has_left_region c.args.member (events before) ≡ false = ap (λ (b : Sight). b.left) (sym (c.look.ensures.value (events before) st.barriers_are)) ∙ c.if-look.false in
-    let sound : clash_of (events before) ≡ None = sym st.broken_is ∙ c.in_default.is in
-    let at = slice_get_read c.self.inside.waiting.items _ c.args.member _ refl lt c.index.ensures in
-    let waits : is_some (waits_of c.args.member before).open_call ≡ c.is_some-waits.result = ap is_some (st.wait c.args.member _ at).call_is ∙ some_open c.index.result.now ∙ sym c.is_some-waits.ensures in
-    rw (← c.self.view_is) (alone_is (record { members = length c.self.inside.waiting.items; limits = c.self.inside.limits; cancellation = c.self.inside.icv.cancellation }) (record { member = c.args.member; call = c.args.call.now }) (waits_of c.args.member before).open_call (events before) (Some NotInside) lt stays sound
-    (rw c.in-Resume.is (resume_closed c.self.inside.limits c.args.member (waits_of c.args.member before).open_call (events before) (waits ∙ c.if-waits.false))))
+    let at = slice_get_read c.self.inside.waiting.items _ c.args.member _ refl lt c.index-waiting.ensures in
+    let is = c.meant.ensures ∙ ap (meant c.args.call.now) (sym (st.wait c.args.member _ at)) in
+    let own : c.args.member < g.S.Shares.members c.self.inside.shares = rw st.shares_size lt in
+    let seen = g.met.S.Shares.agrees c.self.inside.shares (past team before).events c.args.member st.shares_are own in
+    rw (is, seen) (step_place (terms_of team) before step c.self.inside.limits st.caused st.limits_are refl (sym c.is_resume.ensures ∙ again) (rw is at stays))
 
-pub returns-then-waits-2 : goal.returns-then-waits-2
-returns-then-waits-2 g c = λ before st0.
-    let st = subst (λ (t : TeamView g.row.S.Denot). Stands g.S.Shares.stands g.S.Shares.members t before) (sym c.self.view_is) st0 in
+pub returns-clause-least : goal.returns-clause-least
+returns-clause-least g c = λ before st0.
+    let team : TeamView g.row.S.Denot = record { icv = c.self.inside.icv; limits = c.self.inside.limits; broken = c.self.inside.broken; waiting = c.self.inside.waiting.items; barriers = c.self.inside.barriers; payloads = c.self.inside.payloads; shares = c.self.inside.shares } in
+    let st = same_stands g.S.Shares.stands g.S.Shares.members team c.args.self.now before c.self.view_is st0 in
+    let step : Step = record { member = c.args.member; call = c.args.call.now } in
     let lt : c.args.member < length c.self.inside.waiting.items = let under = c.if-member-len.false in let len = c.len.ensures in omega arith in
-    let stays : has_left_region c.args.member (events before) ≡ false = ap (λ (b : Sight). b.left) (sym (c.look.ensures.value (events before) st.barriers_are)) ∙ c.if-look.false in
-    let sound : clash_of (events before) ≡ None = sym st.broken_is ∙ c.in_default.is in
-    let at = slice_get_read c.self.inside.waiting.items _ c.args.member _ refl lt c.index.ensures in
-    let waits : is_some (waits_of c.args.member before).open_call ≡ c.is_some-waits.result = ap is_some (st.wait c.args.member _ at).call_is ∙ some_open c.index.result.now ∙ sym c.is_some-waits.ensures in
-    rw (← c.self.view_is) (alone_is (record { members = length c.self.inside.waiting.items; limits = c.self.inside.limits; cancellation = c.self.inside.icv.cancellation }) (record { member = c.args.member; call = c.args.call.now }) (waits_of c.args.member before).open_call (events before) (Some Waiting) lt stays sound
-    (call_waits c.self.inside.limits c.args.member c.args.call.now (waits_of c.args.member before).open_call (events before) c.in_default-call-2.not-Resume c.in_default-call.not-Stop (waits ∙ c.if-waits-2.true)))
-
-pub returns : goal.returns
-returns g c = λ before st0.
-    let st = subst (λ (t : TeamView g.row.S.Denot). Stands g.S.Shares.stands g.S.Shares.members t before) (sym c.self.view_is) st0 in
-    let lt : c.args.member < length c.self.inside.waiting.items = let under = c.if-member-len.false in let len = c.len.ensures in omega arith in
-    let stays : has_left_region c.args.member (events before) ≡ false = ap (λ (b : Sight). b.left) (sym (c.look.ensures.value (events before) st.barriers_are)) ∙ c.if-look.false in
-    let sound : clash_of (events before) ≡ None = sym st.broken_is ∙ c.in_default.is in
-    let at = slice_get_read c.self.inside.waiting.items _ c.args.member _ refl lt c.index.ensures in
-    let waits : is_some (waits_of c.args.member before).open_call ≡ c.is_some-waits.result = ap is_some (st.wait c.args.member _ at).call_is ∙ some_open c.index.result.now ∙ sym c.is_some-waits.ensures in
-    rw (← c.self.view_is) (alone_is (record { members = length c.self.inside.waiting.items; limits = c.self.inside.limits; cancellation = c.self.inside.icv.cancellation }) (record { member = c.args.member; call = c.args.call.now }) (waits_of c.args.member before).open_call (events before) c.own_refusal.result lt stays sound
-    (c.own_refusal.ensures.first (events before) st.shares_are ∙ call_goes_on c.self.inside.limits c.args.member c.args.call.now (waits_of c.args.member before).open_call (events before) c.in_default-call-2.not-Resume c.in_default-call.not-Stop (waits ∙ c.if-waits-2.false)))
+    let at = slice_get_read c.self.inside.waiting.items _ c.args.member _ refl lt c.index-waiting.ensures in
+    let is = c.meant.ensures ∙ ap (meant c.args.call.now) (sym (st.wait c.args.member _ at)) in
+    let by_member = c.member_refusal-by_member.ensures (past team before).events st.barriers_are st.broken_is ∙ ap (λ (n : ℕ). least (member_tests n c.args.member (past team before).events)) (st.barriers_size ∙ sym (same_members (terms_of team) before)) in
+    let by_wait = c.wait_refusal-by_wait.ensures ∙ ap (λ (w : Option Call). least (wait_tests c.args.call.now w)) (sym (st.wait c.args.member _ at)) in
+    let by_call = rw (is, c.is_resume.ensures) at (c.call_refusal-by_call.ensures.least (past team before) (same_limits (terms_of team) before st.limits_are) (st.shares_are, st.barriers_are)) in
+    subst (λ (t : TeamView g.row.S.Denot). c.lesser-2.result ≡ refusal_of (past t before) step) c.self.view_is (c.lesser-2.ensures ∙ ap (lesser c.member_refusal-by_member.result) c.lesser.ensures ∙ step_refused (past team before) step c.member_refusal-by_member.result c.wait_refusal-by_wait.result c.call_refusal-by_call.result by_member by_wait by_call)

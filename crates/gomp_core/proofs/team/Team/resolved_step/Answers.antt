@@ -1,101 +1,193 @@
-use Rattle.std.proofs.Common.{ℕ, ◌≡◌, ◌∙◌, ◌<◌, sym, subst, refl, length, None}
+use Rattle.std.proofs.Common.{◌≡◌, ◌∙◌, ◌<◌, Some, None, length, slice_get, refl, ap, sym, subst, arith}
 use Rattle.std.proofs.lemmas.Option.{slice_get_read}
 use Rattle.gomp_types.specs.declared.call.Step.{Step}
-use Rattle.gomp_types.specs.Tests.{first_refusal}
-use Rattle.gomp_types.specs.Record.{Record, events, waits_of}
+use Rattle.gomp_types.specs.declared.event.Event.TheVariants.{Break}
+use Rattle.gomp_types.specs.declared.refusal.Refusal.TheVariants.{Mismatch, NoMemory}
+use Rattle.gomp_model.specs.Calls.{row_of}
+use Rattle.gomp_model.specs.Team.{Record, meant, is_resume, row_at, refusal_of, MayAnswer}
+use Rattle.gomp_core.specs.Answers.{IsReady, MayReply, PartsStand, given_after}
 use Rattle.gomp_core.specs.Payloads.{PayloadsStand}
-use Rattle.gomp_core.specs.Stands.{TeamView, Stands, terms_of}
-use Rattle.gomp_core.proofs.Rows.{alone, below}
-use Rattle.gomp_core.proofs.Stepping.{Admitted, stands_refused, answer_refused, refused_memory, answer_memory, answer_breaks, only_broken, waits_on, step_ready, step_answered, stands_answered}
+use Rattle.gomp_core.specs.Stands.{TeamView, Stands, past, terms_of}
+use Rattle.gomp_core.proofs.Waits.{step_ready}
+use Rattle.gomp_core.proofs.Words.{words_aside}
+use Rattle.gomp_core.proofs.Stepping.{same_stands, other_stands, step_found, member_free, member_differs, stands_refused, stands_broken, refused_memory, may_answer, never_refused, stands_answered, set_twice, waits_on}
 use Rattle.gomp_core.proofs.team.Team.resolved_step.Given.{Over}
 use Rattle.gomp_core.proofs.team.Team.resolved_step.Goals as goal
 
--- A refusal by a test before the comparison
+-- A call that is answered
 
-pub returns-in-Some-clause-answer : goal.returns-in-Some-clause-answer
-returns-in-Some-clause-answer g c = λ before st.
+pub index_mut-requires : goal.index_mut-requires
+index_mut-requires g c =
+    let (before, st) = c.self.invariant in
     let step : Step = record { member = c.args.member; call = c.args.call } in
-    c.first_refused.ensures (terms_of c.args.self.now) before step c.in-Some.refusal
-    (answer_refused g.S.Shares.stands g.S.Shares.members c.args.self.now before step c.refusal.result c.in-Some.refusal st (c.refusal.ensures before st) c.in-Some.is)
+    let team : TeamView g.row.S.Denot = record { icv = c.self.inside.icv; limits = c.self.inside.limits; broken = c.self.inside.broken; waiting = c.self.inside.waiting.items; barriers = c.self.inside.barriers; payloads = c.self.inside.payloads; shares = c.self.inside.shares } in
+    let same : team ≡ c.args.self.now = c.self.view_is ∙ c.refusal.ensures.kept in
+    let st0 = other_stands g.S.Shares.stands g.S.Shares.members team c.args.self.now before same st in
+    let none = step_found team c.args.self.now before step c.refusal.result None same (c.refusal.ensures.least before st0) c.in-None.is in
+    let lt : c.args.member < length c.self.inside.waiting.items = member_free team before step none in
+    let ok = c.self.inside.waiting.ok in omega arith
 
-pub returns-in-Some-clause-stands : goal.returns-in-Some-clause-stands
-returns-in-Some-clause-stands g c = λ before st.
+pub answer-reply-requires-clause-member : goal.answer-reply-requires-clause-member
+answer-reply-requires-clause-member g c =
+    let (before, st) = c.self.invariant in
     let step : Step = record { member = c.args.member; call = c.args.call } in
-    stands_refused g.S.Shares.stands g.S.Shares.members c.args.self.now before step c.refusal.result c.in-Some.refusal st (returns-in-Some-clause-answer g c before st) (c.refusal.ensures before st) c.in-Some.is
+    let team : TeamView g.row.S.Denot = record { icv = c.self.inside.icv; limits = c.self.inside.limits; broken = c.self.inside.broken; waiting = c.self.inside.waiting.items; barriers = c.self.inside.barriers; payloads = c.self.inside.payloads; shares = c.self.inside.shares } in
+    let same : team ≡ c.args.self.now = c.self.view_is ∙ c.refusal.ensures.kept in
+    let st0 = other_stands g.S.Shares.stands g.S.Shares.members team c.args.self.now before same st in
+    let none = step_found team c.args.self.now before step c.refusal.result None same (c.refusal.ensures.least before st0) c.in-None.is in
+    rw st.shares_size (member_free team before step none)
 
-pub returns-in-Some-clause-memory : goal.returns-in-Some-clause-memory
-returns-in-Some-clause-memory g c =
-    let (before, st0) = c.self.invariant in
-    let st = subst (λ (t : TeamView g.row.S.Denot). Stands g.S.Shares.stands g.S.Shares.members t before) c.self.view_is st0 in
+pub answer-reply-requires-clause-ready : goal.answer-reply-requires-clause-ready
+answer-reply-requires-clause-ready g c =
+    let (before, st) = c.self.invariant in
     let step : Step = record { member = c.args.member; call = c.args.call } in
-    refused_memory (terms_of c.args.self.now) step before c.refusal.result c.in-Some.refusal (c.refusal.ensures before st) c.in-Some.is
+    let team : TeamView g.row.S.Denot = record { icv = c.self.inside.icv; limits = c.self.inside.limits; broken = c.self.inside.broken; waiting = c.self.inside.waiting.items; barriers = c.self.inside.barriers; payloads = c.self.inside.payloads; shares = c.self.inside.shares } in
+    let same : team ≡ c.args.self.now = c.self.view_is ∙ c.refusal.ensures.kept in
+    let st0 = other_stands g.S.Shares.stands g.S.Shares.members team c.args.self.now before same st in
+    let none = step_found team c.args.self.now before step c.refusal.result None same (c.refusal.ensures.least before st0) c.in-None.is in
+    let lt : c.args.member < length c.self.inside.waiting.items = member_free team before step none in
+    let at = slice_get_read c.self.inside.waiting.items _ c.args.member _ refl lt c.index_mut.ensures.value in
+    let is = c.meant.ensures ∙ ap (meant c.args.call) (c.take-waiting.ensures.value ∙ sym (st.wait c.args.member _ at)) in (
+      past team before,
+      (st.shares_are, st.barriers_are, rw st.shares_size st.payloads_are),
+      rw (is, c.is_resume.ensures) (step_ready (terms_of team) before step (g.S.Shares.members c.self.inside.shares) c.self.inside.limits st.caused st.limits_are st.shares_size refl none),
+    )
 
--- Else
+pub index_mut-requires-in-None : goal.index_mut-requires-in-None
+index_mut-requires-in-None g c =
+    let (before, st) = c.self.invariant in
+    let step : Step = record { member = c.args.member; call = c.args.call } in
+    let team : TeamView g.row.S.Denot = record { icv = c.self.inside.icv; limits = c.self.inside.limits; broken = c.self.inside.broken; waiting = c.self.inside.waiting.items; barriers = c.self.inside.barriers; payloads = c.self.inside.payloads; shares = c.self.inside.shares } in
+    let same : team ≡ c.args.self.now = c.self.view_is ∙ c.refusal.ensures.kept in
+    let st0 = other_stands g.S.Shares.stands g.S.Shares.members team c.args.self.now before same st in
+    let none = step_found team c.args.self.now before step c.refusal.result None same (c.refusal.ensures.least before st0) c.in-None.is in
+    let lt : c.args.member < length c.self.inside.waiting.items = member_free team before step none in
+    let ok = c.self.inside.waiting.ok in omega arith
 
-abbrev step_of : (g : Over) → goal.After-self-2-1 g → Step
+abbrev step_of : (g : Over) → goal.After-self-in-None-2-1 g → Step
 step_of g c = record { member = c.args.member; call = c.args.call }
 
-abbrev team_of : (g : Over) → goal.After-self-2-1 g → TeamView g.row.S.Denot
+abbrev team_of : (g : Over) → goal.After-self-in-None-2-1 g → TeamView g.row.S.Denot
 team_of g c = record { icv = c.self.inside.icv; limits = c.self.inside.limits; broken = c.self.inside.broken; waiting = c.self.inside.waiting.items; barriers = c.self.inside.barriers; payloads = c.self.inside.payloads; shares = c.self.inside.shares }
 
-words_stand : (g : Over) (c : goal.After-self-2-1 g) (before : Record) → Stands g.S.Shares.stands g.S.Shares.members (team_of g c) before →
-    PayloadsStand (g.S.Shares.members c.self.inside.shares) c.self.inside.payloads (events before)
-words_stand g c before st = subst (λ (n : ℕ). PayloadsStand n c.self.inside.payloads (events before)) (sym st.shares_size) st.payloads_are
+same_as : (g : Over) (c : goal.After-self-in-None-2-1 g) → team_of g c ≡ c.args.self.now
+same_as g c = c.self.view_is ∙ c.refusal.ensures.kept
 
-admitted : (g : Over) (c : goal.After-self-2-1 g) (before : Record) → Stands g.S.Shares.stands g.S.Shares.members (team_of g c) before →
-    Admitted g.S.Shares.stands g.S.Shares.members (team_of g c) before (step_of g c) c.index-waiting.result.now c.answer-outcome.result
-admitted g c before st =
-    let seen = subst (λ (t : TeamView g.row.S.Denot). Stands g.S.Shares.stands g.S.Shares.members t before) c.self.view_is st in
-    let none : first_refusal (alone (terms_of (team_of g c)) (step_of g c) (waits_of c.args.member before).open_call (events before)) ≡ None =
-    subst (λ (t : TeamView g.row.S.Denot). first_refusal (alone (terms_of t) (step_of g c) (waits_of c.args.member before).open_call (events before)) ≡ None) (sym c.self.view_is) (sym (c.refusal.ensures before seen) ∙ c.in_default.is) in
-    let lt : c.args.member < length c.self.inside.waiting.items = below (terms_of (team_of g c)) (step_of g c) (waits_of c.args.member before).open_call (events before) none in
-    let at = slice_get_read c.self.inside.waiting.items _ c.args.member _ refl lt c.index-waiting.ensures in
-    let may = step_ready g.S.Shares.stands g.S.Shares.members (team_of g c) before (step_of g c) c.index-waiting.result.now st at none in
+-- what is known of the step and its answer
+record Known (g : Over) (c : goal.After-self-in-None-2-1 g) (before : Record) : Type 0 where
+  st : Stands g.S.Shares.stands g.S.Shares.members (team_of g c) before
+  none : refusal_of (past (team_of g c) before) (step_of g c) ≡ None
+  at : slice_get c.self.inside.waiting.items c.args.member ≡ Some c.take-waiting.result
+  is : c.meant.result.now ≡ meant c.args.call ((past (team_of g c) before).waits c.args.member)
+  may : MayReply (row_at (past (team_of g c) before) (step_of g c)) (is_resume c.args.call) c.args.member (past (team_of g c) before) c.answer-reply.result
+  parts : PartsStand g.S.Shares.stands (length c.self.inside.waiting.items) c.answer-reply.new.shares c.answer-reply.new.barriers c.answer-reply.new.payloads
+      (given_after (row_at (past (team_of g c) before) (step_of g c)) (is_resume c.args.call) c.args.member (past (team_of g c) before) c.answer-reply.result)
+
+known_of : (g : Over) (c : goal.After-self-in-None-2-1 g) (before : Record) → Stands g.S.Shares.stands g.S.Shares.members c.args.self.now before → Known g c before
+known_of g c before st0 =
+    let st = same_stands g.S.Shares.stands g.S.Shares.members (team_of g c) c.args.self.now before (same_as g c) st0 in
+    let p = past (team_of g c) before in
+    let none = step_found (team_of g c) c.args.self.now before (step_of g c) c.refusal.result None (same_as g c) (c.refusal.ensures.least before st0) c.in-None.is in
+    let lt : c.args.member < length c.self.inside.waiting.items = member_free (team_of g c) before (step_of g c) none in
+    let there = slice_get_read c.self.inside.waiting.items _ c.args.member _ refl lt c.index_mut.ensures.value in
+    let at : slice_get c.self.inside.waiting.items c.args.member ≡ Some c.take-waiting.result = there ∙ ap Some (sym c.take-waiting.ensures.value) in
+    let is = c.meant.ensures ∙ ap (meant c.args.call) (sym (st.wait c.args.member c.take-waiting.result at)) in
+    let payloads : PayloadsStand (g.S.Shares.members c.self.inside.shares) c.self.inside.payloads p.events = rw st.shares_size st.payloads_are in
+    let ready : IsReady (row_of c.meant.result.now) (g.S.Shares.members c.self.inside.shares) c.self.inside.limits c.is_resume.result c.args.member p =
+    rw (is, c.is_resume.ensures) (step_ready (terms_of (team_of g c)) before (step_of g c) (g.S.Shares.members c.self.inside.shares) c.self.inside.limits st.caused st.limits_are st.shares_size refl none) in
     record {
-      stand = st;
-      at = at;
+      st = st;
       none = none;
-      may = may;
-      answer = rw st.shares_size at (c.answer-outcome.ensures.answer (events before) st.shares_are st.barriers_are (words_stand g c before st) may);
+      at = at;
+      is = is;
+      may = rw (is, c.is_resume.ensures) at (c.answer-reply.ensures.answer p (st.shares_are, st.barriers_are, payloads) ready);
+      parts = rw (is, c.is_resume.ensures, st.shares_size) at (c.answer-reply.ensures.stands p (st.shares_are, st.barriers_are, payloads) ready);
     }
 
-pub returns-clause-answer : goal.returns-clause-answer
-returns-clause-answer g c = λ before st0.
-    let st = subst (λ (t : TeamView g.row.S.Denot). Stands g.S.Shares.stands g.S.Shares.members t before) (sym c.self.view_is) st0 in
-    rw (← c.self.view_is, c.reply_to-reply.ensures) (step_answered g.S.Shares.stands g.S.Shares.members (team_of g c) before (step_of g c) c.index-waiting.result.now c.answer-outcome.result (admitted g c before st) (c.first_refused.ensures (terms_of (team_of g c)) before (step_of g c)))
+own_known : (g : Over) (c : goal.After-self-in-None-2-1 g) → (before : Record) × Known g c before
+own_known g c = let (before, st) = c.self.invariant in (before, known_of g c before (other_stands g.S.Shares.stands g.S.Shares.members (team_of g c) c.args.self.now before (same_as g c) st))
 
-pub returns-clause-stands : goal.returns-clause-stands
-returns-clause-stands g c = λ before st0.
-    let st = subst (λ (t : TeamView g.row.S.Denot). Stands g.S.Shares.stands g.S.Shares.members t before) (sym c.self.view_is) st0 in
-    let known = admitted g c before st in
-    rw (c.waiting_after.ensures, c.broken_after-self-inside.ensures, c.reply_to-reply.ensures) (stands_answered g.S.Shares.stands g.S.Shares.members (team_of g c) c.answer-outcome.new.shares c.answer-outcome.new.barriers c.answer-outcome.new.payloads before (step_of g c) c.index-waiting.result.now c.answer-outcome.result known
-    (c.first_refused.ensures (terms_of (team_of g c)) before (step_of g c)) (rw st.shares_size at (c.answer-outcome.ensures.stands (events before) st.shares_are st.barriers_are (words_stand g c before st) known.may)) c.answer-outcome.ensures.members c.answer-outcome.ensures.barriers)
+pub returns-in-None-clause-memory : goal.returns-in-None-clause-memory
+returns-in-None-clause-memory g c = let (before, k) = own_known g c in never_refused (past (team_of g c) before) (step_of g c) NoMemory c.answer-reply.result k.may
 
-pub returns-clause-memory : goal.returns-clause-memory
-returns-clause-memory g c =
-    let (before, st) = c.self.invariant in
-    rw c.reply_to-reply.ensures (answer_memory _ _ _ _ c.answer-outcome.result (events before) (admitted g c before st).answer)
+pub returns-in-None-clause-kept : goal.returns-in-None-clause-kept
+returns-in-None-clause-kept g c = λ refusal same differ. let (before, k) = own_known g c in absurd (never_refused (past (team_of g c) before) (step_of g c) refusal c.answer-reply.result k.may same)
 
-pub returns-clause-kept : goal.returns-clause-kept
-returns-clause-kept g c = λ refusal same differ.
-    let (before, st) = c.self.invariant in
-    absurd (differ (answer_breaks _ _ _ _ c.answer-outcome.result refusal (events before) (admitted g c before st).answer (sym c.reply_to-reply.ensures ∙ same)))
+pub returns-in-None-clause-broken : goal.returns-in-None-clause-broken
+returns-in-None-clause-broken g c = λ same. let (before, k) = own_known g c in absurd (never_refused (past (team_of g c) before) (step_of g c) Mismatch c.answer-reply.result k.may same)
 
-pub returns-clause-broken : goal.returns-clause-broken
-returns-clause-broken g c = λ same.
-    let (before, st) = c.self.invariant in
-    let known = admitted g c before st in
-    rw (← c.self.view_is, c.waiting_after.ensures, c.broken_after-self-inside.ensures, c.reply_to-reply.ensures) (only_broken (team_of g c) c.answer-outcome.new.shares c.answer-outcome.new.barriers c.answer-outcome.new.payloads (step_of g c) c.index-waiting.result.now c.answer-outcome.result _ _ _ (events before)
-    known.at known.answer c.answer-outcome.ensures.kept (sym c.reply_to-reply.ensures ∙ same))
+pub returns-in-None-clause-again : goal.returns-in-None-clause-again
+returns-in-None-clause-again g c = λ wait resume.
+    let (before, k) = own_known g c in
+    let kept = c.answer-reply.ensures.again (c.is_resume.ensures ∙ ap is_resume resume) wait in
+    rw (set_twice c.self.inside.waiting.items c.args.member c.take-waiting.new.self c.wait_after.result, c.wait_after.ensures, c.broken_after-self-inside.ensures)
+    (waits_on (team_of g c) c.answer-reply.new.shares c.answer-reply.new.barriers c.answer-reply.new.payloads (past (team_of g c) before) (step_of g c) c.take-waiting.result c.answer-reply.result k.at (k.st.wait c.args.member c.take-waiting.result k.at) k.none kept wait resume ∙ same_as g c)
 
-pub returns-clause-again : goal.returns-clause-again
-returns-clause-again g c = λ same resume.
-    let (before, st) = c.self.invariant in
-    let known = admitted g c before st in
-    rw (← c.self.view_is, c.waiting_after.ensures, c.broken_after-self-inside.ensures, c.reply_to-reply.ensures) (waits_on (team_of g c) c.answer-outcome.new.shares c.answer-outcome.new.barriers c.answer-outcome.new.payloads (step_of g c) c.index-waiting.result.now c.answer-outcome.result
-    known.at (λ is. c.answer-outcome.ensures.again is resume) (sym c.reply_to-reply.ensures ∙ same) resume)
+pub returns-in-None-clause-answer : goal.returns-in-None-clause-answer
+returns-in-None-clause-answer g c = λ before st0.
+    let k = known_of g c before st0 in
+    subst (λ (t : TeamView g.row.S.Denot). MayAnswer (past t before) (step_of g c) c.answer-reply.result) (same_as g c) (may_answer (past (team_of g c) before) (step_of g c) c.answer-reply.result k.none k.may)
+
+pub returns-in-None-clause-stands : goal.returns-in-None-clause-stands
+returns-in-None-clause-stands g c = λ before st0.
+    let k = known_of g c before st0 in
+    rw (set_twice c.self.inside.waiting.items c.args.member c.take-waiting.new.self c.wait_after.result, c.wait_after.ensures, c.broken_after-self-inside.ensures)
+    (stands_answered g.S.Shares.stands g.S.Shares.members (team_of g c) c.answer-reply.new.shares c.answer-reply.new.barriers c.answer-reply.new.payloads before (step_of g c) c.take-waiting.result c.answer-reply.result
+    k.st k.at k.none k.may (λ stopped. sym k.is ∙ c.answer-reply.ensures.stops stopped) k.parts c.answer-reply.ensures.members c.answer-reply.ensures.barriers)
 
 pub invariant_of-self : goal.invariant_of-self
 invariant_of-self g c =
     let (before, st) = c.self.invariant in
-    (_, returns-clause-stands g c before (subst (λ (t : TeamView g.row.S.Denot). Stands g.S.Shares.stands g.S.Shares.members t before) c.self.view_is st))
+    (_, returns-in-None-clause-stands g c before (other_stands g.S.Shares.stands g.S.Shares.members (team_of g c) c.args.self.now before (same_as g c) st))
+
+-- A mismatch
+
+pub place-place-requires : goal.place-place-requires
+place-place-requires g c =
+    let (before, st) = c.self.invariant in
+    let step : Step = record { member = c.args.member; call = c.args.call } in
+    let team : TeamView g.row.S.Denot = record { icv = c.self.inside.icv; limits = c.self.inside.limits; broken = c.self.inside.broken; waiting = c.self.inside.waiting.items; barriers = c.self.inside.barriers; payloads = c.self.inside.payloads; shares = c.self.inside.shares } in
+    let same : team ≡ c.args.self.now = c.self.view_is ∙ c.refusal.ensures.kept in
+    let st0 = other_stands g.S.Shares.stands g.S.Shares.members team c.args.self.now before same st in
+    let is = step_found team c.args.self.now before step c.refusal.result (Some Mismatch) same (c.refusal.ensures.least before st0) (c.in-Some.is ∙ ap Some c.in-Mismatch.is) in
+    record { member = rw (← c.self.view_is) (member_differs team before step is) }
+
+pub returns-in-Mismatch-clause-stands : goal.returns-in-Mismatch-clause-stands
+returns-in-Mismatch-clause-stands g c = λ before st0.
+    let step : Step = record { member = c.args.member; call = c.args.call } in
+    let team : TeamView g.row.S.Denot = record { icv = c.self.inside.icv; limits = c.self.inside.limits; broken = c.self.inside.broken; waiting = c.self.inside.waiting.items; barriers = c.self.inside.barriers; payloads = c.self.inside.payloads; shares = c.self.inside.shares } in
+    let same : team ≡ c.args.self.now = c.self.view_is ∙ c.refusal.ensures.kept in
+    let st = same_stands g.S.Shares.stands g.S.Shares.members team c.args.self.now before same st0 in
+    let is = step_found team c.args.self.now before step c.refusal.result (Some Mismatch) same (c.refusal.ensures.least before st0) (c.in-Some.is ∙ ap Some c.in-Mismatch.is) in
+    let there = c.place-place.ensures before (other_stands g.S.Shares.stands g.S.Shares.members team c.refusal.new.self before c.self.view_is st) in
+    let place = rw (← c.self.view_is) at there in
+    stands_broken g.S.Shares.stands g.S.Shares.members team before step c.place-place.result st (c.first_refused.ensures (past team before) step Mismatch is) is place
+    (λ h s. g.met.S.Shares.aside c.self.inside.shares h (Break c.args.member c.place-place.result) tt s)
+    (λ h s. c.aside.ensures.stands c.self.inside.barriers h (Break c.args.member c.place-place.result) tt s)
+    (λ h s. words_aside (length c.self.inside.waiting.items) c.self.inside.payloads h (Break c.args.member c.place-place.result) tt s)
+
+pub invariant_of-self-in-Mismatch : goal.invariant_of-self-in-Mismatch
+invariant_of-self-in-Mismatch g c =
+    let (before, st) = c.self.invariant in
+    let team : TeamView g.row.S.Denot = record { icv = c.self.inside.icv; limits = c.self.inside.limits; broken = c.self.inside.broken; waiting = c.self.inside.waiting.items; barriers = c.self.inside.barriers; payloads = c.self.inside.payloads; shares = c.self.inside.shares } in
+    (_, returns-in-Mismatch-clause-stands g c before (other_stands g.S.Shares.stands g.S.Shares.members team c.args.self.now before (c.self.view_is ∙ c.refusal.ensures.kept) st))
+
+-- Any other refusal
+
+pub returns-in_default-clause-answer : goal.returns-in_default-clause-answer
+returns-in_default-clause-answer g c = λ before st0.
+    let step : Step = record { member = c.args.member; call = c.args.call } in
+    c.first_refused.ensures (past c.args.self.now before) step c.in-Some.refusal (sym (c.refusal.ensures.least before st0) ∙ c.in-Some.is)
+
+pub returns-in_default-clause-memory : goal.returns-in_default-clause-memory
+returns-in_default-clause-memory g c =
+    let (before, st) = c.self.invariant in
+    let step : Step = record { member = c.args.member; call = c.args.call } in
+    let team : TeamView g.row.S.Denot = record { icv = c.self.inside.icv; limits = c.self.inside.limits; broken = c.self.inside.broken; waiting = c.self.inside.waiting.items; barriers = c.self.inside.barriers; payloads = c.self.inside.payloads; shares = c.self.inside.shares } in
+    let st0 = other_stands g.S.Shares.stands g.S.Shares.members team c.args.self.now before (c.self.view_is ∙ c.refusal.ensures.kept) st in
+    refused_memory (past c.args.self.now before) step c.in-Some.refusal (returns-in_default-clause-answer g c before st0) (sym (c.refusal.ensures.least before st0) ∙ c.in-Some.is)
+
+pub returns-in_default-clause-stands : goal.returns-in_default-clause-stands
+returns-in_default-clause-stands g c = λ before st0.
+    let step : Step = record { member = c.args.member; call = c.args.call } in
+    rw c.refusal.ensures.kept (stands_refused g.S.Shares.stands g.S.Shares.members c.args.self.now before step c.in-Some.refusal st0 (returns-in_default-clause-answer g c before st0) c.in_default.not-Mismatch)

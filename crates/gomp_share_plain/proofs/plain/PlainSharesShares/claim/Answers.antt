@@ -1,7 +1,7 @@
 use Rattle.std.proofs.Common.{arith, refl}
 use Rattle.std.proofs.lemmas.List.{length-set}
 use Rattle.std.proofs.lemmas.Option.{slice_get_read}
-use Rattle.gomp_share_plain.specs.Calls.{CanClaim}
+use Rattle.gomp_shares.specs.Calls.{CanClaim}
 use Rattle.gomp_share_plain.proofs.Places.{place_is, own_place, not_empty, here_plan}
 use Rattle.gomp_share_plain.proofs.TakesKeep.{claims, drains, piece_at}
 use Rattle.gomp_share_plain.proofs.Views.{told, known_by}
@@ -37,7 +37,7 @@ returns-in_default-next_piece-clause-stands c = λ h st0.
     let (can, st) = told _ _ c.args.member h (λ n seen. CanClaim n c.args.member seen) c.self.view_is c.requires.place c.requires.place.member st0 in
     let at = slice_get_read c.self.inside.seats.items _ c.args.member c.index-seat.result.now refl can.member c.index-seat.ensures in
     let may = rw (← c.self.view_is) at (returns-in_default-next_piece-clause-answer c h st0) in
-    rw (length-set c.self.inside.seats.items c.args.member _) (drains _ _ _ _ h c.args.member c.index-seat.result.now st at can.apart may)
+    rw (length-set c.self.inside.seats.items c.args.member _) (drains _ _ _ _ h c.args.member c.index-seat.result.now st at can may)
 
 pub invariant_of-self : goal.invariant_of-self
 invariant_of-self c = let (h, st0) = known_by _ _ c.self.view_is c.self.invariant in (_, returns-in_default-next_piece-clause-stands c h st0)
@@ -58,7 +58,7 @@ returns-clause-stands c = λ h st0.
     let at = slice_get_read c.self.inside.seats.items _ c.args.member c.index-seat.result.now refl can.member c.index-seat.ensures in
     let there = place_is _ _ _ c.share_at.ensures.there c.in-Some.is in
     let may = rw (← c.self.view_is) at (returns-clause-answer c h st0) in
-    let kept = claims _ _ _ _ h c.args.member c.index-seat.result.now c.in-Some.share _ _ c.next_piece.new.self c.next_piece.ensures.plan (rw c.in-Some-next_piece.is at c.next_piece.ensures.number) st at can.inside there can.apart may in
+    let kept = claims _ _ _ _ h c.args.member c.index-seat.result.now c.in-Some.share _ _ c.next_piece.new.self c.next_piece.ensures.plan (rw c.in-Some-next_piece.is at c.next_piece.ensures.number) st at can.inside there can may in
     rw (length-set c.self.inside.seats.items c.args.member _, c.saturating_add.ensures, c.saturating_add-2.ensures) kept
 
 pub invariant_of-self-2 : goal.invariant_of-self-2

@@ -1,7 +1,7 @@
 use Rattle.std.proofs.Common.{refl}
 use Rattle.std.proofs.lemmas.List.{length-set}
 use Rattle.std.proofs.lemmas.Option.{slice_get_read}
-use Rattle.gomp_share_plain.specs.Calls.{CanEndPart}
+use Rattle.gomp_shares.specs.Calls.{CanEndPart}
 use Rattle.gomp_share_plain.proofs.Views.{told, known_by}
 use Rattle.gomp_share_plain.proofs.PartsKeep.{ends}
 use Rattle.gomp_share_plain.proofs.plain.PlainSharesShares.end_part.Goals as goal

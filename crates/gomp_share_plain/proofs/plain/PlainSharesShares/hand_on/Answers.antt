@@ -2,10 +2,11 @@ use Rattle.std.proofs.Common.{arith, refl, ◌∙◌, sym}
 use Rattle.std.specs.Prelude.{is_some}
 use Rattle.std.proofs.lemmas.Option.{slice_get_read}
 use Rattle.gomp_types.proofs.Booleans.{some_of, and_left, and_right, is_equal}
-use Rattle.gomp_share_plain.specs.Calls.{CanHandOn}
+use Rattle.gomp_shares.specs.Calls.{CanHandOn}
+use Rattle.gomp_shares.proofs.AnswerRules.{hands_inside}
 use Rattle.gomp_share_plain.proofs.Places.{place_is, own_place, not_empty}
 use Rattle.gomp_share_plain.proofs.Views.{told, known_by}
-use Rattle.gomp_share_plain.proofs.PartsKeep.{next_tells, number_below, hands_inside, hands}
+use Rattle.gomp_share_plain.proofs.PartsKeep.{next_tells, number_below, hands}
 use Rattle.gomp_share_plain.proofs.plain.PlainSharesShares.hand_on.Goals as goal
 
 pub returns-in_default-clause-answer : goal.returns-in_default-clause-answer

@@ -1,9 +1,10 @@
 use Rattle.std.proofs.Common.{◌<◌, ◌^◌, refl, rules, arith}
 use Rattle.std.proofs.lemmas.List.{length-set}
 use Rattle.std.proofs.lemmas.Option.{slice_get_read}
-use Rattle.gomp_share_plain.specs.Calls.{CanLeave}
+use Rattle.gomp_shares.specs.Calls.{CanLeave}
+use Rattle.gomp_shares.proofs.AnswerRules.{leave_rule}
 use Rattle.gomp_share_plain.proofs.Seats.{inside}
-use Rattle.gomp_share_plain.proofs.LeavesKeep.{leaves, leave_rule}
+use Rattle.gomp_share_plain.proofs.LeavesKeep.{leaves}
 use Rattle.gomp_share_plain.proofs.Views.{told, known_by}
 use Rattle.gomp_share_plain.proofs.plain.PlainSharesShares.leave.Goals as goal
 
@@ -11,7 +12,7 @@ pub returns-clause-stands : goal.returns-clause-stands
 returns-clause-stands c = λ h st0.
     let (can, st) = told _ _ c.args.member h (λ n seen. CanLeave n c.args.member seen) c.self.view_is c.requires.place c.requires.place.member st0 in
     let at = slice_get_read c.self.inside.seats.items _ c.args.member c.index_mut.result.now refl can.member c.index_mut.ensures.value in
-    let none = leave_rule _ _ _ _ h c.args.member st can c.told_none.ensures c.single_done.ensures in
+    let none = leave_rule _ c.args.member h st.rule can in
     rw (length-set c.self.inside.seats.items c.args.member _) (leaves _ _ _ _ h c.args.member c.index_mut.result.now st at can.inside none)
 
 pub invariant_of-self : goal.invariant_of-self

@@ -10,14 +10,14 @@ returns-then-number-self-clause-answer c = λ h st0.
     let at = slice_get_read c.self.inside.seats.items _ c.args.member c.index.result.now refl lt c.index.ensures in
     sym (next_new _ _ _ _ h c.args.member c.index.result.now st at c.if-number-self.true)
 
-pub returns-in-Some-clause-answer : goal.returns-in-Some-clause-answer
-returns-in-Some-clause-answer c = λ h st0.
+pub returns-clause-answer : goal.returns-clause-answer
+returns-clause-answer c = λ h st0.
     let (lt, st) = told_stands _ _ c.args.member h c.self.view_is c.requires.member st0 in
     let at = slice_get_read c.self.inside.seats.items _ c.args.member c.index.result.now refl lt c.index.ensures in
     next_taken _ _ _ _ h c.args.member c.index.result.now c.in-Some.share st at c.if-number-self.false (place_is _ _ _ c.share_at.ensures.there c.in-Some.is)
 
-pub returns-in-None-clause-answer : goal.returns-in-None-clause-answer
-returns-in-None-clause-answer c = λ h st0.
+pub returns-in_default-clause-answer : goal.returns-in_default-clause-answer
+returns-in_default-clause-answer c = λ h st0.
     let (lt, st) = told_stands _ _ c.args.member h c.self.view_is c.requires.member st0 in
     let at = slice_get_read c.self.inside.seats.items _ c.args.member c.index.result.now refl lt c.index.ensures in
-    absurd (not_empty _ _ _ h (next_place _ _ _ _ h c.args.member c.index.result.now st at c.if-number-self.false) (place_is _ _ _ c.share_at.ensures.there c.in-None.is))
+    absurd (not_empty _ _ _ h (next_place _ _ _ _ h c.args.member c.index.result.now st at c.if-number-self.false) (place_is _ _ _ c.share_at.ensures.there c.in_default.is))

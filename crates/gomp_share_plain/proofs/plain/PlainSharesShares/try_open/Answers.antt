@@ -3,10 +3,10 @@ use Rattle.std.specs.Prelude.{IsTrue}
 use Rattle.std.proofs.lemmas.List.{length-set}
 use Rattle.std.proofs.lemmas.Option.{slice_get_read}
 use Rattle.gomp_types.specs.Events.{has_room}
-use Rattle.gomp_share_plain.specs.Calls.{CanOpen}
+use Rattle.gomp_shares.specs.Calls.{CanOpen}
 use Rattle.gomp_share_plain.proofs.Room.{room_by, no_room, room_before, each_room}
 use Rattle.gomp_share_plain.proofs.Places.{place_is, next_place, not_empty, next_same, next_differs, next_is, new_differs}
-use Rattle.gomp_share_plain.proofs.EntersKeep.{enters, opens, can_enter}
+use Rattle.gomp_share_plain.proofs.EntersKeep.{enters, opens}
 use Rattle.gomp_share_plain.proofs.Views.{told, known_by}
 use Rattle.gomp_share_plain.proofs.plain.PlainSharesShares.try_open.Goals as goal
 
@@ -33,8 +33,8 @@ returns-then-number-self-clause-stands c = λ h st0.
     let (can, st) = told _ _ c.args.member h (λ n seen. CanOpen n c.args.member c.args.shape.now seen) c.self.view_is c.requires.place c.requires.place.member st0 in
     let at = slice_get_read c.self.inside.seats.items _ c.args.member c.index-seat.result.now refl can.member c.index-seat.ensures in
     let there = place_is _ _ _ c.share_at.ensures.there c.in-Some.is in
-    let fine = can_enter _ c.args.member c.args.shape.now _ can c.fair_schedule.ensures c.pieces_tile.ensures in
-    rw (length-set c.self.inside.seats.items c.args.member _) (enters _ _ _ _ h c.args.member c.index-seat.result.now c.args.shape.now st at can.outside c.if-number-self.true fine
+    let may = rw (← c.self.view_is) at (returns-then-number-self-clause-answer c h st0) in
+    rw (length-set c.self.inside.seats.items c.args.member _) (enters _ _ _ _ h c.args.member c.index-seat.result.now c.args.shape.now st at can may c.if-number-self.true
     (next_same _ _ _ _ h c.args.member c.index-seat.result.now c.in-Some.share c.args.shape.now st at c.if-number-self.true there (sym c.is_same.ensures ∙ c.if-not-is_same.false)))
 
 pub invariant_of-self : goal.invariant_of-self
@@ -87,13 +87,13 @@ pub returns-clause-stands : goal.returns-clause-stands
 returns-clause-stands c = λ h st0.
     let (can, st) = told _ _ c.args.member h (λ n seen. CanOpen n c.args.member c.args.shape.now seen) c.self.view_is c.requires.place c.requires.place.member st0 in
     let at = slice_get_read c.self.inside.seats.items _ c.args.member c.index-seat.result.now refl can.member c.index-seat.ensures in
-    let fine = can_enter _ c.args.member c.args.shape.now _ can c.fair_schedule.ensures c.pieces_tile.ensures in
+    let may = rw (← c.self.view_is) at (returns-clause-answer c h st0) in
     let now = next_is _ _ _ _ h c.args.member c.index-seat.result.now st at c.if-number-self.false in
     let size : c.len-members.result ≡ length c.self.inside.seats.items = search rules in
     let all = each_room c.self.inside.seats.items c.index-seat.result.now.started (
     let seats : c.deref.result.now ≡ c.self.inside.seats.items = c.deref.ensures.value in
     rw seats at (c.has_room.ensures.0 (grind (arith, c.if-not-has_room.false)))) in
-    rw (length-set c.self.inside.seats.items c.args.member _, now) (opens _ _ _ _ h c.args.member c.index-seat.result.now c.args.shape.now c.new.result (c.new.ensures.plan ∙ c.of.ensures.plan ∙ ap (λ n. record { members = n; shape = c.args.shape.now }) size) st at can.outside now fine (rw now at all))
+    rw (length-set c.self.inside.seats.items c.args.member _, now) (opens _ _ _ _ h c.args.member c.index-seat.result.now c.args.shape.now c.new.result (c.new.ensures.plan ∙ c.of.ensures.plan ∙ ap (λ n. record { members = n; shape = c.args.shape.now }) size) st at can may now (rw now at all))
 
 pub invariant_of-self-2 : goal.invariant_of-self-2
 invariant_of-self-2 c = let (h, st0) = known_by _ _ c.self.view_is c.self.invariant in (_, returns-clause-stands c h st0)

@@ -3,10 +3,11 @@ use Rattle.std.specs.Prelude.{is_some}
 use Rattle.std.proofs.lemmas.List.{length-set}
 use Rattle.std.proofs.lemmas.Option.{slice_get_read}
 use Rattle.gomp_types.proofs.Booleans.{some_of, and_left}
-use Rattle.gomp_share_plain.specs.Calls.{CanBeginPart}
+use Rattle.gomp_shares.specs.Calls.{CanBeginPart}
+use Rattle.gomp_shares.proofs.AnswerRules.{begins_inside, rest_tells}
 use Rattle.gomp_share_plain.proofs.Places.{place_is, own_place, not_empty}
 use Rattle.gomp_share_plain.proofs.Views.{told, known_by}
-use Rattle.gomp_share_plain.proofs.PartsKeep.{next_tells, number_below, begins_inside, begins, in_rest}
+use Rattle.gomp_share_plain.proofs.PartsKeep.{next_tells, number_below, begins}
 use Rattle.gomp_share_plain.proofs.plain.PlainSharesShares.try_turn.Goals as goal
 
 pub returns-in_default-clause-answer : goal.returns-in_default-clause-answer
@@ -52,7 +53,7 @@ overflow_add-iteration c =
     let piece = some_of c.index.result.now.piece (and_left (is_some c.index.result.now.piece) _ (sym c.is_next.ensures ∙ c.if-not-is_next.false)) in
     let few = number_below _ _ _ _ h c.args.member c.index.result.now c.in-Some.share piece.0 st at (begins_inside _ c.args.member c.args.iteration h can) there can.member c.pieces_tile.ensures piece.1 in
     let s = st.seat c.args.member _ at in
-    let rest = in_rest _ _ c.args.iteration can.rest in
+    let rest = rest_tells _ _ c.args.iteration can.rest in
     let before = rest.before in
     let same : Some rest.piece ≡ Some piece.0 = sym rest.is ∙ s.piece ∙ piece.1 in
     let one : rest.piece ≡ piece.0 = let e = same in cc in

@@ -1,0 +1,106 @@
+-- What is known of a step that no test refuses, from a record whose replies have their causes.
+use Rattle.std.proofs.Common.{◌≡◌, ℕ, ◌<◌, Bool, true, false, List, [], ◌∷◌, Option, Some, None, refl, ap, sym, ◌∙◌, subst, inl, inr}
+use Rattle.std.specs.Prelude.{◌==◌}
+use Rattle.std.proofs.lemmas.Bool.{cases_lt}
+use Rattle.gomp_types.specs.declared.call.Call.{Call}
+use Rattle.gomp_types.specs.declared.call.Call.TheVariants.{Resume}
+use Rattle.gomp_types.specs.declared.call.Step.{Step}
+use Rattle.gomp_types.specs.declared.event.Event.{Event}
+use Rattle.gomp_types.specs.declared.limits.Limits.{Limits}
+use Rattle.gomp_types.specs.declared.refusal.Refusal.TheVariants.{BadMember}
+use Rattle.gomp_types.specs.declared.reply.Reply.{Reply}
+use Rattle.gomp_types.specs.declared.reply.Reply.TheVariants.{Wait, Refused}
+use Rattle.gomp_types.specs.Limits.{capped}
+use Rattle.gomp_types.specs.Least.{least}
+use Rattle.gomp_types.specs.Seen.{seen_of}
+use Rattle.gomp_types.proofs.Booleans.{tells, is_equal}
+use Rattle.gomp_types.proofs.LeastTests.{AllFail, none_holds}
+use Rattle.gomp_model.specs.Past.{Terms, Past}
+use Rattle.gomp_model.specs.Row.{since}
+use Rattle.gomp_model.specs.Calls.{row_of}
+use Rattle.gomp_model.specs.Team.{Record, meant, is_resume, row_at, refusal_of, MayAnswer, wait_after, past_of, Caused}
+use Rattle.gomp_laws.proofs.Sound.{shows}
+use Rattle.gomp_laws.proofs.Known.{Pending, known_of, same_terms, ready}
+use Rattle.gomp_core.specs.Answers.{in_place, IsReady}
+use Rattle.gomp_core.proofs.Refused.{bad_member}
+
+-- a team's terms, with limits that are not above the standard ones
+pub same_members : (terms : Terms) (run : Record) → (past_of terms run).terms.members ≡ terms.members
+same_members terms run = ap (λ (t : Terms). t.members) (same_terms terms run)
+
+pub same_limits : (terms : Terms) (run : Record) → capped terms.limits ≡ terms.limits → (past_of terms run).terms.limits ≡ terms.limits
+same_limits terms run small = ap (λ (t : Terms). t.limits) (same_terms terms run) ∙ small
+
+-- A call that waits is one that may wait
+
+abbrev pub MayWait : ℕ → Call → Type 0
+MayWait m call = (q : Past) × (row_of call).may_reply m q Wait
+
+waits_so : (p : Past) (step : Step) (reply : Reply) (call : Call) → MayAnswer p step reply → ((other : Call) → p.waits step.member ≡ Some other → MayWait step.member other) →
+    wait_after reply step.call (p.waits step.member) ≡ Some call → MayWait step.member call
+waits_so p step (Refused refusal) call may before e = before call e
+waits_so p step Wait call may before e =
+    let same : meant step.call (p.waits step.member) ≡ call = cc in
+    subst (MayWait step.member) same (since (is_resume step.call) (row_at p step) step.member p, may.1)
+waits_so p step _ call may before e = absurd (cc)
+
+pub open_waits : (terms : Terms) (run : Record) → Caused terms run → (k : ℕ) (call : Call) → (past_of terms run).waits k ≡ Some call → MayWait k call
+open_waits terms [] caused k call e = absurd (cc)
+open_waits terms (pair ∷ earlier) caused k call e =
+    let p = past_of terms earlier in
+    elim (tells (pair.0.member == k) (wait_after pair.1 pair.0.call (p.waits k)) (p.waits k) (Some call) e) [
+      | inl own ↦
+          let same : pair.0.member ≡ k = is_equal pair.0.member k own.0 in
+          subst (λ (n : ℕ). MayWait n call) same
+          (waits_so p pair.0 pair.1 call caused.0 (λ other is. open_waits terms earlier caused.1 pair.0.member other is) (ap (λ (n : ℕ). wait_after pair.1 pair.0.call (p.waits n)) same ∙ own.1))
+      | inr other ↦ open_waits terms earlier caused.1 k call other.1
+    ]
+
+-- The call that a step makes or repeats
+
+shown : (stays again : Bool) → in_place stays again ≡ true → shows stays again ≡ true
+shown true again e = refl
+shown false again e = e
+
+-- a resume with no wait open is refused
+repeated : (m : ℕ) (p : Past) (call : Call) (waiting : Option Call) → AllFail ((row_of (meant call waiting)).compared (is_resume call) m p) → ((other : Call) → waiting ≡ Some other → MayWait m other) →
+    is_resume call ≡ true → MayWait m (meant call waiting)
+repeated m p Resume None fail waits again = absurd (let shut = fail.0 in cc)
+repeated m p Resume (Some call) fail waits again = waits call refl
+repeated m p _ waiting fail waits again = absurd (cc)
+
+pub step_ready : (terms : Terms) (run : Record) (step : Step) (members : ℕ) (limits : Limits) → Caused terms run → capped terms.limits ≡ terms.limits → members ≡ terms.members → limits ≡ terms.limits → refusal_of (past_of terms run) step ≡ None →
+    IsReady (row_at (past_of terms run) step) members limits (is_resume step.call) step.member (past_of terms run)
+step_ready terms run step members limits caused small size bounds none =
+    let p = past_of terms run in
+    let known = ready p step none (known_of terms run caused) in
+    let row = row_at p step in
+    let is : p.terms.limits ≡ limits = same_limits terms run small ∙ sym bounds in
+    record {
+      members_are = same_members terms run ∙ sym size;
+      place = λ e. subst (λ (l : Limits). least (row.by_place l (seen_of step.member p.events)) ≡ None) is (none_holds (row.by_place p.terms.limits (seen_of step.member p.events)) (known.place (shown row.stays (is_resume step.call) e)));
+      compared = none_holds (row.compared (is_resume step.call) step.member p) known.compared;
+      waits = repeated step.member p step.call (p.waits step.member) known.compared (open_waits terms run caused step.member);
+    }
+
+-- the place of a call that waits there is tested still
+place_kept : (m : ℕ) (limits : Limits) (h : List Event) (call : Call) (waiting : Option Call) → Pending limits m waiting h → is_resume call ≡ true → (row_of (meant call waiting)).stays ≡ true →
+    least ((row_of (meant call waiting)).by_place limits (seen_of m h)) ≡ None
+place_kept m limits h Resume None pending again stays = absurd (cc)
+place_kept m limits h Resume (Some call) pending again stays = none_holds ((row_of call).by_place limits (seen_of m h)) (pending stays)
+place_kept m limits h _ waiting pending again stays = absurd (cc)
+
+pub step_place : (terms : Terms) (run : Record) (step : Step) (limits : Limits) → Caused terms run → capped terms.limits ≡ terms.limits → limits ≡ terms.limits → is_resume step.call ≡ true → (row_at (past_of terms run) step).stays ≡ true →
+    least ((row_at (past_of terms run) step).by_place limits (seen_of step.member (past_of terms run).events)) ≡ None
+step_place terms run step limits caused small bounds again stays =
+    let p = past_of terms run in
+    let is : p.terms.limits ≡ limits = same_limits terms run small ∙ sym bounds in
+    place_kept step.member limits p.events step.call (p.waits step.member) (subst (λ (l : Limits). Pending l step.member (p.waits step.member) p.events) is ((known_of terms run caused).pending step.member)) again stays
+
+-- a member whose step is not refused for that is one of the team
+pub step_below : (p : Past) (step : Step) → (refusal_of p step ≡ Some BadMember → ⊥) → step.member < p.terms.members
+step_below p step good =
+    elim (cases_lt step.member p.terms.members) [
+      | inl below ↦ below
+      | inr past ↦ absurd (good (sym (bad_member p step past)))
+    ]

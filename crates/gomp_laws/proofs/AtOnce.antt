@@ -1,0 +1,35 @@
+-- The rows of calls that are done at once.
+use Rattle.std.proofs.Common.{◌≡◌, ℕ, true, false, List, ◌++◌, refl, sym, ◌∙◌}
+use Rattle.gomp_types.specs.declared.reply.Reply.TheVariants.{Finished}
+use Rattle.gomp_types.specs.declared.seen.Seen.{Seen}
+use Rattle.gomp_types.specs.declared.event.Event.{Event}
+use Rattle.gomp_types.specs.Tests.{Test}
+use Rattle.gomp_types.specs.Laws.{Always}
+use Rattle.gomp_laws.specs.Rules.{TeamRule}
+use Rattle.gomp_types.specs.Seen.{seen_of}
+use Rattle.gomp_model.specs.Past.{Past}
+use Rattle.gomp_model.specs.Row.{at_once}
+use Rattle.gomp_laws.proofs.Sound.{AreOwn, memoryless, Ready, IsSound, quiet}
+
+-- the events are its member's, and keep the rule
+pub record IsDone (tests : Seen → List Test) (events : ℕ → List Event → List Event) : Type 0 where
+  pub own : (m : ℕ) (h : List Event) → AreOwn quiet m (events m h)
+  pub keep : (m : ℕ) (p : Past) → Ready (at_once tests events) false m p → Always (TeamRule p.terms.members) p.events → Always (TeamRule p.terms.members) (events m p.events ++ p.events)
+  pub no_memory : (seen : Seen) → memoryless (tests seen) ≡ true
+
+pub at_once_sound : (tests : Seen → List Test) (events : ℕ → List Event → List Event) → IsDone tests events → IsSound (at_once tests events)
+at_once_sound tests events is = record {
+  decided = λ m p a b x y. x ∙ sym y;
+  accepts = λ m p refusal x. cc;
+  answered = λ again m p ready all. (Finished, refl);
+  counts = λ again m p first count ready all may. absurd (cc);
+  begins_own = λ m p. is.own m p.events;
+  gives_own = λ m p reply. tt;
+  begins_keep = is.keep;
+  gives_keep = λ again m p reply ready may all. all;
+  still = λ stays m p. absurd (cc);
+  tells = λ arrives m p reply may. absurd (cc);
+  one_pass = λ arrives m p. absurd (cc);
+  no_memory = λ m p. (is.no_memory (seen_of m p.events), refl, λ again. refl);
+  words_keep = λ puts again m p reply ready may all. absurd (cc);
+}

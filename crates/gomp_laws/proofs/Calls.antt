@@ -1,0 +1,77 @@
+-- Every call's row is sound: the second list of calls, in proofs alone.
+use Rattle.std.proofs.Common.{ℕ, List, ◌++◌, refl, sym, ◌∙◌}
+use Rattle.gomp_types.specs.declared.call.Call.{Call}
+use Rattle.gomp_types.specs.declared.call.Call.TheVariants.{LoopStart, LoopNext, LoopEnd, LoopEndNowait, SectionsStart, SectionsNext, SectionsEnd, SectionsEndNowait, SingleStart, SingleCopyStart, SingleCopyEnd, Resume, OrderedStart, OrderedEnd, Barrier, RegionEnd, Stop}
+use Rattle.gomp_types.specs.declared.reply.Reply.{Reply}
+use Rattle.gomp_types.specs.declared.reply.Reply.TheVariants.{Stopped}
+use Rattle.gomp_types.specs.declared.event.Event.{Event}
+use Rattle.gomp_types.specs.Laws.{Always}
+use Rattle.gomp_laws.specs.Rules.{TeamRule}
+use Rattle.gomp_model.specs.Calls.{resume_row, stop_given, stop_row, row_of}
+use Rattle.gomp_laws.proofs.Sound.{AreGiven, IsSound, quiet}
+use Rattle.gomp_laws.proofs.Loops.{loop_start_sound, loop_next_sound, loop_end_sound, loop_end_nowait_sound}
+use Rattle.gomp_laws.proofs.Sections.{sections_start_sound, sections_next_sound, sections_end_sound, sections_end_nowait_sound}
+use Rattle.gomp_laws.proofs.Singles.{single_start_sound, single_copy_start_sound, single_copy_end_sound}
+use Rattle.gomp_laws.proofs.OrderedParts.{ordered_start_sound, ordered_end_sound}
+use Rattle.gomp_laws.proofs.Arrivals.{barrier_sound, region_end_sound}
+
+pub resume_sound : IsSound resume_row
+resume_sound = record {
+  decided = λ m p a b x y. absurd x;
+  accepts = λ m p refusal x. x;
+  answered = λ again m p ready all. absurd (let never = ready.compared.0 in cc);
+  counts = λ again m p first count ready all may. absurd may;
+  begins_own = λ m p. tt;
+  gives_own = λ m p reply. tt;
+  begins_keep = λ m p ready all. all;
+  gives_keep = λ again m p reply ready may all. all;
+  still = λ stays m p. absurd (cc);
+  tells = λ arrives m p reply may. absurd (cc);
+  one_pass = λ arrives m p. absurd (cc);
+  no_memory = λ m p. (refl, refl, λ again. refl);
+  words_keep = λ puts again m p reply ready may all. absurd (cc);
+}
+
+stop_own : (m : ℕ) (reply : Reply) → AreGiven quiet m reply (stop_given m reply)
+stop_own m Stopped = ((refl, refl), tt)
+stop_own m _ = tt
+
+stop_keeps : (members m : ℕ) (reply : Reply) (h : List Event) → Always (TeamRule members) h → Always (TeamRule members) (stop_given m reply ++ h)
+stop_keeps members m Stopped h all = (tt, all)
+stop_keeps members m _ h all = all
+
+pub stop_sound : IsSound stop_row
+stop_sound = record {
+  decided = λ m p a b x y. x ∙ sym y;
+  accepts = λ m p refusal x. cc;
+  answered = λ again m p ready all. (Stopped, refl);
+  counts = λ again m p first count ready all may. absurd (cc);
+  begins_own = λ m p. tt;
+  gives_own = λ m p reply. stop_own m reply;
+  begins_keep = λ m p ready all. all;
+  gives_keep = λ again m p reply ready may all. stop_keeps p.terms.members m reply p.events all;
+  still = λ stays m p. absurd (cc);
+  tells = λ arrives m p reply may. absurd (cc);
+  one_pass = λ arrives m p. absurd (cc);
+  no_memory = λ m p. (refl, refl, λ again. refl);
+  words_keep = λ puts again m p reply ready may all. absurd (cc);
+}
+
+pub sound : (call : Call) → IsSound (row_of call)
+sound (LoopStart loop) = loop_start_sound loop
+sound LoopNext = loop_next_sound
+sound LoopEnd = loop_end_sound
+sound LoopEndNowait = loop_end_nowait_sound
+sound (SectionsStart count end_kind) = sections_start_sound count end_kind
+sound SectionsNext = sections_next_sound
+sound SectionsEnd = sections_end_sound
+sound SectionsEndNowait = sections_end_nowait_sound
+sound SingleStart = single_start_sound
+sound SingleCopyStart = single_copy_start_sound
+sound (SingleCopyEnd payload) = single_copy_end_sound payload
+sound (OrderedStart value) = ordered_start_sound value
+sound OrderedEnd = ordered_end_sound
+sound Barrier = barrier_sound
+sound RegionEnd = region_end_sound
+sound Stop = stop_sound
+sound Resume = resume_sound

@@ -1,0 +1,103 @@
+-- Nothing happens in a team that is broken, nor does a member do anything once it has passed the region's end.
+use Rattle.std.proofs.Common.{◌≡◌, ℕ, ◌<◌, ◌≤◌, arith, Bool, true, false, List, [], ◌∷◌, ◌++◌, Option, Some, None, refl, inl, inr}
+use Rattle.std.specs.Prelude.{nat_le, ◌⊎◌}
+use Rattle.gomp_types.specs.declared.call.Step.{Step}
+use Rattle.gomp_types.specs.declared.refusal.Clash.{Clash}
+use Rattle.gomp_types.specs.declared.refusal.Place.{Place}
+use Rattle.gomp_types.specs.declared.refusal.Refusal.TheVariants.{BadMember, Ended, Broken, Mismatch}
+use Rattle.gomp_types.specs.declared.refusal.Refusal.{Refusal}
+use Rattle.gomp_types.specs.RefusalTexts.{number_of}
+use Rattle.gomp_types.specs.declared.reply.Reply.{Reply}
+use Rattle.gomp_types.specs.declared.reply.Reply.TheVariants.{Refused}
+use Rattle.gomp_types.specs.declared.event.Event.{Event}
+use Rattle.gomp_types.specs.declared.event.Event.TheVariants.{Arrive, Put, Pass, Break}
+use Rattle.gomp_types.specs.Tests.{Test}
+use Rattle.gomp_types.specs.Events.{member_of, has_left_region, clash_of}
+use Rattle.gomp_types.specs.Laws.{Always, Happened}
+use Rattle.gomp_laws.specs.Laws.{HappensUnbroken, HappensInside}
+use Rattle.gomp_types.specs.Least.{lesser, least}
+use Rattle.gomp_model.specs.Past.{Terms, Past}
+use Rattle.gomp_model.specs.Row.{since, row_tests}
+use Rattle.gomp_model.specs.Team.{Record, meant, is_resume, row_at, broken_tests, wait_tests, refusal_of, MayAnswer, after, past_of, events, Caused}
+use Rattle.gomp_laws.proofs.Sound.{IsLast, AreGiven, gives_of, Gives}
+use Rattle.gomp_laws.proofs.Steps.{OwnKeeps, own_keeps, since_keeps}
+use Rattle.gomp_types.proofs.LeastTests.{some_stays, lesser_low}
+use Rattle.gomp_laws.proofs.Calls.{sound}
+
+-- an event in a team that is not broken, of a member that is in the region
+abbrev pub InTime : Event → List Event → Type 0
+InTime event earlier = (clash_of earlier ≡ None) × (has_left_region (member_of event) earlier ≡ false)
+
+-- the events of a call, so far
+abbrev SoFar : ℕ → List Event → Type 0
+SoFar m h = (clash_of h ≡ None) × (has_left_region m h ≡ false) × Always InTime h
+
+goes_on : (can : Gives) (m : ℕ) → OwnKeeps can m (SoFar m)
+goes_on can m (Pass barrier n) h own so = absurd own
+goes_on can m (Break n place) h own so = absurd own
+goes_on can m (Arrive barrier n tag) h own so = (so.0, so.1, ((so.0, rw own.0 so.1), so.2))
+goes_on can m (Put share n payload) h own so = (so.0, so.1, ((so.0, rw own.0 so.1), so.2))
+goes_on can m _ h own so = (so.0, so.1, ((so.0, rw own so.1), so.2))
+
+last_in_time : (can : Gives) (m : ℕ) (reply : Reply) (event : Event) (h : List Event) → IsLast can m reply event → SoFar m h → InTime event h
+last_in_time can m reply (Pass barrier n) h own so = (so.0, rw own.0 so.1)
+last_in_time can m reply (Break n place) h own so = (so.0, rw own.0 so.1)
+last_in_time can m reply (Arrive barrier n tag) h own so = (so.0, rw own.0 so.1)
+last_in_time can m reply (Put share n payload) h own so = (so.0, rw own.0 so.1)
+last_in_time can m reply _ h own so = (so.0, rw own so.1)
+
+given_in_time : (can : Gives) (m : ℕ) (reply : Reply) (events h : List Event) → AreGiven can m reply events → SoFar m h → Always InTime (events ++ h)
+given_in_time can m reply [] h own so = so.2
+given_in_time can m reply (event ∷ events) h own so =
+    let before = own_keeps can m (SoFar m) events h (goes_on can m) own.1 so in
+    (last_in_time can m reply event (events ++ h) own.0 before, before.2)
+
+-- what the tests of a step show of its team, where it is answered, or breaks the team
+mismatch_last : (one : Refusal) (other : Option Refusal) → number_of one < 35 → (lesser (Some one) other ≡ None) ⊎ (lesser (Some one) other ≡ Some Mismatch) → ⊥
+mismatch_last one other low (inl e) = some_stays one other e
+mismatch_last one other low (inr e) = let above : 35 ≤ number_of one = lesser_low one Mismatch other e in omega arith
+
+in_region : (bad left : Bool) (clash : Option Clash) (more : List Test) →
+    (least ((bad, BadMember) ∷ (left, Ended) ∷ broken_tests clash ++ more) ≡ None) ⊎ (least ((bad, BadMember) ∷ (left, Ended) ∷ broken_tests clash ++ more) ≡ Some Mismatch) → (clash ≡ None) × (left ≡ false)
+in_region true left clash more e = absurd (mismatch_last BadMember (least ((left, Ended) ∷ broken_tests clash ++ more)) (omega arith) e)
+in_region false true clash more e = absurd (mismatch_last Ended (least (broken_tests clash ++ more)) (omega arith) e)
+in_region false false (Some clash) more e = absurd (mismatch_last (Broken clash) (least more) (omega arith) e)
+in_region false false None more e = (refl, refl)
+
+abbrev Goes : Past → Step → Type 0
+Goes p step = (clash_of p.events ≡ None) × (has_left_region step.member p.events ≡ false)
+
+step_goes : (p : Past) (step : Step) → (refusal_of p step ≡ None) ⊎ (refusal_of p step ≡ Some Mismatch) → Goes p step
+step_goes p step e =
+    in_region (nat_le p.terms.members step.member) (has_left_region step.member p.events) (clash_of p.events)
+    (wait_tests step.call (p.waits step.member) ++ row_tests (is_resume step.call) (row_at p step) step.member p) e
+
+-- one more step
+answer_in_time : (p : Past) (step : Step) (reply : Reply) → MayAnswer p step reply → Always InTime p.events → Always InTime (after p step reply).events
+answer_in_time p step (Refused Mismatch) may all = (step_goes p step (inr may), all)
+answer_in_time p step (Refused _) may all = all
+answer_in_time p step reply may all =
+    let go = step_goes p step (inl may.0) in
+    let row = row_at p step in
+    let again = is_resume step.call in
+    let s = sound (meant step.call (p.waits step.member)) in
+    let q = since again row step.member p in
+    given_in_time (gives_of row) step.member reply (row.gives step.member q reply) q.events (s.gives_own step.member q reply)
+    (since_keeps row s again step.member p (SoFar step.member) (goes_on (gives_of row) step.member) (go.0, go.1, all))
+
+pub in_time_holds : (terms : Terms) (run : Record) → Caused terms run → Always InTime (events terms run)
+in_time_holds terms [] caused = tt
+in_time_holds terms (pair ∷ earlier) caused = answer_in_time (past_of terms earlier) pair.0 pair.1 caused.0 (in_time_holds terms earlier caused.1)
+
+-- So nothing happens after a break, nor does a member do anything after the region's end
+never_broken : (m : ℕ) (place : Place) (h : List Event) → clash_of h ≡ None → Happened (Break m place) h → ⊥
+never_broken m place [] none broke = broke
+never_broken m place (Break n other ∷ earlier) none broke = absurd (cc)
+never_broken m place (_ ∷ earlier) none (inl e) = absurd (cc)
+never_broken m place (_ ∷ earlier) none (inr broke) = never_broken m place earlier none broke
+
+pub unbroken_holds : (event : Event) (earlier : List Event) → InTime event earlier → Always InTime earlier → HappensUnbroken event earlier
+unbroken_holds event earlier rule all = λ m place broke. never_broken m place earlier rule.0 broke
+
+pub inside_holds : (event : Event) (earlier : List Event) → InTime event earlier → Always InTime earlier → HappensInside event earlier
+inside_holds event earlier rule all = rule.1

@@ -1,0 +1,109 @@
+-- The rows of the calls on ordered parts.
+use Rattle.std.proofs.Common.{◌≡◌, ℕ, ◌<◌, true, false, List, [], ◌++◌, Option, Some, None, refl, inl, inr}
+use Rattle.std.specs.Prelude.{ℤ, not}
+use Rattle.std.proofs.lemmas.Bool.{cases_Bool}
+use Rattle.gomp_types.specs.declared.refusal.Refusal.{Refusal}
+use Rattle.gomp_types.specs.declared.reply.Reply.{Reply}
+use Rattle.gomp_types.specs.declared.reply.Reply.TheVariants.{Chunk, Finished, Wait, Refused}
+use Rattle.gomp_types.specs.declared.shape.Shape.{Shape}
+use Rattle.gomp_types.specs.declared.event.Event.{Event}
+use Rattle.gomp_types.specs.Events.{in_kind, share_number, open_share, last_piece, next_part, in_part}
+use Rattle.gomp_types.specs.Ordered.{is_ordered, comes_next, has_turn}
+use Rattle.gomp_types.specs.Laws.{Always}
+use Rattle.gomp_laws.specs.Rules.{TeamRule}
+use Rattle.gomp_shares.specs.Rules.{MayEndPart}
+use Rattle.gomp_types.specs.Shapes.{is_loop}
+use Rattle.gomp_types.specs.Deals.{schedule}
+use Rattle.gomp_types.proofs.Booleans.{not_both, not_false}
+use Rattle.gomp_shares.proofs.PartsKeep.{value_in_rest, parts_in_loop}
+use Rattle.gomp_laws.proofs.TeamShares.{share_rules}
+use Rattle.gomp_shares.specs.OrderedParts.{BeginsPart, part_given, part_end_tests, part_ended}
+use Rattle.gomp_model.specs.OrderedParts.{ordered_start_row, ordered_end_row}
+use Rattle.gomp_laws.proofs.AtOnce.{at_once_sound}
+use Rattle.gomp_laws.proofs.Sound.{AreGiven, IsSound, quiet}
+
+one_part : (members m : ℕ) (own : Option (ℕ × Shape)) (a b : Reply) (h : List Event) → BeginsPart members m own a h → BeginsPart members m own b h → a ≡ b
+one_part members m None a b h x y = absurd x
+one_part members m (Some share) Finished Finished h x y = refl
+one_part members m (Some share) Wait Wait h x y = refl
+one_part members m (Some share) Finished Wait h x y = absurd (not_both (has_turn members share m h) x y)
+one_part members m (Some share) Wait Finished h x y = absurd (not_both (has_turn members share m h) y x)
+one_part members m (Some share) Finished _ h x y = absurd y
+one_part members m (Some share) Wait _ h x y = absurd y
+one_part members m (Some share) _ b h x y = absurd x
+
+part_accepts : (members m : ℕ) (own : Option (ℕ × Shape)) (refusal : Refusal) (h : List Event) → BeginsPart members m own (Refused refusal) h → ⊥
+part_accepts members m None refusal h x = x
+part_accepts members m (Some share) refusal h x = x
+
+part_counts : (members m : ℕ) (own : Option (ℕ × Shape)) (first : ℤ) (count : ℕ) (h : List Event) → BeginsPart members m own (Chunk first count) h → 0 < count
+part_counts members m None first count h may = absurd may
+part_counts members m (Some share) first count h may = absurd may
+
+part_some : (members m : ℕ) (h : List Event) (own : Option (ℕ × Shape)) → not (is_ordered own) ≡ false → (reply : Reply) × BeginsPart members m own reply h
+part_some members m h None is = absurd (cc)
+part_some members m h (Some share) is = elim (cases_Bool (has_turn members share m h)) [ inl go ↦ (Finished, go) | inr wait ↦ (Wait, wait) ]
+
+part_own : (own : Option (ℕ × Shape)) (m : ℕ) (value : ℤ) (reply : Reply) → AreGiven quiet m reply (part_given own m value reply)
+part_own None m value reply = tt
+part_own (Some share) m value Finished = (refl, tt)
+part_own (Some share) m value _ = tt
+
+-- the part that comes next may begin in its turn
+part_keeps : (members m : ℕ) (value : ℤ) (reply : Reply) (h : List Event) (own : Option (ℕ × Shape)) → open_share m h ≡ own → in_part m h ≡ false → not (is_ordered own) ≡ false → not (comes_next own (last_piece m h) (next_part m h) value) ≡ false →
+    BeginsPart members m own reply h → Always (TeamRule members) h → Always (TeamRule members) (part_given own m value reply ++ h)
+part_keeps members m value reply h None at apart ordered next may all = all
+part_keeps members m value Finished h (Some share) at apart ordered next may all =
+    let rest = value_in_rest share.1 (last_piece m h) (next_part m h) value (not_false (comes_next (Some share) (last_piece m h) (next_part m h) value) next) in (
+      record {
+        shape = share.1;
+        inside = at;
+        ordered = not_false share.1.ordered ordered;
+        apart = apart;
+        next = may;
+        low = rest.low;
+        high = rest.high;
+        piece = rest.piece;
+        from = rest.from;
+        before = rest.before;
+        after = rest.past;
+      },
+      all,
+    )
+part_keeps members m value _ h (Some share) at apart ordered next may all = all
+
+part_still : (own : Option (ℕ × Shape)) (m : ℕ) (value : ℤ) → part_given own m value Wait ≡ []
+part_still None m value = refl
+part_still (Some share) m value = refl
+
+pub ordered_start_sound : (value : ℤ) → IsSound (ordered_start_row value)
+ordered_start_sound value = record {
+  decided = λ m p a b x y. one_part p.terms.members m (open_share m p.events) a b p.events x y;
+  accepts = λ m p refusal x. part_accepts p.terms.members m (open_share m p.events) refusal p.events x;
+  answered = λ again m p ready all. part_some p.terms.members m p.events (open_share m p.events) (ready.place refl).1.1.0;
+  counts = λ again m p first count ready all may. part_counts p.terms.members m (open_share m p.events) first count p.events may;
+  begins_own = λ m p. tt;
+  gives_own = λ m p reply. part_own (open_share m p.events) m value reply;
+  begins_keep = λ m p ready all. all;
+  gives_keep = λ again m p reply ready may all.
+      let fail = ready.place refl in part_keeps p.terms.members m value reply p.events (open_share m p.events) refl fail.1.0 fail.1.1.0 fail.1.1.1.0 may all;
+  still = λ stays m p. (refl, part_still (open_share m p.events) m value);
+  tells = λ arrives m p reply may. absurd (cc);
+  one_pass = λ arrives m p. absurd (cc);
+  no_memory = λ m p. (refl, refl, λ again. refl);
+  words_keep = λ puts again m p reply ready may all. absurd (cc);
+}
+
+-- a part that is open may end
+part_end_rule : (m : ℕ) (h : List Event) (own : Option (ℕ × Shape)) → open_share m h ≡ own → in_kind is_loop own ≡ true → in_part m h ≡ true → MayEndPart (share_number own) m h
+part_end_rule m h None at there within = absurd (cc)
+part_end_rule m h (Some share) at there within = record { shape = share.1; inside = at; within = within }
+
+pub ordered_end_sound : IsSound ordered_end_row
+ordered_end_sound = at_once_sound part_end_tests part_ended (record {
+  own = λ m h. (refl, tt);
+  keep = λ m p ready all.
+      let within = not_false (in_part m p.events) (ready.place refl).0 in
+      (part_end_rule m p.events (open_share m p.events) refl (parts_in_loop (schedule p.terms.members) p.terms.members m p.events (share_rules p.terms.members p.events all) within) within, all);
+  no_memory = λ seen. refl;
+})

@@ -1,0 +1,73 @@
+-- A member's place among the shares and at the barriers is left as it is by another member's call, whatever that is.
+use Rattle.std.proofs.Common.{◌≡◌, ℕ, Bool, false, List, None, refl}
+use Rattle.std.specs.Prelude.{◌==◌, is_some}
+use Rattle.gomp_types.specs.declared.reply.Reply.{Reply}
+use Rattle.gomp_types.specs.declared.event.Event.{Event}
+use Rattle.gomp_types.specs.declared.event.Event.TheVariants.{Enter, Take, Drained, End, Part, PartEnd, Arrive, Pass, Break}
+use Rattle.gomp_types.specs.Events.{entered, open_share, has_drained, last_piece, next_part, in_part, passed, arrival, clash_of}
+use Rattle.gomp_types.proofs.Booleans.{and_false}
+use Rattle.gomp_types.specs.Seen.{seen_of}
+use Rattle.gomp_model.specs.Past.{Past}
+use Rattle.gomp_model.specs.Row.{Row, events_after}
+use Rattle.gomp_laws.proofs.Sound.{IsSound, gives_of, Gives}
+use Rattle.gomp_laws.proofs.Steps.{LastKeeps, step_keeps}
+
+record SamePlace (k : ℕ) (h after : List Event) : Type 0 where
+  number : entered k after ≡ entered k h
+  share : open_share k after ≡ open_share k h
+  drained : has_drained k after ≡ has_drained k h
+  piece : last_piece k after ≡ last_piece k h
+  begun : next_part k after ≡ next_part k h
+  within : in_part k after ≡ in_part k h
+
+same_place : (k : ℕ) (h : List Event) → SamePlace k h h
+same_place k h = record { number = refl; share = refl; drained = refl; piece = refl; begun = refl; within = refl }
+
+-- an event of another member
+place_stays : (can : Gives) (reply : Reply) (k m : ℕ) (h : List Event) → (m == k) ≡ false → LastKeeps can m reply (SamePlace k h)
+place_stays can reply k m h e (Enter share n shape) after by same =
+    rw by (record { number = rw e same.number; share = rw e same.share; drained = rw e same.drained; piece = rw e same.piece; begun = rw e same.begun; within = rw e same.within })
+place_stays can reply k m h e (Take share n low high) after by same = rw by (record { number = same.number; share = same.share; drained = same.drained; piece = rw e same.piece; begun = same.begun; within = same.within })
+place_stays can reply k m h e (Drained share n) after by same = rw by (record { number = same.number; share = same.share; drained = rw e same.drained; piece = rw e same.piece; begun = same.begun; within = same.within })
+place_stays can reply k m h e (End share n) after by same = rw by (record { number = same.number; share = rw e same.share; drained = same.drained; piece = same.piece; begun = same.begun; within = same.within })
+place_stays can reply k m h e (Part share n iteration) after by same = rw by (record { number = same.number; share = same.share; drained = same.drained; piece = same.piece; begun = rw e same.begun; within = rw e same.within })
+place_stays can reply k m h e (PartEnd share n) after by same = rw by (record { number = same.number; share = same.share; drained = same.drained; piece = same.piece; begun = same.begun; within = rw e same.within })
+place_stays can reply k m h e _ after by same = record { number = same.number; share = same.share; drained = same.drained; piece = same.piece; begun = same.begun; within = same.within }
+
+pub seen_other : (row : Row) → IsSound row → (again : Bool) (k m : ℕ) (p : Past) (reply : Reply) → (m == k) ≡ false → seen_of k (events_after again row m p reply) ≡ seen_of k p.events
+seen_other row sound again k m p reply e =
+    let same = step_keeps row sound again m p reply (SamePlace k p.events) (place_stays (gives_of row) reply k m p.events e) (same_place k p.events) in
+    λ i. record { entered = same.number i; current = same.share i; drained = same.drained i; piece = same.piece i; next_part = same.begun i; in_part = same.within i }
+
+pub record SameBarriers (k : ℕ) (h after : List Event) : Type 0 where
+  pub number : passed k after ≡ passed k h
+  pub arrivals : (g : ℕ) → arrival g k after ≡ arrival g k h
+
+same_barriers : (k : ℕ) (h : List Event) → SameBarriers k h h
+same_barriers k h = record { number = refl; arrivals = λ g. refl }
+
+barriers_stay : (can : Gives) (reply : Reply) (k m : ℕ) (h : List Event) → (m == k) ≡ false → LastKeeps can m reply (SameBarriers k h)
+barriers_stay can reply k m h e (Arrive barrier n tag) after by same =
+    rw by.0 (record { number = same.number; arrivals = λ g. rw (and_false (barrier == g) (m == k) e) (same.arrivals g) })
+barriers_stay can reply k m h e (Pass barrier n) after by same = rw by.0 (record { number = rw e same.number; arrivals = same.arrivals })
+barriers_stay can reply k m h e _ after by same = record { number = same.number; arrivals = same.arrivals }
+
+pub barriers_other : (row : Row) → IsSound row → (again : Bool) (k m : ℕ) (p : Past) (reply : Reply) → (m == k) ≡ false → SameBarriers k p.events (events_after again row m p reply)
+barriers_other row sound again k m p reply e = step_keeps row sound again m p reply (SameBarriers k p.events) (barriers_stay (gives_of row) reply k m p.events e) (same_barriers k p.events)
+
+never_arrives : (can : Gives) → can.arrives ≡ false → (reply : Reply) (m : ℕ) (h : List Event) → LastKeeps can m reply (SameBarriers m h)
+never_arrives can silent reply m h (Arrive barrier n tag) after by same = absurd (let arrives = by.1 in cc)
+never_arrives can silent reply m h (Pass barrier n) after by same = absurd (let arrives = by.1 in cc)
+never_arrives can silent reply m h _ after by same = record { number = same.number; arrivals = same.arrivals }
+
+-- and by each of its own that does not arrive
+pub barriers_own : (row : Row) → IsSound row → (again : Bool) (m : ℕ) (p : Past) (reply : Reply) → is_some row.arrives ≡ false → SameBarriers m p.events (events_after again row m p reply)
+barriers_own row sound again m p reply silent = step_keeps row sound again m p reply (SameBarriers m p.events) (never_arrives (gives_of row) silent reply m p.events) (same_barriers m p.events)
+
+whole_before : (can : Gives) (reply : Reply) (m : ℕ) (h : List Event) → LastKeeps can m reply (λ after. clash_of after ≡ None → clash_of h ≡ None)
+whole_before can reply m h (Break n place) after by before = λ none. absurd (cc)
+whole_before can reply m h _ after by before = before
+
+-- a team that is not broken was not
+pub was_whole : (row : Row) → IsSound row → (again : Bool) (m : ℕ) (p : Past) (reply : Reply) → clash_of (events_after again row m p reply) ≡ None → clash_of p.events ≡ None
+was_whole row sound again m p reply = step_keeps row sound again m p reply (λ after. clash_of after ≡ None → clash_of p.events ≡ None) (whole_before (gives_of row) reply m p.events) (λ none. none)

@@ -1,0 +1,101 @@
+-- Some reply to each step has its cause.
+use Rattle.std.proofs.Common.{◌≡◌, ℕ, Bool, true, false, List, [], ◌∷◌, ◌++◌, Option, Some, None, refl, subst, inl, inr}
+use Rattle.std.specs.Prelude.{not, ◌⊎◌, nat_le}
+use Rattle.gomp_types.specs.declared.call.Call.{Call}
+use Rattle.gomp_types.specs.declared.call.Call.TheVariants.{Resume, Stop}
+use Rattle.gomp_types.specs.declared.call.Step.{Step}
+use Rattle.gomp_types.specs.declared.refusal.Clash.{Clash}
+use Rattle.gomp_types.specs.declared.refusal.Refusal.{Refusal}
+use Rattle.gomp_types.specs.declared.refusal.Refusal.TheVariants.{NoMemory}
+use Rattle.gomp_types.specs.declared.reply.Reply.{Reply}
+use Rattle.gomp_types.specs.declared.reply.Reply.TheVariants.{Refused}
+use Rattle.gomp_types.specs.RefusalTexts.{number_of}
+use Rattle.gomp_types.specs.Events.{clash_of}
+use Rattle.gomp_types.specs.Tests.{Test}
+use Rattle.gomp_types.proofs.Booleans.{and_left, and_right}
+use Rattle.std.proofs.lemmas.Bool.{cases_Bool}
+use Rattle.gomp_types.specs.Least.{lesser, least}
+use Rattle.gomp_types.specs.Seen.{seen_of}
+use Rattle.gomp_model.specs.Past.{Terms, Past}
+use Rattle.gomp_model.specs.Row.{Row, since, row_tests}
+use Rattle.gomp_model.specs.Calls.{row_of}
+use Rattle.gomp_model.specs.Team.{Record, meant, is_resume, row_at, broken_tests, member_tests, wait_tests, tests_of, refusal_of, MayRefuse, MayAnswer, past_of, Caused, SomeReply}
+use Rattle.gomp_laws.proofs.Sound.{is_memory, memoryless, clean_append, IsSound}
+use Rattle.gomp_laws.proofs.Calls.{sound}
+use Rattle.gomp_laws.proofs.Known.{Known, ready, known_of}
+
+-- No test is for want of memory
+
+-- the lesser of two refusals is one of them
+lesser_is : (one found : Refusal) (other : Option Refusal) → lesser (Some one) other ≡ Some found → (one ≡ found) ⊎ (other ≡ Some found)
+lesser_is one found None e = inl (cc)
+lesser_is one found (Some other) e =
+    elim (cases_Bool (nat_le (number_of one) (number_of other))) [
+      | inl low ↦ let some : Some one ≡ Some found = rw low at e in inl (cc)
+      | inr high ↦ let some : Some other ≡ Some found = rw high at e in inr (some)
+    ]
+
+memory_aside : (refusal : Refusal) → not (is_memory refusal) ≡ true → is_memory refusal ≡ false
+memory_aside NoMemory e = absurd (cc)
+memory_aside _ e = refl
+
+-- nor is the least of such tests
+not_memory : (tests : List Test) (refusal : Refusal) → memoryless tests ≡ true → least tests ≡ Some refusal → is_memory refusal ≡ false
+not_memory [] refusal clean e = absurd (cc)
+not_memory ((false, found) ∷ tests) refusal clean e = not_memory tests refusal (and_right (not (is_memory found)) (memoryless tests) clean) e
+not_memory ((true, found) ∷ tests) refusal clean e =
+    elim (lesser_is found refusal (least tests) e) [
+      | inl same ↦ rw (← same) (memory_aside found (and_left (not (is_memory found)) (memoryless tests) clean))
+      | inr later ↦ not_memory tests refusal (and_right (not (is_memory found)) (memoryless tests) clean) later
+    ]
+
+broken_clean : (clash : Option Clash) → memoryless (broken_tests clash) ≡ true
+broken_clean None = refl
+broken_clean (Some clash) = refl
+
+wait_clean : (call : Call) (waiting : Option Call) → memoryless (wait_tests call waiting) ≡ true
+wait_clean Resume waiting = refl
+wait_clean Stop waiting = refl
+wait_clean _ waiting = refl
+
+row_clean : (row : Row) → IsSound row → (again : Bool) (m : ℕ) (p : Past) → memoryless (row_tests again row m p) ≡ true
+row_clean row sound true m p = (sound.no_memory m p).2 true
+row_clean row sound false m p =
+    let clean = sound.no_memory m p in
+    clean_append (row.by_place p.terms.limits (seen_of m p.events)) (row.by_team m p ++ row.compared false m p) clean.0
+    (clean_append (row.by_team m p) (row.compared false m p) clean.1 (clean.2 false))
+
+step_clean : (p : Past) (step : Step) → memoryless (tests_of p step) ≡ true
+step_clean p step =
+    let row = row_tests (is_resume step.call) (row_at p step) step.member p in
+    clean_append (member_tests p.terms.members step.member p.events) (wait_tests step.call (p.waits step.member) ++ row) (broken_clean (clash_of p.events))
+    (clean_append (wait_tests step.call (p.waits step.member)) row (wait_clean step.call (p.waits step.member)) (row_clean (row_at p step) (sound (meant step.call (p.waits step.member))) (is_resume step.call) step.member p))
+
+-- So some reply other than that has its cause
+may_refuse : (first : Option Refusal) (refusal : Refusal) (asks : Bool) → first ≡ Some refusal → is_memory refusal ≡ false → MayRefuse first refusal asks
+may_refuse first NoMemory asks e other = absurd (cc)
+may_refuse first _ asks e other = e
+
+pub may_answer : (p : Past) (step : Step) (reply : Reply) → refusal_of p step ≡ None → (row_at p step).may_reply step.member (since (is_resume step.call) (row_at p step) step.member p) reply → MayAnswer p step reply
+may_answer p step (Refused refusal) none may = absurd ((sound (meant step.call (p.waits step.member))).accepts step.member (since (is_resume step.call) (row_at p step) step.member p) refusal may)
+may_answer p step _ none may = (none, may)
+
+by_first : (p : Past) (step : Step) (first : Option Refusal) → refusal_of p step ≡ first → Known p → SomeReply p step
+by_first p step (Some refusal) e known =
+    let other = not_memory (tests_of p step) refusal (step_clean p step) e in
+    (Refused refusal, (λ same. let is : refusal ≡ NoMemory = cc in absurd (let bad : is_memory NoMemory ≡ false = rw is at other in cc)), may_refuse (refusal_of p step) refusal (row_of step.call).memory e other)
+by_first p step None e known =
+    let s = sound (meant step.call (p.waits step.member)) in
+    let found = s.answered (is_resume step.call) step.member p (ready p step e known) known.rule in (
+      found.0,
+      (λ same. s.accepts step.member (since (is_resume step.call) (row_at p step) step.member p) NoMemory
+          (subst (λ reply. (row_at p step).may_reply step.member (since (is_resume step.call) (row_at p step) step.member p) reply) same found.1)),
+      may_answer p step found.0 e found.1,
+    )
+
+pub some_reply_of : (terms : Terms) (run : Record) (step : Step) → Caused terms run → SomeReply (past_of terms run) step
+some_reply_of terms run step caused = by_first (past_of terms run) step (refusal_of (past_of terms run) step) refl (known_of terms run caused)
+
+-- The first test that holds is an answer
+pub refused_so : (p : Past) (step : Step) (refusal : Refusal) → refusal_of p step ≡ Some refusal → MayAnswer p step (Refused refusal)
+refused_so p step refusal e = may_refuse (refusal_of p step) refusal (row_of step.call).memory e (not_memory (tests_of p step) refusal (step_clean p step) e)

@@ -1,0 +1,144 @@
+-- Events that keep the rule of a team keep the headline.
+use Rattle.std.proofs.Common.{◌≡◌, ℕ, ◌+◌, ◌<◌, List, [], ◌∷◌, Some, None, refl, arith, inl, inr}
+use Rattle.std.specs.Prelude.{◌&&◌, ◌==◌}
+use Rattle.std.proofs.lemmas.Bool.{cases_Bool, cases_lt}
+use Rattle.gomp_types.specs.declared.shape.Shape.{Shape}
+use Rattle.gomp_types.specs.declared.event.Tag.{Tag}
+use Rattle.gomp_types.specs.declared.event.Event.{Event}
+use Rattle.gomp_types.specs.declared.event.Event.TheVariants.{Enter, End, Arrive, Pass}
+use Rattle.gomp_types.specs.Events.{entered, arrival}
+use Rattle.gomp_types.specs.Deals.{schedule}
+use Rattle.gomp_types.specs.Laws.{Always, Happened}
+use Rattle.gomp_shares.specs.Rules.{ShareRule}
+use Rattle.gomp_types.specs.Arrivals.{ArrivalRule}
+use Rattle.gomp_laws.specs.Rules.{TeamRule}
+use Rattle.gomp_shares.specs.Laws.{TakesItsOwn}
+use Rattle.gomp_laws.specs.Laws.{LeavesHandedOn, PutsOnce, GetsWhatWasPut, LeavesWithWords, ArrivesOutside, ClosesShares, HappensUnbroken, HappensInside, ArrivesOnce, TellsShares}
+use Rattle.gomp_laws.specs.Headline.{Headline}
+use Rattle.gomp_types.proofs.Booleans.{tells, is_equal, same_number}
+use Rattle.gomp_types.proofs.Always.{always}
+use Rattle.gomp_shares.proofs.SharesKeep.{shares_keep, left_before}
+use Rattle.gomp_laws.proofs.TeamShares.{share_rules}
+use Rattle.gomp_laws.proofs.HandedOn.{leaves_handed_on, all_handed_on}
+use Rattle.gomp_shares.proofs.Assigned.{takes_its_own}
+use Rattle.gomp_shares.proofs.OrderedKeep.{ordered_keep}
+use Rattle.gomp_laws.proofs.CopiesKeep.{puts_once, gets_what_was_put, leaves_with_words}
+use Rattle.gomp_laws.proofs.InTime.{InTime, unbroken_holds, inside_holds}
+use Rattle.gomp_types.proofs.ArrivalsKeep.{arrivals_keep, same_arrivals, passes_after_all}
+
+-- Payloads
+
+-- the laws of the payloads, from the rule of the team
+record CopyLaws (h : List Event) : Type 0 where
+  puts : Always PutsOnce h
+  gets : Always GetsWhatWasPut h
+  served : Always LeavesWithWords h
+
+copies_keep : (members : ℕ) (h : List Event) → Always (TeamRule members) h → CopyLaws h
+copies_keep members h all = record {
+  puts = always (TeamRule members) PutsOnce (λ event earlier rule before. puts_once members event earlier rule (share_rules members earlier before)) h all;
+  gets = always (TeamRule members) GetsWhatWasPut (λ event earlier rule before. gets_what_was_put members event earlier rule (share_rules members earlier before)) h all;
+  served = always (TeamRule members) LeavesWithWords (λ event earlier rule before. leaves_with_words members event earlier rule (share_rules members earlier before)) h all;
+}
+
+-- Arrivals
+
+-- and that of the arrivals
+arrival_rule : (members : ℕ) (event : Event) (earlier : List Event) → TeamRule members event earlier → Always (TeamRule members) earlier → ArrivalRule members event earlier
+arrival_rule members (Arrive barrier m tag) earlier rule all = rule.arrives
+arrival_rule members (Pass barrier m) earlier rule all = rule.passes
+arrival_rule members _ earlier rule all = tt
+
+arrival_rules : (members : ℕ) (h : List Event) → Always (TeamRule members) h → Always (ArrivalRule members) h
+arrival_rules members h all = always (TeamRule members) (ArrivalRule members) (arrival_rule members) h all
+
+tells_shares : (members : ℕ) (event : Event) (earlier : List Event) → TeamRule members event earlier → Always (TeamRule members) earlier → TellsShares event earlier
+tells_shares members (Arrive barrier m tag) earlier rule all = rule.shares
+tells_shares members _ earlier rule all = tt
+
+-- who arrived has an arrival
+never_arrived : (g m : ℕ) (tag : Tag) (h : List Event) → arrival g m h ≡ None → Happened (Arrive g m tag) h → ⊥
+never_arrived g m tag [] none stands = stands
+never_arrived g m tag (Arrive barrier member other ∷ earlier) none (inl e) =
+    let number : barrier ≡ g = cc in
+    let who : member ≡ m = cc in
+    absurd (let some = rw (number, who, same_number g, same_number m) at none in cc)
+never_arrived g m tag (Arrive barrier member other ∷ earlier) none (inr stands) =
+    elim (tells (barrier == g && member == m) (Some other) (arrival g m earlier) None none) [
+      | inl e ↦ absurd (let some = e.1 in cc)
+      | inr e ↦ never_arrived g m tag earlier e.1 stands
+    ]
+never_arrived g m tag (_ ∷ earlier) none (inl e) = absurd (cc)
+never_arrived g m tag (_ ∷ earlier) none (inr stands) = never_arrived g m tag earlier none stands
+
+arrives_once : (members : ℕ) (event : Event) (earlier : List Event) → TeamRule members event earlier → Always (TeamRule members) earlier → ArrivesOnce members event earlier
+arrives_once members (Arrive barrier m tag) earlier rule all = (rule.member, λ other stands. never_arrived barrier m other earlier rule.once stands)
+arrives_once members (Pass barrier m) earlier rule all = rule.member
+arrives_once members _ earlier rule all = tt
+
+arrives_outside : (members : ℕ) (event : Event) (earlier : List Event) → TeamRule members event earlier → Always (TeamRule members) earlier → ArrivesOutside event earlier
+arrives_outside members (Arrive barrier m tag) earlier rule all = λ share shape stands. left_before (schedule members) members m earlier (share_rules members earlier all) rule.outside share shape stands
+arrives_outside members _ earlier rule all = tt
+
+-- a member has entered each share whose number is below its count
+was_entered : (members share m : ℕ) (h : List Event) → Always (TeamRule members) h → share < entered m h → (shape : Shape) × Happened (Enter share m shape) h
+was_entered members share m [] all lt = absurd (omega arith)
+was_entered members share m (Enter i member shape ∷ earlier) all lt =
+    elim (cases_Bool (member == m)) [
+      | inl e ↦
+          let who = is_equal member m e in
+          let number : i ≡ entered m earlier = rw (← who) all.0.number in
+          let more : share < entered m earlier + 1 = rw e at lt in
+          elim (cases_lt share (entered m earlier)) [
+            | inl below ↦ let before = was_entered members share m earlier all.1 below in (before.0, inr before.1)
+            | inr past ↦ (shape, inl (let same : i ≡ share = omega (arith, number) in rw (who, same) refl))
+          ]
+      | inr e ↦ let before = was_entered members share m earlier all.1 (rw e at lt) in (before.0, inr before.1)
+    ]
+was_entered members share m (_ ∷ earlier) all lt = let before = was_entered members share m earlier all.1 lt in (before.0, inr before.1)
+
+-- who arrived has left the shares that its tag counts
+arrived_left : (members barrier m : ℕ) (tag : Tag) (h : List Event) → Always (TeamRule members) h → Happened (Arrive barrier m tag) h → (share : ℕ) → share < tag.shares → Happened (End share m) h
+arrived_left members barrier m tag [] all stands share lt = absurd stands
+arrived_left members barrier m tag (Arrive g member other ∷ earlier) all (inl e) share lt =
+    let who : member ≡ m = cc in
+    let what : other ≡ tag = cc in
+    let count : tag.shares ≡ entered m earlier = rw (← who, ← what) all.0.shares in
+    let own = was_entered members share m earlier all.1 (omega (arith, count)) in
+    inr (left_before (schedule members) members m earlier (share_rules members earlier all.1) (rw (← who) all.0.outside) share own.0 own.1)
+arrived_left members barrier m tag (_ ∷ earlier) all (inl e) share lt = absurd (cc)
+arrived_left members barrier m tag (event ∷ earlier) all (inr stands) share lt = inr (arrived_left members barrier m tag earlier all.1 stands share lt)
+
+closes_shares : (members : ℕ) (event : Event) (earlier : List Event) → TeamRule members event earlier → Always (TeamRule members) earlier → ClosesShares members event earlier
+closes_shares members (Pass barrier m) earlier rule all = λ tag stands share lt x below.
+    let arrivals = arrival_rules members earlier all in
+    let own = passes_after_all members (Pass barrier m) earlier rule.passes arrivals x below in
+    let same : own.0 ≡ tag = (same_arrivals members earlier arrivals).tags barrier x m own.0 tag own.1 stands in
+    arrived_left members barrier x own.0 earlier all own.1 share (rw same lt)
+closes_shares members _ earlier rule all = tt
+
+-- the headline, from the rule of the team, where nothing follows a break or the region's end
+pub team_keeps : (members : ℕ) (h : List Event) → Always (TeamRule members) h → Always InTime h → Headline members h
+team_keeps members h all in_time =
+    let shares = shares_keep (schedule members) members h (share_rules members h all) in
+    let copies = copies_keep members h all in
+    let arrivals = arrivals_keep members h (arrival_rules members h all) in record {
+      taken_once = shares.taken_once;
+      owned = always (ShareRule (schedule members) members) (TakesItsOwn members) (takes_its_own members) h (share_rules members h all);
+      whole = shares.whole;
+      ordered = ordered_keep members h (share_rules members h all);
+      none_held = always (TeamRule members) (LeavesHandedOn members) (leaves_handed_on members) h all;
+      all_handed_on = all_handed_on members h all;
+      puts = copies.puts;
+      gets = copies.gets;
+      served = copies.served;
+      same_shares = shares.same_shares;
+      same_arrivals = arrivals.same_arrivals;
+      arrive_once = always (TeamRule members) (ArrivesOnce members) (arrives_once members) h all;
+      arrive_outside = always (TeamRule members) ArrivesOutside (arrives_outside members) h all;
+      one_order = always (TeamRule members) TellsShares (tells_shares members) h all;
+      unbroken = always InTime HappensUnbroken unbroken_holds h in_time;
+      in_region = always InTime HappensInside inside_holds h in_time;
+      passes = arrivals.passes;
+      closes = always (TeamRule members) (ClosesShares members) (closes_shares members) h all;
+    }

@@ -1,0 +1,40 @@
+-- The headline: for every team size and list of member steps, no iteration, section or single is taken twice, and of a static loop a member takes only its own pieces; a loop or sections construct that all members end had every iteration or section taken, and a single that all members left was executed by one of them; ordered parts of a loop run in the order of its iterations, and an ordered loop that all members left had each of its pieces handed on; the words that a member copies are those that the executor of the single put; all members go through the same constructs in the same order; and no member passes a barrier before all arrived, and have left the constructs before it. OpenMP API 5.2, chapter 11 and sections 5.7.2, 15.3 and 15.10.2.
+use Rattle.std.specs.Prelude.{ℕ, List}
+use Rattle.gomp_types.specs.declared.event.Event.{Event}
+use Rattle.gomp_types.specs.Deals.{schedule}
+use Rattle.gomp_types.specs.Laws.{Always}
+use Rattle.gomp_shares.specs.Laws.{TakenOnce, TakesItsOwn, WholeWhereOver, SameShares, OrderedLaws}
+use Rattle.gomp_laws.specs.Laws.{LeavesHandedOn, HandedOnWhereOver, PutsOnce, GetsWhatWasPut, LeavesWithWords, ArrivesOnce, ArrivesOutside, HappensUnbroken, HappensInside, TellsShares, ClosesShares}
+use Rattle.gomp_types.specs.Arrivals.{SameArrivals, PassesAfterAll}
+
+pub record Headline (members : ℕ) (h : List Event) : Type 0 where
+  -- no iteration, section or single is taken twice
+  pub taken_once : TakenOnce (schedule members) h
+  -- a member takes of a static loop only its own pieces
+  pub owned : Always (TakesItsOwn members) h
+  -- a loop or sections construct that all members end had every iteration or section taken
+  pub whole : WholeWhereOver members h
+  -- ordered parts of a loop run in the order of its iterations, one after another
+  pub ordered : OrderedLaws members h
+  -- a member leaves such a loop only where each piece that it took was handed on, and one that all members left had all of them handed on
+  pub none_held : Always (LeavesHandedOn members) h
+  pub all_handed_on : HandedOnWhereOver members h
+  -- the executor of a single puts its words once, what others are given are these, and no member leaves without
+  pub puts : Always PutsOnce h
+  pub gets : Always GetsWhatWasPut h
+  pub served : Always LeavesWithWords h
+  -- all members go through the same shares, and arrive alike
+  pub same_shares : SameShares members h
+  pub same_arrivals : SameArrivals h
+  -- a member arrives at a barrier once, outside of every share, and only members of the team do
+  pub arrive_once : Always (ArrivesOnce members) h
+  pub arrive_outside : Always ArrivesOutside h
+  -- shares and barriers in one order
+  pub one_order : Always TellsShares h
+  -- a broken team does nothing more, nor does a member that has passed the region's end
+  pub unbroken : Always HappensUnbroken h
+  pub in_region : Always HappensInside h
+  -- no member passes a barrier before all arrived
+  pub passes : Always (PassesAfterAll members) h
+  -- nor before all have left the shares that it entered before it
+  pub closes : Always (ClosesShares members) h

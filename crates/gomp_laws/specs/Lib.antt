@@ -1,0 +1,4 @@
+pub mod Headline
+pub mod LawExamples
+pub mod Laws
+pub mod Rules

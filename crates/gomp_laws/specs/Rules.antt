@@ -1,0 +1,66 @@
+-- When an event may happen in a team, given the events before it: the rules of the shares and of the arrivals, and what a team asks besides. (own)
+use Rattle.std.specs.Prelude.{ℕ, ◌<◌, ◌≡◌, true, false, is_some, List, Some, None}
+use Rattle.gomp_types.specs.declared.shape.Shape.{Shape}
+use Rattle.gomp_types.specs.declared.event.Tag.{Tag}
+use Rattle.gomp_types.specs.declared.event.Event.{Event}
+use Rattle.gomp_types.specs.declared.event.Event.TheVariants.{Take, Drained, End, Put, Got, Arrive, Pass}
+use Rattle.gomp_types.specs.Shapes.{is_copy}
+use Rattle.gomp_types.specs.Events.{entered, open_share, last_piece, holds_piece, payload_at, has_piece, has_words, arrival}
+use Rattle.gomp_types.specs.Deals.{schedule}
+use Rattle.gomp_types.specs.Arrivals.{MayArrive, MayPass}
+use Rattle.gomp_shares.specs.Rules.{HasNone, MayTake, ShareRule}
+
+-- the executor of a single puts its words, once
+pub record MayPut (share m : ℕ) (earlier : List Event) : Type 0 where
+  pub shape : Shape
+  pub inside : open_share m earlier ≡ Some (share, shape)
+  pub copies : is_copy shape.kind ≡ true
+  pub executor : is_some (last_piece m earlier) ≡ true
+  pub once : payload_at share earlier ≡ None
+
+-- a member of a single that did not take its piece is given the words that were put
+pub record MayGet (share m : ℕ) (payload : List ℕ) (earlier : List Event) : Type 0 where
+  pub shape : Shape
+  pub inside : open_share m earlier ≡ Some (share, shape)
+  pub other : has_piece share m earlier ≡ false
+  pub words : payload_at share earlier ≡ Some payload
+
+-- in a team a member takes a piece of an ordered loop only where it has handed on the one before
+pub record MayTakeIn (members share m low high : ℕ) (earlier : List Event) : Type 0 where
+  pub takes : MayTake (schedule members) share m low high earlier
+  pub handed_on : takes.shape.ordered ≡ true → holds_piece m earlier ≡ false
+
+-- and it is told that nothing is left of such a loop only where it has handed on its last piece
+pub record HasNoneIn (members share m : ℕ) (earlier : List Event) : Type 0 where
+  pub done : HasNone (schedule members) share m earlier
+  pub handed_on : done.shape.ordered ≡ true → holds_piece m earlier ≡ false
+
+-- it leaves a share where nothing is left for it, a single with words only where it has them, and an ordered loop only where it has handed its last piece on
+pub record MayLeave (members share m : ℕ) (earlier : List Event) : Type 0 where
+  pub done : HasNone (schedule members) share m earlier
+  pub words : is_copy done.shape.kind ≡ true → has_words share m earlier ≡ true
+  pub handed_on : done.shape.ordered ≡ true → holds_piece m earlier ≡ false
+
+-- in a team a member of it arrives, outside of every share and once at each barrier, and tells how many shares it has entered
+pub record MayArriveIn (members barrier m : ℕ) (tag : Tag) (earlier : List Event) : Type 0 where
+  pub arrives : MayArrive barrier m tag earlier
+  pub member : m < members
+  pub outside : open_share m earlier ≡ None
+  pub once : arrival barrier m earlier ≡ None
+  pub shares : tag.shares ≡ entered m earlier
+
+-- and a member of it passes
+pub record MayPassIn (members barrier m : ℕ) (earlier : List Event) : Type 0 where
+  pub passes : MayPass members barrier m earlier
+  pub member : m < members
+
+-- the rule of a team
+abbrev pub TeamRule : ℕ → Event → List Event → Type 0
+TeamRule members (Take share m low high) earlier = MayTakeIn members share m low high earlier
+TeamRule members (Drained share m) earlier = HasNoneIn members share m earlier
+TeamRule members (End share m) earlier = MayLeave members share m earlier
+TeamRule members (Arrive barrier m tag) earlier = MayArriveIn members barrier m tag earlier
+TeamRule members (Pass barrier m) earlier = MayPassIn members barrier m earlier
+TeamRule members (Put share m payload) earlier = MayPut share m earlier
+TeamRule members (Got share m payload) earlier = MayGet share m payload earlier
+TeamRule members event earlier = ShareRule (schedule members) members event earlier

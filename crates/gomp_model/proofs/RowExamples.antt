@@ -1,0 +1,352 @@
+-- What each field of a row says of each call, and what the fields mean to a step.
+use Rattle.std.proofs.Common.{◌≡◌, true, false, List, [], ◌∷◌, Some, None, refl, rules}
+use Rattle.std.specs.Prelude.{Bool, Option, pos, map, ◌++◌, ◌==◌, ◌&&◌}
+use Rattle.gomp_types.specs.declared.call.Call.{Call}
+use Rattle.gomp_types.specs.declared.call.Call.TheVariants.{LoopNext, LoopEnd, LoopEndNowait, SectionsNext, SectionsEnd, SectionsEndNowait, SingleStart, SingleCopyStart, SingleCopyEnd, OrderedStart, OrderedEnd, Barrier, RegionEnd, Resume, Stop}
+use Rattle.gomp_types.specs.declared.loop_desc.EndKind.TheVariants.{Wait as WaitEnd}
+use Rattle.gomp_types.specs.declared.refusal.Place.TheVariants.{Share, Barrier as AtBarrier, Stopped as AtStop}
+use Rattle.gomp_types.specs.declared.refusal.Refusal.{Refusal}
+use Rattle.gomp_types.specs.declared.refusal.Refusal.TheVariants.{Ended, Waiting, InsideShare, NotDrained, NotInside, TooManyShares, Mismatch, NoMemory}
+use Rattle.gomp_types.specs.declared.reply.Reply.{Reply}
+use Rattle.gomp_types.specs.declared.reply.Reply.TheVariants.{Chunk, NoChunk, Section, Executor, Copied, Finished, Passed, Wait, Stopped, Refused}
+use Rattle.gomp_types.specs.declared.shape.Shape.{Shape}
+use Rattle.gomp_types.specs.declared.shape.ShareKind.TheVariants.{Dynamic}
+use Rattle.gomp_types.specs.declared.event.Arrival.{Arrival}
+use Rattle.gomp_types.specs.declared.event.Arrival.TheVariants.{Barrier as BarrierArrival, ShareEnd, RegionEnd as RegionEndArrival}
+use Rattle.gomp_types.specs.declared.event.Event.{Event}
+use Rattle.gomp_types.specs.declared.event.Event.TheVariants.{Enter, Take, Drained, End, HandOn, Part, PartEnd, Put, Got, Arrive, Pass, Break}
+use Rattle.gomp_types.specs.Events.{entered, passed}
+use Rattle.gomp_types.specs.Least.{least}
+use Rattle.gomp_types.specs.Singles.{single_shape}
+use Rattle.gomp_types.specs.Tests.{Test}
+use Rattle.gomp_types.specs.EventLists.{four, at}
+use Rattle.gomp_model.specs.Row.{Row, plain, at_once, once, since, row_tests, refusal_gives, events_after}
+use Rattle.gomp_model.specs.Calls.{row_of}
+use Rattle.gomp_model.specs.Examples.{MayReplyAfter, past_with, past_after, ten_by_three, stopped_waiting}
+use Rattle.gomp_model.specs.ShareExamples.{three_sections}
+
+-- Flags
+
+-- calls that start a share, or ask for some of it
+abbrev starts : List Call
+starts = ten_by_three ∷ three_sections ∷ SingleStart ∷ SingleCopyStart ∷ []
+
+abbrev nexts : List Call
+nexts = LoopNext ∷ SectionsNext ∷ OrderedStart (pos 0) ∷ []
+
+-- calls that leave a share, or a part of it, at once
+abbrev ends : List Call
+ends = LoopEndNowait ∷ SectionsEndNowait ∷ SingleCopyEnd (7 ∷ []) ∷ OrderedEnd ∷ []
+
+-- calls that arrive at a barrier
+abbrev arrivals : List Call
+arrivals = LoopEnd ∷ SectionsEnd ∷ Barrier ∷ RegionEnd ∷ []
+
+-- and those that do neither
+abbrev others : List Call
+others = Resume ∷ Stop ∷ []
+
+-- a flag of these calls
+abbrev flags : (Row → Bool) → List Call → List Bool
+flags flag calls = map (λ call. flag (row_of call)) calls
+
+-- the starts may find no memory, save that of a single without words
+pub memory_of_starts : flags (λ row. row.memory) starts ≡ true ∷ true ∷ false ∷ true ∷ []
+memory_of_starts = refl
+
+-- and a barrier
+pub memory_of_arrivals : flags (λ row. row.memory) arrivals ≡ false ∷ false ∷ true ∷ false ∷ []
+memory_of_arrivals = refl
+
+-- no other call
+pub memory_of_others : flags (λ row. row.memory) (nexts ++ ends ++ others) ≡ false ∷ false ∷ false ∷ false ∷ false ∷ false ∷ false ∷ false ∷ false ∷ []
+memory_of_others = refl
+
+-- a member stays in its place while it waits to start a share, for its next piece, or to begin a part
+pub stays_while_waiting : flags (λ row. row.stays) (starts ++ nexts) ≡ true ∷ true ∷ true ∷ true ∷ true ∷ true ∷ true ∷ []
+stays_while_waiting = refl
+
+-- where it waits at a barrier it has left its share, and no other call waits
+pub moves_or_waits_never : flags (λ row. row.stays) (ends ++ arrivals ++ others) ≡ false ∷ false ∷ false ∷ false ∷ false ∷ false ∷ false ∷ false ∷ false ∷ false ∷ []
+moves_or_waits_never = refl
+
+-- words are put at the end of a single with words
+pub puts_of_ends : flags (λ row. row.puts) ends ≡ false ∷ false ∷ true ∷ false ∷ []
+puts_of_ends = refl
+
+-- and by no other call
+pub puts_of_others : flags (λ row. row.puts) (starts ++ nexts ++ arrivals ++ others) ≡ false ∷ false ∷ false ∷ false ∷ false ∷ false ∷ false ∷ false ∷ false ∷ false ∷ false ∷ false ∷ false ∷ []
+puts_of_others = refl
+
+-- at which kind of barrier these calls arrive
+abbrev kinds : List Call → List (Option Arrival)
+kinds calls = map (λ call. (row_of call).arrives) calls
+
+pub kinds_of_arrivals : kinds arrivals ≡ Some ShareEnd ∷ Some ShareEnd ∷ Some BarrierArrival ∷ Some RegionEndArrival ∷ []
+kinds_of_arrivals = refl
+
+-- no other call arrives
+pub kinds_of_others : kinds (starts ++ nexts ++ ends ++ others) ≡ None ∷ None ∷ None ∷ None ∷ None ∷ None ∷ None ∷ None ∷ None ∷ None ∷ None ∷ None ∷ None ∷ []
+kinds_of_others = refl
+
+-- Places
+
+-- a member has entered two shares, the second of which it is in, and has passed a barrier
+abbrev in_the_second : List Event
+in_the_second =
+    Enter 0 0 (single_shape false) ∷ Take 0 0 0 1 ∷ End 0 0 ∷ Arrive 0 0 (at BarrierArrival 1) ∷ Pass 0 0 ∷ Enter 1 0 (single_shape true) ∷ Take 1 0 0 1 ∷ []
+
+-- the breaks that these calls give
+abbrev breaks : List Call → List Event
+breaks [] = []
+breaks (call ∷ calls) = refusal_gives Mismatch 0 ((row_of call).place 0 (past_with 1 in_the_second).events) ++ breaks calls
+
+-- a start differs at the share that is the member's next
+pub places_of_starts : breaks starts ≡ Break 0 (Share 2) ∷ Break 0 (Share 2) ∷ Break 0 (Share 2) ∷ Break 0 (Share 2) ∷ []
+places_of_starts = refl
+
+-- an arrival at the barrier that is
+pub places_of_arrivals : breaks arrivals ≡ Break 0 (AtBarrier 1) ∷ Break 0 (AtBarrier 1) ∷ Break 0 (AtBarrier 1) ∷ Break 0 (AtBarrier 1) ∷ []
+places_of_arrivals = refl
+
+-- a number of a share that is too large is shown as the largest
+pub place_of_late_share : (h : List Event) → entered 0 h ≡ 18446744073709551616 → (row_of SingleStart).place 0 h ≡ Share 18446744073709551615
+place_of_late_share h many = rw many refl
+
+-- and so is one of a barrier
+pub place_of_late_barrier : (h : List Event) → passed 0 h ≡ 18446744073709551616 → (row_of Barrier).place 0 h ≡ AtBarrier 18446744073709551615
+place_of_late_barrier h many = rw many refl
+
+-- Events that a call gives whatever it is answered
+
+-- those of these calls there, the calls' in turn
+abbrev begun : List Call → List (List Event)
+begun calls = map (λ call. (row_of call).begins 0 (past_with 1 in_the_second)) calls
+
+-- a share is left, words are put, a part is ended
+pub begun_by_ends : begun ends ≡ (End 1 0 ∷ []) ∷ (End 1 0 ∷ []) ∷ (End 1 0 ∷ Put 1 0 (7 ∷ []) ∷ []) ∷ (PartEnd 1 0 ∷ []) ∷ []
+begun_by_ends = refl
+
+-- a share is left, and then the member has arrived
+pub begun_by_arrivals :
+    begun arrivals
+    ≡ (Arrive 1 0 (at ShareEnd 2) ∷ End 1 0 ∷ []) ∷ (Arrive 1 0 (at ShareEnd 2) ∷ End 1 0 ∷ []) ∷ (Arrive 1 0 (at BarrierArrival 2) ∷ []) ∷ (Arrive 1 0 (at RegionEndArrival 2) ∷ []) ∷ []
+begun_by_arrivals = refl
+
+-- no other call gives an event before its answer
+pub begun_by_others : begun (starts ++ nexts ++ others) ≡ [] ∷ [] ∷ [] ∷ [] ∷ [] ∷ [] ∷ [] ∷ [] ∷ [] ∷ []
+begun_by_others = refl
+
+-- Events that a reply gives
+
+-- those of this call in a loop of four, ordered, in whose first piece the member is, for each of these replies
+abbrev given : Call → List Reply → List Event
+given call [] = []
+given call (reply ∷ replies) =
+    (row_of call).gives 0 (past_with 1 (Enter 0 0 (four true) ∷ Take 0 0 0 2 ∷ [])) reply ++ given call replies
+
+-- replies of other calls than one that asks for iterations
+abbrev no_iterations : List Reply
+no_iterations = Section 0 ∷ Section 1 ∷ Executor true ∷ Executor false ∷ Copied (7 ∷ []) ∷ Finished ∷ Passed ∷ Wait ∷ Stopped ∷ []
+
+-- than one that asks for a section
+abbrev no_section : List Reply
+no_section = Chunk (pos 0) 1 ∷ NoChunk ∷ Executor true ∷ Executor false ∷ Copied (7 ∷ []) ∷ Finished ∷ Passed ∷ Wait ∷ Stopped ∷ []
+
+-- than a single
+abbrev no_single : List Reply
+no_single = Chunk (pos 0) 1 ∷ NoChunk ∷ Section 0 ∷ Section 1 ∷ Copied (7 ∷ []) ∷ Finished ∷ Passed ∷ Wait ∷ Stopped ∷ []
+
+-- than one with words
+abbrev no_copy : List Reply
+no_copy = Chunk (pos 0) 1 ∷ NoChunk ∷ Section 0 ∷ Section 1 ∷ Executor false ∷ Finished ∷ Passed ∷ Wait ∷ Stopped ∷ []
+
+-- than one that only finishes, passes, or stops
+abbrev no_finish : List Reply
+no_finish = Chunk (pos 0) 1 ∷ NoChunk ∷ Section 0 ∷ Section 1 ∷ Executor true ∷ Executor false ∷ Copied (7 ∷ []) ∷ Wait ∷ []
+
+-- a start that waits enters nothing, and one that is answered as another call gives nothing
+pub none_given_by_starts : given ten_by_three no_iterations ++ given three_sections no_section ++ given SingleStart no_single ++ given SingleCopyStart no_copy ≡ []
+none_given_by_starts = refl
+
+-- nor does a member that waits for its turn hand a piece on, or begin a part
+pub none_given_by_nexts :
+    given LoopNext no_iterations ++ given SectionsNext no_section ++ given (OrderedStart (pos 0)) (Passed ∷ Stopped ∷ no_finish) ≡ []
+none_given_by_nexts = refl
+
+-- the ends give nothing beside what they have begun with
+pub none_given_by_ends :
+    given LoopEndNowait (Finished ∷ Passed ∷ no_finish) ++ given SectionsEndNowait (Finished ∷ Passed ∷ no_finish)
+    ++ given (SingleCopyEnd []) (Finished ∷ Passed ∷ no_finish) ++ given OrderedEnd (Finished ∷ Passed ∷ no_finish) ≡ []
+none_given_by_ends = refl
+
+-- the arrivals nothing but the pass
+pub none_given_by_arrivals :
+    given LoopEnd (Finished ∷ Stopped ∷ no_finish) ++ given SectionsEnd (Finished ∷ Stopped ∷ no_finish)
+    ++ given Barrier (Finished ∷ Stopped ∷ no_finish) ++ given RegionEnd (Finished ∷ Stopped ∷ no_finish) ≡ []
+none_given_by_arrivals = refl
+
+-- a stop nothing but the break
+pub none_given_by_stop : given Stop (Finished ∷ Passed ∷ no_finish) ++ given Resume (Finished ∷ Passed ∷ Stopped ∷ no_finish) ≡ []
+none_given_by_stop = refl
+
+-- ten iterations in chunks of three
+abbrev ten_shape : Shape
+ten_shape = record { start = pos 0; incr = pos 1; trips = 10; kind = Dynamic; chunk = 3; ordered = false; end_kind = WaitEnd }
+
+-- what each gives by its own replies: the starts
+pub given_by_starts :
+    (given ten_by_three (Chunk (pos 3) 3 ∷ []) ≡ Take 1 0 3 6 ∷ Enter 1 0 ten_shape ∷ [])
+    × (given SingleStart (Executor true ∷ []) ≡ End 1 0 ∷ Take 1 0 0 1 ∷ Enter 1 0 (single_shape false) ∷ [])
+    × (given SingleStart (Executor false ∷ []) ≡ End 1 0 ∷ Drained 1 0 ∷ Enter 1 0 (single_shape false) ∷ [])
+    × (given SingleCopyStart (Executor true ∷ []) ≡ Take 1 0 0 1 ∷ Enter 1 0 (single_shape true) ∷ [])
+    × (given SingleCopyStart (Copied (7 ∷ []) ∷ []) ≡ End 1 0 ∷ Got 1 0 (7 ∷ []) ∷ Drained 1 0 ∷ Enter 1 0 (single_shape true) ∷ [])
+given_by_starts = (refl, refl, refl, refl, refl)
+
+-- the others
+pub given_by_others :
+    (given LoopNext (Chunk (pos 2) 2 ∷ []) ≡ Take 0 0 2 4 ∷ HandOn 0 0 0 ∷ [])
+    × (given LoopNext (NoChunk ∷ []) ≡ Drained 0 0 ∷ HandOn 0 0 0 ∷ [])
+    × (given SectionsNext (Section 2 ∷ Section 0 ∷ []) ≡ Take 0 0 1 2 ∷ Drained 0 0 ∷ [])
+    × (given (OrderedStart (pos 1)) (Finished ∷ []) ≡ Part 0 0 1 ∷ [])
+    × (given Barrier (Passed ∷ []) ≡ Pass 0 0 ∷ [])
+    × (given Stop (Stopped ∷ []) ≡ Break 0 AtStop ∷ [])
+given_by_others = (refl, refl, refl, refl, refl, refl)
+
+-- Tests
+
+-- a row with a test of each list, all of which hold
+abbrev tested : Row
+tested = record plain {
+  by_place = λ limits seen. (true, NotDrained) ∷ [];
+  by_team = λ m p. (true, Waiting) ∷ [];
+  compared = λ again m p. (again, TooManyShares) ∷ (true, Mismatch) ∷ [];
+}
+
+-- a call makes them all
+pub tests_of_a_call : row_tests false tested 0 (past_with 1 []) ≡ (true, NotDrained) ∷ (true, Waiting) ∷ (false, TooManyShares) ∷ (true, Mismatch) ∷ []
+tests_of_a_call = refl
+
+-- and is refused by the least
+pub refusal_of_a_call : least (row_tests false tested 0 (past_with 1 [])) ≡ Some Waiting
+refusal_of_a_call = refl
+
+-- a resume compares alone
+pub tests_of_a_resume : row_tests true tested 0 (past_with 1 []) ≡ (true, TooManyShares) ∷ (true, Mismatch) ∷ []
+tests_of_a_resume = refl
+
+-- a test on the place, which holds where these are the limits and the shares entered
+abbrev tested_place : Row
+tested_place = record plain { by_place = λ limits seen. (limits.shares == 131064 && seen.entered == 1, InsideShare) ∷ [] }
+
+-- the tests on the place are by the team's limits, and by what the events say of the member that asks
+pub tests_by_place :
+    (row_tests false tested_place 1 (past_with 2 (Enter 0 1 (four false) ∷ [])) ≡ (true, InsideShare) ∷ [])
+    × (row_tests false tested_place 0 (past_with 2 (Enter 0 1 (four false) ∷ [])) ≡ (false, InsideShare) ∷ [])
+tests_by_place = (refl, refl)
+
+-- the tests of these calls by the team, where another has started a single, waits at the region's end, and the team is broken
+abbrev by_team_tests : List Call → List Test
+by_team_tests [] = []
+by_team_tests (call ∷ calls) =
+    (row_of call).by_team 0 (past_with 2 (Enter 0 1 (single_shape false) ∷ Arrive 0 1 (at RegionEndArrival 1) ∷ Break 1 AtStop ∷ [])) ++ by_team_tests calls
+
+-- no call has any
+pub none_by_team : by_team_tests (starts ++ nexts ++ ends ++ arrivals ++ others) ≡ []
+none_by_team = refl
+
+-- what these calls find to differ there, made or repeated
+abbrev differences : Bool → List Call → List (Option Refusal)
+differences again calls =
+    map (λ call. least ((row_of call).compared again 0 (past_with 2 (Enter 0 1 (four true) ∷ Arrive 0 1 (at RegionEndArrival 1) ∷ [])))) calls
+
+-- a start that differs does so at a resume too
+pub starts_that_differ : (differences false starts ≡ Some Mismatch ∷ Some Mismatch ∷ Some Mismatch ∷ Some Mismatch ∷ []) × (differences true starts ≡ differences false starts)
+starts_that_differ = (refl, refl)
+
+-- an arrival that differs, in the kind or in the number of shares, is compared once
+pub arrivals_that_differ : (differences false arrivals ≡ Some Mismatch ∷ Some Mismatch ∷ Some Mismatch ∷ Some Mismatch ∷ []) × (differences true arrivals ≡ None ∷ None ∷ None ∷ None ∷ [])
+arrivals_that_differ = (refl, refl)
+
+-- no other call is compared, and a resume of nothing is refused
+pub others_that_differ :
+    (differences false (nexts ++ ends) ≡ None ∷ None ∷ None ∷ None ∷ None ∷ None ∷ None ∷ []) × (differences true (nexts ++ ends) ≡ differences false (nexts ++ ends))
+    × (differences false others ≡ Some NotInside ∷ None ∷ []) × (differences true others ≡ Some NotInside ∷ None ∷ [])
+others_that_differ = (refl, refl, refl, refl)
+
+-- Events, once
+
+-- a call that is made gives its events, one that is repeated none
+pub events_once :
+    (once (Pass 0 0 ∷ End 0 0 ∷ []) false ≡ Pass 0 0 ∷ End 0 0 ∷ []) × (once (Pass 0 0 ∷ End 0 0 ∷ []) true ≡ []) × (once [] false ≡ []) × (once [] true ≡ [])
+events_once = (refl, refl, refl, refl)
+
+-- once a call has begun its events are there, before all others, and nothing else is new
+pub since_begun :
+    ((since false (row_of LoopEnd) 0 (past_with 2 (Enter 0 0 (four false) ∷ []))) ≡ record (past_with 2 []) { events = Arrive 0 0 (at ShareEnd 1) ∷ End 0 0 ∷ Enter 0 0 (four false) ∷ [] })
+    × (since true (row_of LoopEnd) 0 (past_with 2 (Enter 0 0 (four false) ∷ [])) ≡ past_with 2 (Enter 0 0 (four false) ∷ []))
+since_begun = (refl, refl)
+
+-- the waits are not
+pub since_keeps_waits : (since false (row_of Barrier) 1 (past_after 2 stopped_waiting)).waits ≡ (past_after 2 stopped_waiting).waits
+since_keeps_waits = refl
+
+-- a mismatch breaks the team, by this member and there; no other refusal changes anything
+pub events_of_refusals :
+    (refusal_gives Mismatch 3 (Share 5) ≡ Break 3 (Share 5) ∷ []) × (map (λ refusal. refusal_gives refusal 3 (Share 5)) (Ended ∷ Waiting ∷ TooManyShares ∷ NoMemory ∷ []) ≡ [] ∷ [] ∷ [] ∷ [] ∷ [])
+events_of_refusals = (refl, refl)
+
+-- the events of a call that arrives, is refused, and is repeated
+abbrev after_end : Bool → Reply → List Event
+after_end again reply = events_after again (row_of LoopEnd) 0 (past_with 2 (Enter 0 0 (four false) ∷ [])) reply
+
+-- a call that waits has begun
+pub events_of_a_wait : after_end false Wait ≡ Arrive 0 0 (at ShareEnd 1) ∷ End 0 0 ∷ Enter 0 0 (four false) ∷ []
+events_of_a_wait = refl
+
+-- it passes after its arrival
+pub events_of_a_pass : after_end false Passed ≡ Pass 0 0 ∷ Arrive 0 0 (at ShareEnd 1) ∷ End 0 0 ∷ Enter 0 0 (four false) ∷ []
+events_of_a_pass = refl
+
+-- repeated it arrives no second time
+pub events_of_a_repeat : (after_end true Wait ≡ Enter 0 0 (four false) ∷ []) × (after_end true Passed ≡ Pass 0 0 ∷ Enter 0 0 (four false) ∷ [])
+events_of_a_repeat = (refl, refl)
+
+-- refused it has not begun
+pub events_of_a_refusal : (after_end false (Refused NotDrained) ≡ Enter 0 0 (four false) ∷ []) × (after_end false (Refused Mismatch) ≡ Break 0 (AtBarrier 0) ∷ Enter 0 0 (four false) ∷ [])
+events_of_a_refusal = (refl, refl)
+
+-- a row that ends a share, and gives all that it finds
+abbrev echoing : Row
+echoing = record plain { begins = λ m p. End (entered m p.events) m ∷ []; gives = λ m p reply. p.events }
+
+-- what a reply gives is found after what the call has begun with, and stands before it
+pub events_in_order :
+    (events_after false echoing 0 (past_with 1 (Enter 0 0 (four false) ∷ [])) Finished
+    ≡ End 1 0 ∷ Enter 0 0 (four false) ∷ End 1 0 ∷ Enter 0 0 (four false) ∷ [])
+    × (events_after true echoing 0 (past_with 1 (Enter 0 0 (four false) ∷ [])) Finished ≡ Enter 0 0 (four false) ∷ Enter 0 0 (four false) ∷ [])
+events_in_order = (refl, refl)
+
+-- Rows of which little is said
+
+-- what a row leaves as it is: no test, no event, and done at once
+pub plain_says_nothing :
+    (row_tests false plain 0 (past_with 1 []) ≡ []) × (row_tests true plain 0 (past_with 1 []) ≡ []) × (plain.memory ≡ false) × (plain.stays ≡ false)
+    × (plain.arrives ≡ None) × (plain.puts ≡ false) × (plain.begins 0 (past_with 1 []) ≡ []) × (plain.gives 0 (past_with 1 []) Finished ≡ [])
+plain_says_nothing = (refl, refl, refl, refl, refl, refl, refl, refl)
+
+-- and nothing but done
+pub plain_is_done : (plain.may_reply 0 (past_with 1 []) Finished) × (plain.may_reply 0 (past_with 1 []) Wait → ⊥) × (plain.may_reply 0 (past_with 1 []) (Refused NoMemory) → ⊥)
+plain_is_done = (refl, (λ e. absurd (cc)), (λ e. absurd (cc)))
+
+-- a call that is done at once has its tests, gives its events, and is done
+pub done_at_once :
+    (row_tests false (at_once (λ seen. (seen.in_part, NotDrained) ∷ []) (λ m h. End 0 m ∷ h)) 0 (past_with 1 []) ≡ (false, NotDrained) ∷ [])
+    × ((at_once (λ seen. []) (λ m h. End 0 m ∷ h)).begins 3 (past_with 1 (Pass 0 0 ∷ [])) ≡ End 0 3 ∷ Pass 0 0 ∷ [])
+    × ((at_once (λ seen. []) (λ m h. [])).may_reply 0 (past_with 1 []) Finished)
+done_at_once = (refl, refl, refl)
+
+-- no call is ever refused by its replies
+pub no_reply_refuses :
+    (MayReplyAfter false 1 [] 0 Barrier (Refused Ended) → ⊥) × (MayReplyAfter false 1 [] 0 SingleStart (Refused Ended) → ⊥) × (MayReplyAfter false 1 [] 0 Stop (Refused Ended) → ⊥)
+no_reply_refuses = search rules

@@ -1,0 +1,58 @@
+-- The rows of calls that arrive at a barrier, and of the ends of shares. OpenMP API 5.2, section 15.3.
+use Rattle.std.specs.Prelude.{ℕ, is_some, ◌≡◌, Bool, true, false, List, [], ◌∷◌, ◌++◌, Some}
+use Rattle.gomp_types.specs.declared.refusal.Refusal.TheVariants.{InsideShare, Mismatch}
+use Rattle.gomp_types.specs.declared.seen.Seen.{Seen}
+use Rattle.gomp_types.specs.declared.reply.Reply.{Reply}
+use Rattle.gomp_types.specs.declared.reply.Reply.TheVariants.{Passed, Wait}
+use Rattle.gomp_types.specs.declared.event.Arrival.{Arrival}
+use Rattle.gomp_types.specs.declared.event.Arrival.TheVariants.{Barrier as BarrierArrival, RegionEnd as RegionEndArrival}
+use Rattle.gomp_types.specs.declared.event.Event.{Event}
+use Rattle.gomp_types.specs.declared.event.Event.TheVariants.{Arrive, Pass}
+use Rattle.gomp_types.specs.Tests.{Test}
+use Rattle.gomp_types.specs.Compare.{tag_differs, tag_with}
+use Rattle.gomp_types.specs.Events.{entered, passed, tag_at, barrier_met}
+use Rattle.gomp_shares.specs.Starts.{leaves}
+use Rattle.gomp_model.specs.Row.{Row, plain}
+
+-- the answer at a wait: passed where its goal is met, else wait
+abbrev pub Awaits : Bool → Reply → Type 0
+Awaits met Passed = met ≡ true
+Awaits met Wait = met ≡ false
+Awaits met _ = ⊥
+
+-- an arrival is compared once with those of the other members at the same barrier
+abbrev pub compared_arrival : Arrival → Bool → ℕ → List Event → List Test
+compared_arrival kind true m h = []
+compared_arrival kind false m h = (tag_differs (tag_with kind (entered m h)) (tag_at (passed m h) h), Mismatch) ∷ []
+
+-- the member's next barrier is passed
+abbrev pub passes : ℕ → List Event → Reply → List Event
+passes m h Passed = Pass (passed m h) m ∷ []
+passes m h _ = []
+
+-- a call that arrives at a barrier, and passes it once all have arrived
+abbrev pub arrival : Arrival → Row
+arrival kind = record plain {
+  compared = λ again m p. compared_arrival kind again m p.events;
+  arrives = Some kind;
+  begins = λ m p. Arrive (passed m p.events) m (tag_with kind (entered m p.events)) ∷ [];
+  may_reply = λ m p reply. Awaits (barrier_met p.terms.members (passed m p.events) p.events) reply;
+  gives = λ m p reply. passes m p.events reply;
+}
+
+-- a call that leaves its share, by these tests, before it does what it does else
+abbrev pub ending : (Seen → List Test) → Row → Row
+ending tests row = record row {
+  by_place = λ limits seen. tests seen;
+  begins = λ m p. row.begins m p ++ leaves m p.events;
+}
+
+-- a barrier, and the region's end, stand outside of every share
+abbrev pub outside_tests : Seen → List Test
+outside_tests seen = (is_some seen.current, InsideShare) ∷ []
+
+abbrev pub barrier_row : Row
+barrier_row = record (arrival BarrierArrival) { by_place = λ limits seen. outside_tests seen; memory = true }
+
+abbrev pub region_end_row : Row
+region_end_row = record (arrival RegionEndArrival) { by_place = λ limits seen. outside_tests seen }

@@ -1,0 +1,47 @@
+-- Each call's row: the one list of calls.
+use Rattle.std.specs.Prelude.{ℕ, ◌≡◌, true, List, [], ◌∷◌}
+use Rattle.gomp_types.specs.declared.call.Call.{Call}
+use Rattle.gomp_types.specs.declared.call.Call.TheVariants.{LoopStart, LoopNext, LoopEnd, LoopEndNowait, SectionsStart, SectionsNext, SectionsEnd, SectionsEndNowait, SingleStart, SingleCopyStart, SingleCopyEnd, OrderedStart, OrderedEnd, Barrier, RegionEnd, Resume, Stop}
+use Rattle.gomp_types.specs.declared.refusal.Refusal.TheVariants.{NotInside}
+use Rattle.gomp_types.specs.declared.refusal.Place.TheVariants.{Stopped as AtStop}
+use Rattle.gomp_types.specs.declared.reply.Reply.{Reply}
+use Rattle.gomp_types.specs.declared.reply.Reply.TheVariants.{Stopped}
+use Rattle.gomp_types.specs.declared.event.Event.{Event}
+use Rattle.gomp_types.specs.declared.event.Event.TheVariants.{Break}
+use Rattle.gomp_model.specs.Row.{Row, plain}
+use Rattle.gomp_model.specs.Loops.{loop_start_row, loop_next_row, loop_end_row, loop_end_nowait_row}
+use Rattle.gomp_model.specs.Sections.{sections_start_row, sections_next_row, sections_end_row, sections_end_nowait_row}
+use Rattle.gomp_model.specs.Singles.{single_start_row, single_copy_start_row, single_copy_end_row}
+use Rattle.gomp_model.specs.OrderedParts.{ordered_start_row, ordered_end_row}
+use Rattle.gomp_model.specs.Arrivals.{barrier_row, region_end_row}
+
+-- a resume with no wait open is refused, and so has no other answer
+abbrev pub resume_row : Row
+resume_row = record plain { compared = λ again m p. (true, NotInside) ∷ []; may_reply = λ m p reply. ⊥ }
+
+-- a member that stops the team breaks it
+abbrev pub stop_given : ℕ → Reply → List Event
+stop_given m Stopped = Break m AtStop ∷ []
+stop_given m _ = []
+
+abbrev pub stop_row : Row
+stop_row = record plain { may_reply = λ m p reply. reply ≡ Stopped; gives = λ m p reply. stop_given m reply }
+
+abbrev pub row_of : Call → Row
+row_of (LoopStart loop) = loop_start_row loop
+row_of LoopNext = loop_next_row
+row_of LoopEnd = loop_end_row
+row_of LoopEndNowait = loop_end_nowait_row
+row_of (SectionsStart count end_kind) = sections_start_row count end_kind
+row_of SectionsNext = sections_next_row
+row_of SectionsEnd = sections_end_row
+row_of SectionsEndNowait = sections_end_nowait_row
+row_of SingleStart = single_start_row
+row_of SingleCopyStart = single_copy_start_row
+row_of (SingleCopyEnd payload) = single_copy_end_row payload
+row_of (OrderedStart value) = ordered_start_row value
+row_of OrderedEnd = ordered_end_row
+row_of Barrier = barrier_row
+row_of RegionEnd = region_end_row
+row_of Stop = stop_row
+row_of Resume = resume_row

@@ -1,0 +1,13 @@
+pub mod Arrivals
+pub mod Calls
+pub mod Examples
+pub mod Loops
+pub mod OrderedParts
+pub mod Past
+pub mod RegionExamples
+pub mod Row
+pub mod Sections
+pub mod ShareExamples
+pub mod Singles
+pub mod Starts
+pub mod Team

@@ -1,0 +1,30 @@
+-- The rows of the calls on loops. OpenMP API 5.2, section 11.5.
+use Rattle.std.specs.Prelude.{true}
+use Rattle.gomp_types.specs.declared.loop_desc.LoopDesc.{LoopDesc}
+use Rattle.gomp_types.specs.declared.loop_desc.EndKind.TheVariants.{Wait, Nowait}
+use Rattle.gomp_types.specs.declared.event.Arrival.TheVariants.{ShareEnd}
+use Rattle.gomp_types.specs.Iterations.{loop_tests}
+use Rattle.gomp_types.specs.Pieces.{shape_of}
+use Rattle.gomp_types.specs.Events.{open_share}
+use Rattle.gomp_shares.specs.Loops.{DealsOut, DealsNext, piece_given, next_given, next_tests, end_tests}
+use Rattle.gomp_shares.specs.Starts.{leaves}
+use Rattle.gomp_model.specs.Row.{Row, plain, at_once}
+use Rattle.gomp_model.specs.Starts.{start}
+use Rattle.gomp_model.specs.Arrivals.{arrival, ending}
+
+abbrev pub loop_start_row : LoopDesc → Row
+loop_start_row loop = start true (loop_tests loop) (shape_of loop) DealsOut piece_given
+
+abbrev pub loop_next_row : Row
+loop_next_row = record plain {
+  by_place = λ limits seen. next_tests seen;
+  stays = true;
+  may_reply = λ m p reply. DealsNext p.terms.members m (open_share m p.events) reply p.events;
+  gives = λ m p reply. next_given (open_share m p.events) m p.events reply;
+}
+
+abbrev pub loop_end_row : Row
+loop_end_row = ending (end_tests Wait) (arrival ShareEnd)
+
+abbrev pub loop_end_nowait_row : Row
+loop_end_nowait_row = at_once (end_tests Nowait) leaves

@@ -1,0 +1,87 @@
+-- All that there is to say of one call, and what each of its fields means to a step. (own)
+use Rattle.std.specs.Prelude.{ℕ, ◌≡◌, Bool, true, false, List, [], ◌∷◌, ◌++◌, Option, None}
+use Rattle.gomp_types.specs.declared.limits.Limits.{Limits}
+use Rattle.gomp_types.specs.declared.seen.Seen.{Seen}
+use Rattle.gomp_types.specs.declared.refusal.Place.{Place}
+use Rattle.gomp_types.specs.declared.refusal.Place.TheVariants.{Barrier as AtBarrier}
+use Rattle.gomp_types.specs.declared.refusal.Refusal.{Refusal}
+use Rattle.gomp_types.specs.declared.refusal.Refusal.TheVariants.{Mismatch}
+use Rattle.gomp_types.specs.declared.reply.Reply.{Reply}
+use Rattle.gomp_types.specs.declared.reply.Reply.TheVariants.{Finished, Refused}
+use Rattle.gomp_types.specs.declared.event.Arrival.{Arrival}
+use Rattle.gomp_types.specs.declared.event.Event.{Event}
+use Rattle.gomp_types.specs.declared.event.Event.TheVariants.{Break}
+use Rattle.gomp_types.specs.Tests.{Test}
+use Rattle.gomp_types.specs.Limits.{shown}
+use Rattle.gomp_types.specs.Events.{passed}
+use Rattle.gomp_types.specs.Seen.{seen_of}
+use Rattle.gomp_model.specs.Past.{Past}
+
+pub record Row : Type 1 where
+  -- its tests that the member's place among the shares decides
+  pub by_place : Limits → Seen → List Test
+  -- those that the team decides beside them; no call has one before there are tasks, names and cancellation
+  pub by_team : ℕ → Past → List Test
+  -- those that compare its construct with other members'; a resume makes them too, where the flag is true
+  pub compared : Bool → ℕ → Past → List Test
+  -- whether it may find no memory
+  pub memory : Bool
+  -- whether its member stays in its place while it waits
+  pub stays : Bool
+  -- at what kind of barrier it arrives
+  pub arrives : Option Arrival
+  -- whether it puts words for the other members
+  pub puts : Bool
+  -- the events that it gives whatever it is answered, the newest first
+  pub begins : ℕ → Past → List Event
+  -- what it may be answered after these
+  pub may_reply : ℕ → Past → Reply → Type 0
+  -- and the events that its reply gives
+  pub gives : ℕ → Past → Reply → List Event
+  -- where its construct differs
+  pub place : ℕ → List Event → Place
+
+-- a call with no tests, which is done at once: what a row leaves as it is
+abbrev pub plain : Row
+plain = record {
+  by_place = λ limits seen. [];
+  by_team = λ m p. [];
+  compared = λ again m p. [];
+  memory = false;
+  stays = false;
+  arrives = None;
+  puts = false;
+  begins = λ m p. [];
+  may_reply = λ m p reply. reply ≡ Finished;
+  gives = λ m p reply. [];
+  place = λ m h. AtBarrier (shown (passed m h));
+}
+
+-- a call that is done at once, with these tests, and gives these events
+abbrev pub at_once : (Seen → List Test) → (ℕ → List Event → List Event) → Row
+at_once tests events = record plain { by_place = λ limits seen. tests seen; begins = λ m p. events m p.events }
+
+-- these events, unless the call is repeated
+abbrev pub once : List Event → Bool → List Event
+once [] again = []
+once (event ∷ events) true = []
+once (event ∷ events) false = event ∷ events
+
+-- the past once the call has begun
+abbrev pub since : Bool → Row → ℕ → Past → Past
+since again row m p = record p { events = once (row.begins m p) again ++ p.events }
+
+-- the tests of a call
+abbrev pub row_tests : Bool → Row → ℕ → Past → List Test
+row_tests true row m p = row.compared true m p
+row_tests false row m p = row.by_place p.terms.limits (seen_of m p.events) ++ (row.by_team m p ++ row.compared false m p)
+
+-- a mismatch breaks the team, no other refusal changes anything
+abbrev pub refusal_gives : Refusal → ℕ → Place → List Event
+refusal_gives Mismatch m place = Break m place ∷ []
+refusal_gives _ m place = []
+
+-- the events after the call and its reply
+abbrev pub events_after : Bool → Row → ℕ → Past → Reply → List Event
+events_after again row m p (Refused refusal) = refusal_gives refusal m (row.place m p.events) ++ p.events
+events_after again row m p reply = row.gives m (since again row m p) reply ++ (since again row m p).events

@@ -1,0 +1,121 @@
+-- A step of a team: its tests, its reply, and what it leaves. The past before a step decides its reply, save that memory may be refused. (own)
+use Rattle.std.specs.Prelude.{ℕ, nat_le, ◌==◌, ◌≡◌, ◌≢◌, ◌⊎◌, if◌then◌else◌, is_some, Bool, true, false, IsTrue, List, [], ◌∷◌, ◌++◌, Option, Some, None}
+use Rattle.gomp_types.specs.declared.call.Call.{Call}
+use Rattle.gomp_types.specs.declared.call.Call.TheVariants.{Resume, Stop}
+use Rattle.gomp_types.specs.declared.call.Step.{Step}
+use Rattle.gomp_types.specs.declared.reply.Reply.{Reply}
+use Rattle.gomp_types.specs.declared.reply.Reply.TheVariants.{Wait, Refused}
+use Rattle.gomp_types.specs.declared.refusal.Clash.{Clash}
+use Rattle.gomp_types.specs.declared.refusal.Refusal.{Refusal}
+use Rattle.gomp_types.specs.declared.refusal.Refusal.TheVariants.{BadMember, Ended, Broken, Waiting, NoMemory}
+use Rattle.gomp_types.specs.declared.event.Event.{Event}
+use Rattle.gomp_types.specs.Tests.{Test}
+use Rattle.gomp_types.specs.Limits.{capped}
+use Rattle.gomp_types.specs.Least.{least}
+use Rattle.gomp_types.specs.Events.{has_left_region, clash_of}
+use Rattle.gomp_model.specs.Past.{Terms, Past}
+use Rattle.gomp_model.specs.Row.{Row, since, row_tests, events_after}
+use Rattle.gomp_model.specs.Calls.{row_of}
+
+-- what was asked and answered, the newest pair first
+abbrev pub Record : Type 0
+Record = List (Step × Reply)
+
+-- the record of these steps and replies, in order, after what was before
+abbrev pub record_after : List Step → List Reply → Record → Record
+record_after [] replies before = before
+record_after (step ∷ steps) [] before = before
+record_after (step ∷ steps) (reply ∷ replies) before = record_after steps replies ((step, reply) ∷ before)
+
+-- the call that a step makes, or repeats where it is a resume
+abbrev pub meant : Call → Option Call → Call
+meant Resume (Some call) = call
+meant call waiting = call
+
+abbrev pub is_resume : Call → Bool
+is_resume Resume = true
+is_resume _ = false
+
+-- the row of the call that a step makes or repeats
+abbrev pub row_at : Past → Step → Row
+row_at p step = row_of (meant step.call (p.waits step.member))
+
+-- Tests
+
+-- a broken team answers nothing
+abbrev pub broken_tests : Option Clash → List Test
+broken_tests None = []
+broken_tests (Some clash) = (true, Broken clash) ∷ []
+
+-- what every call is tested for
+abbrev pub member_tests : ℕ → ℕ → List Event → List Test
+member_tests members m h = (nat_le members m, BadMember) ∷ (has_left_region m h, Ended) ∷ broken_tests (clash_of h)
+
+-- while a wait is open only a resume and a stop are answered
+abbrev pub wait_tests : Call → Option Call → List Test
+wait_tests Resume waiting = []
+wait_tests Stop waiting = []
+wait_tests _ waiting = (is_some waiting, Waiting) ∷ []
+
+abbrev pub tests_of : Past → Step → List Test
+tests_of p step =
+    member_tests p.terms.members step.member p.events
+    ++ (wait_tests step.call (p.waits step.member) ++ row_tests (is_resume step.call) (row_at p step) step.member p)
+
+-- a step is refused by that of its tests that hold whose refusal has the least number
+abbrev pub refusal_of : Past → Step → Option Refusal
+refusal_of p step = least (tests_of p step)
+
+-- Replies
+
+-- a refusal is that of the tests; where none holds, a call that asks for memory may find none, but not where it is repeated
+abbrev pub MayRefuse : Option Refusal → Refusal → Bool → Type 0
+MayRefuse first NoMemory asks = (first ≡ None) × IsTrue asks
+MayRefuse first refusal asks = first ≡ Some refusal
+
+-- a step may be answered so
+abbrev pub MayAnswer : Past → Step → Reply → Type 0
+MayAnswer p step (Refused refusal) = MayRefuse (refusal_of p step) refusal (row_of step.call).memory
+MayAnswer p step reply =
+    (refusal_of p step ≡ None)
+    × (row_at p step).may_reply step.member (since (is_resume step.call) (row_at p step) step.member p) reply
+
+-- What a step leaves
+
+-- a refusal leaves a member's wait, Wait opens one, every other reply closes it
+abbrev pub wait_after : Reply → Call → Option Call → Option Call
+wait_after (Refused refusal) call waiting = waiting
+wait_after Wait call waiting = Some (meant call waiting)
+wait_after _ call waiting = None
+
+abbrev pub after : Past → Step → Reply → Past
+after p step reply = record p {
+  events = events_after (is_resume step.call) (row_at p step) step.member p reply;
+  waits = λ m. if step.member == m then wait_after reply step.call (p.waits m) else p.waits m;
+}
+
+-- a new team: no limit of it is above the standard one
+abbrev pub before_all : Terms → Past
+before_all terms = record { terms = record terms { limits = capped terms.limits }; events = []; waits = λ m. None }
+
+-- what is known of a record, the newest step first
+abbrev pub past_of : Terms → Record → Past
+past_of terms [] = before_all terms
+past_of terms (pair ∷ earlier) = after (past_of terms earlier) pair.0 pair.1
+
+-- all that happened, the newest first
+abbrev pub events : Terms → Record → List Event
+events terms run = (past_of terms run).events
+
+-- every reply of a record has its cause
+abbrev pub Caused : Terms → Record → Type 0
+Caused terms [] = Unit {0}
+Caused terms (pair ∷ earlier) = MayAnswer (past_of terms earlier) pair.0 pair.1 × Caused terms earlier
+
+-- two replies are one, or one of them is want of memory
+abbrev pub OneReply : Reply → Reply → Type 0
+OneReply a b = (a ≡ b) ⊎ (a ≡ Refused NoMemory) ⊎ (b ≡ Refused NoMemory)
+
+-- some reply to the step, other than want of memory, has its cause
+abbrev pub SomeReply : Past → Step → Type 0
+SomeReply p step = (reply : Reply) × (reply ≢ Refused NoMemory) × MayAnswer p step reply

@@ -1,0 +1,15 @@
+pub mod AnswerRules
+pub mod Assigned
+pub mod CallExamples
+pub mod CallRuns
+pub mod Entered
+pub mod FirstOfQueue
+pub mod Only
+pub mod OnlyExamples
+pub mod OrderedKeep
+pub mod OwnEvents
+pub mod PartsKeep
+pub mod RunExamples
+pub mod SharesKeep
+pub mod SinglesKeep
+pub mod Windows

@@ -1,0 +1,145 @@
+-- What the calls on a team's work-shares ask, answer and add to the events. The newest event stands first. OpenMP API 5.2, chapter 11.
+use Rattle.std.specs.Prelude.{ℕ, ◌<◌, ◌≤◌, ◌≡◌, ◌^◌, ◌&&◌, ◌||◌, nat_lt, Bool, true, false, List, ◌∷◌, Option, Some, None, Result, Ok, Err, is_some, IfSome}
+use Rattle.std.specs.Bool.{OnTrue}
+use Rattle.gomp_types.specs.declared.shape.Shape.{Shape}
+use Rattle.gomp_types.specs.declared.refusal.Refusal.{Refusal}
+use Rattle.gomp_types.specs.declared.event.Event.{Event}
+use Rattle.gomp_types.specs.declared.event.Event.TheVariants.{Enter, Take, Drained, End, HandOn, Part, PartEnd}
+use Rattle.gomp_types.specs.Pieces.{Piece}
+use Rattle.gomp_types.specs.Values.{IsShape}
+use Rattle.gomp_types.specs.Events.{entered, open_share, open_number, in_kind, turn, shape_at, has_room}
+use Rattle.gomp_types.specs.Ordered.{has_turn, is_ordered, is_in_rest}
+use Rattle.gomp_types.specs.Shapes.{is_loop, is_single}
+use Rattle.gomp_types.specs.Deals.{schedule, next_for, taken_in}
+use Rattle.gomp_types.specs.Compare.{shape_differs}
+use Rattle.gomp_types.specs.declared.seen.Seen.{Seen}
+use Rattle.gomp_shares.specs.declared.Opening.{Opening}
+use Rattle.gomp_shares.specs.declared.Opening.TheVariants.{Entered, NotYet, Differs}
+
+-- how many shares a member can enter (own)
+abbrev pub most_shares : ℕ
+most_shares = 2 ^ 48
+
+-- how many pieces of a share were taken, by whomever
+abbrev pub taken_of : ℕ → List Event → ℕ
+taken_of share h = taken_in (λ m. 0) share 0 h
+
+-- whether some piece of it was taken
+abbrev pub was_taken : ℕ → List Event → Bool
+was_taken share h = nat_lt 0 (taken_of share h)
+
+-- a member of the team that is in no share may open its next one
+pub record CanOpen (members m : ℕ) (shape : Shape) (seen : Seen) : Type 0 where
+  pub member : m < members
+  pub valid : IsShape shape
+  -- only a loop is ordered
+  pub ordered : shape.ordered ≡ true → is_loop shape.kind ≡ true
+  pub outside : is_some seen.current ≡ false
+  pub few : seen.entered < most_shares
+
+-- when a member that opens its next share gets this answer
+abbrev pub MayOpen : ℕ → ℕ → Shape → Opening → List Event → Type 0
+MayOpen members m shape Entered h = (shape_differs shape (shape_at (entered m h) h) ≡ false) × (has_room members (entered m h) h ≡ true)
+MayOpen members m shape NotYet h = (shape_differs shape (shape_at (entered m h) h) ≡ false) × (has_room members (entered m h) h ≡ false)
+MayOpen members m shape Differs h = shape_differs shape (shape_at (entered m h) h) ≡ true
+
+-- the events after this answer
+abbrev pub opened : ℕ → Shape → Opening → List Event → List Event
+opened m shape Entered h = Enter (entered m h) m shape ∷ h
+opened m shape NotYet h = h
+opened m shape Differs h = h
+
+-- a member that is in a share, and in no ordered part of it, and was not told that nothing is left, may ask for a piece
+pub record CanClaim (members m : ℕ) (seen : Seen) : Type 0 where
+  pub member : m < members
+  pub inside : is_some seen.current ≡ true
+  pub more : seen.drained ≡ false
+  pub apart : seen.in_part ≡ false
+
+-- it gets the least piece that nobody took of those that are its own to take, none where there is none
+pub record Claims (members m : ℕ) (answer : Option Piece) (h : List Event) : Type 0 where
+  pub share : ℕ × Shape
+  pub there : open_share m h ≡ Some share
+  pub valid : IsShape share.1
+  pub least : answer ≡ next_for (schedule members) share.1 share.0 m h
+  pub within : IfSome answer (λ piece. (piece.0 < piece.1) × (piece.1 ≤ share.1.trips))
+
+abbrev pub claimed : ℕ → Option Piece → List Event → List Event
+claimed m (Some piece) h = Take (open_number m h) m piece.0 piece.1 ∷ h
+claimed m None h = Drained (open_number m h) m ∷ h
+
+-- whether nothing is left for a member that sees this of its place: it was told so, or it took the one piece of a single
+abbrev pub is_done : Seen → Bool
+is_done seen = seen.drained || in_kind is_single seen.current && is_some seen.piece
+
+-- a member may leave a share of which nothing is left for it
+pub record CanLeave (members m : ℕ) (seen : Seen) : Type 0 where
+  pub member : m < members
+  pub inside : is_some seen.current ≡ true
+  pub done : is_done seen ≡ true
+  pub apart : seen.in_part ≡ false
+
+abbrev pub left : ℕ → List Event → List Event
+left m h = End (open_number m h) m ∷ h
+
+-- a member in an ordered loop may begin the part of an iteration of its piece, after those whose parts it has begun
+pub record CanBeginPart (members m iteration : ℕ) (seen : Seen) : Type 0 where
+  pub member : m < members
+  pub ordered : is_ordered seen.current ≡ true
+  pub apart : seen.in_part ≡ false
+  pub rest : is_in_rest seen.piece seen.next_part (Some iteration) ≡ true
+
+-- a member may end the part that it is in
+pub record CanEndPart (members m : ℕ) (seen : Seen) : Type 0 where
+  pub member : m < members
+  pub within : seen.in_part ≡ true
+
+-- a member in an ordered loop, and in no part of it, may ask whether its piece can be handed on
+pub record CanHandOn (members m : ℕ) (seen : Seen) : Type 0 where
+  pub member : m < members
+  pub ordered : is_ordered seen.current ≡ true
+  pub apart : seen.in_part ≡ false
+
+-- whether the turn is the member's: every piece of its share before its own was handed on, and its own was not
+abbrev pub turn_in : ℕ → Option (ℕ × Shape) → ℕ → List Event → Bool
+turn_in members None m h = false
+turn_in members (Some share) m h = has_turn members share m h
+
+abbrev pub own_turn : ℕ → ℕ → List Event → Bool
+own_turn members m h = turn_in members (open_share m h) m h
+
+-- the events after these calls
+abbrev pub part_begun : ℕ → ℕ → Bool → List Event → List Event
+part_begun m iteration true h = Part (open_number m h) m iteration ∷ h
+part_begun m iteration false h = h
+
+abbrev pub part_ended : ℕ → List Event → List Event
+part_ended m h = PartEnd (open_number m h) m ∷ h
+
+abbrev pub piece_handed : ℕ → Bool → List Event → List Event
+piece_handed m true h = HandOn (open_number m h) m (turn (open_number m h) h) ∷ h
+piece_handed m false h = h
+
+-- the events after a member has left its share, or was refused
+abbrev pub left_unless_refused : {A : Type 0} → Result A Refusal → ℕ → List Event → List Event
+left_unless_refused (Ok done) m h = left m h
+left_unless_refused (Err refusal) m h = h
+
+-- of each list of events that is stood for, this holds
+abbrev pub EachStands : (List Event → Type 0) → (List Event → Type 0) → Type 0
+EachStands stands P = (h : List Event) → stands h → P h
+
+-- whether the shares see an event: it is one of theirs
+abbrev pub is_of_shares : Event → Bool
+is_of_shares (Enter share m shape) = true
+is_of_shares (Take share m low high) = true
+is_of_shares (Drained share m) = true
+is_of_shares (End share m) = true
+is_of_shares (HandOn share m piece) = true
+is_of_shares (Part share m iteration) = true
+is_of_shares (PartEnd share m) = true
+is_of_shares _ = false
+
+-- an event that the shares do not see
+abbrev pub IsAside : Event → Type 0
+IsAside event = OnTrue (is_of_shares event) ⊥

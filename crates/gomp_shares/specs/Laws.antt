@@ -1,0 +1,137 @@
+-- The laws of the work-shares, each clause in the words of the promise that it keeps.
+use Rattle.std.specs.Prelude.{ℕ, ◌+◌, ◌%◌, ◌<◌, ◌≤◌, ◌≡◌, slice_get, List, Some, None, true, take}
+use Rattle.gomp_types.specs.declared.shape.Shape.{Shape}
+use Rattle.gomp_types.specs.declared.event.Event.{Event}
+use Rattle.gomp_types.specs.declared.event.Event.TheVariants.{Enter, Take, End, HandOn, Part, PartEnd}
+use Rattle.gomp_types.specs.Shapes.{is_static}
+use Rattle.gomp_types.specs.Pieces.{pieces_of}
+use Rattle.gomp_types.specs.Events.{entered, last_piece, turn, open_part, times_taken}
+use Rattle.gomp_types.specs.Deals.{Deal, taken_in, takes_in, next_for}
+use Rattle.gomp_types.specs.Laws.{Always, Happened}
+
+-- every member has left the share
+abbrev pub IsOver : ℕ → ℕ → List Event → Type 0
+IsOver members share h = (m : ℕ) → m < members → Happened (End share m) h
+
+-- a take is the least piece that nobody took of those that are its member's to take; its member has entered the share, and not left it
+abbrev pub TakesNext : Deal → Event → List Event → Type 0
+TakesNext deal (Take share m low high) earlier =
+    (shape : Shape)
+    × Happened (Enter share m shape) earlier
+    × (Happened (End share m) earlier → ⊥)
+    × (next_for deal shape share m earlier ≡ Some (low, high))
+TakesNext deal _ earlier = Unit {0}
+
+-- it has iterations of its share, at least one
+abbrev pub TakesWithin : Event → List Event → Type 0
+TakesWithin (Take share m low high) earlier = (shape : Shape) × Happened (Enter share m shape) earlier × (low < high) × (high ≤ shape.trips)
+TakesWithin _ earlier = Unit {0}
+
+-- a member leaves a share only where nothing is left there for it
+abbrev pub LeavesNothing : Deal → Event → List Event → Type 0
+LeavesNothing deal (End share m) earlier = (shape : Shape) → Happened (Enter share m shape) earlier → next_for deal shape share m earlier ≡ None
+LeavesNothing deal _ earlier = Unit {0}
+
+-- Taken once (OpenMP API 5.2, section 11.5: each iteration is executed once).
+pub record TakenOnce (deal : Deal) (h : List Event) : Type 0 where
+  -- of the takes of a share at most one has the iteration k
+  pub once : (share k : ℕ) → times_taken share k h ≤ 1
+  -- each take is a piece of its share, between its member's entry and end
+  pub pieces : Always (TakesNext deal) h
+  -- of iterations that the share has
+  pub within : Always TakesWithin h
+  -- its member leaves the share when nothing is left for it, and not before
+  pub left : Always (LeavesNothing deal) h
+  -- the takes from a queue are its pieces 0, 1, 2 and on
+  pub order : (share m q : ℕ) (shape : Shape) → Happened (Enter share m shape) h → takes_in (deal.queue_of shape) share q h ≡ take (taken_in (deal.queue_of shape) share q h) (deal.queue shape q)
+
+-- Own pieces (OpenMP API 5.2, section 11.5.3): the pieces of a static loop are assigned to the members in turn, and a member takes only those whose numbers count round to it.
+abbrev pub TakesItsOwn : ℕ → Event → List Event → Type 0
+TakesItsOwn members (Take share m low high) earlier =
+    (shape : Shape) → Happened (Enter share m shape) earlier → is_static shape.kind ≡ true → (number : ℕ) × (slice_get (pieces_of members shape) number ≡ Some (low, high)) × (number % members ≡ m)
+TakesItsOwn members _ earlier = Unit {0}
+
+-- Whole: a share that every member has left had each of its iterations taken, once.
+abbrev pub WholeWhereOver : ℕ → List Event → Type 0
+WholeWhereOver members h =
+    (share m : ℕ) (shape : Shape) → Happened (Enter share m shape) h → IsOver members share h → (k : ℕ) → k < shape.trips → times_taken share k h ≡ 1
+
+-- a member of the team enters its shares one by one, by their numbers, each after it has left those before
+abbrev pub EntersOneByOne : ℕ → Event → List Event → Type 0
+EntersOneByOne members (Enter share m shape) earlier =
+    (m < members)
+    × (share ≡ entered m earlier)
+    × ((before : ℕ) (other : Shape) → Happened (Enter before m other) earlier → Happened (End before m) earlier)
+EntersOneByOne members _ earlier = Unit {0}
+
+-- it leaves a share that it has entered, and not left before
+abbrev pub EndsInside : Event → List Event → Type 0
+EndsInside (End share m) earlier = (shape : Shape) × Happened (Enter share m shape) earlier × (Happened (End share m) earlier → ⊥)
+EndsInside _ earlier = Unit {0}
+
+-- a share is entered only where the one eight before it is over (own)
+abbrev pub EntersWithRoom : ℕ → Event → List Event → Type 0
+EntersWithRoom members (Enter share m shape) earlier = (old : ℕ) → share ≡ old + 8 → IsOver members old earlier
+EntersWithRoom members _ earlier = Unit {0}
+
+-- Same shares (OpenMP API 5.2, chapter 11: every member meets the same work-shares in the same order).
+pub record SameShares (members : ℕ) (h : List Event) : Type 0 where
+  -- a member goes through them one by one
+  pub one_by_one : Always (EntersOneByOne members) h
+  pub ends : Always EndsInside h
+  -- the members' i-th shares are of one shape
+  pub shapes : (share m n : ℕ) (one other : Shape) → Happened (Enter share m one) h → Happened (Enter share n other) h → one ≡ other
+  -- and no more than eight are open
+  pub room : Always (EntersWithRoom members) h
+
+-- Ordered (OpenMP API 5.2, section 15.10.2): ordered parts of a loop begin in the order of their iterations.
+abbrev pub PartsRise : Event → List Event → Type 0
+PartsRise (Part share m iteration) earlier = (n other : ℕ) → Happened (Part share n other) earlier → other < iteration
+PartsRise _ earlier = Unit {0}
+
+-- a part lies in the piece of an ordered loop that its member took last, and every piece before that one was handed on: its number is that of the turn
+abbrev pub PartsInTurn : ℕ → Event → List Event → Type 0
+PartsInTurn members (Part share m iteration) earlier =
+    (shape : Shape) × (low high : ℕ)
+    × (shape.ordered ≡ true)
+    × Happened (Enter share m shape) earlier
+    × Happened (Take share m low high) earlier
+    × (Happened (End share m) earlier → ⊥)
+    × (last_piece m earlier ≡ Some (low, high))
+    × (low ≤ iteration)
+    × (iteration < high)
+    × (slice_get (pieces_of members shape) (turn share earlier) ≡ Some (low, high))
+PartsInTurn members _ earlier = Unit {0}
+
+-- the pieces of an ordered loop are handed on in order, each by the member whose last piece it is
+abbrev pub HandsOnInTurn : ℕ → Event → List Event → Type 0
+HandsOnInTurn members (HandOn share m piece) earlier =
+    (shape : Shape) × (low high : ℕ)
+    × (shape.ordered ≡ true)
+    × Happened (Enter share m shape) earlier
+    × (Happened (End share m) earlier → ⊥)
+    × (last_piece m earlier ≡ Some (low, high))
+    × (piece ≡ turn share earlier)
+    × (slice_get (pieces_of members shape) piece ≡ Some (low, high))
+HandsOnInTurn members _ earlier = Unit {0}
+
+-- no part of a loop begins and no piece is handed on while a part is open; the open one is ended by its member, which does not leave the loop before
+abbrev pub PartsApart : Event → List Event → Type 0
+PartsApart (Part share m iteration) earlier = open_part share earlier ≡ None
+PartsApart (PartEnd share m) earlier = open_part share earlier ≡ Some m
+PartsApart (HandOn share m piece) earlier = open_part share earlier ≡ None
+PartsApart (End share m) earlier = open_part share earlier ≡ Some m → ⊥
+PartsApart _ earlier = Unit {0}
+
+-- what the ordered parts keep
+pub record OrderedLaws (members : ℕ) (h : List Event) : Type 0 where
+  pub rise : Always PartsRise h
+  pub in_turn : Always (PartsInTurn members) h
+  pub handed_on : Always (HandsOnInTurn members) h
+  pub apart : Always PartsApart h
+
+-- what the work-shares alone keep, however they are kept
+pub record ShareLaws (deal : Deal) (members : ℕ) (h : List Event) : Type 0 where
+  pub taken_once : TakenOnce deal h
+  pub whole : WholeWhereOver members h
+  pub same_shares : SameShares members h

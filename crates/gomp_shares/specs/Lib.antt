@@ -1,0 +1,12 @@
+pub mod Calls
+pub mod Examples
+pub mod Laws
+pub mod Loops
+pub mod Only
+pub mod OrderedParts
+pub mod Own
+pub mod Rules
+pub mod Runs
+pub mod Sections
+pub mod Singles
+pub mod Starts

@@ -1,0 +1,91 @@
+-- Loops: what a call on one is tested for, answered and gives. OpenMP API 5.2, section 11.5.
+use Rattle.std.specs.Prelude.{ℕ, ℤ, ◌+◌, not, ◌≡◌, if◌then◌else◌, true, false, List, [], ◌∷◌, ◌++◌, Option, Some, None}
+use Rattle.gomp_types.specs.declared.loop_desc.EndKind.{EndKind}
+use Rattle.gomp_types.specs.declared.refusal.Refusal.TheVariants.{OutsideShare, InOrdered, EndDiffers, NotDrained, Drained as DrainedAlready}
+use Rattle.gomp_types.specs.declared.reply.Reply.{Reply}
+use Rattle.gomp_types.specs.declared.reply.Reply.TheVariants.{Chunk, NoChunk, Finished, Wait}
+use Rattle.gomp_types.specs.declared.shape.Shape.{Shape}
+use Rattle.gomp_types.specs.declared.seen.Seen.{Seen}
+use Rattle.gomp_types.specs.declared.event.Event.{Event}
+use Rattle.gomp_types.specs.declared.event.Event.TheVariants.{Take, Drained, HandOn}
+use Rattle.gomp_types.specs.Tests.{Test}
+use Rattle.gomp_types.specs.Values.{value_at, iteration_at}
+use Rattle.gomp_types.specs.Pieces.{Piece, shape_of}
+use Rattle.gomp_types.specs.Shapes.{is_loop}
+use Rattle.gomp_types.specs.Compare.{end_differs}
+use Rattle.gomp_types.specs.Deals.{schedule, next_for}
+use Rattle.gomp_types.specs.Events.{in_kind, open_share, turn}
+use Rattle.gomp_types.specs.Ordered.{must_wait}
+use Rattle.gomp_types.specs.declared.limits.Limits.{Limits}
+use Rattle.gomp_types.specs.declared.loop_desc.LoopDesc.{LoopDesc}
+use Rattle.gomp_types.specs.Least.{Answers}
+use Rattle.gomp_types.specs.Seen.{seen_of}
+use Rattle.gomp_types.specs.Iterations.{loop_tests}
+use Rattle.gomp_shares.specs.Starts.{AnswersStart, entry_and}
+
+-- a piece is answered by its first iteration's value and its length
+abbrev pub IsChunk : Shape → Option Piece → ℤ → ℕ → Type 0
+IsChunk shape None first count = ⊥
+IsChunk shape (Some piece) first count = (first ≡ value_at shape piece.0) × (piece.0 + count ≡ piece.1)
+
+-- the answer to a member that asks for iterations: the least piece that nobody took of those of its share that are its to take, none where there is none
+abbrev pub DealsOut : ℕ → ℕ → Option (ℕ × Shape) → Reply → List Event → Type 0
+DealsOut members m None reply h = ⊥
+DealsOut members m (Some share) (Chunk first count) h = IsChunk share.1 (next_for (schedule members) share.1 share.0 m h) first count
+DealsOut members m (Some share) NoChunk h = next_for (schedule members) share.1 share.0 m h ≡ None
+DealsOut members m (Some share) _ h = ⊥
+
+-- of an ordered loop it waits for the turn, to hand its piece on
+abbrev pub DealsNext : ℕ → ℕ → Option (ℕ × Shape) → Reply → List Event → Type 0
+DealsNext members m None reply h = ⊥
+DealsNext members m (Some share) Wait h = must_wait members share m h ≡ true
+DealsNext members m (Some share) reply h = (must_wait members share m h ≡ false) × DealsOut members m (Some share) reply h
+
+-- what a piece gives, or that there is none
+abbrev pub piece_given : ℕ → Shape → ℕ → Reply → List Event
+piece_given share shape m (Chunk first count) = Take share m (iteration_at shape first) (iteration_at shape first + count) ∷ []
+piece_given share shape m NoChunk = Drained share m ∷ []
+piece_given share shape m _ = []
+
+-- a piece of an ordered loop is handed on, by its number
+abbrev pub handed_on : ℕ × Shape → ℕ → List Event → List Event
+handed_on share m h = if share.1.ordered then HandOn share.0 m (turn share.0 h) ∷ [] else []
+
+-- the member's piece of an ordered loop is handed on before it asks for the next
+abbrev pub next_given : Option (ℕ × Shape) → ℕ → List Event → Reply → List Event
+next_given None m h reply = []
+next_given (Some share) m h (Chunk first count) = piece_given share.0 share.1 m (Chunk first count) ++ handed_on share m h
+next_given (Some share) m h NoChunk = piece_given share.0 share.1 m NoChunk ++ handed_on share m h
+next_given (Some share) m h _ = []
+
+-- the next piece
+abbrev pub next_tests : Seen → List Test
+next_tests seen = (not (in_kind is_loop seen.current), OutsideShare) ∷ (seen.in_part, InOrdered) ∷ (seen.drained, DrainedAlready) ∷ []
+
+-- the end, by the call for this end kind
+abbrev pub end_tests : EndKind → Seen → List Test
+end_tests kind seen =
+    (not (in_kind is_loop seen.current), OutsideShare)
+    ∷ (seen.in_part, InOrdered)
+    ∷ (end_differs kind seen.current, EndDiffers)
+    ∷ (not seen.drained, NotDrained)
+    ∷ []
+
+-- The answers, and the events after them
+
+abbrev pub AnswersLoopStart : LoopDesc → Limits → ℕ → ℕ → Reply → List Event → Type 0
+AnswersLoopStart loop limits members m reply h = AnswersStart (loop_tests loop) (shape_of loop) DealsOut limits members m reply h
+
+abbrev pub loop_started : LoopDesc → ℕ → Reply → List Event → List Event
+loop_started loop m reply h = entry_and piece_given (shape_of loop) m h reply ++ h
+
+abbrev pub AnswersLoopNext : ℕ → ℕ → Reply → List Event → Type 0
+AnswersLoopNext members m reply h =
+    Answers (next_tests (seen_of m h)) (λ given. DealsNext members m (open_share m h) given h) reply
+
+abbrev pub loop_next_taken : ℕ → Reply → List Event → List Event
+loop_next_taken m reply h = next_given (open_share m h) m h reply ++ h
+
+-- of the end by this call
+abbrev pub AnswersLoopEnd : EndKind → ℕ → Reply → List Event → Type 0
+AnswersLoopEnd kind m reply h = Answers (end_tests kind (seen_of m h)) (λ given. given ≡ Finished) reply

@@ -1,0 +1,77 @@
+-- When an event of the work-shares may happen, given the events before it: a rule for each kind of event. (own)
+use Rattle.std.specs.Prelude.{ℕ, pos, ◌<◌, ◌≤◌, ◌≡◌, ◌≢◌, true, false, List, Some, None}
+use Rattle.gomp_types.specs.declared.shape.Shape.{Shape}
+use Rattle.gomp_types.specs.declared.event.Event.{Event}
+use Rattle.gomp_types.specs.declared.event.Event.TheVariants.{Enter, Take, Drained, End, HandOn, Part, PartEnd}
+use Rattle.gomp_types.specs.Shapes.{is_loop}
+use Rattle.gomp_types.specs.Events.{entered, open_share, last_piece, turn, next_part, in_part, shape_at, has_room}
+use Rattle.gomp_types.specs.Pieces.{Tiles, pieces_of}
+use Rattle.gomp_types.specs.Ordered.{has_turn}
+use Rattle.gomp_types.specs.Deals.{Deal, IsDealt, next_for}
+
+-- a member of the team that is in no share enters its next one: all that entered it before did so in this shape, and the one eight before it is over; the shape is that of a construct: fairly dealt out, in pieces that lead from its first iteration to its last, with a step that leads on
+pub record MayEnter (deal : Deal) (members share m : ℕ) (shape : Shape) (earlier : List Event) : Type 0 where
+  pub member : m < members
+  pub number : share ≡ entered m earlier
+  pub outside : open_share m earlier ≡ None
+  pub dealt : IsDealt deal members shape
+  pub tiles : Tiles 0 (pieces_of members shape) shape.trips
+  pub moves : shape.incr ≢ pos 0
+  -- only a loop is ordered
+  pub ordered : shape.ordered ≡ true → is_loop shape.kind ≡ true
+  pub same : (other : Shape) → shape_at share earlier ≡ Some other → other ≡ shape
+  pub room : has_room members share earlier ≡ true
+
+-- a member takes the next piece of the share that it is in
+pub record MayTake (deal : Deal) (share m low high : ℕ) (earlier : List Event) : Type 0 where
+  pub shape : Shape
+  pub inside : open_share m earlier ≡ Some (share, shape)
+  pub next : next_for deal shape share m earlier ≡ Some (low, high)
+  pub apart : in_part m earlier ≡ false
+
+-- nothing is left for a member of the share that it is in: it may be told so, and it may leave, whether it was told or not
+pub record HasNone (deal : Deal) (share m : ℕ) (earlier : List Event) : Type 0 where
+  pub shape : Shape
+  pub inside : open_share m earlier ≡ Some (share, shape)
+  pub none : next_for deal shape share m earlier ≡ None
+  pub apart : in_part m earlier ≡ false
+
+-- a member hands its piece of an ordered loop on: it is the next one that is handed on, and no part of it is open
+pub record MayHandOn (members share m piece : ℕ) (earlier : List Event) : Type 0 where
+  pub shape : Shape
+  pub inside : open_share m earlier ≡ Some (share, shape)
+  pub ordered : shape.ordered ≡ true
+  pub apart : in_part m earlier ≡ false
+  pub number : piece ≡ turn share earlier
+  pub next : has_turn members (share, shape) m earlier ≡ true
+
+-- a member begins the ordered part of an iteration of its piece, after those whose parts it has begun, where every piece before its own was handed on
+pub record MayPart (members share m iteration : ℕ) (earlier : List Event) : Type 0 where
+  pub shape : Shape
+  pub inside : open_share m earlier ≡ Some (share, shape)
+  pub ordered : shape.ordered ≡ true
+  pub apart : in_part m earlier ≡ false
+  pub next : has_turn members (share, shape) m earlier ≡ true
+  pub low : ℕ
+  pub high : ℕ
+  pub piece : last_piece m earlier ≡ Some (low, high)
+  pub from : low ≤ iteration
+  pub before : iteration < high
+  pub after : next_part m earlier ≤ iteration
+
+-- and it ends the part that it is in
+pub record MayEndPart (share m : ℕ) (earlier : List Event) : Type 0 where
+  pub shape : Shape
+  pub inside : open_share m earlier ≡ Some (share, shape)
+  pub within : in_part m earlier ≡ true
+
+-- the rule of the work-shares alone
+abbrev pub ShareRule : Deal → ℕ → Event → List Event → Type 0
+ShareRule deal members (Enter share m shape) earlier = MayEnter deal members share m shape earlier
+ShareRule deal members (Take share m low high) earlier = MayTake deal share m low high earlier
+ShareRule deal members (Drained share m) earlier = HasNone deal share m earlier
+ShareRule deal members (End share m) earlier = HasNone deal share m earlier
+ShareRule deal members (HandOn share m piece) earlier = MayHandOn members share m piece earlier
+ShareRule deal members (Part share m iteration) earlier = MayPart members share m iteration earlier
+ShareRule deal members (PartEnd share m) earlier = MayEndPart share m earlier
+ShareRule deal members _ earlier = Unit {0}

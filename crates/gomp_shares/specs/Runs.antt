@@ -1,0 +1,80 @@
+-- A list of calls on a team's work-shares, with their answers: the events that they give. (own)
+use Rattle.std.specs.Prelude.{ℕ, ◌≡◌, ◌&&◌, nat_lt, not, is_some, is_none, Bool, true, false, List, [], ◌∷◌, Some}
+use Rattle.gomp_types.specs.declared.event.Event.{Event}
+use Rattle.gomp_types.specs.Tests.{Test, first_refusal}
+use Rattle.gomp_types.specs.Iterations.{loop_tests}
+use Rattle.gomp_types.specs.Pieces.{shape_of}
+use Rattle.gomp_types.specs.Sections.{sections_shape, sections_tests}
+use Rattle.gomp_types.specs.Singles.{single_shape}
+use Rattle.gomp_types.specs.Ordered.{is_ordered, is_in_rest}
+use Rattle.gomp_types.specs.declared.seen.Seen.{Seen}
+use Rattle.gomp_shares.specs.declared.calls.ShareCall.{ShareCall}
+use Rattle.gomp_shares.specs.declared.calls.ShareCall.TheVariants.{Open, OpenSections, OpenSingle, Claim, Leave, Begin, EndPart, HandOn}
+use Rattle.gomp_shares.specs.declared.calls.ShareStep.{ShareStep}
+use Rattle.gomp_shares.specs.declared.calls.ShareAnswer.{ShareAnswer}
+use Rattle.gomp_shares.specs.declared.calls.ShareAnswer.TheVariants.{Opened, Claimed, Left, Turned, Ended, NotMade}
+use Rattle.gomp_types.specs.Seen.{seen_of}
+use Rattle.gomp_shares.specs.Calls.{most_shares, is_done, MayOpen, opened, Claims, claimed, left, own_turn, part_begun, part_ended, piece_handed}
+
+-- whether a member that sees this of its place may open its next share, where these are the tests of the construct by itself
+abbrev pub may_open : Seen → List Test → Bool
+may_open seen tests = is_none seen.current && nat_lt seen.entered most_shares && is_none (first_refusal tests)
+
+-- whether it may make the call
+abbrev pub may_make : Seen → ShareCall → Bool
+may_make seen (Open loop) = may_open seen (loop_tests loop)
+may_make seen (OpenSections count end_kind) = may_open seen (sections_tests count)
+may_make seen (OpenSingle copies) = may_open seen []
+may_make seen Claim = is_some seen.current && not seen.drained && not seen.in_part
+may_make seen Leave = is_some seen.current && is_done seen && not seen.in_part
+may_make seen (Begin iteration) = is_ordered seen.current && not seen.in_part && is_in_rest seen.piece seen.next_part (Some iteration)
+may_make seen EndPart = seen.in_part
+may_make seen HandOn = is_ordered seen.current && not seen.in_part
+
+-- a call is made exactly where its member is in the team and may make it
+abbrev pub is_made : ℕ → ShareStep → List Event → Bool
+is_made members step h = nat_lt step.member members && may_make (seen_of step.member h) step.call
+
+-- the answer to a call that is made
+abbrev pub Answers : ℕ → ℕ → ShareCall → ShareAnswer → List Event → Type 0
+Answers members m (Open loop) (Opened opening) h = MayOpen members m (shape_of loop) opening h
+Answers members m (OpenSections count end_kind) (Opened opening) h = MayOpen members m (sections_shape count end_kind) opening h
+Answers members m (OpenSingle copies) (Opened opening) h = MayOpen members m (single_shape copies) opening h
+Answers members m Claim (Claimed piece) h = Claims members m piece h
+Answers members m Leave Left h = Unit {0}
+Answers members m (Begin iteration) (Turned begun) h = begun ≡ own_turn members m h
+Answers members m EndPart Ended h = Unit {0}
+Answers members m HandOn (Turned handed) h = handed ≡ own_turn members m h
+Answers members m _ _ h = ⊥
+
+abbrev pub IsAnswer : ℕ → ShareStep → ShareAnswer → List Event → Type 0
+IsAnswer members step NotMade h = is_made members step h ≡ false
+IsAnswer members step answer h = (is_made members step h ≡ true) × Answers members step.member step.call answer h
+
+-- the events after a call and its answer
+abbrev pub answered_call : ℕ → ShareAnswer → ShareCall → List Event → List Event
+answered_call m NotMade call h = h
+answered_call m (Opened opening) (Open loop) h = opened m (shape_of loop) opening h
+answered_call m (Opened opening) (OpenSections count end_kind) h = opened m (sections_shape count end_kind) opening h
+answered_call m (Opened opening) (OpenSingle copies) h = opened m (single_shape copies) opening h
+answered_call m (Claimed piece) call h = claimed m piece h
+answered_call m Left call h = left m h
+answered_call m (Turned begun) (Begin iteration) h = part_begun m iteration begun h
+answered_call m (Turned handed) HandOn h = piece_handed m handed h
+answered_call m Ended call h = part_ended m h
+answered_call m _ _ h = h
+
+abbrev pub answered : ShareStep → ShareAnswer → List Event → List Event
+answered step answer h = answered_call step.member answer step.call h
+
+-- the events after these calls and answers, in order
+abbrev pub events_after : List ShareStep → List ShareAnswer → List Event → List Event
+events_after [] answers h = h
+events_after (step ∷ steps) [] h = h
+events_after (step ∷ steps) (answer ∷ answers) h = events_after steps answers (answered step answer h)
+
+-- each answer is that of its call, after those before it
+abbrev pub AreAnswers : ℕ → List ShareStep → List ShareAnswer → List Event → Type 0
+AreAnswers members [] answers h = Unit {0}
+AreAnswers members (step ∷ steps) [] h = ⊥
+AreAnswers members (step ∷ steps) (answer ∷ answers) h = IsAnswer members step answer h × AreAnswers members steps answers (answered step answer h)

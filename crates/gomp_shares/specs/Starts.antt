@@ -1,0 +1,66 @@
+-- What the constructs that are shares have in common: how one is started. OpenMP API 5.2, chapter 11.
+use Rattle.std.specs.Prelude.{◌⊎◌, ℕ, nat_le, ◌≡◌, is_some, true, false, List, [], ◌∷◌, ◌++◌, Option, Some}
+use Rattle.gomp_types.specs.declared.limits.Limits.{Limits}
+use Rattle.gomp_types.specs.declared.refusal.Refusal.TheVariants.{InsideShare, TooManyShares, Mismatch}
+use Rattle.gomp_types.specs.declared.reply.Reply.{Reply}
+use Rattle.gomp_types.specs.declared.reply.Reply.TheVariants.{Wait, Finished}
+use Rattle.gomp_types.specs.declared.shape.Shape.{Shape}
+use Rattle.gomp_types.specs.declared.seen.Seen.{Seen}
+use Rattle.gomp_types.specs.declared.event.Event.{Event}
+use Rattle.gomp_types.specs.declared.event.Event.TheVariants.{Enter, End}
+use Rattle.gomp_types.specs.Tests.{Test}
+use Rattle.gomp_types.specs.Compare.{shape_differs}
+use Rattle.gomp_types.specs.Events.{entered, open_number, has_room, shape_at}
+use Rattle.gomp_types.specs.Seen.{seen_of}
+use Rattle.gomp_types.specs.Least.{Answers}
+
+-- how a member's share answers it: of how many members, which member, the share
+abbrev pub Deals : Type 1
+Deals = ℕ → ℕ → Option (ℕ × Shape) → Reply → List Event → Type 0
+
+-- a start waits until there is room, and then asks for iterations or sections
+abbrev pub Starts : Deals → ℕ → ℕ → Shape → Reply → List Event → Type 0
+Starts deals members m shape Wait h =
+    (has_room members (entered m h) h ≡ false) ⊎ ((has_room members (entered m h) h ≡ true) × deals members m (Some (entered m h, shape)) Wait h)
+Starts deals members m shape reply h = (has_room members (entered m h) h ≡ true) × deals members m (Some (entered m h, shape)) reply h
+
+-- the construct is compared with the team's share of the same number
+abbrev pub compared_share : Shape → ℕ → List Event → List Test
+compared_share shape m h = (shape_differs shape (shape_at (entered m h) h), Mismatch) ∷ []
+
+-- the tests of a start whose construct has these of its own
+abbrev pub start_tests : List Test → Limits → Seen → List Test
+start_tests own limits seen = (is_some seen.current, InsideShare) ∷ own ++ (nat_le limits.shares seen.entered, TooManyShares) ∷ []
+
+-- all that a start is tested for among the shares
+abbrev pub share_tests : List Test → Shape → Limits → ℕ → List Event → List Test
+share_tests own shape limits m h = start_tests own limits (seen_of m h) ++ compared_share shape m h
+
+-- these events after a first one; none where there are none
+abbrev pub behind : Event → List Event → List Event
+behind first [] = []
+behind first (event ∷ events) = (event ∷ events) ++ (first ∷ [])
+
+-- a start gives its entry and then what the first piece gives
+abbrev pub entry_and : (ℕ → Shape → ℕ → Reply → List Event) → Shape → ℕ → List Event → Reply → List Event
+entry_and Given shape m h reply = behind (Enter (entered m h) m shape) (Given (entered m h) shape m reply)
+
+-- the events of a call that is done at once; none where it is refused
+abbrev pub done_given : List Event → Reply → List Event
+done_given events Finished = events
+done_given events _ = []
+
+-- the answer to a call that starts a share, whose construct has these tests of its own, this shape, and is dealt out so
+abbrev pub AnswersStart : List Test → Shape → Deals → Limits → ℕ → ℕ → Reply → List Event → Type 0
+AnswersStart own shape deals limits members m reply h =
+    Answers (share_tests own shape limits m h) (λ given. Starts deals members m shape given h) reply
+
+-- Ends
+
+-- the member's share is left
+abbrev pub leaves : ℕ → List Event → List Event
+leaves m h = End (open_number m h) m ∷ []
+
+-- the events after an end with no barrier
+abbrev pub left_at_once : ℕ → Reply → List Event → List Event
+left_at_once m reply h = done_given (leaves m h) reply ++ h

@@ -1,0 +1,46 @@
+-- When a member may arrive at a barrier and pass it, and the laws of arrivals. OpenMP API 5.2, section 15.3.
+use Rattle.std.specs.Prelude.{ℕ, ◌<◌, ◌≡◌, true, List, Some}
+use Rattle.gomp_types.specs.declared.event.Tag.{Tag}
+use Rattle.gomp_types.specs.declared.event.Event.{Event}
+use Rattle.gomp_types.specs.declared.event.Event.TheVariants.{Arrive, Pass}
+use Rattle.gomp_types.specs.Events.{passed, tag_at, barrier_met}
+use Rattle.gomp_types.specs.Laws.{Always, Happened}
+
+-- a member arrives at its next barrier, with the tag of all that arrived there before
+pub record MayArrive (barrier m : ℕ) (tag : Tag) (earlier : List Event) : Type 0 where
+  pub number : barrier ≡ passed m earlier
+  pub same : (other : Tag) → tag_at barrier earlier ≡ Some other → other ≡ tag
+
+-- a member passes its next barrier where every member has arrived
+pub record MayPass (members barrier m : ℕ) (earlier : List Event) : Type 0 where
+  pub number : barrier ≡ passed m earlier
+  pub met : barrier_met members barrier earlier ≡ true
+
+-- the rule of the arrivals alone
+abbrev pub ArrivalRule : ℕ → Event → List Event → Type 0
+ArrivalRule members (Arrive barrier m tag) earlier = MayArrive barrier m tag earlier
+ArrivalRule members (Pass barrier m) earlier = MayPass members barrier m earlier
+ArrivalRule members _ earlier = Unit {0}
+
+-- a member arrives at and passes its barriers one by one, by their numbers
+abbrev pub BarriersOneByOne : Event → List Event → Type 0
+BarriersOneByOne (Arrive barrier m tag) earlier = barrier ≡ passed m earlier
+BarriersOneByOne (Pass barrier m) earlier = barrier ≡ passed m earlier
+BarriersOneByOne _ earlier = Unit {0}
+
+-- Same arrivals (OpenMP API 5.2, section 15.3: every member meets the same barriers in the same order).
+pub record SameArrivals (h : List Event) : Type 0 where
+  -- a member goes through them one by one
+  pub one_by_one : Always BarriersOneByOne h
+  -- and all members arrive at a barrier with one tag
+  pub tags : (barrier m n : ℕ) (one other : Tag) → Happened (Arrive barrier m one) h → Happened (Arrive barrier n other) h → one ≡ other
+
+-- Barrier law (OpenMP API 5.2, section 15.3.1): a member passes a barrier only where every member has arrived.
+abbrev pub PassesAfterAll : ℕ → Event → List Event → Type 0
+PassesAfterAll members (Pass barrier m) earlier = (x : ℕ) → x < members → (tag : Tag) × Happened (Arrive barrier x tag) earlier
+PassesAfterAll members _ earlier = Unit {0}
+
+-- what the arrivals alone keep, however they are kept
+pub record ArrivalLaws (members : ℕ) (h : List Event) : Type 0 where
+  pub same_arrivals : SameArrivals h
+  pub passes : Always (PassesAfterAll members) h
