@@ -8,9 +8,10 @@ use Rattle.gomp_types.specs.declared.event.Event.{Event}
 use Rattle.gomp_types.specs.declared.event.Event.TheVariants.{Enter, Take, Drained, End, HandOn, Part, PartEnd, Put, Got, Arrive, Pass, Break}
 use Rattle.gomp_types.specs.Singles.{single_shape}
 use Rattle.gomp_types.specs.Shapes.{is_loop}
+use Rattle.gomp_types.specs.Pieces.{Piece}
 use Rattle.gomp_types.specs.Values.{value_at, iteration_of}
 use Rattle.gomp_types.specs.Events.{every_member, member_of, entered, open_share, is_inside, open_number, has_drained, last_piece, in_kind, shape_at, has_ended, is_over, has_room, has_iteration, times_taken, turn, holds_piece, next_part, in_part, open_part, payload_at, has_piece, has_words, passed, arrival, tag_at, barrier_met, has_left_region, clash_of}
-use Rattle.gomp_types.specs.Ordered.{same_piece, has_turn, is_ordered, must_wait, is_in_rest, comes_next}
+use Rattle.gomp_types.specs.Ordered.{same_piece, has_turn, number_of_piece, last_number, is_ordered, must_wait, is_in_rest, comes_next}
 use Rattle.gomp_types.specs.EventLists.{newest_first, four, wider, at}
 
 -- after these events, the oldest first
@@ -137,11 +138,28 @@ pub open_part_of_a_loop :
     × (open_part 0 (after (Part 0 1 0 ∷ PartEnd 0 1 ∷ [])) ≡ None)
 open_part_of_a_loop = (refl, refl, refl)
 
+-- the pieces of a loop of six iterations
+abbrev three : List Piece
+three = (0, 2) ∷ (2, 3) ∷ (3, 6) ∷ []
+
 -- two pieces are one where both ends are
 pub pieces_that_are_one :
     (same_piece (Some (0, 2)) (Some (0, 2)) ≡ true) × (same_piece (Some (0, 2)) (Some (0, 3)) ≡ false) × (same_piece (Some (0, 2)) (Some (1, 2)) ≡ false)
     × (same_piece None (Some (0, 2)) ≡ false) × (same_piece (Some (0, 2)) None ≡ false) × (same_piece None None ≡ false)
 pieces_that_are_one = (refl, refl, refl, refl, refl, refl)
+
+-- the number of the first piece of a list, the second and the last; all stand before none, and before a piece that is not in the list
+pub numbers_of_pieces :
+    (number_of_piece three (Some (0, 2)) ≡ 0) × (number_of_piece three (Some (2, 3)) ≡ 1) × (number_of_piece three (Some (3, 6)) ≡ 2)
+    × (number_of_piece three None ≡ 3) × (number_of_piece three (Some (2, 6)) ≡ 3) × (number_of_piece three (Some (1, 3)) ≡ 3) × (number_of_piece [] (Some (0, 2)) ≡ 0)
+numbers_of_pieces = (refl, refl, refl, refl, refl, refl, refl)
+
+-- and that of a member's last piece, whatever was handed on, and whatever another member took
+pub number_of_the_last :
+    (last_number 2 (0, four true) 0 (after (Take 0 0 0 2 ∷ HandOn 0 1 1 ∷ [])) ≡ 0) × (last_number 2 (0, four true) 0 (after (Take 0 0 2 4 ∷ Take 0 1 0 2 ∷ [])) ≡ 1)
+    × (last_number 2 (0, four true) 0 (after (Take 0 0 0 2 ∷ HandOn 0 0 0 ∷ Take 0 0 2 4 ∷ [])) ≡ 1)
+    × (last_number 2 (0, four true) 0 (after (Take 0 1 0 2 ∷ [])) ≡ 2) × (last_number 2 (0, four true) 0 (after (Take 0 0 1 4 ∷ [])) ≡ 2)
+number_of_the_last = (refl, refl, refl, refl, refl)
 
 -- a member has the turn with the first piece that was not handed on, and waits without it, in an ordered loop alone
 pub turn_of_a_member :

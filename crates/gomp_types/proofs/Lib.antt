@@ -10,6 +10,7 @@ pub mod IterationValues
 pub mod LeastExamples
 pub mod LeastTests
 pub mod Lists
+pub mod Numbering
 pub mod Owned
 pub mod RefusalExamples
 pub mod ShapeExamples

@@ -4,6 +4,7 @@ use Rattle.std.proofs.Common.{zero, suc}
 use Rattle.gomp_types.specs.declared.shape.Shape.{Shape}
 use Rattle.gomp_types.specs.declared.shape.ShareKind.{ShareKind}
 use Rattle.gomp_types.specs.declared.refusal.Clash.{Clash}
+use Rattle.gomp_types.specs.declared.limits.TheConstants.{OPEN_SHARES}
 use Rattle.gomp_types.specs.declared.event.Arrival.{Arrival}
 use Rattle.gomp_types.specs.declared.event.Arrival.TheVariants.{RegionEnd}
 use Rattle.gomp_types.specs.declared.event.Tag.{Tag}
@@ -94,9 +95,9 @@ has_ended share m (_ ∷ earlier) = has_ended share m earlier
 abbrev pub is_over : ℕ → ℕ → List Event → Bool
 is_over members share h = every_member members (λ m. has_ended share m h)
 
--- whether the share can be opened: the one eight before it, if there is one, is over (own)
+-- whether the share can be opened: the one `OPEN_SHARES` before it, if there is one, is over (own)
 abbrev pub has_room : ℕ → ℕ → List Event → Bool
-has_room members share h = nat_lt share 8 || is_over members (share - 8) h
+has_room members share h = nat_lt share OPEN_SHARES || is_over members (share - OPEN_SHARES) h
 
 -- whether the piece from `low` on, `high` excluded, has the iteration
 abbrev pub has_iteration : ℕ → ℕ → ℕ → Bool
