@@ -6,7 +6,7 @@ use Rattle.gomp_types.specs.declared.shape.Shape.{Shape}
 use Rattle.gomp_types.specs.declared.event.Event.{Event}
 use Rattle.gomp_types.specs.Pieces.{Piece}
 use Rattle.gomp_types.specs.Shapes.{is_single}
-use Rattle.gomp_types.specs.Events.{entered, open_share, open_number, share_number, has_drained, last_piece, has_iteration, turn, next_part, in_kind, is_inside, shape_at}
+use Rattle.gomp_types.specs.Events.{entered, open_share, open_number, share_number, has_drained, last_piece, has_iteration, next_part, in_kind, is_inside, shape_at}
 use Rattle.gomp_types.specs.Ordered.{is_ordered, is_in_rest}
 use Rattle.gomp_types.specs.Deals.{schedule, next_for}
 use Rattle.gomp_types.specs.Laws.{Always}
@@ -19,7 +19,7 @@ use Rattle.gomp_shares.proofs.SharesKeep.{drained_none}
 use Rattle.gomp_shares.proofs.SinglesKeep.{single_is_done}
 use Rattle.gomp_shares.proofs.PartsKeep.{part_inside}
 use Rattle.gomp_shares.specs.declared.Opening.TheVariants.{Entered}
-use Rattle.gomp_shares.specs.Calls.{CanOpen, MayOpen, CanClaim, Claims, CanLeave, is_done, CanBeginPart, CanEndPart, CanHandOn, own_turn}
+use Rattle.gomp_shares.specs.Calls.{CanOpen, MayOpen, CanClaim, Claims, CanLeave, is_done, CanBeginPart, CanEndPart, CanHandOn, own_turn, number_in}
 
 -- Entering, taking and leaving
 
@@ -125,7 +125,7 @@ part_end_rule members m h rule can =
     rw number (record { shape = shape; inside = there; within = can.within })
 
 -- and one that has the turn may hand its piece on
-pub hand_on_rule : (members m : ℕ) (h : List Event) → CanHandOn members m (seen_of m h) → own_turn members m h ≡ true → MayHandOn members (open_number m h) m (turn (open_number m h) h) h
+pub hand_on_rule : (members m : ℕ) (h : List Event) → CanHandOn members m (seen_of m h) → own_turn members m h ≡ true → MayHandOn members (open_number m h) m (number_in members (open_share m h) m h) h
 hand_on_rule members m h can next =
     let own = some_of (open_share m h) (hands_inside members m h can) in
     let number : open_number m h ≡ own.0.0 = ap share_number own.1 in
@@ -134,6 +134,6 @@ hand_on_rule members m h can next =
       inside = own.1;
       ordered = rw own.1 at can.ordered;
       apart = can.apart;
-      number = refl;
+      number = ap (λ (share : Option (ℕ × Shape)). number_in members share m h) own.1;
       next = rw own.1 at next;
     })

@@ -9,13 +9,14 @@ use Rattle.gomp_types.specs.declared.event.Tag.{Tag}
 use Rattle.gomp_types.specs.declared.event.Event.TheVariants.{Enter, Take, Drained, End, HandOn as Handed, Part, PartEnd, Put, Got, Arrive, Pass, Break}
 use Rattle.gomp_types.specs.Limits.{standard}
 use Rattle.gomp_types.specs.Pieces.{shape_of}
+use Rattle.gomp_types.specs.Events.{open_share}
 use Rattle.gomp_types.specs.Singles.{single_shape}
 use Rattle.gomp_types.specs.Sections.{sections_shape}
 use Rattle.gomp_shares.specs.declared.Opening.TheVariants.{Entered, NotYet, Differs}
 use Rattle.gomp_shares.specs.declared.own.Construct.TheVariants.{Loop, Sections}
 use Rattle.gomp_shares.specs.declared.calls.ShareCall.TheVariants.{Open, OpenSections, OpenSingle, Claim, Leave, Begin, EndPart, HandOn}
 use Rattle.gomp_types.specs.Seen.{seen_of}
-use Rattle.gomp_shares.specs.Calls.{taken_of, was_taken, CanOpen, MayOpen, opened, CanClaim, Claims, claimed, is_done, CanLeave, left, CanBeginPart, CanEndPart, CanHandOn, own_turn, part_begun, part_ended, piece_handed, left_unless_refused, EachStands, IsAside}
+use Rattle.gomp_shares.specs.Calls.{taken_of, was_taken, CanOpen, MayOpen, opened, CanClaim, Claims, claimed, is_done, CanLeave, left, CanBeginPart, CanEndPart, CanHandOn, own_turn, number_in, part_begun, part_ended, piece_handed, left_unless_refused, EachStands, IsAside}
 use Rattle.gomp_shares.specs.Starts.{start_tests}
 use Rattle.gomp_shares.specs.Own.{kinds_of, seen_in, in_part_of, next_tests_of, end_tests_of}
 use Rattle.gomp_shares.specs.Runs.{may_make, is_made}
@@ -25,39 +26,39 @@ use Rattle.gomp_shares.proofs.RunExamples.{ten_fits, two_fit}
 -- What a member sees
 
 -- a member in the ordered part of its piece
-pub seen_in_a_part : seen_of 0 (events_of in_the_part) ≡ sees 1 (Some (0, shape_of ordered_two)) false (Some (0, 1)) 1 true
+pub seen_in_a_part : seen_of 0 (events_of 2 in_the_part) ≡ sees 1 (Some (0, shape_of ordered_two)) false (Some (0, 1)) 1 true
 seen_in_a_part = refl
 
 -- and one that waits for its turn
-pub seen_before_its_turn : seen_of 1 (events_of in_the_part) ≡ sees 1 (Some (0, shape_of ordered_two)) false (Some (1, 2)) 0 false
+pub seen_before_its_turn : seen_of 1 (events_of 2 in_the_part) ≡ sees 1 (Some (0, shape_of ordered_two)) false (Some (1, 2)) 0 false
 seen_before_its_turn = refl
 
 -- one that was told that nothing is left
-pub seen_after_none : seen_of 0 (events_of told_none) ≡ sees 1 (Some (0, shape_of ten)) true None 0 false
+pub seen_after_none : seen_of 0 (events_of 2 told_none) ≡ sees 1 (Some (0, shape_of ten)) true None 0 false
 seen_after_none = refl
 
 -- a member that has left a single keeps its piece until it enters the next share
-pub seen_after_the_end : seen_of 0 (events_of left_single) ≡ sees 1 None false (Some (0, 1)) 0 false
+pub seen_after_the_end : seen_of 0 (events_of 2 left_single) ≡ sees 1 None false (Some (0, 1)) 0 false
 seen_after_the_end = refl
 
 -- a member that has entered nothing
-pub seen_at_first : seen_of 1 (events_of in_single) ≡ sees_outside 0
+pub seen_at_first : seen_of 1 (events_of 2 in_single) ≡ sees_outside 0
 seen_at_first = refl
 
 -- four pieces of the first share were taken, by both members
-pub taken_of_the_first : taken_of 0 (events_of took_all) ≡ 4
+pub taken_of_the_first : taken_of 0 (events_of 2 took_all) ≡ 4
 taken_of_the_first = refl
 
 -- none of the second share was taken
-pub taken_of_the_second : taken_of 1 (events_of took_all) ≡ 0
+pub taken_of_the_second : taken_of 1 (events_of 2 took_all) ≡ 0
 taken_of_the_second = refl
 
 -- a piece of the first share was taken
-pub first_was_taken : was_taken 0 (events_of in_single) ≡ true
+pub first_was_taken : was_taken 0 (events_of 2 in_single) ≡ true
 first_was_taken = refl
 
 -- and none of the second
-pub second_was_not_taken : was_taken 1 (events_of in_single) ≡ false
+pub second_was_not_taken : was_taken 1 (events_of 2 in_single) ≡ false
 second_was_not_taken = refl
 
 -- Who may open a share
@@ -97,7 +98,7 @@ pub opens_first : MayOpen 2 0 (shape_of ten) Entered []
 opens_first = (refl, refl)
 
 -- where the other is in it
-pub opens_second : MayOpen 2 1 (shape_of ten) Entered (events_of took_all)
+pub opens_second : MayOpen 2 1 (shape_of ten) Entered (events_of 2 took_all)
 opens_second = (refl, refl)
 
 -- where the other is in another one of this number
@@ -105,15 +106,15 @@ pub opens_another : MayOpen 2 1 (shape_of nine) Differs (Enter 0 0 (shape_of ten
 opens_another = refl
 
 -- and where it is eight shares ahead
-pub opens_ninth : MayOpen 2 0 (single_shape false) NotYet (events_of eight_ahead)
+pub opens_ninth : MayOpen 2 0 (single_shape false) NotYet (events_of 2 eight_ahead)
 opens_ninth = (refl, refl)
 
 -- where there is no room it does not enter
-pub ninth_not_entered : MayOpen 2 0 (single_shape false) Entered (events_of eight_ahead) → ⊥
+pub ninth_not_entered : MayOpen 2 0 (single_shape false) Entered (events_of 2 eight_ahead) → ⊥
 ninth_not_entered may = absurd (let room = may.1 in cc)
 
 -- nor does a share differ that nobody is in
-pub ninth_not_another : MayOpen 2 0 (single_shape false) Differs (events_of eight_ahead) → ⊥
+pub ninth_not_another : MayOpen 2 0 (single_shape false) Differs (events_of 2 eight_ahead) → ⊥
 ninth_not_another may = absurd (let differs = may in cc)
 
 -- where there is room it does not wait
@@ -129,19 +130,19 @@ pub another_not_entered : MayOpen 2 1 (shape_of nine) Entered (Enter 0 0 (shape_
 another_not_entered may = absurd (let differs = may.0 in cc)
 
 -- that a share differs comes before that there is no room for it
-pub another_not_later : MayOpen 2 0 (shape_of ten) NotYet (Enter 8 1 (single_shape false) ∷ events_of eight_ahead) → ⊥
+pub another_not_later : MayOpen 2 0 (shape_of ten) NotYet (Enter 8 1 (single_shape false) ∷ events_of 2 eight_ahead) → ⊥
 another_not_later may = absurd (let differs = may.0 in cc)
 
 -- the share has the number of those that the member has entered
-pub entered_adds : opened 0 (shape_of ten) Entered (events_of left_single) ≡ Enter 1 0 (shape_of ten) ∷ events_of left_single
+pub entered_adds : opened 0 (shape_of ten) Entered (events_of 2 left_single) ≡ Enter 1 0 (shape_of ten) ∷ events_of 2 left_single
 entered_adds = refl
 
 -- a member that has to wait adds nothing
-pub not_yet_adds : opened 0 (shape_of ten) NotYet (events_of left_single) ≡ events_of left_single
+pub not_yet_adds : opened 0 (shape_of ten) NotYet (events_of 2 left_single) ≡ events_of 2 left_single
 not_yet_adds = refl
 
 -- nor does one whose construct differs
-pub differs_adds : opened 0 (shape_of ten) Differs (events_of left_single) ≡ events_of left_single
+pub differs_adds : opened 0 (shape_of ten) Differs (events_of 2 left_single) ≡ events_of 2 left_single
 differs_adds = refl
 
 -- Who may ask for a piece
@@ -177,11 +178,11 @@ pub none_outside : Claims 2 1 None (Enter 0 0 (shape_of ten) ∷ []) → ⊥
 none_outside claims = absurd (let there = claims.there in cc)
 
 -- it is the piece of the share that it is in
-pub piece_adds : claimed 0 (Some (3, 6)) (Enter 1 0 (shape_of ten) ∷ events_of left_single) ≡ Take 1 0 3 6 ∷ Enter 1 0 (shape_of ten) ∷ events_of left_single
+pub piece_adds : claimed 0 (Some (3, 6)) (Enter 1 0 (shape_of ten) ∷ events_of 2 left_single) ≡ Take 1 0 3 6 ∷ Enter 1 0 (shape_of ten) ∷ events_of 2 left_single
 piece_adds = refl
 
 -- none is told of the share that it is in
-pub none_adds : claimed 0 None (Enter 1 0 (shape_of ten) ∷ events_of left_single) ≡ Drained 1 0 ∷ Enter 1 0 (shape_of ten) ∷ events_of left_single
+pub none_adds : claimed 0 None (Enter 1 0 (shape_of ten) ∷ events_of 2 left_single) ≡ Drained 1 0 ∷ Enter 1 0 (shape_of ten) ∷ events_of 2 left_single
 none_adds = refl
 
 -- Who may leave
@@ -227,15 +228,15 @@ pub cannot_leave_in_a_part : CanLeave 2 1 (sees_loop ordered_two true None 1 tru
 cannot_leave_in_a_part can = absurd (let apart = can.apart in cc)
 
 -- it leaves the share that it is in
-pub leave_adds : left 0 (Enter 1 0 (shape_of ten) ∷ events_of left_single) ≡ End 1 0 ∷ Enter 1 0 (shape_of ten) ∷ events_of left_single
+pub leave_adds : left 0 (Enter 1 0 (shape_of ten) ∷ events_of 2 left_single) ≡ End 1 0 ∷ Enter 1 0 (shape_of ten) ∷ events_of 2 left_single
 leave_adds = refl
 
 -- a member that is not refused has left
-pub left_where_done : left_unless_refused {A = ℕ} (Ok 0) 0 (events_of told_none) ≡ End 0 0 ∷ events_of told_none
+pub left_where_done : left_unless_refused {A = ℕ} (Ok 0) 0 (events_of 2 told_none) ≡ End 0 0 ∷ events_of 2 told_none
 left_where_done = refl
 
 -- a member that is refused stays
-pub not_left_where_refused : left_unless_refused {A = ℕ} (Err NoMemory) 0 (events_of told_none) ≡ events_of told_none
+pub not_left_where_refused : left_unless_refused {A = ℕ} (Err NoMemory) 0 (events_of 2 told_none) ≡ events_of 2 told_none
 not_left_where_refused = refl
 
 -- Ordered parts
@@ -293,19 +294,19 @@ pub cannot_hand_on_in_a_part : CanHandOn 2 1 (sees_loop ordered_two false (Some 
 cannot_hand_on_in_a_part can = absurd (let apart = can.apart in cc)
 
 -- the turn is that of the first piece, then that of the second, and nobody's outside
-pub turn_of_the_first : own_turn 2 0 (events_of both_hold) ≡ true
+pub turn_of_the_first : own_turn 2 0 (events_of 2 both_hold) ≡ true
 turn_of_the_first = refl
 
 -- the second member has no turn while the first holds its piece
-pub turn_not_of_the_second : own_turn 2 1 (events_of both_hold) ≡ false
+pub turn_not_of_the_second : own_turn 2 1 (events_of 2 both_hold) ≡ false
 turn_not_of_the_second = refl
 
 -- it has the turn when the first piece was handed on
-pub turn_of_the_second : own_turn 2 1 (events_of handed_on) ≡ true
+pub turn_of_the_second : own_turn 2 1 (events_of 2 handed_on) ≡ true
 turn_of_the_second = refl
 
 -- and the first has it no longer
-pub turn_no_longer_of_the_first : own_turn 2 0 (events_of handed_on) ≡ false
+pub turn_no_longer_of_the_first : own_turn 2 0 (events_of 2 handed_on) ≡ false
 turn_no_longer_of_the_first = refl
 
 -- a member in no share has no turn
@@ -313,27 +314,41 @@ pub no_turn_outside : own_turn 2 0 [] ≡ false
 no_turn_outside = refl
 
 -- what is begun, ended and handed on is of the share that the member is in
-pub part_adds : part_begun 0 2 true (Enter 1 0 (shape_of ordered_four) ∷ events_of left_single) ≡ Part 1 0 2 ∷ Enter 1 0 (shape_of ordered_four) ∷ events_of left_single
+pub part_adds : part_begun 0 2 true (Enter 1 0 (shape_of ordered_four) ∷ events_of 2 left_single) ≡ Part 1 0 2 ∷ Enter 1 0 (shape_of ordered_four) ∷ events_of 2 left_single
 part_adds = refl
 
 -- a part that is not begun adds nothing
-pub no_part_adds : part_begun 0 2 false (events_of both_hold) ≡ events_of both_hold
+pub no_part_adds : part_begun 0 2 false (events_of 2 both_hold) ≡ events_of 2 both_hold
 no_part_adds = refl
 
 -- the end of a part is of the share that the member is in
-pub part_end_adds : part_ended 0 (Enter 1 0 (shape_of ordered_four) ∷ events_of left_single) ≡ PartEnd 1 0 ∷ Enter 1 0 (shape_of ordered_four) ∷ events_of left_single
+pub part_end_adds : part_ended 0 (Enter 1 0 (shape_of ordered_four) ∷ events_of 2 left_single) ≡ PartEnd 1 0 ∷ Enter 1 0 (shape_of ordered_four) ∷ events_of 2 left_single
 part_end_adds = refl
 
--- and has the number of the turn
-pub hand_on_adds : piece_handed 1 true (events_of handed_on) ≡ Handed 0 1 1 ∷ events_of handed_on
+-- and a piece has its own number
+pub hand_on_adds : piece_handed 2 1 true (events_of 2 handed_on) ≡ Handed 0 1 1 ∷ events_of 2 handed_on
 hand_on_adds = refl
 
+-- however many were handed on before
+pub hand_on_of_the_second : piece_handed 2 1 true (events_of 2 both_hold) ≡ Handed 0 1 1 ∷ events_of 2 both_hold
+hand_on_of_the_second = refl
+
+-- and each member's is that of its last piece
+pub hand_on_of_the_first : piece_handed 2 0 true (events_of 2 handed_on) ≡ Handed 0 0 0 ∷ events_of 2 handed_on
+hand_on_of_the_first = refl
+
 -- the numbers begin again in the next share
-pub hand_on_in_the_second : piece_handed 0 true (Enter 1 0 (shape_of ordered_four) ∷ events_of left_single) ≡ Handed 1 0 0 ∷ Enter 1 0 (shape_of ordered_four) ∷ events_of left_single
+pub hand_on_in_the_second :
+    piece_handed 2 0 true (Take 1 0 0 2 ∷ Enter 1 0 (shape_of ordered_four) ∷ events_of 2 left_single) ≡ Handed 1 0 0 ∷ Take 1 0 0 2 ∷ Enter 1 0 (shape_of ordered_four) ∷ events_of 2 left_single
 hand_on_in_the_second = refl
 
+-- the number of a member's last piece, of none, and in no share
+pub numbers_in_a_share :
+    (number_in 2 (open_share 1 (events_of 2 both_hold)) 1 (events_of 2 both_hold) ≡ 1) × (number_in 2 (Some (0, shape_of ordered_two)) 0 [] ≡ 2) × (number_in 2 None 0 (events_of 2 both_hold) ≡ 0)
+numbers_in_a_share = (refl, refl, refl)
+
 -- a piece that is not handed on adds nothing
-pub no_hand_on_adds : piece_handed 1 false (events_of handed_on) ≡ events_of handed_on
+pub no_hand_on_adds : piece_handed 2 1 false (events_of 2 handed_on) ≡ events_of 2 handed_on
 no_hand_on_adds = refl
 
 -- Events

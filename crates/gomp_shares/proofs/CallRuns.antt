@@ -66,19 +66,19 @@ pub not_made : (members : ℕ) (step : ShareStep) (seen : Seen) (h : List Event)
 not_made members step seen h e may = and_false (nat_lt step.member members) (may_make (seen_of step.member h) step.call) (rw e at may)
 
 -- one more call
-pub events_after_more : (steps : List ShareStep) (answers : List ShareAnswer) (step : ShareStep) (answer : ShareAnswer) (h : List Event) → length answers ≡ length steps →
-    events_after (steps ++ step ∷ []) (answers ++ answer ∷ []) h ≡ answered step answer (events_after steps answers h)
-events_after_more [] [] step answer h e = refl
-events_after_more [] (a ∷ answers) step answer h e = absurd (omega arith)
-events_after_more (s ∷ steps) [] step answer h e = absurd (omega arith)
-events_after_more (s ∷ steps) (a ∷ answers) step answer h e = events_after_more steps answers step answer (answered s a h) (omega arith)
+pub events_after_more : (members : ℕ) (steps : List ShareStep) (answers : List ShareAnswer) (step : ShareStep) (answer : ShareAnswer) (h : List Event) → length answers ≡ length steps →
+    events_after members (steps ++ step ∷ []) (answers ++ answer ∷ []) h ≡ answered members step answer (events_after members steps answers h)
+events_after_more members [] [] step answer h e = refl
+events_after_more members [] (a ∷ answers) step answer h e = absurd (omega arith)
+events_after_more members (s ∷ steps) [] step answer h e = absurd (omega arith)
+events_after_more members (s ∷ steps) (a ∷ answers) step answer h e = events_after_more members steps answers step answer (answered members s a h) (omega arith)
 
 pub are_answers_more : (members : ℕ) (steps : List ShareStep) (answers : List ShareAnswer) (step : ShareStep) (answer : ShareAnswer) (h : List Event) → length answers ≡ length steps →
-    AreAnswers members steps answers h → IsAnswer members step answer (events_after steps answers h) → AreAnswers members (steps ++ step ∷ []) (answers ++ answer ∷ []) h
+    AreAnswers members steps answers h → IsAnswer members step answer (events_after members steps answers h) → AreAnswers members (steps ++ step ∷ []) (answers ++ answer ∷ []) h
 are_answers_more members [] [] step answer h e are is = (is, tt)
 are_answers_more members [] (a ∷ answers) step answer h e are is = absurd (omega arith)
 are_answers_more members (s ∷ steps) [] step answer h e are is = absurd (omega arith)
-are_answers_more members (s ∷ steps) (a ∷ answers) step answer h e are is = (are.0, are_answers_more members steps answers step answer (answered s a h) (omega arith) are.1 is)
+are_answers_more members (s ∷ steps) (a ∷ answers) step answer h e are is = (are.0, are_answers_more members steps answers step answer (answered members s a h) (omega arith) are.1 is)
 
 -- What a call asks, where it may be made
 

@@ -16,7 +16,7 @@ pub only_a_single : (m k : ℕ) (words : List ℕ) (tag : Tag) (place : Place) �
 only_a_single m k words tag place = refl
 
 -- an ordered loop whose calls gave all kinds of events of the shares keeps them all
-pub only_an_ordered_loop : shares_only (events_of parts_over) ≡ events_of parts_over
+pub only_an_ordered_loop : shares_only (events_of 2 parts_over) ≡ events_of 2 parts_over
 only_an_ordered_loop = refl
 
 -- where nothing but arrivals happened nothing stays
@@ -26,15 +26,15 @@ only_arrivals tag = refl
 -- Those of a member
 
 -- the calls of the member that handed its piece on first
-pub own_of_the_first : own_of 0 (events_of parts_over) ≡ HandOn 0 0 0 ∷ PartEnd 0 0 ∷ Part 0 0 0 ∷ Take 0 0 0 1 ∷ Enter 0 0 (shape_of ordered_two) ∷ []
+pub own_of_the_first : own_of 0 (events_of 2 parts_over) ≡ HandOn 0 0 0 ∷ PartEnd 0 0 ∷ Part 0 0 0 ∷ Take 0 0 0 1 ∷ Enter 0 0 (shape_of ordered_two) ∷ []
 own_of_the_first = refl
 
 -- and of the other
-pub own_of_the_second : own_of 1 (events_of parts_over) ≡ End 0 1 ∷ Drained 0 1 ∷ HandOn 0 1 1 ∷ PartEnd 0 1 ∷ Part 0 1 1 ∷ Take 0 1 1 2 ∷ Enter 0 1 (shape_of ordered_two) ∷ []
+pub own_of_the_second : own_of 1 (events_of 2 parts_over) ≡ End 0 1 ∷ Drained 0 1 ∷ HandOn 0 1 1 ∷ PartEnd 0 1 ∷ Part 0 1 1 ∷ Take 0 1 1 2 ∷ Enter 0 1 (shape_of ordered_two) ∷ []
 own_of_the_second = refl
 
 -- a stranger has none
-pub own_of_a_stranger : own_of 2 (events_of left_single) ≡ []
+pub own_of_a_stranger : own_of 2 (events_of 2 left_single) ≡ []
 own_of_a_stranger = refl
 
 -- its words, arrivals and breaks are a member's own too

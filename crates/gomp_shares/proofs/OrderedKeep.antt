@@ -7,14 +7,15 @@ use Rattle.gomp_types.specs.declared.event.Event.{Event}
 use Rattle.gomp_types.specs.declared.event.Event.TheVariants.{Enter, Take, Drained, End, HandOn, Part, PartEnd}
 use Rattle.gomp_types.specs.Pieces.{Piece, Tiles, pieces_of}
 use Rattle.gomp_types.specs.Events.{open_share, last_piece, shape_at, has_ended, has_iteration, times_taken, turn, next_part, in_part, open_part}
-use Rattle.gomp_types.specs.Ordered.{same_piece, has_turn}
+use Rattle.gomp_types.specs.Ordered.{has_turn}
 use Rattle.gomp_types.specs.Deals.{Deal, schedule}
 use Rattle.gomp_types.specs.Laws.{Always, Happened}
 use Rattle.gomp_shares.specs.Rules.{MayPart, MayHandOn, ShareRule}
 use Rattle.gomp_shares.specs.Laws.{PartsRise, PartsInTurn, HandsOnInTurn, PartsApart, OrderedLaws}
-use Rattle.gomp_types.proofs.Booleans.{tells, is_equal, differs, same_number, share_is, and_left, and_right, not_both, none_of}
+use Rattle.gomp_types.proofs.Booleans.{tells, is_equal, differs, same_number, share_is, not_both, none_of}
 use Rattle.gomp_types.proofs.Tiling.{has_it, piece_some}
 use Rattle.gomp_types.proofs.Always.{always}
+use Rattle.gomp_types.proofs.Numbering.{same_is, last_is_turn}
 use Rattle.gomp_shares.proofs.SharesKeep.{shape_stays, inside, inside_stands, not_ended, stands_ended, taken_once}
 
 -- The pieces of a share
@@ -52,15 +53,6 @@ tiled deal members i shape (Enter share member other ∷ earlier) all at =
 tiled deal members i shape (_ ∷ earlier) all at = tiled deal members i shape earlier all.1 at
 
 -- The turn
-
--- the piece that two are
-same_is : (one own : Option Piece) → same_piece one own ≡ true → (low high : ℕ) × (one ≡ Some (low, high)) × (own ≡ Some (low, high))
-same_is None own e = absurd (cc)
-same_is (Some one) None e = absurd (cc)
-same_is (Some one) (Some own) e =
-    let low = is_equal one.0 own.0 (and_left (one.0 == own.0) (one.1 == own.1) e) in
-    let high = is_equal one.1 own.1 (and_right (one.0 == own.0) (one.1 == own.1) e) in
-    (own.0, own.1, rw (low, high) refl, refl)
 
 -- the member's last piece is that of the turn
 abbrev Turned : ℕ → ℕ → Shape → ℕ → List Event → Type 0
@@ -475,10 +467,17 @@ parts_in_turn deal members (Part share m iteration) earlier rule all = (
 )
 parts_in_turn deal members _ earlier rule all = tt
 
+-- the piece that is handed on has the number of the turn
+pub hands_the_turn : (deal : Deal) (members m share piece : ℕ) (earlier : List Event) → Always (ShareRule deal members) earlier → MayHandOn members share m piece earlier → piece ≡ turn share earlier
+hands_the_turn deal members m share piece earlier all may =
+    let found = (inside deal members m share may.shape earlier all may.inside).0 in
+    may.number ∙ last_is_turn members m share may.shape.trips may.shape earlier (tiled deal members share may.shape earlier all found) may.next
+
 handed_on : (deal : Deal) (members : ℕ) (event : Event) (earlier : List Event) → ShareRule deal members event earlier → Always (ShareRule deal members) earlier → HandsOnInTurn members event earlier
 handed_on deal members (HandOn share m piece) earlier rule all =
     let own = turned members m share rule.shape earlier rule.next in
-    (rule.shape, own.0, own.1, rule.ordered, inside_stands m share rule.shape earlier rule.inside, (λ stands. not_both (has_ended share m earlier) (stands_ended share m earlier stands) (not_ended deal members m share rule.shape earlier all rule.inside)), own.3, rule.number, rw rule.number own.2)
+    let number = hands_the_turn deal members m share piece earlier all rule in
+    (rule.shape, own.0, own.1, rule.ordered, inside_stands m share rule.shape earlier rule.inside, (λ stands. not_both (has_ended share m earlier) (stands_ended share m earlier stands) (not_ended deal members m share rule.shape earlier all rule.inside)), own.3, number, rw number own.2)
 handed_on deal members _ earlier rule all = tt
 
 -- who may hand a piece on, or begin a part, finds no part open

@@ -99,27 +99,27 @@ run_ninth_share =
     ((refl, (refl, refl)), ((refl, claims_piece 2 0 (0, single_shape false) _ _ refl single_fits refl (omega arith, omega arith)), ((refl, tt), ((refl, (refl, refl)), ((refl, claims_piece 2 0 (1, single_shape false) _ _ refl single_fits refl (omega arith, omega arith)), ((refl, tt), ((refl, (refl, refl)), ((refl, claims_piece 2 0 (2, single_shape false) _ _ refl single_fits refl (omega arith, omega arith)), ((refl, tt), ((refl, (refl, refl)), ((refl, claims_piece 2 0 (3, single_shape false) _ _ refl single_fits refl (omega arith, omega arith)), ((refl, tt), ((refl, (refl, refl)), ((refl, claims_piece 2 0 (4, single_shape false) _ _ refl single_fits refl (omega arith, omega arith)), ((refl, tt), ((refl, (refl, refl)), ((refl, claims_piece 2 0 (5, single_shape false) _ _ refl single_fits refl (omega arith, omega arith)), ((refl, tt), ((refl, (refl, refl)), ((refl, claims_piece 2 0 (6, single_shape false) _ _ refl single_fits refl (omega arith, omega arith)), ((refl, tt), ((refl, (refl, refl)), ((refl, claims_piece 2 0 (7, single_shape false) _ _ refl single_fits refl (omega arith, omega arith)), ((refl, tt), ((refl, (refl, refl)), ((refl, (refl, refl)), ((refl, claims_piece 2 1 (0, single_shape false) _ _ refl single_fits refl tt), ((refl, (refl, refl)), ((refl, tt), tt)))))))))))))))))))))))))))))
 
 -- the calls of the loop give these events
-pub events_of_the_loop : events_of left_ten ≡
+pub events_of_the_loop : events_of 2 left_ten ≡
     End 0 1 ∷ Drained 0 1 ∷ End 0 0 ∷ Drained 0 0 ∷ Take 0 1 9 10 ∷ Take 0 0 6 9 ∷ Take 0 1 3 6 ∷ Enter 0 1 (shape_of ten) ∷ Take 0 0 0 3 ∷ Enter 0 0 (shape_of ten) ∷ []
 events_of_the_loop = refl
 
 -- and those of the ordered parts
-pub events_of_the_parts : events_of parts_over ≡
+pub events_of_the_parts : events_of 2 parts_over ≡
     End 0 1 ∷ Drained 0 1 ∷ Handed 0 1 1 ∷ PartEnd 0 1 ∷ Part 0 1 1 ∷ Handed 0 0 0 ∷ PartEnd 0 0 ∷ Part 0 0 0 ∷ Take 0 1 1 2 ∷ Take 0 0 0 1 ∷ Enter 0 1 (shape_of ordered_two) ∷ Enter 0 0 (shape_of ordered_two) ∷ []
 events_of_the_parts = refl
 
 -- what is not opened, since it differs, gives no event
-pub events_of_the_single : events_of left_single ≡
+pub events_of_the_single : events_of 2 left_single ≡
     End 0 1 ∷ Drained 0 1 ∷ Enter 0 1 (single_shape false) ∷ End 0 0 ∷ Take 0 0 0 1 ∷ Enter 0 0 (single_shape false) ∷ []
 events_of_the_single = refl
 
 -- the calls of the sections give these events
-pub events_of_the_sections : events_of in_sections ≡
+pub events_of_the_sections : events_of 2 in_sections ≡
     Take 0 0 2 3 ∷ Take 0 1 1 2 ∷ Enter 0 1 (sections_shape 3 WaitEnd) ∷ Take 0 0 0 1 ∷ Enter 0 0 (sections_shape 3 WaitEnd) ∷ []
 events_of_the_sections = refl
 
 -- nor does what has to wait
-pub events_of_a_wait : events_of (eight_ahead ++ (asks 0 (OpenSingle false), Opened NotYet) ∷ []) ≡ events_of eight_ahead
+pub events_of_a_wait : events_of 2 (eight_ahead ++ (asks 0 (OpenSingle false), Opened NotYet) ∷ []) ≡ events_of 2 eight_ahead
 events_of_a_wait = refl
 
 -- Lists of answers
@@ -329,5 +329,5 @@ handed_on_unordered turned answer = absurd (let made = answer.0 in cc)
 -- What an answer adds
 
 -- an answer of another call adds nothing of this one
-pub turned_adds_nothing : answered (asks 0 Claim) (Turned true) (events_of inside_ten) ≡ events_of inside_ten
+pub turned_adds_nothing : answered 2 (asks 0 Claim) (Turned true) (events_of 2 inside_ten) ≡ events_of 2 inside_ten
 turned_adds_nothing = refl

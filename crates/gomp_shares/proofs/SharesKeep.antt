@@ -4,6 +4,7 @@ use Rattle.std.specs.Prelude.{pos, if◌then◌else◌, ◌&&◌, ◌||◌, ◌=
 use Rattle.std.proofs.lemmas.Bool.Decides.{nat_tests}
 use Rattle.std.proofs.lemmas.Bool.{cases_Bool}
 use Rattle.gomp_types.specs.declared.shape.Shape.{Shape}
+use Rattle.gomp_types.specs.declared.limits.TheConstants.{OPEN_SHARES}
 use Rattle.gomp_types.specs.declared.event.Event.{Event}
 use Rattle.gomp_types.specs.declared.event.Event.TheVariants.{Enter, Take, Drained, End}
 use Rattle.gomp_types.specs.Pieces.{Piece}
@@ -329,7 +330,7 @@ stands_ended share m (_ ∷ earlier) (inr stands) = stands_ended share m earlier
 pub over_stands : (members share : ℕ) (h : List Event) → is_over members share h ≡ true → IsOver members share h
 over_stands members share h over m lt = end_stands share m h (every_tells members (λ x. has_ended share x h) m over lt)
 
-room_over : (members share old : ℕ) (h : List Event) → share ≡ old + 8 → has_room members share h ≡ true → is_over members old h ≡ true
+room_over : (members share old : ℕ) (h : List Event) → share ≡ old + OPEN_SHARES → has_room members share h ≡ true → is_over members old h ≡ true
 room_over members share old h e room =
     elim (or_tells (nat_lt share 8) (is_over members (share - 8) h) room) [
       | inl low ↦ absurd (grind (arith, nat_tests))

@@ -7,8 +7,8 @@ use Rattle.gomp_types.specs.declared.event.Event.{Event}
 use Rattle.gomp_types.specs.declared.event.Event.TheVariants.{Enter, Take, Drained, End, HandOn, Part, PartEnd}
 use Rattle.gomp_types.specs.Pieces.{Piece}
 use Rattle.gomp_types.specs.Values.{IsShape}
-use Rattle.gomp_types.specs.Events.{entered, open_share, open_number, in_kind, turn, shape_at, has_room}
-use Rattle.gomp_types.specs.Ordered.{has_turn, is_ordered, is_in_rest}
+use Rattle.gomp_types.specs.Events.{entered, open_share, open_number, in_kind, shape_at, has_room}
+use Rattle.gomp_types.specs.Ordered.{has_turn, last_number, is_ordered, is_in_rest}
 use Rattle.gomp_types.specs.Shapes.{is_loop, is_single}
 use Rattle.gomp_types.specs.Deals.{schedule, next_for, taken_in}
 use Rattle.gomp_types.specs.Compare.{shape_differs}
@@ -108,6 +108,11 @@ turn_in members (Some share) m h = has_turn members share m h
 abbrev pub own_turn : ℕ → ℕ → List Event → Bool
 own_turn members m h = turn_in members (open_share m h) m h
 
+-- the number of the member's last piece, in the share that it is in
+abbrev pub number_in : ℕ → Option (ℕ × Shape) → ℕ → List Event → ℕ
+number_in members None m h = 0
+number_in members (Some share) m h = last_number members share m h
+
 -- the events after these calls
 abbrev pub part_begun : ℕ → ℕ → Bool → List Event → List Event
 part_begun m iteration true h = Part (open_number m h) m iteration ∷ h
@@ -116,9 +121,10 @@ part_begun m iteration false h = h
 abbrev pub part_ended : ℕ → List Event → List Event
 part_ended m h = PartEnd (open_number m h) m ∷ h
 
-abbrev pub piece_handed : ℕ → Bool → List Event → List Event
-piece_handed m true h = HandOn (open_number m h) m (turn (open_number m h) h) ∷ h
-piece_handed m false h = h
+-- a piece that is handed on has the number of the member's last piece
+abbrev pub piece_handed : ℕ → ℕ → Bool → List Event → List Event
+piece_handed members m true h = HandOn (open_number m h) m (number_in members (open_share m h) m h) ∷ h
+piece_handed members m false h = h
 
 -- the events after a member has left its share, or was refused
 abbrev pub left_unless_refused : {A : Type 0} → Result A Refusal → ℕ → List Event → List Event

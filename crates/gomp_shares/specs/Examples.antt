@@ -33,12 +33,13 @@ answers_of run = map (λ pair. pair.1) run
 abbrev pub IsRun : ℕ → Run → Type 0
 IsRun members run = AreAnswers members (steps_of run) (answers_of run) []
 
-abbrev pub events_of : Run → List Event
-events_of run = events_after (steps_of run) (answers_of run) []
+-- the events that it gives in a team of this size
+abbrev pub events_of : ℕ → Run → List Event
+events_of members run = events_after members (steps_of run) (answers_of run) []
 
 -- this is no answer to the step after the run
 abbrev pub IsWrong : ℕ → Run → ShareStep → ShareAnswer → Type 0
-IsWrong members run step answer = IsAnswer members step answer (events_of run) → ⊥
+IsWrong members run step answer = IsAnswer members step answer (events_of members run) → ⊥
 
 -- nor is any of this kind
 abbrev pub NotOpened : ℕ → Run → ShareStep → Type 0

@@ -1,6 +1,7 @@
 -- The laws of the work-shares, each clause in the words of the promise that it keeps.
 use Rattle.std.specs.Prelude.{ℕ, ◌+◌, ◌%◌, ◌<◌, ◌≤◌, ◌≡◌, slice_get, List, Some, None, true, take}
 use Rattle.gomp_types.specs.declared.shape.Shape.{Shape}
+use Rattle.gomp_types.specs.declared.limits.TheConstants.{OPEN_SHARES}
 use Rattle.gomp_types.specs.declared.event.Event.{Event}
 use Rattle.gomp_types.specs.declared.event.Event.TheVariants.{Enter, Take, End, HandOn, Part, PartEnd}
 use Rattle.gomp_types.specs.Shapes.{is_static}
@@ -69,9 +70,9 @@ abbrev pub EndsInside : Event → List Event → Type 0
 EndsInside (End share m) earlier = (shape : Shape) × Happened (Enter share m shape) earlier × (Happened (End share m) earlier → ⊥)
 EndsInside _ earlier = Unit {0}
 
--- a share is entered only where the one eight before it is over (own)
+-- a share is entered only where the one `OPEN_SHARES` before it is over (own)
 abbrev pub EntersWithRoom : ℕ → Event → List Event → Type 0
-EntersWithRoom members (Enter share m shape) earlier = (old : ℕ) → share ≡ old + 8 → IsOver members old earlier
+EntersWithRoom members (Enter share m shape) earlier = (old : ℕ) → share ≡ old + OPEN_SHARES → IsOver members old earlier
 EntersWithRoom members _ earlier = Unit {0}
 
 -- Same shares (OpenMP API 5.2, chapter 11: every member meets the same work-shares in the same order).
@@ -103,7 +104,7 @@ PartsInTurn members (Part share m iteration) earlier =
     × (slice_get (pieces_of members shape) (turn share earlier) ≡ Some (low, high))
 PartsInTurn members _ earlier = Unit {0}
 
--- the pieces of an ordered loop are handed on in order, each by the member whose last piece it is
+-- the pieces of an ordered loop are handed on in order, each by the member whose last piece it is: its number is how many were handed on before
 abbrev pub HandsOnInTurn : ℕ → Event → List Event → Type 0
 HandsOnInTurn members (HandOn share m piece) earlier =
     (shape : Shape) × (low high : ℕ)

@@ -14,8 +14,8 @@ use Rattle.gomp_types.specs.Pieces.{Piece, shape_of}
 use Rattle.gomp_types.specs.Shapes.{is_loop}
 use Rattle.gomp_types.specs.Compare.{end_differs}
 use Rattle.gomp_types.specs.Deals.{schedule, next_for}
-use Rattle.gomp_types.specs.Events.{in_kind, open_share, turn}
-use Rattle.gomp_types.specs.Ordered.{must_wait}
+use Rattle.gomp_types.specs.Events.{in_kind, open_share}
+use Rattle.gomp_types.specs.Ordered.{last_number, must_wait}
 use Rattle.gomp_types.specs.declared.limits.Limits.{Limits}
 use Rattle.gomp_types.specs.declared.loop_desc.LoopDesc.{LoopDesc}
 use Rattle.gomp_types.specs.Least.{Answers}
@@ -47,16 +47,16 @@ piece_given share shape m (Chunk first count) = Take share m (iteration_at shape
 piece_given share shape m NoChunk = Drained share m ∷ []
 piece_given share shape m _ = []
 
--- a piece of an ordered loop is handed on, by its number
-abbrev pub handed_on : ℕ × Shape → ℕ → List Event → List Event
-handed_on share m h = if share.1.ordered then HandOn share.0 m (turn share.0 h) ∷ [] else []
+-- a piece of an ordered loop is handed on: the member's last one, by its number
+abbrev pub handed_on : ℕ → ℕ × Shape → ℕ → List Event → List Event
+handed_on members share m h = if share.1.ordered then HandOn share.0 m (last_number members share m h) ∷ [] else []
 
 -- the member's piece of an ordered loop is handed on before it asks for the next
-abbrev pub next_given : Option (ℕ × Shape) → ℕ → List Event → Reply → List Event
-next_given None m h reply = []
-next_given (Some share) m h (Chunk first count) = piece_given share.0 share.1 m (Chunk first count) ++ handed_on share m h
-next_given (Some share) m h NoChunk = piece_given share.0 share.1 m NoChunk ++ handed_on share m h
-next_given (Some share) m h _ = []
+abbrev pub next_given : ℕ → Option (ℕ × Shape) → ℕ → List Event → Reply → List Event
+next_given members None m h reply = []
+next_given members (Some share) m h (Chunk first count) = piece_given share.0 share.1 m (Chunk first count) ++ handed_on members share m h
+next_given members (Some share) m h NoChunk = piece_given share.0 share.1 m NoChunk ++ handed_on members share m h
+next_given members (Some share) m h _ = []
 
 -- the next piece
 abbrev pub next_tests : Seen → List Test
@@ -83,8 +83,8 @@ abbrev pub AnswersLoopNext : ℕ → ℕ → Reply → List Event → Type 0
 AnswersLoopNext members m reply h =
     Answers (next_tests (seen_of m h)) (λ given. DealsNext members m (open_share m h) given h) reply
 
-abbrev pub loop_next_taken : ℕ → Reply → List Event → List Event
-loop_next_taken m reply h = next_given (open_share m h) m h reply ++ h
+abbrev pub loop_next_taken : ℕ → ℕ → Reply → List Event → List Event
+loop_next_taken members m reply h = next_given members (open_share m h) m h reply ++ h
 
 -- of the end by this call
 abbrev pub AnswersLoopEnd : EndKind → ℕ → Reply → List Event → Type 0

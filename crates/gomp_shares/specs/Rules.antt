@@ -4,9 +4,9 @@ use Rattle.gomp_types.specs.declared.shape.Shape.{Shape}
 use Rattle.gomp_types.specs.declared.event.Event.{Event}
 use Rattle.gomp_types.specs.declared.event.Event.TheVariants.{Enter, Take, Drained, End, HandOn, Part, PartEnd}
 use Rattle.gomp_types.specs.Shapes.{is_loop}
-use Rattle.gomp_types.specs.Events.{entered, open_share, last_piece, turn, next_part, in_part, shape_at, has_room}
+use Rattle.gomp_types.specs.Events.{entered, open_share, last_piece, next_part, in_part, shape_at, has_room}
 use Rattle.gomp_types.specs.Pieces.{Tiles, pieces_of}
-use Rattle.gomp_types.specs.Ordered.{has_turn}
+use Rattle.gomp_types.specs.Ordered.{has_turn, last_number}
 use Rattle.gomp_types.specs.Deals.{Deal, IsDealt, next_for}
 
 -- a member of the team that is in no share enters its next one: all that entered it before did so in this shape, and the one eight before it is over; the shape is that of a construct: fairly dealt out, in pieces that lead from its first iteration to its last, with a step that leads on
@@ -36,13 +36,13 @@ pub record HasNone (deal : Deal) (share m : ℕ) (earlier : List Event) : Type 0
   pub none : next_for deal shape share m earlier ≡ None
   pub apart : in_part m earlier ≡ false
 
--- a member hands its piece of an ordered loop on: it is the next one that is handed on, and no part of it is open
+-- a member hands its last piece of an ordered loop on, by the number of that piece: it is the next one that is handed on, and no part of it is open
 pub record MayHandOn (members share m piece : ℕ) (earlier : List Event) : Type 0 where
   pub shape : Shape
   pub inside : open_share m earlier ≡ Some (share, shape)
   pub ordered : shape.ordered ≡ true
   pub apart : in_part m earlier ≡ false
-  pub number : piece ≡ turn share earlier
+  pub number : piece ≡ last_number members (share, shape) m earlier
   pub next : has_turn members (share, shape) m earlier ≡ true
 
 -- a member begins the ordered part of an iteration of its piece, after those whose parts it has begun, where every piece before its own was handed on

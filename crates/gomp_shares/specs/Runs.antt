@@ -52,29 +52,29 @@ IsAnswer members step NotMade h = is_made members step h ≡ false
 IsAnswer members step answer h = (is_made members step h ≡ true) × Answers members step.member step.call answer h
 
 -- the events after a call and its answer
-abbrev pub answered_call : ℕ → ShareAnswer → ShareCall → List Event → List Event
-answered_call m NotMade call h = h
-answered_call m (Opened opening) (Open loop) h = opened m (shape_of loop) opening h
-answered_call m (Opened opening) (OpenSections count end_kind) h = opened m (sections_shape count end_kind) opening h
-answered_call m (Opened opening) (OpenSingle copies) h = opened m (single_shape copies) opening h
-answered_call m (Claimed piece) call h = claimed m piece h
-answered_call m Left call h = left m h
-answered_call m (Turned begun) (Begin iteration) h = part_begun m iteration begun h
-answered_call m (Turned handed) HandOn h = piece_handed m handed h
-answered_call m Ended call h = part_ended m h
-answered_call m _ _ h = h
+abbrev pub answered_call : ℕ → ℕ → ShareAnswer → ShareCall → List Event → List Event
+answered_call members m NotMade call h = h
+answered_call members m (Opened opening) (Open loop) h = opened m (shape_of loop) opening h
+answered_call members m (Opened opening) (OpenSections count end_kind) h = opened m (sections_shape count end_kind) opening h
+answered_call members m (Opened opening) (OpenSingle copies) h = opened m (single_shape copies) opening h
+answered_call members m (Claimed piece) call h = claimed m piece h
+answered_call members m Left call h = left m h
+answered_call members m (Turned begun) (Begin iteration) h = part_begun m iteration begun h
+answered_call members m (Turned handed) HandOn h = piece_handed members m handed h
+answered_call members m Ended call h = part_ended m h
+answered_call members m _ _ h = h
 
-abbrev pub answered : ShareStep → ShareAnswer → List Event → List Event
-answered step answer h = answered_call step.member answer step.call h
+abbrev pub answered : ℕ → ShareStep → ShareAnswer → List Event → List Event
+answered members step answer h = answered_call members step.member answer step.call h
 
 -- the events after these calls and answers, in order
-abbrev pub events_after : List ShareStep → List ShareAnswer → List Event → List Event
-events_after [] answers h = h
-events_after (step ∷ steps) [] h = h
-events_after (step ∷ steps) (answer ∷ answers) h = events_after steps answers (answered step answer h)
+abbrev pub events_after : ℕ → List ShareStep → List ShareAnswer → List Event → List Event
+events_after members [] answers h = h
+events_after members (step ∷ steps) [] h = h
+events_after members (step ∷ steps) (answer ∷ answers) h = events_after members steps answers (answered members step answer h)
 
 -- each answer is that of its call, after those before it
 abbrev pub AreAnswers : ℕ → List ShareStep → List ShareAnswer → List Event → Type 0
 AreAnswers members [] answers h = Unit {0}
 AreAnswers members (step ∷ steps) [] h = ⊥
-AreAnswers members (step ∷ steps) (answer ∷ answers) h = IsAnswer members step answer h × AreAnswers members steps answers (answered step answer h)
+AreAnswers members (step ∷ steps) (answer ∷ answers) h = IsAnswer members step answer h × AreAnswers members steps answers (answered members step answer h)

@@ -139,7 +139,7 @@ pub trait Shares: Sized {
         ensures members { members self.new ≡ members self.old }
         ensures known { (h : List Event) × stands self.old h }
         ensures answer { EachStands (stands self.old) (λ h. result ≡ own_turn (members self.old) member h) }
-        ensures stands { EachStands (stands self.old) (λ h. stands self.new (piece_handed member result h)) }
+        ensures stands { EachStands (stands self.old) (λ h. stands self.new (piece_handed (members self.old) member result h)) }
         ensures kept { result ≡ false → self.new ≡ self.old };
 
     /// Leaves the member's share, of which nothing is left for it: it was told so, or it took the one

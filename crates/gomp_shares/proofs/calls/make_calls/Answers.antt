@@ -27,19 +27,19 @@ loop-step-preserved g c =
       room = let kept = c.push_reserved.ensures.capacity in let before = c.loop-step.invariant.room in cc;
       count = let more = c.push_reserved.ensures.len in omega arith;
       told = rw (front, c.push_reserved.ensures.items) (are_answers_more c.args.count (take i steps) c.loop-step.answers.items _ c.make_call.result [] even c.loop-step.invariant.told (c.make_call.ensures.answer _ c.loop-step.invariant.now));
-      now = rw (front, c.push_reserved.ensures.items, events_after_more (take i steps) c.loop-step.answers.items _ c.make_call.result [] even) (c.make_call.ensures.stands _ c.loop-step.invariant.now);
+      now = rw (front, c.push_reserved.ensures.items, events_after_more c.args.count (take i steps) c.loop-step.answers.items _ c.make_call.result [] even) (c.make_call.ensures.stands _ c.loop-step.invariant.now);
     }
 
 pub returns-clause-laws : goal.returns-clause-laws
 returns-clause-laws g c =
     let whole : take c.loop-step.step-index c.args.steps.now ≡ c.args.steps.now = grind (arith, common_steps) in
-    let now : g.S.Shares.stands c.loop-step.shares (events_after c.args.steps.now c.loop-step.answers.items []) = rw whole at c.loop-step.invariant.now in
+    let now : g.S.Shares.stands c.loop-step.shares (events_after c.args.count c.args.steps.now c.loop-step.answers.items []) = rw whole at c.loop-step.invariant.now in
     let rule = rw c.loop-step.invariant.team at (g.met.S.Shares.ruled c.loop-step.shares _ now) in
     c.share_laws.ensures (schedule c.args.count) c.args.count _ rule
 
 pub returns-clause-ordered : goal.returns-clause-ordered
 returns-clause-ordered g c =
     let whole : take c.loop-step.step-index c.args.steps.now ≡ c.args.steps.now = grind (arith, common_steps) in
-    let now : g.S.Shares.stands c.loop-step.shares (events_after c.args.steps.now c.loop-step.answers.items []) = rw whole at c.loop-step.invariant.now in
+    let now : g.S.Shares.stands c.loop-step.shares (events_after c.args.count c.args.steps.now c.loop-step.answers.items []) = rw whole at c.loop-step.invariant.now in
     let rule = rw c.loop-step.invariant.team at (g.met.S.Shares.ruled c.loop-step.shares _ now) in
     c.ordered_laws.ensures c.args.count _ rule

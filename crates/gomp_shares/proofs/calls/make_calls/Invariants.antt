@@ -12,5 +12,5 @@ invariant-loop-step g l =
       room : vec_capacity l.answers ≡ length l.steps;
       count : vec_len l.answers ≡ l.step-index;
       told : AreAnswers l.count (take l.step-index l.steps) l.answers.items [];
-      now : stands l.shares (events_after (take l.step-index l.steps) l.answers.items []);
+      now : stands l.shares (events_after l.count (take l.step-index l.steps) l.answers.items []);
     }
