@@ -332,9 +332,9 @@ over_stands members share h over m lt = end_stands share m h (every_tells member
 
 room_over : (members share old : ℕ) (h : List Event) → share ≡ old + OPEN_SHARES → has_room members share h ≡ true → is_over members old h ≡ true
 room_over members share old h e room =
-    elim (or_tells (nat_lt share 8) (is_over members (share - 8) h) room) [
+    elim (or_tells (nat_lt share OPEN_SHARES) (is_over members (share - OPEN_SHARES) h) room) [
       | inl low ↦ absurd (grind (arith, nat_tests))
-      | inr over ↦ let number : share - 8 ≡ old = omega arith in rw number at over
+      | inr over ↦ let number : share - OPEN_SHARES ≡ old = omega arith in rw number at over
     ]
 
 -- The laws

@@ -4,6 +4,7 @@ use Rattle.std.specs.Prelude.{◌==◌, ◌&&◌, ◌-◌, nat_lt}
 use Rattle.std.proofs.lemmas.Bool.Decides.{nat_tests}
 use Rattle.std.proofs.lemmas.Bool.{cases_Bool}
 use Rattle.gomp_types.specs.declared.shape.Shape.{Shape}
+use Rattle.gomp_types.specs.declared.limits.TheConstants.{OPEN_SHARES}
 use Rattle.gomp_types.specs.declared.event.Event.{Event}
 use Rattle.gomp_types.specs.declared.event.Event.TheVariants.{Enter, End}
 use Rattle.gomp_types.specs.Events.{entered, open_share, shape_at, has_ended, is_over}
@@ -43,33 +44,33 @@ pub over_stays : (members i : ℕ) (event : Event) (h : List Event) → is_over 
 over_stays members i event h over = every_by members (λ m. has_ended i m (event ∷ h)) (λ m lt. ended_stays i m event h (every_tells members (λ x. has_ended i x h) m over lt))
 
 -- a share that was entered had room
-room_was : (deal : Deal) (members i : ℕ) (shape : Shape) (h : List Event) → Always (ShareRule deal members) h → shape_at i h ≡ Some shape → 8 ≤ i → is_over members (i - 8) h ≡ true
+room_was : (deal : Deal) (members i : ℕ) (shape : Shape) (h : List Event) → Always (ShareRule deal members) h → shape_at i h ≡ Some shape → OPEN_SHARES ≤ i → is_over members (i - OPEN_SHARES) h ≡ true
 room_was deal members i shape [] all at far = absurd (cc)
 room_was deal members i shape (Enter share member other ∷ earlier) all at far =
     elim (tells (share == i) (Some other) (shape_at i earlier) (Some shape) at) [
       | inl e ↦
           let number = is_equal share i e.0 in
-          elim (or_tells (nat_lt share 8) (is_over members (share - 8) earlier) all.0.room) [
+          elim (or_tells (nat_lt share OPEN_SHARES) (is_over members (share - OPEN_SHARES) earlier) all.0.room) [
             | inl low ↦ absurd (grind (arith, nat_tests))
-            | inr over ↦ over_stays members (i - 8) (Enter share member other) earlier (rw number at over)
+            | inr over ↦ over_stays members (i - OPEN_SHARES) (Enter share member other) earlier (rw number at over)
           ]
-      | inr e ↦ over_stays members (i - 8) (Enter share member other) earlier (room_was deal members i shape earlier all.1 e.1 far)
+      | inr e ↦ over_stays members (i - OPEN_SHARES) (Enter share member other) earlier (room_was deal members i shape earlier all.1 e.1 far)
     ]
-room_was deal members i shape (event ∷ earlier) all at far = over_stays members (i - 8) event earlier (room_was deal members i shape earlier all.1 at far)
+room_was deal members i shape (event ∷ earlier) all at far = over_stays members (i - OPEN_SHARES) event earlier (room_was deal members i shape earlier all.1 at far)
 
 -- and so had those before it
-over_before : (deal : Deal) (members most i j : ℕ) (shape : Shape) (h : List Event) → Always (ShareRule deal members) h → shape_at i h ≡ Some shape → i ≤ most → 8 + j ≤ i → (k : ℕ) → i ≡ 8 * k + j → is_over members j h ≡ true
+over_before : (deal : Deal) (members most i j : ℕ) (shape : Shape) (h : List Event) → Always (ShareRule deal members) h → shape_at i h ≡ Some shape → i ≤ most → OPEN_SHARES + j ≤ i → (k : ℕ) → i ≡ OPEN_SHARES * k + j → is_over members j h ≡ true
 over_before deal zero most i j shape h all at few far k number = refl
 over_before deal (suc others) zero i j shape h all at few far k number = absurd (omega arith)
 over_before deal (suc others) (suc most) i j shape h all at few far zero number = absurd (omega arith)
 over_before deal (suc others) (suc most) i j shape h all at few far (suc zero) number =
-    let eight : i - 8 ≡ j = omega arith in
+    let eight : i - OPEN_SHARES ≡ j = omega arith in
     rw eight at (room_was deal (suc others) i shape h all at (omega arith))
 over_before deal (suc others) (suc most) i j shape h all at few far (suc (suc k)) number =
     let over = room_was deal (suc others) i shape h all at (omega arith) in
-    let ended = every_tells (suc others) (λ x. has_ended (i - 8) x h) 0 over (omega arith) in
-    let found = ended_none deal (suc others) 0 (i - 8) h all ended in
-    over_before deal (suc others) most (i - 8) j found.0 h all found.1 (omega arith) (omega arith) (suc k) (omega arith)
+    let ended = every_tells (suc others) (λ x. has_ended (i - OPEN_SHARES) x h) 0 over (omega arith) in
+    let found = ended_none deal (suc others) 0 (i - OPEN_SHARES) h all ended in
+    over_before deal (suc others) most (i - OPEN_SHARES) j found.0 h all found.1 (omega arith) (omega arith) (suc k) (omega arith)
 
-pub eight_before : (deal : Deal) (members i j k : ℕ) (shape : Shape) (h : List Event) → Always (ShareRule deal members) h → shape_at i h ≡ Some shape → i ≡ 8 * suc k + j → is_over members j h ≡ true
+pub eight_before : (deal : Deal) (members i j k : ℕ) (shape : Shape) (h : List Event) → Always (ShareRule deal members) h → shape_at i h ≡ Some shape → i ≡ OPEN_SHARES * suc k + j → is_over members j h ≡ true
 eight_before deal members i j k shape h all at number = over_before deal members i i j shape h all at (omega arith) (omega arith) (suc k) number

@@ -6,6 +6,7 @@
 
 ghost use Rattle.std.specs.Prelude.{ℕ, List, Some, None, true, false, is_some, suc, ◌+◌, ◌*◌, ◌<◌, ◌≡◌};
 ghost use Rattle.gomp_types.specs.declared.event.Event.{Event};
+ghost use Rattle.gomp_types.specs.declared.limits.TheConstants.{OPEN_SHARES};
 ghost use Rattle.gomp_types.specs.declared.shape.Shape.{Shape};
 ghost use Rattle.gomp_types.specs.Deals.{Deal, FirstOfQueue, schedule, takes_in, next_for};
 ghost use Rattle.gomp_types.specs.Pieces.{Piece};
@@ -56,7 +57,7 @@ pub fn next_is_open()
 /// Of the shares whose numbers differ by a multiple of eight all but the last that was entered are
 /// over: so eight places serve them.
 pub fn eight_before()
-    ensures { (members : ℕ) → (i : ℕ) → (j : ℕ) → (k : ℕ) → (shape : Shape) → (h : List Event) → Always (ShareRule (schedule members) members) h → shape_at i h ≡ Some shape → i ≡ 8 * suc k + j → is_over members j h ≡ true }
+    ensures { (members : ℕ) → (i : ℕ) → (j : ℕ) → (k : ℕ) → (shape : Shape) → (h : List Event) → Always (ShareRule (schedule members) members) h → shape_at i h ≡ Some shape → i ≡ OPEN_SHARES * suc k + j → is_over members j h ≡ true }
 {}
 
 /// A member in an ordered part is in a loop.
