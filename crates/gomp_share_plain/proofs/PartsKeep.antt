@@ -7,18 +7,19 @@ use Rattle.gomp_types.specs.declared.shape.Shape.{Shape}
 use Rattle.gomp_types.specs.declared.event.Event.{Event}
 use Rattle.gomp_types.specs.declared.event.Event.TheVariants.{HandOn, Part, PartEnd}
 use Rattle.gomp_types.specs.Pieces.{Piece, Tiles, pieces_of}
-use Rattle.gomp_types.specs.Events.{open_number, turn, is_inside, shape_at}
+use Rattle.gomp_types.specs.Events.{open_share, open_number, turn, is_inside, shape_at}
 use Rattle.gomp_types.specs.Values.{IsShape}
 use Rattle.gomp_types.specs.Limits.{shown}
 use Rattle.gomp_types.proofs.Booleans.{same_number}
 use Rattle.gomp_types.proofs.Lists.{slice_get-set_same, slice_get-set_other}
-use Rattle.gomp_shares.specs.Calls.{CanBeginPart, CanEndPart, CanHandOn, own_turn, taken_of}
+use Rattle.gomp_shares.specs.Calls.{CanBeginPart, CanEndPart, CanHandOn, own_turn, number_in, taken_of}
 use Rattle.gomp_shares.proofs.AnswerRules.{part_rule, part_end_rule, hand_on_rule, begins_inside, hands_inside}
 use Rattle.gomp_types.specs.Seen.{seen_of}
 use Rattle.gomp_share_plain.specs.declared.seat.Seat.{Seat}
 use Rattle.gomp_share_plain.specs.declared.open_share.OpenShare.{OpenShare}
 use Rattle.gomp_share_plain.specs.Plain.{SeatStands, StandsFor}
-use Rattle.gomp_share_plain.proofs.Turns.{lies, turn_of}
+use Rattle.gomp_types.proofs.Numbering.{lies}
+use Rattle.gomp_share_plain.proofs.Turns.{turn_of}
 use Rattle.gomp_share_plain.specs.Same.{seat_same, place_same}
 use Rattle.gomp_share_plain.proofs.Seats.{inside, inside_number, seat_steps}
 use Rattle.gomp_share_plain.proofs.Places.{places_apart, here_is, here_valid, shape_here, own_place, own_share}
@@ -135,7 +136,7 @@ turn_else i j m piece h other = grind (arith, nat_tests)
 -- a member hands its piece on
 pub hands : (members : ℕ) (seats : List Seat) (count : ℕ) (places : List (Option OpenShare)) (h : List Event) (m : ℕ) (seat : Seat) (share : OpenShare) →
     StandsFor members seats count places h → slice_get seats m ≡ Some seat → slice_get places (seat.ended % 8) ≡ Some (Some share) → CanHandOn members m (seen_of m h) → own_turn members m h ≡ true → seat.number ≡ share.turn →
-    StandsFor members seats count (slice_set places (seat.ended % 8) (Some (record share { turn = seat.number + 1 }))) (HandOn (open_number m h) m (turn (open_number m h) h) ∷ h)
+    StandsFor members seats count (slice_set places (seat.ended % 8) (Some (record share { turn = seat.number + 1 }))) (HandOn (open_number m h) m (number_in members (open_share m h) m h) ∷ h)
 hands members seats count places h m seat share st at found can next is =
     let within = hands_inside members m h can in
     let s : SeatStands members m seat count h = st.seat m seat at in
@@ -150,24 +151,24 @@ hands members seats count places h m seat share st at found can next is =
       size = st.size;
       team = st.team;
       eight = length-set places (seat.ended % 8) _ ∙ st.eight;
-      seat = λ k other at_k. seat_same members k other count (HandOn (open_number m h) m (turn (open_number m h) h) ∷ h) h (record { seen = refl; left = λ i. refl; taken = λ i. refl; shape = λ i shape is. is }) (st.seat k other at_k);
+      seat = λ k other at_k. seat_same members k other count (HandOn (open_number m h) m (number_in members (open_share m h) m h) ∷ h) h (record { seen = refl; left = λ i. refl; taken = λ i. refl; shape = λ i shape is. is }) (st.seat k other at_k);
       place = λ i low high. elim (eqb_tells i seat.ended) [
         | inl e ↦ record {
           share = record share { turn = seat.number + 1 };
           there = rw e.1 (slice_get-set_same places (seat.ended % 8) _ room);
           shape = ap (λ n. shape_at n h) e.1 ∙ shape_here members seat.ended (slice_get places (seat.ended % 8)) share h now found;
           taken_is = ap (λ n. shown (taken_of n h)) e.1 ∙ taken;
-          turn_is = subst (λ (n : ℕ). turn n (HandOn (open_number m h) m (turn (open_number m h) h) ∷ h) ≡ seat.number + 1) (sym e.1)
-              (rw here (turn_here seat.ended m (turn seat.ended h) h ∙ ap (λ (n : ℕ). n + 1) (before ∙ sym is)));
+          turn_is = subst (λ (n : ℕ). turn n (HandOn (open_number m h) m (number_in members (open_share m h) m h) ∷ h) ≡ seat.number + 1) (sym e.1)
+              (rw here (turn_here seat.ended m (number_in members (open_share m h) m h) h ∙ ap (λ (n : ℕ). n + 1) (before ∙ sym is)));
           cursor_is = rw (← same) now.cursor_is;
           valid = rw (← same) now.valid;
         }
         | inr e ↦
             let apart : (i % 8) ≢ (seat.ended % 8) = places_apart i seat.ended count e.1 (omega arith) (let k = s.known in omega arith) (omega arith) (let k = s.near in omega arith) in
-            place_same members i (slice_get places (i % 8)) _ (HandOn (open_number m h) m (turn (open_number m h) h) ∷ h) h (st.place i low high)
-            (slice_get-set_other places (seat.ended % 8) (i % 8) _ apart) refl refl (rw here (turn_else i seat.ended m (turn seat.ended h) h e.1))
+            place_same members i (slice_get places (i % 8)) _ (HandOn (open_number m h) m (number_in members (open_share m h) m h) ∷ h) h (st.place i low high)
+            (slice_get-set_other places (seat.ended % 8) (i % 8) _ apart) refl refl (rw here (turn_else i seat.ended m (number_in members (open_share m h) m h) h e.1))
       ];
       beyond = λ i past. let b = st.beyond i past in
-          (b.0, b.1, rw here (turn_else i seat.ended m (turn seat.ended h) h (λ same. let k = s.known in omega arith) ∙ b.2));
+          (b.0, b.1, rw here (turn_else i seat.ended m (number_in members (open_share m h) m h) h (λ same. let k = s.known in omega arith) ∙ b.2));
       rule = (hand_on_rule members m h can next, st.rule);
     }

@@ -39,7 +39,7 @@ returns-clause-stands c = λ h st0.
     let tells = next_tells _ _ _ _ h c.args.member c.index.result.now c.in-Some.share st at (hands_inside _ c.args.member h can) there can.member c.pieces_tile.ensures in
     let next = tells ∙ sym c.is_next.ensures ∙ c.if-not-is_next.false in
     let is = is_equal c.index.result.now.number c.in-Some.share.turn (and_right (is_some c.index.result.now.piece) _ (sym c.is_next.ensures ∙ c.if-not-is_next.false)) in
-    hands _ _ _ _ h c.args.member c.index.result.now c.in-Some.share st at there can next is
+    rw (← c.self.view_is) (hands _ _ _ _ h c.args.member c.index.result.now c.in-Some.share st at there can next is)
 
 pub invariant_of-self : goal.invariant_of-self
 invariant_of-self c = let (h, st0) = known_by _ _ c.self.view_is c.self.invariant in (_, returns-clause-stands c h st0)
