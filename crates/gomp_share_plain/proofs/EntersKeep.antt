@@ -3,6 +3,7 @@ use Rattle.std.proofs.Common.{◌≡◌, ◌≢◌, ℕ, ◌+◌, ◌%◌, ◌<�
 use Rattle.std.specs.Prelude.{Option}
 use Rattle.std.proofs.lemmas.Bool.Decides.{nat_tests, eqb_tells}
 use Rattle.std.proofs.lemmas.List.{length-set}
+use Rattle.gomp_types.specs.declared.limits.TheConstants.{OPEN_SHARES}
 use Rattle.gomp_types.specs.declared.shape.Shape.{Shape}
 use Rattle.gomp_types.specs.declared.event.Event.{Event}
 use Rattle.gomp_types.specs.declared.event.Event.TheVariants.{Enter}
@@ -22,7 +23,7 @@ use Rattle.gomp_share_plain.proofs.Seats.{outside, other_number, other_seat, sea
 use Rattle.gomp_share_plain.proofs.Places.{places_differ}
 
 -- the seat of the member that enters
-own_enters : (members m : ℕ) (seat : Seat) (opened more : ℕ) (shape : Shape) (h : List Event) → SeatStands members m seat opened h → seat.started ≡ seat.ended → seat.started + 1 ≤ more → more ≤ seat.ended + 8 →
+own_enters : (members m : ℕ) (seat : Seat) (opened more : ℕ) (shape : Shape) (h : List Event) → SeatStands members m seat opened h → seat.started ≡ seat.ended → seat.started + 1 ≤ more → more ≤ seat.ended + OPEN_SHARES →
     shape_at seat.started (Enter (entered m h) m shape ∷ h) ≡ Some shape →
     SeatStands members m (record new_seat { started = seat.started + 1; ended = seat.ended }) more (Enter (entered m h) m shape ∷ h)
 own_enters members m seat opened more shape h s even known near there = record {
@@ -73,19 +74,19 @@ enters members seats opened places h m seat shape st at can may before same =
 -- a member opens the next share
 pub opens : (members : ℕ) (seats : List Seat) (count : ℕ) (places : List (Option OpenShare)) (h : List Event) (m : ℕ) (seat : Seat) (shape : Shape) (cursor : CursorView) → cursor.plan ≡ record { members = members; shape = shape } →
     StandsFor members seats count places h → slice_get seats m ≡ Some seat → CanOpen members m shape (seen_of m h) → MayOpen members m shape Entered h → seat.started ≡ count →
-    ((k : ℕ) (other : Seat) → slice_get seats k ≡ Some other → count < other.ended + 8) →
-    StandsFor members (slice_set seats m (record new_seat { started = count + 1; ended = seat.ended })) (count + 1) (slice_set places (count % 8) (Some (record { shape = shape; taken = 0; turn = 0; cursor = cursor }))) (Enter (entered m h) m shape ∷ h)
+    ((k : ℕ) (other : Seat) → slice_get seats k ≡ Some other → count < other.ended + OPEN_SHARES) →
+    StandsFor members (slice_set seats m (record new_seat { started = count + 1; ended = seat.ended })) (count + 1) (slice_set places (count % OPEN_SHARES) (Some (record { shape = shape; taken = 0; turn = 0; cursor = cursor }))) (Enter (entered m h) m shape ∷ h)
 opens members seats count places h m seat shape cursor plan st at can may now room =
     let s : SeatStands members m seat count h = st.seat m seat at in
     let here : entered m h ≡ count = s.started ∙ now in
     let even : seat.started ≡ seat.ended = outside members m seat count h s can.outside in
     let none = st.beyond count (omega arith) in
-    let within : (count % 8) < length places = rw st.eight (omega arith) in
+    let within : (count % OPEN_SHARES) < length places = rw st.eight (omega arith) in
     let away : (i : ℕ) → i ≢ count → shape_at i (Enter (entered m h) m shape ∷ h) ≡ shape_at i h = λ i differ. rw (here, other_number i count differ) refl in
     record {
       size = length-set seats m _ ∙ st.size;
       team = st.team;
-      eight = length-set places (count % 8) _ ∙ st.eight;
+      eight = length-set places (count % OPEN_SHARES) _ ∙ st.eight;
       seat = λ k other at_k. elim (slice_get-set seats m k _ other at_k) [
         | inl e ↦ let r = room m seat at in
             rw (e.0, e.1, ← now) (own_enters members m seat count (seat.started + 1) shape h s even (omega arith) (omega arith) (let w = s.started in grind (arith, nat_tests, w)))
@@ -97,15 +98,15 @@ opens members seats count places h m seat shape cursor plan st at can may now ro
       place = λ i low high. elim (eqb_tells i count) [
         | inl e ↦ record {
           share = record { shape = shape; taken = 0; turn = 0; cursor = cursor };
-          there = rw e.1 (slice_get-set_same places (count % 8) _ within);
+          there = rw e.1 (slice_get-set_same places (count % OPEN_SHARES) _ within);
           shape = grind (arith, nat_tests, here, e.1);
           taken_is = let zero_taken = none.1 (λ k. 0) 0 in ap (λ n. shown (taken_of n h)) e.1 ∙ ap shown zero_taken;
           turn_is = ap (λ n. turn n h) e.1 ∙ none.2;
           cursor_is = plan;
           valid = can.valid;
         }
-        | inr e ↦ place_same members i (slice_get places (i % 8)) _ (Enter (entered m h) m shape ∷ h) h (st.place i (omega (arith, e.1)) (omega arith))
-            (slice_get-set_other places (count % 8) (i % 8) _ (places_differ i count (omega (arith, e.1)) (omega arith))) (away i e.1) refl refl
+        | inr e ↦ place_same members i (slice_get places (i % OPEN_SHARES)) _ (Enter (entered m h) m shape ∷ h) h (st.place i (omega (arith, e.1)) (omega arith))
+            (slice_get-set_other places (count % OPEN_SHARES) (i % OPEN_SHARES) _ (places_differ i count (omega (arith, e.1)) (omega arith))) (away i e.1) refl refl
       ];
       beyond = λ i past. let b = st.beyond i (omega arith) in (away i (λ same. omega arith) ∙ b.0, b.1, b.2);
       rule = (enter_rule members m shape h can may, st.rule);

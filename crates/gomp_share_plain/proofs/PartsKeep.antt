@@ -3,6 +3,7 @@ use Rattle.std.proofs.Common.{◌≡◌, ◌≢◌, ℕ, ◌+◌, ◌%◌, ◌^�
 use Rattle.std.specs.Prelude.{◌==◌, ◌&&◌, is_some}
 use Rattle.std.proofs.lemmas.Bool.Decides.{nat_tests, eqb_tells}
 use Rattle.std.proofs.lemmas.List.{length-set}
+use Rattle.gomp_types.specs.declared.limits.TheConstants.{OPEN_SHARES}
 use Rattle.gomp_types.specs.declared.shape.Shape.{Shape}
 use Rattle.gomp_types.specs.declared.event.Event.{Event}
 use Rattle.gomp_types.specs.declared.event.Event.TheVariants.{HandOn, Part, PartEnd}
@@ -32,21 +33,21 @@ PiecesTile = (members : ℕ) (shape : Shape) → 0 < members → IsShape shape �
 
 -- the pieces of the share that a member is in
 tiled : (members : ℕ) (seats : List Seat) (count : ℕ) (places : List (Option OpenShare)) (h : List Event) (m : ℕ) (seat : Seat) (share : OpenShare) →
-    StandsFor members seats count places h → slice_get seats m ≡ Some seat → is_inside m h ≡ true → slice_get places (seat.ended % 8) ≡ Some (Some share) → m < members → PiecesTile →
+    StandsFor members seats count places h → slice_get seats m ≡ Some seat → is_inside m h ≡ true → slice_get places (seat.ended % OPEN_SHARES) ≡ Some (Some share) → m < members → PiecesTile →
     Tiles 0 (pieces_of members share.shape) share.shape.trips
 tiled members seats count places h m seat share st at within found lt tile =
-    let valid = here_valid members seat.ended (slice_get places (seat.ended % 8)) share h (own_place members seats count places h m seat st at within) found in
+    let valid = here_valid members seat.ended (slice_get places (seat.ended % OPEN_SHARES)) share h (own_place members seats count places h m seat st at within) found in
     tile members share.shape (omega arith) valid
 
 -- a member has the turn where its piece has its number
 pub next_tells : (members : ℕ) (seats : List Seat) (count : ℕ) (places : List (Option OpenShare)) (h : List Event) (m : ℕ) (seat : Seat) (share : OpenShare) →
-    StandsFor members seats count places h → slice_get seats m ≡ Some seat → is_inside m h ≡ true → slice_get places (seat.ended % 8) ≡ Some (Some share) → m < members → PiecesTile →
+    StandsFor members seats count places h → slice_get seats m ≡ Some seat → is_inside m h ≡ true → slice_get places (seat.ended % OPEN_SHARES) ≡ Some (Some share) → m < members → PiecesTile →
     own_turn members m h ≡ (is_some seat.piece && seat.number == share.turn)
 next_tells members seats count places h m seat share st at within found lt tile =
     let s : SeatStands members m seat count h = st.seat m seat at in
     let there = own_share members seats count places h m seat share st at within found in
     let p = own_place members seats count places h m seat st at within in
-    let same = here_is members seat.ended (slice_get places (seat.ended % 8)) share h p found in
+    let same = here_is members seat.ended (slice_get places (seat.ended % OPEN_SHARES)) share h p found in
     let now : turn seat.ended h ≡ share.turn = rw (← same) p.turn_is in
     rw (there, s.piece, now) (turn_of share.shape.trips (pieces_of members share.shape) seat.number share.turn seat.piece
     (tiled members seats count places h m seat share st at within found lt tile)
@@ -54,12 +55,12 @@ next_tells members seats count places h m seat share st at within found lt tile 
 
 -- the number of its piece is below that of its iterations
 pub number_below : (members : ℕ) (seats : List Seat) (count : ℕ) (places : List (Option OpenShare)) (h : List Event) (m : ℕ) (seat : Seat) (share : OpenShare) (piece : Piece) →
-    StandsFor members seats count places h → slice_get seats m ≡ Some seat → is_inside m h ≡ true → slice_get places (seat.ended % 8) ≡ Some (Some share) → m < members → PiecesTile →
+    StandsFor members seats count places h → slice_get seats m ≡ Some seat → is_inside m h ≡ true → slice_get places (seat.ended % OPEN_SHARES) ≡ Some (Some share) → m < members → PiecesTile →
     seat.piece ≡ Some piece → (seat.number < 2 ^ 39) × (piece.1 ≤ 2 ^ 39)
 number_below members seats count places h m seat share piece st at within found lt tile is =
     let s : SeatStands members m seat count h = st.seat m seat at in
     let there = own_share members seats count places h m seat share st at within found in
-    let valid = here_valid members seat.ended (slice_get places (seat.ended % 8)) share h (own_place members seats count places h m seat st at within) found in
+    let valid = here_valid members seat.ended (slice_get places (seat.ended % OPEN_SHARES)) share h (own_place members seats count places h m seat st at within) found in
     let tiles = tiled members seats count places h m seat share st at within found lt tile in
     let lie = lies 0 share.shape.trips (pieces_of members share.shape) seat.number piece tiles (s.number (seat.ended, share.shape) piece there is) in
     let from = lie.from in let some = lie.some in let most = lie.within in let few = valid.trips in
@@ -135,28 +136,28 @@ turn_else i j m piece h other = grind (arith, nat_tests)
 
 -- a member hands its piece on
 pub hands : (members : ℕ) (seats : List Seat) (count : ℕ) (places : List (Option OpenShare)) (h : List Event) (m : ℕ) (seat : Seat) (share : OpenShare) →
-    StandsFor members seats count places h → slice_get seats m ≡ Some seat → slice_get places (seat.ended % 8) ≡ Some (Some share) → CanHandOn members m (seen_of m h) → own_turn members m h ≡ true → seat.number ≡ share.turn →
-    StandsFor members seats count (slice_set places (seat.ended % 8) (Some (record share { turn = seat.number + 1 }))) (HandOn (open_number m h) m (number_in members (open_share m h) m h) ∷ h)
+    StandsFor members seats count places h → slice_get seats m ≡ Some seat → slice_get places (seat.ended % OPEN_SHARES) ≡ Some (Some share) → CanHandOn members m (seen_of m h) → own_turn members m h ≡ true → seat.number ≡ share.turn →
+    StandsFor members seats count (slice_set places (seat.ended % OPEN_SHARES) (Some (record share { turn = seat.number + 1 }))) (HandOn (open_number m h) m (number_in members (open_share m h) m h) ∷ h)
 hands members seats count places h m seat share st at found can next is =
     let within = hands_inside members m h can in
     let s : SeatStands members m seat count h = st.seat m seat at in
     let here : open_number m h ≡ seat.ended = inside_number members m seat count h s within in
     let one : seat.started ≡ seat.ended + 1 = inside members m seat count h s within in
-    let room : (seat.ended % 8) < length places = rw st.eight (omega arith) in
+    let room : (seat.ended % OPEN_SHARES) < length places = rw st.eight (omega arith) in
     let now = own_place members seats count places h m seat st at within in
-    let same = here_is members seat.ended (slice_get places (seat.ended % 8)) share h now found in
+    let same = here_is members seat.ended (slice_get places (seat.ended % OPEN_SHARES)) share h now found in
     let before : turn seat.ended h ≡ share.turn = rw (← same) now.turn_is in
     let taken : shown (taken_of seat.ended h) ≡ share.taken = rw (← same) now.taken_is in
     record {
       size = st.size;
       team = st.team;
-      eight = length-set places (seat.ended % 8) _ ∙ st.eight;
+      eight = length-set places (seat.ended % OPEN_SHARES) _ ∙ st.eight;
       seat = λ k other at_k. seat_same members k other count (HandOn (open_number m h) m (number_in members (open_share m h) m h) ∷ h) h (record { seen = refl; left = λ i. refl; taken = λ i. refl; shape = λ i shape is. is }) (st.seat k other at_k);
       place = λ i low high. elim (eqb_tells i seat.ended) [
         | inl e ↦ record {
           share = record share { turn = seat.number + 1 };
-          there = rw e.1 (slice_get-set_same places (seat.ended % 8) _ room);
-          shape = ap (λ n. shape_at n h) e.1 ∙ shape_here members seat.ended (slice_get places (seat.ended % 8)) share h now found;
+          there = rw e.1 (slice_get-set_same places (seat.ended % OPEN_SHARES) _ room);
+          shape = ap (λ n. shape_at n h) e.1 ∙ shape_here members seat.ended (slice_get places (seat.ended % OPEN_SHARES)) share h now found;
           taken_is = ap (λ n. shown (taken_of n h)) e.1 ∙ taken;
           turn_is = subst (λ (n : ℕ). turn n (HandOn (open_number m h) m (number_in members (open_share m h) m h) ∷ h) ≡ seat.number + 1) (sym e.1)
               (rw here (turn_here seat.ended m (number_in members (open_share m h) m h) h ∙ ap (λ (n : ℕ). n + 1) (before ∙ sym is)));
@@ -164,9 +165,9 @@ hands members seats count places h m seat share st at found can next is =
           valid = rw (← same) now.valid;
         }
         | inr e ↦
-            let apart : (i % 8) ≢ (seat.ended % 8) = places_apart i seat.ended count e.1 (omega arith) (let k = s.known in omega arith) (omega arith) (let k = s.near in omega arith) in
-            place_same members i (slice_get places (i % 8)) _ (HandOn (open_number m h) m (number_in members (open_share m h) m h) ∷ h) h (st.place i low high)
-            (slice_get-set_other places (seat.ended % 8) (i % 8) _ apart) refl refl (rw here (turn_else i seat.ended m (number_in members (open_share m h) m h) h e.1))
+            let apart : (i % OPEN_SHARES) ≢ (seat.ended % OPEN_SHARES) = places_apart i seat.ended count e.1 (omega arith) (let k = s.known in omega arith) (omega arith) (let k = s.near in omega arith) in
+            place_same members i (slice_get places (i % OPEN_SHARES)) _ (HandOn (open_number m h) m (number_in members (open_share m h) m h) ∷ h) h (st.place i low high)
+            (slice_get-set_other places (seat.ended % OPEN_SHARES) (i % OPEN_SHARES) _ apart) refl refl (rw here (turn_else i seat.ended m (number_in members (open_share m h) m h) h e.1))
       ];
       beyond = λ i past. let b = st.beyond i past in
           (b.0, b.1, rw here (turn_else i seat.ended m (number_in members (open_share m h) m h) h (λ same. let k = s.known in omega arith) ∙ b.2));

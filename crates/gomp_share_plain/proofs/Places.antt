@@ -2,6 +2,7 @@
 use Rattle.std.proofs.Common.{◌≡◌, ◌≢◌, ℕ, ◌+◌, ◌%◌, ◌<◌, ◌≤◌, true, false, nat_lt, List, slice_get, Some, None, refl, ap, ◌∙◌, sym, arith}
 use Rattle.std.specs.Prelude.{Option, not}
 use Rattle.std.proofs.lemmas.Bool.Decides.{nat_tests}
+use Rattle.gomp_types.specs.declared.limits.TheConstants.{OPEN_SHARES}
 use Rattle.gomp_types.specs.declared.shape.Shape.{Shape}
 use Rattle.gomp_types.specs.declared.event.Event.{Event}
 use Rattle.gomp_types.specs.Shapes.{same_shape}
@@ -17,10 +18,10 @@ use Rattle.gomp_share_plain.specs.Plain.{SeatStands, PlaceStands, StandsFor}
 use Rattle.gomp_share_plain.proofs.Seats.{inside}
 
 -- eight numbers in a row lie at eight places
-pub places_differ : (i n : ℕ) → i < n → n ≤ i + 7 → (i % 8) ≢ (n % 8)
+pub places_differ : (i n : ℕ) → i < n → n ≤ i + 7 → (i % OPEN_SHARES) ≢ (n % OPEN_SHARES)
 places_differ i n low high same = absurd (omega arith)
 
-pub places_apart : (i j n : ℕ) → i ≢ j → i < n → j < n → n ≤ i + 8 → n ≤ j + 8 → (i % 8) ≢ (j % 8)
+pub places_apart : (i j n : ℕ) → i ≢ j → i < n → j < n → n ≤ i + OPEN_SHARES → n ≤ j + OPEN_SHARES → (i % OPEN_SHARES) ≢ (j % OPEN_SHARES)
 places_apart i j n differ a b c d same = absurd (omega (arith, differ))
 
 -- what was read there lies there
@@ -48,7 +49,7 @@ shape_here members i place share h p e = p.shape ∙ ap (λ (v : OpenShare). Som
 
 -- the place of the share that the member is in
 pub own_place : (members : ℕ) (seats : List Seat) (count : ℕ) (places : List (Option OpenShare)) (h : List Event) (m : ℕ) (seat : Seat) →
-    StandsFor members seats count places h → slice_get seats m ≡ Some seat → is_inside m h ≡ true → PlaceStands members seat.ended (slice_get places (seat.ended % 8)) h
+    StandsFor members seats count places h → slice_get seats m ≡ Some seat → is_inside m h ≡ true → PlaceStands members seat.ended (slice_get places (seat.ended % OPEN_SHARES)) h
 own_place members seats count places h m seat st at within =
     let s : SeatStands members m seat count h = st.seat m seat at in
     let one : seat.started ≡ seat.ended + 1 = inside members m seat count h s within in
@@ -56,12 +57,12 @@ own_place members seats count places h m seat st at within =
 
 -- the share that the member is in
 pub own_share : (members : ℕ) (seats : List Seat) (count : ℕ) (places : List (Option OpenShare)) (h : List Event) (m : ℕ) (seat : Seat) (share : OpenShare) →
-    StandsFor members seats count places h → slice_get seats m ≡ Some seat → is_inside m h ≡ true → slice_get places (seat.ended % 8) ≡ Some (Some share) → open_share m h ≡ Some (seat.ended, share.shape)
+    StandsFor members seats count places h → slice_get seats m ≡ Some seat → is_inside m h ≡ true → slice_get places (seat.ended % OPEN_SHARES) ≡ Some (Some share) → open_share m h ≡ Some (seat.ended, share.shape)
 own_share members seats count places h m seat share st at within found =
     let s : SeatStands members m seat count h = st.seat m seat at in
     let p = own_place members seats count places h m seat st at within in
     let own = s.inside (inside members m seat count h s within) in
-    let one_shape : Some own.0 ≡ Some share.shape = sym own.2 ∙ shape_here members seat.ended (slice_get places (seat.ended % 8)) share h p found in
+    let one_shape : Some own.0 ≡ Some share.shape = sym own.2 ∙ shape_here members seat.ended (slice_get places (seat.ended % OPEN_SHARES)) share h p found in
     let shape : own.0 ≡ share.shape = let e = one_shape in cc in
     own.1 ∙ ap (λ (v : Shape). Some (seat.ended, v)) shape
 
@@ -74,7 +75,7 @@ next_is members seats count places h m seat st at past = let k = (st.seat m seat
 
 -- the place of the member's next share, where another has opened it
 pub next_place : (members : ℕ) (seats : List Seat) (count : ℕ) (places : List (Option OpenShare)) (h : List Event) (m : ℕ) (seat : Seat) →
-    StandsFor members seats count places h → slice_get seats m ≡ Some seat → seat.started < count → PlaceStands members seat.started (slice_get places (seat.started % 8)) h
+    StandsFor members seats count places h → slice_get seats m ≡ Some seat → seat.started < count → PlaceStands members seat.started (slice_get places (seat.started % OPEN_SHARES)) h
 next_place members seats count places h m seat st at before =
     let s : SeatStands members m seat count h = st.seat m seat at in
     st.place seat.started before (let r = s.near in let o = s.in_order in omega arith)
@@ -84,12 +85,12 @@ above_none n k e = grind (arith, nat_tests, e)
 
 -- whether a piece of the member's next share was taken: the place tells it, where the share is open
 pub next_taken : (members : ℕ) (seats : List Seat) (count : ℕ) (places : List (Option OpenShare)) (h : List Event) (m : ℕ) (seat : Seat) (share : OpenShare) →
-    StandsFor members seats count places h → slice_get seats m ≡ Some seat → seat.started < count → slice_get places (seat.started % 8) ≡ Some (Some share) →
+    StandsFor members seats count places h → slice_get seats m ≡ Some seat → seat.started < count → slice_get places (seat.started % OPEN_SHARES) ≡ Some (Some share) →
     nat_lt 0 share.taken ≡ was_taken (entered m h) h
 next_taken members seats count places h m seat share st at before found =
     let s : SeatStands members m seat count h = st.seat m seat at in
     let p = next_place members seats count places h m seat st at before in
-    let same = here_is members seat.started (slice_get places (seat.started % 8)) share h p found in
+    let same = here_is members seat.started (slice_get places (seat.started % OPEN_SHARES)) share h p found in
     let taken : shown (taken_of seat.started h) ≡ share.taken = rw (← same) p.taken_is in
     rw s.started (above_none (taken_of seat.started h) share.taken taken)
 
@@ -103,21 +104,21 @@ next_new members seats count places h m seat st at past =
 
 -- whether the member's next share is of another shape: its place tells it
 pub next_differs : (members : ℕ) (seats : List Seat) (count : ℕ) (places : List (Option OpenShare)) (h : List Event) (m : ℕ) (seat : Seat) (share : OpenShare) (shape : Shape) →
-    StandsFor members seats count places h → slice_get seats m ≡ Some seat → seat.started < count → slice_get places (seat.started % 8) ≡ Some (Some share) →
+    StandsFor members seats count places h → slice_get seats m ≡ Some seat → seat.started < count → slice_get places (seat.started % OPEN_SHARES) ≡ Some (Some share) →
     not (same_shape share.shape shape) ≡ shape_differs shape (shape_at (entered m h) h)
 next_differs members seats count places h m seat share shape st at before found =
     let s : SeatStands members m seat count h = st.seat m seat at in
     let p = next_place members seats count places h m seat st at before in
-    let same = here_is members seat.started (slice_get places (seat.started % 8)) share h p found in
+    let same = here_is members seat.started (slice_get places (seat.started % OPEN_SHARES)) share h p found in
     let there : shape_at seat.started h ≡ Some share.shape = rw (← same) p.shape in
     rw (s.started, there) refl
 
 -- where it is not, it is of the shape that the member comes with
 pub next_same : (members : ℕ) (seats : List Seat) (count : ℕ) (places : List (Option OpenShare)) (h : List Event) (m : ℕ) (seat : Seat) (share : OpenShare) (shape : Shape) →
-    StandsFor members seats count places h → slice_get seats m ≡ Some seat → seat.started < count → slice_get places (seat.started % 8) ≡ Some (Some share) →
+    StandsFor members seats count places h → slice_get seats m ≡ Some seat → seat.started < count → slice_get places (seat.started % OPEN_SHARES) ≡ Some (Some share) →
     same_shape share.shape shape ≡ true → shape_at seat.started h ≡ Some shape
 next_same members seats count places h m seat share shape st at before found same =
-    shape_here members seat.started (slice_get places (seat.started % 8)) share h (next_place members seats count places h m seat st at before) found ∙ ap Some (same_shape_is share.shape shape same)
+    shape_here members seat.started (slice_get places (seat.started % OPEN_SHARES)) share h (next_place members seats count places h m seat st at before) found ∙ ap Some (same_shape_is share.shape shape same)
 
 -- and one that nobody opened differs from none
 pub new_differs : (members : ℕ) (seats : List Seat) (count : ℕ) (places : List (Option OpenShare)) (h : List Event) (m : ℕ) (seat : Seat) (shape : Shape) →

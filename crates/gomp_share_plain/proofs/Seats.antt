@@ -3,6 +3,7 @@ use Rattle.std.proofs.Common.{◌≡◌, ◌≢◌, ℕ, ◌+◌, ◌%◌, true,
 use Rattle.std.specs.Prelude.{Option, ◌==◌}
 use Rattle.std.proofs.lemmas.Bool.Decides.{nat_tests, eqb_tells}
 use Rattle.std.proofs.lemmas.List.{length-set}
+use Rattle.gomp_types.specs.declared.limits.TheConstants.{OPEN_SHARES}
 use Rattle.gomp_types.specs.declared.shape.Shape.{Shape}
 use Rattle.gomp_types.specs.declared.event.Event.{Event}
 use Rattle.gomp_types.specs.declared.event.Event.TheVariants.{Enter, Take, Drained, End, Part, PartEnd}
@@ -69,7 +70,7 @@ seat_steps members seats count places h event now st same own rule = record {
     | inl e ↦ rw (e.0, e.1) own
     | inr e ↦ seat_same members k other count (event ∷ h) h (other_seat event k h e.0 (λ i shape is. same.shape i ∙ is)) (st.seat k other e.1)
   ];
-  place = λ i low high. place_kept members i (slice_get places (i % 8)) (event ∷ h) h same (st.place i low high);
+  place = λ i low high. place_kept members i (slice_get places (i % OPEN_SHARES)) (event ∷ h) h same (st.place i low high);
   beyond = λ i past. beyond_kept i (event ∷ h) h same (st.beyond i past);
   rule = (rule, st.rule);
 }

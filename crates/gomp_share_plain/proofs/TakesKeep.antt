@@ -3,6 +3,7 @@ use Rattle.std.proofs.Common.{◌≡◌, ◌≢◌, ℕ, ◌+◌, ◌%◌, ◌<�
 use Rattle.std.specs.Prelude.{Option, ◌==◌, IfSome}
 use Rattle.std.proofs.lemmas.Bool.Decides.{nat_tests, eqb_tells}
 use Rattle.std.proofs.lemmas.List.{length-set}
+use Rattle.gomp_types.specs.declared.limits.TheConstants.{OPEN_SHARES}
 use Rattle.gomp_types.specs.declared.shape.Shape.{Shape}
 use Rattle.gomp_types.specs.declared.event.Event.{Event}
 use Rattle.gomp_types.specs.declared.event.Event.TheVariants.{Take, Drained}
@@ -36,15 +37,15 @@ numbered members i m share number piece h other taken there plan is other_there 
 
 -- what the member may take
 pub piece_at : (members : ℕ) (seats : List Seat) (count : ℕ) (places : List (Option OpenShare)) (h : List Event) (m : ℕ) (seat : Seat) (share : OpenShare) (answer : Option Piece) →
-    StandsFor members seats count places h → slice_get seats m ≡ Some seat → is_inside m h ≡ true → slice_get places (seat.ended % 8) ≡ Some (Some share) →
+    StandsFor members seats count places h → slice_get seats m ≡ Some seat → is_inside m h ≡ true → slice_get places (seat.ended % OPEN_SHARES) ≡ Some (Some share) →
     answer ≡ next_piece share.cursor.plan m seat.taken share.taken → IfSome answer (λ piece. (piece.0 < piece.1) × (piece.1 ≤ share.cursor.plan.shape.trips)) →
     (IsShape share.shape → Tiles 0 (pieces_of members share.shape) share.shape.trips) → Claims members m answer h
 piece_at members seats count places h m seat share answer st at within found is size tiles =
     let s : SeatStands members m seat count h = st.seat m seat at in
     let p = own_place members seats count places h m seat st at within in
-    let same = here_is members seat.ended (slice_get places (seat.ended % 8)) share h p found in
+    let same = here_is members seat.ended (slice_get places (seat.ended % OPEN_SHARES)) share h p found in
     let full = inside members m seat count h s within in
-    let valid = here_valid members seat.ended (slice_get places (seat.ended % 8)) share h p found in
+    let valid = here_valid members seat.ended (slice_get places (seat.ended % OPEN_SHARES)) share h p found in
     let plan : share.cursor.plan ≡ record { members = members; shape = share.shape } = rw (← same) p.cursor_is in
     let all : shown (taken_of seat.ended h) ≡ share.taken = rw (← same) p.taken_is in
     let view : PlanView = record { members = members; shape = share.shape } in
@@ -61,22 +62,22 @@ piece_at members seats count places h m seat share answer st at within found is 
 
 -- a member takes a piece
 pub claims : (members : ℕ) (seats : List Seat) (count : ℕ) (places : List (Option OpenShare)) (h : List Event) (m : ℕ) (seat : Seat) (share : OpenShare) (number : ℕ) (piece : Piece) (cursor : CursorView) → cursor.plan ≡ share.cursor.plan → slice_get (pieces share.cursor.plan) number ≡ Some piece →
-    StandsFor members seats count places h → slice_get seats m ≡ Some seat → is_inside m h ≡ true → slice_get places (seat.ended % 8) ≡ Some (Some share) → CanClaim members m (seen_of m h) → Claims members m (Some piece) h →
-    StandsFor members (slice_set seats m (record seat { piece = Some piece; taken = shown (seat.taken + 1); number = number })) count (slice_set places (seat.ended % 8) (Some (record share { taken = shown (share.taken + 1); cursor = cursor }))) (Take (open_number m h) m piece.0 piece.1 ∷ h)
+    StandsFor members seats count places h → slice_get seats m ≡ Some seat → is_inside m h ≡ true → slice_get places (seat.ended % OPEN_SHARES) ≡ Some (Some share) → CanClaim members m (seen_of m h) → Claims members m (Some piece) h →
+    StandsFor members (slice_set seats m (record seat { piece = Some piece; taken = shown (seat.taken + 1); number = number })) count (slice_set places (seat.ended % OPEN_SHARES) (Some (record share { taken = shown (share.taken + 1); cursor = cursor }))) (Take (open_number m h) m piece.0 piece.1 ∷ h)
 claims members seats count places h m seat share number piece cursor plan is st at within found can may =
     let s : SeatStands members m seat count h = st.seat m seat at in
     let here : open_number m h ≡ seat.ended = inside_number members m seat count h s within in
     let one : seat.started ≡ seat.ended + 1 = inside members m seat count h s within in
-    let room : (seat.ended % 8) < length places = rw st.eight (omega arith) in
+    let room : (seat.ended % OPEN_SHARES) < length places = rw st.eight (omega arith) in
     let now = own_place members seats count places h m seat st at within in
-    let same = here_is members seat.ended (slice_get places (seat.ended % 8)) share h now found in
+    let same = here_is members seat.ended (slice_get places (seat.ended % OPEN_SHARES)) share h now found in
     let own_number : (other : ℕ × Shape) (taken : Piece) → open_share m h ≡ Some other → Some piece ≡ Some taken → slice_get (pieces_of members other.1) number ≡ Some taken =
     λ other taken there e. numbered members seat.ended m share number piece h other taken (own_share members seats count places h m seat share st at within found) (rw (← same) now.cursor_is) is there e in
     let away : (i : ℕ) → i ≢ seat.ended → (open_number m h == i) ≡ false = λ i differ. rw here (other_number i seat.ended differ) in
     record {
       size = length-set seats m _ ∙ st.size;
       team = st.team;
-      eight = length-set places (seat.ended % 8) _ ∙ st.eight;
+      eight = length-set places (seat.ended % OPEN_SHARES) _ ∙ st.eight;
       seat = λ k other at_k. elim (slice_get-set seats m k _ other at_k) [
         | inl e ↦ rw (e.0, e.1) (record {
           started = s.started;
@@ -101,8 +102,8 @@ claims members seats count places h m seat share number piece cursor plan is st 
       place = λ i low high. elim (eqb_tells i seat.ended) [
         | inl e ↦ record {
           share = record share { taken = shown (share.taken + 1); cursor = cursor };
-          there = rw e.1 (slice_get-set_same places (seat.ended % 8) _ room);
-          shape = ap (λ n. shape_at n h) e.1 ∙ shape_here members seat.ended (slice_get places (seat.ended % 8)) share h now found;
+          there = rw e.1 (slice_get-set_same places (seat.ended % OPEN_SHARES) _ room);
+          shape = ap (λ n. shape_at n h) e.1 ∙ shape_here members seat.ended (slice_get places (seat.ended % OPEN_SHARES)) share h now found;
           taken_is =
               let before : shown (taken_of seat.ended h) ≡ share.taken = rw (← same) now.taken_is in
               subst (λ (n : ℕ). shown (taken_of n (Take (open_number m h) m piece.0 piece.1 ∷ h)) ≡ shown (share.taken + 1)) (sym e.1)
@@ -112,9 +113,9 @@ claims members seats count places h m seat share number piece cursor plan is st 
           valid = rw (← same) now.valid;
         }
         | inr e ↦
-            let apart : (i % 8) ≢ (seat.ended % 8) = places_apart i seat.ended count e.1 (omega arith) (let k = s.known in omega arith) (omega arith) (let k = s.near in omega arith) in
-            place_same members i (slice_get places (i % 8)) _ (Take (open_number m h) m piece.0 piece.1 ∷ h) h (st.place i low high)
-            (slice_get-set_other places (seat.ended % 8) (i % 8) _ apart) refl (taken_else (λ k. 0) 0 i (open_number m h) m piece.0 piece.1 h (away i e.1)) refl
+            let apart : (i % OPEN_SHARES) ≢ (seat.ended % OPEN_SHARES) = places_apart i seat.ended count e.1 (omega arith) (let k = s.known in omega arith) (omega arith) (let k = s.near in omega arith) in
+            place_same members i (slice_get places (i % OPEN_SHARES)) _ (Take (open_number m h) m piece.0 piece.1 ∷ h) h (st.place i low high)
+            (slice_get-set_other places (seat.ended % OPEN_SHARES) (i % OPEN_SHARES) _ apart) refl (taken_else (λ k. 0) 0 i (open_number m h) m piece.0 piece.1 h (away i e.1)) refl
       ];
       beyond = λ i past. let b = st.beyond i past in (
         b.0,

@@ -1,6 +1,7 @@
 //! A share that may be open, and the place where it lies.
 
 ghost use Rattle.std.specs.Prelude.{◌≡◌, ◌%◌, ◌==◌, ◌&&◌, is_some, slice_get, Some};
+ghost use Rattle.gomp_types.specs.declared.limits.TheConstants.{OPEN_SHARES};
 ghost use Rattle.gomp_share_plain.specs.Plain.{share_there};
 
 use crate::seat::Seat;
@@ -22,14 +23,14 @@ pub struct OpenShare {
 
 /// The share that lies at the place of this number, if one does.
 pub fn share_at(places: &[Option<OpenShare>; 8], number: u64) -> Option<OpenShare>
-    ensures there { Some result ≡ slice_get places.now (number % 8) }
+    ensures there { Some result ≡ slice_get places.now (number % OPEN_SHARES) }
 {
     places[(number % 8) as usize]
 }
 
 /// The number and the shape of the share that lies at the place of this number, if one does.
 pub fn shape_there(places: &[Option<OpenShare>; 8], number: u64) -> Option<(u64, Shape)>
-    ensures answer { result ≡ share_there number (slice_get places.now (number % 8)) }
+    ensures answer { result ≡ share_there number (slice_get places.now (number % OPEN_SHARES)) }
 {
     match share_at(places, number) {
         Some(share) => Some((number, share.shape)),

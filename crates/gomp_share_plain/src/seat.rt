@@ -1,6 +1,7 @@
 //! A member's seat among the shares of a team that one thread steps.
 
 ghost use Rattle.std.specs.Prelude.{◌<◌, ◌+◌, ◌↔◌, IsTrue, All};
+ghost use Rattle.gomp_types.specs.declared.limits.TheConstants.{OPEN_SHARES};
 
 use gomp_types::OPEN_SHARES;
 
@@ -41,7 +42,7 @@ impl Seat {
 
 /// Whether every member has left the share eight before this one.
 pub fn has_room(seats: &[Seat], number: u64) -> bool
-    ensures { IsTrue result ↔ All (λ seat. number < seat.ended + 8) seats.now }
+    ensures { IsTrue result ↔ All (λ seat. number < seat.ended + OPEN_SHARES) seats.now }
 {
     seats.iter().all(|seat| number < OPEN_SHARES || number - OPEN_SHARES < seat.ended)
 }
