@@ -18,7 +18,7 @@ use Rattle.gomp_types.specs.Iterations.{loop_tests}
 use Rattle.gomp_types.specs.Pieces.{Piece, shape_of}
 use Rattle.gomp_types.specs.Values.{IsShape, value_at, iteration_at}
 use Rattle.gomp_types.specs.Events.{entered, open_share, open_number, share_number, turn, shape_at, has_room}
-use Rattle.gomp_types.specs.Ordered.{has_turn, must_wait}
+use Rattle.gomp_types.specs.Ordered.{has_turn, last_number, must_wait}
 use Rattle.gomp_types.specs.Compare.{shape_differs}
 use Rattle.gomp_types.proofs.Booleans.{same_number}
 use Rattle.gomp_types.proofs.LeastTests.{all_fail, first_is_least}
@@ -140,11 +140,11 @@ handed_by : (m i n : ℕ) (ordered : Bool) (h : List Event) → seen_of m ((if o
 handed_by m i n true h = refl
 handed_by m i n false h = refl
 
-handed_seen : (m : ℕ) (share : ℕ × Shape) (h : List Event) → seen_of m (handed_on share m h ++ h) ≡ seen_of m h
-handed_seen m share h = handed_by m share.0 (turn share.0 h) share.1.ordered h
+handed_seen : (members m : ℕ) (share : ℕ × Shape) (h : List Event) → seen_of m (handed_on members share m h ++ h) ≡ seen_of m h
+handed_seen members m share h = handed_by m share.0 (last_number members share m h) share.1.ordered h
 
-pub handed_there : (m i : ℕ) (shape : Shape) (h : List Event) → open_share m h ≡ Some (i, shape) → open_share m (handed_on (i, shape) m h ++ h) ≡ Some (i, shape)
-handed_there m i shape h there = ap (λ (s : Seen). s.current) (handed_seen m (i, shape) h) ∙ there
+pub handed_there : (members m i : ℕ) (shape : Shape) (h : List Event) → open_share m h ≡ Some (i, shape) → open_share m (handed_on members (i, shape) m h ++ h) ≡ Some (i, shape)
+handed_there members m i shape h there = ap (λ (s : Seen). s.current) (handed_seen members m (i, shape) h) ∙ there
 
 -- nor of what is dealt out
 handed_deals : (members m n : ℕ) (ordered : Bool) (share : ℕ × Shape) (answer : Option Piece) (h : List Event) →
@@ -155,15 +155,15 @@ handed_deals members m n false share answer h dealt = dealt
 
 -- what a next has of the shares before it claims: they stand for the events in which its piece was handed on, and the turn was the member's
 pub record Handed (Stand : List Event → Type 0) (members now m i : ℕ) (shape : Shape) (h : List Event) : Type 0 where
-  pub stands : Stand (handed_on (i, shape) m h ++ h)
+  pub stands : Stand (handed_on members (i, shape) m h ++ h)
   pub turn : must_wait members (i, shape) m h ≡ false
   pub same : now ≡ members
 
 pub handed : (stands : List Event → Type 0) (members now m i : ℕ) (shape : Shape) (h : List Event) → open_share m h ≡ Some (i, shape) → shape.ordered ≡ true →
-    true ≡ own_turn members m h → now ≡ members → stands (piece_handed m true h) → Handed stands members now m i shape h
+    true ≡ own_turn members m h → now ≡ members → stands (piece_handed members m true h) → Handed stands members now m i shape h
 handed stands members now m i shape h there ordered e same st =
     let last : has_turn members (i, shape) m h ≡ true = sym (rw there at e) in
-    let is : piece_handed m true h ≡ handed_on (i, shape) m h ++ h = rw (there, ordered) refl in
+    let is : piece_handed members m true h ≡ handed_on members (i, shape) m h ++ h = rw (there, ordered) refl in
     record {
       stands = subst stands is st;
       turn = may_by shape.ordered (has_turn members (i, shape) m h) last;
@@ -173,41 +173,41 @@ handed stands members now m i shape h there ordered e same st =
 -- a piece of another loop is not handed on
 pub kept : (stands : List Event → Type 0) (members now m i : ℕ) (shape : Shape) (h : List Event) → shape.ordered ≡ false → now ≡ members → stands h → Handed stands members now m i shape h
 kept stands members now m i shape h ordered same st =
-    let is : h ≡ handed_on (i, shape) m h ++ h = rw ordered refl in
+    let is : h ≡ handed_on members (i, shape) m h ++ h = rw ordered refl in
     record {
       stands = subst stands is st;
       turn = rw ordered refl;
       same = same;
     }
 
-pub next_claims : (members m i : ℕ) (shape : Shape) (seen : Seen) (h : List Event) → m < members → seen ≡ seen_of m (handed_on (i, shape) m h ++ h) → open_share m h ≡ Some (i, shape) → least (next_tests (seen_of m h)) ≡ None →
-    CanClaim members m seen
-next_claims members m i shape seen h lt e there none =
+pub next_claims : (members now m i : ℕ) (shape : Shape) (seen : Seen) (h : List Event) → m < now → seen ≡ seen_of m (handed_on members (i, shape) m h ++ h) → open_share m h ≡ Some (i, shape) → least (next_tests (seen_of m h)) ≡ None →
+    CanClaim now m seen
+next_claims members now m i shape seen h lt e there none =
     let tests = all_fail (next_tests (seen_of m h)) none in
-    rw (e, handed_seen m (i, shape) h) (record {
+    rw (e, handed_seen members m (i, shape) h) (record {
       member = lt;
       inside = rw there refl;
       more = tests.1.1.0;
       apart = tests.1.0;
     })
 
-pub next_deals : (members m i : ℕ) (shape : Shape) (answer : Option Piece) (h : List Event) → open_share m h ≡ Some (i, shape) → Claims members m answer (handed_on (i, shape) m h ++ h) → DealsOut members m (Some (i, shape)) (reply_of shape answer) h
+pub next_deals : (members m i : ℕ) (shape : Shape) (answer : Option Piece) (h : List Event) → open_share m h ≡ Some (i, shape) → Claims members m answer (handed_on members (i, shape) m h ++ h) → DealsOut members m (Some (i, shape)) (reply_of shape answer) h
 next_deals members m i shape answer h there claims =
-    handed_deals members m (turn i h) shape.ordered (i, shape) answer h (deals members m i shape answer (handed_on (i, shape) m h ++ h) (handed_there m i shape h there) claims)
+    handed_deals members m (last_number members (i, shape) m h) shape.ordered (i, shape) answer h (deals members m i shape answer (handed_on members (i, shape) m h ++ h) (handed_there members m i shape h there) claims)
 
 -- and it gives what the shares give
-pub next_adds : (members m i : ℕ) (shape : Shape) (answer : Option Piece) (h : List Event) → ValuesTell → open_share m h ≡ Some (i, shape) → Claims members m answer (handed_on (i, shape) m h ++ h) →
-    loop_next_taken m (reply_of shape answer) h ≡ claimed m answer (handed_on (i, shape) m h ++ h)
+pub next_adds : (members m i : ℕ) (shape : Shape) (answer : Option Piece) (h : List Event) → ValuesTell → open_share m h ≡ Some (i, shape) → Claims members m answer (handed_on members (i, shape) m h ++ h) →
+    loop_next_taken members m (reply_of shape answer) h ≡ claimed m answer (handed_on members (i, shape) m h ++ h)
 next_adds members m i shape None h tell there claims =
-    let same : open_number m (handed_on (i, shape) m h ++ h) ≡ i = ap share_number (handed_there m i shape h there) in
+    let same : open_number m (handed_on members (i, shape) m h ++ h) ≡ i = ap share_number (handed_there members m i shape h there) in
     rw (same, there) refl
 next_adds members m i shape (Some piece) h tell there claims =
-    let here = handed_there m i shape h there in
-    let valid = claim_valid members m i shape (Some piece) (handed_on (i, shape) m h ++ h) here claims in
-    let within = claim_within members m i shape (Some piece) (handed_on (i, shape) m h ++ h) here claims piece refl in
+    let here = handed_there members m i shape h there in
+    let valid = claim_valid members m i shape (Some piece) (handed_on members (i, shape) m h ++ h) here claims in
+    let within = claim_within members m i shape (Some piece) (handed_on members (i, shape) m h ++ h) here claims piece refl in
     let some = within.0 in
     let back : piece.0 + (piece.1 - piece.0) ≡ piece.1 = omega arith in
-    let same : open_number m (handed_on (i, shape) m h ++ h) ≡ i = ap share_number here in
+    let same : open_number m (handed_on members (i, shape) m h ++ h) ≡ i = ap share_number here in
     rw (same, there, tell shape piece.0 valid.moves, back) refl
 
 -- A start

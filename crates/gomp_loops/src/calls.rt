@@ -64,7 +64,7 @@ pub fn loop_next<S: Shares>(shares: &mut S, member: u16) -> Reply
     ensures members { S.members shares.new ≡ S.members shares.old }
     ensures known { (h : List Event) × S.stands shares.old h }
     ensures answer { EachStands (S.stands shares.old) (AnswersLoopNext (S.members shares.old) member result) }
-    ensures stands { EachStands (S.stands shares.old) (λ h. S.stands shares.new (loop_next_taken member result h)) }
+    ensures stands { EachStands (S.stands shares.old) (λ h. S.stands shares.new (loop_next_taken (S.members shares.old) member result h)) }
     ensures kept { (refusal : Refusal) → result ≡ Refused refusal → shares.new ≡ shares.old }
     ensures waits { result ≡ Wait → shares.new ≡ shares.old }
 {

@@ -45,7 +45,7 @@ claim-requires g c =
       | else-shape-via-else-shape w ↦ rw w.shares-is (kept (g.S.Shares.stands c.args.shares.now) (g.S.Shares.members c.args.shares.now) (g.S.Shares.members c.args.shares.now) c.args.member _ c.in-Some-current.shape h w.if-shape.false refl st)
     ] in
     let lt : c.args.member < g.S.Shares.members c.else-shape.shares = rw moved.same c.requires.member in
-    record { place = next_claims _ c.args.member _ c.in-Some-current.shape _ h lt (g.met.S.Shares.agrees c.else-shape.shares (handed_on (c.in-Some-current.field-0-0, c.in-Some-current.shape) c.args.member h ++ h) c.args.member moved.stands lt) there none }
+    record { place = next_claims (g.S.Shares.members c.args.shares.now) _ c.args.member _ c.in-Some-current.shape _ h lt (g.met.S.Shares.agrees c.else-shape.shares (handed_on (g.S.Shares.members c.args.shares.now) (c.in-Some-current.field-0-0, c.in-Some-current.shape) c.args.member h ++ h) c.args.member moved.stands lt) there none }
 
 pub piece_reply-requires-clause-shape : goal.piece_reply-requires-clause-shape
 piece_reply-requires-clause-shape g c =
@@ -60,7 +60,7 @@ piece_reply-requires-clause-within g c =
     let e = c.look-seen.ensures.value ∙ g.met.S.Shares.agrees c.args.shares.now h c.args.member st c.requires.member in
     let there : open_share c.args.member h ≡ Some (c.in-Some-current.field-0-0, c.in-Some-current.shape) = sym (ap (λ (s : Seen). s.current) e) ∙ c.in-Some-current.is in
     let moved = is_handed g c h st in
-    claim_within _ c.args.member _ c.in-Some-current.shape c.claim.result (handed_on (c.in-Some-current.field-0-0, c.in-Some-current.shape) c.args.member h ++ h) (handed_there c.args.member _ c.in-Some-current.shape h there) (c.claim.ensures.answer _ moved.stands)
+    claim_within _ c.args.member _ c.in-Some-current.shape c.claim.result (handed_on (g.S.Shares.members c.args.shares.now) (c.in-Some-current.field-0-0, c.in-Some-current.shape) c.args.member h ++ h) (handed_there (g.S.Shares.members c.args.shares.now) c.args.member _ c.in-Some-current.shape h there) (c.claim.ensures.answer _ moved.stands)
 
 pub returns-clause-answer : goal.returns-clause-answer
 returns-clause-answer g c = λ h st.
@@ -77,5 +77,6 @@ returns-clause-stands g c = λ h st.
     let e = c.look-seen.ensures.value ∙ g.met.S.Shares.agrees c.args.shares.now h c.args.member st c.requires.member in
     let there : open_share c.args.member h ≡ Some (c.in-Some-current.field-0-0, c.in-Some-current.shape) = sym (ap (λ (s : Seen). s.current) e) ∙ c.in-Some-current.is in
     let moved = is_handed g (goal.at.returns-clause-stands g c).After-claim h st in
-    let adds = next_adds _ c.args.member _ c.in-Some-current.shape c.claim.result h c.values_tell.ensures there (c.claim.ensures.answer _ moved.stands) in
+    let claims = rw moved.same at (c.claim.ensures.answer _ moved.stands) in
+    let adds = next_adds (g.S.Shares.members c.args.shares.now) c.args.member _ c.in-Some-current.shape c.claim.result h c.values_tell.ensures there claims in
     rw (c.piece_reply.ensures.answer, adds) (c.claim.ensures.stands _ moved.stands)
