@@ -1,5 +1,5 @@
 -- What each field of a row says of each call, and what the fields mean to a step.
-use Rattle.std.proofs.Common.{◌≡◌, true, false, List, [], ◌∷◌, Some, None, refl, rules}
+use Rattle.std.proofs.Common.{ℕ, ◌≡◌, true, false, List, [], ◌∷◌, Some, None, refl, rules}
 use Rattle.std.specs.Prelude.{Bool, Option, pos, map, ◌++◌, ◌==◌, ◌&&◌}
 use Rattle.gomp_types.specs.declared.call.Call.{Call}
 use Rattle.gomp_types.specs.declared.call.Call.TheVariants.{LoopNext, LoopEnd, LoopEndNowait, SectionsNext, SectionsEnd, SectionsEndNowait, SingleStart, SingleCopyStart, SingleCopyEnd, OrderedStart, OrderedEnd, Barrier, RegionEnd, Resume, Stop}
@@ -19,9 +19,10 @@ use Rattle.gomp_types.specs.Events.{entered, passed}
 use Rattle.gomp_types.specs.Least.{least}
 use Rattle.gomp_types.specs.Singles.{single_shape}
 use Rattle.gomp_types.specs.Tests.{Test}
-use Rattle.gomp_types.specs.EventLists.{four, at}
+use Rattle.gomp_types.specs.EventLists.{even_four, four, at}
 use Rattle.gomp_model.specs.Row.{Row, plain, at_once, once, since, row_tests, refusal_gives, events_after}
 use Rattle.gomp_model.specs.Calls.{row_of}
+use Rattle.gomp_model.specs.Loops.{loop_next_row}
 use Rattle.gomp_model.specs.Examples.{MayReplyAfter, past_with, past_after, ten_by_three, stopped_waiting}
 use Rattle.gomp_model.specs.ShareExamples.{three_sections}
 
@@ -212,6 +213,19 @@ pub given_by_others :
     × (given Barrier (Passed ∷ []) ≡ Pass 0 0 ∷ [])
     × (given Stop (Stopped ∷ []) ≡ Break 0 AtStop ∷ [])
 given_by_others = (refl, refl, refl, refl, refl, refl)
+
+-- what a member of a team of this size gives after these events, when it is told that no iteration is left
+abbrev last_given : ℕ → ℕ → List Event → List Event
+last_given members m events = loop_next_row.gives m (past_with members events) NoChunk
+
+-- the piece that it hands on has its own number, whatever was handed on before, and by the pieces of a team of this size
+pub given_by_number :
+    (last_given 2 0 (Enter 0 0 (four true) ∷ Take 0 0 2 4 ∷ []) ≡ Drained 0 0 ∷ HandOn 0 0 1 ∷ [])
+    × (last_given 2 0 (Enter 0 0 (four true) ∷ Take 0 0 2 4 ∷ HandOn 0 1 0 ∷ []) ≡ Drained 0 0 ∷ HandOn 0 0 1 ∷ [])
+    × (last_given 2 0 (Enter 0 0 (four true) ∷ Take 0 0 0 2 ∷ HandOn 0 1 0 ∷ []) ≡ Drained 0 0 ∷ HandOn 0 0 0 ∷ [])
+    × (last_given 4 2 (Enter 0 2 (record even_four { ordered = true }) ∷ Take 0 2 2 3 ∷ []) ≡ Drained 0 2 ∷ HandOn 0 2 2 ∷ [])
+    × (last_given 4 2 (Enter 0 2 even_four ∷ Take 0 2 2 3 ∷ []) ≡ Drained 0 2 ∷ [])
+given_by_number = (refl, refl, refl, refl, refl)
 
 -- Tests
 

@@ -20,7 +20,7 @@ loop_next_row = record plain {
   by_place = λ limits seen. next_tests seen;
   stays = true;
   may_reply = λ m p reply. DealsNext p.terms.members m (open_share m p.events) reply p.events;
-  gives = λ m p reply. next_given (open_share m p.events) m p.events reply;
+  gives = λ m p reply. next_given p.terms.members (open_share m p.events) m p.events reply;
 }
 
 abbrev pub loop_end_row : Row
