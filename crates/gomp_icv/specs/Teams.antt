@@ -1,5 +1,6 @@
 -- The size of a new team, and the variables of its members. OpenMP API 5.2, sections 10.1.1 and 2.4.
 use Rattle.std.specs.Prelude.{ℕ, ◌+◌, ◌-◌, min, max, nat_lt, ◌&&◌, Bool, if◌then◌else◌, Option, Some, None}
+use Rattle.gomp_types.specs.declared.limits.TheConstants.{MAX_MEMBERS}
 use Rattle.gomp_icv.specs.Variables.{Variables, first_of, without_first}
 
 -- the size that is asked for: by the num_threads clause, 0 counting as 1 (own), else by nthreads-var
@@ -19,7 +20,7 @@ may_be_active icv if_clause = if_clause && nat_lt icv.active icv.max_active_leve
 abbrev pub team_size : Variables → Option ℕ → Bool → ℕ → ℕ
 team_size icv requested if_clause busy =
     if may_be_active icv if_clause
-    then min (min (requested_size requested icv) (available_threads icv.thread_limit busy)) 64
+    then min (min (requested_size requested icv) (available_threads icv.thread_limit busy)) MAX_MEMBERS
     else 1
 
 -- the active levels around the members of a team of this size; they stay at the largest number of their type (own)

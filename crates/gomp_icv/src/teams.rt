@@ -4,6 +4,7 @@
 //! environment of its members inherits).
 
 ghost use Rattle.std.specs.Prelude.{◌≡◌, ◌≤◌};
+ghost use Rattle.gomp_types.specs.declared.limits.TheConstants.{MAX_MEMBERS};
 ghost use Rattle.gomp_icv.specs.Teams.{team_size, child};
 
 use crate::icv::Icv;
@@ -19,7 +20,7 @@ use gomp_types::MAX_MEMBERS;
 /// thread-limit-var leaves, at least 1, and of 64. dyn-var changes nothing (own).
 pub fn team_size(icv: &Icv, requested: Option<u32>, if_clause: bool, busy: u32) -> u32
     ensures size { result ≡ team_size icv.now requested if_clause busy }
-    ensures within { (1 ≤ result) × (result ≤ 64) }
+    ensures within { (1 ≤ result) × (result ≤ MAX_MEMBERS) }
     ensures limit { 1 ≤ busy → result ≤ icv.now.thread_limit }
 {
     let available = (icv.thread_limit() + 1).saturating_sub(busy).max(1);
