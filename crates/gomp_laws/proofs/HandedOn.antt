@@ -18,7 +18,7 @@ use Rattle.gomp_laws.specs.Laws.{LeavesHandedOn, HandedOnWhereOver}
 use Rattle.gomp_types.proofs.Booleans.{tells, is_equal, same_number, share_is, and_left, and_right, not_both}
 use Rattle.gomp_types.proofs.Tiling.{piece_some, piece_within}
 use Rattle.gomp_shares.proofs.SharesKeep.{inside, entry, drained_none, shape_stays, not_ended, stands_ended, shares_keep}
-use Rattle.gomp_shares.proofs.OrderedKeep.{piece_before, tiled, piece_of_turn}
+use Rattle.gomp_shares.proofs.OrderedKeep.{piece_before, tiled, piece_of_turn, hands_the_turn}
 use Rattle.gomp_laws.proofs.CopiesKeep.{never_took, takes_below}
 use Rattle.gomp_laws.proofs.TeamShares.{share_rules}
 
@@ -126,7 +126,7 @@ handed_or_held members m i low high shape (HandOn share member number ∷ earlie
             | inl handed ↦ handed_later members i m shape (low, high) (HandOn share member number) earlier handed
             | inr held ↦
                 let piece : slice_get (pieces_of members shape) (turn share earlier) ≡ Some (low, high) = rw (← same.1) (piece_of_turn members m share low high rule.shape earlier rule.next held.0) in
-                (number, inl (rw (who, same.0) refl), rw rule.number piece)
+                (number, inl (rw (who, same.0) refl), rw (hands_the_turn (schedule members) members m share number earlier (share_rules members earlier all.1) rule) piece)
           ])
       | inr e ↦ still members i m shape (low, high) (HandOn share member number) earlier refl (rw e refl) before
     ]

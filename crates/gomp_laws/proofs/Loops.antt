@@ -1,6 +1,6 @@
 -- The rows of the calls on loops.
 use Rattle.std.proofs.Common.{◌≡◌, ℕ, ◌+◌, ◌-◌, ◌<◌, Bool, true, false, List, [], ◌∷◌, ◌++◌, Option, Some, None, refl, ap, sym, ◌∙◌, arith, inl, inr}
-use Rattle.std.specs.Prelude.{ℤ, pos, ◌≢◌, ◌&&◌, not}
+use Rattle.std.specs.Prelude.{ℤ, pos, ◌≢◌, ◌&&◌, not, if◌then◌else◌}
 use Rattle.std.specs.Ordering.{int_eq}
 use Rattle.std.proofs.lemmas.Int.{ints}
 use Rattle.std.proofs.lemmas.Bool.Decides.{nat_tests}
@@ -22,8 +22,8 @@ use Rattle.gomp_types.specs.Values.{value_at, iteration_at}
 use Rattle.gomp_types.specs.Pieces.{Piece, shape_of}
 use Rattle.gomp_types.specs.Shapes.{is_loop, is_copy}
 use Rattle.gomp_types.specs.Deals.{IsDealt, schedule, next_for, taken_in}
-use Rattle.gomp_types.specs.Events.{open_share, share_number, in_kind, has_drained, in_part, holds_piece, turn}
-use Rattle.gomp_types.specs.Ordered.{has_turn, must_wait}
+use Rattle.gomp_types.specs.Events.{open_share, share_number, in_kind, has_drained, in_part, holds_piece}
+use Rattle.gomp_types.specs.Ordered.{has_turn, last_number, must_wait}
 use Rattle.gomp_types.specs.Laws.{Always}
 use Rattle.gomp_laws.specs.Rules.{TeamRule, MayLeave}
 use Rattle.gomp_shares.specs.Rules.{MayHandOn}
@@ -83,14 +83,14 @@ piece_own share shape m (Chunk first count) = (refl, tt)
 piece_own share shape m NoChunk = (refl, tt)
 piece_own share shape m _ = tt
 
-handed_own : (share : ℕ × Shape) (m : ℕ) (h : List Event) → AreOwn quiet m (handed_on share m h)
-handed_own share m h = elim (cases_Bool share.1.ordered) [ inl e ↦ rw e (refl, tt) | inr e ↦ rw e tt ]
+handed_own : (members : ℕ) (share : ℕ × Shape) (m : ℕ) (h : List Event) → AreOwn quiet m (handed_on members share m h)
+handed_own members share m h = elim (cases_Bool share.1.ordered) [ inl e ↦ rw e (refl, tt) | inr e ↦ rw e tt ]
 
-next_events_own : (own : Option (ℕ × Shape)) (m : ℕ) (h : List Event) (reply : Reply) → AreOwn quiet m (next_given own m h reply)
-next_events_own None m h reply = tt
-next_events_own (Some share) m h (Chunk first count) = own_append quiet m (piece_given share.0 share.1 m (Chunk first count)) (handed_on share m h) (refl, tt) (handed_own share m h)
-next_events_own (Some share) m h NoChunk = own_append quiet m (piece_given share.0 share.1 m NoChunk) (handed_on share m h) (refl, tt) (handed_own share m h)
-next_events_own (Some share) m h _ = tt
+next_events_own : (members : ℕ) (own : Option (ℕ × Shape)) (m : ℕ) (h : List Event) (reply : Reply) → AreOwn quiet m (next_given members own m h reply)
+next_events_own members None m h reply = tt
+next_events_own members (Some share) m h (Chunk first count) = own_append quiet m (piece_given share.0 share.1 m (Chunk first count)) (handed_on members share m h) (refl, tt) (handed_own members share m h)
+next_events_own members (Some share) m h NoChunk = own_append quiet m (piece_given share.0 share.1 m NoChunk) (handed_on members share m h) (refl, tt) (handed_own members share m h)
+next_events_own members (Some share) m h _ = tt
 
 -- What is dealt out
 
@@ -173,31 +173,36 @@ in_turn : (ordered turned : Bool) → ordered ≡ true → (ordered && not turne
 in_turn true turned e go = not_false turned go
 in_turn false turned e go = absurd (cc)
 
-may_hand_on : (members m : ℕ) (share : ℕ × Shape) (h : List Event) → open_share m h ≡ Some share → in_part m h ≡ false → share.1.ordered ≡ true → must_wait members share m h ≡ false → MayHandOn members share.0 m (turn share.0 h) h
+may_hand_on : (members m : ℕ) (share : ℕ × Shape) (h : List Event) → open_share m h ≡ Some share → in_part m h ≡ false → share.1.ordered ≡ true → must_wait members share m h ≡ false → MayHandOn members share.0 m (last_number members share m h) h
 may_hand_on members m share h at apart ordered go =
     record { shape = share.1; inside = at; ordered = ordered; apart = apart; number = refl; next = in_turn share.1.ordered (has_turn members share m h) ordered go }
 
-hand_keeps : (members m : ℕ) (share : ℕ × Shape) (reply : Reply) (h : List Event) → open_share m h ≡ Some share → in_part m h ≡ false → must_wait members share m h ≡ false → share.1.incr ≢ pos 0 → DealsOut members m (Some share) reply h → Always (TeamRule members) h →
-    Always (TeamRule members) (piece_given share.0 share.1 m reply ++ (handed_on share m h ++ h))
-hand_keeps members m share reply h at apart go moves may all =
-    elim (cases_Bool share.1.ordered) [
-      | inl e ↦ rw e (piece_keeps members m share.0 share.1 reply h (HandOn share.0 m (turn share.0 h) ∷ h) refl at apart (λ ordered. rw (same_number m) refl) moves may (may_hand_on members m share h at apart e go, all))
-      | inr e ↦ rw e (piece_keeps members m share.0 share.1 reply h h refl at apart (λ ordered. absurd (not_both share.1.ordered ordered e)) moves may all)
-    ]
+-- what is handed on is there in an ordered loop alone
+by_ordered : (P : List Event → Type 0) (ordered : Bool) (event : Event) (h : List Event) → (ordered ≡ true → P (event ∷ h)) → (ordered ≡ false → P h) → P ((if ordered then event ∷ [] else []) ++ h)
+by_ordered P true event h handed kept = handed refl
+by_ordered P false event h handed kept = kept refl
 
-next_keeps : (members m : ℕ) (reply : Reply) (h : List Event) (own : Option (ℕ × Shape)) → open_share m h ≡ own → in_part m h ≡ false → DealsNext members m own reply h → Always (TeamRule members) h → Always (TeamRule members) (next_given own m h reply ++ h)
+hand_keeps : (members m : ℕ) (share : ℕ × Shape) (reply : Reply) (h : List Event) → open_share m h ≡ Some share → in_part m h ≡ false → must_wait members share m h ≡ false → share.1.incr ≢ pos 0 → DealsOut members m (Some share) reply h → Always (TeamRule members) h →
+    Always (TeamRule members) (piece_given share.0 share.1 m reply ++ (handed_on members share m h ++ h))
+hand_keeps members m share reply h at apart go moves may all =
+    let number = last_number members share m h in
+    by_ordered (λ events. Always (TeamRule members) (piece_given share.0 share.1 m reply ++ events)) share.1.ordered (HandOn share.0 m number) h
+    (λ e. piece_keeps members m share.0 share.1 reply h (HandOn share.0 m number ∷ h) refl at apart (λ ordered. rw (same_number m) refl) moves may (may_hand_on members m share h at apart e go, all))
+    (λ e. piece_keeps members m share.0 share.1 reply h h refl at apart (λ ordered. absurd (not_both share.1.ordered ordered e)) moves may all)
+
+next_keeps : (members m : ℕ) (reply : Reply) (h : List Event) (own : Option (ℕ × Shape)) → open_share m h ≡ own → in_part m h ≡ false → DealsNext members m own reply h → Always (TeamRule members) h → Always (TeamRule members) (next_given members own m h reply ++ h)
 next_keeps members m reply h None at apart may all = absurd may
 next_keeps members m (Chunk first count) h (Some share) at apart may all =
     let moves = (inside (schedule members) members m share.0 share.1 h (share_rules members h all) at).3 in
-    regroup_rules members (piece_given share.0 share.1 m (Chunk first count)) (handed_on share m h) h (hand_keeps members m share (Chunk first count) h at apart may.0 moves may.1 all)
+    regroup_rules members (piece_given share.0 share.1 m (Chunk first count)) (handed_on members share m h) h (hand_keeps members m share (Chunk first count) h at apart may.0 moves may.1 all)
 next_keeps members m NoChunk h (Some share) at apart may all =
     let moves = (inside (schedule members) members m share.0 share.1 h (share_rules members h all) at).3 in
-    regroup_rules members (piece_given share.0 share.1 m NoChunk) (handed_on share m h) h (hand_keeps members m share NoChunk h at apart may.0 moves may.1 all)
+    regroup_rules members (piece_given share.0 share.1 m NoChunk) (handed_on members share m h) h (hand_keeps members m share NoChunk h at apart may.0 moves may.1 all)
 next_keeps members m _ h (Some share) at apart may all = all
 
-next_still : (own : Option (ℕ × Shape)) (m : ℕ) (h : List Event) → next_given own m h Wait ≡ []
-next_still None m h = refl
-next_still (Some share) m h = refl
+next_still : (members : ℕ) (own : Option (ℕ × Shape)) (m : ℕ) (h : List Event) → next_given members own m h Wait ≡ []
+next_still members None m h = refl
+next_still members (Some share) m h = refl
 
 loop_wordless : (kind : ShareKind) → is_loop kind ≡ true → is_copy kind ≡ false
 loop_wordless kinds.SingleCopy e = absurd (cc)
@@ -242,10 +247,10 @@ loop_next_sound = record {
   answered = λ again m p ready all. next_some p.terms.members m p.events (open_share m p.events) refl (ready.place refl).0 all;
   counts = λ again m p first count ready all may. next_counts p.terms.members m p.events (open_share m p.events) first count refl all may;
   begins_own = λ m p. tt;
-  gives_own = λ m p reply. own_given quiet m reply (next_given (open_share m p.events) m p.events reply) (next_events_own (open_share m p.events) m p.events reply);
+  gives_own = λ m p reply. own_given quiet m reply (next_given p.terms.members (open_share m p.events) m p.events reply) (next_events_own p.terms.members (open_share m p.events) m p.events reply);
   begins_keep = λ m p ready all. all;
   gives_keep = λ again m p reply ready may all. next_keeps p.terms.members m reply p.events (open_share m p.events) refl (ready.place refl).1.0 may all;
-  still = λ stays m p. (refl, next_still (open_share m p.events) m p.events);
+  still = λ stays m p. (refl, next_still p.terms.members (open_share m p.events) m p.events);
   tells = λ arrives m p reply may. absurd (cc);
   one_pass = λ arrives m p. absurd (cc);
   no_memory = λ m p. (refl, refl, λ again. refl);

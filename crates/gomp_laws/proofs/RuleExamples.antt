@@ -4,6 +4,7 @@ use Rattle.std.proofs.Common.{◌≡◌, ℕ, true, false, [], ◌∷◌, Option
 use Rattle.std.specs.Prelude.{pos}
 use Rattle.gomp_types.specs.declared.loop_desc.EndKind.TheVariants.{Nowait}
 use Rattle.gomp_types.specs.declared.shape.Shape.{Shape}
+use Rattle.gomp_types.specs.declared.shape.ShareKind.TheVariants.{Guided}
 use Rattle.gomp_types.specs.declared.event.Arrival.TheVariants.{Barrier, RegionEnd}
 use Rattle.gomp_types.specs.declared.event.Tag.{Tag}
 use Rattle.gomp_types.specs.declared.event.Event.TheVariants.{Enter, Take, Drained, End, HandOn, Part, PartEnd, Put, Got, Arrive, Pass}
@@ -29,6 +30,10 @@ both_have_all = record { queue_of = λ shape m. m; queue = λ shape q. (0, 4) �
 -- a loop that is in no pieces
 abbrev without_pieces : Shape
 without_pieces = record (four false) { chunk = 0 }
+
+-- an ordered loop whose pieces are all one, without an iteration: in a team of no members
+abbrev with_equal_pieces : Shape
+with_equal_pieces = record (four true) { kind = Guided; chunk = 0 }
 
 -- a share that a member is in has the shape in which it entered it
 is_shape : (share : ℕ) (one other : Shape) → ◌≡◌ {A = Option (ℕ × Shape)} (Some (share, one)) (Some (share, other)) → one ≡ other
@@ -176,10 +181,14 @@ rule_hand_on_in_part may = absurd (let apart = may.apart in cc)
 
 -- the first piece by the number of the second
 pub rule_hand_on_number : RefusedAfter (ShareRule (schedule 1) 1) (Enter 0 0 (four true) ∷ Take 0 0 0 2 ∷ []) (HandOn 0 0 1)
-rule_hand_on_number may = absurd (let number = may.number in omega arith)
+rule_hand_on_number may = let same = is_shape _ _ _ may.inside in absurd (let number = rw (← same) at may.number in cc)
 
--- the first piece by the one who has the second
-pub rule_hand_on_ahead : RefusedAfter (ShareRule (schedule 2) 2) (Enter 0 0 (four true) ∷ Take 0 0 2 4 ∷ []) (HandOn 0 0 0)
+-- a piece by the count of those that were handed on, where it has another number: there are two of it
+pub rule_hand_on_count : RefusedAfter (ShareRule (schedule 0) 0) (Enter 0 0 with_equal_pieces ∷ Take 0 0 0 0 ∷ HandOn 0 0 0 ∷ []) (HandOn 0 0 1)
+rule_hand_on_count may = let same = is_shape _ _ _ may.inside in absurd (let number = rw (← same) at may.number in cc)
+
+-- the second piece, by its own number, before the first
+pub rule_hand_on_ahead : RefusedAfter (ShareRule (schedule 2) 2) (Enter 0 0 (four true) ∷ Take 0 0 2 4 ∷ []) (HandOn 0 0 1)
 rule_hand_on_ahead may = let same = is_shape _ _ _ may.inside in let next = rw (← same) at may.next in absurd (cc)
 
 -- A member begins an ordered part
