@@ -3,22 +3,23 @@ use Rattle.std.proofs.Common.{◌≡◌, ℕ, ◌≤◌, true, refl, arith, inl,
 use Rattle.std.specs.Prelude.{nat_le}
 use Rattle.std.proofs.lemmas.Bool.{cases_Bool}
 use Rattle.std.proofs.lemmas.Bool.Decides.{nat_tests}
+use Rattle.gomp_types.specs.declared.limits.TheConstants.{MAX_MEMBERS}
 use Rattle.gomp_serve.specs.Output.{is_size}
 
-pub size_by : (n : ℕ) → (((1 ≤ n) × (n ≤ 64) → ⊥) → ⊥) → (1 ≤ n) × (n ≤ 64)
+pub size_by : (n : ℕ) → (((1 ≤ n) × (n ≤ MAX_MEMBERS) → ⊥) → ⊥) → (1 ≤ n) × (n ≤ MAX_MEMBERS)
 size_by n wrong = elim (cases_Bool (nat_le 1 n)) [
-  | inl some ↦ elim (cases_Bool (nat_le n 64)) [
+  | inl some ↦ elim (cases_Bool (nat_le n MAX_MEMBERS)) [
     | inl few ↦ (grind (arith, nat_tests, some), grind (arith, nat_tests, few))
     | inr many ↦ absurd (wrong (λ both. let le = both.1 in grind (arith, nat_tests, many, le)))
   ]
   | inr none ↦ absurd (wrong (λ both. let le = both.0 in grind (arith, nat_tests, none, le)))
 ]
 
-pub is_size_of : (n : ℕ) → (1 ≤ n) × (n ≤ 64) → is_size n ≡ true
+pub is_size_of : (n : ℕ) → (1 ≤ n) × (n ≤ MAX_MEMBERS) → is_size n ≡ true
 is_size_of n size =
     let some : nat_le 1 n ≡ true = let le = size.0 in grind (arith, nat_tests, le) in
-    let few : nat_le n 64 ≡ true = let le = size.1 in grind (arith, nat_tests, le) in
+    let few : nat_le n MAX_MEMBERS ≡ true = let le = size.1 in grind (arith, nat_tests, le) in
     rw (some, few) refl
 
-pub same_count : (n count : ℕ) → n ≡ min count 65535 → n ≤ 64 → count ≡ n
+pub same_count : (n count : ℕ) → n ≡ min count 65535 → n ≤ MAX_MEMBERS → count ≡ n
 same_count n count is le = grind (arith, is, le)

@@ -1,5 +1,5 @@
 -- How a text of steps is served and how the program ends: for each line of a definition an end that it alone refuses.
-use Rattle.std.proofs.Common.{◌≡◌, ◌<◌, ℕ, true, false, List, [], ◌∷◌, Option, Some, None, length, refl, inl, inr, arith}
+use Rattle.std.proofs.Common.{◌≡◌, ℕ, true, false, List, [], ◌∷◌, Option, Some, None, length, refl, inl, inr, arith}
 use Rattle.std.specs.Prelude.{Err, map, codes, flat_map, string_bytes}
 use Rattle.std.specs.Io.KnownBytes.{Appends}
 use Rattle.std.specs.declared.io.ErrorKind.TheVariants as io_kinds
@@ -10,14 +10,14 @@ use Rattle.gomp_types.specs.declared.call.Step.{Step}
 use Rattle.gomp_types.specs.declared.reply.Reply.{Reply}
 use Rattle.gomp_types.specs.declared.refusal.Refusal.TheVariants.{BadTeam, BadEnv}
 use Rattle.gomp_model.specs.Team.{record_after, Caused}
-use Rattle.gomp_icv.specs.Variables.{Variables, initial}
+use Rattle.gomp_icv.specs.Variables.{Variables}
 use Rattle.gomp_core.specs.Stands.{standard_terms, NoneForMemory}
 use Rattle.gomp_core.specs.Resolved.{resolved_steps}
 use Rattle.gomp_script.specs.declared.parse.Why.TheVariants.{BadNumber}
 use Rattle.gomp_script.specs.Printing.{reply_line, bad_line_text, refusal_line}
 use Rattle.gomp_script.specs.StepText.{steps_of}
-use Rattle.gomp_serve.specs.Output.{is_size, Replied, Runs, AnswerTo}
-use Rattle.gomp_serve.specs.Serving.{Whole, max_text, AnswerWritten, IsLonger, IsShort, ServingEnds, unread_as, IsUnread}
+use Rattle.gomp_serve.specs.Output.{is_size, Runs, AnswerTo}
+use Rattle.gomp_serve.specs.Serving.{Whole, max_text, IsLonger, IsShort, ServingEnds, unread_as, IsUnread}
 use Rattle.gomp_serve.specs.Settings.{IsSettingsError}
 use Rattle.gomp_serve.specs.CommandLine.{Names, notes_text, IsStatus, IsFault, HasNoWords, EndsWithRead, Told}
 use Rattle.gomp_serve.specs.declared.serve.Ending.TheVariants as ending

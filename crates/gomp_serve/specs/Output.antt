@@ -1,5 +1,6 @@
 -- What `ompteam steps` writes for a text, and with which status it ends. (own)
 use Rattle.std.specs.Prelude.{ℕ, ◌≡◌, ◌&&◌, nat_le, Bool, true, false, List, [], Result, Ok, Err, length, flat_map}
+use Rattle.gomp_types.specs.declared.limits.TheConstants.{MAX_MEMBERS}
 use Rattle.gomp_types.specs.declared.call.Step.{Step}
 use Rattle.gomp_types.specs.declared.reply.Reply.{Reply}
 use Rattle.gomp_types.specs.declared.refusal.Refusal.TheVariants.{BadTeam}
@@ -12,7 +13,7 @@ use Rattle.gomp_script.specs.Printing.{reply_line, bad_line_text, refusal_line}
 
 -- whether a team may have this many members
 abbrev pub is_size : ℕ → Bool
-is_size count = nat_le 1 count && nat_le count 64
+is_size count = nat_le 1 count && nat_le count MAX_MEMBERS
 
 -- the replies of a new team of this size, by these control variables, to the steps, one for each, a line for each; no reply is for want of memory, with which the status would be 3
 pub record Replied (icv : Variables) (count : ℕ) (steps : List Step) (text : List ℕ) (code : ℕ) : Type 0 where

@@ -1,5 +1,6 @@
 use Rattle.std.proofs.Common.{rules, ◌≡◌, ◌∙◌, ◌≤◌, true, Ok, refl, ap, arith}
 use Rattle.std.specs.Prelude.{flat_map}
+use Rattle.gomp_types.specs.declared.limits.TheConstants.{MAX_MEMBERS}
 use Rattle.gomp_script.specs.Printing.{reply_line}
 use Rattle.gomp_script.specs.StepText.{steps_of}
 use Rattle.gomp_serve.specs.Output.{is_size}
@@ -9,7 +10,7 @@ use Rattle.gomp_serve.proofs.answer.answer_steps.Goals as goal
 pub returns-in-Ok-run : goal.returns-in-Ok-run
 returns-in-Ok-run c =
     let read : steps_of c.args.text.now ≡ Ok (c.in-Ok.found.0, c.in-Ok.found.1.items) = c.in-Ok.ensures.steps in
-    let size : (1 ≤ c.team_size.result) × (c.team_size.result ≤ 64) = size_by c.team_size.result (λ wrong. let refused = c.in-Ok-run.ensures.size.1 wrong in absurd (cc)) in
+    let size : (1 ≤ c.team_size.result) × (c.team_size.result ≤ MAX_MEMBERS) = size_by c.team_size.result (λ wrong. let refused = c.in-Ok-run.ensures.size.1 wrong in absurd (cc)) in
     let same : c.in-Ok.found.0 ≡ c.team_size.result = same_count c.team_size.result c.in-Ok.found.0 c.team_size.ensures size.1 in
     let fine : is_size c.team_size.result ≡ true = is_size_of c.team_size.result size in
     rw (read, same, fine) (record {
