@@ -65,7 +65,7 @@ def run(path):
 
 
 def main():
-    subprocess.run([os.path.join(ROOT, "ompteam"), "steps"], input=b"team 1\n", check=True)
+    subprocess.run([os.path.join(ROOT, "ompteam"), "--prove"], check=True)
     print("construct         members    lines   seconds  steps/s  ns/step   memory/text")
     for name, calls_of in CONSTRUCTS:
         for members in (1, 8, 64):

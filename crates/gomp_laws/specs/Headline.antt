@@ -1,4 +1,9 @@
--- The headline: for every team size and list of member steps, no iteration, section or single is taken twice, and of a static loop a member takes only its own pieces; a loop or sections construct that all members end had every iteration or section taken, and a single that all members left was executed by one of them; ordered parts of a loop run in the order of its iterations, and an ordered loop that all members left had each of its pieces handed on; the words that a member copies are those that the executor of the single put; all members go through the same constructs in the same order; and no member passes a barrier before all arrived, and have left the constructs before it. OpenMP API 5.2, chapter 11 and sections 5.7.2, 15.3 and 15.10.2.
+-- The headline, for every team size and list of member steps. OpenMP API 5.2, chapter 11 and sections 5.7.2, 15.3 and 15.10.2.
+-- No iteration, section or single is taken twice, and of a static loop a member takes only its own pieces. A loop or sections
+-- construct that all members end had every iteration or section taken, and a single that all members left had one executor.
+-- Ordered parts of a loop run in the order of its iterations, and of an ordered loop that all members left every piece was handed on.
+-- The words that a member copies are those that the executor of the single put. All members go through the same constructs in the
+-- same order. No member passes a barrier before all arrived, and have left the constructs before it.
 use Rattle.std.specs.Prelude.{ℕ, List}
 use Rattle.gomp_types.specs.declared.event.Event.{Event}
 use Rattle.gomp_types.specs.Deals.{schedule}

@@ -9,7 +9,9 @@ use Rattle.gomp_types.specs.Pieces.{Tiles, pieces_of}
 use Rattle.gomp_types.specs.Ordered.{has_turn, last_number}
 use Rattle.gomp_types.specs.Deals.{Deal, IsDealt, next_for}
 
--- a member of the team that is in no share enters its next one: all that entered it before did so in this shape, and the one eight before it is over; the shape is that of a construct: fairly dealt out, in pieces that lead from its first iteration to its last, with a step that leads on
+-- A member of the team that is in no share enters its next one. All that entered it before did so in this shape, and the share
+-- eight before is over. The shape is that of a construct: fairly dealt out, in pieces that lead from its first iteration to its
+-- last, with a step that leads on.
 pub record MayEnter (deal : Deal) (members share m : ℕ) (shape : Shape) (earlier : List Event) : Type 0 where
   pub member : m < members
   pub number : share ≡ entered m earlier
