@@ -16,7 +16,7 @@ ghost use Rattle.gomp_model.specs.Past.{Past};
 ghost use Rattle.gomp_model.specs.Row.{row_tests};
 ghost use Rattle.gomp_model.specs.Arrivals.{outside_tests, compared_arrival};
 ghost use Rattle.gomp_model.specs.Calls.{row_of};
-ghost use Rattle.gomp_core.specs.Answers.{BothStand, ComesFirst, in_place};
+ghost use Rattle.gomp_core.specs.Answers.{BothStand, ByPlace, in_place};
 ghost use Rattle.gomp_types.specs.declared.refusal.Place.TheVariants.{Share};
 
 use gomp_barrier::Barriers;
@@ -61,12 +61,12 @@ pub fn call_refusal<S: Shares>(
     ensures least { (p : Past) → p.terms.limits ≡ limits.now → BothStand S.stands shares.old barriers.now p.events → result ≡ least (row_tests again (row_of call.now) member p) }
 {
     if again {
-        return compared_refusal(shares, barriers, limits, member, call, true);
+        return compared_refusal(shares, barriers, member, call, true);
     }
     if let Some(refusal) = place_refusal(shares, limits, member, call) {
         return Some(refusal);
     }
-    compared_refusal(shares, barriers, limits, member, call, false)
+    compared_refusal(shares, barriers, member, call, false)
 }
 
 /// Why the member may not make this call from its place among the shares.
@@ -77,9 +77,7 @@ fn place_refusal<S: Shares>(
     call: &Call,
 ) -> Option<Refusal>
     requires member { member < S.members shares.now }
-    ensures least { result ≡ least ((row_of call.now).by_place limits.now (S.seen shares.now member)) }
-    ensures first { ComesFirst (row_of call.now) result }
-    ensures team { (m : ℕ) → (p : Past) → least ((row_of call.now).by_team m p) ≡ None }
+    ensures { ByPlace (row_of call.now) limits.now (S.seen shares.now member) result }
 {
     let seen = shares.look(member);
     match call {
@@ -141,18 +139,17 @@ fn barrier_refusal(seen: &Seen) -> Option<Refusal>
 fn compared_refusal<S: Shares>(
     shares: &mut S,
     barriers: &Barriers,
-    limits: &Limits,
     member: u16,
     call: &Call,
     again: bool,
 ) -> Option<Refusal>
     requires member { member < S.members shares.old }
     requires team { barrier_members barriers.now ≡ S.members shares.old }
-    requires place { in_place (row_of call.now).stays again ≡ true → least ((row_of call.now).by_place limits.now (S.seen shares.old member)) ≡ None }
+    requires place { in_place (row_of call.now).stays again ≡ true →
+        (limits : Limits) × (least ((row_of call.now).by_place limits (S.seen shares.old member)) ≡ None) }
     ensures kept { shares.new ≡ shares.old }
     ensures compared { (p : Past) → BothStand S.stands shares.old barriers.now p.events → result ≡ least ((row_of call.now).compared again member p) }
 {
-    let _room = limits.shares;
     match call {
         Call::LoopStart(desc) => {
             let Ok(shape) = desc.shape() else {
