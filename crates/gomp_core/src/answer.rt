@@ -77,7 +77,10 @@ fn put_words<S: Shares>(shares: &mut S, payloads: &mut Payloads, member: u16, wo
     requires member { member < S.members shares.old }
     requires place { least (put_tests (S.seen shares.old member)) ≡ None }
     ensures members { S.members shares.new ≡ S.members shares.old }
-    ensures stands { (h : List Event) → WordsStand S.stands (S.members shares.old) shares.old payloads.old h → WordsStand S.stands (S.members shares.old) shares.new payloads.new (words_put words.now member h ++ h) }
+    ensures stands { (h : List Event) →
+        WordsStand S.stands (S.members shares.old) shares.old payloads.old h →
+        WordsStand S.stands (S.members shares.old) shares.new payloads.new
+        (words_put words.now member h ++ h) }
 {
     gomp_shares::laws::inside_is_open();
     gomp_shares::laws::eight_before();

@@ -56,9 +56,12 @@ pub fn call_refusal<S: Shares>(
 ) -> Option<Refusal>
     requires member { member < S.members shares.old }
     requires team { barrier_members barriers.now ≡ S.members shares.old }
-    requires place { again ≡ true → (row_of call.now).stays ≡ true → least ((row_of call.now).by_place limits.now (S.seen shares.old member)) ≡ None }
+    requires place { again ≡ true → (row_of call.now).stays ≡ true →
+        least ((row_of call.now).by_place limits.now (S.seen shares.old member)) ≡ None }
     ensures kept { shares.new ≡ shares.old }
-    ensures least { (p : Past) → p.terms.limits ≡ limits.now → BothStand S.stands shares.old barriers.now p.events → result ≡ least (row_tests again (row_of call.now) member p) }
+    ensures least { (p : Past) → p.terms.limits ≡ limits.now →
+        BothStand S.stands shares.old barriers.now p.events →
+        result ≡ least (row_tests again (row_of call.now) member p) }
 {
     if again {
         return compared_refusal(shares, barriers, member, call, true);
@@ -146,9 +149,11 @@ fn compared_refusal<S: Shares>(
     requires member { member < S.members shares.old }
     requires team { barrier_members barriers.now ≡ S.members shares.old }
     requires place { in_place (row_of call.now).stays again ≡ true →
-        (limits : Limits) × (least ((row_of call.now).by_place limits (S.seen shares.old member)) ≡ None) }
+        (limits : Limits) ×
+        (least ((row_of call.now).by_place limits (S.seen shares.old member)) ≡ None) }
     ensures kept { shares.new ≡ shares.old }
-    ensures compared { (p : Past) → BothStand S.stands shares.old barriers.now p.events → result ≡ least ((row_of call.now).compared again member p) }
+    ensures compared { (p : Past) → BothStand S.stands shares.old barriers.now p.events →
+        result ≡ least ((row_of call.now).compared again member p) }
 {
     match call {
         Call::LoopStart(desc) => {
@@ -187,7 +192,8 @@ fn compared_refusal<S: Shares>(
 fn share_refusal<S: Shares>(shares: &mut S, member: u16, shape: &Shape) -> Option<Refusal>
     requires member { member < S.members shares.old }
     ensures kept { shares.new ≡ shares.old }
-    ensures compared { EachStands (S.stands shares.old) (λ h. result ≡ least (compared_share shape.now member h)) }
+    ensures compared { EachStands (S.stands shares.old)
+        (λ h. result ≡ least (compared_share shape.now member h)) }
 {
     if shares.next_differs(member, shape) {
         Some(Refusal::Mismatch)
@@ -207,7 +213,8 @@ fn arrival_refusal<S: Shares>(
 ) -> Option<Refusal>
     requires member { member < S.members shares.now }
     requires team { barrier_members barriers.now ≡ S.members shares.now }
-    ensures compared { EachStands (BothStand S.stands shares.now barriers.now) (λ h. result ≡ least (compared_arrival kind again member h)) }
+    ensures compared { EachStands (BothStand S.stands shares.now barriers.now)
+        (λ h. result ≡ least (compared_arrival kind again member h)) }
 {
     if again {
         return None;
@@ -227,7 +234,8 @@ fn arrival_refusal<S: Shares>(
 pub fn place_of<S: Shares>(shares: &S, barriers: &Barriers, member: u16, call: &Call) -> Place
     requires member { member < S.members shares.now }
     requires team { barrier_members barriers.now ≡ S.members shares.now }
-    ensures { (p : Past) → BothStand S.stands shares.now barriers.now p.events → result ≡ (row_of call.now).place member p.events }
+    ensures { (p : Past) → BothStand S.stands shares.now barriers.now p.events →
+        result ≡ (row_of call.now).place member p.events }
 {
     match call {
         Call::LoopStart(_)

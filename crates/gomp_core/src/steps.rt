@@ -38,7 +38,8 @@ pub fn run<S: Shares + Drop>(
     steps: Vec<Step>,
 ) -> Result<(Team<S>, Vec<Reply>), Refusal>
     ensures size { result ≡ Err BadTeam ↔ (IsTeamSize count → ⊥) }
-    ensures refused { (refusal : Refusal) → result ≡ Err refusal → (refusal ≡ BadTeam) ⊎ (refusal ≡ NoMemory) }
+    ensures refused { (refusal : Refusal) → result ≡ Err refusal →
+        (refusal ≡ BadTeam) ⊎ (refusal ≡ NoMemory) }
     ensures each { IfOk result (λ ran. vec_len ran.1 ≡ length steps.items) }
     ensures terms { IfOk result (λ ran. terms_of ran.0 ≡ standard_terms count icv) }
     ensures icv { IfOk result (λ ran. ran.0.icv ≡ icv) }
@@ -47,8 +48,8 @@ pub fn run<S: Shares + Drop>(
         Caused (standard_terms count icv) (record_of icv steps.items ran.1.items)) }
     ensures stands { IfOk result (λ ran.
         Stands S.stands S.members ran.0 (record_of icv steps.items ran.1.items)) }
-    ensures headline { IfOk result (λ ran.
-        Headline count (events (standard_terms count icv) (record_of icv steps.items ran.1.items))) }
+    ensures headline { IfOk result (λ ran. Headline count
+        (events (standard_terms count icv) (record_of icv steps.items ran.1.items))) }
 {
     laws::headline();
     let mut team = Team::new(alloc, count, icv)?;
