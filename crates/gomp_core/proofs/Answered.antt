@@ -2,7 +2,7 @@
 use Rattle.std.proofs.Common.{◌≡◌, ℕ, Bool, true, false, List, [], ◌∷◌, ◌++◌, Option, Some, None, refl, ap, sym, ◌∙◌, subst}
 use Rattle.std.specs.Prelude.{not, is_some}
 use Rattle.gomp_types.specs.declared.call.Call.{Call}
-use Rattle.gomp_types.specs.declared.call.Call.TheVariants.{Resume}
+use Rattle.gomp_types.specs.declared.call.Call.TheVariants.{SingleCopyEnd, Resume}
 use Rattle.gomp_types.specs.declared.limits.Limits.{Limits}
 use Rattle.gomp_types.specs.declared.refusal.Refusal.{Refusal}
 use Rattle.gomp_types.specs.declared.reply.Reply.{Reply}
@@ -25,6 +25,7 @@ use Rattle.gomp_shares.specs.Calls.{IsAside as SharesAside}
 use Rattle.gomp_shares.specs.Starts.{Deals, Starts, start_tests, compared_share, share_tests, AnswersStart, done_given}
 use Rattle.gomp_shares.specs.Loops.{DealsNext}
 use Rattle.gomp_shares.specs.Sections.{DealsSections}
+use Rattle.gomp_shares.specs.Singles.{words_put}
 use Rattle.gomp_shares.specs.OrderedParts.{BeginsPart}
 use Rattle.gomp_barrier.specs.Calls.{IsAside as BarriersAside, arrived_after}
 use Rattle.gomp_model.specs.Past.{Past}
@@ -81,6 +82,16 @@ once_after P tests events members limits again m p reply ready answers holds =
     let now : P (events m p.events ++ p.events) = subst (λ (r : Reply). P (done_given (events m p.events) r ++ p.events)) done holds in
     let first = once_made tests events members limits again m p ready in
     subst (λ (b : Bool). P (once (events m p.events) b ++ p.events)) (sym first) (subst (λ (es : List Event). P (es ++ p.events)) (sym (made_first (events m p.events))) now)
+
+-- words are put once
+pub words_made : (words : List ℕ) (members : ℕ) (limits : Limits) (again : Bool) (m : ℕ) (p : Past) → IsReady (row_of (SingleCopyEnd words)) members limits again m p → again ≡ false
+words_made words members limits true m p ready = absurd (let wait = (ready.waits refl).1 in cc)
+words_made words members limits false m p ready = refl
+
+pub words_after : (P : List Event → Type 0) (words : List ℕ) (members : ℕ) (limits : Limits) (again : Bool) (m : ℕ) (p : Past) → IsReady (row_of (SingleCopyEnd words)) members limits again m p →
+    P (words_put words m p.events ++ p.events) → P (given_after (row_of (SingleCopyEnd words)) again m p Finished)
+words_after P words members limits again m p ready holds =
+    subst (λ (b : Bool). P (given_after (row_of (SingleCopyEnd words)) b m p Finished)) (sym (words_made words members limits again m p ready)) holds
 
 -- Replies that a construct never gives
 

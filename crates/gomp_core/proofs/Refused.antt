@@ -25,7 +25,7 @@ use Rattle.gomp_model.specs.Past.{Past}
 use Rattle.gomp_model.specs.Row.{Row, row_tests}
 use Rattle.gomp_model.specs.Team.{is_resume, row_at, broken_tests, member_tests, wait_tests, refusal_of}
 use Rattle.gomp_laws.proofs.Layers.{step_layers, by_layers}
-use Rattle.gomp_core.specs.Answers.{ComesFirst}
+use Rattle.gomp_core.specs.Answers.{ComesFirst, ByPlace, in_place}
 
 -- tests in the order of their numbers
 pub rising_least : (found : Option Refusal) (tests : List Test) → found ≡ first_refusal tests → from 0 tests ≡ true → found ≡ least tests
@@ -67,6 +67,20 @@ pub comes_first : (row : Row) (limits : Limits) (seen : Seen) (found : Option Re
     ((m : ℕ) (p : Past) → beginning 34 (row.by_team m p ++ row.compared false m p) ≡ true) → ComesFirst row found
 comes_first row limits seen None is low high = tt
 comes_first row limits seen (Some refusal) is low high = λ m p. least_before 34 refusal (row.by_team m p ++ row.compared false m p) (least_up 34 (row.by_place limits seen) refusal low (sym is)) (high m p)
+
+-- the member's place alone has refused
+pub by_place : (row : Row) (limits : Limits) (seen : Seen) (found : Option Refusal) → found ≡ least (row.by_place limits seen) → up_to 34 (row.by_place limits seen) ≡ true →
+    ((m : ℕ) (p : Past) → beginning 34 (row.by_team m p ++ row.compared false m p) ≡ true) → ((m : ℕ) (p : Past) → least (row.by_team m p) ≡ None) → ByPlace row limits seen found
+by_place row limits seen found is low high none = record { place = is; first = comes_first row limits seen found is low high; team = none }
+
+-- a call with no such test
+pub no_place : (row : Row) (limits : Limits) (seen : Seen) → None ≡ least (row.by_place limits seen) → ((m : ℕ) (p : Past) → least (row.by_team m p) ≡ None) → ByPlace row limits seen None
+no_place row limits seen is none = record { place = is; first = tt; team = none }
+
+-- a call that is repeated is in its place only if its member stays there
+pub stays_there : (stays : Bool) → in_place stays true ≡ true → stays ≡ true
+stays_there true there = refl
+stays_there false there = there
 
 -- The refusal of a call
 

@@ -8,6 +8,7 @@ use Rattle.gomp_types.specs.declared.reply.Reply.{Reply}
 use Rattle.gomp_types.specs.declared.reply.Reply.TheVariants.{Wait, Stopped}
 use Rattle.gomp_types.specs.declared.event.Event.{Event}
 use Rattle.gomp_types.specs.Least.{lesser, least}
+use Rattle.gomp_types.specs.declared.seen.Seen.{Seen}
 use Rattle.gomp_types.specs.Seen.{seen_of}
 use Rattle.gomp_shares.specs.Starts.{leaves}
 use Rattle.gomp_model.specs.Past.{Past}
@@ -22,6 +23,12 @@ use Rattle.gomp_core.specs.Payloads.{PayloadsStand}
 abbrev pub ComesFirst : Row → Option Refusal → Type 0
 ComesFirst row found =
     IfSome found (λ refusal. (m : ℕ) (p : Past) → lesser (Some refusal) (least (row.by_team m p ++ row.compared false m p)) ≡ Some refusal)
+
+-- a call's refusal by its member's place: the least of these tests, before which no other test of the call comes; and none that the team decides holds
+pub record ByPlace (row : Row) (limits : Limits) (seen : Seen) (found : Option Refusal) : Type 0 where
+  pub place : found ≡ least (row.by_place limits seen)
+  pub first : ComesFirst row found
+  pub team : (m : ℕ) (p : Past) → least (row.by_team m p) ≡ None
 
 -- whether what its place has shown of a call holds: where it is made, and where it is repeated if its member has stayed there
 abbrev pub in_place : Bool → Bool → Bool
@@ -71,3 +78,15 @@ PartsStand stands members shares barriers payloads h = stands shares h × Barrie
 -- none of them changes
 abbrev pub ArePartsKept : {S : Type 0} → S → BarriersView → List (Option Put) → S → BarriersView → List (Option Put) → Type 0
 ArePartsKept shares barriers payloads shares_after barriers_after payloads_after = (shares_after ≡ shares) × (barriers_after ≡ barriers) × (payloads_after ≡ payloads)
+
+-- A call that no test refuses
+
+-- the parts stand for some past in which a call with this row is ready
+abbrev pub SomeReady : {S : Type 0} → (S → List Event → Type 0) → (S → ℕ) → S → BarriersView → List (Option Put) → Row → Limits → Bool → ℕ → Type 0
+SomeReady stands members shares barriers payloads row limits again m =
+    (p : Past) × PartsStand stands (members shares) shares barriers payloads p.events × IsReady row (members shares) limits again m p
+
+-- of each such past this holds
+abbrev pub EachReady : {S : Type 0} → (S → List Event → Type 0) → (S → ℕ) → S → BarriersView → List (Option Put) → Row → Limits → Bool → ℕ → (Past → Type 0) → Type 0
+EachReady stands members shares barriers payloads row limits again m P =
+    (p : Past) → PartsStand stands (members shares) shares barriers payloads p.events → IsReady row (members shares) limits again m p → P p

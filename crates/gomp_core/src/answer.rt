@@ -7,9 +7,8 @@ ghost use Rattle.gomp_types.specs.declared.reply.Reply.TheVariants.{Wait, Stoppe
 ghost use Rattle.gomp_types.specs.Least.{least};
 ghost use Rattle.gomp_shares.specs.Singles.{put_tests, words_put};
 ghost use Rattle.gomp_barrier.specs.Stands.{members_of as barrier_members};
-ghost use Rattle.gomp_model.specs.Past.{Past};
 ghost use Rattle.gomp_model.specs.Calls.{row_of};
-ghost use Rattle.gomp_core.specs.Answers.{ArePartsKept, PartsStand, WordsStand, IsReady, MayReply, given_after};
+ghost use Rattle.gomp_core.specs.Answers.{ArePartsKept, PartsStand, WordsStand, SomeReady, EachReady, MayReply, given_after};
 
 use crate::arrivals::{arrival_reply, end_reply};
 use crate::payloads::Payloads;
@@ -33,13 +32,20 @@ pub fn answer<S: Shares>(
 ) -> Reply
     requires member { member < S.members shares.old }
     requires team { barrier_members barriers.old ≡ S.members shares.old }
-    requires ready { (p : Past) × PartsStand S.stands (S.members shares.old) shares.old barriers.old payloads.old p.events × IsReady (row_of call.now) (S.members shares.old) limits.now again member p }
+    requires ready { SomeReady S.stands S.members shares.old barriers.old payloads.old
+        (row_of call.now) limits.now again member }
     ensures members { S.members shares.new ≡ S.members shares.old }
     ensures barriers { barrier_members barriers.new ≡ barrier_members barriers.old }
-    ensures again { again ≡ true → result ≡ Wait → ArePartsKept shares.old barriers.old payloads.old shares.new barriers.new payloads.new }
+    ensures again { again ≡ true → result ≡ Wait →
+        ArePartsKept shares.old barriers.old payloads.old shares.new barriers.new payloads.new }
     ensures stops { result ≡ Stopped → call.now ≡ Stop }
-    ensures answer { (p : Past) → PartsStand S.stands (S.members shares.old) shares.old barriers.old payloads.old p.events → IsReady (row_of call.now) (S.members shares.old) limits.now again member p → MayReply (row_of call.now) again member p result }
-    ensures stands { (p : Past) → PartsStand S.stands (S.members shares.old) shares.old barriers.old payloads.old p.events → IsReady (row_of call.now) (S.members shares.old) limits.now again member p → PartsStand S.stands (S.members shares.old) shares.new barriers.new payloads.new (given_after (row_of call.now) again member p result) }
+    ensures answer { EachReady S.stands S.members shares.old barriers.old payloads.old
+        (row_of call.now) limits.now again member
+        (λ p. MayReply (row_of call.now) again member p result) }
+    ensures stands { EachReady S.stands S.members shares.old barriers.old payloads.old
+        (row_of call.now) limits.now again member
+        (λ p. PartsStand S.stands (S.members shares.old) shares.new barriers.new payloads.new
+        (given_after (row_of call.now) again member p result)) }
 {
     gomp_barrier::aside();
     match call {
@@ -61,8 +67,8 @@ pub fn answer<S: Shares>(
         | Call::SingleCopyStart
         | Call::OrderedStart(_)
         | Call::OrderedEnd
-        | Call::Stop
-        | Call::Resume => share_reply(shares, payloads, limits, member, call),
+        | Call::Stop => share_reply(shares, payloads, limits, member, call),
+        Call::Resume => unreachable!(),
     }
 }
 
@@ -71,7 +77,10 @@ fn put_words<S: Shares>(shares: &mut S, payloads: &mut Payloads, member: u16, wo
     requires member { member < S.members shares.old }
     requires place { least (put_tests (S.seen shares.old member)) ≡ None }
     ensures members { S.members shares.new ≡ S.members shares.old }
-    ensures stands { (h : List Event) → WordsStand S.stands (S.members shares.old) shares.old payloads.old h → WordsStand S.stands (S.members shares.old) shares.new payloads.new (words_put words.now member h ++ h) }
+    ensures stands { (h : List Event) →
+        WordsStand S.stands (S.members shares.old) shares.old payloads.old h →
+        WordsStand S.stands (S.members shares.old) shares.new payloads.new
+        (words_put words.now member h ++ h) }
 {
     gomp_shares::laws::inside_is_open();
     gomp_shares::laws::eight_before();

@@ -35,14 +35,23 @@ pub fn end_reply<S: Shares>(
 ) -> Reply
     requires member { member < S.members shares.old }
     requires team { barrier_members barriers.old ≡ S.members shares.old }
-    requires place { again ≡ false → least (end_tests_of construct WaitEnd (S.seen shares.old member)) ≡ None }
-    requires same { (h : List Event) × BothStand S.stands shares.old barriers.old h × least (compared_arrival ShareEnd again member h) ≡ None }
+    requires place { again ≡ false →
+        least (end_tests_of construct WaitEnd (S.seen shares.old member)) ≡ None }
+    requires same { (h : List Event) × BothStand S.stands shares.old barriers.old h ×
+        least (compared_arrival ShareEnd again member h) ≡ None }
     ensures members { S.members shares.new ≡ S.members shares.old }
     ensures barriers { barrier_members barriers.new ≡ barrier_members barriers.old }
-    ensures again { again ≡ true → result ≡ Wait → (shares.new ≡ shares.old) × (barriers.new ≡ barriers.old) }
+    ensures again { again ≡ true → result ≡ Wait →
+        (shares.new ≡ shares.old) × (barriers.new ≡ barriers.old) }
     ensures stops { result ≢ Stopped }
-    ensures answer { (p : Past) → p.terms.members ≡ S.members shares.old → BothStand S.stands shares.old barriers.old p.events → MayReply (ending (end_tests_of construct WaitEnd) (arrival ShareEnd)) again member p result }
-    ensures stands { (p : Past) → p.terms.members ≡ S.members shares.old → BothStand S.stands shares.old barriers.old p.events → BothStand S.stands shares.new barriers.new (given_after (ending (end_tests_of construct WaitEnd) (arrival ShareEnd)) again member p result) }
+    ensures answer { (p : Past) → p.terms.members ≡ S.members shares.old →
+        BothStand S.stands shares.old barriers.old p.events →
+        MayReply (ending (end_tests_of construct WaitEnd) (arrival ShareEnd))
+        again member p result }
+    ensures stands { (p : Past) → p.terms.members ≡ S.members shares.old →
+        BothStand S.stands shares.old barriers.old p.events →
+        BothStand S.stands shares.new barriers.new (given_after
+        (ending (end_tests_of construct WaitEnd) (arrival ShareEnd)) again member p result) }
 {
     gomp_barrier::aside();
     leave(shares, member, construct, again);
@@ -60,12 +69,18 @@ pub fn arrival_reply<S: Shares>(
 ) -> Reply
     requires member { member < S.members shares.now }
     requires team { barrier_members barriers.old ≡ S.members shares.now }
-    requires same { (h : List Event) × BothStand S.stands shares.now barriers.old h × least (compared_arrival kind again member h) ≡ None }
+    requires same { (h : List Event) × BothStand S.stands shares.now barriers.old h ×
+        least (compared_arrival kind again member h) ≡ None }
     ensures barriers { barrier_members barriers.new ≡ barrier_members barriers.old }
     ensures again { again ≡ true → result ≡ Wait → barriers.new ≡ barriers.old }
     ensures stops { result ≢ Stopped }
-    ensures answer { (p : Past) → p.terms.members ≡ S.members shares.now → BothStand S.stands shares.now barriers.old p.events → MayReply (arrival kind) again member p result }
-    ensures stands { (p : Past) → p.terms.members ≡ S.members shares.now → BothStand S.stands shares.now barriers.old p.events → BothStand S.stands shares.now barriers.new (given_after (arrival kind) again member p result) }
+    ensures answer { (p : Past) → p.terms.members ≡ S.members shares.now →
+        BothStand S.stands shares.now barriers.old p.events →
+        MayReply (arrival kind) again member p result }
+    ensures stands { (p : Past) → p.terms.members ≡ S.members shares.now →
+        BothStand S.stands shares.now barriers.old p.events →
+        BothStand S.stands shares.now barriers.new
+        (given_after (arrival kind) again member p result) }
 {
     if again {
         return pass_or_wait(barriers, member);
@@ -84,10 +99,12 @@ pub fn arrival_reply<S: Shares>(
 /// repeated (`again`).
 fn leave<S: Shares>(shares: &mut S, member: u16, construct: Construct, again: bool)
     requires member { member < S.members shares.old }
-    requires place { again ≡ false → least (end_tests_of construct WaitEnd (S.seen shares.old member)) ≡ None }
+    requires place { again ≡ false →
+        least (end_tests_of construct WaitEnd (S.seen shares.old member)) ≡ None }
     ensures members { S.members shares.new ≡ S.members shares.old }
     ensures kept { again ≡ true → shares.new ≡ shares.old }
-    ensures left { EachStands (S.stands shares.old) (λ h. S.stands shares.new (left_once again member h)) }
+    ensures left { EachStands (S.stands shares.old)
+        (λ h. S.stands shares.new (left_once again member h)) }
 {
     if again {
         return;
@@ -102,8 +119,10 @@ fn end<S: Shares>(shares: &mut S, member: u16, construct: Construct) -> Result<(
     requires { member < S.members shares.old }
     ensures members { S.members shares.new ≡ S.members shares.old }
     ensures known { (h : List Event) × S.stands shares.old h }
-    ensures answer { EachStands (S.stands shares.old) (λ h. result ≡ outcome (least (end_tests_of construct WaitEnd (seen_of member h))) tt) }
-    ensures stands { EachStands (S.stands shares.old) (λ h. S.stands shares.new (left_unless_refused result member h)) }
+    ensures answer { EachStands (S.stands shares.old)
+        (λ h. result ≡ outcome (least (end_tests_of construct WaitEnd (seen_of member h))) tt) }
+    ensures stands { EachStands (S.stands shares.old)
+        (λ h. S.stands shares.new (left_unless_refused result member h)) }
 {
     match construct {
         Construct::Loop => gomp_loops::loop_end(shares, member),
@@ -117,8 +136,10 @@ fn pass_or_wait(barriers: &mut Barriers, member: u16) -> Reply
     ensures barriers { barrier_members barriers.new ≡ barrier_members barriers.old }
     ensures waits { result ≡ Wait → barriers.new ≡ barriers.old }
     ensures stops { result ≢ Stopped }
-    ensures answer { EachStands (BarriersStand barriers.old) (λ h. Awaits (barrier_met (barrier_members barriers.old) (passed member h) h) result) }
-    ensures stands { EachStands (BarriersStand barriers.old) (λ h. BarriersStand barriers.new (passes member h result ++ h)) }
+    ensures answer { EachStands (BarriersStand barriers.old)
+        (λ h. Awaits (barrier_met (barrier_members barriers.old) (passed member h) h) result) }
+    ensures stands { EachStands (BarriersStand barriers.old)
+        (λ h. BarriersStand barriers.new (passes member h result ++ h)) }
 {
     if barriers.turn(member) {
         Reply::Passed

@@ -56,7 +56,8 @@ impl Payloads {
 
     /// Keeps the words put in this share.
     pub fn put(&mut self, share: u64, words: Payload)
-        ensures { self.new ≡ slice_set self.old (share % 8) (Some (record { share = share; words = words })) }
+        ensures { self.new ≡ slice_set self.old (share % 8)
+            (Some (record { share = share; words = words })) }
     {
         self.places[(share % 8) as usize] = Some(Put { share, words });
     }

@@ -16,7 +16,7 @@ ghost use Rattle.gomp_model.specs.Past.{Past};
 ghost use Rattle.gomp_model.specs.Row.{row_tests};
 ghost use Rattle.gomp_model.specs.Arrivals.{outside_tests, compared_arrival};
 ghost use Rattle.gomp_model.specs.Calls.{row_of};
-ghost use Rattle.gomp_core.specs.Answers.{BothStand, ComesFirst, in_place};
+ghost use Rattle.gomp_core.specs.Answers.{BothStand, ByPlace, in_place};
 ghost use Rattle.gomp_types.specs.declared.refusal.Place.TheVariants.{Share};
 
 use gomp_barrier::Barriers;
@@ -56,17 +56,20 @@ pub fn call_refusal<S: Shares>(
 ) -> Option<Refusal>
     requires member { member < S.members shares.old }
     requires team { barrier_members barriers.now ≡ S.members shares.old }
-    requires place { again ≡ true → (row_of call.now).stays ≡ true → least ((row_of call.now).by_place limits.now (S.seen shares.old member)) ≡ None }
+    requires place { again ≡ true → (row_of call.now).stays ≡ true →
+        least ((row_of call.now).by_place limits.now (S.seen shares.old member)) ≡ None }
     ensures kept { shares.new ≡ shares.old }
-    ensures least { (p : Past) → p.terms.limits ≡ limits.now → BothStand S.stands shares.old barriers.now p.events → result ≡ least (row_tests again (row_of call.now) member p) }
+    ensures least { (p : Past) → p.terms.limits ≡ limits.now →
+        BothStand S.stands shares.old barriers.now p.events →
+        result ≡ least (row_tests again (row_of call.now) member p) }
 {
     if again {
-        return compared_refusal(shares, barriers, limits, member, call, true);
+        return compared_refusal(shares, barriers, member, call, true);
     }
     if let Some(refusal) = place_refusal(shares, limits, member, call) {
         return Some(refusal);
     }
-    compared_refusal(shares, barriers, limits, member, call, false)
+    compared_refusal(shares, barriers, member, call, false)
 }
 
 /// Why the member may not make this call from its place among the shares.
@@ -77,9 +80,7 @@ fn place_refusal<S: Shares>(
     call: &Call,
 ) -> Option<Refusal>
     requires member { member < S.members shares.now }
-    ensures least { result ≡ least ((row_of call.now).by_place limits.now (S.seen shares.now member)) }
-    ensures first { ComesFirst (row_of call.now) result }
-    ensures team { (m : ℕ) → (p : Past) → least ((row_of call.now).by_team m p) ≡ None }
+    ensures { ByPlace (row_of call.now) limits.now (S.seen shares.now member) result }
 {
     let seen = shares.look(member);
     match call {
@@ -141,18 +142,19 @@ fn barrier_refusal(seen: &Seen) -> Option<Refusal>
 fn compared_refusal<S: Shares>(
     shares: &mut S,
     barriers: &Barriers,
-    limits: &Limits,
     member: u16,
     call: &Call,
     again: bool,
 ) -> Option<Refusal>
     requires member { member < S.members shares.old }
     requires team { barrier_members barriers.now ≡ S.members shares.old }
-    requires place { in_place (row_of call.now).stays again ≡ true → least ((row_of call.now).by_place limits.now (S.seen shares.old member)) ≡ None }
+    requires place { in_place (row_of call.now).stays again ≡ true →
+        (limits : Limits) ×
+        (least ((row_of call.now).by_place limits (S.seen shares.old member)) ≡ None) }
     ensures kept { shares.new ≡ shares.old }
-    ensures compared { (p : Past) → BothStand S.stands shares.old barriers.now p.events → result ≡ least ((row_of call.now).compared again member p) }
+    ensures compared { (p : Past) → BothStand S.stands shares.old barriers.now p.events →
+        result ≡ least ((row_of call.now).compared again member p) }
 {
-    let _room = limits.shares;
     match call {
         Call::LoopStart(desc) => {
             let Ok(shape) = desc.shape() else {
@@ -190,7 +192,8 @@ fn compared_refusal<S: Shares>(
 fn share_refusal<S: Shares>(shares: &mut S, member: u16, shape: &Shape) -> Option<Refusal>
     requires member { member < S.members shares.old }
     ensures kept { shares.new ≡ shares.old }
-    ensures compared { EachStands (S.stands shares.old) (λ h. result ≡ least (compared_share shape.now member h)) }
+    ensures compared { EachStands (S.stands shares.old)
+        (λ h. result ≡ least (compared_share shape.now member h)) }
 {
     if shares.next_differs(member, shape) {
         Some(Refusal::Mismatch)
@@ -210,7 +213,8 @@ fn arrival_refusal<S: Shares>(
 ) -> Option<Refusal>
     requires member { member < S.members shares.now }
     requires team { barrier_members barriers.now ≡ S.members shares.now }
-    ensures compared { EachStands (BothStand S.stands shares.now barriers.now) (λ h. result ≡ least (compared_arrival kind again member h)) }
+    ensures compared { EachStands (BothStand S.stands shares.now barriers.now)
+        (λ h. result ≡ least (compared_arrival kind again member h)) }
 {
     if again {
         return None;
@@ -230,7 +234,8 @@ fn arrival_refusal<S: Shares>(
 pub fn place_of<S: Shares>(shares: &S, barriers: &Barriers, member: u16, call: &Call) -> Place
     requires member { member < S.members shares.now }
     requires team { barrier_members barriers.now ≡ S.members shares.now }
-    ensures { (p : Past) → BothStand S.stands shares.now barriers.now p.events → result ≡ (row_of call.now).place member p.events }
+    ensures { (p : Past) → BothStand S.stands shares.now barriers.now p.events →
+        result ≡ (row_of call.now).place member p.events }
 {
     match call {
         Call::LoopStart(_)

@@ -30,13 +30,20 @@ pub fn share_reply<S: Shares>(
     requires meant { call.now ≡ Resume → ⊥ }
     requires aloof { (row_of call.now).arrives ≡ None }
     requires silent { (row_of call.now).puts ≡ false }
-    requires known { (h : List Event) × WordsStand S.stands (S.members shares.old) shares.old payloads.now h }
+    requires known { (h : List Event) ×
+        WordsStand S.stands (S.members shares.old) shares.old payloads.now h }
     ensures apart { ((row_of call.now).arrives ≡ None) × ((row_of call.now).puts ≡ false) }
     ensures members { S.members shares.new ≡ S.members shares.old }
     ensures waits { result ≡ Wait → shares.new ≡ shares.old }
     ensures stops { result ≡ Stopped → call.now ≡ Stop }
-    ensures answer { (again : Bool) → (p : Past) → IsReady (row_of call.now) (S.members shares.old) limits.now again member p → WordsStand S.stands (S.members shares.old) shares.old payloads.now p.events → MayReply (row_of call.now) again member p result }
-    ensures stands { (again : Bool) → (p : Past) → IsReady (row_of call.now) (S.members shares.old) limits.now again member p → S.stands shares.old p.events → S.stands shares.new (given_after (row_of call.now) again member p result) }
+    ensures answer { (again : Bool) → (p : Past) →
+        IsReady (row_of call.now) (S.members shares.old) limits.now again member p →
+        WordsStand S.stands (S.members shares.old) shares.old payloads.now p.events →
+        MayReply (row_of call.now) again member p result }
+    ensures stands { (again : Bool) → (p : Past) →
+        IsReady (row_of call.now) (S.members shares.old) limits.now again member p →
+        S.stands shares.old p.events → S.stands shares.new
+        (given_after (row_of call.now) again member p result) }
 {
     match call {
         Call::LoopStart(desc) => gomp_loops::loop_start(shares, member, limits, desc),
@@ -65,11 +72,15 @@ pub fn share_reply<S: Shares>(
 /// member's next share.
 fn copy_reply<S: Shares>(shares: &mut S, payloads: &Payloads, limits: &Limits, member: u16) -> Reply
     requires member { member < S.members shares.old }
-    requires known { (h : List Event) × WordsStand S.stands (S.members shares.old) shares.old payloads.now h }
+    requires known { (h : List Event) ×
+        WordsStand S.stands (S.members shares.old) shares.old payloads.now h }
     ensures members { S.members shares.new ≡ S.members shares.old }
     ensures known { (h : List Event) × S.stands shares.old h }
-    ensures answer { (h : List Event) → WordsStand S.stands (S.members shares.old) shares.old payloads.now h → AnswersCopy limits.now (S.members shares.old) member result h }
-    ensures stands { EachStands (S.stands shares.old) (λ h. S.stands shares.new (copy_started member result h)) }
+    ensures answer { (h : List Event) →
+        WordsStand S.stands (S.members shares.old) shares.old payloads.now h →
+        AnswersCopy limits.now (S.members shares.old) member result h }
+    ensures stands { EachStands (S.stands shares.old)
+        (λ h. S.stands shares.new (copy_started member result h)) }
     ensures waits { result ≡ Wait → shares.new ≡ shares.old }
     ensures stops { result ≡ Stopped → ⊥ }
 {

@@ -4,11 +4,7 @@ ghost use Rattle.std.specs.Prelude.{◌≡◌, ◌↔◌, ◌⊎◌, length, IfO
 ghost use Rattle.gomp_types.specs.declared.refusal.Refusal.{Refusal};
 ghost use Rattle.gomp_types.specs.declared.refusal.Refusal.TheVariants.{BadTeam, NoMemory};
 ghost use Rattle.gomp_model.specs.Team.{events, Caused};
-ghost use Rattle.gomp_types.specs.Deals.{schedule};
-ghost use Rattle.gomp_types.specs.Laws.{Always};
-ghost use Rattle.gomp_shares.specs.Laws.{TakenOnce, TakesItsOwn, WholeWhereOver, OrderedLaws, SameShares};
-ghost use Rattle.gomp_laws.specs.Laws.{LeavesHandedOn, HandedOnWhereOver, PutsOnce, GetsWhatWasPut, LeavesWithWords, ArrivesOnce, ArrivesOutside, HappensUnbroken, HappensInside, TellsShares, ClosesShares};
-ghost use Rattle.gomp_types.specs.Arrivals.{SameArrivals, PassesAfterAll};
+ghost use Rattle.gomp_laws.specs.Headline.{Headline};
 ghost use Rattle.gomp_core.specs.Stands.{Stands, terms_of, standard_terms, NoneForMemory};
 ghost use Rattle.gomp_types.specs.Limits.{IsTeamSize};
 ghost use Rattle.gomp_core.specs.Resolved.{record_of};
@@ -42,31 +38,18 @@ pub fn run<S: Shares + Drop>(
     steps: Vec<Step>,
 ) -> Result<(Team<S>, Vec<Reply>), Refusal>
     ensures size { result ≡ Err BadTeam ↔ (IsTeamSize count → ⊥) }
-    ensures refused { (refusal : Refusal) → result ≡ Err refusal → (refusal ≡ BadTeam) ⊎ (refusal ≡ NoMemory) }
+    ensures refused { (refusal : Refusal) → result ≡ Err refusal →
+        (refusal ≡ BadTeam) ⊎ (refusal ≡ NoMemory) }
     ensures each { IfOk result (λ ran. vec_len ran.1 ≡ length steps.items) }
     ensures terms { IfOk result (λ ran. terms_of ran.0 ≡ standard_terms count icv) }
     ensures icv { IfOk result (λ ran. ran.0.icv ≡ icv) }
     ensures memory { IfOk result (λ ran. NoneForMemory ran.1.items) }
-    ensures caused { IfOk result (λ ran. Caused (standard_terms count icv) (record_of icv steps.items ran.1.items)) }
-    ensures stands { IfOk result (λ ran. Stands S.stands S.members ran.0 (record_of icv steps.items ran.1.items)) }
-    ensures taken_once { IfOk result (λ ran. TakenOnce (schedule count) (events (standard_terms count icv) (record_of icv steps.items ran.1.items))) }
-    ensures owned { IfOk result (λ ran. Always (TakesItsOwn count) (events (standard_terms count icv) (record_of icv steps.items ran.1.items))) }
-    ensures whole { IfOk result (λ ran. WholeWhereOver count (events (standard_terms count icv) (record_of icv steps.items ran.1.items))) }
-    ensures ordered { IfOk result (λ ran. OrderedLaws count (events (standard_terms count icv) (record_of icv steps.items ran.1.items))) }
-    ensures none_held { IfOk result (λ ran. Always (LeavesHandedOn count) (events (standard_terms count icv) (record_of icv steps.items ran.1.items))) }
-    ensures all_handed_on { IfOk result (λ ran. HandedOnWhereOver count (events (standard_terms count icv) (record_of icv steps.items ran.1.items))) }
-    ensures put_once { IfOk result (λ ran. Always PutsOnce (events (standard_terms count icv) (record_of icv steps.items ran.1.items))) }
-    ensures given_what_was_put { IfOk result (λ ran. Always GetsWhatWasPut (events (standard_terms count icv) (record_of icv steps.items ran.1.items))) }
-    ensures none_without_words { IfOk result (λ ran. Always LeavesWithWords (events (standard_terms count icv) (record_of icv steps.items ran.1.items))) }
-    ensures same_shares { IfOk result (λ ran. SameShares count (events (standard_terms count icv) (record_of icv steps.items ran.1.items))) }
-    ensures same_arrivals { IfOk result (λ ran. SameArrivals (events (standard_terms count icv) (record_of icv steps.items ran.1.items))) }
-    ensures arrive_once { IfOk result (λ ran. Always (ArrivesOnce count) (events (standard_terms count icv) (record_of icv steps.items ran.1.items))) }
-    ensures arrive_outside { IfOk result (λ ran. Always ArrivesOutside (events (standard_terms count icv) (record_of icv steps.items ran.1.items))) }
-    ensures one_order { IfOk result (λ ran. Always TellsShares (events (standard_terms count icv) (record_of icv steps.items ran.1.items))) }
-    ensures unbroken { IfOk result (λ ran. Always HappensUnbroken (events (standard_terms count icv) (record_of icv steps.items ran.1.items))) }
-    ensures in_region { IfOk result (λ ran. Always HappensInside (events (standard_terms count icv) (record_of icv steps.items ran.1.items))) }
-    ensures passes { IfOk result (λ ran. Always (PassesAfterAll count) (events (standard_terms count icv) (record_of icv steps.items ran.1.items))) }
-    ensures closes { IfOk result (λ ran. Always (ClosesShares count) (events (standard_terms count icv) (record_of icv steps.items ran.1.items))) }
+    ensures caused { IfOk result (λ ran.
+        Caused (standard_terms count icv) (record_of icv steps.items ran.1.items)) }
+    ensures stands { IfOk result (λ ran.
+        Stands S.stands S.members ran.0 (record_of icv steps.items ran.1.items)) }
+    ensures headline { IfOk result (λ ran. Headline count
+        (events (standard_terms count icv) (record_of icv steps.items ran.1.items))) }
 {
     laws::headline();
     let mut team = Team::new(alloc, count, icv)?;

@@ -64,7 +64,8 @@ impl<S: Shares> Team<S> {
     /// memory is refused.
     pub fn new(alloc: Global, count: u16, icv: Icv) -> Result<Team<S>, Refusal>
         ensures size { result ≡ Err BadTeam ↔ (IsTeamSize count → ⊥) }
-        ensures refused { (refusal : Refusal) → result ≡ Err refusal → (refusal ≡ BadTeam) ⊎ (refusal ≡ NoMemory) }
+        ensures refused { (refusal : Refusal) → result ≡ Err refusal →
+            (refusal ≡ BadTeam) ⊎ (refusal ≡ NoMemory) }
         ensures members { IfOk result (λ team. members_of team ≡ count) }
         ensures icv { IfOk result (λ team. team.icv ≡ icv) }
         ensures limits { IfOk result (λ team. team.limits ≡ standard) }
@@ -83,7 +84,8 @@ impl<S: Shares> Team<S> {
         limits: Limits,
     ) -> Result<Team<S>, Refusal>
         ensures size { result ≡ Err BadTeam ↔ (IsTeamSize count → ⊥) }
-        ensures refused { (refusal : Refusal) → result ≡ Err refusal → (refusal ≡ BadTeam) ⊎ (refusal ≡ NoMemory) }
+        ensures refused { (refusal : Refusal) → result ≡ Err refusal →
+            (refusal ≡ BadTeam) ⊎ (refusal ≡ NoMemory) }
         ensures members { IfOk result (λ team. members_of team ≡ count) }
         ensures icv { IfOk result (λ team. team.icv ≡ icv) }
         ensures limits { IfOk result (λ team. team.limits ≡ capped limits) }
@@ -136,11 +138,18 @@ impl<S: Shares> Team<S> {
         ensures icv { self.new.icv ≡ self.old.icv }
         ensures limits { self.new.limits ≡ self.old.limits }
         ensures memory { result ≢ Refused NoMemory }
-        ensures kept { (refusal : Refusal) → result ≡ Refused refusal → refusal ≢ Mismatch → self.new ≡ self.old }
-        ensures broken { result ≡ Refused Mismatch → self.new ≡ record self.old { broken = self.new.broken } }
+        ensures kept { (refusal : Refusal) → result ≡ Refused refusal → refusal ≢ Mismatch →
+            self.new ≡ self.old }
+        ensures broken { result ≡ Refused Mismatch →
+            self.new ≡ record self.old { broken = self.new.broken } }
         ensures again { result ≡ Wait → call ≡ Resume → self.new ≡ self.old }
-        ensures answer { (before : Record) → Stands S.stands S.members self.old before → MayAnswer (past self.old before) (resolved_step self.old.icv (record { member = member; call = call })) result }
-        ensures stands { (before : Record) → Stands S.stands S.members self.old before → Stands S.stands S.members self.new ((resolved_step self.old.icv (record { member = member; call = call }), result) ∷ before) }
+        ensures answer { (before : Record) → Stands S.stands S.members self.old before →
+            MayAnswer (past self.old before) (resolved_step self.old.icv
+            (record { member = member; call = call })) result }
+        ensures stands { (before : Record) → Stands S.stands S.members self.old before →
+            Stands S.stands S.members self.new
+            ((resolved_step self.old.icv (record { member = member; call = call }), result) ∷
+            before) }
     {
         let call = resolved(&self.icv, call);
         self.resolved_step(member, call)
@@ -152,11 +161,16 @@ impl<S: Shares> Team<S> {
         ensures icv { self.new.icv ≡ self.old.icv }
         ensures limits { self.new.limits ≡ self.old.limits }
         ensures memory { result ≢ Refused NoMemory }
-        ensures kept { (refusal : Refusal) → result ≡ Refused refusal → refusal ≢ Mismatch → self.new ≡ self.old }
-        ensures broken { result ≡ Refused Mismatch → self.new ≡ record self.old { broken = self.new.broken } }
+        ensures kept { (refusal : Refusal) → result ≡ Refused refusal → refusal ≢ Mismatch →
+            self.new ≡ self.old }
+        ensures broken { result ≡ Refused Mismatch →
+            self.new ≡ record self.old { broken = self.new.broken } }
         ensures again { result ≡ Wait → call ≡ Resume → self.new ≡ self.old }
-        ensures answer { (before : Record) → Stands S.stands S.members self.old before → MayAnswer (past self.old before) (record { member = member; call = call }) result }
-        ensures stands { (before : Record) → Stands S.stands S.members self.old before → Stands S.stands S.members self.new ((record { member = member; call = call }, result) ∷ before) }
+        ensures answer { (before : Record) → Stands S.stands S.members self.old before →
+            MayAnswer (past self.old before) (record { member = member; call = call }) result }
+        ensures stands { (before : Record) → Stands S.stands S.members self.old before →
+            Stands S.stands S.members self.new
+            ((record { member = member; call = call }, result) ∷ before) }
     {
         laws::first_refused();
         gomp_barrier::aside();
@@ -194,7 +208,8 @@ impl<S: Shares> Team<S> {
     pub fn laws(&self)
         ensures known { (before : Record) × Stands S.stands S.members self.now before }
         ensures size { IsTeamSize (members_of self.now) }
-        ensures laws { (before : Record) → Stands S.stands S.members self.now before → Headline (members_of self.now) (events (terms_of self.now) before) }
+        ensures laws { (before : Record) → Stands S.stands S.members self.now before →
+            Headline (members_of self.now) (events (terms_of self.now) before) }
     {
         let _ = &self.waiting;
         laws::headline();
@@ -203,7 +218,9 @@ impl<S: Shares> Team<S> {
     /// Why the step is refused: of its tests that hold the refusal with the least number.
     fn refusal(&mut self, member: u16, call: &Call) -> Option<Refusal>
         ensures kept { self.new ≡ self.old }
-        ensures least { (before : Record) → Stands S.stands S.members self.old before → result ≡ refusal_of (past self.old before) (record { member = member; call = call.now }) }
+        ensures least { (before : Record) → Stands S.stands S.members self.old before →
+            result ≡ refusal_of (past self.old before)
+            (record { member = member; call = call.now }) }
     {
         if member as usize >= self.waiting.len() {
             return Some(Refusal::BadMember);
@@ -225,7 +242,10 @@ impl<S: Shares> Team<S> {
     /// Where the team breaks if the call, or the one that it repeats, is another than other members'.
     fn place(&self, member: u16, call: &Call) -> Place
         requires member { member < members_of self.now }
-        ensures { (before : Record) → Stands S.stands S.members self.now before → result ≡ (row_at (past self.now before) (record { member = member; call = call.now })).place member (events (terms_of self.now) before) }
+        ensures { (before : Record) → Stands S.stands S.members self.now before →
+            result ≡ (row_at (past self.now before)
+            (record { member = member; call = call.now })).place member
+            (events (terms_of self.now) before) }
     {
         let waiting = &self.waiting[member as usize];
         place_of(&self.shares, &self.barriers, member, meant(call, waiting))
@@ -247,7 +267,8 @@ fn no_calls(alloc: Global, count: u16) -> Result<Vec<Option<Call>>, AllocError>
 /// is broken.
 fn member_refusal(barriers: &Barriers, broken: Option<Clash>, member: u16) -> Option<Refusal>
     requires member { member < barrier_members barriers.now }
-    ensures { (h : List Event) → BarriersStand barriers.now h → broken ≡ clash_of h → result ≡ least (member_tests (barrier_members barriers.now) member h) }
+    ensures { (h : List Event) → BarriersStand barriers.now h → broken ≡ clash_of h →
+        result ≡ least (member_tests (barrier_members barriers.now) member h) }
 {
     if barriers.look(member).left {
         return Some(Refusal::Ended);

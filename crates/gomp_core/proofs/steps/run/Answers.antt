@@ -1,8 +1,7 @@
 use Rattle.std.proofs.Common.{◌≡◌, ◌+◌, ◌∙◌, ◌∷◌, ◌++◌, List, length, refl, ap, sym, subst, arith, length-append}
 use Rattle.gomp_types.specs.declared.call.Step.{Step}
 use Rattle.gomp_model.specs.Past.{Terms}
-use Rattle.gomp_model.specs.Team.{Caused, events}
-use Rattle.gomp_laws.specs.Headline.{Headline}
+use Rattle.gomp_model.specs.Team.{Caused}
 use Rattle.gomp_core.specs.Stands.{Stands, standard_terms}
 use Rattle.gomp_core.specs.Resolved.{record_of}
 use Rattle.gomp_core.proofs.Stepping.{resolved_grows, moved_on, all_done, terms_are, memory_more}
@@ -75,59 +74,5 @@ returns-in-None-clause-caused g c =
     let stands = returns-in-None-clause-stands g c in
     subst (λ (terms : Terms). Caused terms (record_of c.args.icv c.args.steps.items c.loop-step.replies.items)) (returns-in-None-clause-terms g c) stands.caused
 
-the_headline : (g : Over) (c : goal.After-drop-step-iterator g) → Headline c.args.count (events (standard_terms c.args.count c.args.icv) (record_of c.args.icv c.args.steps.items c.loop-step.replies.items))
-the_headline g c = c.headline.ensures (standard_terms c.args.count c.args.icv) (record_of c.args.icv c.args.steps.items c.loop-step.replies.items) (returns-in-None-clause-caused g c)
-
-pub returns-in-None-clause-taken_once : goal.returns-in-None-clause-taken_once
-returns-in-None-clause-taken_once g c = (the_headline g c).taken_once
-
-pub returns-in-None-clause-owned : goal.returns-in-None-clause-owned
-returns-in-None-clause-owned g c = (the_headline g c).owned
-
-pub returns-in-None-clause-whole : goal.returns-in-None-clause-whole
-returns-in-None-clause-whole g c = (the_headline g c).whole
-
-pub returns-in-None-clause-ordered : goal.returns-in-None-clause-ordered
-returns-in-None-clause-ordered g c = (the_headline g c).ordered
-
-pub returns-in-None-clause-none_held : goal.returns-in-None-clause-none_held
-returns-in-None-clause-none_held g c = (the_headline g c).none_held
-
-pub returns-in-None-clause-all_handed_on : goal.returns-in-None-clause-all_handed_on
-returns-in-None-clause-all_handed_on g c = (the_headline g c).all_handed_on
-
-pub returns-in-None-clause-put_once : goal.returns-in-None-clause-put_once
-returns-in-None-clause-put_once g c = (the_headline g c).puts
-
-pub returns-in-None-clause-given_what_was_put : goal.returns-in-None-clause-given_what_was_put
-returns-in-None-clause-given_what_was_put g c = (the_headline g c).gets
-
-pub returns-in-None-clause-same_shares : goal.returns-in-None-clause-same_shares
-returns-in-None-clause-same_shares g c = (the_headline g c).same_shares
-
-pub returns-in-None-clause-same_arrivals : goal.returns-in-None-clause-same_arrivals
-returns-in-None-clause-same_arrivals g c = (the_headline g c).same_arrivals
-
-pub returns-in-None-clause-one_order : goal.returns-in-None-clause-one_order
-returns-in-None-clause-one_order g c = (the_headline g c).one_order
-
-pub returns-in-None-clause-passes : goal.returns-in-None-clause-passes
-returns-in-None-clause-passes g c = (the_headline g c).passes
-
-pub returns-in-None-clause-none_without_words : goal.returns-in-None-clause-none_without_words
-returns-in-None-clause-none_without_words g c = (the_headline g c).served
-
-pub returns-in-None-clause-arrive_once : goal.returns-in-None-clause-arrive_once
-returns-in-None-clause-arrive_once g c = (the_headline g c).arrive_once
-
-pub returns-in-None-clause-arrive_outside : goal.returns-in-None-clause-arrive_outside
-returns-in-None-clause-arrive_outside g c = (the_headline g c).arrive_outside
-
-pub returns-in-None-clause-unbroken : goal.returns-in-None-clause-unbroken
-returns-in-None-clause-unbroken g c = (the_headline g c).unbroken
-
-pub returns-in-None-clause-in_region : goal.returns-in-None-clause-in_region
-returns-in-None-clause-in_region g c = (the_headline g c).in_region
-
-pub returns-in-None-clause-closes : goal.returns-in-None-clause-closes
-returns-in-None-clause-closes g c = (the_headline g c).closes
+pub returns-in-None-clause-headline : goal.returns-in-None-clause-headline
+returns-in-None-clause-headline g c = c.headline.ensures (standard_terms c.args.count c.args.icv) (record_of c.args.icv c.args.steps.items c.loop-step.replies.items) (returns-in-None-clause-caused g c)
