@@ -7,7 +7,9 @@ use Rattle.gomp_types.specs.declared.event.Event.TheVariants.{Enter, Take, Drain
 use Rattle.gomp_types.specs.Shapes.{is_copy}
 use Rattle.gomp_types.specs.Singles.{single_shape}
 use Rattle.gomp_types.specs.Deals.{one_queue, schedule}
-use Rattle.gomp_shares.specs.Laws.{TakesNext, LeavesNothing, TakenOnce, WholeWhereOver, EntersOneByOne, SameShares, PartsRise, PartsInTurn, PartsApart}
+use Rattle.gomp_shares.specs.Laws.{TakesNext, TakesWithin, LeavesNothing, TakenOnce, WholeWhereOver, EntersOneByOne, EndsInside, SameShares, PartsRise, PartsInTurn, PartsApart}
+use Rattle.gomp_types.specs.Arrivals.{ArrivalRule, BarriersOneByOne, PassesAfterAll}
+use Rattle.gomp_types.specs.declared.event.Tag.{Tag}
 use Rattle.gomp_shares.specs.Rules.{ShareRule}
 use Rattle.gomp_laws.specs.Laws.{ArrivesOnce, ArrivesOutside, ClosesShares, HappensInside, TellsShares, LeavesHandedOn, HandedOnWhereOver, PutsOnce, GetsWhatWasPut, LeavesWithWords}
 use Rattle.gomp_laws.specs.Rules.{TeamRule}
@@ -349,3 +351,124 @@ team_end_with_words_of_the_first may =
 -- and it arrives twice at the second barrier
 pub team_arrive_twice_at_second : RefusedAfter (TeamRule 2) (Pass 0 0 ∷ Arrive 1 0 (at Barrier 0) ∷ []) (Arrive 1 0 (at Barrier 0))
 team_arrive_twice_at_second may = absurd (let once = may.once in cc)
+
+-- Entries, ends and turns of the event's own member and share
+
+-- the second member takes a piece of the share that the first alone has entered
+pub take_entered_by_the_first : RefusedAfter (TakesNext (schedule 2)) (Enter 0 0 (four false) ∷ []) (Take 0 1 0 2)
+take_entered_by_the_first law = elim law.1 [ inl e ↦ absurd (cc) | inr never ↦ never ]
+
+-- or of one that it has left
+pub take_after_own_end : RefusedAfter (TakesNext (schedule 2)) (Enter 0 1 (four false) ∷ End 0 1 ∷ []) (Take 0 1 0 2)
+take_after_own_end law = law.2 (inl refl)
+
+-- a piece of the second share, which its member has left
+pub take_after_end_in_second : RefusedAfter (TakesNext (schedule 1)) (Enter 1 0 (four false) ∷ End 1 0 ∷ []) (Take 1 0 0 2)
+take_after_end_in_second law = law.2 (inl refl)
+
+-- iterations of a share that the first alone has entered
+pub within_of_the_first : RefusedAfter TakesWithin (Enter 0 0 (four false) ∷ []) (Take 0 1 0 2)
+within_of_the_first law = elim law.1 [ inl e ↦ absurd (cc) | inr never ↦ never ]
+
+-- and of the second share, where only the first was entered
+pub within_of_first_share : RefusedAfter TakesWithin (Enter 0 0 (four false) ∷ []) (Take 1 0 0 2)
+within_of_first_share law = elim law.1 [ inl e ↦ absurd (cc) | inr never ↦ never ]
+
+-- the second member enters a share while it is in another, which the first has left
+pub enter_nested_second : RefusedAfter (EntersOneByOne 2) (Enter 0 1 (four false) ∷ End 0 0 ∷ []) (Enter 1 1 (four false))
+enter_nested_second law = elim (law.2 0 (four false) (inr (inl refl))) [ inl e ↦ absurd (cc) | inr (inl e) ↦ absurd (cc) | inr (inr never) ↦ never ]
+
+-- it leaves a share that the first alone has entered
+pub end_entered_by_the_first : RefusedAfter EndsInside (Enter 0 0 (four false) ∷ []) (End 0 1)
+end_entered_by_the_first law = elim law.1 [ inl e ↦ absurd (cc) | inr never ↦ never ]
+
+-- and one twice
+pub end_twice_second : RefusedAfter EndsInside (Enter 0 1 (four false) ∷ End 0 1 ∷ []) (End 0 1)
+end_twice_second law = law.2 (inl refl)
+
+-- a member leaves the second share where it entered the first
+pub end_entered_first_share : RefusedAfter EndsInside (Enter 0 0 (four false) ∷ []) (End 1 0)
+end_entered_first_share law = elim law.1 [ inl e ↦ absurd (cc) | inr never ↦ never ]
+
+-- and the second twice
+pub end_twice_in_second : RefusedAfter EndsInside (Enter 1 0 (four false) ∷ End 1 0 ∷ []) (End 1 0)
+end_twice_in_second law = law.2 (inl refl)
+
+-- the second member begins a part in a loop that the first alone has entered
+pub part_entered_by_the_first : RefusedAfter (PartsInTurn 2) (Enter 0 0 (four true) ∷ Take 0 1 0 2 ∷ []) (Part 0 1 0)
+part_entered_by_the_first law = elim law.4 [ inl e ↦ absurd (cc) | inr (inl e) ↦ absurd (cc) | inr (inr never) ↦ never ]
+
+-- in one that it has left
+pub part_after_own_end : RefusedAfter (PartsInTurn 2) (Enter 0 1 (four true) ∷ Take 0 1 0 2 ∷ End 0 1 ∷ []) (Part 0 1 0)
+part_after_own_end law = law.6 (inl refl)
+
+-- and in the piece that the first took last, which it took before its own last
+pub part_in_last_of_the_first : RefusedAfter (PartsInTurn 2) (Enter 0 1 (four true) ∷ Take 0 1 2 4 ∷ Take 0 0 2 4 ∷ Take 0 1 0 2 ∷ HandOn 0 0 0 ∷ []) (Part 0 1 2)
+part_in_last_of_the_first law = absurd (let high = same_high _ _ _ _ law.7 in let before = law.9 in omega arith)
+
+-- it arrives at the barrier that is next for the first
+pub arrive_next_of_the_first : RefusedAfter BarriersOneByOne (Arrive 0 0 (at Barrier 0) ∷ Pass 0 0 ∷ []) (Arrive 1 1 (at Barrier 0))
+arrive_next_of_the_first law = absurd (let number = law in omega arith)
+
+-- and passes that one
+pub pass_next_of_the_first : RefusedAfter BarriersOneByOne (Arrive 0 0 (at Barrier 0) ∷ Pass 0 0 ∷ []) (Pass 1 1)
+pass_next_of_the_first law = absurd (let number = law in omega arith)
+
+-- it may not arrive there
+pub rule_arrive_next_of_the_first : RefusedAfter (ArrivalRule 2) (Arrive 0 0 (at Barrier 0) ∷ Pass 0 0 ∷ []) (Arrive 1 1 (at Barrier 0))
+rule_arrive_next_of_the_first may = absurd (let number = may.number in omega arith)
+
+-- nor pass there
+pub rule_pass_next_of_the_first : RefusedAfter (ArrivalRule 2) (Arrive 1 0 (at Barrier 0) ∷ Arrive 1 1 (at Barrier 0) ∷ Pass 0 0 ∷ []) (Pass 1 1)
+rule_pass_next_of_the_first may = absurd (let number = may.number in omega arith)
+
+-- a member arrives at the second barrier with another tag than the other
+pub rule_second_barrier_otherwise : RefusedAfter (ArrivalRule 2) (Arrive 0 0 (at Barrier 0) ∷ Pass 0 0 ∷ Arrive 1 1 (at RegionEnd 0) ∷ []) (Arrive 1 0 (at Barrier 0))
+rule_second_barrier_otherwise may = absurd (let same = ap (λ (tag : Tag). tag.kind) (may.same (at RegionEnd 0) refl) in cc)
+
+-- and passes it where the other has arrived at the first alone
+pub pass_second_alone : RefusedAfter (PassesAfterAll 2) (Arrive 0 0 (at Barrier 0) ∷ Arrive 0 1 (at Barrier 0) ∷ Arrive 1 0 (at Barrier 0) ∷ []) (Pass 1 0)
+pass_second_alone law = let other = law 1 (omega arith) in elim other.1 [
+  | inl e ↦ absurd (cc)
+  | inr (inl e) ↦ absurd (cc)
+  | inr (inr (inl e)) ↦ absurd (cc)
+  | inr (inr (inr never)) ↦ never
+]
+
+-- the second member leaves an ordered loop whose piece the first handed on
+pub end_handed_by_the_first : RefusedAfter (LeavesHandedOn 2) (Enter 0 1 (four true) ∷ Take 0 1 0 2 ∷ HandOn 0 0 0 ∷ []) (End 0 1)
+end_handed_by_the_first law =
+    let handed = law (four true) 0 2 (inr (inr (inl refl))) refl (inr (inl refl)) in
+    elim handed.1 [
+      | inl e ↦ absurd (cc)
+      | inr (inl e) ↦ absurd (cc)
+      | inr (inr (inl e)) ↦ absurd (cc)
+      | inr (inr (inr never)) ↦ never
+    ]
+
+-- it puts words in a single that the first alone has entered
+pub put_entered_by_the_first : RefusedAfter PutsOnce (Enter 0 0 (single_shape true) ∷ Take 0 1 0 1 ∷ []) (Put 0 1 (7 ∷ []))
+put_entered_by_the_first law = elim law.4 [ inl e ↦ absurd (cc) | inr (inl e) ↦ absurd (cc) | inr (inr never) ↦ never ]
+
+-- and in one that it has left
+pub put_after_own_end : RefusedAfter PutsOnce (Enter 0 1 (single_shape true) ∷ Take 0 1 0 1 ∷ End 0 1 ∷ []) (Put 0 1 (7 ∷ []))
+put_after_own_end law = law.5 (inl refl)
+
+-- it is given words in a single that the first alone has entered
+pub get_entered_by_the_first : RefusedAfter GetsWhatWasPut (Put 0 0 (7 ∷ []) ∷ Enter 0 0 (single_shape true) ∷ []) (Got 0 1 (7 ∷ []))
+get_entered_by_the_first law = elim law.2 [ inl e ↦ absurd (cc) | inr (inl e) ↦ absurd (cc) | inr (inr never) ↦ never ]
+
+-- and in one that it has left
+pub get_after_own_end : RefusedAfter GetsWhatWasPut (Put 0 0 (7 ∷ []) ∷ Enter 0 1 (single_shape true) ∷ End 0 1 ∷ []) (Got 0 1 (7 ∷ []))
+get_after_own_end law = law.3 (inl refl)
+
+-- and leaves one without the words that the first put
+pub end_wordless_second : RefusedAfter LeavesWithWords (Put 0 0 (7 ∷ []) ∷ Enter 0 1 (single_shape true) ∷ []) (End 0 1)
+end_wordless_second law = elim (law (single_shape true) (inl refl) refl).1 [
+  | inl (inl e) ↦ absurd (cc)
+  | inl (inr (inl e)) ↦ absurd (cc)
+  | inl (inr (inr never)) ↦ never
+  | inr (inl e) ↦ absurd (cc)
+  | inr (inr (inl e)) ↦ absurd (cc)
+  | inr (inr (inr never)) ↦ never
+]
