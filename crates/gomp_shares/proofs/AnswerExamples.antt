@@ -1,10 +1,12 @@
 -- The answers to each construct's calls, and the events after them: an answer for each, what it gives, and answers that it refuses.
-use Rattle.std.proofs.Common.{◌≡◌, [], ◌∷◌, true, false, refl, arith, inr}
+use Rattle.std.proofs.Common.{◌≡◌, List, Some, [], ◌∷◌, true, false, refl, arith, inr}
 use Rattle.std.specs.Prelude.{pos}
 use Rattle.gomp_types.specs.declared.refusal.Refusal.TheVariants.{ZeroStep, NotDrained, NotInside}
 use Rattle.gomp_types.specs.declared.reply.Reply.TheVariants.{Chunk, NoChunk, Section, Executor, Finished, Passed, Wait, Refused}
 use Rattle.gomp_types.specs.declared.loop_desc.EndKind.TheVariants.{Wait as WaitEnd}
-use Rattle.gomp_types.specs.declared.event.Event.TheVariants.{Enter, Take, Drained, End, Part, PartEnd}
+use Rattle.gomp_types.specs.declared.event.Event.TheVariants.{Enter, Take, Drained, End, Part, PartEnd, Put}
+use Rattle.gomp_types.specs.declared.event.Event.{Event}
+use Rattle.gomp_shares.specs.Calls.{claimed, left, part_begun}
 use Rattle.gomp_types.specs.Limits.{standard}
 use Rattle.gomp_types.specs.Pieces.{shape_of}
 use Rattle.gomp_types.specs.Sections.{sections_shape}
@@ -12,7 +14,7 @@ use Rattle.gomp_types.specs.Singles.{single_shape}
 use Rattle.gomp_shares.specs.Starts.{left_at_once}
 use Rattle.gomp_shares.specs.Loops.{AnswersLoopStart, loop_started, AnswersLoopNext, AnswersLoopEnd}
 use Rattle.gomp_shares.specs.Sections.{AnswersSectionsStart, sections_started, AnswersSectionsNext, section_next_taken, AnswersSectionsEnd}
-use Rattle.gomp_shares.specs.Singles.{AnswersSingle, single_started, AnswersCopy, copy_started}
+use Rattle.gomp_shares.specs.Singles.{AnswersSingle, single_started, AnswersCopy, copy_started, words_put}
 use Rattle.gomp_shares.specs.OrderedParts.{AnswersPart, part_started, AnswersPartEnd, part_ended_at_once}
 use Rattle.gomp_shares.specs.Examples.{ten, nine, no_step, events_of, took_one, told_none, both_hold, in_the_part}
 
@@ -183,3 +185,36 @@ finished_part_adds = refl
 -- and gives nothing where it is refused
 pub refused_part_adds : part_ended_at_once 0 (Refused NotInside) (events_of both_hold) ≡ events_of both_hold
 refused_part_adds = refl
+
+-- The second member in the second share, while the first is in the first
+
+abbrev in_two_shares : List Event
+in_two_shares = Enter 1 1 (shape_of ten) ∷ End 0 1 ∷ Enter 0 1 (shape_of ten) ∷ Enter 0 0 (shape_of ten) ∷ []
+
+-- its piece is one of the second share
+pub second_piece_adds : claimed 1 (Some (0, 3)) in_two_shares ≡ Take 1 1 0 3 ∷ in_two_shares
+second_piece_adds = refl
+
+-- it leaves the second share
+pub second_leave_adds : left 1 in_two_shares ≡ End 1 1 ∷ in_two_shares
+second_leave_adds = refl
+
+-- also by an end with no barrier
+pub second_end_adds : left_at_once 1 Finished in_two_shares ≡ End 1 1 ∷ in_two_shares
+second_end_adds = refl
+
+-- its part is one of the second share
+pub second_part_adds : part_begun 1 0 true in_two_shares ≡ Part 1 1 0 ∷ in_two_shares
+second_part_adds = refl
+
+-- and so is the end of a part
+pub second_part_end_adds : part_ended_at_once 1 Finished in_two_shares ≡ PartEnd 1 1 ∷ in_two_shares
+second_part_end_adds = refl
+
+-- it puts words in the second share
+pub second_words_add : words_put (7 ∷ []) 1 in_two_shares ≡ End 1 1 ∷ Put 1 1 (7 ∷ []) ∷ []
+second_words_add = refl
+
+-- and enters the second share after it has left the first
+pub second_start_adds : loop_started ten 1 (Chunk (pos 0) 3) (End 0 1 ∷ Enter 0 1 (shape_of ten) ∷ []) ≡ Take 1 1 0 3 ∷ Enter 1 1 (shape_of ten) ∷ End 0 1 ∷ Enter 0 1 (shape_of ten) ∷ []
+second_start_adds = refl
