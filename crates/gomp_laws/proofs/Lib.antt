@@ -4,6 +4,7 @@ pub mod Calls
 pub mod ChunksCount
 pub mod ClauseExamples
 pub mod CopiesKeep
+pub mod EveryMemberExamples
 pub mod HandedOn
 pub mod Headline
 pub mod InTime

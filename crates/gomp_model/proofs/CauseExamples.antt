@@ -498,6 +498,24 @@ two_replies (inl e) = absurd (cc)
 two_replies (inr (inl e)) = absurd (cc)
 two_replies (inr (inr e)) = absurd (cc)
 
+-- nor are a refusal and another answer
+pub refusal_and_answer : OneReply (Refused Waiting) Passed → ⊥
+refusal_and_answer (inl e) = absurd (cc)
+refusal_and_answer (inr (inl e)) = absurd (cc)
+refusal_and_answer (inr (inr e)) = absurd (cc)
+
+-- the other way round
+pub answer_and_refusal : OneReply Passed (Refused Waiting) → ⊥
+answer_and_refusal (inl e) = absurd (cc)
+answer_and_refusal (inr (inl e)) = absurd (cc)
+answer_and_refusal (inr (inr e)) = absurd (cc)
+
+-- nor two refusals
+pub two_refusals : OneReply (Refused Waiting) (Refused Ended) → ⊥
+two_refusals (inl e) = absurd (cc)
+two_refusals (inr (inl e)) = absurd (cc)
+two_refusals (inr (inr e)) = absurd (cc)
+
 -- a member alone passes at once, since its own arrival counts
 pub alone_passes : IsReplyAfter 1 [] 0 Barrier Passed
 alone_passes = (refl, refl)

@@ -1,3 +1,4 @@
+pub mod AnswerExamples
 pub mod AnswerRules
 pub mod Assigned
 pub mod CallExamples
