@@ -4,6 +4,7 @@ use Rattle.std.specs.Prelude.{◌==◌, not, is_some, if◌then◌else◌}
 use Rattle.std.proofs.lemmas.Bool.{cases_Bool, cases_lt}
 use Rattle.std.proofs.lemmas.List.{length-set}
 use Rattle.std.proofs.Math.Nat.{div-add-mod}
+use Rattle.gomp_types.specs.declared.limits.TheConstants.{OPEN_SHARES}
 use Rattle.gomp_types.specs.declared.refusal.Refusal.{Refusal}
 use Rattle.gomp_types.specs.declared.refusal.Refusal.TheVariants.{NotInside}
 use Rattle.gomp_types.specs.declared.shape.Shape.{Shape}
@@ -27,10 +28,10 @@ nowhere i zero k = refl
 nowhere i (suc count) zero = refl
 nowhere i (suc count) (suc k) = nowhere i count k
 
-pub none_stand : (members : ℕ) (places : List (Option Kept)) → places ≡ replicate 8 None → PayloadsStand members places []
+pub none_stand : (members : ℕ) (places : List (Option Kept)) → places ≡ replicate OPEN_SHARES None → PayloadsStand members places []
 none_stand members places is = rw is (record {
   eight = refl;
-  words = λ i open_. nowhere i 8 (i % 8);
+  words = λ i open_. nowhere i OPEN_SHARES (i % OPEN_SHARES);
   entered = λ i words e. cc;
 })
 
@@ -77,8 +78,8 @@ pub needs_share : (seen : Seen) → least (put_tests seen) ≡ None → seen.cur
 needs_share seen none outside = not_held (not (is_executor seen)) NotInside none (rw outside refl)
 
 -- two numbers with one place are a multiple of eight apart
-apart : (i j : ℕ) → j < i → i % 8 ≡ j % 8 → (k : ℕ) × (i ≡ 8 * suc k + j)
-apart i j lt same = (i / 8 - j / 8 - 1, let a = div-add-mod i 8 in let b = div-add-mod j 8 in omega arith)
+apart : (i j : ℕ) → j < i → i % OPEN_SHARES ≡ j % OPEN_SHARES → (k : ℕ) × (i ≡ OPEN_SHARES * suc k + j)
+apart i j lt same = (i / 8 - j / 8 - 1, let a = div-add-mod i OPEN_SHARES in let b = div-add-mod j OPEN_SHARES in omega arith)
 
 not_some : {A : Type 0} (x : Option A) → ((y : A) → x ≡ Some y → ⊥) → x ≡ None
 not_some None never = refl
@@ -86,11 +87,11 @@ not_some (Some y) never = absurd (never y refl)
 
 -- of the shares with one place all but the last that was entered are over
 abbrev pub EightBefore : ℕ → List Event → Type 0
-EightBefore members h = (i j k : ℕ) (shape : Shape) → shape_at i h ≡ Some shape → i ≡ 8 * suc k + j → is_over members j h ≡ true
+EightBefore members h = (i j k : ℕ) (shape : Shape) → shape_at i h ≡ Some shape → i ≡ OPEN_SHARES * suc k + j → is_over members j h ≡ true
 
 -- no words are kept of another share that is not over
 none_at : (members : ℕ) (places : List (Option Kept)) (i j : ℕ) (shape : Shape) (h : List Event) → EightBefore members h → PayloadsStand members places h →
-    shape_at i h ≡ Some shape → is_over members i h ≡ false → is_over members j h ≡ false → j ≢ i → i % 8 ≡ j % 8 → payload_at j h ≡ None
+    shape_at i h ≡ Some shape → is_over members i h ≡ false → is_over members j h ≡ false → j ≢ i → i % OPEN_SHARES ≡ j % OPEN_SHARES → payload_at j h ≡ None
 none_at members places i j shape h before st at open_ still other same =
     not_some (payload_at j h) (λ words is. elim (cases_lt j i) [
       | inl below ↦ let far = apart i j below same in not_both (is_over members j h) (before i j far.0 shape at far.1) still
@@ -102,24 +103,24 @@ none_at members places i j shape h before st at open_ still other same =
 
 pub put_stands : (members : ℕ) (places : List (Option Kept)) (i m : ℕ) (shape : Shape) (words : List ℕ) (h : List Event) → EightBefore members h → PayloadsStand members places h →
     shape_at i h ≡ Some shape → is_over members i h ≡ false →
-    PayloadsStand members (slice_set places (i % 8) (Some (record { share = i; words = words }))) (Put i m words ∷ h)
+    PayloadsStand members (slice_set places (i % OPEN_SHARES) (Some (record { share = i; words = words }))) (Put i m words ∷ h)
 put_stands members places i m shape words h before st at open_ = record {
-  eight = length-set places (i % 8) _ ∙ st.eight;
+  eight = length-set places (i % OPEN_SHARES) _ ∙ st.eight;
   words = λ j still. elim (cases_Bool (i == j)) [
     | inl one ↦
         let same : i ≡ j = is_equal i j one in
-        let within : i % 8 < length places = rw st.eight (omega arith) in
-        rw (← same, slice_get-set_same places (i % 8) _ within) (rw (same_number i) refl)
+        let within : i % OPEN_SHARES < length places = rw st.eight (omega arith) in
+        rw (← same, slice_get-set_same places (i % OPEN_SHARES) _ within) (rw (same_number i) refl)
     | inr two ↦
         let other : j ≢ i = λ same. differs i j two (sym same) in
-        elim (cases_Bool (i % 8 == j % 8)) [
+        elim (cases_Bool (i % OPEN_SHARES == j % OPEN_SHARES)) [
           | inl near ↦
-              let same : i % 8 ≡ j % 8 = is_equal (i % 8) (j % 8) near in
-              let within : i % 8 < length places = rw st.eight (omega arith) in
-              rw (← same, slice_get-set_same places (i % 8) _ within, two) (sym (none_at members places i j shape h before st at open_ still other same))
+              let same : i % OPEN_SHARES ≡ j % OPEN_SHARES = is_equal (i % OPEN_SHARES) (j % OPEN_SHARES) near in
+              let within : i % OPEN_SHARES < length places = rw st.eight (omega arith) in
+              rw (← same, slice_get-set_same places (i % OPEN_SHARES) _ within, two) (sym (none_at members places i j shape h before st at open_ still other same))
           | inr far ↦
-              let away : j % 8 ≢ i % 8 = λ same. differs (i % 8) (j % 8) far (sym same) in
-              rw (slice_get-set_other places (i % 8) (j % 8) _ away, two) (st.words j still)
+              let away : j % OPEN_SHARES ≢ i % OPEN_SHARES = λ same. differs (i % OPEN_SHARES) (j % OPEN_SHARES) far (sym same) in
+              rw (slice_get-set_other places (i % OPEN_SHARES) (j % OPEN_SHARES) _ away, two) (st.words j still)
         ]
   ];
   entered = λ j others is. elim (tells (i == j) (Some words) (payload_at j h) (Some others) is) [
@@ -129,7 +130,7 @@ put_stands members places i m shape words h before st at open_ = record {
 }
 
 pub words_stand : (members : ℕ) (places after : List (Option Kept)) (i m : ℕ) (shape : Shape) (words : List ℕ) (h : List Event) → EightBefore members h → PayloadsStand members places h →
-    open_share m h ≡ Some (i, shape) → (shape_at i h ≡ Some shape) × (is_over members i h ≡ false) → after ≡ slice_set places (i % 8) (Some (record { share = i; words = words })) →
+    open_share m h ≡ Some (i, shape) → (shape_at i h ≡ Some shape) × (is_over members i h ≡ false) → after ≡ slice_set places (i % OPEN_SHARES) (Some (record { share = i; words = words })) →
     PayloadsStand members after (words_put words m h ++ h)
 words_stand members places after i m shape words h before st own known is =
     let number : open_number m h ≡ i = ap share_number own in

@@ -3,10 +3,11 @@
 //! OpenMP API 5.2, section 5.7.2 (the `copyprivate` clause).
 
 ghost use Rattle.std.specs.Prelude.{◌≡◌, ◌%◌, Some, None, replicate, slice_get, slice_set, option_copied};
+ghost use Rattle.gomp_types.specs.declared.limits.TheConstants.{OPEN_SHARES};
 ghost use Rattle.gomp_core.specs.Payloads.{there};
 ghost use Rattle.gomp_core.specs.declared.payloads.Put.{Put};
 
-use gomp_types::Payload;
+use gomp_types::{OPEN_SHARES, Payload};
 use std::marker::Model;
 
 /// The words that were put in a share.
@@ -22,7 +23,7 @@ pub struct Put {
 /// some, by when every member has left share `i`. It takes no memory.
 #[derive(Drop)]
 pub struct Payloads {
-    places: [Option<Put>; 8],
+    places: [Option<Put>; OPEN_SHARES as usize],
 }
 
 impl Model for Payloads {
@@ -37,7 +38,7 @@ impl Model for Payloads {
 impl Payloads {
     /// No words.
     pub fn new() -> Payloads
-        ensures { result ≡ replicate 8 None }
+        ensures { result ≡ replicate OPEN_SHARES None }
     {
         Payloads {
             places: [None, None, None, None, None, None, None, None],
@@ -46,9 +47,9 @@ impl Payloads {
 
     /// The words put in this share; None where none were, or where they lie here no more.
     pub fn at(&self, share: u64) -> Option<&Payload>
-        ensures { option_copied result ≡ there share (slice_get self.now (share % 8)) }
+        ensures { option_copied result ≡ there share (slice_get self.now (share % OPEN_SHARES)) }
     {
-        match &self.places[(share % 8) as usize] {
+        match &self.places[(share % OPEN_SHARES) as usize] {
             Some(put) if put.share == share => Some(&put.words),
             _ => None,
         }
@@ -56,9 +57,9 @@ impl Payloads {
 
     /// Keeps the words put in this share.
     pub fn put(&mut self, share: u64, words: Payload)
-        ensures { self.new ≡ slice_set self.old (share % 8)
+        ensures { self.new ≡ slice_set self.old (share % OPEN_SHARES)
             (Some (record { share = share; words = words })) }
     {
-        self.places[(share % 8) as usize] = Some(Put { share, words });
+        self.places[(share % OPEN_SHARES) as usize] = Some(Put { share, words });
     }
 }

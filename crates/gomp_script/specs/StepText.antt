@@ -7,6 +7,7 @@ use Rattle.gomp_types.specs.declared.loop_desc.Sched.{Sched}
 use Rattle.gomp_types.specs.declared.loop_desc.Sched.TheVariants.{Static, Dynamic, Guided, Runtime}
 use Rattle.gomp_types.specs.declared.loop_desc.EndKind.{EndKind}
 use Rattle.gomp_types.specs.declared.loop_desc.EndKind.TheVariants.{Wait, Nowait}
+use Rattle.gomp_types.specs.declared.payload.TheConstants.{MAX_WORDS}
 use Rattle.gomp_types.specs.Limits.{shown}
 use Rattle.gomp_script.specs.declared.parse.Why.{Why}
 use Rattle.gomp_script.specs.declared.parse.Why.TheVariants.{NotAscii, FirstLine, UnknownWord, MissingWord, BadNumber, ExtraWord}
@@ -155,7 +156,7 @@ payload_of most words = do
 unfoldable pub copy_end_step : List ℕ → List (List ℕ) → Result Step Why
 copy_end_step member words = do
   number ← member_of member
-  payload ← payload_of 8 words
+  payload ← payload_of MAX_WORDS words
   Ok (record { member = number; call = SingleCopyEnd payload })
 
 -- `MEMBER ordered VALUE`

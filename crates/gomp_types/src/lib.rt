@@ -26,7 +26,7 @@ pub use limits::{
 };
 pub use loop_desc::{EndKind, LoopDesc, Sched, trips};
 pub use name::Name;
-pub use payload::Payload;
+pub use payload::{MAX_WORDS, Payload};
 pub use refusal::{Clash, Place, Refusal};
 pub use reply::Reply;
 pub use sections::sections_shape;

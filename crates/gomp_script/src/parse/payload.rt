@@ -2,15 +2,13 @@
 
 ghost use Rattle.std.specs.Prelude.{◌≡◌};
 ghost use Rattle.gomp_text.specs.Words.{words_of};
+ghost use Rattle.gomp_types.specs.declared.payload.TheConstants.{MAX_WORDS};
 ghost use Rattle.gomp_script.specs.StepText.{payload_word, payload_of, copy_end_step};
 
 use crate::parse::Why;
 use crate::parse::words::{finish, member_of};
 use gomp_text::{next_word, unsigned};
-use gomp_types::{Call, Payload, Step};
-
-/// How many words of a payload are read; what follows them is a word too many.
-const MAX_WORDS: usize = 8;
+use gomp_types::{Call, MAX_WORDS, Payload, Step};
 
 /// The word of a payload that this word writes, a `u64`.
 fn payload_word(word: &[u8]) -> Result<u64, Why>
@@ -19,9 +17,10 @@ fn payload_word(word: &[u8]) -> Result<u64, Why>
     unsigned(word, u64::MAX).ok_or(Why::BadNumber)
 }
 
-/// The payload of all words of the rest of a line.
+/// The payload of all words of the rest of a line. What follows the most that it may have is a word too
+/// many.
 fn payload_of(words: &[u8]) -> Result<Payload, Why>
-    ensures { result ≡ payload_of 8 (words_of words.now) }
+    ensures { result ≡ payload_of MAX_WORDS (words_of words.now) }
 {
     let mut payload = Payload::new();
     let mut rest = words;

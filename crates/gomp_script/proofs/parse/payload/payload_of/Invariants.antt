@@ -1,4 +1,5 @@
 use Rattle.std.proofs.Common.{◌≡◌, ◌-◌, length}
+use Rattle.gomp_types.specs.declared.payload.TheConstants.{MAX_WORDS}
 use Rattle.gomp_text.specs.Words.{words_of}
 use Rattle.gomp_script.specs.StepText.{payload_of}
 use Rattle.gomp_script.proofs.PayloadLemmas.{with_words}
@@ -8,5 +9,5 @@ use Rattle.gomp_script.proofs.parse.payload.payload_of.Given as goal
 abbrev pub invariant-loop-i : goal.invariant-loop-i
 invariant-loop-i l = record {
   count : length l.payload ≡ l._i;
-  read : with_words l.payload (payload_of (8 - l._i) (words_of l.rest)) ≡ payload_of 8 (words_of l.fn.words);
+  read : with_words l.payload (payload_of (MAX_WORDS - l._i) (words_of l.rest)) ≡ payload_of MAX_WORDS (words_of l.fn.words);
 }
