@@ -23,6 +23,9 @@ use Rattle.gomp_types.specs.EventLists.{even_four, four, at}
 use Rattle.gomp_model.specs.Row.{Row, plain, at_once, once, since, row_tests, refusal_gives, events_after}
 use Rattle.gomp_model.specs.Calls.{row_of}
 use Rattle.gomp_model.specs.Loops.{loop_next_row}
+use Rattle.gomp_model.specs.Past.{Past}
+use Rattle.gomp_model.specs.Arrivals.{barrier_row}
+use Rattle.gomp_model.specs.OrderedParts.{ordered_start_row}
 use Rattle.gomp_model.specs.Examples.{MayReplyAfter, past_with, past_after, ten_by_three, stopped_waiting}
 use Rattle.gomp_model.specs.ShareExamples.{three_sections}
 
@@ -226,6 +229,37 @@ pub given_by_number :
     × (last_given 4 2 (Enter 0 2 (record even_four { ordered = true }) ∷ Take 0 2 2 3 ∷ []) ≡ Drained 0 2 ∷ HandOn 0 2 2 ∷ [])
     × (last_given 4 2 (Enter 0 2 even_four ∷ Take 0 2 2 3 ∷ []) ≡ Drained 0 2 ∷ [])
 given_by_number = (refl, refl, refl, refl, refl)
+
+-- The second member, where the first is elsewhere
+
+-- it is in an ordered loop alone
+abbrev second_inside : Past
+second_inside = past_with 2 (Enter 0 1 (four true) ∷ Take 0 1 0 2 ∷ [])
+
+-- and begins its part there
+pub second_begins_a_part : (ordered_start_row (pos 0)).may_reply 1 second_inside Finished
+second_begins_a_part = refl
+
+pub part_of_the_second : (ordered_start_row (pos 0)).gives 1 second_inside Finished ≡ Part 0 1 0 ∷ []
+part_of_the_second = refl
+
+-- both have arrived, and the first has passed
+abbrev second_arrived : Past
+second_arrived = past_with 2 (Arrive 0 0 (at BarrierArrival 0) ∷ Arrive 0 1 (at BarrierArrival 0) ∷ Pass 0 0 ∷ [])
+
+-- the second passes the barrier that it has come to
+pub second_passes : barrier_row.may_reply 1 second_arrived Passed
+second_passes = refl
+
+pub pass_of_the_second : barrier_row.gives 1 second_arrived Passed ≡ Pass 0 1 ∷ []
+pass_of_the_second = refl
+
+-- the first waits at its next one
+pub first_waits_ahead : barrier_row.may_reply 0 second_arrived Wait
+first_waits_ahead = refl
+
+pub pass_of_the_first : barrier_row.gives 0 second_arrived Passed ≡ Pass 1 0 ∷ []
+pass_of_the_first = refl
 
 -- Tests
 

@@ -41,7 +41,7 @@ pub answers_at_the_limit : AnswersLoopStart ten (record standard { shares = 0 })
 answers_at_the_limit answer = absurd (let none = answer.0 in cc)
 
 -- nor one where the other member is in another
-pub answers_beside_another : AnswersLoopStart nine standard 2 1 (Chunk (pos 3) 3) (events_of took_one) → ⊥
+pub answers_beside_another : AnswersLoopStart nine standard 2 1 (Chunk (pos 3) 3) (events_of 2 took_one) → ⊥
 answers_beside_another answer = absurd (let none = answer.0 in cc)
 
 -- its start gives the entry and the piece
@@ -49,39 +49,39 @@ pub loop_start_adds : loop_started ten 0 (Chunk (pos 0) 3) [] ≡ Take 0 0 0 3 �
 loop_start_adds = refl
 
 -- a start that waits gives nothing
-pub loop_wait_adds : loop_started ten 1 Wait (events_of took_one) ≡ events_of took_one
+pub loop_wait_adds : loop_started ten 1 Wait (events_of 2 took_one) ≡ events_of 2 took_one
 loop_wait_adds = refl
 
 -- the next piece
-pub answers_next_piece : AnswersLoopNext 2 0 (Chunk (pos 3) 3) (events_of took_one)
+pub answers_next_piece : AnswersLoopNext 2 0 (Chunk (pos 3) 3) (events_of 2 took_one)
 answers_next_piece = (refl, (refl, (refl, refl)))
 
 -- none to one that was told so
-pub answers_none_again : AnswersLoopNext 2 0 NoChunk (events_of told_none) → ⊥
+pub answers_none_again : AnswersLoopNext 2 0 NoChunk (events_of 2 told_none) → ⊥
 answers_none_again answer = absurd (let none = answer.0 in cc)
 
 -- nor before its turn to hand its piece on
-pub answers_before_the_turn : AnswersLoopNext 2 1 NoChunk (events_of both_hold) → ⊥
+pub answers_before_the_turn : AnswersLoopNext 2 1 NoChunk (events_of 2 both_hold) → ⊥
 answers_before_the_turn answer = absurd (let turn = answer.1.0 in cc)
 
 -- the end
-pub answers_loop_end : AnswersLoopEnd WaitEnd 0 Finished (events_of told_none)
+pub answers_loop_end : AnswersLoopEnd WaitEnd 0 Finished (events_of 2 told_none)
 answers_loop_end = (refl, refl)
 
 -- which passes no barrier
-pub loop_end_passes_none : AnswersLoopEnd WaitEnd 0 Passed (events_of told_none) → ⊥
+pub loop_end_passes_none : AnswersLoopEnd WaitEnd 0 Passed (events_of 2 told_none) → ⊥
 loop_end_passes_none answer = absurd (let done = answer.1 in cc)
 
 -- and is refused while pieces are left
-pub answers_early_end : AnswersLoopEnd WaitEnd 0 Finished (events_of took_one) → ⊥
+pub answers_early_end : AnswersLoopEnd WaitEnd 0 Finished (events_of 2 took_one) → ⊥
 answers_early_end answer = absurd (let none = answer.0 in cc)
 
 -- an end with no barrier leaves the share
-pub finished_leaves : left_at_once 0 Finished (events_of told_none) ≡ End 0 0 ∷ events_of told_none
+pub finished_leaves : left_at_once 0 Finished (events_of 2 told_none) ≡ End 0 0 ∷ events_of 2 told_none
 finished_leaves = refl
 
 -- one that is refused does not
-pub refused_stays : left_at_once 0 (Refused NotDrained) (events_of took_one) ≡ events_of took_one
+pub refused_stays : left_at_once 0 (Refused NotDrained) (events_of 2 took_one) ≡ events_of 2 took_one
 refused_stays = refl
 
 -- Sections
@@ -151,39 +151,39 @@ copy_start_adds = refl
 -- Ordered parts
 
 -- the part of the first iteration is begun
-pub answers_first_part : AnswersPart 2 (pos 0) 0 Finished (events_of both_hold)
+pub answers_first_part : AnswersPart 2 (pos 0) 0 Finished (events_of 2 both_hold)
 answers_first_part = (refl, refl)
 
 -- and not in a part
-pub answers_part_in_part : AnswersPart 2 (pos 0) 0 Finished (events_of in_the_part) → ⊥
+pub answers_part_in_part : AnswersPart 2 (pos 0) 0 Finished (events_of 2 in_the_part) → ⊥
 answers_part_in_part answer = absurd (let none = answer.0 in cc)
 
 -- nor that of the second before the first piece is handed on
-pub answers_part_ahead : AnswersPart 2 (pos 1) 1 Finished (events_of both_hold) → ⊥
+pub answers_part_ahead : AnswersPart 2 (pos 1) 1 Finished (events_of 2 both_hold) → ⊥
 answers_part_ahead answer = absurd (let turn = answer.1 in cc)
 
 -- it gives the part
-pub part_start_adds : part_started (pos 0) 0 Finished (events_of both_hold) ≡ Part 0 0 0 ∷ events_of both_hold
+pub part_start_adds : part_started (pos 0) 0 Finished (events_of 2 both_hold) ≡ Part 0 0 0 ∷ events_of 2 both_hold
 part_start_adds = refl
 
 -- a wait gives none
-pub part_wait_adds : part_started (pos 1) 1 Wait (events_of both_hold) ≡ events_of both_hold
+pub part_wait_adds : part_started (pos 1) 1 Wait (events_of 2 both_hold) ≡ events_of 2 both_hold
 part_wait_adds = refl
 
 -- the end of a part
-pub answers_part_end : AnswersPartEnd 0 Finished (events_of in_the_part)
+pub answers_part_end : AnswersPartEnd 0 Finished (events_of 2 in_the_part)
 answers_part_end = (refl, refl)
 
 -- which never waits
-pub part_end_never_waits : AnswersPartEnd 0 Wait (events_of in_the_part) → ⊥
+pub part_end_never_waits : AnswersPartEnd 0 Wait (events_of 2 in_the_part) → ⊥
 part_end_never_waits answer = absurd (let done = answer.1 in cc)
 
 -- it ends the part
-pub finished_part_adds : part_ended_at_once 0 Finished (events_of in_the_part) ≡ PartEnd 0 0 ∷ events_of in_the_part
+pub finished_part_adds : part_ended_at_once 0 Finished (events_of 2 in_the_part) ≡ PartEnd 0 0 ∷ events_of 2 in_the_part
 finished_part_adds = refl
 
 -- and gives nothing where it is refused
-pub refused_part_adds : part_ended_at_once 0 (Refused NotInside) (events_of both_hold) ≡ events_of both_hold
+pub refused_part_adds : part_ended_at_once 0 (Refused NotInside) (events_of 2 both_hold) ≡ events_of 2 both_hold
 refused_part_adds = refl
 
 -- The second member in the second share, while the first is in the first
