@@ -1,6 +1,4 @@
 pub mod Refused
 pub mod Waits
-pub mod Answered
-pub mod Words
 pub mod Stepping
 pub mod StandsExamples

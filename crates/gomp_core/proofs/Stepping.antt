@@ -30,13 +30,13 @@ use Rattle.gomp_laws.proofs.Known.{passes}
 use Rattle.gomp_laws.proofs.Layers.{step_layers}
 use Rattle.gomp_laws.proofs.Calls.{sound}
 use Rattle.gomp_icv.specs.Variables.{Variables}
-use Rattle.gomp_core.specs.declared.payloads.Put.{Put}
-use Rattle.gomp_core.specs.Payloads.{PayloadsStand}
-use Rattle.gomp_core.specs.Answers.{MayReply, given_after, broken_after, PartsStand, ArePartsKept}
+use Rattle.gomp_parts.specs.declared.payloads.Put.{Put}
+use Rattle.gomp_parts.specs.Payloads.{PayloadsStand}
+use Rattle.gomp_parts.specs.Answers.{MayReply, given_after, broken_after, PartsStand, ArePartsKept}
 use Rattle.gomp_core.specs.Resolved.{resolved_step, resolved_steps, record_of}
 use Rattle.gomp_core.specs.Stands.{TeamView, Stands, past, terms_of, members_of, standard_terms, NoneForMemory}
 use Rattle.gomp_core.proofs.Waits.{same_members, step_below}
-use Rattle.gomp_core.proofs.Answered.{events_given}
+use Rattle.gomp_parts.proofs.Answered.{events_given}
 
 -- A new team
 

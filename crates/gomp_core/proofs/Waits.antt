@@ -21,7 +21,7 @@ use Rattle.gomp_model.specs.Calls.{row_of}
 use Rattle.gomp_model.specs.Team.{Record, meant, is_resume, row_at, refusal_of, MayAnswer, wait_after, past_of, Caused}
 use Rattle.gomp_laws.proofs.Sound.{shows}
 use Rattle.gomp_laws.proofs.Known.{Pending, known_of, same_terms, ready}
-use Rattle.gomp_core.specs.Answers.{in_place, IsReady}
+use Rattle.gomp_parts.specs.Answers.{in_place, IsReady}
 use Rattle.gomp_core.proofs.Refused.{bad_member}
 
 -- a team's terms, with limits that are not above the standard ones

@@ -1,4 +1,2 @@
-pub mod Payloads
-pub mod Answers
 pub mod Stands
 pub mod Resolved

@@ -13,8 +13,8 @@ use Rattle.gomp_model.specs.Past.{Terms, Past}
 use Rattle.gomp_model.specs.Team.{Record, past_of, Caused}
 use Rattle.gomp_icv.specs.Variables.{Variables}
 use Rattle.gomp_barrier.specs.Stands.{BarriersView, Stands as BarriersStand, members_of as barrier_members}
-use Rattle.gomp_core.specs.declared.payloads.Put.{Put}
-use Rattle.gomp_core.specs.Payloads.{PayloadsStand}
+use Rattle.gomp_parts.specs.declared.payloads.Put.{Put}
+use Rattle.gomp_parts.specs.Payloads.{PayloadsStand}
 
 -- what a team keeps
 pub record TeamView (S : Type 0) : Type 0 where

@@ -13,11 +13,6 @@
 //! gomp_model); no definition or proof here lists the calls.
 #![tactic(auto)]
 
-mod answer;
-mod arrivals;
-mod payloads;
-mod refusals;
-mod shares;
 pub mod steps;
 pub mod team;
 

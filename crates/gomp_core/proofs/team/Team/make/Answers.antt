@@ -2,7 +2,7 @@ use Rattle.std.proofs.Common.{◌≡◌, ◌∙◌, [], Option, None, length, re
 use Rattle.std.proofs.lemmas.List.{length-replicate}
 use Rattle.gomp_types.specs.Limits.{IsTeamSize}
 use Rattle.gomp_types.specs.declared.call.Call.{Call}
-use Rattle.gomp_core.proofs.Words.{none_stand}
+use Rattle.gomp_parts.proofs.Words.{none_stand}
 use Rattle.gomp_core.proofs.Stepping.{nobody_waits}
 use Rattle.gomp_core.proofs.team.Team.make.Goals as goal
 

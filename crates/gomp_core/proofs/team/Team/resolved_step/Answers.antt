@@ -5,11 +5,11 @@ use Rattle.gomp_types.specs.declared.event.Event.TheVariants.{Break}
 use Rattle.gomp_types.specs.declared.refusal.Refusal.TheVariants.{Mismatch, NoMemory}
 use Rattle.gomp_model.specs.Calls.{row_of}
 use Rattle.gomp_model.specs.Team.{Record, meant, is_resume, row_at, refusal_of, MayAnswer}
-use Rattle.gomp_core.specs.Answers.{IsReady, MayReply, PartsStand, given_after}
-use Rattle.gomp_core.specs.Payloads.{PayloadsStand}
+use Rattle.gomp_parts.specs.Answers.{IsReady, MayReply, PartsStand, given_after}
+use Rattle.gomp_parts.specs.Payloads.{PayloadsStand}
 use Rattle.gomp_core.specs.Stands.{TeamView, Stands, past, terms_of}
 use Rattle.gomp_core.proofs.Waits.{step_ready}
-use Rattle.gomp_core.proofs.Words.{words_aside}
+use Rattle.gomp_parts.proofs.Words.{words_aside}
 use Rattle.gomp_core.proofs.Stepping.{same_stands, other_stands, step_found, member_free, member_differs, stands_refused, stands_broken, refused_memory, may_answer, never_refused, stands_answered, set_twice, waits_on}
 use Rattle.gomp_core.proofs.team.Team.resolved_step.Given.{Over}
 use Rattle.gomp_core.proofs.team.Team.resolved_step.Goals as goal

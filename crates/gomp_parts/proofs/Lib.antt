@@ -1,0 +1,4 @@
+pub mod Refused
+pub mod Answered
+pub mod Words
+pub mod PartExamples

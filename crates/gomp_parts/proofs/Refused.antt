@@ -1,0 +1,127 @@
+-- A call's refusal by its member's place, and by the comparison with other members, is the least of its tests.
+use Rattle.std.proofs.Common.{◌≡◌, ◌≤◌, ℕ, Bool, true, false, List, [], ◌∷◌, ◌++◌, Option, Some, None, Result, Ok, Err, refl, ap, sym, ◌∙◌, arith}
+use Rattle.std.specs.Prelude.{nat_le, ◌&&◌, IfSome}
+use Rattle.std.proofs.lemmas.Bool.Decides.{nat_tests}
+use Rattle.gomp_types.specs.declared.limits.Limits.{Limits}
+use Rattle.gomp_types.specs.declared.refusal.Refusal.{Refusal}
+use Rattle.gomp_types.specs.declared.seen.Seen.{Seen}
+use Rattle.gomp_types.specs.declared.shape.Shape.{Shape}
+use Rattle.gomp_types.specs.Values.{IsShape}
+use Rattle.gomp_types.specs.RefusalTexts.{number_of}
+use Rattle.gomp_types.specs.Tests.{Test, first_refusal, outcome}
+use Rattle.gomp_types.specs.Seen.{seen_of}
+use Rattle.gomp_types.specs.Least.{lesser, least}
+use Rattle.gomp_types.proofs.Booleans.{and_left, and_right}
+use Rattle.gomp_types.proofs.LeastTests.{AllFail, all_fail, fail_first, lesser_low, lesser_assoc, least_append, from, first_is_least}
+use Rattle.gomp_shares.specs.Starts.{start_tests}
+use Rattle.gomp_model.specs.Past.{Past}
+use Rattle.gomp_model.specs.Row.{Row, row_tests}
+use Rattle.gomp_laws.proofs.Layers.{by_layers}
+use Rattle.gomp_parts.specs.Answers.{ComesFirst, ByPlace, in_place}
+
+-- tests in the order of their numbers
+pub rising_least : (found : Option Refusal) (tests : List Test) → found ≡ first_refusal tests → from 0 tests ≡ true → found ≡ least tests
+rising_least found tests is rising = is ∙ first_is_least 0 tests rising
+
+-- The tests on a member's place come before the comparison
+
+-- whether all numbers are up to this one, or from it on
+abbrev pub up_to : ℕ → List Test → Bool
+up_to n [] = true
+up_to n (test ∷ tests) = nat_le (number_of test.1) n && up_to n tests
+
+abbrev pub beginning : ℕ → List Test → Bool
+beginning n [] = true
+beginning n (test ∷ tests) = nat_le n (number_of test.1) && beginning n tests
+
+below_both : (a b n : ℕ) → a ≤ b → nat_le b n ≡ true → nat_le a n ≡ true
+below_both a b n one other = grind (arith, nat_tests)
+
+between : (a n b : ℕ) → nat_le a n ≡ true → nat_le n b ≡ true → nat_le a b ≡ true
+between a n b one other = grind (arith, nat_tests)
+
+least_up : (n : ℕ) (tests : List Test) (refusal : Refusal) → up_to n tests ≡ true → least tests ≡ Some refusal → nat_le (number_of refusal) n ≡ true
+least_up n [] refusal low is = absurd (cc)
+least_up n ((true, one) ∷ tests) refusal low is =
+    below_both (number_of refusal) (number_of one) n (lesser_low one refusal (least tests) is) (and_left (nat_le (number_of one) n) (up_to n tests) low)
+least_up n ((false, one) ∷ tests) refusal low is = least_up n tests refusal (and_right (nat_le (number_of one) n) (up_to n tests) low) is
+
+least_before : (n : ℕ) (refusal : Refusal) (tests : List Test) → nat_le (number_of refusal) n ≡ true → beginning n tests ≡ true → lesser (Some refusal) (least tests) ≡ Some refusal
+least_before n refusal [] low high = refl
+least_before n refusal ((true, one) ∷ tests) low high =
+    let less = between (number_of refusal) n (number_of one) low (and_left (nat_le n (number_of one)) (beginning n tests) high) in
+    let first : lesser (Some refusal) (Some one) ≡ Some refusal = rw less refl in
+    lesser_assoc (Some refusal) (Some one) (least tests) ∙ ap (λ (x : Option Refusal). lesser x (least tests)) first
+    ∙ least_before n refusal tests low (and_right (nat_le n (number_of one)) (beginning n tests) high)
+least_before n refusal ((false, one) ∷ tests) low high = least_before n refusal tests low (and_right (nat_le n (number_of one)) (beginning n tests) high)
+
+pub comes_first : (row : Row) (limits : Limits) (seen : Seen) (found : Option Refusal) → found ≡ least (row.by_place limits seen) → up_to 34 (row.by_place limits seen) ≡ true →
+    ((m : ℕ) (p : Past) → beginning 34 (row.by_team m p ++ row.compared false m p) ≡ true) → ComesFirst row found
+comes_first row limits seen None is low high = tt
+comes_first row limits seen (Some refusal) is low high = λ m p. least_before 34 refusal (row.by_team m p ++ row.compared false m p) (least_up 34 (row.by_place limits seen) refusal low (sym is)) (high m p)
+
+-- the member's place alone has refused
+pub by_place : (row : Row) (limits : Limits) (seen : Seen) (found : Option Refusal) → found ≡ least (row.by_place limits seen) → up_to 34 (row.by_place limits seen) ≡ true →
+    ((m : ℕ) (p : Past) → beginning 34 (row.by_team m p ++ row.compared false m p) ≡ true) → ((m : ℕ) (p : Past) → least (row.by_team m p) ≡ None) → ByPlace row limits seen found
+by_place row limits seen found is low high none = record { place = is; first = comes_first row limits seen found is low high; team = none }
+
+-- a call with no such test
+pub no_place : (row : Row) (limits : Limits) (seen : Seen) → None ≡ least (row.by_place limits seen) → ((m : ℕ) (p : Past) → least (row.by_team m p) ≡ None) → ByPlace row limits seen None
+no_place row limits seen is none = record { place = is; first = tt; team = none }
+
+-- a call that is repeated is in its place only if its member stays there
+pub stays_there : (stays : Bool) → in_place stays true ≡ true → stays ≡ true
+stays_there true there = refl
+stays_there false there = there
+
+-- The refusal of a call
+
+same_limits : (row : Row) (m : ℕ) (p : Past) (limits : Limits) → p.terms.limits ≡ limits → least (row.by_place limits (seen_of m p.events)) ≡ least (row.by_place p.terms.limits (seen_of m p.events))
+same_limits row m p limits is = ap (λ (l : Limits). least (row.by_place l (seen_of m p.events))) (sym is)
+
+pub refused_there : (row : Row) (m : ℕ) (p : Past) (limits : Limits) (seen : Seen) (found : Option Refusal) (refusal : Refusal) → p.terms.limits ≡ limits → seen ≡ seen_of m p.events → found ≡ least (row.by_place limits seen) →
+    ComesFirst row found → found ≡ Some refusal → Some refusal ≡ least (row_tests false row m p)
+refused_there row m p limits seen found refusal bounds at is first some =
+    let here : least (row.by_place p.terms.limits (seen_of m p.events)) ≡ Some refusal = sym (same_limits row m p limits bounds) ∙ ap (λ (s : Seen). least (row.by_place limits s)) (sym at) ∙ sym is ∙ some in
+    let rest : ComesFirst row (Some refusal) = rw some at first in
+    sym (least_append (row.by_place p.terms.limits (seen_of m p.events)) (row.by_team m p ++ row.compared false m p)
+    ∙ ap (λ (x : Option Refusal). lesser x (least (row.by_team m p ++ row.compared false m p))) here ∙ rest m p)
+
+pub compared_then : (row : Row) (m : ℕ) (p : Past) (limits : Limits) (seen : Seen) (found other : Option Refusal) → p.terms.limits ≡ limits → seen ≡ seen_of m p.events → found ≡ least (row.by_place limits seen) → found ≡ None →
+    least (row.by_team m p) ≡ None → other ≡ least (row.compared false m p) → other ≡ least (row_tests false row m p)
+compared_then row m p limits seen found other bounds at is none team same =
+    let here : least (row.by_place p.terms.limits (seen_of m p.events)) ≡ None = sym (same_limits row m p limits bounds) ∙ ap (λ (s : Seen). least (row.by_place limits s)) (sym at) ∙ sym is ∙ none in
+    same ∙ sym (by_layers row m p ∙ both_none (least (row.by_place p.terms.limits (seen_of m p.events))) (least (row.by_team m p)) (least (row.compared false m p)) here team)
+  where
+    both_none : (place team compared : Option Refusal) → place ≡ None → team ≡ None → lesser place (lesser team compared) ≡ compared
+    both_none place team compared one two = rw (one, two) refl
+
+-- The shape of a construct that none of its tests refuses
+
+none_first : (tests : List Test) → AllFail tests → first_refusal tests ≡ None
+none_first [] fail = refl
+none_first (test ∷ tests) fail = rw fail.0 (none_first tests fail.1)
+
+pub own_fails : (own : List Test) (limits : Limits) (seen : Seen) → least (start_tests own limits seen) ≡ None → first_refusal own ≡ None
+own_fails own limits seen none = let all = all_fail (start_tests own limits seen) none in none_first own (fail_first own _ all.1)
+
+-- so it has its shape
+pub shape_refused : {A : Type 0} (own : List Test) (limits : Limits) (seen : Seen) (shape : A) (told : Result A Refusal) (refusal : Refusal) → least (start_tests own limits seen) ≡ None → told ≡ outcome (first_refusal own) shape → told ≡ Err refusal → ⊥
+shape_refused own limits seen shape told refusal none is err =
+    let fine : told ≡ Ok shape = rw (own_fails own limits seen none) at is in
+    let both = sym err ∙ fine in cc
+
+pub shape_told : {A : Type 0} (found : Option Refusal) (shape other : A) (told : Result A Refusal) → told ≡ outcome found shape → told ≡ Ok other → other ≡ shape
+shape_told None shape other told is ok = let both = sym ok ∙ is in cc
+shape_told (Some refusal) shape other told is ok = absurd (let both = sym ok ∙ is in cc)
+
+-- a call whose test fails is not refused
+pub refused_not : {A : Type 0} (tests : List Test) (x : A) (told : Result A Refusal) (refusal : Refusal) → least tests ≡ None → told ≡ outcome (least tests) x → told ≡ Err refusal → ⊥
+refused_not tests x told refusal none is err =
+    let fine : told ≡ Ok x = rw none at is in
+    let both = sym err ∙ fine in cc
+
+-- the shape of the share that a member is in
+pub shape_there : (share : Option (ℕ × Shape)) → ((i : ℕ) (shape : Shape) → share ≡ Some (i, shape) → IsShape shape) → IfSome share (λ s. IsShape s.1)
+shape_there None valid = tt
+shape_there (Some share) valid = valid share.0 share.1 refl

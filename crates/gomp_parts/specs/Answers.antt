@@ -1,0 +1,92 @@
+-- What a team knows of a call that no test refuses, and what its parts stand for after the answer. OpenMP API 5.2, chapters 11 and 15, section 5.7.2.
+use Rattle.std.specs.Prelude.{ℕ, ◌≡◌, not, Bool, true, false, List, ◌++◌, Option, Some, None, IfSome}
+use Rattle.gomp_types.specs.declared.limits.Limits.{Limits}
+use Rattle.gomp_types.specs.declared.refusal.Clash.{Clash}
+use Rattle.gomp_types.specs.declared.refusal.Place.TheVariants.{Stopped as AtStop}
+use Rattle.gomp_types.specs.declared.refusal.Refusal.{Refusal}
+use Rattle.gomp_types.specs.declared.reply.Reply.{Reply}
+use Rattle.gomp_types.specs.declared.reply.Reply.TheVariants.{Wait, Stopped}
+use Rattle.gomp_types.specs.declared.event.Event.{Event}
+use Rattle.gomp_types.specs.Least.{lesser, least}
+use Rattle.gomp_types.specs.declared.seen.Seen.{Seen}
+use Rattle.gomp_types.specs.Seen.{seen_of}
+use Rattle.gomp_shares.specs.Starts.{leaves}
+use Rattle.gomp_model.specs.Past.{Past}
+use Rattle.gomp_model.specs.Row.{Row, once, since}
+use Rattle.gomp_barrier.specs.Stands.{BarriersView, Stands as BarriersStand}
+use Rattle.gomp_parts.specs.declared.payloads.Put.{Put}
+use Rattle.gomp_parts.specs.Payloads.{PayloadsStand}
+
+-- Tests
+
+-- no later test of the call has a lesser number than this refusal by the member's place, if it is one
+abbrev pub ComesFirst : Row → Option Refusal → Type 0
+ComesFirst row found =
+    IfSome found (λ refusal. (m : ℕ) (p : Past) → lesser (Some refusal) (least (row.by_team m p ++ row.compared false m p)) ≡ Some refusal)
+
+-- a call's refusal by its member's place: the least of these tests, before which no other test of the call comes; and none that the team decides holds
+pub record ByPlace (row : Row) (limits : Limits) (seen : Seen) (found : Option Refusal) : Type 0 where
+  pub place : found ≡ least (row.by_place limits seen)
+  pub first : ComesFirst row found
+  pub team : (m : ℕ) (p : Past) → least (row.by_team m p) ≡ None
+
+-- whether what its place has shown of a call holds: where it is made, and where it is repeated if its member has stayed there
+abbrev pub in_place : Bool → Bool → Bool
+in_place true again = true
+in_place false again = not again
+
+-- Answers
+
+-- none of the tests of a call with this row holds, in a past of a team of so many members with these limits; one that is repeated is one that may wait
+pub record IsReady (row : Row) (members : ℕ) (limits : Limits) (again : Bool) (m : ℕ) (p : Past) : Type 0 where
+  pub members_are : p.terms.members ≡ members
+  pub place : in_place row.stays again ≡ true → least (row.by_place limits (seen_of m p.events)) ≡ None
+  pub compared : least (row.compared again m p) ≡ None
+  pub waits : again ≡ true → (q : Past) × row.may_reply m q Wait
+
+-- what a reply that is no refusal may be
+abbrev pub MayReply : Row → Bool → ℕ → Past → Reply → Type 0
+MayReply row again m p reply = row.may_reply m (since again row m p) reply
+
+-- the events after the call and such a reply
+abbrev pub given_after : Row → Bool → ℕ → Past → Reply → List Event
+given_after row again m p reply = row.gives m (since again row m p) reply ++ (since again row m p).events
+
+-- the events after a member has left its share, unless its call is repeated
+abbrev pub left_once : Bool → ℕ → List Event → List Event
+left_once again m h = once (leaves m h) again ++ h
+
+-- by whom and where the team is broken after a reply that is no refusal: a member that stops it breaks it
+abbrev pub broken_after : Option Clash → ℕ → Reply → Option Clash
+broken_after broken m Stopped = Some (record { member = m; place = AtStop })
+broken_after broken m _ = broken
+
+-- Parts
+
+-- the shares and the barriers stand for these events
+abbrev pub BothStand : {S : Type 0} → (S → List Event → Type 0) → S → BarriersView → List Event → Type 0
+BothStand stands shares barriers h = stands shares h × BarriersStand barriers h
+
+-- the shares and the words that were put
+abbrev pub WordsStand : {S : Type 0} → (S → List Event → Type 0) → ℕ → S → List (Option Put) → List Event → Type 0
+WordsStand stands members shares payloads h = stands shares h × PayloadsStand members payloads h
+
+-- and all three
+abbrev pub PartsStand : {S : Type 0} → (S → List Event → Type 0) → ℕ → S → BarriersView → List (Option Put) → List Event → Type 0
+PartsStand stands members shares barriers payloads h = stands shares h × BarriersStand barriers h × PayloadsStand members payloads h
+
+-- none of them changes
+abbrev pub ArePartsKept : {S : Type 0} → S → BarriersView → List (Option Put) → S → BarriersView → List (Option Put) → Type 0
+ArePartsKept shares barriers payloads shares_after barriers_after payloads_after = (shares_after ≡ shares) × (barriers_after ≡ barriers) × (payloads_after ≡ payloads)
+
+-- A call that no test refuses
+
+-- the parts stand for some past in which a call with this row is ready
+abbrev pub SomeReady : {S : Type 0} → (S → List Event → Type 0) → (S → ℕ) → S → BarriersView → List (Option Put) → Row → Limits → Bool → ℕ → Type 0
+SomeReady stands members shares barriers payloads row limits again m =
+    (p : Past) × PartsStand stands (members shares) shares barriers payloads p.events × IsReady row (members shares) limits again m p
+
+-- of each such past this holds
+abbrev pub EachReady : {S : Type 0} → (S → List Event → Type 0) → (S → ℕ) → S → BarriersView → List (Option Put) → Row → Limits → Bool → ℕ → (Past → Type 0) → Type 0
+EachReady stands members shares barriers payloads row limits again m P =
+    (p : Past) → PartsStand stands (members shares) shares barriers payloads p.events → IsReady row (members shares) limits again m p → P p

@@ -1,0 +1,94 @@
+//! What a member is answered where no test of its call holds.
+
+ghost use Rattle.std.specs.Prelude.{◌≡◌, ◌<◌, ◌++◌, ℕ, List, true, false, None};
+ghost use Rattle.gomp_types.specs.declared.event.Event.{Event};
+ghost use Rattle.gomp_types.specs.declared.call.Call.TheVariants.{Stop};
+ghost use Rattle.gomp_types.specs.declared.reply.Reply.TheVariants.{Wait, Stopped};
+ghost use Rattle.gomp_types.specs.Least.{least};
+ghost use Rattle.gomp_shares.specs.Singles.{put_tests, words_put};
+ghost use Rattle.gomp_barrier.specs.Stands.{members_of as barrier_members};
+ghost use Rattle.gomp_model.specs.Calls.{row_of};
+ghost use Rattle.gomp_parts.specs.Answers.{ArePartsKept, PartsStand, WordsStand, SomeReady, EachReady, MayReply, given_after};
+
+use crate::arrivals::{arrival_reply, end_reply};
+use crate::payloads::Payloads;
+use crate::shares::share_reply;
+use gomp_barrier::Barriers;
+use gomp_shares::{Construct, Shares};
+use gomp_types::{Arrival, Call, Limits, Payload, Reply};
+
+/// Answers a call, or goes on with one that waits (`again`).
+///
+/// No test of the call holds. Where a call that waits is asked about again and waits on, nothing
+/// changes.
+pub fn answer<S: Shares>(
+    shares: &mut S,
+    barriers: &mut Barriers,
+    payloads: &mut Payloads,
+    limits: &Limits,
+    member: u16,
+    call: &Call,
+    again: bool,
+) -> Reply
+    requires member { member < S.members shares.old }
+    requires team { barrier_members barriers.old ≡ S.members shares.old }
+    requires ready { SomeReady S.stands S.members shares.old barriers.old payloads.old
+        (row_of call.now) limits.now again member }
+    ensures members { S.members shares.new ≡ S.members shares.old }
+    ensures barriers { barrier_members barriers.new ≡ barrier_members barriers.old }
+    ensures again { again ≡ true → result ≡ Wait →
+        ArePartsKept shares.old barriers.old payloads.old shares.new barriers.new payloads.new }
+    ensures stops { result ≡ Stopped → call.now ≡ Stop }
+    ensures answer { EachReady S.stands S.members shares.old barriers.old payloads.old
+        (row_of call.now) limits.now again member
+        (λ p. MayReply (row_of call.now) again member p result) }
+    ensures stands { EachReady S.stands S.members shares.old barriers.old payloads.old
+        (row_of call.now) limits.now again member
+        (λ p. PartsStand S.stands (S.members shares.old) shares.new barriers.new payloads.new
+        (given_after (row_of call.now) again member p result)) }
+{
+    gomp_barrier::aside();
+    match call {
+        Call::LoopEnd => end_reply(shares, barriers, member, Construct::Loop, again),
+        Call::SectionsEnd => end_reply(shares, barriers, member, Construct::Sections, again),
+        Call::Barrier => arrival_reply(shares, barriers, member, Arrival::Barrier, again),
+        Call::RegionEnd => arrival_reply(shares, barriers, member, Arrival::RegionEnd, again),
+        Call::SingleCopyEnd(words) => {
+            put_words(shares, payloads, member, words);
+            Reply::Finished
+        }
+        Call::LoopStart(_)
+        | Call::LoopNext
+        | Call::LoopEndNowait
+        | Call::SectionsStart { .. }
+        | Call::SectionsNext
+        | Call::SectionsEndNowait
+        | Call::SingleStart
+        | Call::SingleCopyStart
+        | Call::OrderedStart(_)
+        | Call::OrderedEnd
+        | Call::Stop => share_reply(shares, payloads, limits, member, call),
+        Call::Resume => unreachable!(),
+    }
+}
+
+/// The executor of a `single` puts its words, and leaves it.
+fn put_words<S: Shares>(shares: &mut S, payloads: &mut Payloads, member: u16, words: &Payload)
+    requires member { member < S.members shares.old }
+    requires place { least (put_tests (S.seen shares.old member)) ≡ None }
+    ensures members { S.members shares.new ≡ S.members shares.old }
+    ensures stands { (h : List Event) →
+        WordsStand S.stands (S.members shares.old) shares.old payloads.old h →
+        WordsStand S.stands (S.members shares.old) shares.new payloads.new
+        (words_put words.now member h ++ h) }
+{
+    gomp_shares::laws::inside_is_open();
+    gomp_shares::laws::eight_before();
+    let Some((number, _)) = shares.look(member).current else {
+        unreachable!()
+    };
+    let Ok(()) = gomp_sections::single_copy_end(shares, member) else {
+        unreachable!()
+    };
+    payloads.put(number, words.copied());
+}
