@@ -1,5 +1,5 @@
 use Rattle.std.proofs.Common.{rules, ◌≡◌, [], ◌∙◌, refl, inl, inr}
-use Rattle.gomp_types.specs.declared.call.Call.TheVariants.{LoopStart, LoopNext, LoopEnd, LoopEndNowait, SectionsStart, SectionsNext, SectionsEnd, SectionsEndNowait, SingleStart, SingleCopyStart, SingleCopyEnd, OrderedStart, OrderedEnd, Barrier, RegionEnd, Resume, Stop}
+use Rattle.gomp_types.specs.declared.call.Call.TheVariants.{LoopStart, LoopNext, LoopEnd, LoopEndNowait, SectionsStart, SectionsNext, SectionsEnd, SectionsEndNowait, SingleStart, SingleCopyStart, SingleCopyEnd, OrderedStart, Barrier, RegionEnd, Resume, Stop}
 use Rattle.gomp_types.specs.declared.loop_desc.EndKind.TheVariants.{Wait, Nowait}
 use Rattle.gomp_types.specs.Events.{open_share}
 use Rattle.gomp_types.specs.Iterations.{loop_tests}
@@ -79,10 +79,6 @@ pub returns-in-OrderedStart : goal.returns-in-OrderedStart
 returns-in-OrderedStart g c =
     let told : c.part_refusal.result ≡ least (part_tests c.in-OrderedStart.value c.look-seen.result) = search rules in
     rw (c.in-OrderedStart.is, ← c.look-seen.ensures.value) (by_place (row_of (OrderedStart c.in-OrderedStart.value)) c.args.limits.now c.look-seen.result c.part_refusal.result told refl (λ m p. refl) (λ m p. refl))
-
-pub returns-in-OrderedEnd : goal.returns-in-OrderedEnd
-returns-in-OrderedEnd g c =
-    rw (c.in-OrderedEnd.is, ← c.look-seen.ensures.value) (by_place (row_of OrderedEnd) c.args.limits.now c.look-seen.result c.part_end_refusal.result c.part_end_refusal.ensures refl (λ m p. refl) (λ m p. refl))
 
 pub returns-in-Barrier : goal.returns-in-Barrier
 returns-in-Barrier g c =

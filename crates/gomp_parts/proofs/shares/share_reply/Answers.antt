@@ -73,12 +73,6 @@ returns-in-OrderedStart-clause-members g c = c.ordered_start.ensures.members
 pub returns-in-OrderedStart-clause-waits : goal.returns-in-OrderedStart-clause-waits
 returns-in-OrderedStart-clause-waits g c = c.ordered_start.ensures.waits
 
-pub returns-in-OrderedEnd-clause-apart : goal.returns-in-OrderedEnd-clause-apart
-returns-in-OrderedEnd-clause-apart g c = rw c.in-OrderedEnd.is (refl, refl)
-
-pub returns-in-OrderedEnd-clause-members : goal.returns-in-OrderedEnd-clause-members
-returns-in-OrderedEnd-clause-members g c = c.ordered_end.ensures.members
-
 pub returns-in-Stop-clause-apart : goal.returns-in-Stop-clause-apart
 returns-in-Stop-clause-apart g c = rw c.in-Stop.is (refl, refl)
 
