@@ -1,7 +1,8 @@
 -- What a member sees, and the piece that it was given, in the words of the events.
 use Rattle.std.proofs.Common.{◌≡◌, ℕ, ◌+◌, ◌-◌, ◌<◌, ◌≤◌, Bool, true, false, List, [], ◌∷◌, ◌++◌, Option, Some, None, refl, ap, ◌∙◌, sym, subst, arith, inl}
 use Rattle.std.specs.Prelude.{pos, not, ◌≢◌, ◌&&◌, if◌then◌else◌, nat_le, is_some}
-use Rattle.gomp_types.specs.declared.reply.Reply.TheVariants.{Wait}
+use Rattle.gomp_types.specs.declared.reply.Reply.{Reply}
+use Rattle.gomp_types.specs.declared.reply.Reply.TheVariants.{Wait, Refused}
 use Rattle.gomp_types.specs.declared.loop_desc.LoopDesc.{LoopDesc}
 use Rattle.gomp_types.specs.declared.loop_desc.EndKind.{EndKind}
 use Rattle.gomp_types.specs.declared.limits.Limits.{Limits}
@@ -23,9 +24,11 @@ use Rattle.gomp_types.specs.Compare.{shape_differs}
 use Rattle.gomp_types.proofs.Booleans.{same_number}
 use Rattle.gomp_types.proofs.LeastTests.{all_fail, first_is_least}
 use Rattle.gomp_types.proofs.TestRows.{front_holds, front_fails, head_fails}
-use Rattle.gomp_shares.specs.Calls.{CanClaim, Claims, claimed, own_turn, piece_handed}
-use Rattle.gomp_shares.specs.Starts.{start_tests, share_tests, compared_share}
-use Rattle.gomp_shares.specs.Loops.{DealsOut, handed_on, next_tests, end_tests, AnswersLoopStart, loop_started, AnswersLoopNext, loop_next_taken}
+use Rattle.gomp_shares.specs.Calls.{CanClaim, MayOpen, Claims, claimed, own_turn, piece_handed}
+use Rattle.gomp_shares.specs.declared.Opening.TheVariants.{Entered}
+use Rattle.gomp_shares.proofs.Admitted.{begin_compared, answers_let}
+use Rattle.gomp_shares.specs.Starts.{start_tests, share_tests, compared_share, AnswersBegin}
+use Rattle.gomp_shares.specs.Loops.{DealsOut, handed_on, next_tests, end_tests, loop_begun, AnswersLoopNext, DealsNext, loop_next_taken}
 use Rattle.gomp_shares.proofs.Entered.{row_is, open_entered}
 use Rattle.gomp_loops.specs.Answers.{reply_of}
 
@@ -47,21 +50,9 @@ start_refused limits m loop seen h refusal e is =
     start_first limits m loop h (Some refusal) (front_holds (start_tests (loop_tests loop) limits (seen_of m h)) (compared_share (shape_of loop) m h) refusal
     (row_is (start_tests (loop_tests loop) limits) seen (seen_of m h) (Some refusal) e is))
 
--- where no other holds, it alone decides
-compared_by : (differs : Bool) → first_refusal ((differs, Mismatch) ∷ []) ≡ (if differs then Some Mismatch else None)
-compared_by true = refl
-compared_by false = refl
-
-pub start_compared : (limits : Limits) (m : ℕ) (loop : LoopDesc) (seen : Seen) (h : List Event) (differs : Bool) → seen ≡ seen_of m h → None ≡ first_refusal (start_tests (loop_tests loop) limits seen) →
-    shape_differs (shape_of loop) (shape_at (entered m h) h) ≡ differs → least (share_tests (loop_tests loop) (shape_of loop) limits m h) ≡ (if differs then Some Mismatch else None)
-start_compared limits m loop seen h differs e is same =
-    start_first limits m loop h (if differs then Some Mismatch else None) (
-    front_fails (start_tests (loop_tests loop) limits (seen_of m h)) (compared_share (shape_of loop) m h) (row_is (start_tests (loop_tests loop) limits) seen (seen_of m h) None e is)
-    ∙ subst (λ (test : Bool). first_refusal ((test, Mismatch) ∷ []) ≡ (if differs then Some Mismatch else None)) (sym same) (compared_by differs))
-
--- a start whose own tests fail is outside of every share
-pub start_outside : (limits : Limits) (seen : Seen) (loop : LoopDesc) → first_refusal (start_tests (loop_tests loop) limits seen) ≡ None → is_some seen.current ≡ false
-start_outside limits seen loop e = head_fails (is_some seen.current) InsideShare (loop_tests loop ++ (nat_le limits.shares seen.entered, TooManyShares) ∷ []) e
+pub start_fine : (limits : Limits) (m : ℕ) (loop : LoopDesc) (seen : Seen) (h : List Event) → seen ≡ seen_of m h → None ≡ first_refusal (start_tests (loop_tests loop) limits seen) →
+    least (start_tests (loop_tests loop) limits (seen_of m h)) ≡ None
+start_fine limits m loop seen h e is = sym (first_is_least 0 (start_tests (loop_tests loop) limits (seen_of m h)) refl) ∙ row_is (start_tests (loop_tests loop) limits) seen (seen_of m h) None e is
 
 -- a member outside of every share is refused as its loop is
 pub start_own : (limits : Limits) (seen : Seen) (loop : LoopDesc) (refusal : Refusal) → is_some seen.current ≡ false → first_refusal (loop_tests loop) ≡ Some refusal → first_refusal (start_tests (loop_tests loop) limits seen) ≡ Some refusal
@@ -69,11 +60,11 @@ start_own limits seen loop refusal out e = rw out (front_holds (loop_tests loop)
 
 -- Replies
 
--- a next whose tests fail is answered what the share deals out, once the turn is the member's
-pub next_reply : (members m i : ℕ) (shape : Shape) (answer : Option Piece) (h : List Event) → open_share m h ≡ Some (i, shape) → least (next_tests (seen_of m h)) ≡ None →
-    must_wait members (i, shape) m h ≡ false → DealsOut members m (Some (i, shape)) (reply_of shape answer) h → AnswersLoopNext members m (reply_of shape answer) h
-next_reply members m i shape None h there none turn dealt = (none, rw there (turn, dealt))
-next_reply members m i shape (Some piece) h there none turn dealt = (none, rw there (turn, dealt))
+-- a next is answered what the share deals out, once the turn is the member's
+pub next_reply : (members m i : ℕ) (shape : Shape) (answer : Option Piece) (h : List Event) → open_share m h ≡ Some (i, shape) →
+    must_wait members (i, shape) m h ≡ false → DealsOut members m (Some (i, shape)) (reply_of shape answer) h → DealsNext members m (open_share m h) (reply_of shape answer) h
+next_reply members m i shape None h there turn dealt = rw there (turn, dealt)
+next_reply members m i shape (Some piece) h there turn dealt = rw there (turn, dealt)
 
 -- and waits before that
 must_by : (ordered turn : Bool) → ordered ≡ true → turn ≡ false → (ordered && not turn) ≡ true
@@ -83,20 +74,27 @@ may_by : (ordered turn : Bool) → turn ≡ true → (ordered && not turn) ≡ f
 may_by true turn e = rw e refl
 may_by false turn e = refl
 
-pub next_waits : (members m i : ℕ) (shape : Shape) (h : List Event) → open_share m h ≡ Some (i, shape) → least (next_tests (seen_of m h)) ≡ None → shape.ordered ≡ true → false ≡ own_turn members m h → AnswersLoopNext members m Wait h
-next_waits members m i shape h there none ordered e =
+pub next_waits : (members m i : ℕ) (shape : Shape) (h : List Event) → open_share m h ≡ Some (i, shape) → shape.ordered ≡ true → false ≡ own_turn members m h → DealsNext members m (open_share m h) Wait h
+next_waits members m i shape h there ordered e =
     let last : has_turn members (i, shape) m h ≡ false = sym (rw there at e) in
     let waits : must_wait members (i, shape) m h ≡ true = must_by shape.ordered (has_turn members (i, shape) m h) ordered last in
-    (none, rw there waits)
+    rw there waits
+
+-- no refusal is dealt out
+never_refused : (members m : ℕ) (share : Option (ℕ × Shape)) (h : List Event) (refusal : Refusal) → DealsNext members m share (Refused refusal) h → ⊥
+never_refused members m None h refusal given = given
+never_refused members m (Some share) h refusal given = given.1
+
+-- so a next that the member's own tests let through is answered as its share deals
+pub next_admitted : (members m : ℕ) (reply : Reply) (h : List Event) → least (next_tests (seen_of m h)) ≡ None → DealsNext members m (open_share m h) reply h → AnswersLoopNext members m reply h
+next_admitted members m reply h none given =
+    answers_let (next_tests (seen_of m h)) (λ given. DealsNext members m (open_share m h) given h) reply none (never_refused members m (open_share m h) h) given
 
 -- and so is a start, where there is room
-pub start_reply : (limits : Limits) (members m : ℕ) (loop : LoopDesc) (answer : Option Piece) (h : List Event) → least (share_tests (loop_tests loop) (shape_of loop) limits m h) ≡ None → has_room members (entered m h) h ≡ true →
-    DealsOut members m (Some (entered m h, shape_of loop)) (reply_of (shape_of loop) answer) h → AnswersLoopStart loop limits members m (reply_of (shape_of loop) answer) h
-start_reply limits members m loop None h none room dealt = (none, (room, dealt))
-start_reply limits members m loop (Some piece) h none room dealt = (none, (room, dealt))
-
-pub start_waits : (limits : Limits) (members m : ℕ) (loop : LoopDesc) (h : List Event) → least (share_tests (loop_tests loop) (shape_of loop) limits m h) ≡ None → has_room members (entered m h) h ≡ false → AnswersLoopStart loop limits members m Wait h
-start_waits limits members m loop h none full = (none, inl full)
+pub begin_reply : (members m : ℕ) (shape : Shape) (answer : Option Piece) (h : List Event) → least (compared_share shape m h) ≡ None → has_room members (entered m h) h ≡ true →
+    DealsOut members m (Some (entered m h, shape)) (reply_of shape answer) h → AnswersBegin shape DealsOut members m (reply_of shape answer) h
+begin_reply members m shape None h none room dealt = (none, (room, dealt))
+begin_reply members m shape (Some piece) h none room dealt = (none, (room, dealt))
 
 -- Pieces
 
@@ -213,17 +211,22 @@ next_adds members m i shape (Some piece) h tell there claims =
 -- A start
 
 -- what is dealt out after an entry is dealt out before it
-pub start_deals : (members m i : ℕ) (shape : Shape) (answer : Option Piece) (h : List Event) → Claims members m answer (Enter i m shape ∷ h) → DealsOut members m (Some (i, shape)) (reply_of shape answer) h
+start_deals : (members m i : ℕ) (shape : Shape) (answer : Option Piece) (h : List Event) → Claims members m answer (Enter i m shape ∷ h) → DealsOut members m (Some (i, shape)) (reply_of shape answer) h
 start_deals members m i shape None h claims = deals members m i shape None (Enter i m shape ∷ h) (open_entered m i shape h) claims
 start_deals members m i shape (Some piece) h claims = deals members m i shape (Some piece) (Enter i m shape ∷ h) (open_entered m i shape h) claims
 
-pub start_adds : (members m : ℕ) (loop : LoopDesc) (answer : Option Piece) (h : List Event) → ValuesTell → Claims members m answer (Enter (entered m h) m (shape_of loop) ∷ h) →
-    loop_started loop m (reply_of (shape_of loop) answer) h ≡ claimed m answer (Enter (entered m h) m (shape_of loop) ∷ h)
-start_adds members m loop None h tell claims = rw (same_number m) refl
-start_adds members m loop (Some piece) h tell claims =
-    let there = open_entered m (entered m h) (shape_of loop) h in
-    let valid = claim_valid members m (entered m h) (shape_of loop) (Some piece) (Enter (entered m h) m (shape_of loop) ∷ h) there claims in
-    let within = claim_within members m (entered m h) (shape_of loop) (Some piece) (Enter (entered m h) m (shape_of loop) ∷ h) there claims piece refl in
+pub begin_deals : (members m : ℕ) (shape : Shape) (answer : Option Piece) (h : List Event) → MayOpen members m shape Entered h → Claims members m answer (Enter (entered m h) m shape ∷ h) →
+    AnswersBegin shape DealsOut members m (reply_of shape answer) h
+begin_deals members m shape answer h may claims =
+    begin_reply members m shape answer h (begin_compared shape m h false may.0) may.1 (start_deals members m (entered m h) shape answer h claims)
+
+pub begin_adds : (members m : ℕ) (shape : Shape) (answer : Option Piece) (h : List Event) → ValuesTell → Claims members m answer (Enter (entered m h) m shape ∷ h) →
+    loop_begun shape m (reply_of shape answer) h ≡ claimed m answer (Enter (entered m h) m shape ∷ h)
+begin_adds members m shape None h tell claims = rw (same_number m) refl
+begin_adds members m shape (Some piece) h tell claims =
+    let there = open_entered m (entered m h) shape h in
+    let valid = claim_valid members m (entered m h) shape (Some piece) (Enter (entered m h) m shape ∷ h) there claims in
+    let within = claim_within members m (entered m h) shape (Some piece) (Enter (entered m h) m shape ∷ h) there claims piece refl in
     let some = within.0 in
     let back : piece.0 + (piece.1 - piece.0) ≡ piece.1 = omega arith in
-    rw (same_number m, tell (shape_of loop) piece.0 valid.moves, back) refl
+    rw (same_number m, tell shape piece.0 valid.moves, back) refl

@@ -1,6 +1,6 @@
 //! The calls of libgomp's loops, over any body of the shares.
 
-ghost use Rattle.std.specs.Prelude.{◌≡◌, ◌<◌, List, Err};
+ghost use Rattle.std.specs.Prelude.{◌≡◌, ◌<◌, List, Err, None};
 ghost use Rattle.gomp_types.specs.declared.event.Event.{Event};
 ghost use Rattle.gomp_types.specs.declared.loop_desc.EndKind.TheVariants.{Wait as WaitEnd, Nowait};
 ghost use Rattle.gomp_types.specs.declared.reply.Reply.TheVariants.{Wait, Refused};
@@ -8,14 +8,15 @@ ghost use Rattle.gomp_types.specs.declared.refusal.Refusal.{Refusal};
 ghost use Rattle.gomp_types.specs.Tests.{outcome};
 ghost use Rattle.gomp_types.specs.Least.{least};
 ghost use Rattle.gomp_types.specs.Seen.{seen_of};
-ghost use Rattle.gomp_shares.specs.Calls.{EachStands, left_unless_refused};
-ghost use Rattle.gomp_shares.specs.Starts.{left_at_once};
-ghost use Rattle.gomp_shares.specs.Loops.{AnswersLoopStart, loop_started, AnswersLoopNext, loop_next_taken, AnswersLoopEnd, end_tests};
+ghost use Rattle.gomp_types.specs.Events.{open_share};
+ghost use Rattle.gomp_shares.specs.Calls.{EachStands, CanOpen, IsIn, left_unless_refused};
+ghost use Rattle.gomp_shares.specs.Starts.{AnswersBegin, left_at_once};
+ghost use Rattle.gomp_shares.specs.Loops.{AnswersLoopStart, DealsNext, DealsOut, loop_begun, loop_started, AnswersLoopNext, loop_next_taken, AnswersLoopEnd, end_tests, next_tests};
 
-use crate::own::{piece_reply, start_refusal};
-use gomp_shares::own::{end_refusal, next_refusal};
+use crate::own::{admit_start, piece_reply};
+use gomp_shares::own::{admit_next, end_refusal};
 use gomp_shares::{Construct, Opening, Shares};
-use gomp_types::{EndKind, Limits, LoopDesc, Refusal, Reply, laws};
+use gomp_types::{EndKind, Limits, LoopDesc, Refusal, Reply, Shape, laws};
 
 /// Enters the member's next share for this loop, and answers the first chunk for it: of the pieces
 /// that are its to take, the least one that nobody took. `NoChunk` where there is none; the member is
@@ -36,19 +37,32 @@ pub fn loop_start<S: Shares>(shares: &mut S, member: u16, limits: &Limits, desc:
     ensures kept { (refusal : Refusal) → result ≡ Refused refusal → shares.new ≡ shares.old }
     ensures waits { result ≡ Wait → shares.new ≡ shares.old }
 {
-    laws::values_tell();
-    let seen = shares.look(member);
-    if let Some(refusal) = start_refusal(&seen, limits, desc) {
-        return Reply::Refused(refusal);
+    match admit_start(&shares.look(member), limits, desc) {
+        Ok(shape) => begin_loop(shares, member, &shape),
+        Err(refusal) => Reply::Refused(refusal),
     }
-    let shape = match desc.shape() {
-        Ok(shape) => shape,
-        Err(refusal) => return Reply::Refused(refusal),
-    };
-    match shares.try_open(member, &shape) {
+}
+
+/// Enters the member's next share for a loop of this shape, which its own tests let it start
+/// ([`admit_start`]), and answers the first chunk for it.
+///
+/// `Wait` and `Mismatch` as [`loop_start`] has them.
+pub fn begin_loop<S: Shares>(shares: &mut S, member: u16, shape: &Shape) -> Reply
+    requires place { CanOpen (S.members shares.old) member shape.now (S.seen shares.old member) }
+    ensures members { S.members shares.new ≡ S.members shares.old }
+    ensures known { (h : List Event) × S.stands shares.old h }
+    ensures answer { EachStands (S.stands shares.old)
+        (AnswersBegin shape.now DealsOut (S.members shares.old) member result) }
+    ensures stands { EachStands (S.stands shares.old)
+        (λ h. S.stands shares.new (loop_begun shape.now member result h)) }
+    ensures kept { (refusal : Refusal) → result ≡ Refused refusal → shares.new ≡ shares.old }
+    ensures waits { result ≡ Wait → shares.new ≡ shares.old }
+{
+    laws::values_tell();
+    match shares.try_open(member, shape) {
         Opening::Differs => Reply::Refused(Refusal::Mismatch),
         Opening::NotYet => Reply::Wait,
-        Opening::Entered => piece_reply(&shape, shares.claim(member)),
+        Opening::Entered => piece_reply(shape, shares.claim(member)),
     }
 }
 
@@ -68,18 +82,33 @@ pub fn loop_next<S: Shares>(shares: &mut S, member: u16) -> Reply
     ensures kept { (refusal : Refusal) → result ≡ Refused refusal → shares.new ≡ shares.old }
     ensures waits { result ≡ Wait → shares.new ≡ shares.old }
 {
-    laws::values_tell();
-    let seen = shares.look(member);
-    if let Some(refusal) = next_refusal(&seen, Construct::Loop) {
-        return Reply::Refused(refusal);
+    match admit_next(&shares.look(member), Construct::Loop) {
+        Ok(shape) => take_next(shares, member, &shape),
+        Err(refusal) => Reply::Refused(refusal),
     }
-    let Some((_, shape)) = seen.current else {
-        return Reply::Refused(Refusal::OutsideShare);
-    };
+}
+
+/// Answers the next chunk of the member's loop, of this shape, which its own tests let it ask for
+/// (`gomp_shares::own::admit_next`).
+///
+/// `Wait` as [`loop_next`] has it.
+pub fn take_next<S: Shares>(shares: &mut S, member: u16, shape: &Shape) -> Reply
+    requires member { member < S.members shares.old }
+    requires known { (h : List Event) × S.stands shares.old h }
+    requires inside { IsIn shape.now (S.seen shares.old member) }
+    requires place { least (next_tests (S.seen shares.old member)) ≡ None }
+    ensures members { S.members shares.new ≡ S.members shares.old }
+    ensures answer { EachStands (S.stands shares.old)
+        (λ h. DealsNext (S.members shares.old) member (open_share member h) result h) }
+    ensures stands { EachStands (S.stands shares.old)
+        (λ h. S.stands shares.new (loop_next_taken (S.members shares.old) member result h)) }
+    ensures waits { result ≡ Wait → shares.new ≡ shares.old }
+{
+    laws::values_tell();
     if shape.ordered && !shares.hand_on(member) {
         return Reply::Wait;
     }
-    piece_reply(&shape, shares.claim(member))
+    piece_reply(shape, shares.claim(member))
 }
 
 /// Leaves the member's loop, at the end of which a barrier stands: this crate's part of that call.

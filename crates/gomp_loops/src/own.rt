@@ -1,32 +1,40 @@
 //! A member's own tests, by what it sees of its place among the shares, and the reply that a piece
 //! gives. Nothing here asks the shares, so members on threads can use it with a seat of their own.
 
-ghost use Rattle.std.specs.Prelude.{◌≡◌, ◌<◌, ◌≤◌, ◌^◌, IfNone};
+ghost use Rattle.std.specs.Prelude.{◌≡◌, ◌<◌, ◌≤◌, IfOk};
 ghost use Rattle.std.specs.Option.{ForSome};
-ghost use Rattle.gomp_types.specs.Tests.{first_refusal};
+ghost use Rattle.gomp_types.specs.Tests.{first_refusal, outcome};
 ghost use Rattle.gomp_types.specs.Values.{IsShape};
 ghost use Rattle.gomp_types.specs.Iterations.{loop_tests};
+ghost use Rattle.gomp_types.specs.Pieces.{shape_of};
+ghost use Rattle.gomp_shares.specs.Calls.{MayOpenAs};
 ghost use Rattle.gomp_shares.specs.Starts.{start_tests};
 ghost use Rattle.gomp_loops.specs.Answers.{reply_of};
 
-use gomp_types::{Limits, LoopDesc, Refusal, Reply, Seen, Shape, trips};
+use gomp_types::{Limits, LoopDesc, Refusal, Reply, Seen, Shape};
 
-/// Why a member may not start this loop: `InsideShare`, `ZeroStep`, `BadChunk`, `LoopTooLong` or
-/// `TooManyShares`.
-pub fn start_refusal(seen: &Seen, limits: &Limits, desc: &LoopDesc) -> Option<Refusal>
-    ensures first { result ≡ first_refusal (start_tests (loop_tests desc.now) limits.now seen.now) }
-    ensures few { IfNone result (seen.now.entered < 2 ^ 32) }
+/// The shape of the share that this loop gives a member which may start it, or why it may not:
+/// `InsideShare`, `ZeroStep`, `BadChunk`, `LoopTooLong` or `TooManyShares`.
+pub fn admit_start(seen: &Seen, limits: &Limits, desc: &LoopDesc) -> Result<Shape, Refusal>
+    ensures first { result ≡ outcome
+        (first_refusal (start_tests (loop_tests desc.now) limits.now seen.now)) (shape_of desc.now) }
+    ensures place { IfOk result (MayOpenAs seen.now) }
 {
     if seen.current.is_some() {
-        return Some(Refusal::InsideShare);
+        return Err(Refusal::InsideShare);
     }
-    if let Err(refusal) = trips(desc) {
-        return Some(refusal);
+    match desc.shape() {
+        Ok(_) if seen.entered >= limits.shares as u64 => Err(Refusal::TooManyShares),
+        Ok(shape) => Ok(shape),
+        Err(refusal) => Err(refusal),
     }
-    if seen.entered >= limits.shares as u64 {
-        return Some(Refusal::TooManyShares);
-    }
-    None
+}
+
+/// Why a member may not start this loop, as [`admit_start`] says.
+pub fn start_refusal(seen: &Seen, limits: &Limits, desc: &LoopDesc) -> Option<Refusal>
+    ensures first { result ≡ first_refusal (start_tests (loop_tests desc.now) limits.now seen.now) }
+{
+    admit_start(seen, limits, desc).err()
 }
 
 /// The reply to a member that was given this piece of its share, from iteration `low` on, `high`

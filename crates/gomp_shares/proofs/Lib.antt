@@ -1,3 +1,4 @@
+pub mod Admitted
 pub mod AnswerExamples
 pub mod AnswerRules
 pub mod Assigned

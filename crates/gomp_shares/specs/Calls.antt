@@ -37,6 +37,14 @@ pub record CanOpen (members m : ℕ) (shape : Shape) (seen : Seen) : Type 0 wher
   pub outside : is_some seen.current ≡ false
   pub few : seen.entered < most_shares
 
+-- a member that sees this is in a share of this shape
+abbrev pub IsIn : Shape → Seen → Type 0
+IsIn shape seen = (number : ℕ) × (seen.current ≡ Some (number, shape))
+
+-- a member that sees this may open a share of this shape, in whatever team it is
+abbrev pub MayOpenAs : Seen → Shape → Type 0
+MayOpenAs seen shape = (members m : ℕ) → m < members → CanOpen members m shape seen
+
 -- when a member that opens its next share gets this answer
 abbrev pub MayOpen : ℕ → ℕ → Shape → Opening → List Event → Type 0
 MayOpen members m shape Entered h = (shape_differs shape (shape_at (entered m h) h) ≡ false) × (has_room members (entered m h) h ≡ true)

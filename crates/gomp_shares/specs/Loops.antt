@@ -79,6 +79,10 @@ AnswersLoopStart loop limits members m reply h = AnswersStart (loop_tests loop) 
 abbrev pub loop_started : LoopDesc → ℕ → Reply → List Event → List Event
 loop_started loop m reply h = entry_and piece_given (shape_of loop) m h reply ++ h
 
+-- after the start of a loop of this shape that its member's own tests let through
+abbrev pub loop_begun : Shape → ℕ → Reply → List Event → List Event
+loop_begun shape m reply h = entry_and piece_given shape m h reply ++ h
+
 abbrev pub AnswersLoopNext : ℕ → ℕ → Reply → List Event → Type 0
 AnswersLoopNext members m reply h =
     Answers (next_tests (seen_of m h)) (λ given. DealsNext members m (open_share m h) given h) reply

@@ -55,6 +55,10 @@ abbrev pub AnswersStart : List Test → Shape → Deals → Limits → ℕ → �
 AnswersStart own shape deals limits members m reply h =
     Answers (share_tests own shape limits m h) (λ given. Starts deals members m shape given h) reply
 
+-- the answer to a member that its own tests let start a construct of this shape: it differs from the team's, or its share deals so
+abbrev pub AnswersBegin : Shape → Deals → ℕ → ℕ → Reply → List Event → Type 0
+AnswersBegin shape deals members m reply h = Answers (compared_share shape m h) (λ given. Starts deals members m shape given h) reply
+
 -- Ends
 
 -- the member's share is left

@@ -3,13 +3,15 @@
 //!
 //! Nothing here asks the shares, so members on threads can use it with a seat of their own.
 
-ghost use Rattle.std.specs.Prelude.{◌≡◌, IfNone, ◌<◌, ◌^◌, [], Some};
+ghost use Rattle.std.specs.Prelude.{◌≡◌, IfNone, IfSome, IfOk, ◌<◌, ◌^◌, [], Some, is_some};
+ghost use Rattle.std.specs.Result.{result_err};
 ghost use Rattle.gomp_types.specs.Tests.{first_refusal};
 ghost use Rattle.gomp_types.specs.Ordered.{is_in_rest};
 ghost use Rattle.gomp_shares.specs.Own.{kinds_of, seen_in, in_part_of, next_tests_of, end_tests_of};
+ghost use Rattle.gomp_shares.specs.Calls.{IsIn};
 ghost use Rattle.gomp_shares.specs.Starts.{start_tests};
 
-use gomp_types::{EndKind, Limits, Refusal, Seen, ShareKind};
+use gomp_types::{EndKind, Limits, Refusal, Seen, Shape, ShareKind};
 
 /// A construct whose pieces are asked for by calls of their own.
 #[derive(Clone, Copy, Debug, PartialEq, Eq)]
@@ -20,17 +22,18 @@ pub enum Construct {
     Sections,
 }
 
-/// Whether a member that sees this of its place is in such a construct.
-fn is_inside(seen: &Seen, construct: Construct) -> bool
-    ensures { result ≡ seen_in (kinds_of construct) seen.now }
+/// The shape of the share that a member which sees this of its place is in, if that is such a
+/// construct.
+fn shape_inside(seen: &Seen, construct: Construct) -> Option<Shape>
+    ensures kind { is_some result ≡ seen_in (kinds_of construct) seen.now }
+    ensures shape { IfSome result (λ shape. IsIn shape seen.now) }
 {
-    let Some((_, shape)) = seen.current else {
-        return false;
-    };
-    match construct {
+    let (_, shape) = seen.current?;
+    let is_one = match construct {
         Construct::Loop => shape.kind.is_loop(),
         Construct::Sections => matches!(shape.kind, ShareKind::Sections),
-    }
+    };
+    if is_one { Some(shape) } else { None }
 }
 
 /// Whether a member that sees this of its place is in an ordered part of such a construct; only loops
@@ -56,21 +59,29 @@ pub fn outside_refusal(seen: &Seen, limits: &Limits) -> Option<Refusal>
     None
 }
 
-/// Why a member may not ask for the next piece of such a construct: `OutsideShare`, `InOrdered`
-/// or `Drained`.
+/// The shape of the construct that a member is in and may ask for the next piece of, or why it may
+/// not: `OutsideShare`, `InOrdered` or `Drained`.
+pub fn admit_next(seen: &Seen, construct: Construct) -> Result<Shape, Refusal>
+    ensures first { result_err result ≡ first_refusal (next_tests_of construct seen.now) }
+    ensures shape { IfOk result (λ shape. IsIn shape seen.now) }
+{
+    let Some(shape) = shape_inside(seen, construct) else {
+        return Err(Refusal::OutsideShare);
+    };
+    if is_in_part(seen, construct) {
+        return Err(Refusal::InOrdered);
+    }
+    if seen.drained {
+        return Err(Refusal::Drained);
+    }
+    Ok(shape)
+}
+
+/// Why a member may not ask for the next piece of such a construct, as [`admit_next`] says.
 pub fn next_refusal(seen: &Seen, construct: Construct) -> Option<Refusal>
     ensures first { result ≡ first_refusal (next_tests_of construct seen.now) }
 {
-    if !is_inside(seen, construct) {
-        return Some(Refusal::OutsideShare);
-    }
-    if is_in_part(seen, construct) {
-        return Some(Refusal::InOrdered);
-    }
-    if seen.drained {
-        return Some(Refusal::Drained);
-    }
-    None
+    admit_next(seen, construct).err()
 }
 
 /// Why a member may not end such a construct by the call for this end kind: `OutsideShare`,
@@ -78,12 +89,9 @@ pub fn next_refusal(seen: &Seen, construct: Construct) -> Option<Refusal>
 pub fn end_refusal(seen: &Seen, construct: Construct, end_kind: EndKind) -> Option<Refusal>
     ensures first { result ≡ first_refusal (end_tests_of construct end_kind seen.now) }
 {
-    let Some((_, shape)) = seen.current else {
+    let Some(shape) = shape_inside(seen, construct) else {
         return Some(Refusal::OutsideShare);
     };
-    if !is_inside(seen, construct) {
-        return Some(Refusal::OutsideShare);
-    }
     if is_in_part(seen, construct) {
         return Some(Refusal::InOrdered);
     }

@@ -1,82 +1,15 @@
-use Rattle.std.proofs.Common.{◌≡◌, ◌<◌, refl, ap, ◌∙◌, sym, List, ◌++◌, Some}
-use Rattle.gomp_types.specs.declared.event.Event.{Event}
-use Rattle.gomp_types.specs.Events.{open_share}
-use Rattle.gomp_shares.specs.Loops.{handed_on}
-use Rattle.gomp_types.specs.declared.seen.Seen.{Seen}
-use Rattle.gomp_loops.proofs.Steps.{Handed, handed, kept, handed_there, next_is, next_claims, next_reply, next_waits, next_deals, next_adds, claim_within}
-use Rattle.gomp_loops.proofs.calls.loop_next.Given.{Over}
+use Rattle.std.proofs.Common.{◌∙◌, sym, ap}
+use Rattle.std.specs.Result.{result_err}
+use Rattle.gomp_loops.proofs.Steps.{next_is, next_admitted}
 use Rattle.gomp_loops.proofs.calls.loop_next.Goals as goal
-use Rattle.gomp_loops.proofs.calls.loop_next.Goals.{After-claim, else-shape-via-then-shape+else-not-hand_on, else-shape-via-else-shape}
 
-pub returns-in-Some-clause-answer : goal.returns-in-Some-clause-answer
-returns-in-Some-clause-answer g c = λ h st.
-    let e = c.look-seen.ensures.value ∙ g.met.S.Shares.agrees c.args.shares.now h c.args.member st c.requires.member in
-    next_is c.args.member c.look-seen.result h _ e (sym c.in-Some.is ∙ c.next_refusal.ensures.first)
+pub returns-in-Ok-clause-answer : goal.returns-in-Ok-clause-answer
+returns-in-Ok-clause-answer g c = λ h st.
+    let e = c.look.ensures.value ∙ g.met.S.Shares.agrees c.args.shares.now h c.args.member st c.requires.member in
+    let none = next_is c.args.member c.look.result h _ e (sym (ap result_err c.in-Ok.is) ∙ c.admit_next.ensures.first) in
+    next_admitted (g.S.Shares.members c.args.shares.now) c.args.member c.take_next.result h none (c.take_next.ensures.answer h st)
 
-pub returns-then-not-hand_on-clause-answer : goal.returns-then-not-hand_on-clause-answer
-returns-then-not-hand_on-clause-answer g c = λ h st.
-    let e = c.look-seen.ensures.value ∙ g.met.S.Shares.agrees c.args.shares.now h c.args.member st c.requires.member in
-    let there : open_share c.args.member h ≡ Some (c.in-Some-current.field-0-0, c.in-Some-current.shape) = sym (ap (λ (s : Seen). s.current) e) ∙ c.in-Some-current.is in
-    let none = next_is c.args.member c.look-seen.result h _ e (sym c.in_default.is ∙ c.next_refusal.ensures.first) in
-    next_waits (g.S.Shares.members c.args.shares.now) c.args.member _ c.in-Some-current.shape h there none c.if-shape.true (sym c.if-not-hand_on.true ∙ c.hand_on.ensures.answer h st)
-
--- the shares that are claimed of have the member's piece handed on
-is_handed : (g : Over) (c : After-claim g) (h : List Event) → g.S.Shares.stands c.args.shares.now h →
-    Handed (g.S.Shares.stands c.else-shape.shares) (g.S.Shares.members c.args.shares.now) (g.S.Shares.members c.else-shape.shares) c.args.member c.in-Some-current.field-0-0 c.in-Some-current.shape h
-is_handed g c h st =
-    let e = c.look-seen.ensures.value ∙ g.met.S.Shares.agrees c.args.shares.now h c.args.member st c.requires.member in
-    let there : open_share c.args.member h ≡ Some (c.in-Some-current.field-0-0, c.in-Some-current.shape) = sym (ap (λ (s : Seen). s.current) e) ∙ c.in-Some-current.is in
-    elim c.else-shape.branch [
-      | else-shape-via-then-shape+else-not-hand_on w ↦ rw w.shares-is (handed (g.S.Shares.stands w.hand_on.new.self) (g.S.Shares.members c.args.shares.now) (g.S.Shares.members w.hand_on.new.self) c.args.member _ c.in-Some-current.shape h there w.if-shape.true
-          (sym w.if-not-hand_on.false ∙ w.hand_on.ensures.answer h st) w.hand_on.ensures.members (rw w.if-not-hand_on.false at (w.hand_on.ensures.stands h st)))
-      | else-shape-via-else-shape w ↦ rw w.shares-is (kept (g.S.Shares.stands c.args.shares.now) (g.S.Shares.members c.args.shares.now) (g.S.Shares.members c.args.shares.now) c.args.member _ c.in-Some-current.shape h w.if-shape.false refl st)
-    ]
-
-pub claim-requires : goal.claim-requires
-claim-requires g c =
-    let (h, st) = c.look-seen.ensures.known in
-    let e = c.look-seen.ensures.value ∙ g.met.S.Shares.agrees c.args.shares.now h c.args.member st c.requires.member in
-    let there : open_share c.args.member h ≡ Some (c.in-Some-current.field-0-0, c.in-Some-current.shape) = sym (ap (λ (s : Seen). s.current) e) ∙ c.in-Some-current.is in
-    let none = next_is c.args.member c.look-seen.result h _ e (sym c.in_default.is ∙ c.next_refusal.ensures.first) in
-    let moved : Handed (g.S.Shares.stands c.else-shape.shares) (g.S.Shares.members c.args.shares.now) (g.S.Shares.members c.else-shape.shares) c.args.member c.in-Some-current.field-0-0 c.in-Some-current.shape h =
-    elim c.else-shape.branch [
-      | else-shape-via-then-shape+else-not-hand_on w ↦ rw w.shares-is (handed (g.S.Shares.stands w.hand_on.new.self) (g.S.Shares.members c.args.shares.now) (g.S.Shares.members w.hand_on.new.self) c.args.member _ c.in-Some-current.shape h there w.if-shape.true
-          (sym w.if-not-hand_on.false ∙ w.hand_on.ensures.answer h st) w.hand_on.ensures.members (rw w.if-not-hand_on.false at (w.hand_on.ensures.stands h st)))
-      | else-shape-via-else-shape w ↦ rw w.shares-is (kept (g.S.Shares.stands c.args.shares.now) (g.S.Shares.members c.args.shares.now) (g.S.Shares.members c.args.shares.now) c.args.member _ c.in-Some-current.shape h w.if-shape.false refl st)
-    ] in
-    let lt : c.args.member < g.S.Shares.members c.else-shape.shares = rw moved.same c.requires.member in
-    record { place = next_claims (g.S.Shares.members c.args.shares.now) _ c.args.member _ c.in-Some-current.shape _ h lt (g.met.S.Shares.agrees c.else-shape.shares (handed_on (g.S.Shares.members c.args.shares.now) (c.in-Some-current.field-0-0, c.in-Some-current.shape) c.args.member h ++ h) c.args.member moved.stands lt) there none }
-
-pub piece_reply-requires-clause-shape : goal.piece_reply-requires-clause-shape
-piece_reply-requires-clause-shape g c =
-    let (h, st) = c.look-seen.ensures.known in
-    let e = c.look-seen.ensures.value ∙ g.met.S.Shares.agrees c.args.shares.now h c.args.member st c.requires.member in
-    let there : open_share c.args.member h ≡ Some (c.in-Some-current.field-0-0, c.in-Some-current.shape) = sym (ap (λ (s : Seen). s.current) e) ∙ c.in-Some-current.is in
-    g.met.S.Shares.valid c.args.shares.now h c.args.member _ c.in-Some-current.shape st there
-
-pub piece_reply-requires-clause-within : goal.piece_reply-requires-clause-within
-piece_reply-requires-clause-within g c =
-    let (h, st) = c.look-seen.ensures.known in
-    let e = c.look-seen.ensures.value ∙ g.met.S.Shares.agrees c.args.shares.now h c.args.member st c.requires.member in
-    let there : open_share c.args.member h ≡ Some (c.in-Some-current.field-0-0, c.in-Some-current.shape) = sym (ap (λ (s : Seen). s.current) e) ∙ c.in-Some-current.is in
-    let moved = is_handed g c h st in
-    claim_within _ c.args.member _ c.in-Some-current.shape c.claim.result (handed_on (g.S.Shares.members c.args.shares.now) (c.in-Some-current.field-0-0, c.in-Some-current.shape) c.args.member h ++ h) (handed_there (g.S.Shares.members c.args.shares.now) c.args.member _ c.in-Some-current.shape h there) (c.claim.ensures.answer _ moved.stands)
-
-pub returns-clause-answer : goal.returns-clause-answer
-returns-clause-answer g c = λ h st.
-    let e = c.look-seen.ensures.value ∙ g.met.S.Shares.agrees c.args.shares.now h c.args.member st c.requires.member in
-    let there : open_share c.args.member h ≡ Some (c.in-Some-current.field-0-0, c.in-Some-current.shape) = sym (ap (λ (s : Seen). s.current) e) ∙ c.in-Some-current.is in
-    let none = next_is c.args.member c.look-seen.result h _ e (sym c.in_default.is ∙ c.next_refusal.ensures.first) in
-    let moved = is_handed g (goal.at.returns-clause-answer g c).After-claim h st in
-    let claims = rw moved.same at (c.claim.ensures.answer _ moved.stands) in
-    let dealt = next_deals (g.S.Shares.members c.args.shares.now) c.args.member _ c.in-Some-current.shape c.claim.result h there claims in
-    rw c.piece_reply.ensures.answer (next_reply (g.S.Shares.members c.args.shares.now) c.args.member _ c.in-Some-current.shape c.claim.result h there none moved.turn dealt)
-
-pub returns-clause-stands : goal.returns-clause-stands
-returns-clause-stands g c = λ h st.
-    let e = c.look-seen.ensures.value ∙ g.met.S.Shares.agrees c.args.shares.now h c.args.member st c.requires.member in
-    let there : open_share c.args.member h ≡ Some (c.in-Some-current.field-0-0, c.in-Some-current.shape) = sym (ap (λ (s : Seen). s.current) e) ∙ c.in-Some-current.is in
-    let moved = is_handed g (goal.at.returns-clause-stands g c).After-claim h st in
-    let claims = rw moved.same at (c.claim.ensures.answer _ moved.stands) in
-    let adds = next_adds (g.S.Shares.members c.args.shares.now) c.args.member _ c.in-Some-current.shape c.claim.result h c.values_tell.ensures there claims in
-    rw (c.piece_reply.ensures.answer, adds) (c.claim.ensures.stands _ moved.stands)
+pub returns-in-Err-clause-answer : goal.returns-in-Err-clause-answer
+returns-in-Err-clause-answer g c = λ h st.
+    let e = c.look.ensures.value ∙ g.met.S.Shares.agrees c.args.shares.now h c.args.member st c.requires.member in
+    next_is c.args.member c.look.result h _ e (sym (ap result_err c.in-Err.is) ∙ c.admit_next.ensures.first)
