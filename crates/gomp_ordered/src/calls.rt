@@ -7,7 +7,7 @@ ghost use Rattle.gomp_types.specs.declared.refusal.Refusal.{Refusal};
 ghost use Rattle.gomp_shares.specs.Calls.{EachStands};
 ghost use Rattle.gomp_shares.specs.OrderedParts.{AnswersPart, part_started, AnswersPartEnd, part_ended_at_once};
 
-use crate::own::{iteration_of, start_refusal};
+use crate::own::admit_start;
 use gomp_shares::Shares;
 use gomp_types::{Refusal, Reply};
 
@@ -27,12 +27,9 @@ pub fn ordered_start<S: Shares>(shares: &mut S, member: u16, value: i64) -> Repl
     ensures kept { (refusal : Refusal) → result ≡ Refused refusal → shares.new ≡ shares.old }
     ensures waits { result ≡ Wait → shares.new ≡ shares.old }
 {
-    let seen = shares.look(member);
-    if let Some(refusal) = start_refusal(&seen, value) {
-        return Reply::Refused(refusal);
-    }
-    let Some(iteration) = iteration_of(&seen, value) else {
-        return Reply::Refused(Refusal::OrderedBackwards);
+    let iteration = match admit_start(&shares.look(member), value) {
+        Ok(iteration) => iteration,
+        Err(refusal) => return Reply::Refused(refusal),
     };
     if shares.try_turn(member, iteration) {
         Reply::Finished

@@ -13,14 +13,16 @@ use Rattle.gomp_types.specs.declared.shape.ShareKind.TheVariants as kinds
 use Rattle.gomp_types.specs.declared.event.Event.{Event}
 use Rattle.gomp_types.specs.declared.event.Event.TheVariants.{Enter}
 use Rattle.gomp_types.specs.Pieces.{Piece, dynamic_piece, dynamic_pieces}
-use Rattle.gomp_types.specs.Sections.{sections_shape}
 use Rattle.gomp_types.specs.Shapes.{is_sections}
 use Rattle.gomp_types.specs.Deals.{schedule, next_for}
 use Rattle.gomp_types.specs.Events.{entered, open_share, in_kind, has_drained}
 use Rattle.gomp_types.specs.Least.{least}
 use Rattle.gomp_types.specs.Seen.{seen_of}
-use Rattle.gomp_shares.specs.Calls.{CanClaim, CanLeave, Claims, claimed, taken_of}
-use Rattle.gomp_shares.specs.Sections.{DealsSections, section_next_tests, sections_end_tests, sections_started, section_next_taken}
+use Rattle.gomp_shares.specs.declared.Opening.TheVariants.{Entered}
+use Rattle.gomp_shares.specs.Calls.{MayOpen, CanClaim, CanLeave, Claims, claimed, taken_of}
+use Rattle.gomp_shares.specs.Starts.{AnswersBegin}
+use Rattle.gomp_shares.proofs.Admitted.{begin_compared}
+use Rattle.gomp_shares.specs.Sections.{DealsSections, section_next_tests, sections_end_tests, sections_begun, section_next_taken}
 use Rattle.gomp_sections.specs.Answers.{section_of}
 use Rattle.gomp_types.proofs.Booleans.{same_number, not_false}
 use Rattle.gomp_types.proofs.LeastTests.{all_fail}
@@ -108,28 +110,27 @@ end_may_leave members m kind seen h lt e law none =
 
 -- The first section
 
-start_section : (members m i count : ℕ) (end_kind : EndKind) (answer : Option Piece) (h : List Event) → Claims members m answer (Enter i m (sections_shape count end_kind) ∷ h) → IsSection answer
-start_section members m i count end_kind answer h claims =
-    let here = claim_entered members m i (sections_shape count end_kind) answer h claims in
-    claim_section members m answer (Enter i m (sections_shape count end_kind) ∷ h) claims (ap (λ (p : ℕ × Shape). p.1.kind) here)
+first_section : (members m i : ℕ) (shape : Shape) (answer : Option Piece) (h : List Event) → shape.kind ≡ kinds.Sections → Claims members m answer (Enter i m shape ∷ h) → IsSection answer
+first_section members m i shape answer h kind claims =
+    let here = claim_entered members m i shape answer h claims in
+    claim_section members m answer (Enter i m shape ∷ h) claims (ap (λ (p : ℕ × Shape). p.1.kind) here ∙ kind)
 
-start_least : (members m i count : ℕ) (end_kind : EndKind) (answer : Option Piece) (h : List Event) → Claims members m answer (Enter i m (sections_shape count end_kind) ∷ h) →
-    answer ≡ next_for (schedule members) (sections_shape count end_kind) i m h
-start_least members m i count end_kind answer h claims =
-    let here = claim_entered members m i (sections_shape count end_kind) answer h claims in
-    claims.least ∙ ap (λ (p : ℕ × Shape). next_for (schedule members) p.1 p.0 m (Enter i m (sections_shape count end_kind) ∷ h)) here
+first_least : (members m i : ℕ) (shape : Shape) (answer : Option Piece) (h : List Event) → shape.kind ≡ kinds.Sections → Claims members m answer (Enter i m shape ∷ h) → answer ≡ next_for (schedule members) shape i m h
+first_least members m i shape answer h kind claims =
+    let here = claim_entered members m i shape answer h claims in
+    claims.least ∙ ap (λ (p : ℕ × Shape). next_for (schedule members) p.1 p.0 m (Enter i m shape ∷ h)) here
 
-pub section_start_dealt : (members m i count : ℕ) (end_kind : EndKind) (answer : Option Piece) (h : List Event) → Claims members m answer (Enter i m (sections_shape count end_kind) ∷ h) →
-    DealsSections members m (Some (i, sections_shape count end_kind)) (Section (section_of answer)) h
-section_start_dealt members m i count end_kind answer h claims =
-    section_dealt members m (i, sections_shape count end_kind) answer h (start_least members m i count end_kind answer h claims) (start_section members m i count end_kind answer h claims)
+pub sections_dealt : (members m : ℕ) (shape : Shape) (answer : Option Piece) (h : List Event) → shape.kind ≡ kinds.Sections → MayOpen members m shape Entered h → Claims members m answer (Enter (entered m h) m shape ∷ h) →
+    AnswersBegin shape DealsSections members m (Section (section_of answer)) h
+sections_dealt members m shape answer h kind may claims =
+    (begin_compared shape m h false may.0,
+    (may.1, section_dealt members m (entered m h, shape) answer h (first_least members m (entered m h) shape answer h kind claims) (first_section members m (entered m h) shape answer h kind claims)))
 
 -- the first one's taking, after the entry, is what the shares add
-first_adds : (m count : ℕ) (end_kind : EndKind) (answer : Option Piece) (h : List Event) → IsSection answer →
-    sections_started count end_kind m (Section (section_of answer)) h ≡ claimed m answer (Enter (entered m h) m (sections_shape count end_kind) ∷ h)
-first_adds m count end_kind None h one = rw (same_number m) refl
-first_adds m count end_kind (Some piece) h one = rw (same_number m, one) refl
+first_adds : (m : ℕ) (shape : Shape) (answer : Option Piece) (h : List Event) → IsSection answer → sections_begun shape m (Section (section_of answer)) h ≡ claimed m answer (Enter (entered m h) m shape ∷ h)
+first_adds m shape None h one = rw (same_number m) refl
+first_adds m shape (Some piece) h one = rw (same_number m, one) refl
 
-pub section_start_adds : (members m count : ℕ) (end_kind : EndKind) (answer : Option Piece) (h : List Event) → Claims members m answer (Enter (entered m h) m (sections_shape count end_kind) ∷ h) →
-    sections_started count end_kind m (Section (section_of answer)) h ≡ claimed m answer (Enter (entered m h) m (sections_shape count end_kind) ∷ h)
-section_start_adds members m count end_kind answer h claims = first_adds m count end_kind answer h (start_section members m (entered m h) count end_kind answer h claims)
+pub sections_add : (members m : ℕ) (shape : Shape) (answer : Option Piece) (h : List Event) → shape.kind ≡ kinds.Sections → Claims members m answer (Enter (entered m h) m shape ∷ h) →
+    sections_begun shape m (Section (section_of answer)) h ≡ claimed m answer (Enter (entered m h) m shape ∷ h)
+sections_add members m shape answer h kind claims = first_adds m shape answer h (first_section members m (entered m h) shape answer h kind claims)

@@ -1,29 +1,42 @@
 //! A member's own tests, by what it sees of its place among the shares.
 
-ghost use Rattle.std.specs.Prelude.{◌≡◌, ◌<◌, ◌^◌, IfNone};
-ghost use Rattle.gomp_types.specs.Tests.{first_refusal};
-ghost use Rattle.gomp_types.specs.Sections.{sections_tests};
+ghost use Rattle.std.specs.Prelude.{◌≡◌, IfOk};
+ghost use Rattle.gomp_types.specs.Tests.{first_refusal, outcome};
+ghost use Rattle.gomp_types.specs.Sections.{sections_shape, sections_tests};
+ghost use Rattle.gomp_shares.specs.Calls.{MayOpenAs};
 ghost use Rattle.gomp_shares.specs.Starts.{start_tests};
 ghost use Rattle.gomp_shares.specs.Singles.{put_tests};
 
-use gomp_types::{Limits, MAX_SECTIONS, Refusal, Seen, ShareKind};
+use gomp_types::{EndKind, Limits, Refusal, Seen, Shape, ShareKind, sections_shape};
 
-/// Why a member may not start a construct of so many sections: `InsideShare`, `BadSections` or
-/// `TooManyShares`.
-pub fn start_refusal(seen: &Seen, limits: &Limits, count: u32) -> Option<Refusal>
-    ensures first { result ≡ first_refusal (start_tests (sections_tests count) limits.now seen.now) }
-    ensures few { IfNone result (seen.now.entered < 2 ^ 32) }
+/// The shape of the share that a construct of so many sections gives a member which may start it, or
+/// why it may not: `InsideShare`, `BadSections` or `TooManyShares`.
+pub fn admit_start(
+    seen: &Seen,
+    limits: &Limits,
+    count: u32,
+    end_kind: EndKind,
+) -> Result<Shape, Refusal>
+    ensures first { result ≡ outcome
+        (first_refusal (start_tests (sections_tests count) limits.now seen.now))
+        (sections_shape count end_kind) }
+    ensures place { IfOk result (MayOpenAs seen.now) }
 {
     if seen.current.is_some() {
-        return Some(Refusal::InsideShare);
+        return Err(Refusal::InsideShare);
     }
-    if count > MAX_SECTIONS {
-        return Some(Refusal::BadSections);
+    match sections_shape(count, end_kind) {
+        Ok(_) if seen.entered >= limits.shares as u64 => Err(Refusal::TooManyShares),
+        Ok(shape) => Ok(shape),
+        Err(refusal) => Err(refusal),
     }
-    if seen.entered >= limits.shares as u64 {
-        return Some(Refusal::TooManyShares);
-    }
-    None
+}
+
+/// Why a member may not start a construct of so many sections, as [`admit_start`] says.
+pub fn start_refusal(seen: &Seen, limits: &Limits, count: u32) -> Option<Refusal>
+    ensures first { result ≡ first_refusal (start_tests (sections_tests count) limits.now seen.now) }
+{
+    admit_start(seen, limits, count, EndKind::Nowait).err()
 }
 
 /// Why a member may not put the words of a `single`: `NotInside` where it does not execute one whose

@@ -11,15 +11,16 @@ ghost use Rattle.gomp_types.specs.declared.refusal.Refusal.{Refusal};
 ghost use Rattle.gomp_types.specs.Tests.{outcome};
 ghost use Rattle.gomp_types.specs.Least.{least};
 ghost use Rattle.gomp_types.specs.Seen.{seen_of};
-ghost use Rattle.gomp_shares.specs.Calls.{EachStands, left_unless_refused};
-ghost use Rattle.gomp_shares.specs.Starts.{left_at_once};
-ghost use Rattle.gomp_shares.specs.Sections.{AnswersSectionsStart, sections_started, AnswersSectionsNext, section_next_taken, AnswersSectionsEnd, sections_end_tests};
+ghost use Rattle.gomp_types.specs.declared.shape.ShareKind.TheVariants.{Sections};
+ghost use Rattle.gomp_shares.specs.Calls.{EachStands, CanOpen, left_unless_refused};
+ghost use Rattle.gomp_shares.specs.Starts.{AnswersBegin, left_at_once};
+ghost use Rattle.gomp_shares.specs.Sections.{AnswersSectionsStart, DealsSections, sections_begun, sections_started, AnswersSectionsNext, section_next_taken, AnswersSectionsEnd, sections_end_tests};
 ghost use Rattle.gomp_sections.specs.Answers.{section_of};
 
-use crate::own::start_refusal;
+use crate::own::admit_start;
 use gomp_shares::own::{end_refusal, next_refusal};
 use gomp_shares::{Construct, Opening, Shares};
-use gomp_types::{EndKind, Limits, Refusal, Reply, sections_shape};
+use gomp_types::{EndKind, Limits, Refusal, Reply, Shape};
 
 /// Enters the member's next share for a construct of `count` sections, 0 to 65,536, and answers the
 /// first section that nobody took, numbered from 1, or 0 where none is left; the member is in the
@@ -43,15 +44,29 @@ pub fn sections_start<S: Shares>(
     ensures kept { (refusal : Refusal) → result ≡ Refused refusal → shares.new ≡ shares.old }
     ensures waits { result ≡ Wait → shares.new ≡ shares.old }
 {
-    let seen = shares.look(member);
-    if let Some(refusal) = start_refusal(&seen, limits, count) {
-        return Reply::Refused(refusal);
+    match admit_start(&shares.look(member), limits, count, end_kind) {
+        Ok(shape) => begin_sections(shares, member, &shape),
+        Err(refusal) => Reply::Refused(refusal),
     }
-    let shape = match sections_shape(count, end_kind) {
-        Ok(shape) => shape,
-        Err(refusal) => return Reply::Refused(refusal),
-    };
-    match shares.try_open(member, &shape) {
+}
+
+/// Enters the member's next share for sections of this shape, which its own tests let it start
+/// ([`admit_start`]), and answers the first section for it.
+///
+/// `Wait` and `Mismatch` as [`sections_start`] has them.
+pub fn begin_sections<S: Shares>(shares: &mut S, member: u16, shape: &Shape) -> Reply
+    requires sections { shape.now.kind ≡ Sections }
+    requires place { CanOpen (S.members shares.old) member shape.now (S.seen shares.old member) }
+    ensures members { S.members shares.new ≡ S.members shares.old }
+    ensures known { (h : List Event) × S.stands shares.old h }
+    ensures answer { EachStands (S.stands shares.old)
+        (AnswersBegin shape.now DealsSections (S.members shares.old) member result) }
+    ensures stands { EachStands (S.stands shares.old)
+        (λ h. S.stands shares.new (sections_begun shape.now member result h)) }
+    ensures kept { (refusal : Refusal) → result ≡ Refused refusal → shares.new ≡ shares.old }
+    ensures waits { result ≡ Wait → shares.new ≡ shares.old }
+{
+    match shares.try_open(member, shape) {
         Opening::Differs => Reply::Refused(Refusal::Mismatch),
         Opening::NotYet => Reply::Wait,
         Opening::Entered => Reply::Section(section_number(shares.claim(member))),

@@ -97,6 +97,10 @@ pub record CanBeginPart (members m iteration : ℕ) (seen : Seen) : Type 0 where
   pub apart : seen.in_part ≡ false
   pub rest : is_in_rest seen.piece seen.next_part (Some iteration) ≡ true
 
+-- a member that sees this may begin the part of this iteration, in whatever team it is
+abbrev pub MayBeginAs : Seen → ℕ → Type 0
+MayBeginAs seen iteration = (members m : ℕ) → m < members → CanBeginPart members m iteration seen
+
 -- a member may end the part that it is in
 pub record CanEndPart (members m : ℕ) (seen : Seen) : Type 0 where
   pub member : m < members

@@ -55,6 +55,10 @@ AnswersSectionsStart count end_kind limits members m reply h =
 abbrev pub sections_started : ℕ → EndKind → ℕ → Reply → List Event → List Event
 sections_started count end_kind m reply h = entry_and section_given (sections_shape count end_kind) m h reply ++ h
 
+-- after the start of a construct of this shape that its member's own tests let through
+abbrev pub sections_begun : Shape → ℕ → Reply → List Event → List Event
+sections_begun shape m reply h = entry_and section_given shape m h reply ++ h
+
 abbrev pub AnswersSectionsNext : ℕ → ℕ → Reply → List Event → Type 0
 AnswersSectionsNext members m reply h =
     Answers (section_next_tests (seen_of m h)) (λ given. DealsSections members m (open_share m h) given h) reply

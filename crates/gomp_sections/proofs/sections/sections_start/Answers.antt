@@ -1,40 +1,41 @@
-use Rattle.std.proofs.Common.{◌≡◌, ◌<◌, false, refl, ◌∙◌, sym}
-use Rattle.gomp_types.specs.Events.{entered}
+use Rattle.std.proofs.Common.{◌≡◌, refl, ◌∙◌, sym}
 use Rattle.gomp_types.specs.Sections.{sections_shape, sections_tests}
 use Rattle.gomp_types.specs.Tests.{first_refusal}
-use Rattle.gomp_types.proofs.TestRows.{outcome_value}
-use Rattle.gomp_shares.proofs.Entered.{may_claim}
-use Rattle.gomp_sections.proofs.Tests.{own_refuses, share_decides}
-use Rattle.gomp_sections.proofs.SectionSteps.{section_start_dealt, section_start_adds}
+use Rattle.gomp_types.proofs.TestRows.{outcome_value, outcome_refused}
+use Rattle.gomp_shares.specs.Starts.{start_tests}
+use Rattle.gomp_shares.specs.Sections.{DealsSections}
+use Rattle.gomp_shares.proofs.Admitted.{outcome_none, start_admitted}
+use Rattle.gomp_sections.proofs.Tests.{least_seen, own_refuses}
 use Rattle.gomp_sections.proofs.sections.sections_start.Goals as goal
 
-pub claim-requires : goal.claim-requires
-claim-requires g c =
-    let (h, st) = c.in-Entered.ensures.known in
-    let now = c.in-Entered.ensures.stands h st in
-    let lt : c.args.member < g.S.Shares.members c.try_open.new.self = rw c.try_open.ensures.members c.requires.member in
-    let e = g.met.S.Shares.agrees c.try_open.new.self _ c.args.member now lt in
-    record { place = may_claim _ c.args.member (entered c.args.member h) c.in-Ok.shape _ h e lt }
+pub begin_sections-requires-clause-sections : goal.begin_sections-requires-clause-sections
+begin_sections-requires-clause-sections g c =
+    let tests = start_tests (sections_tests c.args.count) c.args.limits.now c.look.result in
+    let is : c.in-Ok.shape ≡ sections_shape c.args.count c.args.end_kind = outcome_value (first_refusal tests) _ _ (sym c.admit_start.ensures.first ∙ c.in-Ok.is) in
+    rw is refl
 
-pub returns-in-Some-clause-answer : goal.returns-in-Some-clause-answer
-returns-in-Some-clause-answer g c = λ h st.
-    let e = c.look-seen.ensures.value ∙ g.met.S.Shares.agrees c.args.shares.now h c.args.member st c.requires.member in
-    own_refuses (sections_tests c.args.count) (sections_shape c.args.count c.args.end_kind) c.args.limits.now c.args.member c.look-seen.result h c.in-Some.refusal refl e (sym c.in-Some.is ∙ c.start_refusal.ensures.first)
+pub begin_sections-requires-clause-place : goal.begin_sections-requires-clause-place
+begin_sections-requires-clause-place g c = rw (← c.look.ensures.value) (c.in-Ok.ensures.place (g.S.Shares.members c.args.shares.now) c.args.member c.requires.member)
 
-pub returns-in-Entered-clause-answer : goal.returns-in-Entered-clause-answer
-returns-in-Entered-clause-answer g c = λ h st.
-    let is : c.in-Ok.shape ≡ sections_shape c.args.count c.args.end_kind = outcome_value (first_refusal (sections_tests c.args.count)) _ _ (sym c.sections_shape.ensures.shape ∙ c.in-Ok.is) in
-    let e = c.look-seen.ensures.value ∙ g.met.S.Shares.agrees c.args.shares.now h c.args.member st c.requires.member in
-    let may = rw is at (c.in-Entered.ensures.answer h st) in
-    let none = share_decides (sections_tests c.args.count) (sections_shape c.args.count c.args.end_kind) c.args.limits.now c.args.member c.look-seen.result h false refl e (sym c.in_default.is ∙ c.start_refusal.ensures.first) may.0 in
-    let now = c.in-Entered.ensures.stands h st in
-    let claims = rw (is, c.try_open.ensures.members) at (c.claim.ensures.answer _ now) in
-    (none, (may.1, rw c.section_number.ensures.answer (section_start_dealt (g.S.Shares.members c.args.shares.now) c.args.member (entered c.args.member h) c.args.count c.args.end_kind c.claim.result h claims)))
+pub returns-in-Ok-clause-answer : goal.returns-in-Ok-clause-answer
+returns-in-Ok-clause-answer g c = λ h st.
+    let e = c.look.ensures.value ∙ g.met.S.Shares.agrees c.args.shares.now h c.args.member st c.requires.member in
+    let found = sym c.admit_start.ensures.first ∙ c.in-Ok.is in
+    let tests = start_tests (sections_tests c.args.count) c.args.limits.now c.look.result in
+    let is : c.in-Ok.shape ≡ sections_shape c.args.count c.args.end_kind = outcome_value (first_refusal tests) _ _ found in
+    let none = least_seen (start_tests (sections_tests c.args.count) c.args.limits.now) c.args.member c.look.result h _ refl e (outcome_none (first_refusal tests) _ _ found) in
+    start_admitted (sections_tests c.args.count) (sections_shape c.args.count c.args.end_kind) DealsSections c.args.limits.now (g.S.Shares.members c.args.shares.now) c.args.member c.begin_sections.result h none
+    (rw is at (c.begin_sections.ensures.answer h st))
 
-pub returns-in-Entered-clause-stands : goal.returns-in-Entered-clause-stands
-returns-in-Entered-clause-stands g c = λ h st.
-    let is : c.in-Ok.shape ≡ sections_shape c.args.count c.args.end_kind = outcome_value (first_refusal (sections_tests c.args.count)) _ _ (sym c.sections_shape.ensures.shape ∙ c.in-Ok.is) in
-    let now = c.in-Entered.ensures.stands h st in
-    let claims = rw is at (c.claim.ensures.answer _ now) in
-    let adds = section_start_adds _ c.args.member c.args.count c.args.end_kind c.claim.result h claims in
-    rw (c.section_number.ensures.answer, adds) (rw is at (c.claim.ensures.stands _ now))
+pub returns-in-Ok-clause-stands : goal.returns-in-Ok-clause-stands
+returns-in-Ok-clause-stands g c = λ h st.
+    let tests = start_tests (sections_tests c.args.count) c.args.limits.now c.look.result in
+    let is : c.in-Ok.shape ≡ sections_shape c.args.count c.args.end_kind = outcome_value (first_refusal tests) _ _ (sym c.admit_start.ensures.first ∙ c.in-Ok.is) in
+    rw is at (c.begin_sections.ensures.stands h st)
+
+pub returns-in-Err-clause-answer : goal.returns-in-Err-clause-answer
+returns-in-Err-clause-answer g c = λ h st.
+    let e = c.look.ensures.value ∙ g.met.S.Shares.agrees c.args.shares.now h c.args.member st c.requires.member in
+    let tests = start_tests (sections_tests c.args.count) c.args.limits.now c.look.result in
+    own_refuses (sections_tests c.args.count) (sections_shape c.args.count c.args.end_kind) c.args.limits.now c.args.member c.look.result h c.in-Err.refusal refl e
+    (sym (outcome_refused (first_refusal tests) _ c.in-Err.refusal (sym c.admit_start.ensures.first ∙ c.in-Err.is)))
