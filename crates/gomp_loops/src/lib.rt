@@ -20,4 +20,4 @@
 pub mod calls;
 pub mod own;
 
-pub use calls::{loop_end, loop_end_nowait, loop_next, loop_start};
+pub use calls::{begin_loop, loop_end, loop_end_nowait, loop_next, loop_start, take_next};

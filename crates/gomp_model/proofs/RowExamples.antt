@@ -17,6 +17,7 @@ use Rattle.gomp_types.specs.declared.event.Event.{Event}
 use Rattle.gomp_types.specs.declared.event.Event.TheVariants.{Enter, Take, Drained, End, HandOn, Part, PartEnd, Put, Got, Arrive, Pass, Break}
 use Rattle.gomp_types.specs.Events.{entered, passed}
 use Rattle.gomp_types.specs.Least.{least}
+use Rattle.gomp_types.specs.Sections.{sections_shape}
 use Rattle.gomp_types.specs.Singles.{single_shape}
 use Rattle.gomp_types.specs.Tests.{Test}
 use Rattle.gomp_types.specs.EventLists.{even_four, four, at}
@@ -374,6 +375,21 @@ pub events_in_order :
     ≡ End 1 0 ∷ Enter 0 0 (four false) ∷ End 1 0 ∷ Enter 0 0 (four false) ∷ [])
     × (events_after true echoing 0 (past_with 1 (Enter 0 0 (four false) ∷ [])) Finished ≡ Enter 0 0 (four false) ∷ Enter 0 0 (four false) ∷ [])
 events_in_order = (refl, refl)
+
+-- Shares that are started
+
+-- a start names the share that the team compares
+pub shapes_of_starts :
+    map (λ call. (row_of call).starts) (three_sections ∷ SingleStart ∷ SingleCopyStart ∷ []) ≡ Some (sections_shape 3 WaitEnd) ∷ Some (single_shape false) ∷ Some (single_shape true) ∷ []
+shapes_of_starts = refl
+
+pub shape_of_a_loop_start : (row_of (ten_by_three)).starts ≡ Some (record { start = pos 0; incr = pos 1; trips = 10; kind = Dynamic; chunk = 3; ordered = false; end_kind = WaitEnd })
+shape_of_a_loop_start = refl
+
+-- and every other call none
+pub no_share_started :
+    map (λ call. (row_of call).starts) (nexts ++ (ends ++ (arrivals ++ others))) ≡ None ∷ None ∷ None ∷ None ∷ None ∷ None ∷ None ∷ None ∷ None ∷ None ∷ None ∷ None ∷ None ∷ []
+no_share_started = refl
 
 -- Rows of which little is said
 

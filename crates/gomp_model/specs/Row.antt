@@ -2,6 +2,7 @@
 use Rattle.std.specs.Prelude.{ℕ, ◌≡◌, Bool, true, false, List, [], ◌∷◌, ◌++◌, Option, None}
 use Rattle.gomp_types.specs.declared.limits.Limits.{Limits}
 use Rattle.gomp_types.specs.declared.seen.Seen.{Seen}
+use Rattle.gomp_types.specs.declared.shape.Shape.{Shape}
 use Rattle.gomp_types.specs.declared.refusal.Place.{Place}
 use Rattle.gomp_types.specs.declared.refusal.Place.TheVariants.{Barrier as AtBarrier}
 use Rattle.gomp_types.specs.declared.refusal.Refusal.{Refusal}
@@ -26,6 +27,8 @@ pub record Row : Type 1 where
   pub compared : Bool → ℕ → Past → List Test
   -- whether it may find no memory
   pub memory : Bool
+  -- the share that it starts, by what the team compares of it
+  pub starts : Option Shape
   -- whether its member stays in its place while it waits
   pub stays : Bool
   -- at what kind of barrier it arrives
@@ -48,6 +51,7 @@ plain = record {
   by_team = λ m p. [];
   compared = λ again m p. [];
   memory = false;
+  starts = None;
   stays = false;
   arrives = None;
   puts = false;

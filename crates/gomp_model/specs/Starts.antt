@@ -1,5 +1,5 @@
 -- The row of a call that starts a share. OpenMP API 5.2, chapter 11.
-use Rattle.std.specs.Prelude.{ℕ, Bool, true, List}
+use Rattle.std.specs.Prelude.{ℕ, Bool, true, List, Some}
 use Rattle.gomp_types.specs.declared.refusal.Place.TheVariants.{Share}
 use Rattle.gomp_types.specs.declared.reply.Reply.{Reply}
 use Rattle.gomp_types.specs.declared.shape.Shape.{Shape}
@@ -16,6 +16,7 @@ start memory own shape deals Given = record plain {
   by_place = start_tests own;
   compared = λ again m p. compared_share shape m p.events;
   memory = memory;
+  starts = Some shape;
   stays = true;
   may_reply = λ m p reply. Starts deals p.terms.members m shape reply p.events;
   gives = λ m p reply. entry_and Given shape m p.events reply;

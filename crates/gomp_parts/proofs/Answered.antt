@@ -22,7 +22,7 @@ use Rattle.gomp_types.specs.Seen.{seen_of}
 use Rattle.gomp_types.proofs.LeastTests.{least_append}
 use Rattle.gomp_laws.proofs.WordsToCome.{PutsNone}
 use Rattle.gomp_shares.specs.Calls.{IsAside as SharesAside}
-use Rattle.gomp_shares.specs.Starts.{Deals, Starts, start_tests, compared_share, share_tests, AnswersStart, done_given}
+use Rattle.gomp_shares.specs.Starts.{Deals, Starts, start_tests, compared_share, share_tests, AnswersBegin, AnswersStart, done_given}
 use Rattle.gomp_shares.specs.Loops.{DealsNext}
 use Rattle.gomp_shares.specs.Sections.{DealsSections}
 use Rattle.gomp_shares.specs.Singles.{words_put}
@@ -59,6 +59,12 @@ pub start_may : (memory : Bool) (own : List Test) (shape : Shape) (deals : Deals
 start_may memory own shape deals Given members limits again m p reply ready answers =
     stays_may (share_tests own shape limits m p.events) (λ n given. Starts deals n m shape given p.events) members p.terms.members reply ready.members_are
     (both_fail (start_tests own limits (seen_of m p.events)) (compared_share shape m p.events) (ready.place refl) ready.compared) answers
+
+-- a start that its member's own tests let through is compared alone
+pub begin_may : (memory : Bool) (own : List Test) (shape : Shape) (deals : Deals) (Given : ℕ → Shape → ℕ → Reply → List Event) (members : ℕ) (limits : Limits) (again : Bool) (m : ℕ) (p : Past) (reply : Reply) →
+    IsReady (start memory own shape deals Given) members limits again m p → AnswersBegin shape deals members m reply p.events → Starts deals p.terms.members m shape reply p.events
+begin_may memory own shape deals Given members limits again m p reply ready answers =
+    stays_may (compared_share shape m p.events) (λ n given. Starts deals n m shape given p.events) members p.terms.members reply ready.members_are ready.compared answers
 
 -- Calls that are done at once
 

@@ -1,6 +1,7 @@
 -- A call's refusal by its member's place, and by the comparison with other members, is the least of its tests.
 use Rattle.std.proofs.Common.{◌≡◌, ◌≤◌, ℕ, Bool, true, false, List, [], ◌∷◌, ◌++◌, Option, Some, None, Result, Ok, Err, refl, ap, sym, ◌∙◌, arith}
-use Rattle.std.specs.Prelude.{nat_le, ◌&&◌, IfSome}
+use Rattle.std.specs.Prelude.{nat_le, ◌&&◌, IfSome, IfOk}
+use Rattle.std.specs.Result.{result_err, result_map_both}
 use Rattle.std.proofs.lemmas.Bool.Decides.{nat_tests}
 use Rattle.gomp_types.specs.declared.limits.Limits.{Limits}
 use Rattle.gomp_types.specs.declared.refusal.Refusal.{Refusal}
@@ -12,12 +13,14 @@ use Rattle.gomp_types.specs.Tests.{Test, first_refusal, outcome}
 use Rattle.gomp_types.specs.Seen.{seen_of}
 use Rattle.gomp_types.specs.Least.{lesser, least}
 use Rattle.gomp_types.proofs.Booleans.{and_left, and_right}
-use Rattle.gomp_types.proofs.LeastTests.{AllFail, all_fail, fail_first, lesser_low, lesser_assoc, least_append, from, first_is_least}
-use Rattle.gomp_shares.specs.Starts.{start_tests}
+use Rattle.gomp_types.proofs.LeastTests.{lesser_low, lesser_assoc, least_append, from, first_is_least}
+use Rattle.gomp_types.proofs.TestRows.{outcome_value}
+use Rattle.gomp_shares.specs.Calls.{MayOpenAs}
+use Rattle.gomp_shares.proofs.Admitted.{outcome_err}
 use Rattle.gomp_model.specs.Past.{Past}
 use Rattle.gomp_model.specs.Row.{Row, row_tests}
 use Rattle.gomp_laws.proofs.Layers.{by_layers}
-use Rattle.gomp_parts.specs.Answers.{ComesFirst, ByPlace, in_place}
+use Rattle.gomp_parts.specs.Answers.{ComesFirst, ByPlace, StartsShare, Admits, in_place}
 
 -- tests in the order of their numbers
 pub rising_least : (found : Option Refusal) (tests : List Test) → found ≡ first_refusal tests → from 0 tests ≡ true → found ≡ least tests
@@ -66,7 +69,7 @@ pub by_place : (row : Row) (limits : Limits) (seen : Seen) (found : Option Refus
 by_place row limits seen found is low high none = record { place = is; first = comes_first row limits seen found is low high; team = none }
 
 -- a call with no such test
-pub no_place : (row : Row) (limits : Limits) (seen : Seen) → None ≡ least (row.by_place limits seen) → ((m : ℕ) (p : Past) → least (row.by_team m p) ≡ None) → ByPlace row limits seen None
+no_place : (row : Row) (limits : Limits) (seen : Seen) → None ≡ least (row.by_place limits seen) → ((m : ℕ) (p : Past) → least (row.by_team m p) ≡ None) → ByPlace row limits seen None
 no_place row limits seen is none = record { place = is; first = tt; team = none }
 
 -- a call that is repeated is in its place only if its member stays there
@@ -96,24 +99,61 @@ compared_then row m p limits seen found other bounds at is none team same =
     both_none : (place team compared : Option Refusal) → place ≡ None → team ≡ None → lesser place (lesser team compared) ≡ compared
     both_none place team compared one two = rw (one, two) refl
 
--- The shape of a construct that none of its tests refuses
+-- What the member's place makes of a call
 
-none_first : (tests : List Test) → AllFail tests → first_refusal tests ≡ None
-none_first [] fail = refl
-none_first (test ∷ tests) fail = rw fail.0 (none_first tests fail.1)
+err_kept : (shape : Result Shape Refusal) → result_err (result_map_both (λ s. Some s) (λ refusal. refusal) shape) ≡ result_err shape
+err_kept (Ok shape) = refl
+err_kept (Err refusal) = refl
 
-pub own_fails : (own : List Test) (limits : Limits) (seen : Seen) → least (start_tests own limits seen) ≡ None → first_refusal own ≡ None
-own_fails own limits seen none = let all = all_fail (start_tests own limits seen) none in none_first own (fail_first own _ all.1)
+started_here : (row : Row) (seen : Seen) (tests : List Test) (own : Shape) (shape : Result Shape Refusal) → row.starts ≡ Some own → shape ≡ outcome (first_refusal tests) own → IfOk shape (MayOpenAs seen) →
+    IfOk (result_map_both (λ s. Some s) (λ refusal. refusal) shape) (StartsShare row seen)
+started_here row seen tests own (Ok shape) starts is may = (ap (λ (s : Shape). Some s) (outcome_value (first_refusal tests) own shape (sym is)) ∙ sym starts, may)
+started_here row seen tests own (Err refusal) starts is may = tt
 
--- so it has its shape
-pub shape_refused : {A : Type 0} (own : List Test) (limits : Limits) (seen : Seen) (shape : A) (told : Result A Refusal) (refusal : Refusal) → least (start_tests own limits seen) ≡ None → told ≡ outcome (first_refusal own) shape → told ≡ Err refusal → ⊥
-shape_refused own limits seen shape told refusal none is err =
-    let fine : told ≡ Ok shape = rw (own_fails own limits seen none) at is in
-    let both = sym err ∙ fine in cc
+-- of a start: the refusal of its tests, or its shape
+pub admits_start : (row : Row) (limits : Limits) (seen : Seen) (tests : List Test) (own : Shape) (shape : Result Shape Refusal) (found : Result (Option Shape) Refusal) → row.starts ≡ Some own → row.by_place limits seen ≡ tests →
+    shape ≡ outcome (first_refusal tests) own → IfOk shape (MayOpenAs seen) → found ≡ result_map_both (λ s. Some s) (λ refusal. refusal) shape → from 0 tests ≡ true → up_to 34 (row.by_place limits seen) ≡ true →
+    ((m : ℕ) (p : Past) → beginning 34 (row.by_team m p ++ row.compared false m p) ≡ true) → ((m : ℕ) (p : Past) → least (row.by_team m p) ≡ None) → Admits row limits seen found
+admits_start row limits seen tests own shape found starts are is may told rising low high none =
+    let err : result_err found ≡ least (row.by_place limits seen) =
+    ap result_err told ∙ err_kept shape ∙ ap result_err is ∙ outcome_err (first_refusal tests) own ∙ first_is_least 0 tests rising ∙ ap least (sym are) in
+    record { place = by_place row limits seen (result_err found) err low high none; starts = rw told (started_here row seen tests own shape starts is may) }
 
-pub shape_told : {A : Type 0} (found : Option Refusal) (shape other : A) (told : Result A Refusal) → told ≡ outcome found shape → told ≡ Ok other → other ≡ shape
-shape_told None shape other told is ok = let both = sym ok ∙ is in cc
-shape_told (Some refusal) shape other told is ok = absurd (let both = sym ok ∙ is in cc)
+none_here : (row : Row) (seen : Seen) (refusal : Option Refusal) → row.starts ≡ None → IfOk (outcome refusal None) (StartsShare row seen)
+none_here row seen None starts = (sym starts, tt)
+none_here row seen (Some refusal) starts = tt
+
+-- of another call: the refusal of its tests, and no share
+pub admits_none : (row : Row) (limits : Limits) (seen : Seen) (refusal : Option Refusal) (found : Result (Option Shape) Refusal) → found ≡ outcome refusal None → refusal ≡ least (row.by_place limits seen) → row.starts ≡ None →
+    up_to 34 (row.by_place limits seen) ≡ true → ((m : ℕ) (p : Past) → beginning 34 (row.by_team m p ++ row.compared false m p) ≡ true) → ((m : ℕ) (p : Past) → least (row.by_team m p) ≡ None) → Admits row limits seen found
+admits_none row limits seen refusal found told is starts low high none =
+    let err : result_err found ≡ least (row.by_place limits seen) = ap result_err told ∙ outcome_err refusal None ∙ is in
+    record { place = by_place row limits seen (result_err found) err low high none; starts = rw told (none_here row seen refusal starts) }
+
+-- of one with no such test
+pub admits_at_once : (row : Row) (limits : Limits) (seen : Seen) → None ≡ least (row.by_place limits seen) → row.starts ≡ None → ((m : ℕ) (p : Past) → least (row.by_team m p) ≡ None) → Admits row limits seen (Ok None)
+admits_at_once row limits seen is starts none = record { place = no_place row limits seen is none; starts = (sym starts, tt) }
+
+-- a call that no test of its place refuses is admitted there
+pub not_refused : {A : Type 0} (found : Result A Refusal) (least_of : Option Refusal) (refusal : Refusal) → result_err found ≡ least_of → least_of ≡ None → found ≡ Err refusal → ⊥
+not_refused found least_of refusal is none err =
+    let some : result_err found ≡ Some refusal = rw err refl in
+    let both = sym some ∙ is ∙ none in cc
+
+-- and what was found there stays so
+pub same_share : (row : Row) (seen : Seen) (starts : Option Shape) (found : Result (Option Shape) Refusal) → StartsShare row seen starts → IfOk found (λ other. other ≡ starts) → IfOk found (StartsShare row seen)
+same_share row seen starts (Ok other) is same = rw same is
+same_share row seen starts (Err refusal) is same = tt
+
+-- the share that a start has found is its own
+pub own_share : (starts : Option Shape) (shape own : Shape) → starts ≡ Some shape → starts ≡ Some own → own ≡ shape
+own_share starts shape own is e = let both = sym e ∙ is in cc
+
+pub opens_own : (starts : Option Shape) (seen : Seen) (shape : Shape) → starts ≡ Some shape → IfSome starts (MayOpenAs seen) → MayOpenAs seen shape
+opens_own starts seen shape is may = rw is at may
+
+pub no_share : (starts : Option Shape) (own : Shape) → starts ≡ None → starts ≡ Some own → ⊥
+no_share starts own is e = let both = sym e ∙ is in cc
 
 -- a call whose test fails is not refused
 pub refused_not : {A : Type 0} (tests : List Test) (x : A) (told : Result A Refusal) (refusal : Refusal) → least tests ≡ None → told ≡ outcome (least tests) x → told ≡ Err refusal → ⊥

@@ -1,5 +1,7 @@
 -- What a team knows of a call that no test refuses, and what its parts stand for after the answer. OpenMP API 5.2, chapters 11 and 15, section 5.7.2.
-use Rattle.std.specs.Prelude.{ℕ, ◌≡◌, not, Bool, true, false, List, ◌++◌, Option, Some, None, IfSome}
+use Rattle.std.specs.Prelude.{ℕ, ◌≡◌, not, Bool, true, false, List, ◌++◌, Option, Some, None, IfSome, Result, IfOk}
+use Rattle.std.specs.Result.{result_err}
+use Rattle.gomp_types.specs.declared.shape.Shape.{Shape}
 use Rattle.gomp_types.specs.declared.limits.Limits.{Limits}
 use Rattle.gomp_types.specs.declared.refusal.Clash.{Clash}
 use Rattle.gomp_types.specs.declared.refusal.Place.TheVariants.{Stopped as AtStop}
@@ -10,6 +12,7 @@ use Rattle.gomp_types.specs.declared.event.Event.{Event}
 use Rattle.gomp_types.specs.Least.{lesser, least}
 use Rattle.gomp_types.specs.declared.seen.Seen.{Seen}
 use Rattle.gomp_types.specs.Seen.{seen_of}
+use Rattle.gomp_shares.specs.Calls.{MayOpenAs}
 use Rattle.gomp_shares.specs.Starts.{leaves}
 use Rattle.gomp_model.specs.Past.{Past}
 use Rattle.gomp_model.specs.Row.{Row, once, since}
@@ -29,6 +32,15 @@ pub record ByPlace (row : Row) (limits : Limits) (seen : Seen) (found : Option R
   pub place : found ≡ least (row.by_place limits seen)
   pub first : ComesFirst row found
   pub team : (m : ℕ) (p : Past) → least (row.by_team m p) ≡ None
+
+-- the share that a call with this row starts, if it starts one, is one that its member may open
+abbrev pub StartsShare : Row → Seen → Option Shape → Type 0
+StartsShare row seen starts = (starts ≡ row.starts) × IfSome starts (MayOpenAs seen)
+
+-- what the member's place makes of a call: its refusal, or the share that it starts
+pub record Admits (row : Row) (limits : Limits) (seen : Seen) (found : Result (Option Shape) Refusal) : Type 0 where
+  pub place : ByPlace row limits seen (result_err found)
+  pub starts : IfOk found (StartsShare row seen)
 
 -- whether what its place has shown of a call holds: where it is made, and where it is repeated if its member has stayed there
 abbrev pub in_place : Bool → Bool → Bool

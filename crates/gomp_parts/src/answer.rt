@@ -8,16 +8,17 @@ ghost use Rattle.gomp_types.specs.Least.{least};
 ghost use Rattle.gomp_shares.specs.Singles.{put_tests, words_put};
 ghost use Rattle.gomp_barrier.specs.Stands.{members_of as barrier_members};
 ghost use Rattle.gomp_model.specs.Calls.{row_of};
-ghost use Rattle.gomp_parts.specs.Answers.{ArePartsKept, PartsStand, WordsStand, SomeReady, EachReady, MayReply, given_after};
+ghost use Rattle.gomp_parts.specs.Answers.{ArePartsKept, StartsShare, PartsStand, WordsStand, SomeReady, EachReady, MayReply, given_after};
 
 use crate::arrivals::{arrival_reply, end_reply};
 use crate::payloads::Payloads;
 use crate::shares::share_reply;
 use gomp_barrier::Barriers;
 use gomp_shares::{Construct, Shares};
-use gomp_types::{Arrival, Call, Limits, Payload, Reply};
+use gomp_types::{Arrival, Call, Limits, Payload, Reply, Shape};
 
-/// Answers a call, or goes on with one that waits (`again`).
+/// Answers a call, which starts a share of this shape if it starts one (`starts`), or goes on with one
+/// that waits (`again`).
 ///
 /// No test of the call holds. Where a call that waits is asked about again and waits on, nothing
 /// changes.
@@ -28,9 +29,11 @@ pub fn answer<S: Shares>(
     limits: &Limits,
     member: u16,
     call: &Call,
+    starts: &Option<Shape>,
     again: bool,
 ) -> Reply
     requires member { member < S.members shares.old }
+    requires starts { StartsShare (row_of call.now) (S.seen shares.old member) starts.now }
     requires team { barrier_members barriers.old ≡ S.members shares.old }
     requires ready { SomeReady S.stands S.members shares.old barriers.old payloads.old
         (row_of call.now) limits.now again member }
@@ -67,7 +70,9 @@ pub fn answer<S: Shares>(
         | Call::SingleCopyStart
         | Call::OrderedStart(_)
         | Call::OrderedEnd
-        | Call::Stop => share_reply(shares, payloads, limits, member, call),
+        | Call::Stop => {
+            share_reply(shares, payloads, limits, member, call, starts)
+        },
         Call::Resume => unreachable!(),
     }
 }

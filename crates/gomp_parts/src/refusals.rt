@@ -1,7 +1,9 @@
 //! Why a call is refused, layer by layer: by the member's place among the shares, and by how it
 //! compares with other members' calls.
 
-ghost use Rattle.std.specs.Prelude.{◌≡◌, ◌<◌, ℕ, true, false};
+ghost use Rattle.std.specs.Prelude.{◌≡◌, ◌<◌, ℕ, true, Some, None, Ok, IfOk};
+ghost use Rattle.std.specs.Result.{result_err, result_map_both};
+ghost use Rattle.gomp_types.specs.Tests.{outcome};
 ghost use Rattle.gomp_types.specs.declared.event.Event.{Event};
 ghost use Rattle.gomp_types.specs.declared.limits.Limits.{Limits};
 ghost use Rattle.gomp_types.specs.Least.{lesser, least};
@@ -16,44 +18,47 @@ ghost use Rattle.gomp_model.specs.Past.{Past};
 ghost use Rattle.gomp_model.specs.Row.{row_tests};
 ghost use Rattle.gomp_model.specs.Arrivals.{outside_tests, compared_arrival};
 ghost use Rattle.gomp_model.specs.Calls.{row_of};
-ghost use Rattle.gomp_parts.specs.Answers.{BothStand, ByPlace, in_place};
+ghost use Rattle.gomp_parts.specs.Answers.{BothStand, StartsShare, Admits};
 ghost use Rattle.gomp_types.specs.declared.refusal.Place.TheVariants.{Share};
 
 use gomp_barrier::Barriers;
 use gomp_shares::own::{end_refusal, next_refusal, outside_refusal};
 use gomp_shares::{Construct, Shares};
-use gomp_types::{
-    Arrival, Call, EndKind, Limits, Place, Refusal, Seen, Shape, Tag, sections_shape, single_shape,
-};
+use gomp_types::{Arrival, Call, EndKind, Limits, Place, Refusal, Seen, Shape, Tag};
 
-/// Of two refusals the one with the lesser number.
-pub fn lesser(one: Option<Refusal>, other: Option<Refusal>) -> Option<Refusal>
-    ensures { result ≡ lesser one other }
+/// What a call was admitted to, unless it is refused beside: then by the refusal with the lesser
+/// number.
+pub fn unless_refused(
+    refusal: Option<Refusal>,
+    admitted: Result<Option<Shape>, Refusal>,
+) -> Result<Option<Shape>, Refusal>
+    ensures least { result_err result ≡ lesser refusal (result_err admitted) }
+    ensures admitted { IfOk result (λ starts. admitted ≡ Ok starts) }
 {
-    match (one, other) {
-        (None, other) => other,
-        (Some(one), None) => Some(one),
-        (Some(one), Some(other)) => {
+    match (refusal, admitted) {
+        (None, admitted) => admitted,
+        (Some(refusal), Ok(_)) => Err(refusal),
+        (Some(one), Err(other)) => {
             if one.number() <= other.number() {
-                Some(one)
+                Err(one)
             } else {
-                Some(other)
+                Err(other)
             }
         }
     }
 }
 
-/// Why the call, or the one that it repeats (`again`), is refused by its own tests: those on the
-/// member's place among the shares, and the comparison with other members' calls. A call that is
-/// repeated is only compared.
-pub fn call_refusal<S: Shares>(
+/// The shape of the share that the call starts, if it starts one, where none of its own tests refuses
+/// it: those on the member's place among the shares, and the comparison with other members' calls. A
+/// call that is repeated (`again`) is only compared.
+pub fn admit_call<S: Shares>(
     shares: &mut S,
     barriers: &Barriers,
     limits: &Limits,
     member: u16,
     call: &Call,
     again: bool,
-) -> Option<Refusal>
+) -> Result<Option<Shape>, Refusal>
     requires member { member < S.members shares.old }
     requires team { barrier_members barriers.now ≡ S.members shares.old }
     requires place { again ≡ true → (row_of call.now).stays ≡ true →
@@ -61,46 +66,134 @@ pub fn call_refusal<S: Shares>(
     ensures kept { shares.new ≡ shares.old }
     ensures least { (p : Past) → p.terms.limits ≡ limits.now →
         BothStand S.stands shares.old barriers.now p.events →
-        result ≡ least (row_tests again (row_of call.now) member p) }
+        result_err result ≡ least (row_tests again (row_of call.now) member p) }
+    ensures starts { IfOk result (StartsShare (row_of call.now) (S.seen shares.old member)) }
 {
     if again {
-        return compared_refusal(shares, barriers, member, call, true);
+        let starts = repeated_start(shares, limits, member, call);
+        return admit_compared(shares, barriers, member, call, starts, true);
     }
-    if let Some(refusal) = place_refusal(shares, limits, member, call) {
-        return Some(refusal);
+    match admit_place(shares, limits, member, call) {
+        Ok(starts) => admit_compared(shares, barriers, member, call, starts, false),
+        Err(refusal) => Err(refusal),
     }
-    compared_refusal(shares, barriers, member, call, false)
 }
 
-/// Why the member may not make this call from its place among the shares.
-fn place_refusal<S: Shares>(
+/// The shape of the share that the call starts, if it starts one, unless the comparison with other
+/// members' calls refuses it.
+fn admit_compared<S: Shares>(
+    shares: &mut S,
+    barriers: &Barriers,
+    member: u16,
+    call: &Call,
+    starts: Option<Shape>,
+    again: bool,
+) -> Result<Option<Shape>, Refusal>
+    requires member { member < S.members shares.old }
+    requires team { barrier_members barriers.now ≡ S.members shares.old }
+    requires starts { starts ≡ (row_of call.now).starts }
+    ensures kept { shares.new ≡ shares.old }
+    ensures compared { (p : Past) → BothStand S.stands shares.old barriers.now p.events →
+        result_err result ≡ least ((row_of call.now).compared again member p) }
+    ensures starts { IfOk result (λ found. found ≡ starts) }
+{
+    match compared_refusal(shares, barriers, member, call, &starts, again) {
+        Some(refusal) => Err(refusal),
+        None => Ok(starts),
+    }
+}
+
+/// The shape of the share that a call which waits starts, if it starts one: its member has stayed in
+/// its place, so no test there refuses it.
+fn repeated_start<S: Shares>(
     shares: &S,
     limits: &Limits,
     member: u16,
     call: &Call,
-) -> Option<Refusal>
+) -> Option<Shape>
     requires member { member < S.members shares.now }
-    ensures { ByPlace (row_of call.now) limits.now (S.seen shares.now member) result }
+    requires place { (row_of call.now).stays ≡ true →
+        least ((row_of call.now).by_place limits.now (S.seen shares.now member)) ≡ None }
+    ensures { StartsShare (row_of call.now) (S.seen shares.now member) result }
+{
+    match call {
+        Call::LoopStart(_)
+        | Call::SectionsStart { .. }
+        | Call::SingleStart
+        | Call::SingleCopyStart => match admit_place(shares, limits, member, call) {
+            Ok(starts) => starts,
+            Err(_) => unreachable!(),
+        },
+        Call::LoopNext
+        | Call::LoopEnd
+        | Call::LoopEndNowait
+        | Call::SectionsNext
+        | Call::SectionsEnd
+        | Call::SectionsEndNowait
+        | Call::SingleCopyEnd(_)
+        | Call::OrderedStart(_)
+        | Call::OrderedEnd
+        | Call::Barrier
+        | Call::RegionEnd
+        | Call::Stop
+        | Call::Resume => None,
+    }
+}
+
+/// The shape of the share that the call starts, if it starts one, where the member may make it from
+/// its place among the shares.
+fn admit_place<S: Shares>(
+    shares: &S,
+    limits: &Limits,
+    member: u16,
+    call: &Call,
+) -> Result<Option<Shape>, Refusal>
+    requires member { member < S.members shares.now }
+    ensures { Admits (row_of call.now) limits.now (S.seen shares.now member) result }
 {
     let seen = shares.look(member);
     match call {
-        Call::LoopStart(desc) => gomp_loops::own::start_refusal(&seen, limits, desc),
-        Call::LoopNext => next_refusal(&seen, Construct::Loop),
-        Call::LoopEnd => end_refusal(&seen, Construct::Loop, EndKind::Wait),
-        Call::LoopEndNowait => end_refusal(&seen, Construct::Loop, EndKind::Nowait),
-        Call::SectionsStart { count, .. } => {
-            gomp_sections::own::start_refusal(&seen, limits, *count)
+        Call::LoopStart(desc) => share_started(gomp_loops::own::admit_start(&seen, limits, desc)),
+        Call::SectionsStart { count, end_kind } => {
+            share_started(gomp_sections::own::admit_start(&seen, limits, *count, *end_kind))
         }
-        Call::SectionsNext => next_refusal(&seen, Construct::Sections),
-        Call::SectionsEnd => end_refusal(&seen, Construct::Sections, EndKind::Wait),
-        Call::SectionsEndNowait => end_refusal(&seen, Construct::Sections, EndKind::Nowait),
-        Call::SingleStart => outside_refusal(&seen, limits),
-        Call::SingleCopyStart => outside_refusal(&seen, limits),
-        Call::SingleCopyEnd(_) => gomp_sections::own::copy_end_refusal(&seen),
-        Call::OrderedStart(value) => part_refusal(&seen, *value),
-        Call::OrderedEnd => part_end_refusal(&seen),
-        Call::Barrier | Call::RegionEnd => barrier_refusal(&seen),
-        Call::Stop | Call::Resume => None,
+        Call::SingleStart => share_started(gomp_sections::own::admit_single(&seen, limits, false)),
+        Call::SingleCopyStart => {
+            share_started(gomp_sections::own::admit_single(&seen, limits, true))
+        }
+        Call::LoopNext => none_started(next_refusal(&seen, Construct::Loop)),
+        Call::LoopEnd => none_started(end_refusal(&seen, Construct::Loop, EndKind::Wait)),
+        Call::LoopEndNowait => none_started(end_refusal(&seen, Construct::Loop, EndKind::Nowait)),
+        Call::SectionsNext => none_started(next_refusal(&seen, Construct::Sections)),
+        Call::SectionsEnd => none_started(end_refusal(&seen, Construct::Sections, EndKind::Wait)),
+        Call::SectionsEndNowait => {
+            none_started(end_refusal(&seen, Construct::Sections, EndKind::Nowait))
+        }
+        Call::SingleCopyEnd(_) => none_started(gomp_sections::own::copy_end_refusal(&seen)),
+        Call::OrderedStart(value) => none_started(part_refusal(&seen, *value)),
+        Call::OrderedEnd => none_started(part_end_refusal(&seen)),
+        Call::Barrier | Call::RegionEnd => none_started(barrier_refusal(&seen)),
+        Call::Stop | Call::Resume => Ok(None),
+    }
+}
+
+/// A call that starts a share of this shape, unless it is refused.
+fn share_started(shape: Result<Shape, Refusal>) -> Result<Option<Shape>, Refusal>
+    ensures { result ≡ result_map_both (λ s. Some s) (λ refusal. refusal) shape }
+{
+    match shape {
+        Ok(shape) => Ok(Some(shape)),
+        Err(refusal) => Err(refusal),
+    }
+}
+
+/// A call that starts no share, unless it is refused.
+fn none_started(refusal: Option<Refusal>) -> Result<Option<Shape>, Refusal>
+    ensures { result ≡ outcome refusal None }
+{
+    match refusal {
+        Some(refusal) => Err(refusal),
+        None => Ok(None),
     }
 }
 
@@ -135,41 +228,34 @@ fn barrier_refusal(seen: &Seen) -> Option<Refusal>
     }
 }
 
-/// Why the call is refused where it is compared with other members': `Mismatch` where its construct
-/// is another, and for a resume with no wait open `NotInside`.
-///
-/// The tests on the member's place do not hold.
+/// Why the call, which starts a share of this shape if it starts one, is refused where it is compared
+/// with other members': `Mismatch` where its construct is another, and for a resume with no wait open
+/// `NotInside`.
 fn compared_refusal<S: Shares>(
     shares: &mut S,
     barriers: &Barriers,
     member: u16,
     call: &Call,
+    starts: &Option<Shape>,
     again: bool,
 ) -> Option<Refusal>
     requires member { member < S.members shares.old }
     requires team { barrier_members barriers.now ≡ S.members shares.old }
-    requires place { in_place (row_of call.now).stays again ≡ true →
-        (limits : Limits) ×
-        (least ((row_of call.now).by_place limits (S.seen shares.old member)) ≡ None) }
+    requires starts { starts.now ≡ (row_of call.now).starts }
     ensures kept { shares.new ≡ shares.old }
     ensures compared { (p : Past) → BothStand S.stands shares.old barriers.now p.events →
         result ≡ least ((row_of call.now).compared again member p) }
 {
     match call {
-        Call::LoopStart(desc) => {
-            let Ok(shape) = desc.shape() else {
+        Call::LoopStart(_)
+        | Call::SectionsStart { .. }
+        | Call::SingleStart
+        | Call::SingleCopyStart => {
+            let Some(shape) = starts else {
                 unreachable!()
             };
-            share_refusal(shares, member, &shape)
+            share_refusal(shares, member, shape)
         }
-        Call::SectionsStart { count, end_kind } => {
-            let Ok(shape) = sections_shape(*count, *end_kind) else {
-                unreachable!()
-            };
-            share_refusal(shares, member, &shape)
-        }
-        Call::SingleStart => share_refusal(shares, member, &single_shape(false)),
-        Call::SingleCopyStart => share_refusal(shares, member, &single_shape(true)),
         Call::LoopEnd | Call::SectionsEnd => {
             arrival_refusal(shares, barriers, member, Arrival::ShareEnd, again)
         }

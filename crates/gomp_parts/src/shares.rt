@@ -11,25 +11,27 @@ ghost use Rattle.gomp_shares.specs.Calls.{EachStands};
 ghost use Rattle.gomp_shares.specs.Singles.{AnswersCopy, copy_started};
 ghost use Rattle.gomp_model.specs.Past.{Past};
 ghost use Rattle.gomp_model.specs.Calls.{row_of};
-ghost use Rattle.gomp_parts.specs.Answers.{IsReady, MayReply, given_after, WordsStand};
+ghost use Rattle.gomp_parts.specs.Answers.{IsReady, MayReply, StartsShare, given_after, WordsStand};
 
 use crate::payloads::Payloads;
 use gomp_shares::Shares;
-use gomp_types::{Call, Limits, Reply};
+use gomp_types::{Call, Limits, Reply, Shape};
 
 /// Answers a call that neither arrives at a barrier nor puts words, or goes on with it: that it is
-/// repeated changes nothing.
+/// repeated changes nothing. `starts` is the shape of the share that it starts, if it starts one.
 pub fn share_reply<S: Shares>(
     shares: &mut S,
     payloads: &Payloads,
     limits: &Limits,
     member: u16,
     call: &Call,
+    starts: &Option<Shape>,
 ) -> Reply
     requires member { member < S.members shares.old }
     requires meant { call.now ≡ Resume → ⊥ }
     requires aloof { (row_of call.now).arrives ≡ None }
     requires silent { (row_of call.now).puts ≡ false }
+    requires starts { StartsShare (row_of call.now) (S.seen shares.old member) starts.now }
     requires known { (h : List Event) ×
         WordsStand S.stands (S.members shares.old) shares.old payloads.now h }
     ensures apart { ((row_of call.now).arrives ≡ None) × ((row_of call.now).puts ≡ false) }
@@ -46,11 +48,19 @@ pub fn share_reply<S: Shares>(
         (given_after (row_of call.now) again member p result) }
 {
     match call {
-        Call::LoopStart(desc) => gomp_loops::loop_start(shares, member, limits, desc),
+        Call::LoopStart(_) => {
+            let Some(shape) = starts else {
+                unreachable!()
+            };
+            gomp_loops::begin_loop(shares, member, shape)
+        }
         Call::LoopNext => gomp_loops::loop_next(shares, member),
         Call::LoopEndNowait => gomp_loops::loop_end_nowait(shares, member),
-        Call::SectionsStart { count, end_kind } => {
-            gomp_sections::sections_start(shares, member, limits, *count, *end_kind)
+        Call::SectionsStart { .. } => {
+            let Some(shape) = starts else {
+                unreachable!()
+            };
+            gomp_sections::begin_sections(shares, member, shape)
         }
         Call::SectionsNext => gomp_sections::sections_next(shares, member),
         Call::SectionsEndNowait => gomp_sections::sections_end_nowait(shares, member),

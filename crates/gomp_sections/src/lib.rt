@@ -21,5 +21,7 @@ pub mod own;
 pub mod sections;
 pub mod single;
 
-pub use sections::{sections_end, sections_end_nowait, sections_next, sections_start};
+pub use sections::{
+    begin_sections, sections_end, sections_end_nowait, sections_next, sections_start,
+};
 pub use single::{single_copy_end, single_copy_start, single_start};

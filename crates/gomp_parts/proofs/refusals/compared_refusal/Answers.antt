@@ -1,41 +1,28 @@
 use Rattle.std.proofs.Common.{◌≡◌, subst, refl, inl, inr}
 use Rattle.gomp_types.specs.declared.shape.Shape.{Shape}
-use Rattle.gomp_types.specs.Tests.{first_refusal}
-use Rattle.gomp_types.specs.Iterations.{loop_tests}
-use Rattle.gomp_types.specs.Sections.{sections_tests, sections_shape}
-use Rattle.gomp_types.specs.Pieces.{shape_of}
 use Rattle.gomp_types.specs.Least.{least}
 use Rattle.gomp_shares.specs.Starts.{compared_share}
-use Rattle.gomp_parts.proofs.Refused.{shape_refused, shape_told}
+use Rattle.gomp_parts.proofs.Refused.{own_share, no_share}
 use Rattle.gomp_parts.proofs.refusals.compared_refusal.Goals as goal
 
+-- a call that starts a share has its shape
 pub unreachable-requires : goal.unreachable-requires
 unreachable-requires g c =
-    let place = rw c.in-LoopStart.is at c.requires.place in
-    let seen = g.S.Shares.seen c.args.shares.now c.args.member in
-    let (limits, none) = place refl in
-    shape_refused (loop_tests c.in-LoopStart.desc) limits seen (shape_of c.in-LoopStart.desc) c.shape.result c.in_default.field-0 none c.shape.ensures.shape c.in_default.is
-
-pub unreachable-requires-in_default-sections_shape : goal.unreachable-requires-in_default-sections_shape
-unreachable-requires-in_default-sections_shape g c =
-    let place = rw c.in-SectionsStart.is at c.requires.place in
-    let seen = g.S.Shares.seen c.args.shares.now c.args.member in
-    let (limits, none) = place refl in
-    shape_refused (sections_tests c.in-SectionsStart.count) limits seen (sections_shape c.in-SectionsStart.count c.in-SectionsStart.end_kind) c.sections_shape.result c.in_default-sections_shape.field-0 none c.sections_shape.ensures.shape c.in_default-sections_shape.is
+    elim c.in-LoopStart.is [
+      | inl is ↦ no_share c.args.starts.now _ c.in_default.is (rw is.1 at c.requires.starts)
+      | inr other ↦ elim other [
+        | inl is ↦ no_share c.args.starts.now _ c.in_default.is (rw is.2 at c.requires.starts)
+        | inr other ↦ elim other [
+          | inl is ↦ no_share c.args.starts.now _ c.in_default.is (rw is at c.requires.starts)
+          | inr is ↦ no_share c.args.starts.now _ c.in_default.is (rw is at c.requires.starts)
+        ]
+      ]
+    ]
 
 -- Nothing changes
 
-pub returns-in-Ok-clause-kept : goal.returns-in-Ok-clause-kept
-returns-in-Ok-clause-kept g c = c.share_refusal.ensures.kept
-
-pub returns-in-Ok-sections_shape-clause-kept : goal.returns-in-Ok-sections_shape-clause-kept
-returns-in-Ok-sections_shape-clause-kept g c = c.share_refusal-in-SectionsStart.ensures.kept
-
-pub returns-in-SingleStart-clause-kept : goal.returns-in-SingleStart-clause-kept
-returns-in-SingleStart-clause-kept g c = c.share_refusal-in-SingleStart.ensures.kept
-
-pub returns-in-SingleCopyStart-clause-kept : goal.returns-in-SingleCopyStart-clause-kept
-returns-in-SingleCopyStart-clause-kept g c = c.share_refusal-in-SingleCopyStart.ensures.kept
+pub returns-in-Some-clause-kept : goal.returns-in-Some-clause-kept
+returns-in-Some-clause-kept g c = c.share_refusal.ensures.kept
 
 pub returns-in-Barrier-clause-kept : goal.returns-in-Barrier-clause-kept
 returns-in-Barrier-clause-kept g c = refl
@@ -54,15 +41,19 @@ returns-in-LoopEnd-clause-kept g c = refl
 
 -- The comparison
 
-pub returns-in-Ok-clause-compared : goal.returns-in-Ok-clause-compared
-returns-in-Ok-clause-compared g c = λ p both.
-    let told = shape_told (first_refusal (loop_tests c.in-LoopStart.desc)) (shape_of c.in-LoopStart.desc) c.in-Ok.shape c.shape.result c.shape.ensures.shape c.in-Ok.is in
-    rw c.in-LoopStart.is (subst (λ (shape : Shape). c.share_refusal.result ≡ least (compared_share shape c.args.member p.events)) told (c.share_refusal.ensures.compared p.events both.0))
-
-pub returns-in-Ok-sections_shape-clause-compared : goal.returns-in-Ok-sections_shape-clause-compared
-returns-in-Ok-sections_shape-clause-compared g c = λ p both.
-    let told = shape_told (first_refusal (sections_tests c.in-SectionsStart.count)) (sections_shape c.in-SectionsStart.count c.in-SectionsStart.end_kind) c.in-Ok-sections_shape.shape c.sections_shape.result c.sections_shape.ensures.shape c.in-Ok-sections_shape.is in
-    rw c.in-SectionsStart.is (subst (λ (shape : Shape). c.share_refusal-in-SectionsStart.result ≡ least (compared_share shape c.args.member p.events)) told (c.share_refusal-in-SectionsStart.ensures.compared p.events both.0))
+pub returns-in-Some-clause-compared : goal.returns-in-Some-clause-compared
+returns-in-Some-clause-compared g c = λ p both.
+    let compared : (own : Shape) → own ≡ c.in-Some.shape → c.share_refusal.result ≡ least (compared_share own c.args.member p.events) = λ own is. rw is (c.share_refusal.ensures.compared p.events both.0) in
+    elim c.in-LoopStart.is [
+      | inl is ↦ rw is.1 (compared _ (own_share c.args.starts.now c.in-Some.shape _ c.in-Some.is (rw is.1 at c.requires.starts)))
+      | inr other ↦ elim other [
+        | inl is ↦ rw is.2 (compared _ (own_share c.args.starts.now c.in-Some.shape _ c.in-Some.is (rw is.2 at c.requires.starts)))
+        | inr other ↦ elim other [
+          | inl is ↦ rw is (compared _ (own_share c.args.starts.now c.in-Some.shape _ c.in-Some.is (rw is at c.requires.starts)))
+          | inr is ↦ rw is (compared _ (own_share c.args.starts.now c.in-Some.shape _ c.in-Some.is (rw is at c.requires.starts)))
+        ]
+      ]
+    ]
 
 pub returns-in-Barrier-clause-compared : goal.returns-in-Barrier-clause-compared
 returns-in-Barrier-clause-compared g c = λ p both. rw c.in-Barrier.is (c.arrival_refusal.ensures.compared p.events both)
