@@ -1,6 +1,6 @@
 -- Each layer's refusal is the least of its tests, and the least of these is the step's.
 use Rattle.std.proofs.Common.{◌≡◌, ◌≤◌, ℕ, Bool, true, false, List, ◌∷◌, Option, Some, None, refl, ap, sym, ◌∙◌, arith}
-use Rattle.std.specs.Prelude.{nat_le, is_some}
+use Rattle.std.specs.Prelude.{nat_le, is_some, Result, Ok, Err, IfOk}
 use Rattle.std.proofs.lemmas.Bool.Decides.{nat_tests}
 use Rattle.gomp_types.specs.declared.call.Call.{Call}
 use Rattle.gomp_types.specs.declared.call.Call.TheVariants.{Resume, Stop}
@@ -82,3 +82,10 @@ wait_none _ waiting e = rw e refl
 pub step_refused : (p : Past) (step : Step) (member wait row : Option Refusal) → member ≡ least (member_tests p.terms.members step.member p.events) → wait ≡ least (wait_tests step.call (p.waits step.member)) →
     row ≡ least (row_tests (is_resume step.call) (row_at p step) step.member p) → lesser member (lesser wait row) ≡ refusal_of p step
 step_refused p step member wait row one two three = rw (one, two, three) (sym (step_layers p step))
+
+-- what a call was admitted to stays so where nothing else refuses it
+pub still_admitted : {A : Type 0} (P : A → Type 0) (own wait all : Result A Refusal) → IfOk all (λ found. wait ≡ Ok found) → IfOk wait (λ found. own ≡ Ok found) → IfOk own P → IfOk all P
+still_admitted P own wait (Ok found) same waited may =
+    let here : own ≡ Ok found = rw same at waited in
+    rw here at may
+still_admitted P own wait (Err refusal) same waited may = tt

@@ -10,10 +10,11 @@ ghost use Rattle.gomp_types.specs.declared.call.Call.TheVariants.{Resume};
 ghost use Rattle.gomp_types.specs.declared.event.Event.{Event};
 ghost use Rattle.gomp_types.specs.Events.{clash_of};
 ghost use Rattle.gomp_laws.specs.Headline.{Headline};
+ghost use Rattle.std.specs.Result.{result_err};
 ghost use Rattle.gomp_types.specs.Least.{least};
 ghost use Rattle.gomp_model.specs.Team.{Record, row_at, meant, is_resume, member_tests, wait_tests, wait_after, refusal_of, MayAnswer, events};
 ghost use Rattle.gomp_barrier.specs.Stands.{Stands as BarriersStand, members_of as barrier_members};
-ghost use Rattle.gomp_parts.specs.Answers.{broken_after};
+ghost use Rattle.gomp_parts.specs.Answers.{StartsShare, broken_after};
 ghost use Rattle.gomp_core.specs.Stands.{Stands, past, terms_of, members_of};
 ghost use Rattle.gomp_core.specs.Resolved.{resolved_call, resolved_step};
 
@@ -21,9 +22,9 @@ use gomp_barrier::Barriers;
 use gomp_icv::Icv;
 use gomp_laws::laws;
 use gomp_parts::answer::answer;
-use gomp_parts::{Payloads, call_refusal, lesser, place_of};
+use gomp_parts::{Payloads, admit_call, place_of, unless_refused};
 use gomp_shares::Shares;
-use gomp_types::{Call, Clash, Limits, Place, Refusal, Reply, is_team_size};
+use gomp_types::{Call, Clash, Limits, Place, Refusal, Reply, Shape, is_team_size};
 use std::alloc::{AllocError, Global};
 use std::marker::Model;
 
@@ -173,8 +174,8 @@ impl<S: Shares> Team<S> {
     {
         laws::first_refused();
         gomp_barrier::aside();
-        match self.refusal(member, &call) {
-            None => {
+        match self.admit(member, &call) {
+            Ok(starts) => {
                 let waiting = self.waiting[member as usize].take();
                 let reply = answer(
                     &mut self.shares,
@@ -183,13 +184,14 @@ impl<S: Shares> Team<S> {
                     &self.limits,
                     member,
                     meant(&call, &waiting),
+                    &starts,
                     is_resume(&call),
                 );
                 self.broken = broken_after(self.broken, member, &reply);
                 self.waiting[member as usize] = wait_after(&reply, call, waiting);
                 reply
             }
-            Some(refusal) => {
+            Err(refusal) => {
                 if let Refusal::Mismatch = refusal {
                     let place = self.place(member, &call);
                     self.broken = Some(Clash { member, place });
@@ -214,20 +216,25 @@ impl<S: Shares> Team<S> {
         laws::headline();
     }
 
-    /// Why the step is refused: of its tests that hold the refusal with the least number.
-    fn refusal(&mut self, member: u16, call: &Call) -> Option<Refusal>
+    /// The shape of the share that the step starts, if it starts one; or why it is refused: of its tests
+    /// that hold the refusal with the least number.
+    fn admit(&mut self, member: u16, call: &Call) -> Result<Option<Shape>, Refusal>
         ensures kept { self.new ≡ self.old }
         ensures least { (before : Record) → Stands S.stands S.members self.old before →
-            result ≡ refusal_of (past self.old before)
+            result_err result ≡ refusal_of (past self.old before)
             (record { member = member; call = call.now }) }
+        ensures starts { (before : Record) → Stands S.stands S.members self.old before →
+            IfOk result (StartsShare
+            (row_at (past self.old before) (record { member = member; call = call.now }))
+            (S.seen self.old.shares member)) }
     {
         if member as usize >= self.waiting.len() {
-            return Some(Refusal::BadMember);
+            return Err(Refusal::BadMember);
         }
         let waiting = &self.waiting[member as usize];
         let by_member = member_refusal(&self.barriers, self.broken, member);
         let by_wait = wait_refusal(call, waiting);
-        let by_call = call_refusal(
+        let by_call = admit_call(
             &mut self.shares,
             &self.barriers,
             &self.limits,
@@ -235,7 +242,7 @@ impl<S: Shares> Team<S> {
             meant(call, waiting),
             is_resume(call),
         );
-        lesser(by_member, lesser(by_wait, by_call))
+        unless_refused(by_member, unless_refused(by_wait, by_call))
     }
 
     /// Where the team breaks if the call, or the one that it repeats, is another than other members'.

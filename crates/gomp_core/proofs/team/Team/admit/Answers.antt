@@ -1,14 +1,18 @@
 use Rattle.std.proofs.Common.{◌≡◌, ◌∙◌, ℕ, ◌<◌, ◌≤◌, Option, length, refl, ap, sym, subst, arith}
+use Rattle.std.specs.Prelude.{IfOk}
+use Rattle.std.specs.Result.{result_err}
 use Rattle.std.proofs.lemmas.Option.{slice_get_read}
 use Rattle.gomp_types.specs.declared.call.Call.{Call}
 use Rattle.gomp_types.specs.declared.call.Step.{Step}
 use Rattle.gomp_types.specs.Least.{lesser, least}
-use Rattle.gomp_model.specs.Team.{meant, member_tests, wait_tests, refusal_of}
+use Rattle.gomp_model.specs.Team.{meant, member_tests, wait_tests, refusal_of, row_at}
 use Rattle.gomp_core.specs.Stands.{TeamView, past, terms_of, members_of}
-use Rattle.gomp_core.proofs.Refused.{bad_member, step_refused}
+use Rattle.gomp_model.specs.Calls.{row_of}
+use Rattle.gomp_parts.specs.Answers.{StartsShare}
+use Rattle.gomp_core.proofs.Refused.{bad_member, step_refused, still_admitted}
 use Rattle.gomp_core.proofs.Waits.{same_members, same_limits, step_place}
 use Rattle.gomp_core.proofs.Stepping.{same_stands}
-use Rattle.gomp_core.proofs.team.Team.refusal.Goals as goal
+use Rattle.gomp_core.proofs.team.Team.admit.Goals as goal
 
 pub returns-then-member-len-clause-least : goal.returns-then-member-len-clause-least
 returns-then-member-len-clause-least g c = λ before st0.
@@ -16,8 +20,8 @@ returns-then-member-len-clause-least g c = λ before st0.
     let le : (past c.args.self.now before).terms.members ≤ c.args.member = let over = c.if-member-len.true in let len = c.len.ensures in omega arith in
     bad_member (past c.args.self.now before) (record { member = c.args.member; call = c.args.call.now }) le
 
-pub call_refusal-by_call-requires-clause-place : goal.call_refusal-by_call-requires-clause-place
-call_refusal-by_call-requires-clause-place g c = λ again stays.
+pub admit_call-by_call-requires-clause-place : goal.admit_call-by_call-requires-clause-place
+admit_call-by_call-requires-clause-place g c = λ again stays.
     let team : TeamView g.row.S.Denot = record { icv = c.self.inside.icv; limits = c.self.inside.limits; broken = c.self.inside.broken; waiting = c.self.inside.waiting.items; barriers = c.self.inside.barriers; payloads = c.self.inside.payloads; shares = c.self.inside.shares } in
     let (before, st) = c.self.invariant in
     let step : Step = record { member = c.args.member; call = c.args.call.now } in
@@ -38,5 +42,17 @@ returns-clause-least g c = λ before st0.
     let is = c.meant.ensures ∙ ap (meant c.args.call.now) (sym (st.wait c.args.member _ at)) in
     let by_member = c.member_refusal-by_member.ensures (past team before).events st.barriers_are st.broken_is ∙ ap (λ (n : ℕ). least (member_tests n c.args.member (past team before).events)) (st.barriers_size ∙ sym (same_members (terms_of team) before)) in
     let by_wait = c.wait_refusal-by_wait.ensures ∙ ap (λ (w : Option Call). least (wait_tests c.args.call.now w)) (sym (st.wait c.args.member _ at)) in
-    let by_call = rw (is, c.is_resume.ensures) at (c.call_refusal-by_call.ensures.least (past team before) (same_limits (terms_of team) before st.limits_are) (st.shares_are, st.barriers_are)) in
-    subst (λ (t : TeamView g.row.S.Denot). c.lesser-2.result ≡ refusal_of (past t before) step) c.self.view_is (c.lesser-2.ensures ∙ ap (lesser c.member_refusal-by_member.result) c.lesser.ensures ∙ step_refused (past team before) step c.member_refusal-by_member.result c.wait_refusal-by_wait.result c.call_refusal-by_call.result by_member by_wait by_call)
+    let by_call = rw (is, c.is_resume.ensures) at (c.admit_call-by_call.ensures.least (past team before) (same_limits (terms_of team) before st.limits_are) (st.shares_are, st.barriers_are)) in
+    subst (λ (t : TeamView g.row.S.Denot). result_err c.unless_refused-2.result ≡ refusal_of (past t before) step) c.self.view_is (c.unless_refused-2.ensures.least ∙ ap (lesser c.member_refusal-by_member.result) c.unless_refused.ensures.least ∙ step_refused (past team before) step c.member_refusal-by_member.result c.wait_refusal-by_wait.result (result_err c.admit_call-by_call.result) by_member by_wait by_call)
+
+pub returns-clause-starts : goal.returns-clause-starts
+returns-clause-starts g c = λ before st0.
+    let team : TeamView g.row.S.Denot = record { icv = c.self.inside.icv; limits = c.self.inside.limits; broken = c.self.inside.broken; waiting = c.self.inside.waiting.items; barriers = c.self.inside.barriers; payloads = c.self.inside.payloads; shares = c.self.inside.shares } in
+    let st = same_stands g.S.Shares.stands g.S.Shares.members team c.args.self.now before c.self.view_is st0 in
+    let step : Step = record { member = c.args.member; call = c.args.call.now } in
+    let lt : c.args.member < length c.self.inside.waiting.items = let under = c.if-member-len.false in let len = c.len.ensures in omega arith in
+    let at = slice_get_read c.self.inside.waiting.items _ c.args.member _ refl lt c.index-waiting.ensures in
+    let is = c.meant.ensures ∙ ap (meant c.args.call.now) (sym (st.wait c.args.member _ at)) in
+    let starts : IfOk c.admit_call-by_call.result (StartsShare (row_at (past team before) step) (g.S.Shares.seen team.shares c.args.member)) = rw is at c.admit_call-by_call.ensures.starts in
+    subst (λ (t : TeamView g.row.S.Denot). IfOk c.unless_refused-2.result (StartsShare (row_at (past t before) step) (g.S.Shares.seen t.shares c.args.member))) c.self.view_is
+    (still_admitted (StartsShare (row_at (past team before) step) (g.S.Shares.seen team.shares c.args.member)) c.admit_call-by_call.result c.unless_refused.result c.unless_refused-2.result c.unless_refused-2.ensures.admitted c.unless_refused.ensures.admitted starts)
