@@ -70,9 +70,7 @@ pub fn answer<S: Shares>(
         | Call::SingleCopyStart
         | Call::OrderedStart(_)
         | Call::OrderedEnd
-        | Call::Stop => {
-            share_reply(shares, payloads, limits, member, call, starts)
-        },
+        | Call::Stop => { share_reply(shares, payloads, limits, member, call, starts) },
         Call::Resume => unreachable!(),
     }
 }

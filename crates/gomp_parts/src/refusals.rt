@@ -105,12 +105,7 @@ fn admit_compared<S: Shares>(
 
 /// The shape of the share that a call which waits starts, if it starts one: its member has stayed in
 /// its place, so no test there refuses it.
-fn repeated_start<S: Shares>(
-    shares: &S,
-    limits: &Limits,
-    member: u16,
-    call: &Call,
-) -> Option<Shape>
+fn repeated_start<S: Shares>(shares: &S, limits: &Limits, member: u16, call: &Call) -> Option<Shape>
     requires member { member < S.members shares.now }
     requires place { (row_of call.now).stays ≡ true →
         least ((row_of call.now).by_place limits.now (S.seen shares.now member)) ≡ None }
@@ -251,9 +246,7 @@ fn compared_refusal<S: Shares>(
         | Call::SectionsStart { .. }
         | Call::SingleStart
         | Call::SingleCopyStart => {
-            let Some(shape) = starts else {
-                unreachable!()
-            };
+            let Some(shape) = starts else { unreachable!() };
             share_refusal(shares, member, shape)
         }
         Call::LoopEnd | Call::SectionsEnd => {

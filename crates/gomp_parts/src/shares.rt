@@ -49,17 +49,13 @@ pub fn share_reply<S: Shares>(
 {
     match call {
         Call::LoopStart(_) => {
-            let Some(shape) = starts else {
-                unreachable!()
-            };
+            let Some(shape) = starts else { unreachable!() };
             gomp_loops::begin_loop(shares, member, shape)
         }
         Call::LoopNext => gomp_loops::loop_next(shares, member),
         Call::LoopEndNowait => gomp_loops::loop_end_nowait(shares, member),
         Call::SectionsStart { .. } => {
-            let Some(shape) = starts else {
-                unreachable!()
-            };
+            let Some(shape) = starts else { unreachable!() };
             gomp_sections::begin_sections(shares, member, shape)
         }
         Call::SectionsNext => gomp_sections::sections_next(shares, member),

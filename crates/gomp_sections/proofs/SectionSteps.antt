@@ -122,9 +122,10 @@ first_least members m i shape answer h kind claims =
 
 pub sections_dealt : (members m : ℕ) (shape : Shape) (answer : Option Piece) (h : List Event) → shape.kind ≡ kinds.Sections → MayOpen members m shape Entered h → Claims members m answer (Enter (entered m h) m shape ∷ h) →
     AnswersBegin shape DealsSections members m (Section (section_of answer)) h
-sections_dealt members m shape answer h kind may claims =
-    (begin_compared shape m h false may.0,
-    (may.1, section_dealt members m (entered m h, shape) answer h (first_least members m (entered m h) shape answer h kind claims) (first_section members m (entered m h) shape answer h kind claims)))
+sections_dealt members m shape answer h kind may claims = (
+  begin_compared shape m h false may.0,
+  (may.1, section_dealt members m (entered m h, shape) answer h (first_least members m (entered m h) shape answer h kind claims) (first_section members m (entered m h) shape answer h kind claims)),
+)
 
 -- the first one's taking, after the entry, is what the shares add
 first_adds : (m : ℕ) (shape : Shape) (answer : Option Piece) (h : List Event) → IsSection answer → sections_begun shape m (Section (section_of answer)) h ≡ claimed m answer (Enter (entered m h) m shape ∷ h)

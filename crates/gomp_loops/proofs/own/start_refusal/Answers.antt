@@ -10,5 +10,5 @@ use Rattle.gomp_loops.proofs.own.start_refusal.Goals as goal
 pub returns : goal.returns
 returns c = record {
   first = c.err.ensures.value ∙ ap result_err c.admit_start.ensures.first
-    ∙ outcome_err (first_refusal (start_tests (loop_tests c.args.desc.now) c.args.limits.now c.args.seen.now)) (shape_of c.args.desc.now);
+      ∙ outcome_err (first_refusal (start_tests (loop_tests c.args.desc.now) c.args.limits.now c.args.seen.now)) (shape_of c.args.desc.now);
 }
