@@ -26,9 +26,9 @@ use Rattle.gomp_model.specs.Team.{Record, record_after, meant, is_resume, row_at
 use Rattle.gomp_barrier.specs.Stands.{BarriersView, Stands as BarriersStand, members_of as barrier_members}
 use Rattle.gomp_laws.proofs.Sound.{Gives, gives_of, IsLast, breaks}
 use Rattle.gomp_laws.proofs.Steps.{step_keeps}
-use Rattle.gomp_laws.proofs.Known.{passes}
+use Rattle.gomp_laws.proofs.Known.{unrefused_step_passes}
 use Rattle.gomp_laws.proofs.Layers.{step_layers}
-use Rattle.gomp_laws.proofs.Calls.{sound}
+use Rattle.gomp_laws.proofs.Calls.{row_is_sound}
 use Rattle.gomp_icv.specs.Variables.{Variables}
 use Rattle.gomp_parts.specs.declared.payloads.Put.{Put}
 use Rattle.gomp_parts.specs.Payloads.{PayloadsStand}
@@ -149,11 +149,11 @@ refused_memory p step refusal may is same = cc
 -- An answer
 
 pub may_answer : (p : Past) (step : Step) (reply : Reply) → refusal_of p step ≡ None → MayReply (row_at p step) (is_resume step.call) step.member p reply → MayAnswer p step reply
-may_answer p step (Refused refusal) none may = absurd ((sound (meant step.call (p.waits step.member))).accepts step.member _ refusal may)
+may_answer p step (Refused refusal) none may = absurd ((row_is_sound (meant step.call (p.waits step.member))).accepts step.member _ refusal may)
 may_answer p step reply none may = (none, may)
 
 pub never_refused : (p : Past) (step : Step) (refusal : Refusal) (reply : Reply) → MayReply (row_at p step) (is_resume step.call) step.member p reply → reply ≡ Refused refusal → ⊥
-never_refused p step refusal (Refused other) may same = (sound (meant step.call (p.waits step.member))).accepts step.member _ other may
+never_refused p step refusal (Refused other) may same = (row_is_sound (meant step.call (p.waits step.member))).accepts step.member _ other may
 never_refused p step refusal _ may same = cc
 
 -- a reply that breaks nothing leaves the team as whole as it was
@@ -164,7 +164,7 @@ last_whole can m reply _ h after whole by same = same
 clash_kept : (call : Call) (again : Bool) (m : ℕ) (p : Past) (reply : Reply) → breaks reply ≡ false → MayReply (row_of call) again m p reply → clash_of (given_after (row_of call) again m p reply) ≡ clash_of p.events
 clash_kept call again m p reply whole may =
     subst (λ (h : List Event). clash_of h ≡ clash_of p.events) (events_given call again m p reply may)
-    (step_keeps (row_of call) (sound call) again m p reply (λ h. clash_of h ≡ clash_of p.events) (λ event h by same. last_whole (gives_of (row_of call)) m reply event p.events h whole by same) refl)
+    (step_keeps (row_of call) (row_is_sound call) again m p reply (λ h. clash_of h ≡ clash_of p.events) (λ event h by same. last_whole (gives_of (row_of call)) m reply event p.events h whole by same) refl)
 
 stops_there : (call : Call) (again : Bool) (m : ℕ) (p : Past) (broken : Option Clash) → call ≡ Stop → clash_of p.events ≡ None → broken_after broken m Stopped ≡ clash_of (given_after (row_of call) again m p Stopped)
 stops_there call again m p broken stop whole = rw stop (rw whole refl)
@@ -172,7 +172,7 @@ stops_there call again m p broken stop whole = rw stop (rw whole refl)
 clash_after : (call : Call) (again : Bool) (m : ℕ) (p : Past) (reply : Reply) (broken : Option Clash) → MayReply (row_of call) again m p reply → (reply ≡ Stopped → call ≡ Stop) → broken ≡ clash_of p.events → clash_of p.events ≡ None →
     broken_after broken m reply ≡ clash_of (given_after (row_of call) again m p reply)
 clash_after call again m p Stopped broken may stops is whole = stops_there call again m p broken (stops refl) whole
-clash_after call again m p (Refused refusal) broken may stops is whole = absurd ((sound call).accepts m _ refusal may)
+clash_after call again m p (Refused refusal) broken may stops is whole = absurd ((row_is_sound call).accepts m _ refusal may)
 clash_after call again m p reply broken may stops is whole = is ∙ sym (clash_kept call again m p reply refl may)
 
 whole_tests : (clash : Option Clash) → AllFail (broken_tests clash) → clash ≡ None
@@ -180,7 +180,7 @@ whole_tests None fail = refl
 whole_tests (Some clash) fail = absurd (let broken = fail.0 in cc)
 
 pub whole_now : (p : Past) (step : Step) → refusal_of p step ≡ None → clash_of p.events ≡ None
-whole_now p step none = whole_tests (clash_of p.events) (passes p step none).member.1.1
+whole_now p step none = whole_tests (clash_of p.events) (unrefused_step_passes p step none).member.1.1
 
 -- the team with what an answer to this step leaves
 abbrev pub team_after : {S : Type 0} → TeamView S → S → BarriersView → List (Option Put) → Step → Option Call → Reply → TeamView S
@@ -290,6 +290,6 @@ pub waits_on : {S : Type 0} (team : TeamView S) (shares : S) (barriers : Barrier
     slice_get team.waiting step.member ≡ Some waiting → p.waits step.member ≡ waiting → refusal_of p step ≡ None → ArePartsKept team.shares team.barriers team.payloads shares barriers payloads → reply ≡ Wait → step.call ≡ Resume →
     team_after team shares barriers payloads step waiting reply ≡ team
 waits_on team shares barriers payloads p step waiting reply at is none parts same resume =
-    let fail = compared_fails step.member p step.call (p.waits step.member) resume (passes p step none).row in
+    let fail = compared_fails step.member p step.call (p.waits step.member) resume (unrefused_step_passes p step none).row in
     let stays : wait_after Wait step.call waiting ≡ waiting = rw (← is) (open_again step.member p step.call (p.waits step.member) fail resume) in
     rw (same, parts.0, parts.1, parts.2, stays, set_there team.waiting step.member waiting at) refl

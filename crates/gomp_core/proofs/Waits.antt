@@ -20,7 +20,7 @@ use Rattle.gomp_model.specs.Row.{since}
 use Rattle.gomp_model.specs.Calls.{row_of}
 use Rattle.gomp_model.specs.Team.{Record, meant, is_resume, row_at, refusal_of, MayAnswer, wait_after, past_of, Caused}
 use Rattle.gomp_laws.proofs.Sound.{shows}
-use Rattle.gomp_laws.proofs.Known.{Pending, known_of, same_terms, ready}
+use Rattle.gomp_laws.proofs.Known.{Pending, known_of, same_terms, unrefused_step_is_ready}
 use Rattle.gomp_parts.specs.Answers.{in_place, IsReady}
 use Rattle.gomp_core.proofs.Refused.{bad_member}
 
@@ -73,7 +73,7 @@ pub step_ready : (terms : Terms) (run : Record) (step : Step) (members : ℕ) (l
     IsReady (row_at (past_of terms run) step) members limits (is_resume step.call) step.member (past_of terms run)
 step_ready terms run step members limits caused small size bounds none =
     let p = past_of terms run in
-    let known = ready p step none (known_of terms run caused) in
+    let known = unrefused_step_is_ready p step none (known_of terms run caused) in
     let row = row_at p step in
     let is : p.terms.limits ≡ limits = same_limits terms run small ∙ sym bounds in
     record {

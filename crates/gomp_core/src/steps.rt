@@ -11,7 +11,6 @@ ghost use Rattle.gomp_core.specs.Resolved.{record_of};
 
 use crate::team::Team;
 use gomp_icv::Icv;
-use gomp_laws::laws;
 use gomp_shares::Shares;
 use gomp_types::{Refusal, Reply, Step};
 use std::alloc::Global;
@@ -51,7 +50,6 @@ pub fn run<S: Shares + Drop>(
     ensures headline { IfOk result (λ ran. Headline count
         (events (standard_terms count icv) (record_of icv steps.items ran.1.items))) }
 {
-    laws::headline();
     let mut team = Team::new(alloc, count, icv)?;
     match Vec::with_capacity(alloc, steps.len()) {
         Ok(mut replies) => {

@@ -20,7 +20,6 @@ ghost use Rattle.gomp_core.specs.Resolved.{resolved_call, resolved_step};
 
 use gomp_barrier::Barriers;
 use gomp_icv::Icv;
-use gomp_laws::laws;
 use gomp_parts::answer::answer;
 use gomp_parts::{Payloads, admit_call, place_of, unless_refused};
 use gomp_shares::Shares;
@@ -172,7 +171,6 @@ impl<S: Shares> Team<S> {
             Stands S.stands S.members self.new
             ((record { member = member; call = call }, result) ∷ before) }
     {
-        laws::first_refused();
         gomp_barrier::aside();
         match self.admit(member, &call) {
             Ok(starts) => {
@@ -203,7 +201,7 @@ impl<S: Shares> Team<S> {
     }
 
     /// Whatever was asked, the headline holds of each record that the team stands for
-    /// (`laws::headline` of gomp_laws): no iteration, section or single is taken twice, what all
+    /// (proofs/Laws.antt of gomp_laws): no iteration, section or single is taken twice, what all
     /// members left was all taken, ordered parts run in order, words are copied as they were put, and
     /// no member passes a barrier early.
     pub fn laws(&self)
@@ -213,7 +211,6 @@ impl<S: Shares> Team<S> {
             Headline (members_of self.now) (events (terms_of self.now) before) }
     {
         let _ = &self.waiting;
-        laws::headline();
     }
 
     /// The shape of the share that the step starts, if it starts one; or why it is refused: of its tests

@@ -57,21 +57,21 @@ stop_sound = record {
   words_keep = λ puts again m p reply ready may all. absurd (cc);
 }
 
-pub sound : (call : Call) → IsSound (row_of call)
-sound (LoopStart loop) = loop_start_sound loop
-sound LoopNext = loop_next_sound
-sound LoopEnd = loop_end_sound
-sound LoopEndNowait = loop_end_nowait_sound
-sound (SectionsStart count end_kind) = sections_start_sound count end_kind
-sound SectionsNext = sections_next_sound
-sound SectionsEnd = sections_end_sound
-sound SectionsEndNowait = sections_end_nowait_sound
-sound SingleStart = single_start_sound
-sound SingleCopyStart = single_copy_start_sound
-sound (SingleCopyEnd payload) = single_copy_end_sound payload
-sound (OrderedStart value) = ordered_start_sound value
-sound OrderedEnd = ordered_end_sound
-sound Barrier = barrier_sound
-sound RegionEnd = region_end_sound
-sound Stop = stop_sound
-sound Resume = resume_sound
+pub row_is_sound : (call : Call) → IsSound (row_of call)
+row_is_sound (LoopStart loop) = loop_start_sound loop
+row_is_sound LoopNext = loop_next_sound
+row_is_sound LoopEnd = loop_end_sound
+row_is_sound LoopEndNowait = loop_end_nowait_sound
+row_is_sound (SectionsStart count end_kind) = sections_start_sound count end_kind
+row_is_sound SectionsNext = sections_next_sound
+row_is_sound SectionsEnd = sections_end_sound
+row_is_sound SectionsEndNowait = sections_end_nowait_sound
+row_is_sound SingleStart = single_start_sound
+row_is_sound SingleCopyStart = single_copy_start_sound
+row_is_sound (SingleCopyEnd payload) = single_copy_end_sound payload
+row_is_sound (OrderedStart value) = ordered_start_sound value
+row_is_sound OrderedEnd = ordered_end_sound
+row_is_sound Barrier = barrier_sound
+row_is_sound RegionEnd = region_end_sound
+row_is_sound Stop = stop_sound
+row_is_sound Resume = resume_sound

@@ -19,34 +19,34 @@ had_later : (share m : ℕ) (event : Event) (h : List Event) → ((payload : Lis
 had_later share m event h had = (had.0, elim had.1 [ inl put ↦ inl (inr put) | inr got ↦ inr (inr got) ])
 
 -- a member with a piece of its share took one
-pub took : (deal : Deal) (members m i : ℕ) (shape : Shape) (h : List Event) → Always (ShareRule deal members) h → open_share m h ≡ Some (i, shape) → is_some (last_piece m h) ≡ true →
+pub piece_was_taken : (deal : Deal) (members m i : ℕ) (shape : Shape) (h : List Event) → Always (ShareRule deal members) h → open_share m h ≡ Some (i, shape) → is_some (last_piece m h) ≡ true →
     (low high : ℕ) × Happened (Take i m low high) h
-took deal members m i shape [] all at piece = absurd (cc)
-took deal members m i shape (Enter share member other ∷ earlier) all at piece =
+piece_was_taken deal members m i shape [] all at piece = absurd (cc)
+piece_was_taken deal members m i shape (Enter share member other ∷ earlier) all at piece =
     elim (cases_Bool (member == m)) [
       | inl e ↦ absurd (let none = rw e at piece in cc)
-      | inr e ↦ let before = took deal members m i shape earlier all.1 (rw e at at) (rw e at piece) in (before.0, before.1, inr before.2)
+      | inr e ↦ let before = piece_was_taken deal members m i shape earlier all.1 (rw e at at) (rw e at piece) in (before.0, before.1, inr before.2)
     ]
-took deal members m i shape (Take share member low high ∷ earlier) all at piece =
+piece_was_taken deal members m i shape (Take share member low high ∷ earlier) all at piece =
     elim (cases_Bool (member == m)) [
       | inl e ↦
           let who = is_equal member m e in
           let there : open_share m earlier ≡ Some (share, all.0.shape) = rw (← who) all.0.inside in
           let number : share ≡ i = (share_is share i all.0.shape shape (sym there ∙ at)).0 in
           (low, high, inl (rw (who, number) refl))
-      | inr e ↦ let before = took deal members m i shape earlier all.1 at (rw e at piece) in (before.0, before.1, inr before.2)
+      | inr e ↦ let before = piece_was_taken deal members m i shape earlier all.1 at (rw e at piece) in (before.0, before.1, inr before.2)
     ]
-took deal members m i shape (Drained share member ∷ earlier) all at piece =
+piece_was_taken deal members m i shape (Drained share member ∷ earlier) all at piece =
     elim (cases_Bool (member == m)) [
       | inl e ↦ absurd (let none = rw e at piece in cc)
-      | inr e ↦ let before = took deal members m i shape earlier all.1 at (rw e at piece) in (before.0, before.1, inr before.2)
+      | inr e ↦ let before = piece_was_taken deal members m i shape earlier all.1 at (rw e at piece) in (before.0, before.1, inr before.2)
     ]
-took deal members m i shape (End share member ∷ earlier) all at piece =
+piece_was_taken deal members m i shape (End share member ∷ earlier) all at piece =
     elim (cases_Bool (member == m)) [
       | inl e ↦ absurd (let none = rw e at at in cc)
-      | inr e ↦ let before = took deal members m i shape earlier all.1 (rw e at at) piece in (before.0, before.1, inr before.2)
+      | inr e ↦ let before = piece_was_taken deal members m i shape earlier all.1 (rw e at at) piece in (before.0, before.1, inr before.2)
     ]
-took deal members m i shape (_ ∷ earlier) all at piece = let before = took deal members m i shape earlier all.1 at piece in (before.0, before.1, inr before.2)
+piece_was_taken deal members m i shape (_ ∷ earlier) all at piece = let before = piece_was_taken deal members m i shape earlier all.1 at piece in (before.0, before.1, inr before.2)
 
 -- where no words are, none were put
 never_put : (share n : ℕ) (words : List ℕ) (h : List Event) → payload_at share h ≡ None → Happened (Put share n words) h → ⊥
@@ -137,7 +137,7 @@ had_words share m (event ∷ earlier) e = had_later share m event earlier (had_w
 
 pub puts_once : (members : ℕ) (event : Event) (earlier : List Event) → TeamRule members event earlier → Always (ShareRule (schedule members) members) earlier → PutsOnce event earlier
 puts_once members (Put share m payload) earlier rule all =
-    let taken = took (schedule members) members m share rule.shape earlier all rule.inside rule.executor in
+    let taken = piece_was_taken (schedule members) members m share rule.shape earlier all rule.inside rule.executor in
     (rule.shape, taken.0, taken.1, rule.copies, inside_stands m share rule.shape earlier rule.inside, not_left members m share rule.shape earlier all rule.inside, taken.2, λ n other put. never_put share n other earlier rule.once put)
 puts_once members _ earlier rule all = tt
 

@@ -69,10 +69,10 @@ Held m piece h = (last_piece m h ≡ Some piece) × (holds_piece m h ≡ true)
 handed_later : (members share m : ℕ) (shape : Shape) (piece : Piece) (event : Event) (h : List Event) → HandedOn members share m shape piece h → HandedOn members share m shape piece (event ∷ h)
 handed_later members share m shape piece event h handed = (handed.0, inr handed.1, handed.2)
 
-still : (members share m : ℕ) (shape : Shape) (piece : Piece) (event : Event) (h : List Event) → last_piece m (event ∷ h) ≡ last_piece m h → holds_piece m (event ∷ h) ≡ holds_piece m h → HandedOn members share m shape piece h ⊎ Held m piece h →
+handed_or_held_stays : (members share m : ℕ) (shape : Shape) (piece : Piece) (event : Event) (h : List Event) → last_piece m (event ∷ h) ≡ last_piece m h → holds_piece m (event ∷ h) ≡ holds_piece m h → HandedOn members share m shape piece h ⊎ Held m piece h →
     HandedOn members share m shape piece (event ∷ h) ⊎ Held m piece (event ∷ h)
-still members share m shape piece event h last holds (inl handed) = inl (handed_later members share m shape piece event h handed)
-still members share m shape piece event h last holds (inr held) = inr (last ∙ held.0, holds ∙ held.1)
+handed_or_held_stays members share m shape piece event h last holds (inl handed) = inl (handed_later members share m shape piece event h handed)
+handed_or_held_stays members share m shape piece event h last holds (inr held) = inr (last ∙ held.0, holds ∙ held.1)
 
 none_held : (members share m : ℕ) (shape : Shape) (piece : Piece) (h : List Event) → holds_piece m h ≡ false → HandedOn members share m shape piece h ⊎ Held m piece h → HandedOn members share m shape piece h
 none_held members share m shape piece h none (inl handed) = handed
@@ -95,7 +95,7 @@ handed_or_held members m i low high shape (Enter share member other ∷ earlier)
           let next : share ≡ entered m earlier = rw (← is_equal member m e.0) all.0.number in
           let of_next : Happened (Take (entered m earlier) m low high) earlier = subst (λ (x : ℕ). Happened (Take x m low high) earlier) (sym number ∙ next) took in
           absurd (never_took (entered m earlier) m low high earlier (takes_below (schedule members) members m earlier (share_rules members earlier all.1)) of_next)
-      | inr e ↦ still members i m shape (low, high) (Enter share member other) earlier (rw e.0 refl) (rw e.0 refl) (handed_or_held members m i low high shape earlier all.1 e.1 ordered took)
+      | inr e ↦ handed_or_held_stays members i m shape (low, high) (Enter share member other) earlier (rw e.0 refl) (rw e.0 refl) (handed_or_held members m i low high shape earlier all.1 e.1 ordered took)
     ]
 handed_or_held members m i low high shape (Take share member from to ∷ earlier) all at ordered (inr took) =
     let before = handed_or_held members m i low high shape earlier all.1 at ordered took in
@@ -104,7 +104,7 @@ handed_or_held members m i low high shape (Take share member from to ∷ earlier
           let rule : MayTakeIn members share m from to earlier = rw (is_equal member m e) at all.0 in
           let same = (share_is share i rule.takes.shape shape (sym rule.takes.inside ∙ at)).1 in
           inl (handed_later members i m shape (low, high) (Take share member from to) earlier (none_held members i m shape (low, high) earlier (rule.handed_on (rw same ordered)) before))
-      | inr e ↦ still members i m shape (low, high) (Take share member from to) earlier (rw e refl) (rw e refl) before
+      | inr e ↦ handed_or_held_stays members i m shape (low, high) (Take share member from to) earlier (rw e refl) (rw e refl) before
     ]
 handed_or_held members m i low high shape (Drained share member ∷ earlier) all at ordered (inr took) =
     let before = handed_or_held members m i low high shape earlier all.1 at ordered took in
@@ -113,7 +113,7 @@ handed_or_held members m i low high shape (Drained share member ∷ earlier) all
           let rule : HasNoneIn members share m earlier = rw (is_equal member m e) at all.0 in
           let same = (share_is share i rule.done.shape shape (sym rule.done.inside ∙ at)).1 in
           inl (handed_later members i m shape (low, high) (Drained share member) earlier (none_held members i m shape (low, high) earlier (rule.handed_on (rw same ordered)) before))
-      | inr e ↦ still members i m shape (low, high) (Drained share member) earlier (rw e refl) refl before
+      | inr e ↦ handed_or_held_stays members i m shape (low, high) (Drained share member) earlier (rw e refl) refl before
     ]
 handed_or_held members m i low high shape (HandOn share member number ∷ earlier) all at ordered (inr took) =
     let before = handed_or_held members m i low high shape earlier all.1 at ordered took in
@@ -128,14 +128,14 @@ handed_or_held members m i low high shape (HandOn share member number ∷ earlie
                 let piece : slice_get (pieces_of members shape) (turn share earlier) ≡ Some (low, high) = rw (← same.1) (piece_of_turn members m share low high rule.shape earlier rule.next held.0) in
                 (number, inl (rw (who, same.0) refl), rw (hands_the_turn (schedule members) members m share number earlier (share_rules members earlier all.1) rule) piece)
           ])
-      | inr e ↦ still members i m shape (low, high) (HandOn share member number) earlier refl (rw e refl) before
+      | inr e ↦ handed_or_held_stays members i m shape (low, high) (HandOn share member number) earlier refl (rw e refl) before
     ]
 handed_or_held members m i low high shape (End share member ∷ earlier) all at ordered (inr took) =
     elim (tells (member == m) None (open_share m earlier) (Some (i, shape)) at) [
       | inl e ↦ absurd (let outside = e.1 in cc)
-      | inr e ↦ still members i m shape (low, high) (End share member) earlier refl refl (handed_or_held members m i low high shape earlier all.1 e.1 ordered took)
+      | inr e ↦ handed_or_held_stays members i m shape (low, high) (End share member) earlier refl refl (handed_or_held members m i low high shape earlier all.1 e.1 ordered took)
     ]
-handed_or_held members m i low high shape (event ∷ earlier) all at ordered (inr took) = still members i m shape (low, high) event earlier refl refl (handed_or_held members m i low high shape earlier all.1 at ordered took)
+handed_or_held members m i low high shape (event ∷ earlier) all at ordered (inr took) = handed_or_held_stays members i m shape (low, high) event earlier refl refl (handed_or_held members m i low high shape earlier all.1 at ordered took)
 
 -- so a member that leaves an ordered loop has handed on each piece that it took
 left_handed : (members share m low high : ℕ) (h : List Event) (rule : MayLeave members share m h) → Always (TeamRule members) h → rule.done.shape.ordered ≡ true → Happened (Take share m low high) h → HandedOn members share m rule.done.shape (low, high) h

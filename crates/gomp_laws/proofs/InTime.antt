@@ -22,7 +22,7 @@ use Rattle.gomp_model.specs.Team.{Record, meant, is_resume, row_at, broken_tests
 use Rattle.gomp_laws.proofs.Sound.{IsLast, AreGiven, gives_of, Gives}
 use Rattle.gomp_laws.proofs.Steps.{OwnKeeps, own_keeps, since_keeps}
 use Rattle.gomp_types.proofs.LeastTests.{some_stays, lesser_low}
-use Rattle.gomp_laws.proofs.Calls.{sound}
+use Rattle.gomp_laws.proofs.Calls.{row_is_sound}
 
 -- an event in a team that is not broken, of a member that is in the region
 abbrev pub InTime : Event → List Event → Type 0
@@ -80,7 +80,7 @@ answer_in_time p step reply may all =
     let go = step_goes p step (inl may.0) in
     let row = row_at p step in
     let again = is_resume step.call in
-    let s = sound (meant step.call (p.waits step.member)) in
+    let s = row_is_sound (meant step.call (p.waits step.member)) in
     let q = since again row step.member p in
     given_in_time (gives_of row) step.member reply (row.gives step.member q reply) q.events (s.gives_own step.member q reply)
     (since_keeps row s again step.member p (SoFar step.member) (goes_on (gives_of row) step.member) (go.0, go.1, all))

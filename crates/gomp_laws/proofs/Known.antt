@@ -26,7 +26,7 @@ use Rattle.gomp_model.specs.Calls.{stop_row, row_of}
 use Rattle.gomp_model.specs.Team.{Record, meant, is_resume, row_at, broken_tests, member_tests, wait_tests, refusal_of, MayAnswer, wait_after, after, before_all, past_of, events, Caused}
 use Rattle.gomp_laws.proofs.Sound.{shows, Ready, IsSound, Gives, gives_of, IsLast}
 use Rattle.gomp_laws.proofs.Steps.{step_keeps}
-use Rattle.gomp_laws.proofs.Calls.{sound}
+use Rattle.gomp_laws.proofs.Calls.{row_is_sound}
 use Rattle.gomp_laws.proofs.Places.{seen_other, SameBarriers, barriers_other, barriers_own, was_whole}
 
 -- What is known while a wait is open
@@ -107,8 +107,8 @@ pub record Passes (p : Past) (step : Step) : Type 0 where
   pub wait : AllFail (wait_tests step.call (p.waits step.member))
   pub row : AllFail (row_tests (is_resume step.call) (row_at p step) step.member p)
 
-pub passes : (p : Past) (step : Step) → refusal_of p step ≡ None → Passes p step
-passes p step fine =
+pub unrefused_step_passes : (p : Past) (step : Step) → refusal_of p step ≡ None → Passes p step
+unrefused_step_passes p step fine =
     let first = member_tests p.terms.members step.member p.events in
     let wait = wait_tests step.call (p.waits step.member) in
     let row = row_tests (is_resume step.call) (row_at p step) step.member p in
@@ -117,9 +117,9 @@ passes p step fine =
     record { member = fail_first first (wait ++ row) all; wait = fail_first wait row later; row = fail_later wait row later }
 
 -- so the call is ready
-pub ready : (p : Past) (step : Step) → refusal_of p step ≡ None → Known p → Ready (row_at p step) (is_resume step.call) step.member p
-ready p step fine known =
-    let all = passes p step fine in
+pub unrefused_step_is_ready : (p : Past) (step : Step) → refusal_of p step ≡ None → Known p → Ready (row_at p step) (is_resume step.call) step.member p
+unrefused_step_is_ready p step fine known =
+    let all = unrefused_step_passes p step fine in
     ready_by (row_at p step) (is_resume step.call) step.member p (is_member p.terms.members step.member all.member.0) all.row
     (λ again. pending_meant p.terms.limits step.member step.call (p.waits step.member) p.events again (known.pending step.member))
     (λ once arrives. first_meant step.call (p.waits step.member) (arrival (passed step.member p.events) step.member p.events ≡ None) once all.wait
@@ -142,13 +142,13 @@ since_rule row sound false m p ready all = rw (once_first (row.begins m p)) (sou
 
 -- a call that has begun keeps the rule
 pub begun_rule : (p : Past) (step : Step) → refusal_of p step ≡ None → Known p → Always (TeamRule p.terms.members) (since (is_resume step.call) (row_at p step) step.member p).events
-begun_rule p step fine known = since_rule (row_at p step) (sound (meant step.call (p.waits step.member))) (is_resume step.call) step.member p (ready p step fine known) known.rule
+begun_rule p step fine known = since_rule (row_at p step) (row_is_sound (meant step.call (p.waits step.member))) (is_resume step.call) step.member p (unrefused_step_is_ready p step fine known) known.rule
 
 answer_rule : (p : Past) (step : Step) (reply : Reply) → MayAnswer p step reply → Known p → Always (TeamRule p.terms.members) (after p step reply).events
 answer_rule p step (Refused Mismatch) may known = (tt, known.rule)
 answer_rule p step (Refused _) may known = known.rule
 answer_rule p step reply may known =
-    (sound (meant step.call (p.waits step.member))).gives_keep (is_resume step.call) step.member p reply (ready p step may.0 known) may.1 (begun_rule p step may.0 known)
+    (row_is_sound (meant step.call (p.waits step.member))).gives_keep (is_resume step.call) step.member p reply (unrefused_step_is_ready p step may.0 known) may.1 (begun_rule p step may.0 known)
 
 -- What stays known while a wait is open
 
@@ -168,8 +168,8 @@ answer_pending p step (Refused _) may known = known.pending step.member
 answer_pending p step Wait may known = λ stays.
     let row = row_at p step in
     subst (λ (h : List Event). AllFail (row.by_place p.terms.limits (seen_of step.member h)))
-    (sym (still_there row (sound (meant step.call (p.waits step.member))) stays (is_resume step.call) step.member p))
-    ((ready p step may.0 known).place (shown_first row (is_resume step.call) stays))
+    (sym (still_there row (row_is_sound (meant step.call (p.waits step.member))) stays (is_resume step.call) step.member p))
+    ((unrefused_step_is_ready p step may.0 known).place (shown_first row (is_resume step.call) stays))
 answer_pending p step _ may known = tt
 
 pending_after : (p : Past) (step : Step) (reply : Reply) (k : ℕ) → MayAnswer p step reply → Known p → Pending p.terms.limits k ((after p step reply).waits k) (after p step reply).events
@@ -177,7 +177,7 @@ pending_after p step reply k may known =
     elim (cases_Bool (step.member == k)) [
       | inl e ↦ rw e (subst (λ (x : ℕ). Pending p.terms.limits x (wait_after reply step.call (p.waits x)) (after p step reply).events) (is_equal step.member k e) (answer_pending p step reply may known))
       | inr e ↦ rw e (pending_same p.terms.limits k (p.waits k) p.events (after p step reply).events
-          (seen_other (row_at p step) (sound (meant step.call (p.waits step.member))) (is_resume step.call) k step.member p reply e) (known.pending k))
+          (seen_other (row_at p step) (row_is_sound (meant step.call (p.waits step.member))) (is_resume step.call) k step.member p reply e) (known.pending k))
     ]
 
 -- Arrivals
@@ -219,8 +219,8 @@ not_there : (p : Past) (step : Step) (reply : Reply) → refusal_of p step ≡ N
     clash_of (after p step reply).events ≡ None → arrival (passed step.member (after p step reply).events) step.member (after p step reply).events ≡ None
 not_there p step reply fine may known silent whole =
     let row = row_at p step in
-    let s = sound (meant step.call (p.waits step.member)) in
-    elim (repeats_or_stops step.call (p.waits step.member) (passes p step fine).wait silent) [
+    let s = row_is_sound (meant step.call (p.waits step.member)) in
+    elim (repeats_or_stops step.call (p.waits step.member) (unrefused_step_passes p step fine).wait silent) [
       | inl stop ↦ absurd (never_stopped p step.call (p.waits step.member) step.member reply stop may whole)
       | inr quiet ↦ stays_fresh step.member p.events (after p step reply).events (barriers_own row s (is_resume step.call) step.member p reply silent)
           (known.fresh step.member (was_whole row s (is_resume step.call) step.member p reply whole) quiet)
@@ -239,14 +239,14 @@ passed_there : (p : Past) (step : Step) → refusal_of p step ≡ None → Known
     arrival (passed step.member (after p step Passed).events) step.member (after p step Passed).events ≡ None
 passed_there p step fine known arrives =
     let q = since (is_resume step.call) (row_at p step) step.member p in
-    let one = (sound (meant step.call (p.waits step.member))).one_pass arrives step.member q in
+    let one = (row_is_sound (meant step.call (p.waits step.member))).one_pass arrives step.member q in
     rw one (pass_moves_on p.terms.members step.member q.events (begun_rule p step fine known))
 
 -- a call that arrives is answered by no other reply
 never_so : (p : Past) (step : Step) (reply : Reply) {P : Type 0} → is_some (row_at p step).arrives ≡ true → (row_at p step).may_reply step.member (since (is_resume step.call) (row_at p step) step.member p) reply →
     (reply ≡ Passed → ⊥) → (reply ≡ Wait → ⊥) → P
 never_so p step reply arrives may passes waits =
-    elim ((sound (meant step.call (p.waits step.member))).tells arrives step.member (since (is_resume step.call) (row_at p step) step.member p) reply may) [
+    elim ((row_is_sound (meant step.call (p.waits step.member))).tells arrives step.member (since (is_resume step.call) (row_at p step) step.member p) reply may) [
       | inl e ↦ absurd (passes e)
       | inr e ↦ absurd (waits e)
     ]
@@ -272,7 +272,7 @@ fresh_after p step reply k may known =
       | inl e ↦ rw e (subst (λ (x : ℕ). Fresh x (wait_after reply step.call (p.waits x)) (after p step reply).events) (is_equal step.member k e) (answer_fresh p step reply may known))
       | inr e ↦
           let row = row_at p step in
-          let s = sound (meant step.call (p.waits step.member)) in
+          let s = row_is_sound (meant step.call (p.waits step.member)) in
           rw e (λ whole quiet. stays_fresh k p.events (after p step reply).events (barriers_other row s (is_resume step.call) k step.member p reply e)
           (known.fresh k (was_whole row s (is_resume step.call) step.member p reply whole) quiet))
     ]
@@ -293,9 +293,9 @@ answer_words p step (Refused Mismatch) may known rule = λ k i own at single pie
 answer_words p step (Refused _) may known rule = known.words
 answer_words p step reply may known rule =
     let row = row_at p step in
-    let s = sound (meant step.call (p.waits step.member)) in
+    let s = row_is_sound (meant step.call (p.waits step.member)) in
     elim (cases_Bool row.puts) [
-      | inl puts ↦ s.words_keep puts (is_resume step.call) step.member p reply (ready p step may.0 known) may.1 known.rule
+      | inl puts ↦ s.words_keep puts (is_resume step.call) step.member p reply (unrefused_step_is_ready p step may.0 known) may.1 known.rule
       | inr none ↦ words_kept_by_row p.terms.members row s (is_resume step.call) step.member p reply none rule known.words
     ]
 

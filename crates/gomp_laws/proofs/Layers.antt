@@ -58,12 +58,12 @@ layers_repeated p step repeats =
     (row_repeated (is_resume step.call) (row_at p step) step.member p repeats)
 
 -- what one layer answers by its own tests is the call's answer where the tests of the others fail
-lesser_of_none : (one : Option Refusal) → lesser one None ≡ one
-lesser_of_none None = refl
-lesser_of_none (Some one) = refl
+lesser_beside_none : (one : Option Refusal) → lesser one None ≡ one
+lesser_beside_none None = refl
+lesser_beside_none (Some one) = refl
 
 rest_none : (place team compared : Option Refusal) → team ≡ None → compared ≡ None → lesser place (lesser team compared) ≡ place
-rest_none place team compared one two = rw (one, two) (lesser_of_none place)
+rest_none place team compared one two = rw (one, two) (lesser_beside_none place)
 
 place_alone : (row : Row) (m : ℕ) (p : Past) → least (row.by_team m p) ≡ None → least (row.compared false m p) ≡ None → least (row_tests false row m p) ≡ least (row.by_place p.terms.limits (seen_of m p.events))
 place_alone row m p team compared =

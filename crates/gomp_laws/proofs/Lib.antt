@@ -7,8 +7,10 @@ pub mod CopiesKeep
 pub mod EveryMemberExamples
 pub mod HandedOn
 pub mod Headline
+pub mod HeadlineExamples
 pub mod InTime
 pub mod Known
+pub mod Laws
 pub mod Layers
 pub mod Loops
 pub mod OneReply

@@ -173,8 +173,8 @@ in_turn : (ordered turned : Bool) → ordered ≡ true → (ordered && not turne
 in_turn true turned e go = not_false turned go
 in_turn false turned e go = absurd (cc)
 
-may_hand_on : (members m : ℕ) (share : ℕ × Shape) (h : List Event) → open_share m h ≡ Some share → in_part m h ≡ false → share.1.ordered ≡ true → must_wait members share m h ≡ false → MayHandOn members share.0 m (last_number members share m h) h
-may_hand_on members m share h at apart ordered go =
+member_with_turn_hands_on : (members m : ℕ) (share : ℕ × Shape) (h : List Event) → open_share m h ≡ Some share → in_part m h ≡ false → share.1.ordered ≡ true → must_wait members share m h ≡ false → MayHandOn members share.0 m (last_number members share m h) h
+member_with_turn_hands_on members m share h at apart ordered go =
     record { shape = share.1; inside = at; ordered = ordered; apart = apart; number = refl; next = in_turn share.1.ordered (has_turn members share m h) ordered go }
 
 -- what is handed on is there in an ordered loop alone
@@ -187,7 +187,7 @@ hand_keeps : (members m : ℕ) (share : ℕ × Shape) (reply : Reply) (h : List 
 hand_keeps members m share reply h at apart go moves may all =
     let number = last_number members share m h in
     by_ordered (λ events. Always (TeamRule members) (piece_given share.0 share.1 m reply ++ events)) share.1.ordered (HandOn share.0 m number) h
-    (λ e. piece_keeps members m share.0 share.1 reply h (HandOn share.0 m number ∷ h) refl at apart (λ ordered. rw (same_number m) refl) moves may (may_hand_on members m share h at apart e go, all))
+    (λ e. piece_keeps members m share.0 share.1 reply h (HandOn share.0 m number ∷ h) refl at apart (λ ordered. rw (same_number m) refl) moves may (member_with_turn_hands_on members m share h at apart e go, all))
     (λ e. piece_keeps members m share.0 share.1 reply h h refl at apart (λ ordered. absurd (not_both share.1.ordered ordered e)) moves may all)
 
 next_keeps : (members m : ℕ) (reply : Reply) (h : List Event) (own : Option (ℕ × Shape)) → open_share m h ≡ own → in_part m h ≡ false → DealsNext members m own reply h → Always (TeamRule members) h → Always (TeamRule members) (next_given members own m h reply ++ h)

@@ -10,7 +10,7 @@ use Rattle.gomp_model.specs.Past.{Past}
 use Rattle.gomp_model.specs.Row.{since}
 use Rattle.gomp_model.specs.Calls.{row_of}
 use Rattle.gomp_model.specs.Team.{meant, is_resume, row_at, refusal_of, MayRefuse, MayAnswer, OneReply}
-use Rattle.gomp_laws.proofs.Calls.{sound}
+use Rattle.gomp_laws.proofs.Calls.{row_is_sound}
 
 -- a refusal is want of memory, or that of the tests
 refused_by : (first : Option Refusal) (refusal : Refusal) (asks : Bool) → MayRefuse first refusal asks → (refusal ≡ NoMemory) ⊎ (first ≡ Some refusal)
@@ -36,4 +36,4 @@ one_answer p step (Refused x) (Refused y) may other = one_refusal (refusal_of p 
 one_answer p step (Refused x) b may other = inr (inl (ap Refused (only_memory (refusal_of p step) x (row_of step.call).memory may other.0)))
 one_answer p step a (Refused y) may other = inr (inr (ap Refused (only_memory (refusal_of p step) y (row_of step.call).memory other may.0)))
 one_answer p step a b may other =
-    inl ((sound (meant step.call (p.waits step.member))).decided step.member (since (is_resume step.call) (row_at p step) step.member p) a b may.1 other.1)
+    inl ((row_is_sound (meant step.call (p.waits step.member))).decided step.member (since (is_resume step.call) (row_at p step) step.member p) a b may.1 other.1)

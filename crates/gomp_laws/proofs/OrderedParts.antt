@@ -95,15 +95,15 @@ ordered_start_sound value = record {
 }
 
 -- a part that is open may end
-part_end_rule : (m : ℕ) (h : List Event) (own : Option (ℕ × Shape)) → open_share m h ≡ own → in_kind is_loop own ≡ true → in_part m h ≡ true → MayEndPart (share_number own) m h
-part_end_rule m h None at there within = absurd (cc)
-part_end_rule m h (Some share) at there within = record { shape = share.1; inside = at; within = within }
+open_part_may_end : (m : ℕ) (h : List Event) (own : Option (ℕ × Shape)) → open_share m h ≡ own → in_kind is_loop own ≡ true → in_part m h ≡ true → MayEndPart (share_number own) m h
+open_part_may_end m h None at there within = absurd (cc)
+open_part_may_end m h (Some share) at there within = record { shape = share.1; inside = at; within = within }
 
 pub ordered_end_sound : IsSound ordered_end_row
 ordered_end_sound = at_once_sound part_end_tests part_ended (record {
   own = λ m h. (refl, tt);
   keep = λ m p ready all.
       let within = not_false (in_part m p.events) (ready.place refl).0 in
-      (part_end_rule m p.events (open_share m p.events) refl (parts_in_loop (schedule p.terms.members) p.terms.members m p.events (share_rules p.terms.members p.events all) within) within, all);
+      (open_part_may_end m p.events (open_share m p.events) refl (parts_in_loop (schedule p.terms.members) p.terms.members m p.events (share_rules p.terms.members p.events all) within) within, all);
   no_memory = λ seen. refl;
 })

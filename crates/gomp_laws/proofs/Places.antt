@@ -64,10 +64,10 @@ never_arrives can silent reply m h _ after by same = record { number = same.numb
 pub barriers_own : (row : Row) → IsSound row → (again : Bool) (m : ℕ) (p : Past) (reply : Reply) → is_some row.arrives ≡ false → SameBarriers m p.events (events_after again row m p reply)
 barriers_own row sound again m p reply silent = step_keeps row sound again m p reply (SameBarriers m p.events) (never_arrives (gives_of row) silent reply m p.events) (same_barriers m p.events)
 
-whole_before : (can : Gives) (reply : Reply) (m : ℕ) (h : List Event) → LastKeeps can m reply (λ after. clash_of after ≡ None → clash_of h ≡ None)
-whole_before can reply m h (Break n place) after by before = λ none. absurd (cc)
-whole_before can reply m h _ after by before = before
+unbroken_before : (can : Gives) (reply : Reply) (m : ℕ) (h : List Event) → LastKeeps can m reply (λ after. clash_of after ≡ None → clash_of h ≡ None)
+unbroken_before can reply m h (Break n place) after by before = λ none. absurd (cc)
+unbroken_before can reply m h _ after by before = before
 
 -- a team that is not broken was not
 pub was_whole : (row : Row) → IsSound row → (again : Bool) (m : ℕ) (p : Past) (reply : Reply) → clash_of (events_after again row m p reply) ≡ None → clash_of p.events ≡ None
-was_whole row sound again m p reply = step_keeps row sound again m p reply (λ after. clash_of after ≡ None → clash_of p.events ≡ None) (whole_before (gives_of row) reply m p.events) (λ none. none)
+was_whole row sound again m p reply = step_keeps row sound again m p reply (λ after. clash_of after ≡ None → clash_of p.events ≡ None) (unbroken_before (gives_of row) reply m p.events) (λ none. none)

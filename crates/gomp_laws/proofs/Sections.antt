@@ -79,8 +79,8 @@ unfolding section_reply
 deals_section members m share h None e one = e
 deals_section members m share h (Some piece) e one = e ∙ ap Some (one piece refl)
 
-next_is_section : (members m i : ℕ) (shape : Shape) (h : List Event) → shape.kind ≡ kinds.Sections → (piece : Piece) → next_for (schedule members) shape i m h ≡ Some piece → piece ≡ (piece.0, suc piece.0)
-next_is_section members m i shape h kind piece at = section_is shape.trips 0 (div_ceil shape.trips 1) _ piece (omega arith) (rw kind at at)
+next_piece_is_section : (members m i : ℕ) (shape : Shape) (h : List Event) → shape.kind ≡ kinds.Sections → (piece : Piece) → next_for (schedule members) shape i m h ≡ Some piece → piece ≡ (piece.0, suc piece.0)
+next_piece_is_section members m i shape h kind piece at = section_is shape.trips 0 (div_ceil shape.trips 1) _ piece (omega arith) (rw kind at at)
 
 sections_kind : (kind : ShareKind) → is_sections kind ≡ true → kind ≡ kinds.Sections
 sections_kind kinds.Sections e = refl
@@ -90,7 +90,7 @@ section_some : (members m : ℕ) (h : List Event) (own : Option (ℕ × Shape)) 
 section_some members m h None is = absurd (cc)
 section_some members m h (Some share) is =
     let next = next_for (schedule members) share.1 share.0 m h in
-    (section_reply next, deals_section members m share h next refl (next_is_section members m share.0 share.1 h (sections_kind share.1.kind (not_false (is_sections share.1.kind) is))))
+    (section_reply next, deals_section members m share h next refl (next_piece_is_section members m share.0 share.1 h (sections_kind share.1.kind (not_false (is_sections share.1.kind) is))))
 
 section_own : (share : ℕ) (shape : Shape) (m : ℕ) (reply : Reply) → AreOwn quiet m (section_given share shape m reply)
 section_own share shape m (Section zero) = (refl, tt)
@@ -143,7 +143,7 @@ sections_deal count end_kind =
       accepts = section_accepts;
       some = λ members m share h lt fail.
           let next = next_for (schedule members) shape share m h in
-          (section_reply next, deals_section members m (share, shape) h next refl (next_is_section members m share shape h refl));
+          (section_reply next, deals_section members m (share, shape) h next refl (next_piece_is_section members m share shape h refl));
       counts = λ members m share first count h lt may. absurd may;
       still = λ share m. refl;
       given_own = λ share m reply. section_own share shape m reply;

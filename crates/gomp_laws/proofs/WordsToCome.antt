@@ -16,7 +16,7 @@ use Rattle.gomp_laws.specs.Rules.{TeamRule}
 use Rattle.gomp_types.proofs.Booleans.{is_equal, differs, same_number, share_is}
 use Rattle.gomp_shares.proofs.SharesKeep.{inside}
 use Rattle.gomp_shares.proofs.SinglesKeep.{one_more, one_only, single_is_done}
-use Rattle.gomp_laws.proofs.CopiesKeep.{took, was_put}
+use Rattle.gomp_laws.proofs.CopiesKeep.{piece_was_taken, was_put}
 use Rattle.gomp_laws.proofs.TeamShares.{share_rules}
 
 -- all members take from the one queue of a single
@@ -94,7 +94,7 @@ put_took members share n words [] all put = absurd put
 put_took members share n words (Put i member payload ∷ earlier) all (inl e) =
     let number : i ≡ share = cc in
     let who : member ≡ n = cc in
-    let taken = took (schedule members) members member i all.0.shape earlier (share_rules members earlier all.1) all.0.inside all.0.executor in
+    let taken = piece_was_taken (schedule members) members member i all.0.shape earlier (share_rules members earlier all.1) all.0.inside all.0.executor in
     (taken.0, taken.1, inr (subst (λ (j : ℕ). Happened (Take j n taken.0 taken.1) earlier) number (subst (λ (x : ℕ). Happened (Take i x taken.0 taken.1) earlier) who taken.2)))
 put_took members share n words (_ ∷ earlier) all (inl e) = absurd (cc)
 put_took members share n words (event ∷ earlier) all (inr put) = let before = put_took members share n words earlier all.1 put in (before.0, before.1, inr before.2)

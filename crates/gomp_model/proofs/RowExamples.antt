@@ -350,8 +350,8 @@ abbrev after_end : Bool → Reply → List Event
 after_end again reply = events_after again (row_of LoopEnd) 0 (past_with 2 (Enter 0 0 (four false) ∷ [])) reply
 
 -- a call that waits has begun
-pub events_of_a_wait : after_end false Wait ≡ Arrive 0 0 (at ShareEnd 1) ∷ End 0 0 ∷ Enter 0 0 (four false) ∷ []
-events_of_a_wait = refl
+pub events_of_a_waiting_end : after_end false Wait ≡ Arrive 0 0 (at ShareEnd 1) ∷ End 0 0 ∷ Enter 0 0 (four false) ∷ []
+events_of_a_waiting_end = refl
 
 -- it passes after its arrival
 pub events_of_a_pass : after_end false Passed ≡ Pass 0 0 ∷ Arrive 0 0 (at ShareEnd 1) ∷ End 0 0 ∷ Enter 0 0 (four false) ∷ []

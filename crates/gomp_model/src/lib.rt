@@ -4,10 +4,7 @@
 //! their rows; `specs/Calls.antt` is the one list of calls. `specs/Team.antt` says what a step of a
 //! member is refused for, answered and leaves, by its call's row, and names no call but `Resume` and
 //! `Stop`. What follows from all that is proved in `gomp_laws`. That the definitions tell right from
-//! wrong is computed: worked runs and wrong answers in the modules here, and an example to each call,
-//! test and field of a row in `proofs/`.
-#![tactic(auto)]
-
-pub mod examples;
-pub mod region_examples;
-pub mod share_examples;
+//! wrong is computed by the lemmas of `proofs/`: worked runs (`WorkedRuns`, `LoopLimits`), wrong answers
+//! (`WrongAnswers`, `WrongShareAnswers`), and an example to each call, test and field of a row.
+//!
+//! This crate has definitions and lemmas alone, and no function.

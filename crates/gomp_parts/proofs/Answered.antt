@@ -35,7 +35,7 @@ use Rattle.gomp_model.specs.Arrivals.{Awaits, compared_arrival, arrival, ending}
 use Rattle.gomp_model.specs.Calls.{row_of}
 use Rattle.gomp_laws.proofs.Sound.{Gives, gives_of, IsLast}
 use Rattle.gomp_laws.proofs.Steps.{step_keeps}
-use Rattle.gomp_laws.proofs.Calls.{sound}
+use Rattle.gomp_laws.proofs.Calls.{row_is_sound}
 use Rattle.gomp_parts.specs.Answers.{IsReady, MayReply, given_after, left_once}
 
 -- By its own tests
@@ -124,7 +124,7 @@ KeepsAside IsAside P = (h : List Event) (event : Event) → IsAside event → P 
 
 -- no row gives a refusal
 pub events_given : (call : Call) (again : Bool) (m : ℕ) (p : Past) (reply : Reply) → MayReply (row_of call) again m p reply → events_after again (row_of call) m p reply ≡ given_after (row_of call) again m p reply
-events_given call again m p (Refused refusal) may = absurd ((sound call).accepts m (since again (row_of call) m p) refusal may)
+events_given call again m p (Refused refusal) may = absurd ((row_is_sound call).accepts m (since again (row_of call) m p) refusal may)
 events_given call again m p _ may = refl
 
 last_aloof : (can : Gives) (m : ℕ) (reply : Reply) (event : Event) → can.arrives ≡ false → IsLast can m reply event → BarriersAside event
@@ -140,13 +140,13 @@ pub aloof_stands : (P : List Event → Type 0) → KeepsAside BarriersAside P �
     P (given_after (row_of call) again m p reply)
 aloof_stands P keeps call again m p reply none may holds =
     subst P (events_given call again m p reply may)
-    (step_keeps (row_of call) (sound call) again m p reply P (λ event h by. keeps h event (last_aloof (gives_of (row_of call)) m reply event (ap is_some none) by)) holds)
+    (step_keeps (row_of call) (row_is_sound call) again m p reply P (λ event h by. keeps h event (last_aloof (gives_of (row_of call)) m reply event (ap is_some none) by)) holds)
 
 pub silent_stands : (P : List Event → Type 0) → KeepsAside PutsNone P → (call : Call) (again : Bool) (m : ℕ) (p : Past) (reply : Reply) → (row_of call).puts ≡ false → MayReply (row_of call) again m p reply → P p.events →
     P (given_after (row_of call) again m p reply)
 silent_stands P keeps call again m p reply none may holds =
     subst P (events_given call again m p reply may)
-    (step_keeps (row_of call) (sound call) again m p reply P (λ event h by. keeps h event (last_silent (gives_of (row_of call)) m reply event none by)) holds)
+    (step_keeps (row_of call) (row_is_sound call) again m p reply P (λ event h by. keeps h event (last_silent (gives_of (row_of call)) m reply event none by)) holds)
 
 -- Arrivals
 

@@ -4,6 +4,7 @@ use Rattle.gomp_model.specs.Past.{Terms}
 use Rattle.gomp_model.specs.Team.{Caused}
 use Rattle.gomp_core.specs.Stands.{Stands, standard_terms}
 use Rattle.gomp_core.specs.Resolved.{record_of}
+use Rattle.gomp_laws.proofs.Laws.{headline_holds}
 use Rattle.gomp_core.proofs.Stepping.{resolved_grows, moved_on, all_done, terms_are, memory_more}
 use Rattle.gomp_core.proofs.steps.run.Given.{Over}
 use Rattle.gomp_core.proofs.steps.run.Goals as goal
@@ -75,4 +76,4 @@ returns-in-None-clause-caused g c =
     subst (λ (terms : Terms). Caused terms (record_of c.args.icv c.args.steps.items c.loop-step.replies.items)) (returns-in-None-clause-terms g c) stands.caused
 
 pub returns-in-None-clause-headline : goal.returns-in-None-clause-headline
-returns-in-None-clause-headline g c = c.headline.ensures (standard_terms c.args.count c.args.icv) (record_of c.args.icv c.args.steps.items c.loop-step.replies.items) (returns-in-None-clause-caused g c)
+returns-in-None-clause-headline g c = headline_holds (standard_terms c.args.count c.args.icv) (record_of c.args.icv c.args.steps.items c.loop-step.replies.items) (returns-in-None-clause-caused g c)

@@ -9,6 +9,7 @@ use Rattle.gomp_model.specs.Team.{Record, meant, is_resume, row_at, refusal_of, 
 use Rattle.gomp_parts.specs.Answers.{IsReady, MayReply, PartsStand, StartsShare, given_after}
 use Rattle.gomp_parts.specs.Payloads.{PayloadsStand}
 use Rattle.gomp_core.specs.Stands.{TeamView, Stands, past, terms_of}
+use Rattle.gomp_laws.proofs.Laws.{least_refusal_is_an_answer}
 use Rattle.gomp_core.proofs.Waits.{step_ready}
 use Rattle.gomp_parts.proofs.Words.{words_aside}
 use Rattle.gomp_core.proofs.Stepping.{same_stands, other_stands, step_found, member_free, member_differs, stands_refused, stands_broken, refused_memory, may_answer, never_refused, stands_answered, set_twice, waits_on}
@@ -175,7 +176,7 @@ returns-in-Mismatch-clause-stands g c = λ before st0.
     let is = step_found team c.args.self.now before step (result_err c.admit.result) (Some Mismatch) same (c.admit.ensures.least before st0) (ap result_err c.in-Err.is ∙ ap Some c.in-Mismatch.is) in
     let there = c.place-place.ensures before (other_stands g.S.Shares.stands g.S.Shares.members team c.admit.new.self before c.self.view_is st) in
     let place = rw (← c.self.view_is) at there in
-    stands_broken g.S.Shares.stands g.S.Shares.members team before step c.place-place.result st (c.first_refused.ensures (past team before) step Mismatch is) is place
+    stands_broken g.S.Shares.stands g.S.Shares.members team before step c.place-place.result st (least_refusal_is_an_answer (past team before) step Mismatch is) is place
     (λ h s. g.met.S.Shares.aside c.self.inside.shares h (Break c.args.member c.place-place.result) tt s)
     (λ h s. c.aside.ensures.stands c.self.inside.barriers h (Break c.args.member c.place-place.result) tt s)
     (λ h s. words_aside (length c.self.inside.waiting.items) c.self.inside.payloads h (Break c.args.member c.place-place.result) tt s)
@@ -191,7 +192,7 @@ invariant_of-self-in-Mismatch g c =
 pub returns-in_default-clause-answer : goal.returns-in_default-clause-answer
 returns-in_default-clause-answer g c = λ before st0.
     let step : Step = record { member = c.args.member; call = c.args.call } in
-    c.first_refused.ensures (past c.args.self.now before) step c.in-Err.refusal (sym (c.admit.ensures.least before st0) ∙ ap result_err c.in-Err.is)
+    least_refusal_is_an_answer (past c.args.self.now before) step c.in-Err.refusal (sym (c.admit.ensures.least before st0) ∙ ap result_err c.in-Err.is)
 
 pub returns-in_default-clause-memory : goal.returns-in_default-clause-memory
 returns-in_default-clause-memory g c =

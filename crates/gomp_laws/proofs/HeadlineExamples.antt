@@ -1,0 +1,170 @@
+-- Events that the headline refuses, one list for each: no team has them, whatever its members call.
+use Rattle.std.proofs.Common.{◌≡◌, ℕ, ◌%◌, true, false, List, [], ◌∷◌, Some, zero, suc, slice_get, refl, ap, arith, rules, inl, inr}
+use Rattle.gomp_types.specs.declared.shape.Shape.{Shape}
+use Rattle.gomp_types.specs.declared.refusal.Place.TheVariants.{Stopped as AtStop}
+use Rattle.gomp_types.specs.declared.event.Arrival.TheVariants.{Barrier, ShareEnd, RegionEnd}
+use Rattle.gomp_types.specs.declared.event.Tag.{Tag}
+use Rattle.gomp_types.specs.declared.event.Event.TheVariants.{Enter, Take, HandOn}
+use Rattle.gomp_types.specs.Pieces.{Piece, pieces_of}
+use Rattle.gomp_types.specs.Laws.{Happened}
+use Rattle.gomp_types.specs.EventLists.{four, static_four, even_four, at}
+use Rattle.gomp_laws.specs.LawExamples.{NeverHappens, taken_twice, taken_ahead, taken_outside, taken_from_another, even_from_another, left_early, nested, left_unentered, ninth_open, two_shapes, part_unordered, part_ahead, part_back, handed_on_open, handed_on_ahead, left_unhanded, put_in_a_loop, given_to_the_executor, left_without_words, passed_alone, arrived_twice, two_tags, stranger, barrier_skipped, share_miscounted, passed_unfinished, arrived_inside, after_a_stop, after_the_end}
+
+-- Shares
+
+-- a piece is taken by two members
+pub piece_taken_twice_never_happens : NeverHappens 2 taken_twice
+piece_taken_twice_never_happens = search rules
+
+-- the second piece is taken before the first
+pub piece_taken_ahead_never_happens : NeverHappens 1 taken_ahead
+piece_taken_ahead_never_happens = search rules
+
+-- a member takes iterations that the loop does not have
+pub piece_outside_the_loop_never_happens : NeverHappens 1 taken_outside
+piece_outside_the_loop_never_happens = search rules
+
+-- the pieces of either loop
+abbrev two_pieces : List Piece
+two_pieces = (0, 2) ∷ (2, 4) ∷ []
+
+-- of the two pieces the one with the first iterations is the first, which is not the second member's
+not_the_second : (number : ℕ) → slice_get two_pieces number ≡ Some (0, 2) → number % 2 ≡ 1 → ⊥
+not_the_second zero at own = absurd (omega arith)
+not_the_second (suc zero) at own = let same : ◌≡◌ {A = Piece} (2, 4) (0, 2) = cc in absurd (let low = ap (λ (piece : Piece). piece.0) same in omega arith)
+not_the_second (suc (suc later)) at own = absurd (cc)
+
+-- a member takes the piece of a static loop that is another's
+pub static_piece_of_another_never_happens : NeverHappens 2 taken_from_another
+static_piece_of_another_never_happens laws = let place = laws.owned.0 static_four (inl refl) refl in not_the_second place.0 place.1 place.2
+
+-- and of one without a chunk
+pub even_piece_of_another_never_happens : NeverHappens 2 even_from_another
+even_piece_of_another_never_happens laws = let place = laws.owned.0 even_four (inl refl) refl in not_the_second place.0 place.1 place.2
+
+-- a member leaves a loop that has a piece for it
+pub loop_left_early_never_happens : NeverHappens 1 left_early
+loop_left_early_never_happens = search rules
+
+-- a member enters a share while it is in another
+pub nested_shares_never_happen : NeverHappens 1 nested
+nested_shares_never_happen laws = elim (laws.same_shares.one_by_one.0.2 0 (four false) (inl refl)) [ inl e ↦ absurd (cc) | inr never ↦ never ]
+
+-- a member leaves a share that it has not entered
+pub share_left_unentered_never_happens : NeverHappens 1 left_unentered
+share_left_unentered_never_happens = search rules
+
+-- a ninth share is opened while the first is open
+pub ninth_share_open_never_happens : NeverHappens 1 ninth_open
+ninth_share_open_never_happens laws = laws.same_shares.room.0 0 refl 0 (omega arith)
+
+-- two members enter one share with two constructs
+pub two_shapes_of_a_share_never_happen : NeverHappens 2 two_shapes
+two_shapes_of_a_share_never_happen laws = absurd (let same = ap (λ (shape : Shape). shape.ordered) (laws.same_shares.shapes 0 0 1 (four false) (four true) (inr (inl refl)) (inl refl)) in cc)
+
+-- Ordered parts
+
+-- a part in a loop that is not ordered
+pub part_in_an_unordered_loop_never_happens : NeverHappens 1 part_unordered
+part_in_an_unordered_loop_never_happens = search rules
+
+-- a part of a piece before the one with the first iteration is handed on
+pub part_ahead_of_its_turn_never_happens : NeverHappens 2 part_ahead
+part_ahead_of_its_turn_never_happens = search rules
+
+-- a part of an iteration after that of a later one
+pub part_that_goes_back_never_happens : NeverHappens 1 part_back
+part_that_goes_back_never_happens laws = absurd (let before = laws.ordered.rise.0 0 1 (inr (inl refl)) in omega arith)
+
+-- a piece is handed on while a part of it is open
+pub piece_handed_on_in_its_part_never_happens : NeverHappens 1 handed_on_open
+piece_handed_on_in_its_part_never_happens = search rules
+
+-- a piece is handed on before the one with the first iteration
+pub piece_handed_on_ahead_never_happens : NeverHappens 1 handed_on_ahead
+piece_handed_on_ahead_never_happens = search rules
+
+-- only the first piece was handed on
+only_first : (piece : ℕ) → Happened (HandOn 0 0 piece) (Take 0 0 2 4 ∷ HandOn 0 0 0 ∷ Take 0 0 0 2 ∷ Enter 0 0 (four true) ∷ []) → 0 ≡ piece
+only_first piece (inl e) = absurd (cc)
+only_first piece (inr (inl e)) = cc
+only_first piece (inr (inr (inl e))) = absurd (cc)
+only_first piece (inr (inr (inr (inl e)))) = absurd (cc)
+only_first piece (inr (inr (inr (inr never)))) = absurd never
+
+-- which is not the last
+not_the_last : (piece : ℕ) → 0 ≡ piece → slice_get (pieces_of 1 (four true)) piece ≡ Some (2, 4) → ⊥
+not_the_last piece first at = let same : ◌≡◌ {A = Piece} (0, 2) (2, 4) = let own = rw (← first) at at in cc in absurd (let low = ap (λ (piece : Piece). piece.0) same in omega arith)
+
+-- a member leaves an ordered loop and has not handed its last piece on
+pub ordered_loop_left_unhanded_never_happens : NeverHappens 1 left_unhanded
+ordered_loop_left_unhanded_never_happens laws =
+    let handed = laws.none_held.0 (four true) 2 4 (inr (inr (inr (inl refl)))) refl (inl refl) in
+    not_the_last handed.0 (only_first handed.0 handed.1) handed.2
+
+-- Words
+
+-- words are put in a loop
+pub words_put_in_a_loop_never_happen : NeverHappens 1 put_in_a_loop
+words_put_in_a_loop_never_happen = search rules
+
+-- the executor is given its own words
+pub words_given_to_the_executor_never_happen : NeverHappens 1 given_to_the_executor
+words_given_to_the_executor_never_happen laws = laws.gets.0.4 0 1 (inr (inl refl))
+
+-- a member leaves a single without its words
+pub single_left_without_words_never_happens : NeverHappens 2 left_without_words
+single_left_without_words_never_happens = search rules
+
+-- Barriers
+
+-- a member passes before the other has arrived
+pub barrier_passed_alone_never_happens : NeverHappens 2 passed_alone
+barrier_passed_alone_never_happens = search rules
+
+-- a member arrives twice at one barrier
+pub arrival_twice_never_happens : NeverHappens 1 arrived_twice
+arrival_twice_never_happens laws = laws.arrive_once.0.1 (at Barrier 0) (inl refl)
+
+-- members arrive at one barrier with two tags
+pub two_tags_of_a_barrier_never_happen : NeverHappens 2 two_tags
+two_tags_of_a_barrier_never_happen laws = absurd (let same = ap (λ (tag : Tag). tag.kind) (laws.same_arrivals.tags 0 0 1 (at Barrier 0) (at RegionEnd 0) (inr (inl refl)) (inl refl)) in cc)
+
+-- one who is no member of the team arrives
+pub arrival_of_a_stranger_never_happens : NeverHappens 2 stranger
+arrival_of_a_stranger_never_happens = search rules
+
+-- a member arrives at its second barrier before it has passed the first
+pub barrier_skipped_never_happens : NeverHappens 1 barrier_skipped
+barrier_skipped_never_happens = search rules
+
+-- a member arrives with one share counted, and has entered none
+pub share_miscounted_never_happens : NeverHappens 1 share_miscounted
+share_miscounted_never_happens = search rules
+
+-- a member passes a barrier while the other is still in the loop before it
+pub barrier_passed_unfinished_never_happens : NeverHappens 2 passed_unfinished
+barrier_passed_unfinished_never_happens laws = elim (laws.closes.0 (at ShareEnd 1) (inr (inl refl)) 0 (omega arith) 1 (omega arith)) [
+  | inl e ↦ absurd (cc)
+  | inr (inl e) ↦ absurd (cc)
+  | inr (inr (inl e)) ↦ absurd (cc)
+  | inr (inr (inr (inl e))) ↦ absurd (cc)
+  | inr (inr (inr (inr (inl e)))) ↦ absurd (cc)
+  | inr (inr (inr (inr (inr (inl e))))) ↦ absurd (cc)
+  | inr (inr (inr (inr (inr (inr (inl e)))))) ↦ absurd (cc)
+  | inr (inr (inr (inr (inr (inr (inr never)))))) ↦ never
+]
+
+-- a member arrives at the end of a loop that it has not left
+pub arrival_inside_a_loop_never_happens : NeverHappens 1 arrived_inside
+arrival_inside_a_loop_never_happens laws = elim (laws.arrive_outside.0 0 (four false) (inl refl)) [ inl e ↦ absurd (cc) | inr never ↦ never ]
+
+-- The team
+
+-- a member arrives after the team was stopped
+pub arrival_after_a_stop_never_happens : NeverHappens 2 after_a_stop
+arrival_after_a_stop_never_happens laws = laws.unbroken.0 1 AtStop (inl refl)
+
+-- a member enters a loop after the end of the region
+pub entry_after_the_end_never_happens : NeverHappens 1 after_the_end
+entry_after_the_end_never_happens = search rules

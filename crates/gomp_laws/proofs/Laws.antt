@@ -1,0 +1,53 @@
+-- What is proved of a team, for every record of steps and replies whose replies have their causes: the page
+-- to read first.
+--
+-- A `Record` is any list of member steps with the replies to them; `Caused` says that each reply in it has
+-- its cause by the definitions of gomp_model (`MayAnswer`). No program state stands behind these laws:
+-- whatever body answers as the definitions say keeps them. Each law is stated here whole, and the file that
+-- its line cites proves it. `specs/Headline.antt` lists the clauses of `Headline`.
+use Rattle.std.proofs.Common.{ℕ, ◌≡◌, ◌<◌, Some}
+use Rattle.std.specs.Prelude.{ℤ}
+use Rattle.gomp_types.specs.declared.call.Step.{Step}
+use Rattle.gomp_types.specs.declared.refusal.Refusal.{Refusal}
+use Rattle.gomp_types.specs.declared.reply.Reply.{Reply}
+use Rattle.gomp_types.specs.declared.reply.Reply.TheVariants.{Chunk, Refused}
+use Rattle.gomp_laws.specs.Headline.{Headline}
+use Rattle.gomp_model.specs.Past.{Terms, Past}
+use Rattle.gomp_model.specs.Team.{Record, refusal_of, MayAnswer, past_of, events, Caused, OneReply, SomeReply}
+use Rattle.gomp_laws.proofs.ChunksCount.{chunks_have}
+use Rattle.gomp_laws.proofs.Headline.{headline_of}
+use Rattle.gomp_laws.proofs.OneReply.{one_answer}
+use Rattle.gomp_laws.proofs.SomeReply.{some_reply_of, refused_so}
+
+-- The headline: for every team size and list of member steps, no iteration, section or single is taken
+-- twice, and of a static loop a member takes only its own pieces; a loop or sections construct that all
+-- members end had every iteration or section taken, and a single that all members left was executed by one
+-- of them; ordered parts of a loop run in the order of its iterations, and an ordered loop that all members
+-- left had each of its pieces handed on; the words that a member copies are those that the executor of the
+-- single put; all members go through the same constructs in the same order; and no member passes a barrier
+-- before all arrived, and have left the constructs before it.
+pub headline_holds : (terms : Terms) → (run : Record) → Caused terms run → Headline terms.members (events terms run)
+headline_holds = headline_of
+
+-- At most one reply to a step has its cause, whatever was before it, want of memory aside.
+pub at_most_one_reply_has_its_cause :
+    (p : Past) → (step : Step) → (one : Reply) → (other : Reply) → MayAnswer p step one → MayAnswer p step other
+    → OneReply one other
+at_most_one_reply_has_its_cause = one_answer
+
+-- To each step some reply other than want of memory has its cause, after every record whose replies have
+-- theirs: with the law before, the record decides exactly one, want of memory aside.
+pub some_reply_has_its_cause :
+    (terms : Terms) → (run : Record) → (step : Step) → Caused terms run → SomeReply (past_of terms run) step
+some_reply_has_its_cause = some_reply_of
+
+-- A chunk that is answered has an iteration, at least one.
+pub chunk_has_an_iteration :
+    (terms : Terms) → (run : Record) → (step : Step) → (first : ℤ) → (count : ℕ) → Caused terms run
+    → MayAnswer (past_of terms run) step (Chunk first count) → 0 < count
+chunk_has_an_iteration = chunks_have
+
+-- Of the tests of a step that hold, the refusal with the least number is an answer to it.
+pub least_refusal_is_an_answer :
+    (p : Past) → (step : Step) → (refusal : Refusal) → refusal_of p step ≡ Some refusal → MayAnswer p step (Refused refusal)
+least_refusal_is_an_answer = refused_so

@@ -1,0 +1,218 @@
+-- Worked runs of a team: each reply of these runs has its cause.
+use Rattle.std.proofs.Common.{rules}
+use Rattle.gomp_types.specs.declared.call.Call.TheVariants.{SectionsStart, SingleCopyStart}
+use Rattle.gomp_types.specs.declared.loop_desc.Sched.TheVariants.{Static, Dynamic, Guided}
+use Rattle.gomp_types.specs.declared.loop_desc.EndKind.TheVariants.{Nowait}
+use Rattle.gomp_model.specs.Examples.{owned_pieces, even_pieces_of_four, shrinking_pieces, runtime_pieces, differing_schedule, IsRunOf, one_share, second_share, whole_region, IsRun, one_nowait, loop_of_two, empty_loops, refused_ends, ninth_share, differing_loop, other_end_values, differing_barrier, stopped_team, stopped_waiting, stopped_inside}
+use Rattle.gomp_model.specs.ShareExamples.{sections_of_two, no_sections, single_of_two, copy_of_three, misplaced_calls, differing_single, differing_copy, differing_sections, ordered_of_two, handed_of_two, ordered_alone, ordered_downwards, unordered_parts, differing_ordered}
+use Rattle.gomp_model.specs.RegionExamples.{region_of_two, later_barrier, later_share, differing_at_resume, differing_ninth, ninth_and_tenth, copied_at_once, parts_of_a_piece, early_arrivals, early_sections_end, early_starts, ends_in_order, outside_calls, second_of_each, stopped_at_the_end}
+
+-- Loops, barriers and stops
+
+-- a loop over a team of two, from its start to its barrier
+pub loop_of_two_has_causes : IsRun 2 loop_of_two
+loop_of_two_has_causes = search rules
+
+-- loops without an iteration
+pub empty_loops_have_causes : IsRun 1 empty_loops
+empty_loops_have_causes = search rules
+
+-- a loop whose end comes too early, and in the form that it does not have
+pub refused_ends_have_causes : IsRun 1 refused_ends
+refused_ends_have_causes = search rules
+
+-- a ninth share waits until the first is over
+pub ninth_share_has_causes : IsRun 2 ninth_share
+ninth_share_has_causes = search rules
+
+-- a team that may open one share refuses the second
+pub second_share_has_causes : IsRunOf one_share second_share
+second_share_has_causes = search rules
+
+-- a member alone in its team goes through a region, with calls that it may not make
+pub whole_region_has_causes : IsRun 1 whole_region
+whole_region_has_causes = search rules
+
+-- a team breaks at loops that differ
+pub differing_loop_has_causes : IsRun 2 differing_loop
+differing_loop_has_causes = search rules
+
+-- loops with other end values and the same iterations are alike
+pub other_end_values_have_causes : IsRun 2 other_end_values
+other_end_values_have_causes = search rules
+
+-- a team breaks at barriers that differ
+pub differing_barrier_has_causes : IsRun 2 differing_barrier
+differing_barrier_has_causes = search rules
+
+-- a team is stopped
+pub stopped_team_has_causes : IsRun 2 stopped_team
+stopped_team_has_causes = search rules
+
+-- by a member that waits
+pub stopped_waiting_has_causes : IsRun 2 stopped_waiting
+stopped_waiting_has_causes = search rules
+
+-- and by one inside a share
+pub stopped_inside_has_causes : IsRun 1 stopped_inside
+stopped_inside_has_causes = search rules
+
+-- Schedules
+
+-- a static loop with a chunk
+pub owned_pieces_have_causes : IsRun 2 owned_pieces
+owned_pieces_have_causes = search rules
+
+-- a static loop without one
+pub even_pieces_have_causes : IsRun 4 even_pieces_of_four
+even_pieces_have_causes = search rules
+
+-- a guided loop
+pub shrinking_pieces_have_causes : IsRun 4 shrinking_pieces
+shrinking_pieces_have_causes = search rules
+
+-- a runtime loop
+pub runtime_pieces_have_causes : IsRun 2 runtime_pieces
+runtime_pieces_have_causes = search rules
+
+-- a team breaks at a dynamic loop in place of a static one
+pub dynamic_for_static_has_causes : IsRun 2 (differing_schedule Static Dynamic)
+dynamic_for_static_has_causes = search rules
+
+-- at a guided loop in place of a static one
+pub guided_for_static_has_causes : IsRun 2 (differing_schedule Static Guided)
+guided_for_static_has_causes = search rules
+
+-- and at a guided loop in place of a dynamic one
+pub guided_for_dynamic_has_causes : IsRun 2 (differing_schedule Dynamic Guided)
+guided_for_dynamic_has_causes = search rules
+
+-- Sections and singles
+
+-- sections over a team of two
+pub sections_of_two_have_causes : IsRun 2 sections_of_two
+sections_of_two_have_causes = search rules
+
+-- a construct without sections
+pub no_sections_have_causes : IsRun 1 no_sections
+no_sections_have_causes = search rules
+
+-- a single over a team of two
+pub single_of_two_has_causes : IsRun 2 single_of_two
+single_of_two_has_causes = search rules
+
+-- a single with words over a team of three
+pub copy_of_three_has_causes : IsRun 3 copy_of_three
+copy_of_three_has_causes = search rules
+
+-- calls of other constructs
+pub misplaced_calls_have_causes : IsRun 1 misplaced_calls
+misplaced_calls_have_causes = search rules
+
+-- a team breaks at singles that differ
+pub differing_single_has_causes : IsRun 2 differing_single
+differing_single_has_causes = search rules
+
+-- at singles of which one has words
+pub differing_copy_has_causes : IsRun 2 differing_copy
+differing_copy_has_causes = search rules
+
+-- and at sections that differ
+pub differing_sections_have_causes : IsRun 2 differing_sections
+differing_sections_have_causes = search rules
+
+-- Ordered loops
+
+-- an ordered loop over a team of two
+pub ordered_of_two_has_causes : IsRun 2 ordered_of_two
+ordered_of_two_has_causes = search rules
+
+-- one whose pieces have no part
+pub handed_of_two_has_causes : IsRun 2 handed_of_two
+handed_of_two_has_causes = search rules
+
+-- one of a member alone
+pub ordered_alone_has_causes : IsRun 1 ordered_alone
+ordered_alone_has_causes = search rules
+
+-- one that counts downwards
+pub ordered_downwards_has_causes : IsRun 1 ordered_downwards
+ordered_downwards_has_causes = search rules
+
+-- parts in a loop without the clause
+pub unordered_parts_have_causes : IsRun 1 unordered_parts
+unordered_parts_have_causes = search rules
+
+-- a team breaks at loops of which one is ordered
+pub differing_ordered_has_causes : IsRun 2 differing_ordered
+differing_ordered_has_causes = search rules
+
+-- Regions, whose members go from one construct to another
+
+-- a share with a barrier, and the end of the region
+pub region_of_two_has_causes : IsRun 2 region_of_two
+region_of_two_has_causes = search rules
+
+-- a second barrier, at which the members have entered different numbers of shares
+pub later_barrier_has_causes : IsRun 2 later_barrier
+later_barrier_has_causes = search rules
+
+-- a second share, with another end
+pub later_share_has_causes : IsRun 2 later_share
+later_share_has_causes = search rules
+
+-- a start that waits for room differs at its resume
+pub differing_at_resume_has_causes : IsRun 2 differing_at_resume
+differing_at_resume_has_causes = search rules
+
+-- a loop that does so
+pub loop_at_resume_has_causes : IsRun 2 (differing_ninth one_nowait)
+loop_at_resume_has_causes = search rules
+
+-- sections that do
+pub sections_at_resume_have_causes : IsRun 2 (differing_ninth (SectionsStart 1 Nowait))
+sections_at_resume_have_causes = search rules
+
+-- and a single with words
+pub copy_at_resume_has_causes : IsRun 2 (differing_ninth SingleCopyStart)
+copy_at_resume_has_causes = search rules
+
+-- sections and a single with words wait for room
+pub ninth_and_tenth_have_causes : IsRun 2 ninth_and_tenth
+ninth_and_tenth_have_causes = search rules
+
+-- words that are there before they are asked for
+pub copied_at_once_has_causes : IsRun 2 copied_at_once
+copied_at_once_has_causes = search rules
+
+-- two parts of one piece
+pub parts_of_a_piece_have_causes : IsRun 1 parts_of_a_piece
+parts_of_a_piece_have_causes = search rules
+
+-- arrivals that differ, with a test before that one
+pub early_arrivals_have_causes : IsRun 2 early_arrivals
+early_arrivals_have_causes = search rules
+
+-- an end of sections that differs, with a test before that one
+pub early_sections_end_has_causes : IsRun 2 early_sections_end
+early_sections_end_has_causes = search rules
+
+-- starts that differ, with a test before that one
+pub early_starts_have_causes : IsRun 2 early_starts
+early_starts_have_causes = search rules
+
+-- ends that are refused, in the order of their tests
+pub ends_in_order_have_causes : IsRun 1 ends_in_order
+ends_in_order_have_causes = search rules
+
+-- ends outside a share, want of memory, and starts inside a share
+pub outside_calls_have_causes : IsRun 1 outside_calls
+outside_calls_have_causes = search rules
+
+-- a second share of each kind in a team that may open one
+pub second_of_each_has_causes : IsRunOf one_share second_of_each
+second_of_each_has_causes = search rules
+
+-- a stop by a member that waits at the end of the region
+pub stopped_at_the_end_has_causes : IsRun 3 stopped_at_the_end
+stopped_at_the_end_has_causes = search rules
