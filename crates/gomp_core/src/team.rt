@@ -172,7 +172,6 @@ impl<S: Shares> Team<S> {
             ((record { member = member; call = call }, result) ∷ before) }
     {
         laws::first_refused();
-        gomp_barrier::aside();
         match self.refusal(member, &call) {
             None => {
                 let waiting = self.waiting[member as usize].take();

@@ -15,7 +15,7 @@ ghost use Rattle.gomp_shares.specs.Loops.{AnswersLoopStart, loop_started, Answer
 use crate::own::{piece_reply, start_refusal};
 use gomp_shares::own::{end_refusal, next_refusal};
 use gomp_shares::{Construct, Opening, Shares};
-use gomp_types::{EndKind, Limits, LoopDesc, Refusal, Reply, laws};
+use gomp_types::{EndKind, Limits, LoopDesc, Refusal, Reply};
 
 /// Enters the member's next share for this loop, and answers the first chunk for it: of the pieces
 /// that are its to take, the least one that nobody took. `NoChunk` where there is none; the member is
@@ -36,7 +36,6 @@ pub fn loop_start<S: Shares>(shares: &mut S, member: u16, limits: &Limits, desc:
     ensures kept { (refusal : Refusal) → result ≡ Refused refusal → shares.new ≡ shares.old }
     ensures waits { result ≡ Wait → shares.new ≡ shares.old }
 {
-    laws::values_tell();
     let seen = shares.look(member);
     if let Some(refusal) = start_refusal(&seen, limits, desc) {
         return Reply::Refused(refusal);
@@ -68,7 +67,6 @@ pub fn loop_next<S: Shares>(shares: &mut S, member: u16) -> Reply
     ensures kept { (refusal : Refusal) → result ≡ Refused refusal → shares.new ≡ shares.old }
     ensures waits { result ≡ Wait → shares.new ≡ shares.old }
 {
-    laws::values_tell();
     let seen = shares.look(member);
     if let Some(refusal) = next_refusal(&seen, Construct::Loop) {
         return Reply::Refused(refusal);

@@ -3,6 +3,7 @@ use Rattle.gomp_types.specs.declared.event.Event.{Event}
 use Rattle.gomp_types.specs.Events.{open_share}
 use Rattle.gomp_shares.specs.Loops.{handed_on}
 use Rattle.gomp_types.specs.declared.seen.Seen.{Seen}
+use Rattle.gomp_types.proofs.Laws.{value_tells_its_iteration}
 use Rattle.gomp_loops.proofs.Steps.{Handed, handed, kept, handed_there, next_is, next_claims, next_reply, next_waits, next_deals, next_adds, claim_within}
 use Rattle.gomp_loops.proofs.calls.loop_next.Given.{Over}
 use Rattle.gomp_loops.proofs.calls.loop_next.Goals as goal
@@ -78,5 +79,5 @@ returns-clause-stands g c = λ h st.
     let there : open_share c.args.member h ≡ Some (c.in-Some-current.field-0-0, c.in-Some-current.shape) = sym (ap (λ (s : Seen). s.current) e) ∙ c.in-Some-current.is in
     let moved = is_handed g (goal.at.returns-clause-stands g c).After-claim h st in
     let claims = rw moved.same at (c.claim.ensures.answer _ moved.stands) in
-    let adds = next_adds (g.S.Shares.members c.args.shares.now) c.args.member _ c.in-Some-current.shape c.claim.result h c.values_tell.ensures there claims in
+    let adds = next_adds (g.S.Shares.members c.args.shares.now) c.args.member _ c.in-Some-current.shape c.claim.result h value_tells_its_iteration there claims in
     rw (c.piece_reply.ensures.answer, adds) (c.claim.ensures.stands _ moved.stands)

@@ -8,6 +8,7 @@ use Rattle.gomp_types.specs.Events.{entered}
 use Rattle.gomp_shares.proofs.PartsKeep.{loop_is_loop}
 use Rattle.gomp_types.proofs.TestRows.{outcome_value}
 use Rattle.gomp_shares.proofs.Entered.{may_claim}
+use Rattle.gomp_types.proofs.Laws.{value_tells_its_iteration}
 use Rattle.gomp_loops.proofs.Steps.{start_compared, start_deals, start_refused, start_reply, start_waits, start_outside, start_adds}
 use Rattle.gomp_loops.proofs.calls.loop_start.Goals as goal
 
@@ -40,7 +41,7 @@ returns-in-Entered-clause-stands g c = λ h st.
     let is : c.in-Ok.shape ≡ shape_of c.args.desc.now = outcome_value (first_refusal (loop_tests c.args.desc.now)) _ _ (sym c.shape.ensures.shape ∙ c.in-Ok.is) in
     let now = c.in-Entered.ensures.stands h st in
     let claims = rw is at (c.claim.ensures.answer _ now) in
-    let adds = start_adds _ c.args.member c.args.desc.now c.claim.result h c.values_tell.ensures claims in
+    let adds = start_adds _ c.args.member c.args.desc.now c.claim.result h value_tells_its_iteration claims in
     rw (c.piece_reply.ensures.answer, is, adds) (rw is at (c.claim.ensures.stands _ now))
 
 pub returns-in-Some-clause-answer : goal.returns-in-Some-clause-answer
