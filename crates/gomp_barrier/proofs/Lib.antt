@@ -1,3 +1,4 @@
 pub mod BarrierExamples
 pub mod BarrierKeeps
 pub mod BarrierSteps
+pub mod Laws

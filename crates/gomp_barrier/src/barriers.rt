@@ -1,12 +1,11 @@
 //! The barriers of a team that one thread steps.
 
-ghost use Rattle.std.specs.Prelude.{◌≡◌, ◌<◌, List, [], ◌∷◌, IfOk, not, false};
+ghost use Rattle.std.specs.Prelude.{◌≡◌, ◌<◌, List, [], IfOk, not, false};
 ghost use Rattle.gomp_types.specs.declared.event.Event.{Event};
 ghost use Rattle.gomp_types.specs.Events.{passed, tag_at, barrier_met};
 ghost use Rattle.gomp_types.specs.Compare.{tag_differs};
-ghost use Rattle.gomp_types.specs.Arrivals.{ArrivalLaws};
-ghost use Rattle.gomp_barrier.specs.Calls.{at_barrier, arrived_after, turn_after, IsAside};
-ghost use Rattle.gomp_barrier.specs.Stands.{BarriersView, Stands, members_of};
+ghost use Rattle.gomp_barrier.specs.Calls.{at_barrier, arrived_after, turn_after};
+ghost use Rattle.gomp_barrier.specs.Stands.{Stands, members_of};
 
 use crate::front::{
     Front, Seat, all_there, arrived_at, ends_region, is_ahead, number_for, passed_by, settled,
@@ -132,22 +131,7 @@ impl Barriers {
         self.front = settled(&self.front, &self.seats);
         true
     }
-
-    /// Whatever calls were made: all members arrive alike, at one barrier after another, and none
-    /// passes before all arrived.
-    pub fn laws(&self)
-        ensures known { (h : List Event) × Stands self.now h }
-        ensures laws { (h : List Event) → Stands self.now h → ArrivalLaws (members_of self.now) h }
-    {
-        let _ = &self.seats;
-        gomp_types::laws::arrival_laws();
-    }
 }
-
-/// Events of the work-shares, and a break, change nothing of the barriers.
-pub fn aside()
-    ensures stands { (barriers : BarriersView) → (h : List Event) → (event : Event) → IsAside event → Stands barriers h → Stands barriers (event ∷ h) }
-{}
 
 /// Whether some member arrived with another tag.
 fn differs(tag: Tag, others: Option<Tag>) -> bool

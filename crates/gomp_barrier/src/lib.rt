@@ -9,4 +9,4 @@
 pub mod barriers;
 mod front;
 
-pub use barriers::{AtBarrier, Barriers, aside};
+pub use barriers::{AtBarrier, Barriers};

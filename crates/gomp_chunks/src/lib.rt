@@ -23,7 +23,6 @@ ghost use Rattle.gomp_chunks.specs.Spots.{IsSpot};
 use chunked::{chunked_count, chunked_piece};
 pub use cursor::Cursor;
 use even::{even_count, even_owner, even_piece};
-use gomp_types::laws::pieces_tile;
 use gomp_types::{Shape, ShareKind};
 pub use guided::Spot;
 use guided::{forward, guided_count, guided_piece};
@@ -65,8 +64,6 @@ impl Plan {
         ensures plan { result ≡ record { members = members; shape = shape.now } }
         ensures tiles { Tiles 0 (pieces result) shape.now.trips }
     {
-        // What `tiles` says follows from the definitions alone.
-        pieces_tile();
         Plan {
             shape: *shape,
             members,

@@ -171,7 +171,6 @@ impl<S: Shares> Team<S> {
             Stands S.stands S.members self.new
             ((record { member = member; call = call }, result) ∷ before) }
     {
-        gomp_barrier::aside();
         match self.admit(member, &call) {
             Ok(starts) => {
                 let waiting = self.waiting[member as usize].take();

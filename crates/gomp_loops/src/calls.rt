@@ -16,7 +16,7 @@ ghost use Rattle.gomp_shares.specs.Loops.{AnswersLoopStart, DealsNext, DealsOut,
 use crate::own::{admit_start, piece_reply};
 use gomp_shares::own::{admit_next, end_refusal};
 use gomp_shares::{Construct, Opening, Shares};
-use gomp_types::{EndKind, Limits, LoopDesc, Refusal, Reply, Shape, laws};
+use gomp_types::{EndKind, Limits, LoopDesc, Refusal, Reply, Shape};
 
 /// Enters the member's next share for this loop, and answers the first chunk for it: of the pieces
 /// that are its to take, the least one that nobody took. `NoChunk` where there is none; the member is
@@ -58,7 +58,6 @@ pub fn begin_loop<S: Shares>(shares: &mut S, member: u16, shape: &Shape) -> Repl
     ensures kept { (refusal : Refusal) → result ≡ Refused refusal → shares.new ≡ shares.old }
     ensures waits { result ≡ Wait → shares.new ≡ shares.old }
 {
-    laws::values_tell();
     match shares.try_open(member, shape) {
         Opening::Differs => Reply::Refused(Refusal::Mismatch),
         Opening::NotYet => Reply::Wait,
@@ -104,7 +103,6 @@ pub fn take_next<S: Shares>(shares: &mut S, member: u16, shape: &Shape) -> Reply
         (λ h. S.stands shares.new (loop_next_taken (S.members shares.old) member result h)) }
     ensures waits { result ≡ Wait → shares.new ≡ shares.old }
 {
-    laws::values_tell();
     if shape.ordered && !shares.hand_on(member) {
         return Reply::Wait;
     }

@@ -50,7 +50,6 @@ pub fn answer<S: Shares>(
         (λ p. PartsStand S.stands (S.members shares.old) shares.new barriers.new payloads.new
         (given_after (row_of call.now) again member p result)) }
 {
-    gomp_barrier::aside();
     match call {
         Call::LoopEnd => end_reply(shares, barriers, member, Construct::Loop, again),
         Call::SectionsEnd => end_reply(shares, barriers, member, Construct::Sections, again),
@@ -85,8 +84,6 @@ fn put_words<S: Shares>(shares: &mut S, payloads: &mut Payloads, member: u16, wo
         WordsStand S.stands (S.members shares.old) shares.new payloads.new
         (words_put words.now member h ++ h) }
 {
-    gomp_shares::laws::inside_is_open();
-    gomp_shares::laws::eight_before();
     let Some((number, _)) = shares.look(member).current else {
         unreachable!()
     };

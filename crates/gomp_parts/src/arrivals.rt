@@ -53,7 +53,6 @@ pub fn end_reply<S: Shares>(
         BothStand S.stands shares.new barriers.new (given_after
         (ending (end_tests_of construct WaitEnd) (arrival ShareEnd)) again member p result) }
 {
-    gomp_barrier::aside();
     leave(shares, member, construct, again);
     arrival_reply(shares, barriers, member, Arrival::ShareEnd, again)
 }

@@ -90,7 +90,6 @@ fn copy_reply<S: Shares>(shares: &mut S, payloads: &Payloads, limits: &Limits, m
     ensures waits { result ≡ Wait → shares.new ≡ shares.old }
     ensures stops { result ≡ Stopped → ⊥ }
 {
-    gomp_shares::laws::next_is_open();
     let put = payloads.at(shares.look(member).entered);
     gomp_sections::single_copy_start(shares, member, limits, put)
 }

@@ -85,7 +85,6 @@ pub fn sections_next<S: Shares>(shares: &mut S, member: u16) -> Reply
     ensures stands { EachStands (S.stands shares.old) (λ h. S.stands shares.new (section_next_taken member result h)) }
     ensures kept { (refusal : Refusal) → result ≡ Refused refusal → shares.new ≡ shares.old }
 {
-    gomp_shares::laws::part_inside();
     let seen = shares.look(member);
     if let Some(refusal) = next_refusal(&seen, Construct::Sections) {
         return Reply::Refused(refusal);
@@ -106,7 +105,6 @@ pub fn sections_end<S: Shares>(shares: &mut S, member: u16) -> Result<(), Refusa
     ensures stands { EachStands (S.stands shares.old) (λ h. S.stands shares.new (left_unless_refused result member h)) }
     ensures kept { (refusal : Refusal) → result ≡ Err refusal → shares.new ≡ shares.old }
 {
-    gomp_shares::laws::part_inside();
     let seen = shares.look(member);
     if let Some(refusal) = end_refusal(&seen, Construct::Sections, EndKind::Wait) {
         return Err(refusal);
@@ -126,7 +124,6 @@ pub fn sections_end_nowait<S: Shares>(shares: &mut S, member: u16) -> Reply
     ensures stands { EachStands (S.stands shares.old) (λ h. S.stands shares.new (left_at_once member result h)) }
     ensures kept { (refusal : Refusal) → result ≡ Refused refusal → shares.new ≡ shares.old }
 {
-    gomp_shares::laws::part_inside();
     let seen = shares.look(member);
     if let Some(refusal) = end_refusal(&seen, Construct::Sections, EndKind::Nowait) {
         return Reply::Refused(refusal);

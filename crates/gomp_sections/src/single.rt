@@ -115,7 +115,6 @@ pub fn single_copy_end<S: Shares>(shares: &mut S, member: u16) -> Result<(), Ref
     ensures stands { EachStands (S.stands shares.old) (λ h. S.stands shares.new (left_unless_refused result member h)) }
     ensures kept { (refusal : Refusal) → result ≡ Err refusal → shares.new ≡ shares.old }
 {
-    gomp_shares::laws::part_inside();
     let seen = shares.look(member);
     if let Some(refusal) = copy_end_refusal(&seen) {
         return Err(refusal);

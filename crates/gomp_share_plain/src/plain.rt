@@ -9,7 +9,7 @@ use crate::open_share::{OpenShare, is_next, shape_there, share_at};
 use crate::seat::{Seat, has_room};
 use gomp_chunks::{Cursor, Plan};
 use gomp_shares::{Opening, Shares};
-use gomp_types::{Seen, Shape, laws};
+use gomp_types::{Seen, Shape};
 use std::alloc::{AllocError, Global};
 use std::marker::Model;
 
@@ -135,7 +135,6 @@ impl Shares for PlainShares {
     }
 
     fn claim(&mut self, member: u16) -> Option<(u64, u64)> {
-        laws::pieces_tile();
         let seat = self.seats[member as usize];
         let place = (seat.ended % 8) as usize;
         let Some(share) = share_at(&self.places, seat.ended) else {
@@ -165,7 +164,6 @@ impl Shares for PlainShares {
     }
 
     fn try_turn(&mut self, member: u16, iteration: u64) -> bool {
-        laws::pieces_tile();
         let seat = self.seats[member as usize];
         let Some(share) = share_at(&self.places, seat.ended) else {
             return false;
@@ -186,7 +184,6 @@ impl Shares for PlainShares {
     }
 
     fn hand_on(&mut self, member: u16) -> bool {
-        laws::pieces_tile();
         let seat = self.seats[member as usize];
         let place = (seat.ended % 8) as usize;
         let Some(share) = share_at(&self.places, seat.ended) else {

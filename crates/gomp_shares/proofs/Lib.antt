@@ -6,6 +6,7 @@ pub mod CallExamples
 pub mod CallRuns
 pub mod Entered
 pub mod FirstOfQueue
+pub mod Laws
 pub mod Only
 pub mod OnlyExamples
 pub mod OrderedKeep

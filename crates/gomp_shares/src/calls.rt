@@ -12,7 +12,7 @@ ghost use Rattle.gomp_shares.specs.declared.calls.ShareAnswer.TheVariants.{NotMa
 ghost use Rattle.gomp_shares.specs.Runs.{may_make, IsAnswer, answered, AreAnswers, events_after};
 
 use crate::own::is_in_rest;
-use crate::{Opening, Shares, laws};
+use crate::{Opening, Shares};
 use gomp_types::{EndKind, LoopDesc, MAX_SECTIONS, Seen, sections_shape, single_shape, trips};
 use std::alloc::{AllocError, Global};
 
@@ -180,8 +180,6 @@ pub fn make_calls<S: Shares>(
     ensures laws { IfOk result (λ made. ShareLaws (schedule count) count (events_after count steps.now made.1.items [])) }
     ensures ordered { IfOk result (λ made. OrderedLaws count (events_after count steps.now made.1.items [])) }
 {
-    laws::share_laws();
-    laws::ordered_laws();
     let mut answers = Vec::with_capacity(alloc, steps.len())?;
     let mut shares = S::make(alloc, count)?;
     for step in steps {

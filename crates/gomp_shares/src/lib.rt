@@ -9,7 +9,6 @@
 #![tactic(auto)]
 
 pub mod calls;
-pub mod laws;
 pub mod own;
 
 ghost use Rattle.std.specs.Prelude.{◌≡◌, ◌<◌, ℕ, List, [], ◌∷◌, IfOk, Some, false};

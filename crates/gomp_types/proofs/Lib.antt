@@ -7,6 +7,7 @@ pub mod EvenTiling
 pub mod EventExamples
 pub mod GuidedTiling
 pub mod IterationValues
+pub mod Laws
 pub mod LeastExamples
 pub mod LeastTests
 pub mod Lists

@@ -1,13 +1,12 @@
 //! The words of a team's calls and replies, what a record of them means, and the laws that
 //! follow from that meaning alone.
 //!
-//! Every crate above speaks in these types. The definitions lie in `specs/`, and `laws` names what
-//! is proved of them.
+//! Every crate above speaks in these types. The definitions are in `specs/`, and `proofs/Laws.antt`
+//! names what is proved of them.
 #![tactic(auto)]
 
 pub mod call;
 pub mod event;
-pub mod laws;
 pub mod limits;
 pub mod loop_desc;
 pub mod name;

@@ -1,6 +1,7 @@
 use Rattle.std.proofs.Common.{◌≡◌, ◌<◌}
 use Rattle.gomp_types.specs.Events.{entered}
 use Rattle.gomp_shares.proofs.Entered.{may_claim}
+use Rattle.gomp_types.proofs.Laws.{value_tells_its_iteration}
 use Rattle.gomp_loops.proofs.Steps.{begin_deals, begin_adds}
 use Rattle.gomp_loops.proofs.calls.begin_loop.Goals as goal
 
@@ -23,5 +24,5 @@ pub returns-in-Entered-clause-stands : goal.returns-in-Entered-clause-stands
 returns-in-Entered-clause-stands g c = λ h st.
     let now = c.in-Entered.ensures.stands h st in
     let claims = c.claim.ensures.answer _ now in
-    let adds = begin_adds _ c.args.member c.args.shape.now c.claim.result h c.values_tell.ensures claims in
+    let adds = begin_adds _ c.args.member c.args.shape.now c.claim.result h value_tells_its_iteration claims in
     rw (c.piece_reply.ensures.answer, adds) (c.claim.ensures.stands _ now)

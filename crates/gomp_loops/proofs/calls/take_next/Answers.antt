@@ -4,6 +4,7 @@ use Rattle.gomp_types.specs.declared.seen.Seen.{Seen}
 use Rattle.gomp_types.specs.Events.{open_share}
 use Rattle.gomp_types.specs.Least.{least}
 use Rattle.gomp_shares.specs.Loops.{handed_on, next_tests}
+use Rattle.gomp_types.proofs.Laws.{value_tells_its_iteration}
 use Rattle.gomp_loops.proofs.Steps.{Handed, handed, kept, handed_there, next_claims, next_reply, next_waits, next_deals, next_adds, claim_within}
 use Rattle.gomp_loops.proofs.calls.take_next.Given.{Over}
 use Rattle.gomp_loops.proofs.calls.take_next.Goals as goal
@@ -72,5 +73,5 @@ returns-clause-stands g c = λ h st.
     let there : open_share c.args.member h ≡ Some (c.requires.inside.0, c.args.shape.now) = sym (ap (λ (s : Seen). s.current) e) ∙ c.requires.inside.1 in
     let moved = is_handed g (goal.at.returns-clause-stands g c).After-claim h st in
     let claims = rw moved.same at (c.claim.ensures.answer _ moved.stands) in
-    let adds = next_adds (g.S.Shares.members c.args.shares.now) c.args.member _ c.args.shape.now c.claim.result h c.values_tell.ensures there claims in
+    let adds = next_adds (g.S.Shares.members c.args.shares.now) c.args.member _ c.args.shape.now c.claim.result h value_tells_its_iteration there claims in
     rw (c.piece_reply.ensures.answer, adds) (c.claim.ensures.stands _ moved.stands)

@@ -4,6 +4,7 @@ use Rattle.gomp_types.specs.declared.call.Call.TheVariants.{LoopEnd, SectionsEnd
 use Rattle.gomp_shares.specs.Singles.{words_put}
 use Rattle.gomp_barrier.specs.Stands.{Stands as BarriersStand}
 use Rattle.gomp_parts.specs.Payloads.{PayloadsStand}
+use Rattle.gomp_barrier.proofs.Laws.{events_aside_keep_barriers}
 use Rattle.gomp_parts.proofs.Answered.{aloof_stands, silent_stands, words_made, words_after, not_resume}
 use Rattle.gomp_parts.proofs.Words.{words_aside}
 use Rattle.gomp_parts.proofs.answer.answer.Goals as goal
@@ -167,7 +168,7 @@ returns-in-SingleCopyEnd-clause-stands g c = λ p parts ready.
     let words = c.in-SingleCopyEnd.words in
     let own = rw c.in-SingleCopyEnd.is at ready in
     let both = c.put_words.ensures.stands p.events (parts.0, parts.2) in
-    let aside : BarriersStand c.args.barriers.now (words_put words c.args.member p.events ++ p.events) = c.aside.ensures.stands c.args.barriers.now _ _ tt (c.aside.ensures.stands c.args.barriers.now _ _ tt parts.1) in
+    let aside : BarriersStand c.args.barriers.now (words_put words c.args.member p.events ++ p.events) = events_aside_keep_barriers c.args.barriers.now _ _ tt (events_aside_keep_barriers c.args.barriers.now _ _ tt parts.1) in
     rw c.in-SingleCopyEnd.is (
       words_after (g.S.Shares.stands c.put_words.new.shares) words members c.args.limits.now c.args.again c.args.member p own both.0,
       words_after (BarriersStand c.args.barriers.now) words members c.args.limits.now c.args.again c.args.member p own aside,
@@ -194,6 +195,6 @@ returns-in-LoopStart-clause-stands g c = λ p parts ready.
     let members = g.S.Shares.members c.args.shares.now in
     let may = c.share_reply.ensures.answer c.args.again p ready (parts.0, parts.2) in (
       c.share_reply.ensures.stands c.args.again p ready parts.0,
-      aloof_stands (BarriersStand c.args.barriers.now) (c.aside.ensures.stands _) c.args.call.now c.args.again c.args.member p c.share_reply.result c.share_reply.ensures.apart.0 may parts.1,
+      aloof_stands (BarriersStand c.args.barriers.now) (events_aside_keep_barriers _) c.args.call.now c.args.again c.args.member p c.share_reply.result c.share_reply.ensures.apart.0 may parts.1,
       silent_stands (PayloadsStand members c.args.payloads.now) (words_aside members c.args.payloads.now) c.args.call.now c.args.again c.args.member p c.share_reply.result c.share_reply.ensures.apart.1 may parts.2,
     )

@@ -5,6 +5,7 @@ use Rattle.gomp_types.specs.declared.seen.Seen.{Seen}
 use Rattle.gomp_types.specs.Least.{least}
 use Rattle.gomp_types.specs.Seen.{seen_of}
 use Rattle.gomp_shares.specs.Singles.{put_tests}
+use Rattle.gomp_shares.proofs.Laws.{share_of_a_member_is_open, shares_eight_before_are_over}
 use Rattle.gomp_parts.proofs.Refused.{refused_not}
 use Rattle.gomp_parts.proofs.Words.{words_stand}
 use Rattle.gomp_parts.proofs.answer.put_words.Goals as goal
@@ -21,8 +22,8 @@ returns-clause-stands g c = λ h both.
     let e = c.look.ensures.value ∙ g.met.S.Shares.agrees c.args.shares.now h c.args.member both.0 c.requires.member in
     let own = ap (λ (s : Seen). s.current) (sym e) ∙ c.in-Some.is in
     let ruled = g.met.S.Shares.ruled c.args.shares.now h both.0 in
-    let known = c.inside_is_open.ensures members c.args.member c.in-Some.number c.in-Some.field-0-1 h ruled own in (
+    let known = share_of_a_member_is_open members c.args.member c.in-Some.number c.in-Some.field-0-1 h ruled own in (
       rw c.in-Ok.is at (c.single_copy_end.ensures.stands (Put (open_number c.args.member h) c.args.member c.args.words.now ∷ h) (g.met.S.Shares.aside c.args.shares.now h _ tt both.0)),
       words_stand members c.args.payloads.now _ c.in-Some.number c.args.member c.in-Some.field-0-1 c.args.words.now h
-          (λ i j k shape at is. c.eight_before.ensures members i j k shape h ruled at is) both.1 own known (rw c.copied.ensures at c.put.ensures),
+          (λ i j k shape at is. shares_eight_before_are_over members i j k shape h ruled at is) both.1 own known (rw c.copied.ensures at c.put.ensures),
     )

@@ -1,5 +1,6 @@
 use Rattle.std.proofs.Common.{refl, ◌∙◌, sym}
 use Rattle.gomp_shares.specs.Sections.{section_next_tests}
+use Rattle.gomp_shares.proofs.Laws.{ordered_part_is_in_a_loop}
 use Rattle.gomp_sections.proofs.Tests.{least_seen}
 use Rattle.gomp_sections.proofs.SectionSteps.{next_is_section, section_next_dealt, next_may_claim, section_next_adds}
 use Rattle.gomp_sections.proofs.sections.sections_next.Goals as goal
@@ -8,7 +9,7 @@ pub claim-requires : goal.claim-requires
 claim-requires g c =
     let (h, st) = c.look-seen.ensures.known in
     let seen = g.met.S.Shares.agrees c.args.shares.now h c.args.member st c.requires.member in
-    let law = c.part_inside.ensures (g.S.Shares.members c.args.shares.now) c.args.member h (g.met.S.Shares.ruled c.args.shares.now h st) in
+    let law = ordered_part_is_in_a_loop (g.S.Shares.members c.args.shares.now) c.args.member h (g.met.S.Shares.ruled c.args.shares.now h st) in
     let none = least_seen section_next_tests c.args.member c.look-seen.result h _ refl (c.look-seen.ensures.value ∙ seen) (sym c.in_default.is ∙ c.next_refusal.ensures.first) in
     record { place = next_may_claim _ c.args.member _ h c.requires.member seen law none }
 

@@ -1,6 +1,7 @@
 use Rattle.std.proofs.Common.{refl, ap, ◌∙◌, sym}
 use Rattle.gomp_types.specs.Tests.{outcome}
 use Rattle.gomp_shares.specs.Singles.{put_tests}
+use Rattle.gomp_shares.proofs.Laws.{ordered_part_is_in_a_loop}
 use Rattle.gomp_sections.proofs.Tests.{least_seen}
 use Rattle.gomp_sections.proofs.SingleSteps.{copy_may_leave}
 use Rattle.gomp_sections.proofs.single.single_copy_end.Goals as goal
@@ -9,7 +10,7 @@ pub leave-requires : goal.leave-requires
 leave-requires g c =
     let (h, st) = c.look-seen.ensures.known in
     let seen = g.met.S.Shares.agrees c.args.shares.now h c.args.member st c.requires.member in
-    let law = c.part_inside.ensures (g.S.Shares.members c.args.shares.now) c.args.member h (g.met.S.Shares.ruled c.args.shares.now h st) in
+    let law = ordered_part_is_in_a_loop (g.S.Shares.members c.args.shares.now) c.args.member h (g.met.S.Shares.ruled c.args.shares.now h st) in
     let none = least_seen put_tests c.args.member c.look-seen.result h _ refl (c.look-seen.ensures.value ∙ seen) (sym c.in_default.is ∙ c.copy_end_refusal.ensures.first) in
     record { place = copy_may_leave _ c.args.member _ h c.requires.member seen law none }
 

@@ -10,6 +10,7 @@ use Rattle.gomp_parts.specs.Answers.{IsReady, MayReply, PartsStand, StartsShare,
 use Rattle.gomp_parts.specs.Payloads.{PayloadsStand}
 use Rattle.gomp_core.specs.Stands.{TeamView, Stands, past, terms_of}
 use Rattle.gomp_laws.proofs.Laws.{least_refusal_is_an_answer}
+use Rattle.gomp_barrier.proofs.Laws.{events_aside_keep_barriers}
 use Rattle.gomp_core.proofs.Waits.{step_ready}
 use Rattle.gomp_parts.proofs.Words.{words_aside}
 use Rattle.gomp_core.proofs.Stepping.{same_stands, other_stands, step_found, member_free, member_differs, stands_refused, stands_broken, refused_memory, may_answer, never_refused, stands_answered, set_twice, waits_on}
@@ -178,7 +179,7 @@ returns-in-Mismatch-clause-stands g c = λ before st0.
     let place = rw (← c.self.view_is) at there in
     stands_broken g.S.Shares.stands g.S.Shares.members team before step c.place-place.result st (least_refusal_is_an_answer (past team before) step Mismatch is) is place
     (λ h s. g.met.S.Shares.aside c.self.inside.shares h (Break c.args.member c.place-place.result) tt s)
-    (λ h s. c.aside.ensures.stands c.self.inside.barriers h (Break c.args.member c.place-place.result) tt s)
+    (λ h s. events_aside_keep_barriers c.self.inside.barriers h (Break c.args.member c.place-place.result) tt s)
     (λ h s. words_aside (length c.self.inside.waiting.items) c.self.inside.payloads h (Break c.args.member c.place-place.result) tt s)
 
 pub invariant_of-self-in-Mismatch : goal.invariant_of-self-in-Mismatch

@@ -2,6 +2,7 @@ use Rattle.std.proofs.Common.{arith, refl}
 use Rattle.std.proofs.lemmas.List.{length-set}
 use Rattle.std.proofs.lemmas.Option.{slice_get_read}
 use Rattle.gomp_shares.specs.Calls.{CanClaim}
+use Rattle.gomp_types.proofs.Laws.{pieces_tile_the_share}
 use Rattle.gomp_share_plain.proofs.Places.{place_is, own_place, not_empty, here_plan}
 use Rattle.gomp_share_plain.proofs.TakesKeep.{claims, drains, piece_at}
 use Rattle.gomp_share_plain.proofs.Views.{told, known_by}
@@ -30,7 +31,7 @@ returns-in_default-next_piece-clause-answer c = λ h st0.
     rw (← c.self.view_is) (
     piece_at _ _ _ _ h c.args.member c.index-seat.result.now c.in-Some.share _ st at can.inside there
     (rw c.in_default-next_piece.is at c.next_piece.ensures.piece) (rw c.in_default-next_piece.is at c.next_piece.ensures.within)
-    (λ valid. c.pieces_tile.ensures _ c.in-Some.share.shape (let lt = can.member in omega arith) valid))
+    (λ valid. pieces_tile_the_share _ c.in-Some.share.shape (let lt = can.member in omega arith) valid))
 
 pub returns-in_default-next_piece-clause-stands : goal.returns-in_default-next_piece-clause-stands
 returns-in_default-next_piece-clause-stands c = λ h st0.
@@ -50,7 +51,7 @@ returns-clause-answer c = λ h st0.
     rw (← c.self.view_is) (
     piece_at _ _ _ _ h c.args.member c.index-seat.result.now c.in-Some.share _ st at can.inside there
     (rw c.in-Some-next_piece.is at c.next_piece.ensures.piece) (rw c.in-Some-next_piece.is at c.next_piece.ensures.within)
-    (λ valid. c.pieces_tile.ensures _ c.in-Some.share.shape (let lt = can.member in omega arith) valid))
+    (λ valid. pieces_tile_the_share _ c.in-Some.share.shape (let lt = can.member in omega arith) valid))
 
 pub returns-clause-stands : goal.returns-clause-stands
 returns-clause-stands c = λ h st0.

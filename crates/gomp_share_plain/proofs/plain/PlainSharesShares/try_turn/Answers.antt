@@ -5,6 +5,7 @@ use Rattle.std.proofs.lemmas.Option.{slice_get_read}
 use Rattle.gomp_types.proofs.Booleans.{some_of, and_left}
 use Rattle.gomp_shares.specs.Calls.{CanBeginPart}
 use Rattle.gomp_shares.proofs.AnswerRules.{begins_inside, rest_tells}
+use Rattle.gomp_types.proofs.Laws.{pieces_tile_the_share}
 use Rattle.gomp_share_plain.proofs.Places.{place_is, own_place, not_empty}
 use Rattle.gomp_share_plain.proofs.Views.{told, known_by}
 use Rattle.gomp_share_plain.proofs.PartsKeep.{next_tells, number_below, begins}
@@ -21,7 +22,7 @@ returns-then-not-is_next-clause-answer c = λ h st0.
     let (can, st) = told _ _ c.args.member h (λ n seen. CanBeginPart n c.args.member c.args.iteration seen) c.self.view_is c.requires.place c.requires.place.member st0 in
     let at = slice_get_read c.self.inside.seats.items _ c.args.member c.index.result.now refl can.member c.index.ensures in
     let there = place_is _ _ _ c.share_at.ensures.there c.in-Some.is in
-    let tells = next_tells _ _ _ _ h c.args.member c.index.result.now c.in-Some.share st at (begins_inside _ c.args.member c.args.iteration h can) there can.member c.pieces_tile.ensures in
+    let tells = next_tells _ _ _ _ h c.args.member c.index.result.now c.in-Some.share st at (begins_inside _ c.args.member c.args.iteration h can) there can.member pieces_tile_the_share in
     rw (← c.self.view_is) (sym (tells ∙ sym c.is_next.ensures ∙ c.if-not-is_next.true))
 
 pub returns-clause-answer : goal.returns-clause-answer
@@ -29,7 +30,7 @@ returns-clause-answer c = λ h st0.
     let (can, st) = told _ _ c.args.member h (λ n seen. CanBeginPart n c.args.member c.args.iteration seen) c.self.view_is c.requires.place c.requires.place.member st0 in
     let at = slice_get_read c.self.inside.seats.items _ c.args.member c.index.result.now refl can.member c.index.ensures in
     let there = place_is _ _ _ c.share_at.ensures.there c.in-Some.is in
-    let tells = next_tells _ _ _ _ h c.args.member c.index.result.now c.in-Some.share st at (begins_inside _ c.args.member c.args.iteration h can) there can.member c.pieces_tile.ensures in
+    let tells = next_tells _ _ _ _ h c.args.member c.index.result.now c.in-Some.share st at (begins_inside _ c.args.member c.args.iteration h can) there can.member pieces_tile_the_share in
     rw (← c.self.view_is) (sym (tells ∙ sym c.is_next.ensures ∙ c.if-not-is_next.false))
 
 pub returns-clause-stands : goal.returns-clause-stands
@@ -37,7 +38,7 @@ returns-clause-stands c = λ h st0.
     let (can, st) = told _ _ c.args.member h (λ n seen. CanBeginPart n c.args.member c.args.iteration seen) c.self.view_is c.requires.place c.requires.place.member st0 in
     let at = slice_get_read c.self.inside.seats.items _ c.args.member c.index.result.now refl can.member c.index.ensures in
     let there = place_is _ _ _ c.share_at.ensures.there c.in-Some.is in
-    let tells = next_tells _ _ _ _ h c.args.member c.index.result.now c.in-Some.share st at (begins_inside _ c.args.member c.args.iteration h can) there can.member c.pieces_tile.ensures in
+    let tells = next_tells _ _ _ _ h c.args.member c.index.result.now c.in-Some.share st at (begins_inside _ c.args.member c.args.iteration h can) there can.member pieces_tile_the_share in
     let next = tells ∙ sym c.is_next.ensures ∙ c.if-not-is_next.false in
     rw (length-set c.self.inside.seats.items c.args.member _) (begins _ _ _ _ h c.args.member c.index.result.now c.args.iteration st at can next)
 
@@ -51,7 +52,7 @@ overflow_add-iteration c =
     let at = slice_get_read c.self.inside.seats.items _ c.args.member c.index.result.now refl can.member c.index.ensures in
     let there = place_is _ _ _ c.share_at.ensures.there c.in-Some.is in
     let piece = some_of c.index.result.now.piece (and_left (is_some c.index.result.now.piece) _ (sym c.is_next.ensures ∙ c.if-not-is_next.false)) in
-    let few = number_below _ _ _ _ h c.args.member c.index.result.now c.in-Some.share piece.0 st at (begins_inside _ c.args.member c.args.iteration h can) there can.member c.pieces_tile.ensures piece.1 in
+    let few = number_below _ _ _ _ h c.args.member c.index.result.now c.in-Some.share piece.0 st at (begins_inside _ c.args.member c.args.iteration h can) there can.member pieces_tile_the_share piece.1 in
     let s = st.seat c.args.member _ at in
     let rest = rest_tells _ _ c.args.iteration can.rest in
     let before = rest.before in

@@ -1,6 +1,0 @@
-use Rattle.gomp_types.specs.Deals.{schedule}
-use Rattle.gomp_shares.proofs.Windows.{next_is_open}
-use Rattle.gomp_shares.proofs.laws.next_is_open.Goals as goal
-
-pub returns : goal.returns
-returns c = λ members. next_is_open (schedule members) members
