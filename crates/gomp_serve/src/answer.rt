@@ -53,5 +53,5 @@ pub fn answer_steps(alloc: Global, icv: Icv, text: &[u8]) -> Result<Answer, Allo
 fn team_size(count: u32) -> u16
     ensures { result ≡ min count 65535 }
 {
-    count.min(u16::MAX as u32) as u16
+    u16::try_from(count).unwrap_or(u16::MAX)
 }

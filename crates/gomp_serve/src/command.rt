@@ -17,7 +17,7 @@ use std::convert::AsStr;
 use std::io::{self, Read, Write};
 
 /// What is told beside the output, on standard error.
-#[derive(Debug, Drop, PartialEq, Eq)]
+#[derive(Drop)]
 pub enum Notes {
     Nothing,
     /// Memory was refused outside of the steps.
@@ -33,7 +33,7 @@ pub enum Notes {
 }
 
 /// How the program ends.
-#[derive(Debug, Drop, PartialEq, Eq)]
+#[derive(Drop)]
 pub struct Status {
     /// 0 where the text was answered; 1 where a line of it is bad, the command line is refused, or
     /// input or output failed; 2 where there is no such team; 3 for want of memory.

@@ -13,7 +13,7 @@ use std::io::{self, ErrorKind, Read, Write};
 pub const MAX_TEXT: u32 = 1 << 24;
 
 /// How the text of steps was served.
-#[derive(Clone, Copy, Debug, PartialEq, Eq)]
+#[derive(Clone, Copy)]
 pub enum Ending {
     /// The answer was written, and it ends with this status.
     Answered(u8),

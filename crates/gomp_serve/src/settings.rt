@@ -10,7 +10,7 @@ use gomp_types::Refusal;
 use std::alloc::{AllocError, Global};
 
 /// Why words are not read as settings.
-#[derive(Clone, Copy, Debug, PartialEq, Eq)]
+#[derive(Clone, Copy)]
 pub enum SettingsError<'a> {
     /// Memory was refused, and each word has an `=`.
     NoMemory,
