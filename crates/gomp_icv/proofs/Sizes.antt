@@ -22,6 +22,6 @@ pub one_dropped : (kept : List ℕ) (size : ℕ) (later : Option (List ℕ)) →
 one_dropped kept size None full = refl
 one_dropped kept size (Some sizes) full = ap (λ (all : List ℕ). Some all) (take_at kept (size ∷ sizes) most_sizes full ∙ sym (take_at kept sizes most_sizes full))
 
-pub one_more : (kept : List ℕ) (size : ℕ) → AreSizes kept → 1 ≤ size → size ≤ max_number → AreSizes (kept ++ size ∷ [])
-one_more [] size all some most = (some, most, tt)
-one_more (s ∷ kept) size all some most = (all.0, all.1, one_more kept size all.2 some most)
+pub sizes_with_one_more : (kept : List ℕ) (size : ℕ) → AreSizes kept → 1 ≤ size → size ≤ max_number → AreSizes (kept ++ size ∷ [])
+sizes_with_one_more [] size all some most = (some, most, tt)
+sizes_with_one_more (s ∷ kept) size all some most = (all.0, all.1, sizes_with_one_more kept size all.2 some most)

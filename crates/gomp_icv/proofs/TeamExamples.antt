@@ -134,8 +134,8 @@ pub level_before_the_last : (child (in_levels 4294967294 1) 2).active ≡ 429496
 level_before_the_last = refl
 
 -- all other variables are inherited
-pub inherited : child (record { dynamic = true; nthreads = 3 ∷ []; sched = Guided; chunk = pos 7; max_active_levels = 5; thread_limit = 9; cancellation = true; active = 2 }) 3 ≡ record { dynamic = true; nthreads = 3 ∷ []; sched = Guided; chunk = pos 7; max_active_levels = 5; thread_limit = 9; cancellation = true; active = 3 }
-inherited = refl
+pub child_inherits_each_variable : child (record { dynamic = true; nthreads = 3 ∷ []; sched = Guided; chunk = pos 7; max_active_levels = 5; thread_limit = 9; cancellation = true; active = 2 }) 3 ≡ record { dynamic = true; nthreads = 3 ∷ []; sched = Guided; chunk = pos 7; max_active_levels = 5; thread_limit = 9; cancellation = true; active = 3 }
+child_inherits_each_variable = refl
 
 -- a team in a team of the list 4, 2 has one member, where one level is allowed
 pub team_within : team_size (child (with_sizes (4 ∷ 2 ∷ [])) 4) None true 1 ≡ 1

@@ -38,6 +38,10 @@ AreSizes (size ∷ sizes) = (1 ≤ size) × (size ≤ max_number) × AreSizes si
 abbrev pub IsNumThreads : List ℕ → Type 0
 IsNumThreads sizes = (1 ≤ length sizes) × (length sizes ≤ most_sizes) × AreSizes sizes
 
+-- a chunk, or none, which is 0
+abbrev pub IsChunk : ℤ → Type 0
+IsChunk chunk = (int_lt chunk (pos 0) ≡ false) × (int_lt (pos max_chunk) chunk ≡ false)
+
 -- a schedule that is not left to the control variables, and a chunk or none
 abbrev pub IsSchedule : Sched → ℤ → Type 0
 IsSchedule sched chunk = (is_runtime sched ≡ false) × (int_lt chunk (pos 0) ≡ false) × (int_lt (pos max_chunk) chunk ≡ false)

@@ -3,10 +3,9 @@
 //! OpenMP API 5.2, chapter 21. The case of letters is ignored, and so are spaces and tabs around
 //! each part of a value.
 
-ghost use Rattle.std.specs.Prelude.{◌≡◌, ◌≤◌, pos, int_lt, false, IfSome};
-ghost use Rattle.gomp_types.specs.Iterations.{max_chunk};
+ghost use Rattle.std.specs.Prelude.{◌≡◌, ◌≤◌, IfSome};
 ghost use Rattle.gomp_text.specs.Words.{cut};
-ghost use Rattle.gomp_icv.specs.Variables.{IsSchedule};
+ghost use Rattle.gomp_icv.specs.Variables.{IsChunk, IsSchedule};
 ghost use Rattle.gomp_icv.specs.EnvValues.{number_of, is_named, switch_of, is_modifier, chosen, kind_and_chunk, schedule_of};
 
 use gomp_text::{cut, is_word_in_any_case, trimmed, unsigned};
@@ -88,7 +87,7 @@ fn kind_and_chunk(text: &[u8]) -> Option<(Sched, i64)>
 /// a static schedule without a chunk, whatever chunk is given (own).
 fn chosen(kind: &[u8], chunk: i64) -> Option<(Sched, i64)>
     ensures value { result ≡ chosen kind.now chunk }
-    ensures range { int_lt chunk (pos 0) ≡ false → int_lt (pos max_chunk) chunk ≡ false → IfSome result (λ found. IsSchedule found.0 found.1) }
+    ensures range { IsChunk chunk → IfSome result (λ found. IsSchedule found.0 found.1) }
 {
     if is_named(kind, b"static") {
         return Some((Sched::Static, chunk));

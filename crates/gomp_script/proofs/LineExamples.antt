@@ -34,9 +34,9 @@ unfolding plain_step loop_step sections_step copy_end_step ordered_step team_of
 longer_calls_miswritten = refl
 
 -- the schedules of a loop
-pub schedules : steps_said (parts (codes "0 loop static 0 0 4 1 wait|0 loop dynamic 0 0 4 1 wait|0 loop guided 0 0 4 1 wait|0 loop runtime 0 0 4 1 wait")) ≡ map (λ sched. by_first (LoopStart (loop_of_four sched Wait false))) (Static ∷ Dynamic ∷ Guided ∷ Runtime ∷ [])
+pub each_schedule_word : steps_said (parts (codes "0 loop static 0 0 4 1 wait|0 loop dynamic 0 0 4 1 wait|0 loop guided 0 0 4 1 wait|0 loop runtime 0 0 4 1 wait")) ≡ map (λ sched. by_first (LoopStart (loop_of_four sched Wait false))) (Static ∷ Dynamic ∷ Guided ∷ Runtime ∷ [])
 unfolding plain_step loop_step sections_step copy_end_step ordered_step team_of
-schedules = refl
+each_schedule_word = refl
 
 -- other words are none
 pub other_schedules : steps_said (parts (codes "0 loop auto 0 0 4 1 wait|0 loop Static 0 0 4 1 wait|0 loop dynami 0 0 4 1 wait|0 loop guideds 0 0 4 1 wait|0 loop run 0 0 4 1 wait")) ≡ each_bad 5 UnknownWord

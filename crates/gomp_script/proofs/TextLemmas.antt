@@ -22,14 +22,14 @@ abbrev pub with_fronts : List Step → Result (List Step) BadLine → Result (Li
 with_fronts steps (Ok later) = Ok (steps ++ later)
 with_fronts steps (Err bad) = Err bad
 
-pub one_more : (steps : List Step) (step : Step) (read : Result (List Step) BadLine) → with_fronts steps (with_front step read) ≡ with_fronts (steps ++ step ∷ []) read
-one_more steps step (Ok later) = ap (λ (all : List Step). Ok all) (sym (append_assoc steps (step ∷ []) later))
-one_more steps step (Err bad) = refl
+pub front_moved_behind : (steps : List Step) (step : Step) (read : Result (List Step) BadLine) → with_fronts steps (with_front step read) ≡ with_fronts (steps ++ step ∷ []) read
+front_moved_behind steps step (Ok later) = ap (λ (all : List Step). Ok all) (sym (append_assoc steps (step ∷ []) later))
+front_moved_behind steps step (Err bad) = refl
 
 -- a line that is no fault is kept
 pub line_kept : (steps : List Step) (number : ℕ) (said : Option Step) (later : Result (List Step) BadLine) → with_fronts steps (step_line number (Ok said) later) ≡ with_fronts (kept steps said) later
 line_kept steps number None later = refl
-line_kept steps number (Some step) later = one_more steps step later
+line_kept steps number (Some step) later = front_moved_behind steps step later
 
 -- the lines of what is left of a text, by the first one and what is left after it
 pub lines_here : (text line : List ℕ) (before rest : Option (List ℕ)) → before ≡ Some text → lines_of text ≡ line ∷ lines_left rest → lines_left before ≡ line ∷ lines_left rest
@@ -57,10 +57,10 @@ fault_behind steps number (Some step) (Ok later) some = tt
 fault_behind steps number (Some step) (Err bad) some = refl
 
 -- and where none of them is bad, there is that step
-pub step_refused : (steps : List Step) (number : ℕ) (said : Option Step) (later : Result (List Step) BadLine) → IsSome said → refused_by later ≡ Memory → HasStep (with_fronts steps (step_line number (Ok said) later))
-step_refused steps number None later some memory = absurd (cc)
-step_refused steps number (Some step) (Ok later) some memory = not_none steps step later
-step_refused steps number (Some step) (Err bad) some memory = absurd (cc)
+pub has_refused_step : (steps : List Step) (number : ℕ) (said : Option Step) (later : Result (List Step) BadLine) → IsSome said → refused_by later ≡ Memory → HasStep (with_fronts steps (step_line number (Ok said) later))
+has_refused_step steps number None later some memory = absurd (cc)
+has_refused_step steps number (Some step) (Ok later) some memory = not_none steps step later
+has_refused_step steps number (Some step) (Err bad) some memory = absurd (cc)
 
 -- a line that is no fault changes nothing once memory was refused
 pub no_fault_here : (number : ℕ) (said : Option Step) (later : Result (List Step) BadLine) → refused_by (step_line number (Ok said) later) ≡ refused_by later

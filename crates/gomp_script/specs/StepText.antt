@@ -1,5 +1,7 @@
 -- The text of steps: a line `team N`, and then a line `MEMBER CALL` for each step. (own)
-use Rattle.std.specs.Prelude.{ℕ, ℤ, ◌≡◌, ◌≢◌, ◌+◌, ◌++◌, ◌==◌, Bool, true, false, if◌then◌else◌, List, [], ◌∷◌, take, drop, Option, Some, None, Result, Ok, Err, codes}
+use Rattle.std.specs.Prelude.{ℕ, ℤ, ◌≡◌, ◌≢◌, ◌+◌, ◌++◌, ◌==◌, Bool, true, false, if◌then◌else◌, List, [], ◌∷◌, take, drop, Option, Some, None, Result, Ok, Err, MatchResult, codes}
+use Rattle.std.specs.Borrow.{Bor}
+use Rattle.std.specs.Option.{option_map_or}
 use Rattle.gomp_types.specs.declared.call.Call.{Call}
 use Rattle.gomp_types.specs.declared.call.Call.TheVariants.{LoopStart, LoopNext, LoopEnd, LoopEndNowait, SectionsStart, SectionsNext, SectionsEnd, SectionsEndNowait, SingleStart, SingleCopyStart, SingleCopyEnd, OrderedStart, OrderedEnd, Barrier, RegionEnd, Resume, Stop}
 use Rattle.gomp_types.specs.declared.call.Step.{Step}
@@ -32,6 +34,10 @@ wanted why (Some value) = Ok value
 abbrev pub next : List (List ℕ) → Result (List ℕ × List (List ℕ)) Why
 next [] = Err MissingWord
 next (word ∷ words) = Ok (word, words)
+
+-- the next word of a line and what follows it are taken, or it is said why there is none
+abbrev pub TakesNext : List ℕ → Result (Bor (List ℕ) × Bor (List ℕ)) Why → Type 0
+TakesNext line taken = MatchResult taken (λ parts. next (words_of line) ≡ Ok (parts.0.now, words_of parts.1.now)) (λ why. next (words_of line) ≡ Err why)
 
 -- no word is left
 abbrev pub finished : List (List ℕ) → Result (Unit {0}) Why
@@ -211,6 +217,10 @@ without_comment (word ∷ words) = if begins_comment word then [] else word ∷ 
 -- the words of a line, none of a comment
 abbrev pub line_words : List ℕ → Result (List (List ℕ)) Why
 line_words line = if is_ascii line then Ok (without_comment (words_of line)) else Err NotAscii
+
+-- the first word of a line and the rest of the line after it; nothing where the line has no word or is a comment; or why it is bad
+abbrev pub IsFirstOfLine : List ℕ → Result (Option (Bor (List ℕ) × Bor (List ℕ))) Why → Type 0
+IsFirstOfLine line read = MatchResult read (λ found. line_words line ≡ Ok (option_map_or (λ parts. parts.0.now ∷ words_of parts.1.now) found [])) (λ why. line_words line ≡ Err why)
 
 abbrev pub read_words : {A : Type 0} → (List (List ℕ) → Result A Why) → List (List ℕ) → Result (Option A) Why
 read_words reads [] = Ok None

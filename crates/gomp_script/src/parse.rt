@@ -1,10 +1,9 @@
 //! From a text of steps to the size of the team and the steps.
 
-ghost use Rattle.std.specs.Prelude.{◌≡◌, ◌≤◌, Ok, Err, [], ◌∷◌, option_copied, vec_len, vec_capacity, MatchResult, OnOk, OnErr, IfErr, IsSome, IsErrOf};
-ghost use Rattle.std.specs.Option.{option_map_or};
+ghost use Rattle.std.specs.Prelude.{◌≡◌, ◌≤◌, ◌∷◌, option_copied, vec_len, vec_capacity, OnOk, OnErr, IsSome, IsErrOf};
 ghost use Rattle.gomp_text.specs.Words.{words_of};
 ghost use Rattle.gomp_script.specs.declared.parse.ParseError.TheVariants.{Memory};
-ghost use Rattle.gomp_script.specs.StepText.{call_step, step_of, team_of, read_line, line_words, steps_left, steps_of, kept, begins_comment, Gives, HasStep, TeamHasStep, refused_by};
+ghost use Rattle.gomp_script.specs.StepText.{IsFirstOfLine, call_step, step_of, team_of, read_line, steps_left, steps_of, kept, begins_comment, Gives, HasStep, TeamHasStep, refused_by};
 
 mod loops;
 mod ordered;
@@ -190,7 +189,7 @@ fn read_step(line: &[u8]) -> Result<Option<Step>, Why>
 /// The first word of a line, and the rest of the line after it. None where the line has no word, or
 /// is a comment.
 fn first_word(line: &[u8]) -> Result<Option<(&[u8], &[u8])>, Why>
-    ensures { MatchResult result (λ found. line_words line.now ≡ Ok (option_map_or (λ parts. parts.0.now ∷ words_of parts.1.now) found [])) (λ why. line_words line.now ≡ Err why) }
+    ensures { IsFirstOfLine line.now result }
 {
     if !is_ascii(line) {
         return Err(Why::NotAscii);

@@ -1,6 +1,6 @@
 //! How replies are printed.
 
-ghost use Rattle.std.specs.Prelude.{◌≡◌, ◌≢◌, ◌++◌, [], Some, string_bytes, IfOk, MatchResult, OnOk, flat_map};
+ghost use Rattle.std.specs.Prelude.{◌≡◌, ◌≢◌, ◌++◌, [], Some, string_bytes, IfOk, IfErr, OnOk, flat_map};
 ghost use Rattle.gomp_script.specs.Printing.{reply_text, reply_line, word_text, refusal_line, why_text, bad_line_text};
 
 use crate::parse::{BadLine, Why};
@@ -78,9 +78,8 @@ pub fn print_refusal(alloc: Global, refusal: &Refusal) -> Result<String, AllocEr
 
 /// The lines of these replies. The error is want of memory, and no reply takes none.
 pub fn print_replies(alloc: Global, replies: &[Reply]) -> Result<String, AllocError>
-    ensures { MatchResult result
-        (λ text. string_bytes text ≡ flat_map reply_line replies.now)
-        (λ _. replies.now ≢ []) }
+    ensures lines { IfOk result (λ text. string_bytes text ≡ flat_map reply_line replies.now) }
+    ensures memory { IfErr result (λ _. replies.now ≢ []) }
 {
     let mut text = String::new(alloc);
     for reply in replies {

@@ -1,6 +1,7 @@
 -- What a size that is not refused is.
-use Rattle.std.proofs.Common.{◌≡◌, ℕ, ◌≤◌, true, refl, arith, inl, inr, min}
-use Rattle.std.specs.Prelude.{nat_le}
+use Rattle.std.proofs.Common.{◌≡◌, ℕ, ◌≤◌, ◌<◌, true, refl, arith, inl, inr, min, Result, Ok, Err}
+use Rattle.std.specs.Prelude.{nat_le, OkIff}
+use Rattle.std.specs.Result.{result_unwrap_or}
 use Rattle.std.proofs.lemmas.Bool.{cases_Bool}
 use Rattle.std.proofs.lemmas.Bool.Decides.{nat_tests}
 use Rattle.gomp_types.specs.declared.limits.TheConstants.{MAX_MEMBERS}
@@ -23,3 +24,8 @@ is_size_of n size =
 
 pub same_count : (n count : ℕ) → n ≡ min count 65535 → n ≤ MAX_MEMBERS → count ≡ n
 same_count n count is le = grind (arith, is, le)
+
+-- what a conversion gives that fails above the largest number of its type, with that in the place of a failure
+pub size_or_largest : {E : Type 0} (tried : Result ℕ E) (count : ℕ) → OkIff tried (count < 65536) count → result_unwrap_or tried 65535 ≡ min count 65535
+size_or_largest (Ok size) count fits = let same = fits.0 in let less = fits.1 in grind (arith, same, less)
+size_or_largest (Err error) count fits = grind (arith, fits)

@@ -1,22 +1,22 @@
 -- The words `ompteam steps` have no fault, and how the program ends on words that have.
 use Rattle.std.proofs.Common.{◌≡◌, ◌∙◌, ℕ, Bool, true, List, [], ◌∷◌, Option, Some, None, refl, ap, sym, codes, inl, inr, map}
-use Rattle.std.specs.Prelude.{find, option_map}
+use Rattle.std.specs.Prelude.{find, option_map, IsSomeAnd, Result, Ok, Err, IsErrAnd, IfOk}
 use Rattle.std.specs.Option.{option_map_or}
 use Rattle.std.specs.Borrow.{Bor}
 use Rattle.std.specs.Str.{bytes_eq}
 use Rattle.std.proofs.lemmas.Bool.{cases_Bool}
-use Rattle.clap.specs.Words.{HasKind, Kinds, Row, Text, found_of, is_simple_and_free, kind_of, matched_of, raw_values, rows_of, subcommand_rows_of}
+use Rattle.clap.specs.Words.{App, FailsBy, HasKind, HasMatchesOf, Kinds, Row, Rule, Text, fault_of, found_of, is_simple, is_simple_and_free, kind_of, matched_of, raw_values, rows_of, rule_of, subcommand_of, subcommand_rows_of}
 use Rattle.clap.specs.declared.parser.matches.ArgMatches.{ArgMatches}
+use Rattle.clap.specs.declared.builder.arg.Arg.{Arg}
+use Rattle.clap.specs.declared.builder.range.ValueRange.{ValueRange}
 use Rattle.clap.specs.declared.error.Error.{Error}
 use Rattle.clap.proofs.OnLiterals.{clap_on_literals}
 use Rattle.clap.specs.declared.error.kind.ErrorKind.{ErrorKind}
 use Rattle.clap.specs.declared.error.kind.ErrorKind.TheVariants as kinds
 use Rattle.gomp_types.specs.declared.refusal.Refusal.{Refusal}
-use Rattle.gomp_types.specs.declared.refusal.Refusal.TheVariants.{BadEnv}
 use Rattle.gomp_icv.specs.Variables.{Variables}
-use Rattle.gomp_serve.specs.CommandLine.{Asks, Ends, EndsOnSteps, EndsWithRead, Told, faults_of, ompteam, settings_in, settings_name, settings_of}
-use Rattle.gomp_serve.specs.Examples.{with_another_command, with_settings, with_two_faults}
-use Rattle.gomp_serve.specs.Settings.{first_without, read_settings}
+use Rattle.gomp_serve.specs.CommandLine.{Asks, Ends, EndsOnSteps, EndsWithRead, IsErrorReport, faults_of, ompteam, settings_in, settings_name, settings_of}
+use Rattle.gomp_serve.specs.Settings.{read_settings}
 use Rattle.gomp_serve.specs.declared.serve.Ending.TheVariants as ending
 use Rattle.gomp_serve.specs.declared.command.Notes.{Notes}
 use Rattle.gomp_serve.specs.declared.command.Notes.TheVariants as notes
@@ -35,28 +35,6 @@ pub steps_has_no_settings : (name : Text) → settings_of (name ∷ codes "steps
 unfolding clap_on_literals
 steps_has_no_settings name = refl
 
--- Worked command lines
-
-pub served_has_no_fault : faults_of with_settings ≡ []
-unfolding clap_on_literals
-served_has_no_fault = refl
-
-pub served_has_settings : settings_of with_settings ≡ codes "OMP_SCHEDULE=guided,7" ∷ codes "FOO=1" ∷ []
-unfolding clap_on_literals
-served_has_settings = refl
-
-pub another_has_faults : faults_of with_another_command ≡ [] → ⊥
-unfolding clap_on_literals
-another_has_faults none = let same : (kinds.UnknownArgument ∷ kinds.InvalidSubcommand ∷ []) ≡ [] = none in absurd (cc)
-
-pub served_is_read : option_map (λ read. read.1) (read_settings (settings_of with_settings)) ≡ Some (BadEnv (codes "FOO") ∷ [])
-unfolding clap_on_literals
-served_is_read = refl
-
-pub first_of_two : first_without (settings_of with_two_faults) ≡ Some (codes "FOO")
-unfolding clap_on_literals
-first_of_two = refl
-
 -- The end after an error
 
 no_asking : (kind : ErrorKind) → kind ≡ kinds.OutOfMemory → Asks kind → ⊥
@@ -68,24 +46,24 @@ stepped_memory : (settings : List Text) (read : Option (Variables × List Refusa
 stepped_memory settings None remaining before after same = (refl, same)
 stepped_memory settings (Some read) remaining before after same = record { ending = ending.NoMemory; serves = same; status_is = refl }
 
-told_memory : (kind : ErrorKind) (settings : List Text) (remaining before after : Option (List ℕ)) (notes : Notes) (code : ℕ) → kind ≡ kinds.OutOfMemory → Told kind before after notes code → EndsOnSteps settings remaining before after (record { code = code; notes = notes })
-told_memory kind settings remaining before after notes.Nothing code memory told = absurd (no_asking kind memory told.0)
-told_memory kind settings remaining before after notes.NoMemory code memory told = rw told.0 (stepped_memory settings (read_settings settings) remaining before after told.1)
-told_memory kind settings remaining before after (notes.Command text) code memory told = absurd (told.1 memory)
-told_memory kind settings remaining before after (notes.Ignored words) code memory told = absurd told
-told_memory kind settings remaining before after notes.InputFault code memory told = absurd told
-told_memory kind settings remaining before after notes.OutputFault code memory told = absurd (no_asking kind memory told.0)
+reported_memory : (kind : ErrorKind) (settings : List Text) (remaining before after : Option (List ℕ)) (notes : Notes) (code : ℕ) → kind ≡ kinds.OutOfMemory → IsErrorReport kind before after notes code → EndsOnSteps settings remaining before after (record { code = code; notes = notes })
+reported_memory kind settings remaining before after notes.Nothing code memory reported = absurd (no_asking kind memory reported.0)
+reported_memory kind settings remaining before after notes.NoMemory code memory reported = rw reported.0 (stepped_memory settings (read_settings settings) remaining before after reported.1)
+reported_memory kind settings remaining before after (notes.Command text) code memory reported = absurd (reported.1 memory)
+reported_memory kind settings remaining before after (notes.Ignored words) code memory reported = absurd reported
+reported_memory kind settings remaining before after notes.InputFault code memory reported = absurd reported
+reported_memory kind settings remaining before after notes.OutputFault code memory reported = absurd (no_asking kind memory reported.0)
 
 -- the end after an error, by the faults of the words
-pub told_ends : (error : Error) (faults : Kinds) (settings : List Text) (remaining before after : Option (List ℕ)) (status : Status) → HasKind faults error → Told (kind_of error) before after status.notes status.code → Ends faults settings remaining before after status
-told_ends error [] settings remaining before after status (inl memory) told = told_memory (kind_of error) settings remaining before after status.notes status.code memory told
-told_ends error [] settings remaining before after status (inr none) told = absurd none
-told_ends error (fault ∷ others) settings remaining before after status among told = record { kind = kind_of error; fault = among; told = told }
+pub reported_ends : (error : Error) (faults : Kinds) (settings : List Text) (remaining before after : Option (List ℕ)) (status : Status) → HasKind faults error → IsErrorReport (kind_of error) before after status.notes status.code → Ends faults settings remaining before after status
+reported_ends error [] settings remaining before after status (inl memory) reported = reported_memory (kind_of error) settings remaining before after status.notes status.code memory reported
+reported_ends error [] settings remaining before after status (inr none) reported = absurd none
+reported_ends error (fault ∷ others) settings remaining before after status among reported = record { kind = kind_of error; fault = among; reported = reported }
 
 -- where memory is refused and nothing is written, the program may end so on any words
 pub memory_ends : (faults : Kinds) (settings : List Text) (remaining before after : Option (List ℕ)) → after ≡ before → Ends faults settings remaining before after (record { code = 3; notes = notes.NoMemory })
 memory_ends [] settings remaining before after same = stepped_memory settings (read_settings settings) remaining before after same
-memory_ends (fault ∷ others) settings remaining before after same = record { kind = kinds.OutOfMemory; fault = inl refl; told = (refl, same) }
+memory_ends (fault ∷ others) settings remaining before after same = record { kind = kinds.OutOfMemory; fault = inl refl; reported = (refl, same) }
 
 -- The settings among what was found
 
@@ -123,3 +101,40 @@ settings_given steps matches given rows values =
     (λ x. record { id = x.0.now; values = raw_values x.1; count = x.1.count; source = x.1.source; reading = x.1.reading }) (λ x. raw_values x.1) (λ row. row.values) (λ e. refl) (λ e. refl))
     ∙ mapped_or (λ row. row.values) (find (λ row. bytes_eq row.id settings_name) (rows_of (found_of steps)))
     ∙ sym (in_rows (subcommand_rows_of matches) (rows_of (found_of steps)) rows)
+
+-- The argument of the settings
+
+pub some_that : {A : Type 0} (given : Option A) (value : A) → IsSomeAnd given (λ x. x ≡ value) → given ≡ Some value
+some_that None value is = absurd is
+some_that (Some x) value is = ap Some is
+
+-- a rule with another range
+pub rule_with_range : (arg : Arg) (help : Option (Bor Text)) (range : Option ValueRange) (rule : Rule) → rule_of arg ≡ rule → rule_of (record arg { help = help; num_vals = range }) ≡ record rule { range = range }
+rule_with_range arg help range rule same = ap (λ (r : Rule). record r { range = range }) same
+
+-- The words of this command, matched
+
+pub is_simple_command : is_simple ompteam ≡ true
+unfolding clap_on_literals
+is_simple_command = refl
+
+-- the words of a command that is `ompteam` fail by their faults
+pub fails_by_faults : {T : Type 0} (app : App) (words : List Text) (result : Result T Error) → app ≡ ompteam → (is_simple_and_free app ≡ true → FailsBy (fault_of app words) result) → FailsBy (faults_of words) result
+fails_by_faults app words result same fails =
+    let free : is_simple_and_free app ≡ true = ap is_simple_and_free same ∙ is_covered in
+    rw same at (fails free)
+
+-- what it finds for its subcommand has the settings
+pub settings_matched : (app : App) (words : List Text) (matches : ArgMatches) → app ≡ ompteam → HasMatchesOf app words matches → settings_in (subcommand_rows_of matches) ≡ settings_of words
+settings_matched app words matches same has =
+    let simple : is_simple app ≡ true = ap is_simple same ∙ is_simple_command in
+    ap settings_in ((has simple).1 ∙ ap (λ (a : App). subcommand_of a words) same)
+
+-- an error for want of memory is among the ends of any words
+pub fails_by_memory : {T : Type 0} (faults : Kinds) (result : Result T Error) → IsErrAnd result (λ error. kind_of error ≡ kinds.OutOfMemory) → FailsBy faults result
+fails_by_memory faults (Ok value) memory = absurd memory
+fails_by_memory faults (Err error) memory = inl memory
+
+pub nothing_given : {T : Type 0} (P : T → Type 0) (Q : Error → Type 0) (result : Result T Error) → IsErrAnd result Q → IfOk result P
+nothing_given P Q (Ok value) fails = absurd fails
+nothing_given P Q (Err error) fails = tt

@@ -17,9 +17,9 @@ use Rattle.gomp_script.specs.declared.parse.Why.TheVariants.{BadNumber}
 use Rattle.gomp_script.specs.Printing.{reply_line, bad_line_text, refusal_line}
 use Rattle.gomp_script.specs.StepText.{steps_of}
 use Rattle.gomp_serve.specs.Output.{is_size, Runs, AnswerTo}
-use Rattle.gomp_serve.specs.Serving.{Whole, max_text, IsLonger, IsShort, ServingEnds, unread_as, IsUnread}
+use Rattle.gomp_serve.specs.Serving.{Whole, max_text, IsLonger, IsShort, Serves, unread_as, IsUnread}
 use Rattle.gomp_serve.specs.Settings.{IsSettingsError}
-use Rattle.gomp_serve.specs.CommandLine.{Names, notes_text, IsStatus, IsFault, HasNoWords, EndsWithRead, Told}
+use Rattle.gomp_serve.specs.CommandLine.{Names, notes_text, IsStatus, IsFault, HasNoWords, EndsWithRead, IsErrorReport}
 use Rattle.gomp_serve.specs.declared.serve.Ending.TheVariants as ending
 use Rattle.gomp_serve.specs.declared.command.Notes.TheVariants as notes
 use Rattle.gomp_serve.specs.declared.command.Status.{Status}
@@ -73,28 +73,28 @@ pub longest_text : max_text ≡ 16777216
 longest_text = refl
 
 -- what an answer that was written has
-pub written_has : (icv : Variables) (remaining before after : Option (List ℕ)) (code : ℕ) → ServingEnds icv remaining before after (ending.Answered code) →
+pub written_has : (icv : Variables) (remaining before after : Option (List ℕ)) (code : ℕ) → Serves icv remaining before after (ending.Answered code) →
     (text : List ℕ) × (output : List ℕ) × Whole max_text remaining text × AnswerTo icv (steps_of text) output code × Appends before after output
 written_has icv remaining before after code served = (served.text, served.output, served.whole, served.answer, served.written)
 
 -- for want of memory nothing is written
-pub memory_writes_nothing : (icv : Variables) (remaining : Option (List ℕ)) → ServingEnds icv remaining (Some []) (Some three) ending.NoMemory → ⊥
+pub memory_writes_nothing : (icv : Variables) (remaining : Option (List ℕ)) → Serves icv remaining (Some []) (Some three) ending.NoMemory → ⊥
 memory_writes_nothing icv remaining same = absurd (cc)
 
 -- nor where a read failed
-pub fault_writes_nothing : (icv : Variables) (remaining : Option (List ℕ)) → ServingEnds icv remaining (Some []) (Some three) ending.InputFault → ⊥
+pub fault_writes_nothing : (icv : Variables) (remaining : Option (List ℕ)) → Serves icv remaining (Some []) (Some three) ending.InputFault → ⊥
 fault_writes_nothing icv remaining same = absurd (cc)
 
 -- nor where the text is too long
-pub too_long_writes_nothing : (icv : Variables) (remaining : Option (List ℕ)) → ServingEnds icv remaining (Some []) (Some three) ending.TooLong → ⊥
+pub too_long_writes_nothing : (icv : Variables) (remaining : Option (List ℕ)) → Serves icv remaining (Some []) (Some three) ending.TooLong → ⊥
 too_long_writes_nothing icv remaining ends = absurd (let same = ends.0 in cc)
 
 -- a short text is not too long
-pub short_is_not_too_long : (icv : Variables) → ServingEnds icv (Some three) (Some []) (Some []) ending.TooLong → ⊥
+pub short_is_not_too_long : (icv : Variables) → Serves icv (Some three) (Some []) (Some []) ending.TooLong → ⊥
 short_is_not_too_long icv ends = absurd (let longer = ends.1 in omega arith)
 
 -- and where one is, the output cannot have failed
-pub long_is_not_written : (icv : Variables) (long : List ℕ) → length long ≡ 16777217 → ServingEnds icv (Some long) (Some []) (Some three) ending.OutputFault → ⊥
+pub long_is_not_written : (icv : Variables) (long : List ℕ) → length long ≡ 16777217 → Serves icv (Some long) (Some []) (Some three) ending.OutputFault → ⊥
 long_is_not_written icv long size ends = absurd (omega arith)
 
 -- a read that failed for want of memory, and another
@@ -160,11 +160,11 @@ fault_of_a_word_writes_nothing status ends = absurd (let same = ends.1 in cc)
 
 -- help ends with 0, and only where it is asked for
 pub help_ends_well : (before after : Option (List ℕ)) (code : ℕ) →
-    (Told kinds.DisplayHelp before after notes.Nothing code → code ≡ 0) × (Told kinds.MissingSubcommand before after notes.Nothing code → ⊥)
+    (IsErrorReport kinds.DisplayHelp before after notes.Nothing code → code ≡ 0) × (IsErrorReport kinds.MissingSubcommand before after notes.Nothing code → ⊥)
 help_ends_well before after code = (λ told. told.1, λ told. elim told.0 [ inl e ↦ absurd (cc) | inr e ↦ absurd (cc) ])
 
 -- a refused command line ends with 1 and writes nothing to the output
 pub refused_words_end : (before after : Option (List ℕ)) (text : String Global) (code : ℕ) →
-    (Told kinds.MissingSubcommand before after (notes.Command text) code → (code ≡ 1) × (after ≡ before)) × (Told kinds.DisplayHelp before after (notes.Command text) code → ⊥)
-    × (Told kinds.OutOfMemory before after notes.NoMemory code → (code ≡ 3) × (after ≡ before)) × (Told kinds.MissingSubcommand before after notes.InputFault code → ⊥)
+    (IsErrorReport kinds.MissingSubcommand before after (notes.Command text) code → (code ≡ 1) × (after ≡ before)) × (IsErrorReport kinds.DisplayHelp before after (notes.Command text) code → ⊥)
+    × (IsErrorReport kinds.OutOfMemory before after notes.NoMemory code → (code ≡ 3) × (after ≡ before)) × (IsErrorReport kinds.MissingSubcommand before after notes.InputFault code → ⊥)
 refused_words_end before after text code = (λ told. (told.2, told.3), λ told. told.0 (inl refl), λ told. told, λ told. told)

@@ -1,4 +1,5 @@
 mod AnswerLemmas
+pub mod CommandExamples
 mod CommandLemmas
 pub mod EndExamples
 mod NumberLemmas

@@ -8,10 +8,10 @@ use Rattle.gomp_types.specs.declared.refusal.Refusal.{Refusal}
 use Rattle.gomp_icv.specs.Variables.{Variables}
 use Rattle.gomp_script.specs.declared.parse.BadLine.{BadLine}
 use Rattle.gomp_script.specs.StepText.{steps_of}
-use Rattle.gomp_serve.specs.CommandLine.{Ends, EndsWithRead, IsFault, IsStatus, Told}
+use Rattle.gomp_serve.specs.CommandLine.{Ends, EndsWithRead, IsFault, IsStatus, IsErrorReport}
 use Rattle.gomp_serve.specs.Settings.{first_without, read_settings}
 use Rattle.gomp_serve.specs.Output.{AnswerTo, Runs, is_size}
-use Rattle.gomp_serve.specs.Serving.{ServingEnds}
+use Rattle.gomp_serve.specs.Serving.{Serves}
 use Rattle.gomp_serve.specs.declared.command.Notes.{Notes}
 use Rattle.gomp_serve.specs.declared.command.Notes.TheVariants as notes
 use Rattle.gomp_serve.specs.declared.command.Status.{Status}
@@ -26,7 +26,7 @@ answer_number : (icv : Variables) (read : Result (ℕ × List Step) BadLine) (te
 answer_number icv (Ok found) text code answer = runs_number icv (is_size found.0) found.0 found.1 text code answer
 answer_number icv (Err bad) text code answer = let is = answer.1 in omega (arith, is)
 
-status_number : (icv : Variables) (how : Ending) (ignored : List Refusal) (remaining before after : Option (List ℕ)) (status : Status) → ServingEnds icv remaining before after how → IsStatus how ignored status → status.code ≤ 3
+status_number : (icv : Variables) (how : Ending) (ignored : List Refusal) (remaining before after : Option (List ℕ)) (status : Status) → Serves icv remaining before after how → IsStatus how ignored status → status.code ≤ 3
 status_number icv (ending.Answered code) [] remaining before after status serves is =
     let small = answer_number icv (steps_of serves.text) serves.output code serves.answer in
     let same : status.code ≡ code = ap (λ (s : Status). s.code) is in omega (arith, small, same)
@@ -46,13 +46,13 @@ fault_number word (notes.Ignored words) code is = absurd is
 fault_number word notes.InputFault code is = absurd is
 fault_number word notes.OutputFault code is = absurd is
 
-told_number : (kind : ErrorKind) (before after : Option (List ℕ)) (notes : Notes) (code : ℕ) → Told kind before after notes code → code ≤ 3
-told_number kind before after notes.Nothing code is = let same = is.1 in omega (arith, same)
-told_number kind before after notes.NoMemory code is = let same = is.0 in omega (arith, same)
-told_number kind before after (notes.Command text) code is = let same = is.2 in omega (arith, same)
-told_number kind before after (notes.Ignored words) code is = absurd is
-told_number kind before after notes.InputFault code is = absurd is
-told_number kind before after notes.OutputFault code is = let same = is.1 in omega (arith, same)
+reported_number : (kind : ErrorKind) (before after : Option (List ℕ)) (notes : Notes) (code : ℕ) → IsErrorReport kind before after notes code → code ≤ 3
+reported_number kind before after notes.Nothing code is = let same = is.1 in omega (arith, same)
+reported_number kind before after notes.NoMemory code is = let same = is.0 in omega (arith, same)
+reported_number kind before after (notes.Command text) code is = let same = is.2 in omega (arith, same)
+reported_number kind before after (notes.Ignored words) code is = absurd is
+reported_number kind before after notes.InputFault code is = absurd is
+reported_number kind before after notes.OutputFault code is = let same = is.1 in omega (arith, same)
 
 read_number : (settings : List Text) (read : Option (Variables × List Refusal)) (remaining before after : Option (List ℕ)) (status : Status) → EndsWithRead settings read remaining before after status → status.code ≤ 3
 read_number settings None remaining before after status ends = fault_number (first_without settings) status.notes status.code ends.0
@@ -60,4 +60,4 @@ read_number settings (Some read) remaining before after status ends = status_num
 
 pub words_number : (faults : Kinds) (settings : List Text) (remaining before after : Option (List ℕ)) (status : Status) → Ends faults settings remaining before after status → status.code ≤ 3
 words_number [] settings remaining before after status ends = read_number settings (read_settings settings) remaining before after status ends
-words_number (fault ∷ others) settings remaining before after status ends = told_number ends.kind before after status.notes status.code ends.told
+words_number (fault ∷ others) settings remaining before after status ends = reported_number ends.kind before after status.notes status.code ends.reported

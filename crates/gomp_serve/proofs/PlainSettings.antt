@@ -146,14 +146,14 @@ unfolding clap_on_literals
 steps_faults settings = no_faults_on [] settings
 
 -- what is found for the subcommand
-found : (settings : List Text) → ArePlain settings → settings_in (Some (rows_at steps_built settings)) ≡ settings
+plain_settings_found : (settings : List Text) → ArePlain settings → settings_in (Some (rows_at steps_built settings)) ≡ settings
 unfolding clap_on_literals
-found [] plain = refl
-found (word ∷ words) plain = ap (λ (end : Walk). settings_in (Some (codes "steps", finished steps_built.rules end.held))) (settings_walk word words plain)
+plain_settings_found [] plain = refl
+plain_settings_found (word ∷ words) plain = ap (λ (end : Walk). settings_in (Some (codes "steps", finished steps_built.rules end.held))) (settings_walk word words plain)
 
 pub plain_settings : (name : Text) (settings : List Text) → ArePlain settings → settings_of (name ∷ codes "steps" ∷ settings) ≡ settings
 unfolding clap_on_literals
-plain_settings name settings plain = ap (λ (end : Walk). settings_in (entered (built ompteam) end.stopped)) (steps_walk settings) ∙ found settings plain
+plain_settings name settings plain = ap (λ (end : Walk). settings_in (entered (built ompteam) end.stopped)) (steps_walk settings) ∙ plain_settings_found settings plain
 
 pub plain_has_no_fault : (name : Text) (settings : List Text) → ArePlain settings → length settings ≤ usize_max → faults_of (name ∷ codes "steps" ∷ settings) ≡ []
 unfolding clap_on_literals

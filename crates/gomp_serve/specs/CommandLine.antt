@@ -1,18 +1,20 @@
 -- The command line, and how the program ends. (own)
-use Rattle.std.specs.Prelude.{◌≡◌, ◌≢◌, ◌⊎◌, ℕ, true, List, [], ◌∷◌, ◌++◌, Option, Some, None, codes, find, flat_map, string_bytes}
+use Rattle.std.specs.Prelude.{◌≡◌, ◌≢◌, ◌⊎◌, ℕ, true, List, [], ◌∷◌, ◌++◌, Option, Some, None, codes, find, flat_map, map, string_bytes}
+use Rattle.std.specs.Borrow.{Bor}
 use Rattle.std.specs.Option.{option_map, option_map_or}
 use Rattle.std.specs.Str.{bytes_eq}
 use Rattle.std.specs.Io.KnownBytes.{Appends}
 use Rattle.std.specs.declared.io.ErrorKind.{ErrorKind as IoKind}
 use Rattle.std.specs.declared.io.ErrorKind.TheVariants as io_kinds
 use Rattle.clap.specs.Lexer.{usize_max}
-use Rattle.clap.specs.Words.{App, Kinds, IsAmong, Row, Rule, Text, fault_of, new_app, new_rule, subcommand_of, with_rule, with_subcommand}
+use Rattle.clap.specs.Words.{App, Kinds, IsAmong, Row, Rule, Text, fault_of, new_app, new_rule, subcommand_of, subcommand_rows_of, with_rule, with_subcommand}
+use Rattle.clap.specs.declared.parser.matches.ArgMatches.{ArgMatches}
 use Rattle.clap.specs.declared.error.kind.ErrorKind.{ErrorKind}
 use Rattle.clap.specs.declared.error.kind.ErrorKind.TheVariants as kinds
 use Rattle.gomp_types.specs.declared.refusal.Refusal.{Refusal}
 use Rattle.gomp_types.specs.declared.refusal.Refusal.TheVariants.{BadEnv}
 use Rattle.gomp_icv.specs.Variables.{Variables}
-use Rattle.gomp_serve.specs.Serving.{ServingEnds}
+use Rattle.gomp_serve.specs.Serving.{Serves}
 use Rattle.gomp_serve.specs.Settings.{first_without, read_settings}
 use Rattle.gomp_serve.specs.declared.serve.Ending.{Ending}
 use Rattle.gomp_serve.specs.declared.serve.Ending.TheVariants as ending
@@ -52,6 +54,14 @@ abbrev pub settings_in : Option (Text × List Row) → List Text
 settings_in None = []
 settings_in (Some found) = option_map_or (λ row. row.values) (find (λ row. bytes_eq row.id settings_name) found.1) []
 
+-- these settings are found for the subcommand
+abbrev pub HasSettings : List Text → ArgMatches → Type 0
+HasSettings settings matches = settings_in (subcommand_rows_of matches) ≡ settings
+
+-- the settings that are given, where there are any
+abbrev pub values_given : Option (Bor (List (Bor Text))) → List Text
+values_given given = option_map_or (λ words. map (λ word. word.now) words.now) given []
+
 -- the settings of a command line
 abbrev pub settings_of : List Text → List Text
 settings_of words = settings_in (subcommand_of ompteam words)
@@ -89,6 +99,18 @@ notes_text (notes.Ignored words) = lines_of words.items
 notes_text notes.InputFault = codes "input fault\n"
 notes_text notes.OutputFault = codes "output fault\n"
 
+-- these notes, and nothing else, were written behind what was there before
+abbrev pub AddsNotes : Notes → Option (List ℕ) → Option (List ℕ) → Type 0
+AddsNotes notes before after = Appends before after (notes_text notes)
+
+-- the same of the lines of ignored words
+abbrev pub AddsLines : List Refusal → Option (List ℕ) → Option (List ℕ) → Type 0
+AddsLines words before after = Appends before after (lines_of words)
+
+-- the same of what is noted at this end
+abbrev pub IsNoted : Status → Option (List ℕ) → Option (List ℕ) → Type 0
+IsNoted status before after = AddsNotes status.notes before after
+
 -- the status in which a text of steps ends that was served so, where these words were ignored: they are named beside whatever was answered
 abbrev pub IsStatus : Ending → List Refusal → Status → Type 0
 IsStatus (ending.Answered code) [] status = status ≡ record { code = code; notes = notes.Nothing }
@@ -101,10 +123,10 @@ IsStatus ending.OutputFault ignored status = status ≡ record { code = 1; notes
 -- the program ends as a text of steps does that was served by these variables, where these words were ignored
 pub record EndsServedBy (icv : Variables) (ignored : List Refusal) (remaining before after : Option (List ℕ)) (status : Status) : Type 0 where
   pub ending : Ending
-  pub serves : ServingEnds icv remaining before after ending
+  pub serves : Serves icv remaining before after ending
   pub status_is : IsStatus ending ignored status
 
--- what is told of a word that has no `=`
+-- what is noted of a word that has no `=`
 abbrev pub no_equals_text : Text → List ℕ
 no_equals_text word = codes "error: the word '" ++ (word ++ codes "' is not NAME=VALUE\n")
 
@@ -114,7 +136,7 @@ IsFault word (notes.Command text) code = (Some (string_bytes text) ≡ option_ma
 IsFault word notes.NoMemory code = code ≡ 3
 IsFault word _ code = ⊥
 
--- what is told where a word of the command line is not UTF-8
+-- what is noted where a word of the command line is not UTF-8
 abbrev pub not_utf8_text : List ℕ
 not_utf8_text = codes "error: a word of the command line is not UTF-8\n"
 
@@ -138,19 +160,23 @@ abbrev pub Asks : ErrorKind → Type 0
 Asks kind = (kind ≡ kinds.DisplayHelp) ⊎ (kind ≡ kinds.DisplayVersion)
 
 -- the notes and the status for words that are refused with an error of this kind
-abbrev pub Told : ErrorKind → Option (List ℕ) → Option (List ℕ) → Notes → ℕ → Type 0
-Told kind before after notes.Nothing code = Asks kind × (code ≡ 0) × ((shown : List ℕ) × Appends before after shown)
-Told kind before after notes.NoMemory code = (code ≡ 3) × (after ≡ before)
-Told kind before after (notes.Command text) code = (Asks kind → ⊥) × (kind ≢ kinds.OutOfMemory) × (code ≡ 1) × (after ≡ before)
-Told kind before after notes.InputFault code = ⊥
-Told kind before after (notes.Ignored words) code = ⊥
-Told kind before after notes.OutputFault code = Asks kind × (code ≡ 1)
+abbrev pub IsErrorReport : ErrorKind → Option (List ℕ) → Option (List ℕ) → Notes → ℕ → Type 0
+IsErrorReport kind before after notes.Nothing code = Asks kind × (code ≡ 0) × ((shown : List ℕ) × Appends before after shown)
+IsErrorReport kind before after notes.NoMemory code = (code ≡ 3) × (after ≡ before)
+IsErrorReport kind before after (notes.Command text) code = (Asks kind → ⊥) × (kind ≢ kinds.OutOfMemory) × (code ≡ 1) × (after ≡ before)
+IsErrorReport kind before after notes.InputFault code = ⊥
+IsErrorReport kind before after (notes.Ignored words) code = ⊥
+IsErrorReport kind before after notes.OutputFault code = Asks kind × (code ≡ 1)
+
+-- an error of this kind is reported so
+abbrev pub ReportsError : ErrorKind → Option (List ℕ) → Option (List ℕ) → Status → Type 0
+ReportsError kind before after status = IsErrorReport kind before after status.notes status.code
 
 -- the words were refused, for one of their faults or for want of memory
 pub record Refused (faults : Kinds) (before after : Option (List ℕ)) (status : Status) : Type 0 where
   pub kind : ErrorKind
   pub fault : (kind ≡ kinds.OutOfMemory) ⊎ IsAmong kind faults
-  pub told : Told kind before after status.notes status.code
+  pub reported : ReportsError kind before after status
 
 -- how the program ends on words with these faults and settings
 abbrev pub Ends : Kinds → List Text → Option (List ℕ) → Option (List ℕ) → Option (List ℕ) → Status → Type 0

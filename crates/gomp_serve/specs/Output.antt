@@ -1,5 +1,5 @@
 -- What `ompteam steps` writes for a text, and with which status it ends. (own)
-use Rattle.std.specs.Prelude.{ℕ, ◌≡◌, ◌&&◌, nat_le, Bool, true, false, List, [], Result, Ok, Err, length, flat_map}
+use Rattle.std.specs.Prelude.{ℕ, ◌≡◌, ◌&&◌, nat_le, Bool, true, false, List, [], Result, Ok, Err, length, flat_map, string_bytes}
 use Rattle.gomp_types.specs.declared.limits.TheConstants.{MAX_MEMBERS}
 use Rattle.gomp_types.specs.declared.call.Step.{Step}
 use Rattle.gomp_types.specs.declared.reply.Reply.{Reply}
@@ -9,6 +9,8 @@ use Rattle.gomp_icv.specs.Variables.{Variables}
 use Rattle.gomp_core.specs.Stands.{standard_terms, NoneForMemory}
 use Rattle.gomp_core.specs.Resolved.{resolved_steps}
 use Rattle.gomp_script.specs.declared.parse.BadLine.{BadLine}
+use Rattle.gomp_script.specs.StepText.{steps_of}
+use Rattle.gomp_serve.specs.declared.answer.Answer.{Answer}
 use Rattle.gomp_script.specs.Printing.{reply_line, bad_line_text, refusal_line}
 
 -- whether a team may have this many members
@@ -32,3 +34,7 @@ Runs icv false count steps text code = (text ≡ refusal_line BadTeam) × (code 
 abbrev pub AnswerTo : Variables → Result (ℕ × List Step) BadLine → List ℕ → ℕ → Type 0
 AnswerTo icv (Ok found) text code = Runs icv (is_size found.0) found.0 found.1 text code
 AnswerTo icv (Err bad) text code = (text ≡ bad_line_text bad) × (code ≡ 1)
+
+-- this is the answer to a text
+abbrev pub IsAnswer : Variables → List ℕ → Answer → Type 0
+IsAnswer icv text answer = AnswerTo icv (steps_of text) (string_bytes answer.text) answer.code

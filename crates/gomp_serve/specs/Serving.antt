@@ -34,12 +34,12 @@ abbrev pub IsShort : ℕ → Option (List ℕ) → Type 0
 IsShort limit remaining = IfSome remaining (λ all. length all ≤ limit)
 
 -- what became of the reader's text: before and after are what the writer holds; the output can fail only once the text was read whole
-abbrev pub ServingEnds : Variables → Option (List ℕ) → Option (List ℕ) → Option (List ℕ) → Ending → Type 0
-ServingEnds icv remaining before after (Answered code) = AnswerWritten icv remaining before after code
-ServingEnds icv remaining before after NoMemory = after ≡ before
-ServingEnds icv remaining before after InputFault = after ≡ before
-ServingEnds icv remaining before after TooLong = (after ≡ before) × IsLonger max_text remaining
-ServingEnds icv remaining before after OutputFault = IsShort max_text remaining
+abbrev pub Serves : Variables → Option (List ℕ) → Option (List ℕ) → Option (List ℕ) → Ending → Type 0
+Serves icv remaining before after (Answered code) = AnswerWritten icv remaining before after code
+Serves icv remaining before after NoMemory = after ≡ before
+Serves icv remaining before after InputFault = after ≡ before
+Serves icv remaining before after TooLong = (after ≡ before) × IsLonger max_text remaining
+Serves icv remaining before after OutputFault = IsShort max_text remaining
 
 -- the end after a read that failed
 abbrev pub unread_as : ErrorKind → Ending

@@ -1,5 +1,6 @@
 -- The words `NAME=VALUE` of the command line. (own)
-use Rattle.std.specs.Prelude.{◌≡◌, ◌==◌, ℕ, Bool, nat_lt, not, if◌then◌else◌, List, [], ◌∷◌, length, Option, Some, None, Result, Ok, Err, find}
+use Rattle.std.specs.Prelude.{◌≡◌, ◌==◌, ℕ, Bool, nat_lt, not, if◌then◌else◌, List, [], ◌∷◌, length, Option, Some, None, Result, Ok, Err, find, map}
+use Rattle.std.specs.Borrow.{Bor}
 use Rattle.std.specs.List.{position_or_len, before_first, after_first}
 use Rattle.std.specs.Option.{option_map}
 use Rattle.gomp_types.specs.declared.refusal.Refusal.{Refusal}
@@ -37,6 +38,10 @@ with_pair (Some pair) (Some pairs) = Some (pair ∷ pairs)
 abbrev pub pairs_of : List Text → Option (List (Text × Text))
 pairs_of [] = Some []
 pairs_of (word ∷ words) = with_pair (pair_of word) (pairs_of words)
+
+-- these are the names and values of words, each as it is borrowed
+abbrev pub ArePairsOf : List (Bor Text) → List (Bor Text × Bor Text) → Type 0
+ArePairsOf words pairs = pairs_of (map (λ word. word.now) words) ≡ Some (map (λ pair. (pair.0.now, pair.1.now)) pairs)
 
 -- the control variables that these settings give, and the words that are ignored
 abbrev pub read_settings : List Text → Option (Variables × List Refusal)

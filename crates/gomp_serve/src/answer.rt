@@ -1,8 +1,7 @@
 //! From a text of steps to the text of their replies, and the exit status.
 
-ghost use Rattle.std.specs.Prelude.{◌≡◌, min, IfOk, string_bytes};
-ghost use Rattle.gomp_script.specs.StepText.{steps_of};
-ghost use Rattle.gomp_serve.specs.Output.{AnswerTo};
+ghost use Rattle.std.specs.Prelude.{◌≡◌, min, IfOk};
+ghost use Rattle.gomp_serve.specs.Output.{IsAnswer};
 
 use gomp_core::run;
 use gomp_icv::Icv;
@@ -23,7 +22,7 @@ pub struct Answer {
 /// The replies to a text of steps, a line for each, of a team by these control variables; or why the
 /// text or its team is refused. The error is want of memory outside of the steps.
 pub fn answer_steps(alloc: Global, icv: Icv, text: &[u8]) -> Result<Answer, AllocError>
-    ensures { IfOk result (λ answer. AnswerTo icv (steps_of text.now) (string_bytes answer.text) answer.code) }
+    ensures { IfOk result (IsAnswer icv text.now) }
 {
     let (count, steps) = match parse_steps(alloc, text) {
         Ok(found) => found,
@@ -53,5 +52,5 @@ pub fn answer_steps(alloc: Global, icv: Icv, text: &[u8]) -> Result<Answer, Allo
 fn team_size(count: u32) -> u16
     ensures { result ≡ min count 65535 }
 {
-    count.min(u16::MAX as u32) as u16
+    u16::try_from(count).unwrap_or(u16::MAX)
 }

@@ -1,10 +1,9 @@
 //! The command line, and how the program ends.
 
 ghost use Rattle.std.specs.Prelude.{◌≡◌, ◌≤◌, ℕ, false, Some, List, [], ◌∷◌, IfOk, map, codes};
-ghost use Rattle.std.specs.Option.{option_map_or};
 ghost use Rattle.std.specs.IoError.{error_kind};
 ghost use Rattle.clap.specs.Words.{FailsBy, app_of, kind_of, rule_of, subcommand_rows_of};
-ghost use Rattle.gomp_serve.specs.CommandLine.{ArePlain, Ends, EndsOnSteps, Told, IsStatus, IsFault, HasNoWords, faults_of, settings_of, settings_in, settings_rule, ompteam};
+ghost use Rattle.gomp_serve.specs.CommandLine.{ArePlain, Ends, EndsOnSteps, HasSettings, ReportsError, IsStatus, IsFault, HasNoWords, faults_of, settings_of, settings_in, settings_rule, values_given, ompteam};
 ghost use Rattle.gomp_serve.specs.declared.command.Notes.TheVariants.{NoMemory, OutputFault};
 
 use crate::serve::{Ending, serve_steps};
@@ -16,8 +15,8 @@ use std::alloc::{AllocError, Global};
 use std::convert::AsStr;
 use std::io::{self, Read, Write};
 
-/// What is told beside the output, on standard error.
-#[derive(Debug, Drop, PartialEq, Eq)]
+/// What is noted beside the output, on standard error.
+#[derive(Drop)]
 pub enum Notes {
     Nothing,
     /// Memory was refused outside of the steps.
@@ -33,12 +32,12 @@ pub enum Notes {
 }
 
 /// How the program ends.
-#[derive(Debug, Drop, PartialEq, Eq)]
+#[derive(Drop)]
 pub struct Status {
     /// 0 where the text was answered; 1 where a line of it is bad, the command line is refused, or
     /// input or output failed; 2 where there is no such team; 3 for want of memory.
     pub code: u8,
-    /// What is told beside the output.
+    /// What is noted beside the output.
     pub notes: Notes,
 }
 
@@ -54,16 +53,20 @@ pub fn serve<S: AsStr, R: Read + Drop, W: Write>(
     reader: R,
     writer: &mut W,
 ) -> Status
-    ensures ends { Ends (faults_of (map S.text words.now)) (settings_of (map S.text words.now)) (R.remaining reader) (W.contents writer.old) (W.contents writer.new) result }
-    ensures steps { (name : List ℕ) → map S.text words.now ≡ name ∷ codes "steps" ∷ [] → EndsOnSteps [] (R.remaining reader) (W.contents writer.old) (W.contents writer.new) result }
-    ensures settings { (name : List ℕ) (settings : List (List ℕ)) → map S.text words.now ≡ name ∷ codes "steps" ∷ settings → ArePlain settings → EndsOnSteps settings (R.remaining reader) (W.contents writer.old) (W.contents writer.new) result }
+    ensures ends { Ends (faults_of (map S.text words.now)) (settings_of (map S.text words.now))
+        (R.remaining reader) (W.contents writer.old) (W.contents writer.new) result }
+    ensures steps { (name : List ℕ) → map S.text words.now ≡ name ∷ codes "steps" ∷ [] → EndsOnSteps []
+        (R.remaining reader) (W.contents writer.old) (W.contents writer.new) result }
+    ensures settings { (name : List ℕ) (settings : List (List ℕ)) →
+        map S.text words.now ≡ name ∷ codes "steps" ∷ settings → ArePlain settings → EndsOnSteps settings
+        (R.remaining reader) (W.contents writer.old) (W.contents writer.new) result }
 {
     match accepted(alloc, words) {
         Ok(matches) => match settings(&matches) {
             Some(settings) => steps(alloc, settings, reader, writer),
             None => steps(alloc, &[], reader, writer),
         },
-        Err(error) => told(alloc, &error, writer),
+        Err(error) => report_error(alloc, &error, writer),
     }
 }
 
@@ -74,10 +77,11 @@ fn steps<R: Read + Drop, W: Write>(
     reader: R,
     writer: &mut W,
 ) -> Status
-    ensures { EndsOnSteps (map (λ word. word.now) settings.now) (R.remaining reader) (W.contents writer.old) (W.contents writer.new) result }
+    ensures { EndsOnSteps (map (λ word. word.now) settings.now)
+        (R.remaining reader) (W.contents writer.old) (W.contents writer.new) result }
 {
     match read_settings(alloc, settings) {
-        Ok((icv, ignored)) => ended(serve_steps(alloc, icv, reader, writer), ignored),
+        Ok((icv, ignored)) => status_of_ending(serve_steps(alloc, icv, reader, writer), ignored),
         Err(SettingsError::NoMemory) => no_memory(),
         Err(SettingsError::NoEquals(word)) => no_equals(alloc, word),
     }
@@ -99,14 +103,14 @@ fn no_equals(alloc: Global, word: &str) -> Status
 /// What the words say where they are those of `ompteam steps`, or why they are refused.
 fn accepted<'a, S: AsStr>(alloc: Global, words: &'a [S]) -> Result<ArgMatches<'a>, Error>
     ensures faults { FailsBy (faults_of (map S.text words.now)) result }
-    ensures settings { IfOk result (λ matches. settings_in (subcommand_rows_of matches) ≡ settings_of (map S.text words.now)) }
+    ensures settings { IfOk result (HasSettings (settings_of (map S.text words.now))) }
 {
     ompteam(alloc)?.try_get_matches_from(words)
 }
 
 /// The settings among the words, where there are any.
 fn settings<'m, 'a>(matches: &'m ArgMatches<'a>) -> Option<&'m [&'a str]>
-    ensures { option_map_or (λ words. map (λ word. word.now) words.now) result [] ≡ settings_in (subcommand_rows_of matches.now) }
+    ensures { values_given result ≡ settings_in (subcommand_rows_of matches.now) }
 {
     let (_, steps) = matches.subcommand()?;
     steps.get_strs(SETTINGS)
@@ -140,7 +144,7 @@ fn settings_arg<'a>(alloc: Global) -> Arg<'a>
 }
 
 /// The end where the words of the command line cannot be had.
-pub fn without_words(alloc: Global, error: &io::Error) -> Status
+pub fn status_without_words(alloc: Global, error: &io::Error) -> Status
     ensures notes { HasNoWords (error_kind error.now) result.notes result.code }
     ensures number { result.code ≤ 3 }
 {
@@ -157,7 +161,7 @@ pub fn without_words(alloc: Global, error: &io::Error) -> Status
 }
 
 /// The end where the text of steps was served, and these words were ignored before.
-fn ended(ending: Ending, ignored: Vec<Refusal>) -> Status
+fn status_of_ending(ending: Ending, ignored: Vec<Refusal>) -> Status
     ensures { IsStatus ending ignored.items result }
 {
     match ending {
@@ -198,9 +202,9 @@ fn output_fault() -> Status
     }
 }
 
-/// The end where the words are no command: help and the version are written, a fault is noted.
-fn told<W: Write>(alloc: Global, error: &Error, writer: &mut W) -> Status
-    ensures { Told (kind_of error.now) (W.contents writer.old) (W.contents writer.new) result.notes result.code }
+/// The end where the words are no command: it writes help and the version, and notes a fault.
+fn report_error<W: Write>(alloc: Global, error: &Error, writer: &mut W) -> Status
+    ensures { ReportsError (kind_of error.now) (W.contents writer.old) (W.contents writer.new) result }
 {
     if let ErrorKind::OutOfMemory = error.kind() {
         return no_memory();

@@ -7,7 +7,6 @@
 
 mod answer;
 pub mod command;
-mod examples;
 pub mod notes;
 mod process;
 pub mod serve;

@@ -1,8 +1,7 @@
-//! How what is told beside the output is written, and the number with which the program ends.
+//! How what is noted beside the output is written, and the number with which the program ends.
 
 ghost use Rattle.std.specs.Prelude.{◌≡◌, IfOk, OnOk};
-ghost use Rattle.std.specs.Io.KnownBytes.{Appends};
-ghost use Rattle.gomp_serve.specs.CommandLine.{lines_of, notes_text};
+ghost use Rattle.gomp_serve.specs.CommandLine.{AddsLines, AddsNotes, IsNoted};
 
 use crate::command::{Notes, Status};
 use gomp_types::Refusal;
@@ -12,7 +11,7 @@ use std::io::{self, Write};
 /// the notes could not be written.
 pub fn finish<W: Write>(status: &Status, errors: &mut W) -> io::Result<u8>
     ensures code { IfOk result (λ code. code ≡ status.now.code) }
-    ensures noted { OnOk result (Appends (W.contents errors.old) (W.contents errors.new) (notes_text status.now.notes)) }
+    ensures noted { OnOk result (IsNoted status.now (W.contents errors.old) (W.contents errors.new)) }
 {
     write_notes(&status.notes, errors)?;
     Ok(status.code)
@@ -20,7 +19,7 @@ pub fn finish<W: Write>(status: &Status, errors: &mut W) -> io::Result<u8>
 
 /// Writes the lines of these notes, and nothing else.
 pub fn write_notes<W: Write>(notes: &Notes, writer: &mut W) -> io::Result<()>
-    ensures { OnOk result (Appends (W.contents writer.old) (W.contents writer.new) (notes_text notes.now)) }
+    ensures { OnOk result (AddsNotes notes.now (W.contents writer.old) (W.contents writer.new)) }
 {
     match notes {
         Notes::Nothing => writer.write_all(b""),
@@ -34,7 +33,7 @@ pub fn write_notes<W: Write>(notes: &Notes, writer: &mut W) -> io::Result<()>
 
 /// Writes a line for each of these words of the environment, which were ignored.
 fn write_ignored<W: Write>(words: &[Refusal], writer: &mut W) -> io::Result<()>
-    ensures { OnOk result (Appends (W.contents writer.old) (W.contents writer.new) (lines_of words.now)) }
+    ensures { OnOk result (AddsLines words.now (W.contents writer.old) (W.contents writer.new)) }
 {
     for word in words {
         if let Refusal::BadEnv(name) = word {

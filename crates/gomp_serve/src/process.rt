@@ -4,7 +4,7 @@ ghost use Rattle.std.specs.Prelude.{◌≤◌, IfOk, IfErr};
 ghost use Rattle.std.specs.Process.{exit_status};
 ghost use Rattle.gomp_serve.specs.Process.{EndsAs, EndsOn, EndsWithout, texts_of};
 
-use crate::command::{Status, no_memory, serve, without_words};
+use crate::command::{Status, no_memory, serve, status_without_words};
 use crate::notes::finish;
 use std::alloc::Global;
 use std::env::Args;
@@ -33,7 +33,7 @@ pub fn run_process<R: Read + Drop, W: Write, E: Write>(
 {
     let status = match words {
         Ok(words) => serve_words(alloc, words, reader, writer),
-        Err(error) => without_words(alloc, &error),
+        Err(error) => status_without_words(alloc, &error),
     };
     Ok(ExitCode::from(finish(&status, errors)?))
 }

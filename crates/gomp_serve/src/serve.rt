@@ -2,7 +2,7 @@
 
 ghost use Rattle.std.specs.Prelude.{◌≡◌, IfOk, IfErr};
 ghost use Rattle.std.specs.IoError.{error_kind};
-ghost use Rattle.gomp_serve.specs.Serving.{Whole, IsUnread, ServingEnds, unread_as};
+ghost use Rattle.gomp_serve.specs.Serving.{Whole, IsUnread, Serves, unread_as};
 
 use crate::answer::answer_steps;
 use gomp_icv::Icv;
@@ -13,7 +13,7 @@ use std::io::{self, ErrorKind, Read, Write};
 pub const MAX_TEXT: u32 = 1 << 24;
 
 /// How the text of steps was served.
-#[derive(Clone, Copy, Debug, PartialEq, Eq)]
+#[derive(Clone, Copy)]
 pub enum Ending {
     /// The answer was written, and it ends with this status.
     Answered(u8),
@@ -35,7 +35,7 @@ pub fn serve_steps<R: Read + Drop, W: Write>(
     reader: R,
     writer: &mut W,
 ) -> Ending
-    ensures { ServingEnds icv (R.remaining reader) (W.contents writer.old) (W.contents writer.new) result }
+    ensures { Serves icv (R.remaining reader) (W.contents writer.old) (W.contents writer.new) result }
 {
     let text = match read_text(alloc, reader, MAX_TEXT) {
         Ok(text) => text,

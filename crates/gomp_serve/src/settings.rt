@@ -3,14 +3,14 @@
 
 ghost use Rattle.std.specs.Prelude.{◌≡◌, IfOk, IsTrue, None, Some, map};
 ghost use Rattle.std.specs.Option.{option_map};
-ghost use Rattle.gomp_serve.specs.Settings.{first_without, has_equals, pair_of, pairs_of, Gives};
+ghost use Rattle.gomp_serve.specs.Settings.{first_without, has_equals, pair_of, ArePairsOf, Gives};
 
 use gomp_icv::{Icv, read_env};
 use gomp_types::Refusal;
 use std::alloc::{AllocError, Global};
 
 /// Why words are not read as settings.
-#[derive(Clone, Copy, Debug, PartialEq, Eq)]
+#[derive(Clone, Copy)]
 pub enum SettingsError<'a> {
     /// Memory was refused, and each word has an `=`.
     NoMemory,
@@ -30,8 +30,8 @@ impl From<AllocError> for SettingsError<'_> {
 
 /// The control variables that these words give, and a refusal for each word that is ignored.
 ///
-/// The words are looked through before anything takes memory: one without `=` is told whatever memory
-/// does.
+/// The words are looked through before anything takes memory: one without `=` is refused whatever
+/// memory does.
 pub fn read_settings<'a>(
     alloc: Global,
     words: &[&'a str],
@@ -63,7 +63,7 @@ fn has_equals(word: &str) -> bool
 /// The name and the value of each word, of which each has an `=`, cut at its first one.
 fn split_all<'a>(alloc: Global, words: &[&'a str]) -> Result<Vec<(&'a str, &'a str)>, AllocError>
     requires { first_without (map (λ word. word.now) words.now) ≡ None }
-    ensures { IfOk result (λ pairs. pairs_of (map (λ word. word.now) words.now) ≡ Some (map (λ pair. (pair.0.now, pair.1.now)) pairs.items)) }
+    ensures { IfOk result (λ pairs. ArePairsOf words.now pairs.items) }
 {
     let mut pairs = Vec::new(alloc);
     for word in words {

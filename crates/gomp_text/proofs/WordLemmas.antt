@@ -46,18 +46,18 @@ by_test false line all = sym (ascii_not line (λ every. let never : false ≡ tr
 
 -- Words
 
-onto : (separator b : ℕ) (found : List ℕ × Option (List ℕ)) → onto_first b (found.0 ∷ parts_left separator found.1) ≡ (b ∷ found.0) ∷ parts_left separator found.1
-onto separator b found = refl
+onto_first_part : (separator b : ℕ) (found : List ℕ × Option (List ℕ)) → onto_first b (found.0 ∷ parts_left separator found.1) ≡ (b ∷ found.0) ∷ parts_left separator found.1
+onto_first_part separator b found = refl
 
 pub parts_cut : (separator : ℕ) (text : List ℕ) → slice_split (λ b. b == separator) text ≡ (cut separator text).0 ∷ parts_left separator (cut separator text).1
 parts_cut separator [] = refl
 parts_cut separator (b ∷ text) = elim (cases_Bool (b == separator)) [
   | inl here ↦ rw here refl
-  | inr other ↦ rw (other, parts_cut separator text) (onto separator b (cut separator text))
+  | inr other ↦ rw (other, parts_cut separator text) (onto_first_part separator b (cut separator text))
 ]
 
-stays : (b : ℕ) (line : List ℕ) → (b == 32) ≡ false → past_spaces (b ∷ line) ≡ b ∷ line
-stays b line other = rw other refl
+past_no_space : (b : ℕ) (line : List ℕ) → (b == 32) ≡ false → past_spaces (b ∷ line) ≡ b ∷ line
+past_no_space b line other = rw other refl
 
 pub words_past : (line : List ℕ) → words_of (past_spaces line) ≡ words_of line
 words_past [] = refl
@@ -65,17 +65,17 @@ words_past (b ∷ line) = go (b == 32) b line refl (words_past line)
   where
     go : (test : Bool) (b : ℕ) (line : List ℕ) → (b == 32) ≡ test → words_of (past_spaces line) ≡ words_of line → words_of (past_spaces (b ∷ line)) ≡ words_of (b ∷ line)
     go true b line is rest = rw is rest
-    go false b line is rest = ap words_of (stays b line is)
+    go false b line is rest = ap words_of (past_no_space b line is)
 
 -- a line that begins with a word
 abbrev pub Begins : List ℕ → Type 0
 Begins [] = ⊥
 Begins (b ∷ line) = (b == 32) ≡ false
 
-pub begins : (line : List ℕ) → (length (past_spaces line) ≡ 0 → ⊥) → Begins (past_spaces line)
-begins [] some = absurd (some refl)
-begins (b ∷ line) some = elim (cases_Bool (b == 32)) [
-  | inl space ↦ rw space (begins line (rw space at some))
+pub has_first_word : (line : List ℕ) → (length (past_spaces line) ≡ 0 → ⊥) → Begins (past_spaces line)
+has_first_word [] some = absurd (some refl)
+has_first_word (b ∷ line) some = elim (cases_Bool (b == 32)) [
+  | inl space ↦ rw space (has_first_word line (rw space at some))
   | inr other ↦ rw other other
 ]
 
@@ -94,9 +94,9 @@ words_last line begun after = words_begun line begun ∙ ap (λ (found : Option 
 
 -- Same words
 
-same_itself : (word : List ℕ) → same_word word word ≡ true
-same_itself [] = refl
-same_itself (b ∷ word) = rw (eq-eqb b b refl) (same_itself word)
+same_word_itself : (word : List ℕ) → same_word word word ≡ true
+same_word_itself [] = refl
+same_word_itself (b ∷ word) = rw (eq-eqb b b refl) (same_word_itself word)
 
 pub same_means : (one other : List ℕ) → same_word one other ≡ true → one ≡ other
 same_means [] [] same = refl
@@ -109,7 +109,7 @@ same_means (b ∷ one) (c ∷ other) same = elim (cases_Bool (b == c)) [
 
 -- a test that tells whether two words are equal is `same_word`
 pub same_word_of : (test : Bool) (one other : List ℕ) → (IsTrue test ↔ (one ≡ other)) → test ≡ same_word one other
-same_word_of true one other decides = sym (rw (decides.0 refl) (same_itself other))
+same_word_of true one other decides = sym (rw (decides.0 refl) (same_word_itself other))
 same_word_of false one other decides = elim (cases_Bool (same_word one other)) [
   | inl same ↦ let never : false ≡ true = decides.1 (same_means one other same) in absurd (cc)
   | inr apart ↦ sym apart

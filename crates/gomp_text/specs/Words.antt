@@ -1,5 +1,6 @@
 -- A text is its bytes: lines end with a line feed, and words are parted by spaces. (own)
-use Rattle.std.specs.Prelude.{ℕ, ◌==◌, ◌&&◌, nat_lt, Bool, true, false, if◌then◌else◌, List, [], ◌∷◌, Option, Some, None}
+use Rattle.std.specs.Prelude.{ℕ, ◌≡◌, ◌==◌, ◌&&◌, nat_lt, Bool, true, false, if◌then◌else◌, List, [], ◌∷◌, Option, Some, None, MatchOption}
+use Rattle.std.specs.Borrow.{Bor}
 use Rattle.std.specs.List.{slice_split}
 
 -- the lines of a text; behind the last line feed stands an empty one
@@ -16,6 +17,10 @@ filled ((b ∷ part) ∷ parts) = (b ∷ part) ∷ filled parts
 abbrev pub words_of : List ℕ → List (List ℕ)
 words_of line = filled (slice_split (λ b. b == 32) line)
 
+-- what is found is the first word of a line and what follows it, and nothing where the line has no word
+abbrev pub IsFirstWord : List ℕ → Option (Bor (List ℕ) × Bor (List ℕ)) → Type 0
+IsFirstWord line found = MatchOption found (words_of line ≡ []) (λ parts. words_of line ≡ parts.0.now ∷ words_of parts.1.now)
+
 -- each byte is below 128
 abbrev pub is_ascii : List ℕ → Bool
 is_ascii [] = true
@@ -30,6 +35,10 @@ cut separator (b ∷ bytes) = if b == separator then ([], Some bytes) else (b �
 abbrev pub parts_left : ℕ → Option (List ℕ) → List (List ℕ)
 parts_left separator None = []
 parts_left separator (Some rest) = slice_split (λ b. b == separator) rest
+
+-- the parts of a text are this first one and those of what is left
+abbrev pub HasParts : ℕ → List ℕ → List ℕ → Option (List ℕ) → Type 0
+HasParts separator text first rest = slice_split (λ b. b == separator) text ≡ first ∷ parts_left separator rest
 
 -- what is left of a text that was cut: nothing, where no separator stood in it
 abbrev pub left : Option (List ℕ) → List ℕ

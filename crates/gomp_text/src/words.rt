@@ -1,15 +1,14 @@
 //! The lines and words of a text.
 
-ghost use Rattle.std.specs.Prelude.{◌≡◌, ◌<◌, ◌==◌, ◌∷◌, [], length, IfSome, MatchOption, IsTrue, ◌↔◌, option_copied};
-ghost use Rattle.std.specs.List.{slice_split};
-ghost use Rattle.gomp_text.specs.Words.{words_of, is_ascii, cut, past_spaces, parts_left, left, same_word};
+ghost use Rattle.std.specs.Prelude.{◌≡◌, ◌<◌, length, IfSome, option_copied};
+ghost use Rattle.gomp_text.specs.Words.{HasParts, IsFirstWord, is_ascii, cut, past_spaces, left, same_word};
 
 /// The bytes before the first `separator`, which is any byte, and those after it. None in the place
 /// of those where no separator stands in the text.
 pub fn cut(text: &[u8], separator: u8) -> (&[u8], Option<&[u8]>)
     ensures before { result.0.now ≡ (cut separator text.now).0 }
     ensures after { option_copied result.1 ≡ (cut separator text.now).1 }
-    ensures parts { slice_split (λ b. b == separator) text.now ≡ result.0.now ∷ parts_left separator (option_copied result.1) }
+    ensures parts { HasParts separator text.now result.0.now (option_copied result.1) }
     ensures shorter { IfSome result.1 (λ rest. length rest.now < length text.now) }
 {
     match text.iter().position(|&byte| byte == separator) {
@@ -31,7 +30,7 @@ fn past_spaces(mut text: &[u8]) -> &[u8]
 /// The first word of a line, and the rest of the line after it. None where there is no word: the
 /// line is empty, or has spaces alone.
 pub fn next_word(line: &[u8]) -> Option<(&[u8], &[u8])>
-    ensures words { MatchOption result (words_of line.now ≡ []) (λ found. words_of line.now ≡ found.0.now ∷ words_of found.1.now) }
+    ensures words { IsFirstWord line.now result }
     ensures rest { IfSome result (λ found. found.1.now ≡ left (cut 32 (past_spaces line.now)).1) }
 {
     let line = past_spaces(line);

@@ -1,8 +1,8 @@
 //! The words of a line: taking them one by one, and those that several kinds of step share.
 
-ghost use Rattle.std.specs.Prelude.{◌≡◌, Ok, Err, MatchResult};
+ghost use Rattle.std.specs.Prelude.{◌≡◌};
 ghost use Rattle.gomp_text.specs.Words.{words_of};
-ghost use Rattle.gomp_script.specs.StepText.{next, finished, end_of, member_of, count_of, number_of};
+ghost use Rattle.gomp_script.specs.StepText.{TakesNext, finished, end_of, member_of, count_of, number_of};
 
 use crate::parse::Why;
 use gomp_text::{is_word, next_word, signed, unsigned};
@@ -10,7 +10,7 @@ use gomp_types::EndKind;
 
 /// The next word of a line, and what follows it.
 pub(crate) fn take_word(line: &[u8]) -> Result<(&[u8], &[u8]), Why>
-    ensures { MatchResult result (λ taken. next (words_of line.now) ≡ Ok (taken.0.now, words_of taken.1.now)) (λ why. next (words_of line.now) ≡ Err why) }
+    ensures { TakesNext line.now result }
 {
     next_word(line).ok_or(Why::MissingWord)
 }

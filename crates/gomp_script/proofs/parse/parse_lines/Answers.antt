@@ -2,7 +2,7 @@ use Rattle.std.proofs.Common.{◌≡◌, ◌+◌, ◌∙◌, Some, ap, sym, leng
 use Rattle.std.specs.Prelude.{IsSome, option_copied}
 use Rattle.gomp_types.specs.Limits.{shown}
 use Rattle.gomp_script.specs.StepText.{steps_left, kept}
-use Rattle.gomp_script.proofs.TextLemmas.{left_less, lines_here, line_kept, fault_behind, step_refused}
+use Rattle.gomp_script.proofs.TextLemmas.{left_less, lines_here, line_kept, fault_behind, has_refused_step}
 use Rattle.gomp_script.proofs.parse.parse_lines.Goals as goal
 
 pub returns-in-Err-clause-steps : goal.returns-in-Err-clause-steps
@@ -44,7 +44,7 @@ returns-then-is_err-clause-memory c =
     let later = steps_left (shown (number + 1)) (option_copied c.cut.result.1) in
     let step : IsSome c.in-Ok.said = search rules in
     let fault = rw c.saturating_add-number.ensures at c.first_fault.ensures in
-    λ refused. rw (← all) (step_refused c.loop-rest.steps.items number c.in-Ok.said later step (sym fault ∙ (cc)))
+    λ refused. rw (← all) (has_refused_step c.loop-rest.steps.items number c.in-Ok.said later step (sym fault ∙ (cc)))
 
 pub returns-clause-steps : goal.returns-clause-steps
 returns-clause-steps c = search rules

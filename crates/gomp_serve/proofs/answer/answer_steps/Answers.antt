@@ -18,7 +18,7 @@ returns-in-Ok-run c =
       each = let each = c.in-Ok-run.ensures.each in let ok = c.in-Ok-run.replies.ok in omega arith;
       caused = c.in-Ok-run.ensures.caused;
       memory = c.in-Ok-run.ensures.memory;
-      text_is = c.in_ok-print_replies-in-Ok-run.ensures ∙ ap (flat_map reply_line) c.as_slice.ensures.value;
+      text_is = c.in_ok-print_replies-in-Ok-run.ensures.lines ∙ ap (flat_map reply_line) c.as_slice.ensures.value;
       code_is = refl;
     })
 

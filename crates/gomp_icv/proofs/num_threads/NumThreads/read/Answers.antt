@@ -4,7 +4,7 @@ use Rattle.std.proofs.lemmas.Bool.Decides.{nat_tests}
 use Rattle.gomp_text.specs.Words.{parts_left}
 use Rattle.gomp_icv.specs.Variables.{max_number}
 use Rattle.gomp_icv.specs.EnvValues.{sizes_of, number_of}
-use Rattle.gomp_icv.proofs.Sizes.{one_kept, one_dropped, one_more}
+use Rattle.gomp_icv.proofs.Sizes.{one_kept, one_dropped, sizes_with_one_more}
 use Rattle.gomp_icv.proofs.num_threads.NumThreads.read.Goals as goal
 
 pub loop-rest-preserved : goal.loop-rest-preserved
@@ -31,7 +31,7 @@ loop-rest-preserved-then-not-is_full c =
     let range = c.in_ok-number.ensures.range in
     record {
       so_far = rw c.push.ensures.items (sym (one_kept c.loop-rest.sizes.items c.in_ok-number.field-0 (sizes_of (parts_left 44 (option_copied c.cut.result.1)))) ∙ here);
-      sizes = rw c.push.ensures.items (one_more c.loop-rest.sizes.items c.in_ok-number.field-0 c.loop-rest.invariant.sizes range.0 range.1);
+      sizes = rw c.push.ensures.items (sizes_with_one_more c.loop-rest.sizes.items c.in_ok-number.field-0 c.loop-rest.invariant.sizes range.0 range.1);
       some = omega (arith, c.push.ensures.len);
       few = omega (arith, c.push.ensures.len, few);
     }
