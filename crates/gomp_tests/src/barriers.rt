@@ -3,6 +3,7 @@
 ghost use Rattle.std.specs.Prelude.{◌≡◌, ◌<◌};
 ghost use Rattle.gomp_barrier.specs.Stands.{members_of};
 
+use crate::checks::{holds, same};
 use gomp_barrier::{AtBarrier, Barriers};
 use gomp_types::{Arrival, Tag};
 use std::alloc::Global;
@@ -59,20 +60,27 @@ fn meet(rt: &impl Abort, alloc: Global, count: u16, tag: Tag) -> Result<(), Fail
 {
     let mut barriers = Barriers::make(alloc, count)?;
     for member in 0..count {
-        assert!(rt;
+        holds(
+            rt,
             answer(&mut barriers, member, Act::Arrive(tag)),
-            "member {member} of {count}"
+            "arrival of",
+            member as u64,
         );
-        assert_eq!(rt;
-            answer(&mut barriers, 0, Act::Turn),
-            member + 1 == count,
-            "turn of {count}"
+        let last = member == count - 1;
+        same(
+            rt,
+            &answer(&mut barriers, 0, Act::Turn),
+            &last,
+            "turn after",
+            member as u64,
         );
     }
     for member in 1..count {
-        assert!(rt;
+        holds(
+            rt,
             answer(&mut barriers, member, Act::Turn),
-            "member {member} of {count}"
+            "turn of",
+            member as u64,
         );
     }
     Ok(())
