@@ -328,36 +328,56 @@ fn replies_of_every_size(rt: HostRuntime) -> Result<(), Fail> {
     Ok(())
 }
 
-/// That a reply is printed so.
-fn prints_reply(
-    rt: &impl Abort,
-    alloc: Global,
-    reply: Reply,
-    expected: String,
-) -> Result<(), Fail> {
+/// These replies, each printed behind the one before.
+fn printed(alloc: Global, replies: &[Reply]) -> Result<String, Fail> {
     let mut text = String::new(alloc);
-    print_reply(&reply, &mut text)?;
-    same(rt, &text, &expected, "one reply", 1);
-    let text = print_replies(alloc, &[reply])?;
-    same(rt, &text, &expected, "replies", 1);
+    for reply in replies {
+        print_reply(reply, &mut text)?;
+    }
+    Ok(text)
+}
+
+/// That these replies are printed so, one by one and together.
+fn print_so(rt: &impl Abort, alloc: Global, replies: &[Reply], expected: &str) -> Result<(), Fail> {
+    same(
+        rt,
+        &printed(alloc, replies)?.as_str(),
+        &expected,
+        "printed one by one",
+        1,
+    );
+    same(
+        rt,
+        &print_replies(alloc, replies)?.as_str(),
+        &expected,
+        "printed together",
+        2,
+    );
     Ok(())
 }
 
-/// That the replies that have one number print it.
-fn prints_number(rt: &impl Abort, alloc: Global, number: u64, written: &str) -> Result<(), Fail> {
-    let section = format!(in alloc; "section {written}\n")?;
-    prints_reply(rt, alloc, Reply::Section(number), section)?;
-    let copied = format!(in alloc; "copied {written} {written}\n")?;
+/// A section of this number, a copy of it twice, and a refusal at it.
+fn replies_of(number: u64) -> [Reply; 3] {
     let mut payload = Payload::new();
     payload.push(number);
     payload.push(number);
-    prints_reply(rt, alloc, Reply::Copied(payload), copied)?;
-    let broken = format!(in alloc; "refused E3 Broken 65535 share {written}\n")?;
     let clash = Clash {
         member: u16::MAX,
         place: Place::Share(number),
     };
-    prints_reply(rt, alloc, Reply::Refused(Refusal::Broken(clash)), broken)
+    [
+        Reply::Section(number),
+        Reply::Copied(payload),
+        Reply::Refused(Refusal::Broken(clash)),
+    ]
+}
+
+/// That the replies that have one number print it.
+fn prints_number(rt: &impl Abort, alloc: Global, number: u64, written: &str) -> Result<(), Fail> {
+    let expected = format!(in alloc;
+        "section {written}\ncopied {written} {written}\nrefused E3 Broken 65535 share {written}\n"
+    )?;
+    print_so(rt, alloc, &replies_of(number), expected.as_str())
 }
 
 /// That bad lines of this number are printed, with each fault.
@@ -396,7 +416,12 @@ fn prints_chunks(
     for (first, value) in values {
         let expected = format!(in alloc; "chunk {value} {written}\n")?;
         let first = *first;
-        prints_reply(rt, alloc, Reply::Chunk { first, count }, expected)?;
+        print_so(
+            rt,
+            alloc,
+            &[Reply::Chunk { first, count }],
+            expected.as_str(),
+        )?;
     }
     Ok(())
 }
@@ -425,7 +450,12 @@ fn numbers_of_every_size(rt: HostRuntime) -> Result<(), Fail> {
     prints_numbers(&rt, rt.alloc(), NUMBERS)?;
     for words in 0..9 {
         let expected = text_of(rt.alloc(), "copied", " 7", words, "\n")?;
-        prints_reply(&rt, rt.alloc(), Reply::Copied(sevens(words)), expected)?;
+        print_so(
+            &rt,
+            rt.alloc(),
+            &[Reply::Copied(sevens(words))],
+            expected.as_str(),
+        )?;
     }
     Ok(())
 }
