@@ -3,6 +3,7 @@
 ghost use Rattle.std.specs.Prelude.{◌≡◌, ◌<◌};
 ghost use Rattle.gomp_barrier.specs.Stands.{members_of};
 
+use crate::checks::{holds, same};
 use gomp_barrier::{AtBarrier, Barriers};
 use gomp_types::{Arrival, Tag};
 use std::alloc::Global;
@@ -36,21 +37,28 @@ fn walk(rt: &impl Abort, alloc: Global, lines: &[Line]) -> Result<(), Fail> {
     let mut barriers = Barriers::make(alloc, 2)?;
     for (number, line) in lines.iter().enumerate() {
         let member = line.0.min(1);
-        assert_eq!(rt;
-            answer(&mut barriers, member, line.1),
-            line.2,
-            "at line {number}"
+        let found = answer(&mut barriers, member, line.1);
+        same(rt, &found, &line.2, "answer at line", number as u64);
+        same(
+            rt,
+            &barriers.look(member),
+            &seen(line),
+            "view after line",
+            number as u64,
         );
-        let (barrier, tag, arrived, left) = line.3;
-        let expected = AtBarrier {
-            number: barrier,
-            tag,
-            arrived,
-            left,
-        };
-        assert_eq!(rt; barriers.look(member), expected, "after line {number}");
     }
     Ok(())
+}
+
+/// What the member of a line sees after it.
+fn seen(line: &Line) -> AtBarrier {
+    let (number, tag, arrived, left) = line.3;
+    AtBarrier {
+        number,
+        tag,
+        arrived,
+        left,
+    }
 }
 
 /// A team of so many meets at a barrier: nobody passes before all have arrived, and then all do.
@@ -59,20 +67,27 @@ fn meet(rt: &impl Abort, alloc: Global, count: u16, tag: Tag) -> Result<(), Fail
 {
     let mut barriers = Barriers::make(alloc, count)?;
     for member in 0..count {
-        assert!(rt;
+        holds(
+            rt,
             answer(&mut barriers, member, Act::Arrive(tag)),
-            "member {member} of {count}"
+            "arrival of",
+            member as u64,
         );
-        assert_eq!(rt;
-            answer(&mut barriers, 0, Act::Turn),
-            member + 1 == count,
-            "turn of {count}"
+        let last = member == count - 1;
+        same(
+            rt,
+            &answer(&mut barriers, 0, Act::Turn),
+            &last,
+            "turn after",
+            member as u64,
         );
     }
     for member in 1..count {
-        assert!(rt;
+        holds(
+            rt,
             answer(&mut barriers, member, Act::Turn),
-            "member {member} of {count}"
+            "turn of",
+            member as u64,
         );
     }
     Ok(())
@@ -94,47 +109,48 @@ fn teams_of_every_size(rt: HostRuntime) -> Result<(), Fail> {
     Ok(())
 }
 
+const BARRIER: Tag = Tag {
+    kind: Arrival::Barrier,
+    shares: 0,
+};
+
+const END: Tag = Tag {
+    kind: Arrival::RegionEnd,
+    shares: 1,
+};
+
+const OTHER: Tag = Tag {
+    kind: Arrival::RegionEnd,
+    shares: 0,
+};
+
+const AT: Option<Tag> = Some(BARRIER);
+
+const LAST: Option<Tag> = Some(END);
+
+/// A barrier opens when all are there.
+const BARRIERS: &[Line] = &[
+    (0, Act::Arrive(BARRIER), true, (0, AT, AT, false)),
+    (0, Act::Turn, false, (0, AT, AT, false)),
+    (1, Act::Arrive(BARRIER), true, (0, AT, AT, false)),
+    (1, Act::Turn, true, (1, None, None, false)),
+    (1, Act::Arrive(BARRIER), true, (1, AT, AT, false)),
+    (1, Act::Turn, false, (1, AT, AT, false)),
+    (0, Act::Turn, true, (1, AT, None, false)),
+    (1, Act::Turn, false, (1, AT, AT, false)),
+];
+
+/// A barrier takes one tag, and the region's end leaves the region.
+const ENDS: &[Line] = &[
+    (1, Act::Arrive(END), true, (0, LAST, LAST, false)),
+    (0, Act::Arrive(OTHER), false, (0, LAST, None, false)),
+    (0, Act::Arrive(END), true, (0, LAST, LAST, false)),
+    (0, Act::Turn, true, (1, None, None, true)),
+    (1, Act::Turn, true, (1, None, None, true)),
+];
+
 #[test]
 fn barriers_of_two_members(rt: HostRuntime) -> Result<(), Fail> {
-    let tag = Tag {
-        kind: Arrival::Barrier,
-        shares: 0,
-    };
-    let end = Tag {
-        kind: Arrival::RegionEnd,
-        shares: 1,
-    };
-    let other = Tag {
-        kind: Arrival::RegionEnd,
-        shares: 0,
-    };
-    let at = Some(tag);
-    let last = Some(end);
-    // A barrier opens when all are there.
-    walk(
-        &rt,
-        rt.alloc(),
-        &[
-            (0, Act::Arrive(tag), true, (0, at, at, false)),
-            (0, Act::Turn, false, (0, at, at, false)),
-            (1, Act::Arrive(tag), true, (0, at, at, false)),
-            (1, Act::Turn, true, (1, None, None, false)),
-            (1, Act::Arrive(tag), true, (1, at, at, false)),
-            (1, Act::Turn, false, (1, at, at, false)),
-            (0, Act::Turn, true, (1, at, None, false)),
-            (1, Act::Turn, false, (1, at, at, false)),
-        ],
-    )?;
-    // It takes one tag, and the region's end leaves the region.
-    walk(
-        &rt,
-        rt.alloc(),
-        &[
-            (1, Act::Arrive(end), true, (0, last, last, false)),
-            (0, Act::Arrive(other), false, (0, last, None, false)),
-            (0, Act::Arrive(end), true, (0, last, last, false)),
-            (0, Act::Turn, true, (1, None, None, true)),
-            (1, Act::Turn, true, (1, None, None, true)),
-        ],
-    )
+    walk(&rt, rt.alloc(), BARRIERS)?;
+    walk(&rt, rt.alloc(), ENDS)
 }

@@ -1,5 +1,6 @@
 //! Streams that fail: the process `ompteam` over readers and writers that fail at each read and each write in turn.
 
+use crate::checks::same_slices;
 use gomp_serve::run_process;
 use std::alloc::Global;
 use std::io::{self, ErrorKind, Read, Write};
@@ -109,6 +110,20 @@ fn given(alloc: Global, run: &Run) -> Result<io::Result<std::env::Args>, Fail> {
     Ok(Ok(words.into_iter()))
 }
 
+/// An empty writer of this many good writes.
+fn writer_of(alloc: Global, writes: usize, recovers: bool) -> FailingWriter {
+    FailingWriter {
+        written: Vec::new(alloc),
+        writes,
+        recovers,
+    }
+}
+
+/// That a process ended with this number, or without one.
+fn has_code(rt: &impl Abort, found: Option<ExitCode>, expected: Option<u8>) {
+    assert!(rt; found == expected.map(|code| ExitCode::from(code)));
+}
+
 /// That a run has this outcome.
 fn has_outcome(rt: &impl Abort, alloc: Global, run: &Run, outcome: &Outcome) -> Result<(), Fail> {
     let reader = FailingReader {
@@ -116,21 +131,13 @@ fn has_outcome(rt: &impl Abort, alloc: Global, run: &Run, outcome: &Outcome) -> 
         reads: run.reads,
         kind: run.kind,
     };
-    let mut writer = FailingWriter {
-        written: Vec::new(alloc),
-        writes: run.writes,
-        recovers: run.recovers,
-    };
-    let mut errors = FailingWriter {
-        written: Vec::new(alloc),
-        writes: run.error_writes,
-        recovers: run.recovers,
-    };
+    let mut writer = writer_of(alloc, run.writes, run.recovers);
+    let mut errors = writer_of(alloc, run.error_writes, run.recovers);
     let words = given(alloc, run)?;
     let code = run_process(alloc, words, reader, &mut writer, &mut errors).ok();
-    assert!(rt; code == outcome.code.map(|code| ExitCode::from(code)));
-    assert_eq!(rt; writer.written.as_slice(), outcome.output);
-    assert_eq!(rt; errors.written.as_slice(), outcome.errors);
+    has_code(rt, code, outcome.code);
+    same_slices(rt, writer.written.as_slice(), outcome.output, "output", 0);
+    same_slices(rt, errors.written.as_slice(), outcome.errors, "errors", 0);
     Ok(())
 }
 
@@ -138,25 +145,34 @@ const STEPS: &[&str] = &["ompteam", "steps"];
 
 const WITH_AN_IGNORED_WORD: &[&str] = &["ompteam", "steps", "FOO=1"];
 
+/// The process says this of a read that fails so, after this many reads.
+fn read_fails(
+    rt: &impl Abort,
+    alloc: Global,
+    words: &[&str],
+    reads: usize,
+    fault: (ErrorKind, u8, &[u8]),
+) -> Result<(), Fail> {
+    let run = Run {
+        reads,
+        kind: fault.0,
+        ..faultless(&*words)
+    };
+    let outcome = Outcome {
+        code: Some(fault.1),
+        output: b"",
+        errors: fault.2,
+    };
+    has_outcome(rt, alloc, &run, &outcome)
+}
+
 /// The text is read a byte a time, and each read fails in turn; of the last one the reader says that nothing is left.
 fn each_read_fails(rt: &impl Abort, alloc: Global, words: &[&str]) -> Result<(), Fail> {
     for reads in 0..=TEXT.len() {
-        for (kind, code, errors) in [
-            (ErrorKind::TimedOut, 1, b"input fault\n".as_slice()),
-            (ErrorKind::OutOfMemory, 3, b"no memory\n".as_slice()),
-        ] {
-            let run = Run {
-                reads,
-                kind,
-                ..faultless(&*words)
-            };
-            let outcome = Outcome {
-                code: Some(code),
-                output: b"",
-                errors,
-            };
-            has_outcome(rt, alloc, &run, &outcome)?;
-        }
+        let fault = (ErrorKind::TimedOut, 1, b"input fault\n".as_slice());
+        read_fails(rt, alloc, &*words, reads, fault)?;
+        let fault = (ErrorKind::OutOfMemory, 3, b"no memory\n".as_slice());
+        read_fails(rt, alloc, &*words, reads, fault)?;
     }
     Ok(())
 }

@@ -6,6 +6,8 @@
 #[cfg(test)]
 mod barriers;
 #[cfg(test)]
+mod checks;
+#[cfg(test)]
 mod faults;
 #[cfg(test)]
 mod names;

@@ -2,6 +2,7 @@
 
 ghost use Rattle.std.specs.Prelude.{◌≡◌, ◌<◌, IfOk};
 
+use crate::checks::same;
 use Construct::{Loop, Sections, Single};
 use gomp_chunks::{Cursor, Plan};
 use gomp_types::{EndKind, LoopDesc, Refusal, Sched, sections_shape, single_shape};
@@ -56,195 +57,239 @@ fn plan_of_loop(desc: &LoopDesc, members: u16) -> Result<Plan, Refusal>
     Ok(Plan::of(&desc.shape()?, members))
 }
 
-#[test]
-fn each_piece_and_its_owner(rt: HostRuntime) -> Result<(), Fail> {
-    // A work-share, its members, and how many pieces that makes; a number, the piece that has it, and
-    // its owner.
-    let table = [
-        (
-            Loop(Sched::Dynamic, LONGEST, 1),
-            4,
-            MOST,
-            0,
-            Some((0, 1)),
-            None,
-        ),
-        (
-            Loop(Sched::Dynamic, LONGEST, 1),
-            4,
-            MOST,
-            MOST - 1,
-            Some((MOST - 1, MOST)),
-            None,
-        ),
-        (Loop(Sched::Dynamic, LONGEST, 1), 4, MOST, MOST, None, None),
-        (
-            Loop(Sched::Dynamic, LONGEST, 1),
-            4,
-            MOST,
-            u64::MAX,
-            None,
-            None,
-        ),
-        (
-            Loop(Sched::Dynamic, LONGEST, LONGEST),
-            4,
-            1,
-            0,
-            Some((0, MOST)),
-            None,
-        ),
-        (Loop(Sched::Dynamic, LONGEST, LONGEST), 4, 1, 1, None, None),
-        (Loop(Sched::Dynamic, 10, 3), 4, 4, 0, Some((0, 3)), None),
-        (Loop(Sched::Dynamic, 10, 3), 4, 4, 1, Some((3, 6)), None),
-        (Loop(Sched::Dynamic, 10, 3), 4, 4, 2, Some((6, 9)), None),
-        (Loop(Sched::Dynamic, 10, 3), 4, 4, 3, Some((9, 10)), None),
-        (Loop(Sched::Dynamic, 10, 3), 4, 4, 4, None, None),
-        (Loop(Sched::Dynamic, 0, 3), 4, 0, 0, None, None),
-        (Loop(Sched::Static, 10, 3), 2, 4, 0, Some((0, 3)), Some(0)),
-        (Loop(Sched::Static, 10, 3), 2, 4, 1, Some((3, 6)), Some(1)),
-        (Loop(Sched::Static, 10, 3), 2, 4, 2, Some((6, 9)), Some(0)),
-        (Loop(Sched::Static, 10, 3), 2, 4, 3, Some((9, 10)), Some(1)),
-        (Loop(Sched::Static, 10, 3), 2, 4, 4, None, None),
-        (
-            Loop(Sched::Static, LONGEST, 1),
-            64,
-            MOST,
-            MOST - 1,
-            Some((MOST - 1, MOST)),
-            Some(63),
-        ),
-        (
-            Loop(Sched::Static, LONGEST, LONGEST),
-            64,
-            1,
-            0,
-            Some((0, MOST)),
-            Some(0),
-        ),
-        (Loop(Sched::Static, 10, 0), 4, 4, 0, Some((0, 3)), Some(0)),
-        (Loop(Sched::Static, 10, 0), 4, 4, 1, Some((3, 6)), Some(1)),
-        (Loop(Sched::Static, 10, 0), 4, 4, 2, Some((6, 8)), Some(2)),
-        (Loop(Sched::Static, 10, 0), 4, 4, 3, Some((8, 10)), Some(3)),
-        (Loop(Sched::Static, 10, 0), 4, 4, 4, None, None),
-        (Loop(Sched::Static, 10, 0), 2, 2, 1, Some((5, 10)), Some(1)),
-        (Loop(Sched::Static, 10, 0), 2, 2, 2, None, None),
-        (Loop(Sched::Static, 2, 0), 4, 2, 1, Some((1, 2)), Some(1)),
-        (Loop(Sched::Static, 2, 0), 4, 2, 2, None, None),
-        (Loop(Sched::Static, 0, 0), 4, 0, 0, None, None),
-        (
-            Loop(Sched::Static, LONGEST, 0),
-            64,
-            64,
-            63,
-            Some((MOST - MOST / 64, MOST)),
-            Some(63),
-        ),
-        (Loop(Sched::Guided, 20, 2), 4, 7, 0, Some((0, 5)), None),
-        (Loop(Sched::Guided, 20, 2), 4, 7, 1, Some((5, 9)), None),
-        (Loop(Sched::Guided, 20, 2), 4, 7, 2, Some((9, 12)), None),
-        (Loop(Sched::Guided, 20, 2), 4, 7, 3, Some((12, 14)), None),
-        (Loop(Sched::Guided, 20, 2), 4, 7, 6, Some((18, 20)), None),
-        (Loop(Sched::Guided, 20, 2), 4, 7, 7, None, None),
-        (Loop(Sched::Guided, 20, 2), 4, 7, u64::MAX, None, None),
-        (Loop(Sched::Guided, 0, 2), 4, 0, 0, None, None),
-        (
-            Loop(Sched::Guided, LONGEST, 0),
-            1,
-            1,
-            0,
-            Some((0, MOST)),
-            None,
-        ),
-        (
-            Loop(Sched::Guided, LONGEST, LONGEST),
-            64,
-            1,
-            0,
-            Some((0, MOST)),
-            None,
-        ),
-        (
-            Loop(Sched::Guided, LONGEST, 1),
-            64,
-            1490,
-            1489,
-            Some((MOST - 1, MOST)),
-            None,
-        ),
-        (Sections(5), 2, 5, 0, Some((0, 1)), None),
-        (Sections(5), 2, 5, 1, Some((1, 2)), None),
-        (Sections(5), 2, 5, 2, Some((2, 3)), None),
-        (Sections(5), 2, 5, 3, Some((3, 4)), None),
-        (Sections(5), 2, 5, 4, Some((4, 5)), None),
-        (Sections(5), 2, 5, 5, None, None),
-        (Sections(5), 2, 5, u64::MAX, None, None),
-        (Sections(1), 2, 1, 0, Some((0, 1)), None),
-        (Sections(1), 2, 1, 1, None, None),
-        (Sections(0), 2, 0, 0, None, None),
-        (
-            Sections(65_536),
-            2,
-            65_536,
-            65_535,
-            Some((65_535, 65_536)),
-            None,
-        ),
-        (Sections(65_536), 2, 65_536, 65_536, None, None),
-        (Single { copies: false }, 4, 1, 0, Some((0, 1)), None),
-        (Single { copies: false }, 4, 1, 1, None, None),
-        (Single { copies: true }, 4, 1, 0, Some((0, 1)), None),
-        (Single { copies: true }, 4, 1, u64::MAX, None, None),
-    ];
-    for (row, (construct, members, count, j, piece, owner)) in table.into_iter().enumerate() {
-        let plan = plan_of(construct, members)?;
-        assert_eq!(rt; plan.chunks(), count, "pieces of row {row}");
-        assert_eq!(rt; plan.chunk(j), piece, "piece {j} of row {row}");
-        assert_eq!(rt; plan.owner(j), owner, "owner of row {row}");
+// A work-share, its members, and how many pieces that makes; a number, the piece that has it, and its owner.
+type PieceRow = (Construct, u16, u64, u64, Option<(u64, u64)>, Option<u16>);
+
+const PIECES: &[PieceRow] = &[
+    (
+        Loop(Sched::Dynamic, LONGEST, 1),
+        4,
+        MOST,
+        0,
+        Some((0, 1)),
+        None,
+    ),
+    (
+        Loop(Sched::Dynamic, LONGEST, 1),
+        4,
+        MOST,
+        MOST - 1,
+        Some((MOST - 1, MOST)),
+        None,
+    ),
+    (Loop(Sched::Dynamic, LONGEST, 1), 4, MOST, MOST, None, None),
+    (
+        Loop(Sched::Dynamic, LONGEST, 1),
+        4,
+        MOST,
+        u64::MAX,
+        None,
+        None,
+    ),
+    (
+        Loop(Sched::Dynamic, LONGEST, LONGEST),
+        4,
+        1,
+        0,
+        Some((0, MOST)),
+        None,
+    ),
+    (Loop(Sched::Dynamic, LONGEST, LONGEST), 4, 1, 1, None, None),
+    (Loop(Sched::Dynamic, 10, 3), 4, 4, 0, Some((0, 3)), None),
+    (Loop(Sched::Dynamic, 10, 3), 4, 4, 1, Some((3, 6)), None),
+    (Loop(Sched::Dynamic, 10, 3), 4, 4, 2, Some((6, 9)), None),
+    (Loop(Sched::Dynamic, 10, 3), 4, 4, 3, Some((9, 10)), None),
+    (Loop(Sched::Dynamic, 10, 3), 4, 4, 4, None, None),
+    (Loop(Sched::Dynamic, 0, 3), 4, 0, 0, None, None),
+    (Loop(Sched::Static, 10, 3), 2, 4, 0, Some((0, 3)), Some(0)),
+    (Loop(Sched::Static, 10, 3), 2, 4, 1, Some((3, 6)), Some(1)),
+    (Loop(Sched::Static, 10, 3), 2, 4, 2, Some((6, 9)), Some(0)),
+    (Loop(Sched::Static, 10, 3), 2, 4, 3, Some((9, 10)), Some(1)),
+    (Loop(Sched::Static, 10, 3), 2, 4, 4, None, None),
+    (
+        Loop(Sched::Static, LONGEST, 1),
+        64,
+        MOST,
+        MOST - 1,
+        Some((MOST - 1, MOST)),
+        Some(63),
+    ),
+    (
+        Loop(Sched::Static, LONGEST, LONGEST),
+        64,
+        1,
+        0,
+        Some((0, MOST)),
+        Some(0),
+    ),
+    (Loop(Sched::Static, 10, 0), 4, 4, 0, Some((0, 3)), Some(0)),
+    (Loop(Sched::Static, 10, 0), 4, 4, 1, Some((3, 6)), Some(1)),
+    (Loop(Sched::Static, 10, 0), 4, 4, 2, Some((6, 8)), Some(2)),
+    (Loop(Sched::Static, 10, 0), 4, 4, 3, Some((8, 10)), Some(3)),
+    (Loop(Sched::Static, 10, 0), 4, 4, 4, None, None),
+    (Loop(Sched::Static, 10, 0), 2, 2, 1, Some((5, 10)), Some(1)),
+    (Loop(Sched::Static, 10, 0), 2, 2, 2, None, None),
+    (Loop(Sched::Static, 2, 0), 4, 2, 1, Some((1, 2)), Some(1)),
+    (Loop(Sched::Static, 2, 0), 4, 2, 2, None, None),
+    (Loop(Sched::Static, 0, 0), 4, 0, 0, None, None),
+    (
+        Loop(Sched::Static, LONGEST, 0),
+        64,
+        64,
+        63,
+        Some((MOST - MOST / 64, MOST)),
+        Some(63),
+    ),
+    (Loop(Sched::Guided, 20, 2), 4, 7, 0, Some((0, 5)), None),
+    (Loop(Sched::Guided, 20, 2), 4, 7, 1, Some((5, 9)), None),
+    (Loop(Sched::Guided, 20, 2), 4, 7, 2, Some((9, 12)), None),
+    (Loop(Sched::Guided, 20, 2), 4, 7, 3, Some((12, 14)), None),
+    (Loop(Sched::Guided, 20, 2), 4, 7, 6, Some((18, 20)), None),
+    (Loop(Sched::Guided, 20, 2), 4, 7, 7, None, None),
+    (Loop(Sched::Guided, 20, 2), 4, 7, u64::MAX, None, None),
+    (Loop(Sched::Guided, 0, 2), 4, 0, 0, None, None),
+    (
+        Loop(Sched::Guided, LONGEST, 0),
+        1,
+        1,
+        0,
+        Some((0, MOST)),
+        None,
+    ),
+    (
+        Loop(Sched::Guided, LONGEST, LONGEST),
+        64,
+        1,
+        0,
+        Some((0, MOST)),
+        None,
+    ),
+    (
+        Loop(Sched::Guided, LONGEST, 1),
+        64,
+        1490,
+        1489,
+        Some((MOST - 1, MOST)),
+        None,
+    ),
+    (Sections(5), 2, 5, 0, Some((0, 1)), None),
+    (Sections(5), 2, 5, 1, Some((1, 2)), None),
+    (Sections(5), 2, 5, 2, Some((2, 3)), None),
+    (Sections(5), 2, 5, 3, Some((3, 4)), None),
+    (Sections(5), 2, 5, 4, Some((4, 5)), None),
+    (Sections(5), 2, 5, 5, None, None),
+    (Sections(5), 2, 5, u64::MAX, None, None),
+    (Sections(1), 2, 1, 0, Some((0, 1)), None),
+    (Sections(1), 2, 1, 1, None, None),
+    (Sections(0), 2, 0, 0, None, None),
+    (
+        Sections(65_536),
+        2,
+        65_536,
+        65_535,
+        Some((65_535, 65_536)),
+        None,
+    ),
+    (Sections(65_536), 2, 65_536, 65_536, None, None),
+    (Single { copies: false }, 4, 1, 0, Some((0, 1)), None),
+    (Single { copies: false }, 4, 1, 1, None, None),
+    (Single { copies: true }, 4, 1, 0, Some((0, 1)), None),
+    (Single { copies: true }, 4, 1, u64::MAX, None, None),
+];
+
+/// That a work-share has so many pieces, and this piece with this owner.
+fn has_piece(rt: &impl Abort, row: &PieceRow, case: u64) -> Result<(), Refusal> {
+    let plan = plan_of(row.0, row.1)?;
+    same(rt, &plan.chunks(), &row.2, "pieces of row", case);
+    same(rt, &plan.chunk(row.3), &row.4, "piece of row", case);
+    same(rt, &plan.owner(row.3), &row.5, "owner of row", case);
+    Ok(())
+}
+
+fn have_pieces(rt: &impl Abort, rows: &[PieceRow]) -> Result<(), Refusal> {
+    for (case, row) in rows.iter().enumerate() {
+        has_piece(rt, row, case as u64)?;
     }
     Ok(())
 }
+
+#[test]
+fn each_piece_and_its_owner(rt: HostRuntime) -> Result<(), Fail> {
+    Ok(have_pieces(&rt, PIECES)?)
+}
+
+// A work-share of a team of two, a member, its takes and those of all; the number of its next piece.
+type NextRow = (Construct, u16, u64, u64, Option<u64>);
+
+const NEXT_PIECES: &[NextRow] = &[
+    (Loop(Sched::Static, 10, 3), 0, 0, 3, Some(0)),
+    (Loop(Sched::Static, 10, 3), 1, 0, 3, Some(1)),
+    (Loop(Sched::Static, 10, 3), 1, 1, 3, Some(3)),
+    (Loop(Sched::Static, 10, 3), 0, u64::MAX, 3, None),
+    (Loop(Sched::Static, 10, 0), 1, 0, 3, Some(1)),
+    (Loop(Sched::Static, 10, 0), 1, 1, 3, None),
+    (Loop(Sched::Dynamic, 10, 3), 1, 2, 3, Some(3)),
+    (Loop(Sched::Guided, 10, 3), 0, 2, 3, Some(3)),
+    (Sections(0), 1, 0, 0, Some(0)),
+    (Sections(1), 1, 0, 1, Some(1)),
+    (Sections(5), 1, 0, 4, Some(4)),
+    (Sections(65_536), 1, 0, 65_536, Some(65_536)),
+    (Single { copies: false }, 1, 0, 0, Some(0)),
+    (Single { copies: true }, 1, 0, u64::MAX, Some(u64::MAX)),
+];
 
 /// That a cursor, led through these numbers, gives what the plan gives.
 fn follows(rt: &impl Abort, plan: Plan, numbers: &[u64]) {
     let mut cursor = Cursor::new(plan);
     for j in numbers {
-        assert_eq!(rt; cursor.advance_to(*j), plan.chunk(*j), "piece {j}");
+        same(rt, &cursor.advance_to(*j), &plan.chunk(*j), "piece", *j);
     }
 }
 
-#[test]
-fn the_next_piece_of_each_member(rt: HostRuntime) -> Result<(), Fail> {
-    // A work-share of a team of two, a member, its takes and those of all; the number of its next piece.
-    let table = [
-        (Loop(Sched::Static, 10, 3), 0, 0, 3, Some(0)),
-        (Loop(Sched::Static, 10, 3), 1, 0, 3, Some(1)),
-        (Loop(Sched::Static, 10, 3), 1, 1, 3, Some(3)),
-        (Loop(Sched::Static, 10, 3), 0, u64::MAX, 3, None),
-        (Loop(Sched::Static, 10, 0), 1, 0, 3, Some(1)),
-        (Loop(Sched::Static, 10, 0), 1, 1, 3, None),
-        (Loop(Sched::Dynamic, 10, 3), 1, 2, 3, Some(3)),
-        (Loop(Sched::Guided, 10, 3), 0, 2, 3, Some(3)),
-        (Sections(0), 1, 0, 0, Some(0)),
-        (Sections(1), 1, 0, 1, Some(1)),
-        (Sections(5), 1, 0, 4, Some(4)),
-        (Sections(65_536), 1, 0, 65_536, Some(65_536)),
-        (Single { copies: false }, 1, 0, 0, Some(0)),
-        (Single { copies: true }, 1, 0, u64::MAX, Some(u64::MAX)),
-    ];
-    for (row, (construct, member, own, all, number)) in table.into_iter().enumerate() {
-        let plan = plan_of(construct, 2)?;
-        if member < 2 {
-            assert_eq!(rt; plan.next_number(member, own, all), number, "row {row}");
-        }
-        follows(&rt, plan, &[0, 1, 2, 3, 4, 5, 2, 0, u64::MAX, 1]);
-    }
-    for sched in [Sched::Static, Sched::Dynamic, Sched::Guided] {
-        for chunk in [0, 2] {
-            let plan = plan_of(Loop(sched, 20, chunk), 4)?;
-            follows(&rt, plan, &[0, 1, 2, 3, 4, 5, 6, 7, 8, 19, 20]);
-            follows(&rt, plan, &[3, 3, 1, 6, 0, 100, 2, u64::MAX, 5]);
-        }
+/// That this is the number of the member's next piece, and that a cursor follows the plan.
+fn has_next_piece(rt: &impl Abort, row: &NextRow, case: u64) -> Result<(), Refusal> {
+    let plan = plan_of(row.0, 2)?;
+    let member = row.1;
+    assert!(rt; member < 2);
+    same(
+        rt,
+        &plan.next_number(member, row.2, row.3),
+        &row.4,
+        "next piece of row",
+        case,
+    );
+    follows(rt, plan, &[0, 1, 2, 3, 4, 5, 2, 0, u64::MAX, 1]);
+    Ok(())
+}
+
+fn have_next_pieces(rt: &impl Abort, rows: &[NextRow]) -> Result<(), Refusal> {
+    for (case, row) in rows.iter().enumerate() {
+        has_next_piece(rt, row, case as u64)?;
     }
     Ok(())
+}
+
+/// That cursors of loops of 20 iterations, of these schedules and chunks, follow their plans.
+fn follow_loops(rt: &impl Abort, loops: &[(Sched, i64)]) -> Result<(), Refusal> {
+    for (sched, chunk) in loops {
+        let plan = plan_of(Loop(*sched, 20, *chunk), 4)?;
+        follows(rt, plan, &[0, 1, 2, 3, 4, 5, 6, 7, 8, 19, 20]);
+        follows(rt, plan, &[3, 3, 1, 6, 0, 100, 2, u64::MAX, 5]);
+    }
+    Ok(())
+}
+
+const LOOPS: &[(Sched, i64)] = &[
+    (Sched::Static, 0),
+    (Sched::Static, 2),
+    (Sched::Dynamic, 0),
+    (Sched::Dynamic, 2),
+    (Sched::Guided, 0),
+    (Sched::Guided, 2),
+];
+
+#[test]
+fn the_next_piece_of_each_member(rt: HostRuntime) -> Result<(), Fail> {
+    have_next_pieces(&rt, NEXT_PIECES)?;
+    Ok(follow_loops(&rt, LOOPS)?)
 }

@@ -1,6 +1,7 @@
 //! Refusals, with the members and the places of a break, are printed at every size of their numbers: a
 //! contract says what is printed where nothing fails, and cannot say that printing does not fail by itself.
 
+use crate::checks::same;
 use gomp_script::print_refusal;
 use gomp_types::{Clash, Name, Place, Refusal};
 use std::alloc::Global;
@@ -9,7 +10,7 @@ use std::process::Abort;
 use std::test::Fail;
 
 /// Each kind of place at these numbers.
-const PLACES: [(Place, &str); 25] = [
+const PLACES: &[(Place, &str)] = &[
     (Place::Stopped, "stopped"),
     (Place::Share(0), "share 0"),
     (Place::Share(9), "share 9"),
@@ -56,7 +57,7 @@ const PLACES: [(Place, &str); 25] = [
 ];
 
 /// Members, as they are printed. A member that a team does not have is printed too.
-const MEMBERS: [(u16, &str); 8] = [
+const MEMBERS: &[(u16, &str)] = &[
     (0, "0"),
     (1, "1"),
     (9, "9"),
@@ -103,33 +104,73 @@ fn prints<D: Display>(
     Ok(())
 }
 
+/// That a member at a place prints so, in a cause and in a refusal.
+fn prints_clash(rt: &impl Abort, alloc: Global, clash: Clash, cause: &str) -> Result<(), Fail> {
+    prints(rt, alloc, &clash, cause)?;
+    let refusal = format!(in alloc; "E3 Broken {cause}")?;
+    prints(rt, alloc, &Refusal::Broken(clash), refusal.as_str())
+}
+
+/// That a place prints so, and each of these members at it.
+fn prints_place(
+    rt: &impl Abort,
+    alloc: Global,
+    place: Place,
+    text: &str,
+    members: &[(u16, &str)],
+) -> Result<(), Fail> {
+    prints(rt, alloc, &place, text)?;
+    for (member, digits) in members {
+        let member = *member;
+        let cause = format!(in alloc; "{digits} {text}")?;
+        prints_clash(rt, alloc, Clash { member, place }, cause.as_str())?;
+    }
+    Ok(())
+}
+
+#[test]
+fn causes_print(rt: HostRuntime) -> Result<(), Fail> {
+    for (place, text) in PLACES {
+        prints_place(&rt, rt.alloc(), *place, *text, MEMBERS)?;
+    }
+    Ok(())
+}
+
+/// That each of these refusals prints so, and has its line.
+fn print_refusals(
+    rt: &impl Abort,
+    alloc: Global,
+    refusals: &[(Refusal, &str)],
+) -> Result<(), Fail> {
+    for (refusal, expected) in refusals {
+        prints(rt, alloc, refusal, *expected)?;
+        let line = format!(in alloc; "refused {expected}\n")?;
+        same(rt, &print_refusal(alloc, refusal)?, &line, *expected, 0);
+    }
+    Ok(())
+}
+
 #[test]
 fn refusals_print(rt: HostRuntime) -> Result<(), Fail> {
-    let alloc = rt.alloc();
-    for (place, place_text) in PLACES {
-        prints(&rt, alloc, &place, place_text)?;
-        for (member, digits) in MEMBERS {
-            let clash = Clash { member, place };
-            let cause = format!(in alloc; "{digits} {place_text}")?;
-            prints(&rt, alloc, &clash, &cause)?;
-            let refusal = format!(in alloc; "E3 Broken {cause}")?;
-            prints(&rt, alloc, &Refusal::Broken(clash), &refusal)?;
-        }
-    }
-    for (refusal, expected) in REFUSALS {
-        prints(&rt, alloc, &refusal, expected)?;
-        let line = format!(in alloc; "refused {expected}\n")?;
-        assert_eq!(rt; print_refusal(alloc, &refusal)?.as_str(), line.as_str());
-    }
+    print_refusals(&rt, rt.alloc(), &REFUSALS)
+}
+
+#[test]
+fn members_print(rt: HostRuntime) -> Result<(), Fail> {
     for member in 0..65 {
         let place = Place::Stopped;
-        let cause = format!(in alloc; "{member} stopped")?;
-        prints(&rt, alloc, &Clash { member, place }, &cause)?;
+        let cause = format!(in rt.alloc(); "{member} stopped")?;
+        prints(&rt, rt.alloc(), &Clash { member, place }, cause.as_str())?;
     }
-    let mut name = String::new(alloc);
+    Ok(())
+}
+
+#[test]
+fn refusals_of_names_print(rt: HostRuntime) -> Result<(), Fail> {
+    let mut name = String::new(rt.alloc());
     for _ in 0..301 {
-        let refusal = Refusal::BadEnv(Name::new(alloc, &name)?);
-        prints(&rt, alloc, &refusal, "E41 BadEnv")?;
+        let refusal = Refusal::BadEnv(Name::new(rt.alloc(), name.as_str())?);
+        prints(&rt, rt.alloc(), &refusal, "E41 BadEnv")?;
         name.push('n')?;
     }
     Ok(())

@@ -1,6 +1,7 @@
 //! Static, guided and runtime loops of a team called as a library: whoever asks when, each piece goes
 //! where its schedule says.
 
+use crate::checks::same;
 use gomp_core::Team;
 use gomp_icv::Icv;
 use gomp_share_plain::PlainShares;
@@ -39,8 +40,119 @@ struct Progress {
     taken: usize,
 }
 
-/// That members who ask in many orders get the pieces of their queues in order, and then none. One
-/// queue is that of all members, at most four; of more, each member has its own.
+/// A member that has not started.
+const NEW: Progress = Progress {
+    started: false,
+    over: false,
+    taken: 0,
+};
+
+/// The pieces of a queue from which a member takes, and how many are taken from it before.
+#[derive(Clone, Copy)]
+struct Queue<'a> {
+    pieces: &'a [(i64, u64)],
+    taken: usize,
+}
+
+/// A member asks for its next piece, and gets that of its queue, or none at its end.
+fn asks(
+    rt: &impl Abort,
+    team: &mut Team<PlainShares>,
+    member: u16,
+    call: Call,
+    queue: Queue,
+    order: u32,
+) {
+    let expected = match queue.pieces.get(queue.taken) {
+        Some((first, count)) => chunk(*first, *count),
+        None => Reply::NoChunk,
+    };
+    same(
+        rt,
+        &team.step(member, call),
+        &expected,
+        "a piece in order",
+        order as u64,
+    );
+}
+
+/// The queue of a member: one queue is that of all members.
+fn queue_of<'a>(
+    queues: &[&'a [(i64, u64)]],
+    member: usize,
+    own: usize,
+    all: usize,
+) -> Option<Queue<'a>> {
+    let (pieces, taken) = if queues.len() == 1 {
+        (queues.first()?, all)
+    } else {
+        (queues.get(member)?, own)
+    };
+    Some(Queue {
+        pieces: *pieces,
+        taken,
+    })
+}
+
+/// A member that is not over takes its turn, and gets the next piece of its queue.
+fn takes_turn(
+    rt: &impl Abort,
+    team: &mut Team<PlainShares>,
+    member: u16,
+    progress: &mut Progress,
+    desc: LoopDesc,
+    queue: Queue,
+    order: u32,
+) {
+    let call = if progress.started {
+        Call::LoopNext
+    } else {
+        Call::LoopStart(desc)
+    };
+    asks(rt, team, member, call, queue, order);
+    progress.started = true;
+    progress.over = queue.taken >= queue.pieces.len();
+    progress.taken = queue.taken.saturating_add(1);
+}
+
+/// That members who ask in this order get the pieces of their queues in order, and then none. One queue is that of all
+/// members, at most four; of more, each member has its own.
+fn deals_in_order(
+    rt: &impl Abort,
+    alloc: Global,
+    members: u16,
+    desc: LoopDesc,
+    queues: &[&[(i64, u64)]],
+    order: u32,
+) -> Result<(), Fail> {
+    let mut team: Team<PlainShares> = Team::new(alloc, members, Icv::initial())?;
+    let mut each = vec![in alloc; NEW; members as usize]?;
+    let mut all: usize = 0;
+    let mut seed = order;
+    for _ in 0..TURNS {
+        seed = drawn(seed);
+        let member = (seed >> 16 & 3) as u16;
+        let Some(progress) = each.get_mut(member as usize) else {
+            continue;
+        };
+        let queue = queue_of(queues, member as usize, progress.taken, all);
+        let (Some(queue), false) = (queue, progress.over) else {
+            continue;
+        };
+        takes_turn(rt, &mut team, member, progress, desc, queue, order);
+        all = all.saturating_add(1);
+    }
+    are_over(rt, each.as_slice());
+    Ok(())
+}
+
+fn are_over(rt: &impl Abort, each: &[Progress]) {
+    for progress in each {
+        assert!(rt; progress.over);
+    }
+}
+
+/// That members who ask in many orders get the pieces of their queues.
 fn deals(
     rt: &impl Abort,
     alloc: Global,
@@ -48,50 +160,8 @@ fn deals(
     desc: LoopDesc,
     queues: &[&[(i64, u64)]],
 ) -> Result<(), Fail> {
-    let new = Progress {
-        started: false,
-        over: false,
-        taken: 0,
-    };
     for order in 0..ORDERS {
-        let mut team: Team<PlainShares> = Team::new(alloc, members, Icv::initial())?;
-        let mut each = vec![in alloc; new; members as usize]?;
-        let mut all: usize = 0;
-        let mut seed = order;
-        for _ in 0..TURNS {
-            seed = drawn(seed);
-            let member = (seed >> 16 & 3) as u16;
-            let Some(progress) = each.get_mut(member as usize) else {
-                continue;
-            };
-            let (queue, taken) = if queues.len() == 1 {
-                (queues.first(), all)
-            } else {
-                (queues.get(member as usize), progress.taken)
-            };
-            let (Some(queue), false) = (queue, progress.over) else {
-                continue;
-            };
-            let call = if progress.started {
-                Call::LoopNext
-            } else {
-                Call::LoopStart(desc)
-            };
-            let expected = match queue.get(taken) {
-                Some((first, count)) => chunk(*first, *count),
-                None => Reply::NoChunk,
-            };
-            assert_eq!(rt;
-                team.step(member, call),
-                expected,
-                "member {member} in order {order}"
-            );
-            progress.started = true;
-            progress.over = taken >= queue.len();
-            progress.taken = taken.saturating_add(1);
-            all = all.saturating_add(1);
-        }
-        assert!(rt; each.iter().all(|progress| progress.over));
+        deals_in_order(rt, alloc, members, desc, queues, order)?;
     }
     Ok(())
 }

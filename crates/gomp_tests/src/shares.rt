@@ -1,5 +1,6 @@
 //! The plain shares, called as a library.
 
+use crate::checks::same;
 use ShareAnswer::{Claimed, Ended, Left, NotMade, Opened, Turned};
 use ShareCall::{Begin, Claim, EndPart, HandOn, Leave, Open, OpenSections, OpenSingle};
 use gomp_share_plain::PlainShares;
@@ -23,7 +24,7 @@ fn walk(rt: &impl Abort, alloc: Global, run: &str, lines: &[Line]) -> Result<(),
     }
     let (_, answers) = make_calls::<PlainShares>(alloc, 2, &steps)?;
     for (number, (line, answer)) in lines.iter().zip(answers.iter()).enumerate() {
-        assert_eq!(rt; *answer, line.2, "at line {number} of {run}");
+        same(rt, answer, &line.2, run, number as u64);
     }
     Ok(())
 }
@@ -269,36 +270,66 @@ fn parts(rt: &impl Abort, alloc: Global) -> Result<(), Fail> {
     )
 }
 
+// A member, what it calls, and whether the next share of each member is taken then.
+type NextLine = (u16, ShareCall, (bool, bool));
+
+/// That a new team of two that made these calls has the next share of each member taken, or not.
+fn has_taken(
+    rt: &impl Abort,
+    alloc: Global,
+    steps: &[ShareStep],
+    taken: (bool, bool),
+) -> Result<(), Fail> {
+    let (mut shares, _) = make_calls::<PlainShares>(alloc, 2, steps)?;
+    let case = steps.len() as u64;
+    same(
+        rt,
+        &shares.next_is_taken(0),
+        &taken.0,
+        "next share of member 0 after line",
+        case,
+    );
+    same(
+        rt,
+        &shares.next_is_taken(1),
+        &taken.1,
+        "next share of member 1 after line",
+        case,
+    );
+    Ok(())
+}
+
+fn have_taken(rt: &impl Abort, alloc: Global, lines: &[NextLine]) -> Result<(), Fail> {
+    let mut steps = Vec::new(alloc);
+    for line in lines {
+        steps.push(ShareStep {
+            member: line.0,
+            call: line.1,
+        })?;
+        has_taken(rt, alloc, steps.as_slice(), line.2)?;
+    }
+    Ok(())
+}
+
 /// Whether the next share of each member is taken, call by call.
 fn next_taken(rt: &impl Abort, alloc: Global) -> Result<(), Fail> {
     let single = OpenSingle { copies: true };
-    // A member, what it calls, and whether the next share of each member is taken then.
-    let lines = [
-        (1, single, (false, false)),
-        (1, Claim, (true, false)),
-        (1, Leave, (true, false)),
-        (1, single, (true, false)),
-        (0, single, (false, false)),
-        (1, Claim, (true, false)),
-        (0, Claim, (true, false)),
-        (0, Leave, (true, false)),
-        (0, single, (false, false)),
-        (1, Leave, (false, false)),
-    ];
-    let mut steps = Vec::new(alloc);
-    for (number, (member, call, taken)) in lines.iter().enumerate() {
-        steps.push(ShareStep {
-            member: *member,
-            call: *call,
-        })?;
-        let (mut shares, _) = make_calls::<PlainShares>(alloc, 2, &steps)?;
-        assert_eq!(rt;
-            (shares.next_is_taken(0), shares.next_is_taken(1)),
-            *taken,
-            "after line {number}"
-        );
-    }
-    Ok(())
+    have_taken(
+        rt,
+        alloc,
+        &[
+            (1, single, (false, false)),
+            (1, Claim, (true, false)),
+            (1, Leave, (true, false)),
+            (1, single, (true, false)),
+            (0, single, (false, false)),
+            (1, Claim, (true, false)),
+            (0, Claim, (true, false)),
+            (0, Leave, (true, false)),
+            (0, single, (false, false)),
+            (1, Leave, (false, false)),
+        ],
+    )
 }
 
 #[test]
@@ -312,32 +343,48 @@ fn runs_of_two_members(rt: HostRuntime) -> Result<(), Fail> {
     next_taken(&rt, rt.alloc())
 }
 
-/// A member of a team of so many enters a loop in chunks of one, and makes claims in it until there are so
-/// many calls: each gets the next iteration.
-fn claims(rt: &impl Abort, alloc: Global, members: u16, calls: u64) -> Result<(), Fail> {
-    assert!(rt; is_team_size(members), "{members} members");
+/// The steps of a member that enters a loop in chunks of one, and makes claims in it until there are so many calls.
+fn claim_steps(alloc: Global, calls: u64) -> Result<Vec<ShareStep>, Fail> {
     let mut steps = Vec::new(alloc);
     for k in 0..calls {
         let call = if k == 0 { dynamic(1 << 20, 1) } else { Claim };
         steps.push(ShareStep { member: 0, call })?;
     }
-    let (_, answers) = make_calls::<PlainShares>(alloc, members, &steps)?;
-    assert_eq!(rt; answers.len() as u64, calls, "calls of {members} members");
+    Ok(steps)
+}
+
+/// That the answers are an entry, and then the iterations in order.
+fn are_in_order(rt: &impl Abort, answers: &[ShareAnswer]) {
     for (k, answer) in answers.iter().enumerate() {
         let k = k as u64;
-        let expected = if k == 0 {
-            ENTERED
-        } else {
-            Claimed(Some((k - 1, k)))
+        let expected = match k.checked_sub(1) {
+            None => ENTERED,
+            Some(before) => Claimed(Some((before, k))),
         };
-        assert_eq!(rt; *answer, expected, "call {k} of {calls}");
+        same(rt, answer, &expected, "call", k);
     }
+}
+
+/// A member of a team of so many enters a loop in chunks of one, and makes claims in it until there are so
+/// many calls: each gets the next iteration.
+fn claims(rt: &impl Abort, alloc: Global, members: u16, calls: u64) -> Result<(), Fail> {
+    assert!(rt; is_team_size(members));
+    let steps = claim_steps(alloc, calls)?;
+    let (_, answers) = make_calls::<PlainShares>(alloc, members, &steps)?;
+    same(
+        rt,
+        &(answers.len() as u64),
+        &calls,
+        "calls of members",
+        members as u64,
+    );
+    are_in_order(rt, answers.as_slice());
     Ok(())
 }
 
 /// The shares of a new team of so many are made.
 fn make(rt: &impl Abort, alloc: Global, members: u16) -> Result<(), Fail> {
-    assert!(rt; is_team_size(members), "{members} members");
+    assert!(rt; is_team_size(members));
     PlainShares::make(alloc, members)?;
     Ok(())
 }

@@ -1,6 +1,7 @@
 //! Teams of `gomp_core` called as a library: a team with a lower limit, and teams at the places where a caller may
 //! keep them.
 
+use crate::checks::same;
 use gomp_core::Team;
 use gomp_icv::Icv;
 use gomp_share_plain::PlainShares;
@@ -47,8 +48,8 @@ struct Pool {
 
 impl Pool {
     fn step(&mut self, index: usize, member: u16, call: Call) -> Option<Reply> {
-        if index < self.listed.len() {
-            return Some(self.listed[index].step(member, call));
+        if let Some(team) = self.listed.get_mut(index) {
+            return Some(team.step(member, call));
         }
         match &mut self.boxed {
             Some(team) => Some(team.step(member, call)),
@@ -58,23 +59,63 @@ impl Pool {
 }
 
 #[test]
-fn limits_and_places(rt: HostRuntime) -> Result<(), Fail> {
-    let alloc = rt.alloc();
+fn limits(rt: HostRuntime) -> Result<(), Fail> {
     let expected = [
         Reply::Chunk { first: 0, count: 1 },
         Reply::NoChunk,
         Reply::Finished,
         Reply::Refused(Refusal::TooManyShares),
     ];
-    assert_eq!(rt; one_share_too_many(alloc)?, expected);
-    let mut pool = Pool {
-        listed: vec![in alloc; Team::new(alloc, 1, Icv::initial())?]?,
-        boxed: Some(Box::new(alloc, Team::new(alloc, 2, Icv::initial())?)?),
-    };
-    assert_eq!(rt; pool.step(0, 0, Call::Barrier), Some(Reply::Passed));
-    assert_eq!(rt; pool.step(1, 0, Call::Barrier), Some(Reply::Wait));
-    let locked: Mutex<Team<PlainShares>> = Mutex::new(Team::new(alloc, 1, Icv::initial())?);
+    same(
+        &rt,
+        &one_share_too_many(rt.alloc())?,
+        &expected,
+        "replies",
+        4,
+    );
+    Ok(())
+}
+
+fn pool_of(alloc: Global) -> Result<Pool, Fail> {
+    let one = Team::new(alloc, 1, Icv::initial())?;
+    let two = Team::new(alloc, 2, Icv::initial())?;
+    Ok(Pool {
+        listed: vec![in alloc; one]?,
+        boxed: Some(Box::new(alloc, two)?),
+    })
+}
+
+#[test]
+fn places(rt: HostRuntime) -> Result<(), Fail> {
+    let mut pool = pool_of(rt.alloc())?;
+    same(
+        &rt,
+        &pool.step(0, 0, Call::Barrier),
+        &Some(Reply::Passed),
+        "listed",
+        1,
+    );
+    same(
+        &rt,
+        &pool.step(1, 0, Call::Barrier),
+        &Some(Reply::Wait),
+        "boxed",
+        2,
+    );
+    Ok(())
+}
+
+#[test]
+fn locked_team(rt: HostRuntime) -> Result<(), Fail> {
+    let team: Team<PlainShares> = Team::new(rt.alloc(), 1, Icv::initial())?;
+    let locked = Mutex::new(team);
     let mut guard = locked.lock(&rt);
-    assert_eq!(rt; guard.step(0, Call::RegionEnd), Reply::Passed);
+    same(
+        &rt,
+        &guard.step(0, Call::RegionEnd),
+        &Reply::Passed,
+        "locked",
+        1,
+    );
     Ok(())
 }

@@ -1,0 +1,39 @@
+//! Comparisons of the tests. Each stands in a function of its own, which is proved once: an assertion costs the proof of
+//! the function that it stands in.
+
+use std::fmt::Debug;
+use std::process::Abort;
+
+/// That these are equal; `case` is the number of the case, or the size that is tried.
+pub fn same<T: PartialEq + Debug>(rt: &impl Abort, found: &T, expected: &T, what: &str, case: u64) {
+    assert_eq!(rt; found, expected, "{what} {case}");
+}
+
+/// That these are as many, and equal one by one.
+pub fn same_slices<T: PartialEq + Debug>(
+    rt: &impl Abort,
+    found: &[T],
+    expected: &[T],
+    what: &str,
+    case: u64,
+) {
+    assert_eq!(rt; found, expected, "{what} {case}");
+}
+
+/// That each of these is the one that is expected.
+pub fn each_is<T: PartialEq + Debug>(
+    rt: &impl Abort,
+    found: &[T],
+    expected: &T,
+    what: &str,
+    case: u64,
+) {
+    for item in found {
+        same(rt, item, expected, what, case);
+    }
+}
+
+/// That this holds; `case` is the number of the case, or the size that is tried.
+pub fn holds(rt: &impl Abort, found: bool, what: &str, case: u64) {
+    assert!(rt; found, "{what} {case}");
+}
