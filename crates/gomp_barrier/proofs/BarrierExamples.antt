@@ -303,8 +303,8 @@ barriers_stand = record {
 }
 
 -- the team has two members
-pub two_members : members_of (barriers_with (seat_behind ∷ seat_ahead ∷ []) front_between) ≡ 2
-two_members = refl
+pub two_seats_are_two_members : members_of (barriers_with (seat_behind ∷ seat_ahead ∷ []) front_between) ≡ 2
+two_seats_are_two_members = refl
 
 -- a front with a tag at which nobody has arrived
 pub barriers_of_another_front : Stands (barriers_with (new_seat ∷ []) (front_with false 0 (Some at_end_tag) None)) [] → ⊥

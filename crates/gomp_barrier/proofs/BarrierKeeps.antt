@@ -102,8 +102,8 @@ record Tagged (front : Front) (least : ℕ) (h : List Event) : Type 0 where
   next : tag_at (least + 1) h ≡ front.next
   beyond : (g : ℕ) → least + 2 ≤ g → tag_at g h ≡ None
 
-tagged : (front : Front) (member : Seat) (least m : ℕ) (tag : Tag) (h : List Event) → Tagged front least h → Tagged (arrived_at front member tag) least (Arrive (barrier_of front least member) m tag ∷ h)
-tagged front member least m tag h t = by_ahead (is_ahead front member)
+tagged_after_arrival : (front : Front) (member : Seat) (least m : ℕ) (tag : Tag) (h : List Event) → Tagged front least h → Tagged (arrived_at front member tag) least (Arrive (barrier_of front least member) m tag ∷ h)
+tagged_after_arrival front member least m tag h t = by_ahead (is_ahead front member)
   where
     by_ahead : (ahead : Bool) → Tagged (if ahead then record { odd = front.odd; number = front.number; tag = front.tag; next = Some tag } else record { odd = front.odd; number = front.number; tag = Some tag; next = front.next }) least (Arrive (if ahead then least + 1 else least) m tag ∷ h)
     by_ahead true = record {
@@ -119,11 +119,11 @@ tagged front member least m tag h t = by_ahead (is_ahead front member)
       beyond = λ g le. tag_elsewhere g least m tag h (λ e. omega arith) ∙ t.beyond g le;
     }
 
-pub arrives : (members : List Seat) (front : Front) (least m : ℕ) (member after : Seat) (tag : Tag) (h : List Event) → FrontStands members front least h → slice_get members m ≡ Some member →
+pub arrival_keeps_the_front : (members : List Seat) (front : Front) (least m : ℕ) (member after : Seat) (tag : Tag) (h : List Event) → FrontStands members front least h → slice_get members m ≡ Some member →
     after.odd ≡ member.odd → after.arrived ≡ Some tag → after.left ≡ member.left →
     FrontStands (slice_set members m after) (arrived_at front member tag) least (Arrive (barrier_of front least member) m tag ∷ h)
-arrives members front least m member after tag h st at odd arrived left =
-    let t = tagged front member least m tag h (record { number = st.number; tag = st.tag; next = st.next; beyond = st.beyond }) in
+arrival_keeps_the_front members front least m member after tag h st at odd arrived left =
+    let t = tagged_after_arrival front member least m tag h (record { number = st.number; tag = st.tag; next = st.next; beyond = st.beyond }) in
     let turn = turn_arrived front member tag in
     record {
       number = t.number;
@@ -156,8 +156,8 @@ left_own g m tag left h at is = rw (same_number m, at, is) (or_swap (is_region_e
     or_swap false true = refl
     or_swap false false = refl
 
-flipped : (front : Front) (member : Seat) → differ (not member.odd) front.odd ≡ not (is_ahead front member)
-flipped front member = by (member.odd) (front.odd)
+differs_once_flipped : (front : Front) (member : Seat) → differ (not member.odd) front.odd ≡ not (is_ahead front member)
+differs_once_flipped front member = by (member.odd) (front.odd)
   where
     by : (a b : Bool) → differ (not a) b ≡ not (differ a b)
     by true true = refl
@@ -170,7 +170,7 @@ own_passes : (front : Front) (least m : ℕ) (member after : Seat) (tag : Tag) (
     after.odd ≡ not member.odd → after.arrived ≡ None → after.left ≡ (member.left || is_region_end tag.kind) → SeatStands front least m after (Pass least m ∷ h)
 own_passes front least m member after tag h p behind arrived odd none left =
     let before : barrier_of front least member ≡ least = rw behind refl in
-    let now : is_ahead front after ≡ true = rw odd (flipped front member ∙ ap not behind) in
+    let now : is_ahead front after ≡ true = rw odd (differs_once_flipped front member ∙ ap not behind) in
     let next : barrier_of front least after ≡ least + 1 = rw now refl in
     let here : arrival least m h ≡ Some tag = subst (λ b. arrival b m h ≡ member.arrived) before p.here ∙ arrived in
     record {
@@ -193,10 +193,10 @@ other_passes front least m k member h p other = record {
   left_is = left_other least m k h other ∙ p.left_is;
 }
 
-pub passes : (members : List Seat) (front : Front) (least m : ℕ) (member after : Seat) (tag : Tag) (h : List Event) → FrontStands members front least h → slice_get members m ≡ Some member →
+pub pass_keeps_the_front : (members : List Seat) (front : Front) (least m : ℕ) (member after : Seat) (tag : Tag) (h : List Event) → FrontStands members front least h → slice_get members m ≡ Some member →
     is_ahead front member ≡ false → member.arrived ≡ Some tag → after.odd ≡ not member.odd → after.arrived ≡ None → after.left ≡ (member.left || is_region_end tag.kind) →
     FrontStands (slice_set members m after) front least (Pass least m ∷ h)
-passes members front least m member after tag h st at behind arrived odd none left = record {
+pass_keeps_the_front members front least m member after tag h st at behind arrived odd none left = record {
   number = st.number;
   tag = st.tag;
   next = st.next;
@@ -209,8 +209,8 @@ passes members front least m member after tag h st at behind arrived odd none le
 
 -- The front moves on once all have passed it
 
-moved : (front : Front) (member : Seat) → is_ahead front member ≡ true → is_ahead (advanced front) member ≡ false
-moved front member e = by member.odd front.odd e
+not_ahead_once_advanced : (front : Front) (member : Seat) → is_ahead front member ≡ true → is_ahead (advanced front) member ≡ false
+not_ahead_once_advanced front member e = by member.odd front.odd e
   where
     by : (a b : Bool) → differ a b ≡ true → differ a (not b) ≡ false
     by true true e = absurd (cc)
@@ -231,7 +231,7 @@ moves_on members front least h st all = record {
       let p = st.seat m member at in
       let ahead = all_at front members m member all at in
       let before : barrier_of front least member ≡ least + 1 = rw ahead refl in
-      let after : barrier_of (advanced front) (least + 1) member ≡ least + 1 = rw (moved front member ahead) refl in
+      let after : barrier_of (advanced front) (least + 1) member ≡ least + 1 = rw (not_ahead_once_advanced front member ahead) refl in
       record {
         passed_is = p.passed_is ∙ before ∙ sym after;
         here = subst (λ b. arrival b m h ≡ member.arrived) (before ∙ sym after) p.here;
@@ -246,12 +246,12 @@ pub behind_again : (members : List Seat) (front : Front) (m : ℕ) (member : Sea
 behind_again members front m member at all again =
     let ahead = all_at front members m member all at in
     let now = all_at (advanced front) members m member again at in
-    let off = moved front member ahead in cc
+    let off = not_ahead_once_advanced front member ahead in cc
 
 -- Whether a barrier is met
 
-there : (front : Front) (least m : ℕ) (member : Seat) (h : List Event) → SeatStands front least m member h → is_some (arrival least m h) ≡ (is_ahead front member || is_some member.arrived)
-there front least m member h p = by_ahead (is_ahead front member) refl
+arrived_at_least : (front : Front) (least m : ℕ) (member : Seat) (h : List Event) → SeatStands front least m member h → is_some (arrival least m h) ≡ (is_ahead front member || is_some member.arrived)
+arrived_at_least front least m member h p = by_ahead (is_ahead front member) refl
   where
     by_ahead : (ahead : Bool) → is_ahead front member ≡ ahead → is_some (arrival least m h) ≡ (ahead || is_some member.arrived)
     by_ahead true e = let same : barrier_of front least member ≡ least + 1 = rw e refl in p.behind least (subst (λ b. least < b) (sym same) (omega arith))
@@ -262,12 +262,12 @@ met_by members front least h st all =
     every_by (length members) (λ m. is_some (arrival least m h)) (λ m lt.
     let none : Seat = record { odd = true; arrived = None; left = true } in
     let at : slice_get members m ≡ Some (get_or members m none) = slice_get-get_or members m none lt in
-    there front least m _ h (st.seat m _ at) ∙ all m none lt)
+    arrived_at_least front least m _ h (st.seat m _ at) ∙ all m none lt)
 
 pub met_all : (members : List Seat) (front : Front) (least : ℕ) (h : List Event) → FrontStands members front least h → barrier_met (length members) least h ≡ true → All (IsThere front) members
 met_all members front least h st met = λ m none lt.
     let at : slice_get members m ≡ Some (get_or members m none) = slice_get-get_or members m none lt in
-    sym (there front least m _ h (st.seat m _ at)) ∙ every_tells (length members) (λ x. is_some (arrival least x h)) m met lt
+    sym (arrived_at_least front least m _ h (st.seat m _ at)) ∙ every_tells (length members) (λ x. is_some (arrival least x h)) m met lt
 
 -- a member ahead of the front waits for those behind it
 pub not_met_ahead : (members : List Seat) (front : Front) (least : ℕ) (h : List Event) → FrontStands members front least h → SomeBehind front members → barrier_met (length members) (least + 1) h ≡ false
@@ -280,7 +280,7 @@ not_met_ahead members front least h st behind =
     ]
   where
     ahead_of : (m : ℕ) (member : Seat) → SeatStands front least m member h → is_some (arrival (least + 1) m h) ≡ true → is_ahead front member ≡ true
-    ahead_of m member p there =
+    ahead_of m member p arrived_at_least =
         elim (cases_Bool (is_ahead front member)) [
           | inl e ↦ e
           | inr e ↦ absurd (let none : arrival (least + 1) m h ≡ None = (let same : barrier_of front least member ≡ least = rw e refl in p.beyond (least + 1) (subst (λ b. b < least + 1) (sym same) (omega arith))) in let off : is_some (arrival (least + 1) m h) ≡ false = rw none refl in cc)

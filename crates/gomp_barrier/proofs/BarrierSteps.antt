@@ -21,12 +21,12 @@ use Rattle.gomp_barrier.specs.declared.barriers.AtBarrier.{AtBarrier}
 use Rattle.gomp_barrier.specs.Seats.{differ, is_ahead, tag_for, number_for, IsThere, arrived_at, passed_by, advanced, barrier_of, SeatStands, FrontStands, SomeBehind}
 use Rattle.gomp_barrier.specs.Calls.{at_barrier, IsAside}
 use Rattle.gomp_barrier.specs.Stands.{BarriersView, Stands, members_of}
-use Rattle.gomp_barrier.proofs.BarrierKeeps.{tag_is, number_is, arrives, turn_arrived, passes, moves_on, behind_again, met_by, met_all, not_met_ahead}
+use Rattle.gomp_barrier.proofs.BarrierKeeps.{tag_is, number_is, arrival_keeps_the_front, turn_arrived, pass_keeps_the_front, moves_on, behind_again, met_by, met_all, not_met_ahead}
 
 -- The value of a team's barriers, and their fields
 
-pub within : (view now : BarriersView) (h : List Event) → view ≡ now → Stands now h → Stands view h
-within view now h e st = rw e st
+pub view_stands_too : (view now : BarriersView) (h : List Event) → view ≡ now → Stands now h → Stands view h
+view_stands_too view now h e st = rw e st
 
 -- barriers with these seats and this front stand for the events
 abbrev pub StandAt : List Seat → Front → List Event → Type 0
@@ -111,7 +111,7 @@ arrive_keeps seats front m seat tag h st at fine =
     let p = st.barrier.seat m seat at in
     record {
       least = st.least;
-      barrier = subst (λ g. FrontStands (slice_set seats m new) (arrived_at front seat tag) st.least (Arrive g m tag ∷ h)) (sym p.passed_is) (arrives seats front st.least m seat new tag h st.barrier at refl refl refl);
+      barrier = subst (λ g. FrontStands (slice_set seats m new) (arrived_at front seat tag) st.least (Arrive g m tag ∷ h)) (sym p.passed_is) (arrival_keeps_the_front seats front st.least m seat new tag h st.barrier at refl refl refl);
       behind = ahead_stays front (arrived_at front seat tag) m seat new seats at refl (turn_arrived front seat tag) st.behind;
       rule = subst (λ n. Always (ArrivalRule n) (Arrive (passed m h) m tag ∷ h)) (sym (length-set seats m new)) (
         record { number = refl; same = same_tags tag (tag_at (passed m h) h) (ap (tag_differs tag) (tag_here seats front m seat h st at) ∙ fine) },
@@ -186,7 +186,7 @@ turn_keeps seats front settled m seat h st at behind all every some =
     let tag = there_tag front seat behind is in
     let number = at_least seats front m seat h st at behind in
     let left : new.left ≡ (seat.left || is_region_end tag.0.kind) = ap (λ t. seat.left || was_region_end t) tag.1 in
-    let moved : FrontStands (slice_set seats m new) front st.least (Pass (passed m h) m ∷ h) = subst (λ g. FrontStands (slice_set seats m new) front st.least (Pass g m ∷ h)) (sym number) (passes seats front st.least m seat new tag.0 h st.barrier at behind tag.1 refl refl left) in
+    let moved : FrontStands (slice_set seats m new) front st.least (Pass (passed m h) m ∷ h) = subst (λ g. FrontStands (slice_set seats m new) front st.least (Pass g m ∷ h)) (sym number) (pass_keeps_the_front seats front st.least m seat new tag.0 h st.barrier at behind tag.1 refl refl left) in
     let own : slice_get (slice_set seats m new) m ≡ Some new = set_same seats m new (slice_get_within seats m seat at) in
     settle_keeps (slice_set seats m new) front settled m new st.least (Pass (passed m h) m ∷ h) moved own
     (subst (λ n. Always (ArrivalRule n) (Pass (passed m h) m ∷ h)) (sym (length-set seats m new)) (record { number = refl; met = met_now seats front m seat h st at behind all }, st.rule)) every some
@@ -198,8 +198,8 @@ turn_keeps seats front settled m seat h st at behind all every some =
 
 -- New barriers stand for no events
 
-pub made : (seats : List Seat) (n : ℕ) → 0 < n → seats ≡ replicate n (record { odd = false; arrived = None; left = false }) → StandAt seats (record { odd = false; number = 0; tag = None; next = None }) []
-made seats n some e =
+pub new_barriers_stand : (seats : List Seat) (n : ℕ) → 0 < n → seats ≡ replicate n (record { odd = false; arrived = None; left = false }) → StandAt seats (record { odd = false; number = 0; tag = None; next = None }) []
+new_barriers_stand seats n some e =
     let new : Seat = record { odd = false; arrived = None; left = false } in
     let front : Front = record { odd = false; number = 0; tag = None; next = None } in
     let size : length seats ≡ n = ap length e ∙ length-replicate n new in

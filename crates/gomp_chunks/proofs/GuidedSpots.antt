@@ -7,15 +7,15 @@ use Rattle.gomp_chunks.specs.declared.guided.Spot.{Spot}
 use Rattle.gomp_chunks.specs.Spots.{IsSpot}
 
 -- there are no more pieces than iterations
-few : (members chunk most low rest : ℕ) → length (guided_from members chunk most low rest) ≤ most
-few members chunk zero low rest = omega arith
-few members chunk (suc most) low zero = omega arith
-few members chunk (suc most) low (suc rest) =
-    let later = few members chunk most (low + guided_size members chunk (suc rest)) (suc rest - guided_size members chunk (suc rest)) in
+guided_pieces_at_most : (members chunk most low rest : ℕ) → length (guided_from members chunk most low rest) ≤ most
+guided_pieces_at_most members chunk zero low rest = omega arith
+guided_pieces_at_most members chunk (suc most) low zero = omega arith
+guided_pieces_at_most members chunk (suc most) low (suc rest) =
+    let later = guided_pieces_at_most members chunk most (low + guided_size members chunk (suc rest)) (suc rest - guided_size members chunk (suc rest)) in
     omega arith
 
 pub few_pieces : (trips members chunk : ℕ) → length (guided_pieces trips members chunk) ≤ trips
-few_pieces trips members chunk = few members chunk trips 0 trips
+few_pieces trips members chunk = guided_pieces_at_most members chunk trips 0 trips
 
 -- what is at the head of the pieces of what is left
 head_is : (members chunk most low rest : ℕ) → 0 < rest → rest ≤ most → slice_get (guided_from members chunk most low rest) 0 ≡ Some (low, low + guided_size members chunk rest)
@@ -23,9 +23,9 @@ head_is members chunk zero low rest some enough = absurd (omega arith)
 head_is members chunk (suc most) low zero some enough = absurd (omega arith)
 head_is members chunk (suc most) low (suc rest) some enough = refl
 
-none_is : (members chunk most low i : ℕ) → slice_get (guided_from members chunk most low 0) i ≡ None
-none_is members chunk zero low i = refl
-none_is members chunk (suc most) low i = refl
+no_piece_of_none_left : (members chunk most low i : ℕ) → slice_get (guided_from members chunk most low 0) i ≡ None
+no_piece_of_none_left members chunk zero low i = refl
+no_piece_of_none_left members chunk (suc most) low i = refl
 
 -- a size is within what is left, and not nothing
 pub size_within : (members chunk rest : ℕ) → 0 < chunk → 0 < rest → (0 < guided_size members chunk rest) × (guided_size members chunk rest ≤ rest)
@@ -49,12 +49,12 @@ piece_there members shape spot is left =
     rw here at (is.rest 0) ∙ head_is members shape.chunk is.most spot.first (shape.trips - spot.first) (omega arith) is.enough
 
 -- none is there, nor later, where no iteration is left
-pub none_there : (members : ℕ) (shape : Shape) (spot : Spot) (j : ℕ) → IsSpot members shape spot → spot.first ≡ shape.trips → spot.number ≤ j →
+pub no_piece_past_the_last : (members : ℕ) (shape : Shape) (spot : Spot) (j : ℕ) → IsSpot members shape spot → spot.first ≡ shape.trips → spot.number ≤ j →
     slice_get (guided_pieces shape.trips members shape.chunk) j ≡ None
-none_there members shape spot j is past ahead =
+no_piece_past_the_last members shape spot j is past ahead =
     let there : spot.number + (j - spot.number) ≡ j = omega arith in
     let nothing : shape.trips - spot.first ≡ 0 = omega arith in
-    rw (there, nothing) at (is.rest (j - spot.number)) ∙ none_is members shape.chunk is.most spot.first (j - spot.number)
+    rw (there, nothing) at (is.rest (j - spot.number)) ∙ no_piece_of_none_left members shape.chunk is.most spot.first (j - spot.number)
 
 -- the pieces after the first of what is left
 tail_is : (members chunk most low rest i : ℕ) → 0 < rest → 0 < most →
@@ -86,7 +86,7 @@ next_is_spot members shape spot next some is left number first =
 -- a spot past the last piece has the number of pieces
 pub spot_counts : (members : ℕ) (shape : Shape) (spot : Spot) → IsSpot members shape spot → spot.first ≡ shape.trips → spot.number ≡ length (guided_pieces shape.trips members shape.chunk)
 spot_counts members shape spot is past =
-    let none = none_there members shape spot spot.number is past (omega arith) in
+    let none = no_piece_past_the_last members shape spot spot.number is past (omega arith) in
     let end = still_past (guided_pieces shape.trips members shape.chunk) spot.number none in
     let number = is.number in
     omega arith

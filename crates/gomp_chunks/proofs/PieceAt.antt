@@ -57,13 +57,13 @@ slice_get-even_pieces trips members j inside =
     ∙ ap Some (get_or-map-range_with_len (even_piece trips members) 0 (min trips members) j j filler below (zero-add j))
 
 -- over the quotient and the rest
-rises : (trips members q r s : ℕ) → q * members + r ≡ trips → r < members → s < min trips members → ((s * q + min s r) < ((s + 1) * q + min (s + 1) r)) × (((s + 1) * q + min (s + 1) r) ≤ trips)
-rises trips members zero r s whole rest below =
+even_piece_rises : (trips members q r s : ℕ) → q * members + r ≡ trips → r < members → s < min trips members → ((s * q + min s r) < ((s + 1) * q + min (s + 1) r)) × (((s + 1) * q + min (s + 1) r) ≤ trips)
+even_piece_rises trips members zero r s whole rest below =
     let now : s * zero ≡ zero = omega arith in
     let next : (s + 1) * zero ≡ zero = omega arith in
     let none : zero * members ≡ zero = omega arith in
     (omega arith, omega arith)
-rises trips members (suc q) r s whole rest below =
+even_piece_rises trips members (suc q) r s whole rest below =
     let next : (s + 1) * suc q ≡ s * suc q + suc q = ap (λ t. t * suc q) (add-one s) ∙ suc-mul s (suc q) in
     let most : (s + 1) * suc q ≤ members * suc q = mul-le-mul_right (suc q) (omega arith) in
     let turned : members * suc q ≡ suc q * members = mul_comm members (suc q) in
@@ -71,4 +71,4 @@ rises trips members (suc q) r s whole rest below =
 
 -- an even piece has an iteration, and ends within the loop
 pub even_within : (trips members j : ℕ) → j < min trips members → ((even_piece trips members j).0 < (even_piece trips members j).1) × ((even_piece trips members j).1 ≤ trips)
-even_within trips members j below = rises trips members (trips / members) (trips % members) j (div-add-mod' trips members) (mod-lt trips (omega arith)) below
+even_within trips members j below = even_piece_rises trips members (trips / members) (trips % members) j (div-add-mod' trips members) (mod-lt trips (omega arith)) below

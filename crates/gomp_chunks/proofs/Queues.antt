@@ -44,8 +44,8 @@ record Next (members m turn at : ℕ) : Type 0 where
   own : at ≡ m → gap members m at_is + 1 ≡ members
   other : (at ≡ m → ⊥) → gap members m at ≡ gap members m at_is + 1
 
-next : (members m turn at : ℕ) → m < members → at < members → Next members m turn at
-next members m turn at lt in_turn = elim (cases_lt (at + 1) members) [
+next_of_a_turn : (members m turn at : ℕ) → m < members → at < members → Next members m turn at
+next_of_a_turn members m turn at lt in_turn = elim (cases_lt (at + 1) members) [
   | inl within ↦ record {
     turn_is = turn;
     at_is = at + 1;
@@ -70,7 +70,7 @@ nth_chunked : (members m turn at n : ℕ) (pieces : List Piece) → m < members 
     slice_get (owned_from (λ j. j % members) m (turn * members + at) pieces) n ≡ slice_get pieces (gap members m at + n * members)
 nth_chunked members m turn at n [] lt in_turn = refl
 nth_chunked members m turn at n (piece ∷ pieces) lt in_turn =
-    let after = next members m turn at lt in_turn in
+    let after = next_of_a_turn members m turn at lt in_turn in
     let later = λ (i : ℕ). nth_chunked members m after.turn_is after.at_is i pieces lt after.in_turn in
     elim (cases_Bool ((turn * members + at) % members == m)) [
       | inl own ↦ rw own (front n after later (let e = own in is_own e))

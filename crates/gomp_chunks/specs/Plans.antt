@@ -1,5 +1,5 @@
 -- A plan: the pieces of one work-share, who owns which, and which one is next. (own)
-use Rattle.std.specs.Prelude.{ℕ, nat_lt, List, Option, Some, None, length, slice_get, option_and_then, if◌then◌else◌}
+use Rattle.std.specs.Prelude.{ℕ, ◌<◌, ◌≤◌, nat_lt, List, Option, Some, None, length, slice_get, option_and_then, if◌then◌else◌}
 use Rattle.gomp_types.specs.declared.shape.Shape.{Shape}
 use Rattle.gomp_types.specs.Pieces.{Piece, pieces_of, owner_by}
 use Rattle.gomp_types.specs.Deals.{schedule}
@@ -36,3 +36,7 @@ next_piece plan m own all = slice_get (own_queue plan m) (count_for (owner_by pl
 -- the piece with this number, where there is a number
 abbrev pub piece_at : PlanView → Option ℕ → Option Piece
 piece_at plan number = option_and_then (slice_get (pieces plan)) number
+
+-- a piece has an iteration, and ends by the last one
+abbrev pub IsPieceWithin : ℕ → Piece → Type 0
+IsPieceWithin trips piece = (piece.0 < piece.1) × (piece.1 ≤ trips)

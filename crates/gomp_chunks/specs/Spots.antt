@@ -1,5 +1,5 @@
 -- A spot in the pieces of a guided loop: a piece's number and its first iteration. (own)
-use Rattle.std.specs.Prelude.{ℕ, ◌≡◌, ◌≢◌, ◌+◌, ◌-◌, ◌≤◌, length, slice_get}
+use Rattle.std.specs.Prelude.{ℕ, ◌≡◌, ◌≢◌, ◌+◌, ◌-◌, ◌≤◌, ◌⊎◌, length, slice_get}
 use Rattle.gomp_types.specs.declared.shape.Shape.{Shape}
 use Rattle.gomp_types.specs.declared.shape.ShareKind.TheVariants.{Guided}
 use Rattle.gomp_types.specs.Pieces.{guided_from, guided_pieces}
@@ -24,3 +24,7 @@ pub record IsSpot (members : ℕ) (shape : Shape) (spot : Spot) : Type 0 where
 pub record IsCursor (plan : PlanView) (spot : Spot) (count : ℕ) : Type 0 where
   pub there : IsSpot plan.members plan.shape spot
   pub counted : plan.shape.kind ≢ Guided → count ≡ length (pieces plan)
+
+-- the spot of a guided loop is that of piece number j, or is at the end of the loop
+abbrev pub IsSpotAt : Shape → Spot → ℕ → Type 0
+IsSpotAt shape spot j = shape.kind ≡ Guided → (spot.number ≡ j) ⊎ (spot.first ≡ shape.trips)

@@ -2,7 +2,8 @@
 
 ghost use Rattle.std.specs.Prelude.{◌≡◌, ◌<◌, ◌≤◌, ◌⊎◌, IfSome, Some, option_map, slice_get};
 ghost use Rattle.gomp_types.specs.declared.shape.ShareKind.TheVariants.{Guided};
-ghost use Rattle.gomp_chunks.specs.Plans.{next_piece, pieces};
+ghost use Rattle.gomp_chunks.specs.Plans.{IsPieceWithin, next_piece, pieces};
+ghost use Rattle.gomp_chunks.specs.Spots.{IsSpotAt};
 
 use crate::Plan;
 use crate::guided::{Spot, forward};
@@ -49,8 +50,8 @@ impl Cursor {
     pub fn advance_to(&mut self, j: u64) -> Option<(u64, u64)>
         ensures plan { self.new.plan ≡ self.old.plan }
         ensures piece { result ≡ slice_get (pieces self.old.plan) j }
-        ensures within { IfSome result (λ piece. (piece.0 < piece.1) × (piece.1 ≤ self.old.plan.shape.trips)) }
-        ensures spot { self.new.plan.shape.kind ≡ Guided → (self.new.spot.number ≡ j) ⊎ (self.new.spot.first ≡ self.new.plan.shape.trips) }
+        ensures within { IfSome result (IsPieceWithin self.old.plan.shape.trips) }
+        ensures spot { IsSpotAt self.new.plan.shape self.new.spot j }
     {
         let start = if j < self.spot.number {
             Spot::START
@@ -68,7 +69,7 @@ impl Cursor {
         ensures plan { self.new.plan ≡ self.old.plan }
         ensures piece { option_map (λ taken. taken.1) result ≡ next_piece self.old.plan member own all }
         ensures number { IfSome result (λ taken. slice_get (pieces self.old.plan) taken.0 ≡ Some taken.1) }
-        ensures within { IfSome result (λ taken. (taken.1.0 < taken.1.1) × (taken.1.1 ≤ self.old.plan.shape.trips)) }
+        ensures within { IfSome result (λ taken. IsPieceWithin self.old.plan.shape.trips taken.1) }
     {
         let number = self.plan.next_number(member, own, all)?;
         let piece = self.advance_to(number)?;

@@ -18,7 +18,7 @@ ghost use Rattle.gomp_types.specs.declared.shape.ShareKind.TheVariants.{Guided};
 ghost use Rattle.gomp_types.specs.Pieces.{Tiles};
 ghost use Rattle.gomp_types.specs.Values.{IsShape};
 ghost use Rattle.gomp_chunks.specs.Plans.{next_piece, owner, piece_at, pieces};
-ghost use Rattle.gomp_chunks.specs.Spots.{IsSpot};
+ghost use Rattle.gomp_chunks.specs.Spots.{IsSpot, IsSpotAt};
 
 use chunked::{chunked_count, chunked_piece};
 pub use cursor::Cursor;
@@ -138,7 +138,7 @@ impl Plan {
         requires ahead { start.number ≤ j }
         ensures spot { IsSpot self.now.members self.now.shape result }
         ensures ahead { result.number ≤ j }
-        ensures there { self.now.shape.kind ≡ Guided → (result.number ≡ j) ⊎ (result.first ≡ self.now.shape.trips) }
+        ensures there { IsSpotAt self.now.shape result j }
     {
         match self.shape.kind {
             ShareKind::Guided => forward(&self.shape, self.members, start, j),
@@ -161,7 +161,7 @@ impl Plan {
     fn piece_from(&self, spot: Spot, count: u64, j: u64) -> Option<(u64, u64)>
         requires spot { IsSpot self.now.members self.now.shape spot }
         requires ahead { spot.number ≤ j }
-        requires there { self.now.shape.kind ≡ Guided → (spot.number ≡ j) ⊎ (spot.first ≡ self.now.shape.trips) }
+        requires there { IsSpotAt self.now.shape spot j }
         requires count { self.now.shape.kind ≢ Guided → count ≡ length (pieces self.now) }
         ensures piece { result ≡ slice_get (pieces self.now) j }
         ensures within { IfSome result (λ piece. (piece.0 < piece.1) × (piece.1 ≤ self.now.shape.trips)) }

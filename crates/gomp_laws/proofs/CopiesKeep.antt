@@ -12,7 +12,7 @@ use Rattle.gomp_shares.specs.Rules.{ShareRule}
 use Rattle.gomp_laws.specs.Rules.{TeamRule}
 use Rattle.gomp_laws.specs.Laws.{PutsOnce, GetsWhatWasPut, LeavesWithWords}
 use Rattle.gomp_types.proofs.Booleans.{tells, is_equal, same_number, share_is, and_left, and_right, or_tells, or_right, not_both}
-use Rattle.gomp_shares.proofs.SharesKeep.{inside, inside_stands, entry, not_ended, stands_ended}
+use Rattle.gomp_shares.proofs.SharesKeep.{member_is_inside, inside_stands, enter_has_its_shape, not_ended, stands_ended}
 
 -- what was had is had still
 had_later : (share m : ℕ) (event : Event) (h : List Event) → ((payload : List ℕ) × (Happened (Put share m payload) h ⊎ Happened (Got share m payload) h)) → (payload : List ℕ) × (Happened (Put share m payload) (event ∷ h) ⊎ Happened (Got share m payload) (event ∷ h))
@@ -86,7 +86,7 @@ took_below deal members m i (Take share member low high ∷ earlier) all e =
       | inl own ↦
           let number = is_equal share i (and_left (share == i) (member == m) own) in
           let who = is_equal member m (and_right (share == i) (member == m) own) in
-          let count = (inside deal members member share all.0.shape earlier all.1 all.0.inside).2 in
+          let count = (member_is_inside deal members member share all.0.shape earlier all.1 all.0.inside).2 in
           let own_count : entered m earlier ≡ share + 1 = rw (← who) count in
           omega (arith, number)
       | inr before ↦ took_below deal members m i earlier all.1 before
@@ -149,8 +149,8 @@ gets_what_was_put members _ earlier rule all = tt
 
 pub leaves_with_words : (members : ℕ) (event : Event) (earlier : List Event) → TeamRule members event earlier → Always (ShareRule (schedule members) members) earlier → LeavesWithWords event earlier
 leaves_with_words members (End share m) earlier rule all = λ shape stands copies.
-    let one : shape_at share earlier ≡ Some rule.done.shape = (inside (schedule members) members m share rule.done.shape earlier all rule.done.inside).0 in
-    let other : shape_at share earlier ≡ Some shape = (entry (schedule members) members share m shape earlier all stands).1 in
+    let one : shape_at share earlier ≡ Some rule.done.shape = (member_is_inside (schedule members) members m share rule.done.shape earlier all rule.done.inside).0 in
+    let other : shape_at share earlier ≡ Some shape = (enter_has_its_shape (schedule members) members share m shape earlier all stands).1 in
     let same : rule.done.shape ≡ shape = let both = sym one ∙ other in cc in
     had_words share m earlier (rule.words (rw same copies))
 leaves_with_words members _ earlier rule all = tt

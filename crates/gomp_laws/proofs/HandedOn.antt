@@ -17,8 +17,8 @@ use Rattle.gomp_shares.specs.Laws.{IsOver}
 use Rattle.gomp_laws.specs.Laws.{LeavesHandedOn, HandedOnWhereOver}
 use Rattle.gomp_types.proofs.Booleans.{tells, is_equal, same_number, share_is, and_left, and_right, not_both}
 use Rattle.gomp_types.proofs.Tiling.{piece_some, piece_within}
-use Rattle.gomp_shares.proofs.SharesKeep.{inside, entry, drained_none, shape_stays, not_ended, stands_ended, shares_keep}
-use Rattle.gomp_shares.proofs.OrderedKeep.{piece_before, tiled, piece_of_turn, hands_the_turn}
+use Rattle.gomp_shares.proofs.SharesKeep.{member_is_inside, enter_has_its_shape, drained_none, shape_stays, not_ended, stands_ended, shares_keep}
+use Rattle.gomp_shares.proofs.OrderedKeep.{piece_before, share_is_tiled, piece_of_turn, hands_the_turn}
 use Rattle.gomp_laws.proofs.CopiesKeep.{never_took, takes_below}
 use Rattle.gomp_laws.proofs.TeamShares.{share_rules}
 
@@ -144,8 +144,8 @@ left_handed members share m low high h rule all ordered took = none_held members
 pub leaves_handed_on : (members : ℕ) (event : Event) (earlier : List Event) → TeamRule members event earlier → Always (TeamRule members) earlier → LeavesHandedOn members event earlier
 leaves_handed_on members (End share m) earlier rule all = λ shape low high stands ordered took.
     let shares = share_rules members earlier all in
-    let one : shape_at share earlier ≡ Some rule.done.shape = (inside (schedule members) members m share rule.done.shape earlier shares rule.done.inside).0 in
-    let other : shape_at share earlier ≡ Some shape = (entry (schedule members) members share m shape earlier shares stands).1 in
+    let one : shape_at share earlier ≡ Some rule.done.shape = (member_is_inside (schedule members) members m share rule.done.shape earlier shares rule.done.inside).0 in
+    let other : shape_at share earlier ≡ Some shape = (enter_has_its_shape (schedule members) members share m shape earlier shares stands).1 in
     let same : rule.done.shape ≡ shape = let both = sym one ∙ other in cc in
     subst (λ (s : Shape). HandedOn members share m s (low, high) earlier) same (left_handed members share m low high earlier rule all (rw same ordered) took)
 leaves_handed_on members _ earlier rule all = tt
@@ -162,7 +162,7 @@ leaver_handed members share m low high (End i member ∷ earlier) all (inl e) (i
     let number : i ≡ share = cc in
     let who : member ≡ m = cc in
     let rule : MayLeave members share m earlier = rw (number, who) at all.0 in
-    let found = (inside (schedule members) members m share rule.done.shape earlier (share_rules members earlier all.1) rule.done.inside).0 in
+    let found = (member_is_inside (schedule members) members m share rule.done.shape earlier (share_rules members earlier all.1) rule.done.inside).0 in
     (rule.done.shape, found, λ ordered. handed_later members share m rule.done.shape (low, high) (End i member) earlier (left_handed members share m low high earlier rule all.1 ordered took))
 leaver_handed members share m low high (End i member ∷ earlier) all (inl e) (inl f) = absurd (cc)
 leaver_handed members share m low high (_ ∷ earlier) all (inl e) took = absurd (cc)
@@ -200,7 +200,7 @@ taker_of members share k (Take i member low high ∷ earlier) all some =
             who = member;
             low = low;
             high = high;
-            member = (inside (schedule members) members member i all.0.shape earlier all.1 all.0.inside).1;
+            member = (member_is_inside (schedule members) members member i all.0.shape earlier all.1 all.0.inside).1;
             took = inl (rw number refl);
             from = grind (arith, nat_tests, has);
             before = grind (arith, nat_tests, has);
@@ -241,7 +241,7 @@ over_handed : (members share number : ℕ) (shape : Shape) (own : Piece) (h : Li
     slice_get (pieces_of members shape) number ≡ Some own → (x : ℕ) × Happened (HandOn share x number) h
 over_handed members share number shape own h all found ordered over whole at =
     let shares = share_rules members h all in
-    let tiles = tiled (schedule members) members share shape h shares found in
+    let tiles = share_is_tiled (schedule members) members share shape h shares found in
     let some = piece_some 0 shape.trips (pieces_of members shape) number own tiles at in
     let within = piece_within 0 shape.trips (pieces_of members shape) number own tiles at in
     let once = whole own.0 (omega arith) in
@@ -251,6 +251,6 @@ over_handed members share number shape own h all found ordered over whole at =
 pub all_handed_on : (members : ℕ) (h : List Event) → Always (TeamRule members) h → HandedOnWhereOver members h
 all_handed_on members h all = λ share m number shape stands ordered over below.
     let shares = share_rules members h all in
-    let found = (entry (schedule members) members share m shape h shares stands).1 in
+    let found = (enter_has_its_shape (schedule members) members share m shape h shares stands).1 in
     over_handed members share number shape (get_or (pieces_of members shape) number (0, 0)) h all found ordered over
     ((shares_keep (schedule members) members h shares).whole share m shape stands over) (slice_get-get_or (pieces_of members shape) number (0, 0) below)

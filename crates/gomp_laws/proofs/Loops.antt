@@ -30,7 +30,7 @@ use Rattle.gomp_shares.specs.Rules.{MayHandOn}
 use Rattle.gomp_types.proofs.IterationValues.{iteration_at-value_at, chunk_some}
 use Rattle.gomp_types.proofs.Booleans.{not_both, not_false, same_number}
 use Rattle.gomp_types.proofs.Dealing.{schedule_deals}
-use Rattle.gomp_shares.proofs.SharesKeep.{inside, dealt, drained_none}
+use Rattle.gomp_shares.proofs.SharesKeep.{member_is_inside, share_is_dealt, drained_none}
 use Rattle.gomp_shares.proofs.PartsKeep.{loop_is_loop}
 use Rattle.gomp_laws.proofs.HandedOn.{told_holds_none}
 use Rattle.gomp_laws.proofs.TeamShares.{share_rules}
@@ -131,8 +131,8 @@ next_counts : (members m : ℕ) (h : List Event) (own : Option (ℕ × Shape)) (
 next_counts members m h None first count at all may = absurd may
 next_counts members m h (Some share) first count at all may =
     let rules = share_rules members h all in
-    let known = inside (schedule members) members m share.0 share.1 h rules at in
-    dealt_counts members m share first count h known.1 (dealt (schedule members) members share.0 share.1 h rules known.0) may.1
+    let known = member_is_inside (schedule members) members m share.0 share.1 h rules at in
+    dealt_counts members m share first count h known.1 (share_is_dealt (schedule members) members share.0 share.1 h rules known.0) may.1
 
 deals_next : (members m : ℕ) (share : ℕ × Shape) (reply : Reply) (h : List Event) → is_wait reply ≡ false → must_wait members share m h ≡ false → DealsOut members m (Some share) reply h → DealsNext members m (Some share) reply h
 deals_next members m share Wait h other go may = absurd (cc)
@@ -145,8 +145,8 @@ next_some members m h (Some share) at there all =
       | inl wait ↦ (Wait, wait)
       | inr go ↦
           let rules = share_rules members h all in
-          let known = inside (schedule members) members m share.0 share.1 h rules at in
-          let found = deals_some members m share h known.1 (dealt (schedule members) members share.0 share.1 h rules known.0) in
+          let known = member_is_inside (schedule members) members m share.0 share.1 h rules at in
+          let found = deals_some members m share h known.1 (share_is_dealt (schedule members) members share.0 share.1 h rules known.0) in
           (found.0, deals_next members m share found.0 h found.1 go found.2)
     ]
 
@@ -193,10 +193,10 @@ hand_keeps members m share reply h at apart go moves may all =
 next_keeps : (members m : ℕ) (reply : Reply) (h : List Event) (own : Option (ℕ × Shape)) → open_share m h ≡ own → in_part m h ≡ false → DealsNext members m own reply h → Always (TeamRule members) h → Always (TeamRule members) (next_given members own m h reply ++ h)
 next_keeps members m reply h None at apart may all = absurd may
 next_keeps members m (Chunk first count) h (Some share) at apart may all =
-    let moves = (inside (schedule members) members m share.0 share.1 h (share_rules members h all) at).3 in
+    let moves = (member_is_inside (schedule members) members m share.0 share.1 h (share_rules members h all) at).3 in
     regroup_rules members (piece_given share.0 share.1 m (Chunk first count)) (handed_on members share m h) h (hand_keeps members m share (Chunk first count) h at apart may.0 moves may.1 all)
 next_keeps members m NoChunk h (Some share) at apart may all =
-    let moves = (inside (schedule members) members m share.0 share.1 h (share_rules members h all) at).3 in
+    let moves = (member_is_inside (schedule members) members m share.0 share.1 h (share_rules members h all) at).3 in
     regroup_rules members (piece_given share.0 share.1 m NoChunk) (handed_on members share m h) h (hand_keeps members m share NoChunk h at apart may.0 moves may.1 all)
 next_keeps members m _ h (Some share) at apart may all = all
 

@@ -21,7 +21,7 @@ use Rattle.gomp_types.specs.Deals.{schedule, next_for}
 use Rattle.gomp_types.specs.Events.{open_share, share_number, in_kind, has_drained, in_part, holds_piece}
 use Rattle.gomp_types.specs.Laws.{Always}
 use Rattle.gomp_laws.specs.Rules.{TeamRule, MayLeave}
-use Rattle.gomp_types.proofs.IterationValues.{step_below}
+use Rattle.gomp_types.proofs.IterationValues.{step_starts_below}
 use Rattle.gomp_types.proofs.Booleans.{not_both, not_false}
 use Rattle.gomp_shares.proofs.SharesKeep.{drained_none}
 use Rattle.gomp_shares.proofs.PartsKeep.{apart_by, ordered_loop, sections_away}
@@ -64,7 +64,7 @@ section_counts members m (Some share) first count h may = absurd may
 section_is : (trips s n i : ℕ) (piece : Piece) → s + n ≡ div_ceil trips 1 → slice_get (map (dynamic_piece trips 1) (range_with_len s n)) i ≡ Some piece → piece ≡ (piece.0, suc piece.0)
 section_is trips s zero i piece whole at = absurd (cc)
 section_is trips s (suc n) zero piece whole at =
-    let below : s * 1 < trips = step_below trips 1 s (omega arith) (omega arith) in
+    let below : s * 1 < trips = step_starts_below trips 1 s (omega arith) (omega arith) in
     let same : dynamic_piece trips 1 s ≡ piece = let t = at in cc in
     rw (← same) (let high : min trips (s * 1 + 1) ≡ suc (s * 1) = omega arith in rw high refl)
 section_is trips s (suc n) (suc i) piece whole at = section_is trips (s + 1) n i piece (omega arith) at

@@ -16,7 +16,7 @@ use Rattle.gomp_shares.specs.Laws.{TakesItsOwn}
 use Rattle.gomp_laws.specs.Laws.{LeavesHandedOn, PutsOnce, GetsWhatWasPut, LeavesWithWords, ArrivesOutside, ClosesShares, HappensUnbroken, HappensInside, ArrivesOnce, TellsShares}
 use Rattle.gomp_laws.specs.Headline.{Headline}
 use Rattle.gomp_types.proofs.Booleans.{tells, is_equal, same_number}
-use Rattle.gomp_types.proofs.Always.{always}
+use Rattle.gomp_types.proofs.Always.{always_so}
 use Rattle.gomp_shares.proofs.SharesKeep.{shares_keep, left_before}
 use Rattle.gomp_laws.proofs.TeamShares.{share_rules}
 use Rattle.gomp_laws.proofs.HandedOn.{leaves_handed_on, all_handed_on}
@@ -36,9 +36,9 @@ record CopyLaws (h : List Event) : Type 0 where
 
 copies_keep : (members : ℕ) (h : List Event) → Always (TeamRule members) h → CopyLaws h
 copies_keep members h all = record {
-  puts = always (TeamRule members) PutsOnce (λ event earlier rule before. puts_once members event earlier rule (share_rules members earlier before)) h all;
-  gets = always (TeamRule members) GetsWhatWasPut (λ event earlier rule before. gets_what_was_put members event earlier rule (share_rules members earlier before)) h all;
-  served = always (TeamRule members) LeavesWithWords (λ event earlier rule before. leaves_with_words members event earlier rule (share_rules members earlier before)) h all;
+  puts = always_so (TeamRule members) PutsOnce (λ event earlier rule before. puts_once members event earlier rule (share_rules members earlier before)) h all;
+  gets = always_so (TeamRule members) GetsWhatWasPut (λ event earlier rule before. gets_what_was_put members event earlier rule (share_rules members earlier before)) h all;
+  served = always_so (TeamRule members) LeavesWithWords (λ event earlier rule before. leaves_with_words members event earlier rule (share_rules members earlier before)) h all;
 }
 
 -- Arrivals
@@ -50,7 +50,7 @@ arrival_rule members (Pass barrier m) earlier rule all = rule.passes
 arrival_rule members _ earlier rule all = tt
 
 arrival_rules : (members : ℕ) (h : List Event) → Always (TeamRule members) h → Always (ArrivalRule members) h
-arrival_rules members h all = always (TeamRule members) (ArrivalRule members) (arrival_rule members) h all
+arrival_rules members h all = always_so (TeamRule members) (ArrivalRule members) (arrival_rule members) h all
 
 tells_shares : (members : ℕ) (event : Event) (earlier : List Event) → TeamRule members event earlier → Always (TeamRule members) earlier → TellsShares event earlier
 tells_shares members (Arrive barrier m tag) earlier rule all = rule.shares
@@ -124,21 +124,21 @@ team_keeps members h all in_time =
     let copies = copies_keep members h all in
     let arrivals = arrivals_keep members h (arrival_rules members h all) in record {
       taken_once = shares.taken_once;
-      owned = always (ShareRule (schedule members) members) (TakesItsOwn members) (takes_its_own members) h (share_rules members h all);
+      owned = always_so (ShareRule (schedule members) members) (TakesItsOwn members) (takes_its_own members) h (share_rules members h all);
       whole = shares.whole;
       ordered = ordered_keep members h (share_rules members h all);
-      none_held = always (TeamRule members) (LeavesHandedOn members) (leaves_handed_on members) h all;
+      none_held = always_so (TeamRule members) (LeavesHandedOn members) (leaves_handed_on members) h all;
       all_handed_on = all_handed_on members h all;
       puts = copies.puts;
       gets = copies.gets;
       served = copies.served;
       same_shares = shares.same_shares;
       same_arrivals = arrivals.same_arrivals;
-      arrive_once = always (TeamRule members) (ArrivesOnce members) (arrives_once members) h all;
-      arrive_outside = always (TeamRule members) ArrivesOutside (arrives_outside members) h all;
-      one_order = always (TeamRule members) TellsShares (tells_shares members) h all;
-      unbroken = always InTime HappensUnbroken unbroken_holds h in_time;
-      in_region = always InTime HappensInside inside_holds h in_time;
+      arrive_once = always_so (TeamRule members) (ArrivesOnce members) (arrives_once members) h all;
+      arrive_outside = always_so (TeamRule members) ArrivesOutside (arrives_outside members) h all;
+      one_order = always_so (TeamRule members) TellsShares (tells_shares members) h all;
+      unbroken = always_so InTime HappensUnbroken unbroken_holds h in_time;
+      in_region = always_so InTime HappensInside inside_holds h in_time;
       passes = arrivals.passes;
-      closes = always (TeamRule members) (ClosesShares members) (closes_shares members) h all;
+      closes = always_so (TeamRule members) (ClosesShares members) (closes_shares members) h all;
     }

@@ -6,7 +6,7 @@ use Rattle.gomp_types.specs.Deals.{schedule}
 use Rattle.gomp_types.specs.Laws.{Always}
 use Rattle.gomp_shares.specs.Rules.{ShareRule}
 use Rattle.gomp_laws.specs.Rules.{TeamRule}
-use Rattle.gomp_types.proofs.Always.{always}
+use Rattle.gomp_types.proofs.Always.{always_so}
 
 -- the rule of the team has that of the shares
 share_rule : (members : ℕ) (event : Event) (earlier : List Event) → TeamRule members event earlier → Always (TeamRule members) earlier → ShareRule (schedule members) members event earlier
@@ -20,4 +20,4 @@ share_rule members (PartEnd share m) earlier rule all = rule
 share_rule members _ earlier rule all = tt
 
 pub share_rules : (members : ℕ) (h : List Event) → Always (TeamRule members) h → Always (ShareRule (schedule members) members) h
-share_rules members h all = always (TeamRule members) (ShareRule (schedule members) members) (share_rule members) h all
+share_rules members h all = always_so (TeamRule members) (ShareRule (schedule members) members) (share_rule members) h all

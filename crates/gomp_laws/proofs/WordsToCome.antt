@@ -14,8 +14,8 @@ use Rattle.gomp_types.specs.Laws.{Always, Happened}
 use Rattle.gomp_shares.specs.Rules.{ShareRule, MayTake}
 use Rattle.gomp_laws.specs.Rules.{TeamRule}
 use Rattle.gomp_types.proofs.Booleans.{is_equal, differs, same_number, share_is}
-use Rattle.gomp_shares.proofs.SharesKeep.{inside}
-use Rattle.gomp_shares.proofs.SinglesKeep.{one_more, one_only, single_is_done}
+use Rattle.gomp_shares.proofs.SharesKeep.{member_is_inside}
+use Rattle.gomp_shares.proofs.SinglesKeep.{some_with_one_more, one_only, single_is_done}
 use Rattle.gomp_laws.proofs.CopiesKeep.{piece_was_taken, was_put}
 use Rattle.gomp_laws.proofs.TeamShares.{share_rules}
 
@@ -33,8 +33,8 @@ take_alone : (members t x i low high : ℕ) (shape : Shape) (h : List Event) →
     MayTake (schedule members) i t low high h → ⊥
 take_alone members t x i low high shape h all at single piece may =
     let none = single_is_done members x i shape h all at single piece in
-    let own = (inside (schedule members) members x i shape h all at).0 in
-    let its = (inside (schedule members) members t i may.shape h all may.inside).0 in
+    let own = (member_is_inside (schedule members) members x i shape h all at).0 in
+    let its = (member_is_inside (schedule members) members t i may.shape h all may.inside).0 in
     let same : may.shape ≡ shape = let both = sym its ∙ own in cc in
     let next : next_for (schedule members) shape i t h ≡ Some (low, high) = rw (← same) may.next in
     let both = sym next ∙ same_queue members t x i shape h single ∙ none in
@@ -108,7 +108,7 @@ took_counts queue_of share n low high (Take i member from to ∷ earlier) (inl e
     rw (number, who, same_number share, same_number (queue_of n)) (omega arith)
 took_counts queue_of share n low high (_ ∷ earlier) (inl e) = absurd (cc)
 took_counts queue_of share n low high (Take i member from to ∷ earlier) (inr took) =
-    one_more (i == share && queue_of member == queue_of n) _ (took_counts queue_of share n low high earlier took)
+    some_with_one_more (i == share && queue_of member == queue_of n) _ (took_counts queue_of share n low high earlier took)
 took_counts queue_of share n low high (_ ∷ earlier) (inr took) = took_counts queue_of share n low high earlier took
 
 -- so nothing is left of a single whose words were put

@@ -19,7 +19,7 @@ use Rattle.gomp_share_plain.specs.declared.seat.Seat.{Seat}
 use Rattle.gomp_share_plain.specs.declared.open_share.OpenShare.{OpenShare}
 use Rattle.gomp_share_plain.specs.Plain.{SeatStands, StandsFor, new_seat}
 use Rattle.gomp_share_plain.specs.Same.{seat_near, SamePlaces, place_same}
-use Rattle.gomp_share_plain.proofs.Seats.{outside, other_number, other_seat, seat_steps}
+use Rattle.gomp_share_plain.proofs.Seats.{seat_outside_ended, number_is_another, other_seat, seat_steps}
 use Rattle.gomp_share_plain.proofs.Places.{places_differ}
 
 -- the seat of the member that enters
@@ -57,13 +57,13 @@ entered_again i m shape h here = record {
 }
 
 -- a member enters a share that another opened
-pub enters : (members : ℕ) (seats : List Seat) (opened : ℕ) (places : List (Option OpenShare)) (h : List Event) (m : ℕ) (seat : Seat) (shape : Shape) →
+pub entering_stands : (members : ℕ) (seats : List Seat) (opened : ℕ) (places : List (Option OpenShare)) (h : List Event) (m : ℕ) (seat : Seat) (shape : Shape) →
     StandsFor members seats opened places h → slice_get seats m ≡ Some seat → CanOpen members m shape (seen_of m h) → MayOpen members m shape Entered h → seat.started < opened →
     shape_at seat.started h ≡ Some shape →
     StandsFor members (slice_set seats m (record new_seat { started = seat.started + 1; ended = seat.ended })) opened places (Enter (entered m h) m shape ∷ h)
-enters members seats opened places h m seat shape st at can may before same =
+entering_stands members seats opened places h m seat shape st at can may before same =
     let s : SeatStands members m seat opened h = st.seat m seat at in
-    let even : seat.started ≡ seat.ended = outside members m seat opened h s can.outside in
+    let even : seat.started ≡ seat.ended = seat_outside_ended members m seat opened h s can.outside in
     let here : shape_at (entered m h) h ≡ Some shape = ap (λ n. shape_at n h) s.started ∙ same in
     let near = s.near in
     seat_steps members seats opened places h (Enter (entered m h) m shape) (record new_seat { started = seat.started + 1; ended = seat.ended }) st
@@ -72,17 +72,17 @@ enters members seats opened places h m seat shape st at can may before same =
     (enter_rule members m shape h can may)
 
 -- a member opens the next share
-pub opens : (members : ℕ) (seats : List Seat) (count : ℕ) (places : List (Option OpenShare)) (h : List Event) (m : ℕ) (seat : Seat) (shape : Shape) (cursor : CursorView) → cursor.plan ≡ record { members = members; shape = shape } →
+pub opening_stands : (members : ℕ) (seats : List Seat) (count : ℕ) (places : List (Option OpenShare)) (h : List Event) (m : ℕ) (seat : Seat) (shape : Shape) (cursor : CursorView) → cursor.plan ≡ record { members = members; shape = shape } →
     StandsFor members seats count places h → slice_get seats m ≡ Some seat → CanOpen members m shape (seen_of m h) → MayOpen members m shape Entered h → seat.started ≡ count →
     ((k : ℕ) (other : Seat) → slice_get seats k ≡ Some other → count < other.ended + OPEN_SHARES) →
     StandsFor members (slice_set seats m (record new_seat { started = count + 1; ended = seat.ended })) (count + 1) (slice_set places (count % OPEN_SHARES) (Some (record { shape = shape; taken = 0; turn = 0; cursor = cursor }))) (Enter (entered m h) m shape ∷ h)
-opens members seats count places h m seat shape cursor plan st at can may now room =
+opening_stands members seats count places h m seat shape cursor plan st at can may now room =
     let s : SeatStands members m seat count h = st.seat m seat at in
     let here : entered m h ≡ count = s.started ∙ now in
-    let even : seat.started ≡ seat.ended = outside members m seat count h s can.outside in
+    let even : seat.started ≡ seat.ended = seat_outside_ended members m seat count h s can.outside in
     let none = st.beyond count (omega arith) in
     let within : (count % OPEN_SHARES) < length places = rw st.eight (omega arith) in
-    let away : (i : ℕ) → i ≢ count → shape_at i (Enter (entered m h) m shape ∷ h) ≡ shape_at i h = λ i differ. rw (here, other_number i count differ) refl in
+    let away : (i : ℕ) → i ≢ count → shape_at i (Enter (entered m h) m shape ∷ h) ≡ shape_at i h = λ i differ. rw (here, number_is_another i count differ) refl in
     record {
       size = length-set seats m _ ∙ st.size;
       team = st.team;

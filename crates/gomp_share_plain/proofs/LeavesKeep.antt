@@ -10,20 +10,20 @@ use Rattle.gomp_shares.specs.Rules.{HasNone}
 use Rattle.gomp_share_plain.specs.declared.seat.Seat.{Seat}
 use Rattle.gomp_share_plain.specs.declared.open_share.OpenShare.{OpenShare}
 use Rattle.gomp_share_plain.specs.Plain.{SeatStands, StandsFor}
-use Rattle.gomp_share_plain.proofs.Seats.{inside, inside_number, seat_steps}
+use Rattle.gomp_share_plain.proofs.Seats.{seat_inside_started, inside_number, seat_steps}
 
 -- the member is outside then
 end_own : (m i : ℕ) (h : List Event) → open_share m (End i m ∷ h) ≡ None
 end_own m i h = grind (arith, nat_tests)
 
 -- a member leaves its share, of which nothing is left for it
-pub leaves : (members : ℕ) (seats : List Seat) (count : ℕ) (places : List (Option OpenShare)) (h : List Event) (m : ℕ) (seat : Seat) →
+pub leave_stands : (members : ℕ) (seats : List Seat) (count : ℕ) (places : List (Option OpenShare)) (h : List Event) (m : ℕ) (seat : Seat) →
     StandsFor members seats count places h → slice_get seats m ≡ Some seat → is_inside m h ≡ true → HasNone (schedule members) (open_number m h) m h →
     StandsFor members (slice_set seats m (record seat { ended = seat.ended + 1 })) count places (End (open_number m h) m ∷ h)
-leaves members seats count places h m seat st at within none =
+leave_stands members seats count places h m seat st at within none =
     let s : SeatStands members m seat count h = st.seat m seat at in
     let here : open_number m h ≡ seat.ended = inside_number members m seat count h s within in
-    let full : seat.started ≡ seat.ended + 1 = inside members m seat count h s within in
+    let full : seat.started ≡ seat.ended + 1 = seat_inside_started members m seat count h s within in
     seat_steps members seats count places h (End (open_number m h) m) _ st
     (record { shape = λ i. refl; taken = λ queue_of i q. refl; turn = λ i. refl })
     (record {

@@ -14,15 +14,15 @@ use Rattle.gomp_types.specs.Limits.{shown}
 use Rattle.gomp_types.proofs.Booleans.{same_number}
 use Rattle.gomp_types.proofs.Lists.{slice_get-set_same, slice_get-set_other}
 use Rattle.gomp_shares.specs.Calls.{CanBeginPart, CanEndPart, CanHandOn, own_turn, number_in, taken_of}
-use Rattle.gomp_shares.proofs.AnswerRules.{part_rule, part_end_rule, hand_on_rule, begins_inside, hands_inside}
+use Rattle.gomp_shares.proofs.AnswerRules.{part_rule, part_end_follows_the_rule, hand_on_rule, begins_inside, hands_inside}
 use Rattle.gomp_types.specs.Seen.{seen_of}
 use Rattle.gomp_share_plain.specs.declared.seat.Seat.{Seat}
 use Rattle.gomp_share_plain.specs.declared.open_share.OpenShare.{OpenShare}
 use Rattle.gomp_share_plain.specs.Plain.{SeatStands, StandsFor}
-use Rattle.gomp_types.proofs.Numbering.{lies}
+use Rattle.gomp_types.proofs.Numbering.{piece_lies_within}
 use Rattle.gomp_share_plain.proofs.Turns.{turn_of}
 use Rattle.gomp_share_plain.specs.Same.{seat_same, place_same}
-use Rattle.gomp_share_plain.proofs.Seats.{inside, inside_number, seat_steps}
+use Rattle.gomp_share_plain.proofs.Seats.{seat_inside_started, inside_number, seat_steps}
 use Rattle.gomp_share_plain.proofs.Places.{places_apart, here_is, here_valid, shape_here, own_place, own_share}
 
 -- The turn
@@ -32,10 +32,10 @@ abbrev PiecesTile : Type 0
 PiecesTile = (members : ℕ) (shape : Shape) → 0 < members → IsShape shape → Tiles 0 (pieces_of members shape) shape.trips
 
 -- the pieces of the share that a member is in
-tiled : (members : ℕ) (seats : List Seat) (count : ℕ) (places : List (Option OpenShare)) (h : List Event) (m : ℕ) (seat : Seat) (share : OpenShare) →
+place_is_tiled : (members : ℕ) (seats : List Seat) (count : ℕ) (places : List (Option OpenShare)) (h : List Event) (m : ℕ) (seat : Seat) (share : OpenShare) →
     StandsFor members seats count places h → slice_get seats m ≡ Some seat → is_inside m h ≡ true → slice_get places (seat.ended % OPEN_SHARES) ≡ Some (Some share) → m < members → PiecesTile →
     Tiles 0 (pieces_of members share.shape) share.shape.trips
-tiled members seats count places h m seat share st at within found lt tile =
+place_is_tiled members seats count places h m seat share st at within found lt tile =
     let valid = here_valid members seat.ended (slice_get places (seat.ended % OPEN_SHARES)) share h (own_place members seats count places h m seat st at within) found in
     tile members share.shape (omega arith) valid
 
@@ -50,7 +50,7 @@ next_tells members seats count places h m seat share st at within found lt tile 
     let same = here_is members seat.ended (slice_get places (seat.ended % OPEN_SHARES)) share h p found in
     let now : turn seat.ended h ≡ share.turn = rw (← same) p.turn_is in
     rw (there, s.piece, now) (turn_of share.shape.trips (pieces_of members share.shape) seat.number share.turn seat.piece
-    (tiled members seats count places h m seat share st at within found lt tile)
+    (place_is_tiled members seats count places h m seat share st at within found lt tile)
     (λ piece is. s.number (seat.ended, share.shape) piece there is))
 
 -- the number of its piece is below that of its iterations
@@ -61,20 +61,20 @@ number_below members seats count places h m seat share piece st at within found 
     let s : SeatStands members m seat count h = st.seat m seat at in
     let there = own_share members seats count places h m seat share st at within found in
     let valid = here_valid members seat.ended (slice_get places (seat.ended % OPEN_SHARES)) share h (own_place members seats count places h m seat st at within) found in
-    let tiles = tiled members seats count places h m seat share st at within found lt tile in
-    let lie = lies 0 share.shape.trips (pieces_of members share.shape) seat.number piece tiles (s.number (seat.ended, share.shape) piece there is) in
+    let tiles = place_is_tiled members seats count places h m seat share st at within found lt tile in
+    let lie = piece_lies_within 0 share.shape.trips (pieces_of members share.shape) seat.number piece tiles (s.number (seat.ended, share.shape) piece there is) in
     let from = lie.from in let some = lie.some in let most = lie.within in let few = valid.trips in
     (omega arith, omega arith)
 
 -- Beginning and ending a part
 
 -- a member begins a part
-pub begins : (members : ℕ) (seats : List Seat) (count : ℕ) (places : List (Option OpenShare)) (h : List Event) (m : ℕ) (seat : Seat) (iteration : ℕ) →
+pub part_start_stands : (members : ℕ) (seats : List Seat) (count : ℕ) (places : List (Option OpenShare)) (h : List Event) (m : ℕ) (seat : Seat) (iteration : ℕ) →
     StandsFor members seats count places h → slice_get seats m ≡ Some seat → CanBeginPart members m iteration (seen_of m h) → own_turn members m h ≡ true →
     StandsFor members (slice_set seats m (record seat { next_part = iteration + 1; in_part = true })) count places (Part (open_number m h) m iteration ∷ h)
-begins members seats count places h m seat iteration st at can next =
+part_start_stands members seats count places h m seat iteration st at can next =
     let s : SeatStands members m seat count h = st.seat m seat at in
-    let one : seat.started ≡ seat.ended + 1 = inside members m seat count h s (begins_inside members m iteration h can) in
+    let one : seat.started ≡ seat.ended + 1 = seat_inside_started members m seat count h s (begins_inside members m iteration h can) in
     seat_steps members seats count places h (Part (open_number m h) m iteration) _ st
     (record { shape = λ i. refl; taken = λ queue_of i q. refl; turn = λ i. refl })
     (record {
@@ -98,10 +98,10 @@ begins members seats count places h m seat iteration st at can next =
     (part_rule members m iteration h can next)
 
 -- and ends it
-pub ends : (members : ℕ) (seats : List Seat) (count : ℕ) (places : List (Option OpenShare)) (h : List Event) (m : ℕ) (seat : Seat) →
+pub part_end_stands : (members : ℕ) (seats : List Seat) (count : ℕ) (places : List (Option OpenShare)) (h : List Event) (m : ℕ) (seat : Seat) →
     StandsFor members seats count places h → slice_get seats m ≡ Some seat → CanEndPart members m (seen_of m h) →
     StandsFor members (slice_set seats m (record seat { in_part = false })) count places (PartEnd (open_number m h) m ∷ h)
-ends members seats count places h m seat st at can =
+part_end_stands members seats count places h m seat st at can =
     let s : SeatStands members m seat count h = st.seat m seat at in
     seat_steps members seats count places h (PartEnd (open_number m h) m) _ st
     (record { shape = λ i. refl; taken = λ queue_of i q. refl; turn = λ i. refl })
@@ -123,7 +123,7 @@ ends members seats count places h m seat st at can =
       outside = s.outside;
       inside = s.inside;
     })
-    (part_end_rule members m h st.rule can)
+    (part_end_follows_the_rule members m h st.rule can)
 
 -- Handing on
 
@@ -135,14 +135,14 @@ turn_else : (i j m piece : ℕ) (h : List Event) → i ≢ j → turn i (HandOn 
 turn_else i j m piece h other = grind (arith, nat_tests)
 
 -- a member hands its piece on
-pub hands : (members : ℕ) (seats : List Seat) (count : ℕ) (places : List (Option OpenShare)) (h : List Event) (m : ℕ) (seat : Seat) (share : OpenShare) →
+pub hand_on_stands : (members : ℕ) (seats : List Seat) (count : ℕ) (places : List (Option OpenShare)) (h : List Event) (m : ℕ) (seat : Seat) (share : OpenShare) →
     StandsFor members seats count places h → slice_get seats m ≡ Some seat → slice_get places (seat.ended % OPEN_SHARES) ≡ Some (Some share) → CanHandOn members m (seen_of m h) → own_turn members m h ≡ true → seat.number ≡ share.turn →
     StandsFor members seats count (slice_set places (seat.ended % OPEN_SHARES) (Some (record share { turn = seat.number + 1 }))) (HandOn (open_number m h) m (number_in members (open_share m h) m h) ∷ h)
-hands members seats count places h m seat share st at found can next is =
+hand_on_stands members seats count places h m seat share st at found can next is =
     let within = hands_inside members m h can in
     let s : SeatStands members m seat count h = st.seat m seat at in
     let here : open_number m h ≡ seat.ended = inside_number members m seat count h s within in
-    let one : seat.started ≡ seat.ended + 1 = inside members m seat count h s within in
+    let one : seat.started ≡ seat.ended + 1 = seat_inside_started members m seat count h s within in
     let room : (seat.ended % OPEN_SHARES) < length places = rw st.eight (omega arith) in
     let now = own_place members seats count places h m seat st at within in
     let same = here_is members seat.ended (slice_get places (seat.ended % OPEN_SHARES)) share h now found in

@@ -15,7 +15,7 @@ use Rattle.gomp_shares.specs.Calls.{taken_of, was_taken}
 use Rattle.gomp_share_plain.specs.declared.seat.Seat.{Seat}
 use Rattle.gomp_share_plain.specs.declared.open_share.OpenShare.{OpenShare}
 use Rattle.gomp_share_plain.specs.Plain.{SeatStands, PlaceStands, StandsFor}
-use Rattle.gomp_share_plain.proofs.Seats.{inside}
+use Rattle.gomp_share_plain.proofs.Seats.{seat_inside_started}
 
 -- eight numbers in a row lie at eight places
 pub places_differ : (i n : ℕ) → i < n → n ≤ i + 7 → (i % OPEN_SHARES) ≢ (n % OPEN_SHARES)
@@ -52,7 +52,7 @@ pub own_place : (members : ℕ) (seats : List Seat) (count : ℕ) (places : List
     StandsFor members seats count places h → slice_get seats m ≡ Some seat → is_inside m h ≡ true → PlaceStands members seat.ended (slice_get places (seat.ended % OPEN_SHARES)) h
 own_place members seats count places h m seat st at within =
     let s : SeatStands members m seat count h = st.seat m seat at in
-    let one : seat.started ≡ seat.ended + 1 = inside members m seat count h s within in
+    let one : seat.started ≡ seat.ended + 1 = seat_inside_started members m seat count h s within in
     st.place seat.ended (let k = s.known in omega arith) (let k = s.near in omega arith)
 
 -- the share that the member is in
@@ -61,7 +61,7 @@ pub own_share : (members : ℕ) (seats : List Seat) (count : ℕ) (places : List
 own_share members seats count places h m seat share st at within found =
     let s : SeatStands members m seat count h = st.seat m seat at in
     let p = own_place members seats count places h m seat st at within in
-    let own = s.inside (inside members m seat count h s within) in
+    let own = s.inside (seat_inside_started members m seat count h s within) in
     let one_shape : Some own.0 ≡ Some share.shape = sym own.2 ∙ shape_here members seat.ended (slice_get places (seat.ended % OPEN_SHARES)) share h p found in
     let shape : own.0 ≡ share.shape = let e = one_shape in cc in
     own.1 ∙ ap (λ (v : Shape). Some (seat.ended, v)) shape
@@ -69,9 +69,9 @@ own_share members seats count places h m seat share st at within found =
 -- The next share of a member
 
 -- a member starts no share beyond the next
-pub next_is : (members : ℕ) (seats : List Seat) (count : ℕ) (places : List (Option OpenShare)) (h : List Event) (m : ℕ) (seat : Seat) →
+pub next_number_is_count : (members : ℕ) (seats : List Seat) (count : ℕ) (places : List (Option OpenShare)) (h : List Event) (m : ℕ) (seat : Seat) →
     StandsFor members seats count places h → slice_get seats m ≡ Some seat → count ≤ seat.started → seat.started ≡ count
-next_is members seats count places h m seat st at past = let k = (st.seat m seat at).known in omega arith
+next_number_is_count members seats count places h m seat st at past = let k = (st.seat m seat at).known in omega arith
 
 -- the place of the member's next share, where another has opened it
 pub next_place : (members : ℕ) (seats : List Seat) (count : ℕ) (places : List (Option OpenShare)) (h : List Event) (m : ℕ) (seat : Seat) →

@@ -20,8 +20,8 @@ use Rattle.gomp_share_plain.specs.Same.{SameSeat, seat_same, SamePlaces, place_k
 -- Where a member is
 
 -- a member that is outside has left what it entered
-pub outside : (members m : ℕ) (seat : Seat) (opened : ℕ) (h : List Event) → SeatStands members m seat opened h → is_inside m h ≡ false → seat.started ≡ seat.ended
-outside members m seat opened h s out =
+pub seat_outside_ended : (members m : ℕ) (seat : Seat) (opened : ℕ) (h : List Event) → SeatStands members m seat opened h → is_inside m h ≡ false → seat.started ≡ seat.ended
+seat_outside_ended members m seat opened h s out =
     elim (eqb_tells seat.started seat.ended) [
       | inl e ↦ e.1
       | inr e ↦ let in_order = s.in_order in let one = s.one in
@@ -29,8 +29,8 @@ outside members m seat opened h s out =
           let there = (s.inside full).1 in absurd (let t : is_inside m h ≡ true = rw there refl in cc)
     ]
 
-pub inside : (members m : ℕ) (seat : Seat) (opened : ℕ) (h : List Event) → SeatStands members m seat opened h → is_inside m h ≡ true → seat.started ≡ seat.ended + 1
-inside members m seat opened h s within =
+pub seat_inside_started : (members m : ℕ) (seat : Seat) (opened : ℕ) (h : List Event) → SeatStands members m seat opened h → is_inside m h ≡ true → seat.started ≡ seat.ended + 1
+seat_inside_started members m seat opened h s within =
     elim (eqb_tells seat.started seat.ended) [
       | inl e ↦ let there = s.outside e.1 in absurd (let f : is_inside m h ≡ false = rw there refl in cc)
       | inr e ↦ let in_order = s.in_order in let one = s.one in omega (arith, e.1)
@@ -38,22 +38,22 @@ inside members m seat opened h s within =
 
 -- the number of the share that it is in
 pub inside_number : (members m : ℕ) (seat : Seat) (opened : ℕ) (h : List Event) → SeatStands members m seat opened h → is_inside m h ≡ true → open_number m h ≡ seat.ended
-inside_number members m seat opened h s within = ap share_number (s.inside (inside members m seat opened h s within)).1
+inside_number members m seat opened h s within = ap share_number (s.inside (seat_inside_started members m seat opened h s within)).1
 
 -- Another member's seat
 
 -- numbers that differ do so for the test
-pub other_number : (i n : ℕ) → i ≢ n → (n == i) ≡ false
-other_number i n differ = elim (eqb_tells n i) [ inl e ↦ absurd (differ (sym e.1)) | inr e ↦ e.0 ]
+pub number_is_another : (i n : ℕ) → i ≢ n → (n == i) ≡ false
+number_is_another i n differ = elim (eqb_tells n i) [ inl e ↦ absurd (differ (sym e.1)) | inr e ↦ e.0 ]
 
 -- an event of another member says the same of it, where each open share keeps its shape
 pub other_seat : (event : Event) (k : ℕ) (h : List Event) → k ≢ member_of event → ((i : ℕ) (shape : Shape) → shape_at i h ≡ Some shape → shape_at i (event ∷ h) ≡ Some shape) → SameSeat k (event ∷ h) h
-other_seat (Enter share m shape) k h other kept = record { seen = rw (other_number k m other) refl; left = λ i. refl; taken = λ i. refl; shape = kept }
-other_seat (Take share m low high) k h other kept = record { seen = rw (other_number k m other) refl; left = λ i. refl; taken = λ i. taken_theirs i share k m low high h other; shape = kept }
-other_seat (Drained share m) k h other kept = record { seen = rw (other_number k m other) refl; left = λ i. refl; taken = λ i. refl; shape = kept }
-other_seat (End share m) k h other kept = record { seen = rw (other_number k m other) refl; left = λ i. grind (arith, nat_tests, other); taken = λ i. refl; shape = kept }
-other_seat (Part share m iteration) k h other kept = record { seen = rw (other_number k m other) refl; left = λ i. refl; taken = λ i. refl; shape = kept }
-other_seat (PartEnd share m) k h other kept = record { seen = rw (other_number k m other) refl; left = λ i. refl; taken = λ i. refl; shape = kept }
+other_seat (Enter share m shape) k h other kept = record { seen = rw (number_is_another k m other) refl; left = λ i. refl; taken = λ i. refl; shape = kept }
+other_seat (Take share m low high) k h other kept = record { seen = rw (number_is_another k m other) refl; left = λ i. refl; taken = λ i. taken_theirs i share k m low high h other; shape = kept }
+other_seat (Drained share m) k h other kept = record { seen = rw (number_is_another k m other) refl; left = λ i. refl; taken = λ i. refl; shape = kept }
+other_seat (End share m) k h other kept = record { seen = rw (number_is_another k m other) refl; left = λ i. grind (arith, nat_tests, other); taken = λ i. refl; shape = kept }
+other_seat (Part share m iteration) k h other kept = record { seen = rw (number_is_another k m other) refl; left = λ i. refl; taken = λ i. refl; shape = kept }
+other_seat (PartEnd share m) k h other kept = record { seen = rw (number_is_another k m other) refl; left = λ i. refl; taken = λ i. refl; shape = kept }
 other_seat _ k h other kept = record { seen = refl; left = λ i. refl; taken = λ i. refl; shape = kept }
 
 -- A step of a member

@@ -22,14 +22,14 @@ use Rattle.gomp_share_plain.specs.declared.open_share.OpenShare.{OpenShare}
 use Rattle.gomp_share_plain.specs.Plain.{SeatStands, StandsFor, taken_by}
 use Rattle.gomp_share_plain.proofs.Takes.{next_is_for, next_shown, shown_more, taken_here, taken_mine, taken_else}
 use Rattle.gomp_share_plain.specs.Same.{seat_same, place_same}
-use Rattle.gomp_share_plain.proofs.Seats.{inside, inside_number, other_number, other_seat, seat_steps}
+use Rattle.gomp_share_plain.proofs.Seats.{seat_inside_started, inside_number, number_is_another, other_seat, seat_steps}
 use Rattle.gomp_share_plain.proofs.Places.{places_apart, here_is, here_valid, shape_here, own_place, own_share}
 
 -- the number of a piece that the plan of a member's share has is that among the pieces of its share
-numbered : (members i m : ℕ) (share : OpenShare) (number : ℕ) (piece : Piece) (h : List Event) (other : ℕ × Shape) (taken : Piece) → open_share m h ≡ Some (i, share.shape) →
+taken_has_its_number : (members i m : ℕ) (share : OpenShare) (number : ℕ) (piece : Piece) (h : List Event) (other : ℕ × Shape) (taken : Piece) → open_share m h ≡ Some (i, share.shape) →
     share.cursor.plan ≡ record { members = members; shape = share.shape } → slice_get (pieces share.cursor.plan) number ≡ Some piece → open_share m h ≡ Some other → Some piece ≡ Some taken →
     slice_get (pieces_of members other.1) number ≡ Some taken
-numbered members i m share number piece h other taken there plan is other_there same =
+taken_has_its_number members i m share number piece h other taken there plan is other_there same =
     let shape : share.shape ≡ other.1 = let both : Some (i, share.shape) ≡ Some other = sym there ∙ other_there in let e : (i, share.shape) ≡ other = cc in ap (λ (o : ℕ × Shape). o.1) e in
     let view : PlanView = record { members = members; shape = share.shape } in
     let here : slice_get (pieces view) number ≡ Some piece = rw plan at is in
@@ -44,7 +44,7 @@ piece_at members seats count places h m seat share answer st at within found is 
     let s : SeatStands members m seat count h = st.seat m seat at in
     let p = own_place members seats count places h m seat st at within in
     let same = here_is members seat.ended (slice_get places (seat.ended % OPEN_SHARES)) share h p found in
-    let full = inside members m seat count h s within in
+    let full = seat_inside_started members m seat count h s within in
     let valid = here_valid members seat.ended (slice_get places (seat.ended % OPEN_SHARES)) share h p found in
     let plan : share.cursor.plan ≡ record { members = members; shape = share.shape } = rw (← same) p.cursor_is in
     let all : shown (taken_of seat.ended h) ≡ share.taken = rw (← same) p.taken_is in
@@ -61,19 +61,19 @@ piece_at members seats count places h m seat share answer st at within found is 
     }
 
 -- a member takes a piece
-pub claims : (members : ℕ) (seats : List Seat) (count : ℕ) (places : List (Option OpenShare)) (h : List Event) (m : ℕ) (seat : Seat) (share : OpenShare) (number : ℕ) (piece : Piece) (cursor : CursorView) → cursor.plan ≡ share.cursor.plan → slice_get (pieces share.cursor.plan) number ≡ Some piece →
+pub claim_stands : (members : ℕ) (seats : List Seat) (count : ℕ) (places : List (Option OpenShare)) (h : List Event) (m : ℕ) (seat : Seat) (share : OpenShare) (number : ℕ) (piece : Piece) (cursor : CursorView) → cursor.plan ≡ share.cursor.plan → slice_get (pieces share.cursor.plan) number ≡ Some piece →
     StandsFor members seats count places h → slice_get seats m ≡ Some seat → is_inside m h ≡ true → slice_get places (seat.ended % OPEN_SHARES) ≡ Some (Some share) → CanClaim members m (seen_of m h) → Claims members m (Some piece) h →
     StandsFor members (slice_set seats m (record seat { piece = Some piece; taken = shown (seat.taken + 1); number = number })) count (slice_set places (seat.ended % OPEN_SHARES) (Some (record share { taken = shown (share.taken + 1); cursor = cursor }))) (Take (open_number m h) m piece.0 piece.1 ∷ h)
-claims members seats count places h m seat share number piece cursor plan is st at within found can may =
+claim_stands members seats count places h m seat share number piece cursor plan is st at within found can may =
     let s : SeatStands members m seat count h = st.seat m seat at in
     let here : open_number m h ≡ seat.ended = inside_number members m seat count h s within in
-    let one : seat.started ≡ seat.ended + 1 = inside members m seat count h s within in
+    let one : seat.started ≡ seat.ended + 1 = seat_inside_started members m seat count h s within in
     let room : (seat.ended % OPEN_SHARES) < length places = rw st.eight (omega arith) in
     let now = own_place members seats count places h m seat st at within in
     let same = here_is members seat.ended (slice_get places (seat.ended % OPEN_SHARES)) share h now found in
     let own_number : (other : ℕ × Shape) (taken : Piece) → open_share m h ≡ Some other → Some piece ≡ Some taken → slice_get (pieces_of members other.1) number ≡ Some taken =
-    λ other taken there e. numbered members seat.ended m share number piece h other taken (own_share members seats count places h m seat share st at within found) (rw (← same) now.cursor_is) is there e in
-    let away : (i : ℕ) → i ≢ seat.ended → (open_number m h == i) ≡ false = λ i differ. rw here (other_number i seat.ended differ) in
+    λ other taken there e. taken_has_its_number members seat.ended m share number piece h other taken (own_share members seats count places h m seat share st at within found) (rw (← same) now.cursor_is) is there e in
+    let away : (i : ℕ) → i ≢ seat.ended → (open_number m h == i) ≡ false = λ i differ. rw here (number_is_another i seat.ended differ) in
     record {
       size = length-set seats m _ ∙ st.size;
       team = st.team;
@@ -126,10 +126,10 @@ claims members seats count places h m seat share number piece cursor plan is st 
     }
 
 -- a member is told that nothing is left
-pub drains : (members : ℕ) (seats : List Seat) (count : ℕ) (places : List (Option OpenShare)) (h : List Event) (m : ℕ) (seat : Seat) →
+pub drained_stands : (members : ℕ) (seats : List Seat) (count : ℕ) (places : List (Option OpenShare)) (h : List Event) (m : ℕ) (seat : Seat) →
     StandsFor members seats count places h → slice_get seats m ≡ Some seat → CanClaim members m (seen_of m h) → Claims members m None h →
     StandsFor members (slice_set seats m (record seat { drained = true; piece = None })) count places (Drained (open_number m h) m ∷ h)
-drains members seats count places h m seat st at can may =
+drained_stands members seats count places h m seat st at can may =
     let s : SeatStands members m seat count h = st.seat m seat at in
     seat_steps members seats count places h (Drained (open_number m h) m) _ st
     (record { shape = λ i. refl; taken = λ queue_of i q. refl; turn = λ i. refl })

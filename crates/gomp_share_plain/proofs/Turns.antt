@@ -5,7 +5,7 @@ use Rattle.std.proofs.lemmas.Bool.{cases_Bool}
 use Rattle.std.proofs.lemmas.Bool.Decides.{eqb_tells}
 use Rattle.gomp_types.specs.Pieces.{Piece, Tiles}
 use Rattle.gomp_types.specs.Ordered.{same_piece}
-use Rattle.gomp_types.proofs.Numbering.{same_is, same_itself, number_at}
+use Rattle.gomp_types.proofs.Numbering.{same_is, piece_same_as_itself, number_at}
 
 not_same : (low high : ℕ) (pieces : List Piece) (number turn : ℕ) (piece : Piece) (found : Option Piece) → Tiles low pieces high → slice_get pieces number ≡ Some piece → slice_get pieces turn ≡ found → number ≢ turn →
     same_piece found (Some piece) ≡ false
@@ -23,7 +23,7 @@ pub turn_tells : (low high : ℕ) (pieces : List Piece) (number turn : ℕ) (pie
     same_piece (slice_get pieces turn) (Some piece) ≡ (number == turn)
 turn_tells low high pieces number turn piece tiles at =
     elim (eqb_tells number turn) [
-      | inl e ↦ let there : slice_get pieces turn ≡ Some piece = rw e.1 at at in rw (there, e.0) (same_itself piece)
+      | inl e ↦ let there : slice_get pieces turn ≡ Some piece = rw e.1 at at in rw (there, e.0) (piece_same_as_itself piece)
       | inr e ↦ rw e.0 (not_same low high pieces number turn piece (slice_get pieces turn) tiles at refl e.1)
     ]
 

@@ -11,9 +11,9 @@ use Rattle.gomp_share_plain.specs.Plain.{StandsFor, PlainView, new_seat, plain_s
 use Rattle.gomp_share_plain.specs.PlainLaws.{plain_agrees}
 
 -- what it tells of them, and of each list of events that they stand for
-pub told : (view now : PlainView) (m : ℕ) (h : List Event) (P : ℕ → Seen → Type 0) → view ≡ now → P (length now.seats) (plain_seen now.seats now.places m) → m < length now.seats →
+pub known_of_a_place : (view now : PlainView) (m : ℕ) (h : List Event) (P : ℕ → Seen → Type 0) → view ≡ now → P (length now.seats) (plain_seen now.seats now.places m) → m < length now.seats →
     StandsFor (length now.seats) now.seats now.opened now.places h → P (length view.seats) (seen_of m h) × StandsFor (length view.seats) view.seats view.opened view.places h
-told view now m h P e p lt st = rw e (subst (P (length now.seats)) (plain_agrees (length now.seats) now.seats now.opened now.places h m st lt) p, st)
+known_of_a_place view now m h P e p lt st = rw e (subst (P (length now.seats)) (plain_agrees (length now.seats) now.seats now.opened now.places h m st lt) p, st)
 
 pub told_stands : (view now : PlainView) (m : ℕ) (h : List Event) → view ≡ now → m < length now.seats → StandsFor (length now.seats) now.seats now.opened now.places h →
     (m < length view.seats) × StandsFor (length view.seats) view.seats view.opened view.places h
@@ -24,9 +24,9 @@ pub known_by : (view now : PlainView) → view ≡ now → (h : List Event) × S
 known_by view now e (h, st) = (h, rw (← e) st)
 
 -- new shares stand for no events
-pub made : (seats : List Seat) (n : ℕ) → n < 2 ^ 16 → seats ≡ replicate n new_seat →
+pub new_shares_stand : (seats : List Seat) (n : ℕ) → n < 2 ^ 16 → seats ≡ replicate n new_seat →
     StandsFor (length seats) seats 0 (None ∷ None ∷ None ∷ None ∷ None ∷ None ∷ None ∷ None ∷ []) []
-made seats n small e = record {
+new_shares_stand seats n small e = record {
   size = refl;
   team = rw e (rw (length-replicate {A = Seat} n new_seat) small);
   eight = refl;

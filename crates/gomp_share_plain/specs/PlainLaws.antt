@@ -10,7 +10,7 @@ use Rattle.gomp_types.specs.Values.{IsShape}
 use Rattle.gomp_types.specs.declared.limits.TheConstants.{OPEN_SHARES}
 use Rattle.gomp_types.specs.declared.shape.Shape.{Shape}
 use Rattle.gomp_types.proofs.Booleans.{share_is}
-use Rattle.gomp_shares.proofs.SharesKeep.{inside}
+use Rattle.gomp_shares.proofs.SharesKeep.{member_is_inside}
 use Rattle.gomp_types.specs.Deals.{schedule}
 use Rattle.gomp_types.specs.Events.{open_share}
 use Rattle.gomp_share_plain.specs.Same.{SameSeat, SamePlaces, seat_same, place_kept, beyond_kept}
@@ -61,7 +61,7 @@ valid_inside members m i shape seat opened place h s one p there =
 
 pub plain_valid : (members : ℕ) (seats : List Seat) (opened : ℕ) (places : List (Option OpenShare)) (h : List Event) (m i : ℕ) (shape : Shape) → StandsFor members seats opened places h → open_share m h ≡ Some (i, shape) → IsShape shape
 plain_valid members seats opened places h m i shape st there =
-    let lt : m < members = (inside (schedule members) members m i shape h st.rule there).1 in
+    let lt : m < members = (member_is_inside (schedule members) members m i shape h st.rule there).1 in
     let size = st.size in
     let at : slice_get seats m ≡ Some (get_or seats m new_seat) = slice_get-get_or seats m new_seat (omega arith) in
     let s : SeatStands members m (get_or seats m new_seat) opened h = st.seat m _ at in

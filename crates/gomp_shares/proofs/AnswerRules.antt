@@ -118,8 +118,8 @@ part_rule members m iteration h can next =
     })
 
 -- one that is in a part may end it: it is in a share
-pub part_end_rule : (members m : ℕ) (h : List Event) → Always (ShareRule (schedule members) members) h → CanEndPart members m (seen_of m h) → MayEndPart (open_number m h) m h
-part_end_rule members m h rule can =
+pub part_end_follows_the_rule : (members m : ℕ) (h : List Event) → Always (ShareRule (schedule members) members) h → CanEndPart members m (seen_of m h) → MayEndPart (open_number m h) m h
+part_end_follows_the_rule members m h rule can =
     let (i, shape, there, is) = part_inside (schedule members) members m h rule can.within in
     let number : open_number m h ≡ i = ap share_number there in
     rw number (record { shape = shape; inside = there; within = can.within })

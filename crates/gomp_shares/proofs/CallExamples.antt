@@ -278,8 +278,8 @@ pub cannot_end_outside : CanEndPart 2 1 (sees_loop ordered_two false (Some (0, 1
 cannot_end_outside can = absurd (let within = can.within in cc)
 
 -- and asks whether its piece can be handed on, when it is in none
-pub may_hand_on : CanHandOn 2 1 (sees_loop ordered_two false (Some (0, 1)) 1 false)
-may_hand_on = record { member = omega arith; ordered = refl; apart = refl }
+pub hand_on_is_allowed : CanHandOn 2 1 (sees_loop ordered_two false (Some (0, 1)) 1 false)
+hand_on_is_allowed = record { member = omega arith; ordered = refl; apart = refl }
 
 -- one who is no member cannot
 pub stranger_cannot_hand_on : CanHandOn 2 2 (sees_loop ordered_two false (Some (0, 1)) 1 false) → ⊥

@@ -26,12 +26,12 @@ pub outcome_is_ok : {A : Type 0} (first : Option Refusal) (value : A) → is_ok 
 outcome_is_ok None value = refl
 outcome_is_ok (Some refusal) value = refl
 
-none_is : {A : Type 0} (own : Option A) → is_none own ≡ true → own ≡ None
-none_is None e = refl
-none_is (Some x) e = absurd (cc)
+is_none_is_none : {A : Type 0} (own : Option A) → is_none own ≡ true → own ≡ None
+is_none_is_none None e = refl
+is_none_is_none (Some x) e = absurd (cc)
 
 pub loop_fine : (seen : Seen) (loop : LoopDesc) → may_make seen (Open loop) ≡ true → first_refusal (loop_tests loop) ≡ None
-loop_fine seen loop e = none_is (first_refusal (loop_tests loop)) (and_right _ (is_none (first_refusal (loop_tests loop))) e)
+loop_fine seen loop e = is_none_is_none (first_refusal (loop_tests loop)) (and_right _ (is_none (first_refusal (loop_tests loop))) e)
 
 -- where a loop may be opened, its member is outside and has entered few shares
 pub opens_loop : (seen : Seen) (loop : LoopDesc) → may_make seen (Open loop) ≡ true → (is_none seen.current && nat_lt seen.entered (2 ^ 48)) ≡ true
@@ -57,8 +57,8 @@ open_fits seen loop value refusal e is =
     let holds = outcome_refused (first_refusal (loop_tests loop)) value refusal is in let fails = loop_fine seen loop e in cc
 
 -- what was tested of what the member sees is so of the events
-pub made : (members : ℕ) (step : ShareStep) (seen : Seen) (h : List Event) → seen ≡ seen_of step.member h → step.member < members → may_make seen step.call ≡ true → is_made members step h ≡ true
-made members step seen h e lt may =
+pub call_is_made : (members : ℕ) (step : ShareStep) (seen : Seen) (h : List Event) → seen ≡ seen_of step.member h → step.member < members → may_make seen step.call ≡ true → is_made members step h ≡ true
+call_is_made members step seen h e lt may =
     let team : nat_lt step.member members ≡ true = grind (arith, nat_tests) in
     rw team (rw e at may)
 

@@ -8,7 +8,7 @@ use Rattle.gomp_types.specs.Events.{open_share}
 use Rattle.gomp_types.specs.Deals.{Deal, FirstOfQueue, taken_in, takes_in, next_for}
 use Rattle.gomp_types.specs.Laws.{Always}
 use Rattle.gomp_shares.specs.Rules.{ShareRule}
-use Rattle.gomp_shares.proofs.SharesKeep.{front, inside}
+use Rattle.gomp_shares.proofs.SharesKeep.{taken_front_of_queue, member_is_inside}
 
 -- a list is its front, the piece behind that, and what is left
 parted_at : (pieces : List Piece) (n : ℕ) (piece : Piece) → slice_get pieces n ≡ Some piece → (rest : List Piece) × (pieces ≡ take n pieces ++ piece ∷ rest)
@@ -19,7 +19,7 @@ parted_at (first ∷ pieces) (suc n) piece there = let later = parted_at pieces 
 pub first_of_queue : (deal : Deal) (members m i : ℕ) (shape : Shape) (piece : Piece) (h : List Event) → Always (ShareRule deal members) h → open_share m h ≡ Some (i, shape) → next_for deal shape i m h ≡ Some piece →
     FirstOfQueue (deal.queue shape (deal.queue_of shape m)) (takes_in (deal.queue_of shape) i (deal.queue_of shape m) h) piece
 first_of_queue deal members m i shape piece h all at next =
-    let own = inside deal members m i shape h all at in
+    let own = member_is_inside deal members m i shape h all at in
     let q = deal.queue_of shape m in
     let parted = parted_at (deal.queue shape q) (taken_in (deal.queue_of shape) i q h) piece next in
-    (parted.0, parted.1 ∙ ap (λ (l : List Piece). l ++ piece ∷ parted.0) (sym (front deal members i q shape h all own.0)))
+    (parted.0, parted.1 ∙ ap (λ (l : List Piece). l ++ piece ∷ parted.0) (sym (taken_front_of_queue deal members i q shape h all own.0)))

@@ -14,9 +14,9 @@ use Rattle.gomp_shares.specs.Rules.{MayPart, MayHandOn, ShareRule}
 use Rattle.gomp_shares.specs.Laws.{PartsRise, PartsInTurn, HandsOnInTurn, PartsApart, OrderedLaws}
 use Rattle.gomp_types.proofs.Booleans.{tells, is_equal, differs, same_number, share_is, not_both, none_of}
 use Rattle.gomp_types.proofs.Tiling.{has_it, piece_some}
-use Rattle.gomp_types.proofs.Always.{always}
+use Rattle.gomp_types.proofs.Always.{always_so}
 use Rattle.gomp_types.proofs.Numbering.{same_is, last_is_turn}
-use Rattle.gomp_shares.proofs.SharesKeep.{shape_stays, inside, inside_stands, not_ended, stands_ended, taken_once}
+use Rattle.gomp_shares.proofs.SharesKeep.{shape_stays, member_is_inside, inside_stands, not_ended, stands_ended, taken_once}
 
 -- The pieces of a share
 
@@ -43,14 +43,14 @@ piece_before low high (first ∷ pieces) zero (suc n) one other tiles at later l
 piece_before low high (first ∷ pieces) (suc q) (suc n) one other tiles at later lt = piece_before first.1 high pieces q n one other tiles.2 at later (omega arith)
 
 -- the pieces of each share that was entered tile its iterations
-pub tiled : (deal : Deal) (members i : ℕ) (shape : Shape) (h : List Event) → Always (ShareRule deal members) h → shape_at i h ≡ Some shape → Tiles 0 (pieces_of members shape) shape.trips
-tiled deal members i shape [] all at = absurd (cc)
-tiled deal members i shape (Enter share member other ∷ earlier) all at =
+pub share_is_tiled : (deal : Deal) (members i : ℕ) (shape : Shape) (h : List Event) → Always (ShareRule deal members) h → shape_at i h ≡ Some shape → Tiles 0 (pieces_of members shape) shape.trips
+share_is_tiled deal members i shape [] all at = absurd (cc)
+share_is_tiled deal members i shape (Enter share member other ∷ earlier) all at =
     elim (tells (share == i) (Some other) (shape_at i earlier) (Some shape) at) [
       | inl e ↦ let same : other ≡ shape = let t = e.1 in cc in rw same at all.0.tiles
-      | inr e ↦ tiled deal members i shape earlier all.1 e.1
+      | inr e ↦ share_is_tiled deal members i shape earlier all.1 e.1
     ]
-tiled deal members i shape (_ ∷ earlier) all at = tiled deal members i shape earlier all.1 at
+share_is_tiled deal members i shape (_ ∷ earlier) all at = share_is_tiled deal members i shape earlier all.1 at
 
 -- The turn
 
@@ -58,11 +58,11 @@ tiled deal members i shape (_ ∷ earlier) all at = tiled deal members i shape e
 abbrev Turned : ℕ → ℕ → Shape → ℕ → List Event → Type 0
 Turned members i shape m h = (low high : ℕ) × (slice_get (pieces_of members shape) (turn i h) ≡ Some (low, high)) × (last_piece m h ≡ Some (low, high))
 
-turned : (members m i : ℕ) (shape : Shape) (h : List Event) → has_turn members (i, shape) m h ≡ true → Turned members i shape m h
-turned members m i shape h e = same_is (slice_get (pieces_of members shape) (turn i h)) (last_piece m h) e
+turn_has_its_piece : (members m i : ℕ) (shape : Shape) (h : List Event) → has_turn members (i, shape) m h ≡ true → Turned members i shape m h
+turn_has_its_piece members m i shape h e = same_is (slice_get (pieces_of members shape) (turn i h)) (last_piece m h) e
 
 pub piece_of_turn : (members m i low high : ℕ) (shape : Shape) (h : List Event) → has_turn members (i, shape) m h ≡ true → last_piece m h ≡ Some (low, high) → slice_get (pieces_of members shape) (turn i h) ≡ Some (low, high)
-piece_of_turn members m i low high shape h e piece = let own = turned members m i shape h e in own.2 ∙ sym own.3 ∙ piece
+piece_of_turn members m i low high shape h e piece = let own = turn_has_its_piece members m i shape h e in own.2 ∙ sym own.3 ∙ piece
 
 -- Takes
 
@@ -75,13 +75,13 @@ taken_grows i k (Take share member low high) earlier = elim (cases_Bool (share =
 taken_grows i k _ earlier = omega arith
 
 -- an iteration of a take is taken
-counted : (i m k low high : ℕ) (h : List Event) → Happened (Take i m low high) h → low ≤ k → k < high → 0 < times_taken i k h
-counted i m k low high [] stands le lt = absurd stands
-counted i m k low high (event ∷ earlier) (inl e) le lt =
+taken_is_counted : (i m k low high : ℕ) (h : List Event) → Happened (Take i m low high) h → low ≤ k → k < high → 0 < times_taken i k h
+taken_is_counted i m k low high [] stands le lt = absurd stands
+taken_is_counted i m k low high (event ∷ earlier) (inl e) le lt =
     subst (λ (x : Event). 0 < times_taken i k (x ∷ earlier)) (sym e) (rw (same_number i, has_it k low high le lt) (omega arith))
-counted i m k low high (event ∷ earlier) (inr stands) le lt =
+taken_is_counted i m k low high (event ∷ earlier) (inr stands) le lt =
     let more = taken_grows i k event earlier in
-    let before = counted i m k low high earlier stands le lt in omega arith
+    let before = taken_is_counted i m k low high earlier stands le lt in omega arith
 
 -- it is taken once more by a take
 counted_again : (i m k low high : ℕ) (earlier : List Event) → low ≤ k → k < high → times_taken i k (Take i m low high ∷ earlier) ≡ times_taken i k earlier + 1
@@ -95,24 +95,24 @@ one_taker i m n k low high (event ∷ earlier) (inl e) (inl f) le lt most =
 one_taker i m n k low high (event ∷ earlier) (inl e) (inr other) le lt most =
     let below : times_taken i k (Take i m low high ∷ earlier) ≤ 1 = subst (λ (x : Event). times_taken i k (x ∷ earlier) ≤ 1) e most in
     let more = counted_again i m k low high earlier le lt in
-    let before = counted i n k low high earlier other le lt in absurd (omega arith)
+    let before = taken_is_counted i n k low high earlier other le lt in absurd (omega arith)
 one_taker i m n k low high (event ∷ earlier) (inr one) (inl f) le lt most =
     let below : times_taken i k (Take i n low high ∷ earlier) ≤ 1 = subst (λ (x : Event). times_taken i k (x ∷ earlier) ≤ 1) f most in
     let more = counted_again i n k low high earlier le lt in
-    let before = counted i m k low high earlier one le lt in absurd (omega arith)
+    let before = taken_is_counted i m k low high earlier one le lt in absurd (omega arith)
 one_taker i m n k low high (event ∷ earlier) (inr one) (inr other) le lt most =
     let more = taken_grows i k event earlier in
     one_taker i m n k low high earlier one other le lt (omega arith)
 
 -- a member took its last piece from the share that it is in
-took : (deal : Deal) (members m i low high : ℕ) (shape : Shape) (h : List Event) → Always (ShareRule deal members) h → open_share m h ≡ Some (i, shape) → last_piece m h ≡ Some (low, high) → Happened (Take i m low high) h
-took deal members m i low high shape [] all at piece = absurd (cc)
-took deal members m i low high shape (Enter share member other ∷ earlier) all at piece =
+last_piece_was_taken : (deal : Deal) (members m i low high : ℕ) (shape : Shape) (h : List Event) → Always (ShareRule deal members) h → open_share m h ≡ Some (i, shape) → last_piece m h ≡ Some (low, high) → Happened (Take i m low high) h
+last_piece_was_taken deal members m i low high shape [] all at piece = absurd (cc)
+last_piece_was_taken deal members m i low high shape (Enter share member other ∷ earlier) all at piece =
     elim (cases_Bool (member == m)) [
       | inl e ↦ absurd (let none = rw e at piece in cc)
-      | inr e ↦ inr (took deal members m i low high shape earlier all.1 (rw e at at) (rw e at piece))
+      | inr e ↦ inr (last_piece_was_taken deal members m i low high shape earlier all.1 (rw e at at) (rw e at piece))
     ]
-took deal members m i low high shape (Take share member from to ∷ earlier) all at piece =
+last_piece_was_taken deal members m i low high shape (Take share member from to ∷ earlier) all at piece =
     elim (cases_Bool (member == m)) [
       | inl e ↦
           let who = is_equal member m e in
@@ -122,32 +122,32 @@ took deal members m i low high shape (Take share member from to ∷ earlier) all
           let first = own.0 in
           let last = own.1 in
           inl (rw (who, number, first, last) refl)
-      | inr e ↦ inr (took deal members m i low high shape earlier all.1 at (rw e at piece))
+      | inr e ↦ inr (last_piece_was_taken deal members m i low high shape earlier all.1 at (rw e at piece))
     ]
-took deal members m i low high shape (Drained share member ∷ earlier) all at piece =
+last_piece_was_taken deal members m i low high shape (Drained share member ∷ earlier) all at piece =
     elim (cases_Bool (member == m)) [
       | inl e ↦ absurd (let none = rw e at piece in cc)
-      | inr e ↦ inr (took deal members m i low high shape earlier all.1 at (rw e at piece))
+      | inr e ↦ inr (last_piece_was_taken deal members m i low high shape earlier all.1 at (rw e at piece))
     ]
-took deal members m i low high shape (End share member ∷ earlier) all at piece =
+last_piece_was_taken deal members m i low high shape (End share member ∷ earlier) all at piece =
     elim (cases_Bool (member == m)) [
       | inl e ↦ absurd (let none = rw e at at in cc)
-      | inr e ↦ inr (took deal members m i low high shape earlier all.1 (rw e at at) piece)
+      | inr e ↦ inr (last_piece_was_taken deal members m i low high shape earlier all.1 (rw e at at) piece)
     ]
-took deal members m i low high shape (_ ∷ earlier) all at piece = inr (took deal members m i low high shape earlier all.1 at piece)
+last_piece_was_taken deal members m i low high shape (_ ∷ earlier) all at piece = inr (last_piece_was_taken deal members m i low high shape earlier all.1 at piece)
 
 -- two members of one share with its turn are one
 one_turn : (deal : Deal) (members m n i : ℕ) (one other : Shape) (h : List Event) → Always (ShareRule deal members) h → open_share m h ≡ Some (i, one) → open_share n h ≡ Some (i, other) →
     Turned members i one m h → Turned members i other n h → m ≡ n
 one_turn deal members m n i one other h all at there mine its =
-    let found = (inside deal members m i one h all at).0 in
-    let again = (inside deal members n i other h all there).0 in
+    let found = (member_is_inside deal members m i one h all at).0 in
+    let again = (member_is_inside deal members n i other h all there).0 in
     let same : other ≡ one = let t = sym again ∙ found in cc in
     let piece : slice_get (pieces_of members one) (turn i h) ≡ Some (its.0, its.1) = subst (λ (s : Shape). slice_get (pieces_of members s) (turn i h) ≡ Some (its.0, its.1)) same its.2 in
     let pieces : ◌≡◌ {A = Option Piece} (Some (its.0, its.1)) (Some (mine.0, mine.1)) = sym piece ∙ mine.2 in
-    let own = took deal members m i mine.0 mine.1 one h all at mine.3 in
-    let also = took deal members n i mine.0 mine.1 other h all there (its.3 ∙ pieces) in
-    let some = piece_some 0 one.trips (pieces_of members one) (turn i h) (mine.0, mine.1) (tiled deal members i one h all found) mine.2 in
+    let own = last_piece_was_taken deal members m i mine.0 mine.1 one h all at mine.3 in
+    let also = last_piece_was_taken deal members n i mine.0 mine.1 other h all there (its.3 ∙ pieces) in
+    let some = piece_some 0 one.trips (pieces_of members one) (turn i h) (mine.0, mine.1) (share_is_tiled deal members i one h all found) mine.2 in
     one_taker i m n mine.0 mine.0 mine.1 h own also (omega arith) some (taken_once deal members i mine.0 h all)
 
 -- Parts rise
@@ -185,12 +185,12 @@ part_behind deal members i n j (Part share member iteration ∷ earlier) all (in
       number = turn i earlier;
       low = may.low;
       high = may.high;
-      known = (inside deal members member i may.shape earlier all.1 may.inside).0;
+      known = (member_is_inside deal members member i may.shape earlier all.1 may.inside).0;
       reached = omega arith;
       piece = piece_of_turn members member i may.low may.high may.shape earlier may.next may.piece;
       from = may.from;
       before = may.before;
-      was_taken = counted i member j may.low may.high earlier (took deal members member i may.low may.high may.shape earlier all.1 may.inside may.piece) may.from may.before;
+      was_taken = taken_is_counted i member j may.low may.high earlier (last_piece_was_taken deal members member i may.low may.high may.shape earlier all.1 may.inside may.piece) may.from may.before;
     }
 part_behind deal members i n j (_ ∷ earlier) all (inl e) = absurd (cc)
 part_behind deal members i n j (event ∷ earlier) all (inr stands) =
@@ -219,7 +219,7 @@ part_before deal members i n j q low high shape h all at piece le stands =
     let lies : slice_get (pieces_of members shape) b.number ≡ Some (b.low, b.high) = subst (λ (s : Shape). slice_get (pieces_of members s) b.number ≡ Some (b.low, b.high)) same b.piece in
     elim (cases_lt b.number q) [
       | inl lt ↦
-          let past = piece_before 0 shape.trips (pieces_of members shape) b.number q (b.low, b.high) (low, high) (tiled deal members i shape h all at) lies piece lt in
+          let past = piece_before 0 shape.trips (pieces_of members shape) b.number q (b.low, b.high) (low, high) (share_is_tiled deal members i shape h all at) lies piece lt in
           inl (omega arith)
       | inr past ↦
           let one : b.number ≡ q = omega arith in
@@ -249,7 +249,7 @@ parts_before deal members m i n j low high shape (Take share member from to ∷ 
           let own = pair_is from to low high (rw e at piece) in
           let first = own.0 in
           let last = own.1 in
-          let found = (inside deal members m i shape earlier all.1 at).0 in
+          let found = (member_is_inside deal members m i shape earlier all.1 at).0 in
           elim (part_before deal members i n j (turn i earlier) low high shape earlier all.1 found next (omega arith) stands) [
             | inl lt ↦ inl lt
             | inr b ↦
@@ -275,7 +275,7 @@ parts_before deal members m i n j low high shape (End share member ∷ earlier) 
 parts_before deal members m i n j low high shape (HandOn share member number ∷ earlier) all at piece next (inl e) = absurd (cc)
 parts_before deal members m i n j low high shape (HandOn share member number ∷ earlier) all at piece next (inr stands) =
     elim (cases_Bool (share == i)) [
-      | inl e ↦ elim (part_before deal members i n j (turn i earlier + 1) low high shape earlier all.1 (inside deal members m i shape earlier all.1 at).0 (rw e at next) (omega arith) stands) [
+      | inl e ↦ elim (part_before deal members i n j (turn i earlier + 1) low high shape earlier all.1 (member_is_inside deal members m i shape earlier all.1 at).0 (rw e at next) (omega arith) stands) [
         | inl lt ↦ inl lt
         | inr b ↦ absurd (let no = b.0 in omega arith)
       ]
@@ -285,7 +285,7 @@ parts_before deal members m i n j low high shape (Part share member iteration �
     let is : share ≡ i = cc in
     let part : iteration ≡ j = cc in
     let may : MayPart members i member j earlier = rw (is, part) at all.0 in
-    let same = one_turn deal members member m i may.shape shape earlier all.1 may.inside at (turned members member i may.shape earlier may.next) (low, high, next, piece) in
+    let same = one_turn deal members member m i may.shape shape earlier all.1 may.inside at (turn_has_its_piece members member i may.shape earlier may.next) (low, high, next, piece) in
     inr (rw (same, part, same_number m) (omega arith))
 parts_before deal members m i n j low high shape (Part share member iteration ∷ earlier) all at piece next (inr stands) =
     elim (parts_before deal members m i n j low high shape earlier all.1 at piece next stands) [
@@ -346,7 +346,7 @@ open_within deal members i (HandOn share member piece ∷ earlier) all is_open =
     elim (cases_Bool (share == i)) [
       | inl e ↦
           let may : MayHandOn members i member piece earlier = rw (is_equal share i e) at all.0 in
-          let same = one_turn deal members member w.who i may.shape w.shape earlier all.1 may.inside w.there (turned members member i may.shape earlier may.next) (turned members w.who i w.shape earlier w.next) in
+          let same = one_turn deal members member w.who i may.shape w.shape earlier all.1 may.inside w.there (turn_has_its_piece members member i may.shape earlier may.next) (turn_has_its_piece members w.who i w.shape earlier w.next) in
           absurd (not_both (in_part w.who earlier) w.part (rw (← same) may.apart))
       | inr e ↦ record { who = w.who; shape = w.shape; there = w.there; part = w.part; next = rw e w.next }
     ]
@@ -376,41 +376,41 @@ open_within deal members i (_ ∷ earlier) all is_open =
     record { who = w.who; shape = w.shape; there = w.there; part = w.part; next = w.next }
 
 -- a member in a part of its share has the turn, and the part that is open there is its own
-part_is : (deal : Deal) (members m i : ℕ) (shape : Shape) (h : List Event) → Always (ShareRule deal members) h → open_share m h ≡ Some (i, shape) → in_part m h ≡ true →
+part_has_its_turn : (deal : Deal) (members m i : ℕ) (shape : Shape) (h : List Event) → Always (ShareRule deal members) h → open_share m h ≡ Some (i, shape) → in_part m h ≡ true →
     (has_turn members (i, shape) m h ≡ true) × (open_part i h ≡ Some m)
-part_is deal members m i shape [] all at within = absurd (cc)
-part_is deal members m i shape (Enter share member other ∷ earlier) all at within =
+part_has_its_turn deal members m i shape [] all at within = absurd (cc)
+part_has_its_turn deal members m i shape (Enter share member other ∷ earlier) all at within =
     elim (cases_Bool (member == m)) [
       | inl e ↦ absurd (let no = rw e at within in cc)
-      | inr e ↦ let p = part_is deal members m i shape earlier all.1 (rw e at at) (rw e at within) in (rw e p.0, p.1)
+      | inr e ↦ let p = part_has_its_turn deal members m i shape earlier all.1 (rw e at at) (rw e at within) in (rw e p.0, p.1)
     ]
-part_is deal members m i shape (Take share member low high ∷ earlier) all at within =
-    let p = part_is deal members m i shape earlier all.1 at within in
+part_has_its_turn deal members m i shape (Take share member low high ∷ earlier) all at within =
+    let p = part_has_its_turn deal members m i shape earlier all.1 at within in
     elim (cases_Bool (member == m)) [
       | inl e ↦ absurd (not_both (in_part m earlier) within (rw (← is_equal member m e) all.0.apart))
       | inr e ↦ (rw e p.0, p.1)
     ]
-part_is deal members m i shape (Drained share member ∷ earlier) all at within =
-    let p = part_is deal members m i shape earlier all.1 at within in
+part_has_its_turn deal members m i shape (Drained share member ∷ earlier) all at within =
+    let p = part_has_its_turn deal members m i shape earlier all.1 at within in
     elim (cases_Bool (member == m)) [
       | inl e ↦ absurd (not_both (in_part m earlier) within (rw (← is_equal member m e) all.0.apart))
       | inr e ↦ (rw e p.0, p.1)
     ]
-part_is deal members m i shape (End share member ∷ earlier) all at within =
+part_has_its_turn deal members m i shape (End share member ∷ earlier) all at within =
     elim (cases_Bool (member == m)) [
       | inl e ↦ absurd (let none = rw e at at in cc)
-      | inr e ↦ part_is deal members m i shape earlier all.1 (rw e at at) within
+      | inr e ↦ part_has_its_turn deal members m i shape earlier all.1 (rw e at at) within
     ]
-part_is deal members m i shape (HandOn share member piece ∷ earlier) all at within =
-    let p = part_is deal members m i shape earlier all.1 at within in
+part_has_its_turn deal members m i shape (HandOn share member piece ∷ earlier) all at within =
+    let p = part_has_its_turn deal members m i shape earlier all.1 at within in
     elim (cases_Bool (share == i)) [
       | inl e ↦
           let may : MayHandOn members i member piece earlier = rw (is_equal share i e) at all.0 in
-          let same = one_turn deal members member m i may.shape shape earlier all.1 may.inside at (turned members member i may.shape earlier may.next) (turned members m i shape earlier p.0) in
+          let same = one_turn deal members member m i may.shape shape earlier all.1 may.inside at (turn_has_its_piece members member i may.shape earlier may.next) (turn_has_its_piece members m i shape earlier p.0) in
           absurd (not_both (in_part m earlier) within (rw (← same) may.apart))
       | inr e ↦ (rw e p.0, p.1)
     ]
-part_is deal members m i shape (Part share member iteration ∷ earlier) all at within =
+part_has_its_turn deal members m i shape (Part share member iteration ∷ earlier) all at within =
     elim (cases_Bool (member == m)) [
       | inl e ↦
           let who = is_equal member m e in
@@ -418,38 +418,38 @@ part_is deal members m i shape (Part share member iteration ∷ earlier) all at 
           let p = share_is share i all.0.shape shape (sym there ∙ at) in
           ((rw (p.0, p.1, who) at all.0.next), rw (p.0, same_number i, who) refl)
       | inr e ↦
-          let p = part_is deal members m i shape earlier all.1 at (rw e at within) in
+          let p = part_has_its_turn deal members m i shape earlier all.1 at (rw e at within) in
           elim (cases_Bool (share == i)) [
             | inl f ↦
                 let may : MayPart members i member iteration earlier = rw (is_equal share i f) at all.0 in
-                absurd (differs member m e (one_turn deal members member m i may.shape shape earlier all.1 may.inside at (turned members member i may.shape earlier may.next) (turned members m i shape earlier p.0)))
+                absurd (differs member m e (one_turn deal members member m i may.shape shape earlier all.1 may.inside at (turn_has_its_piece members member i may.shape earlier may.next) (turn_has_its_piece members m i shape earlier p.0)))
             | inr f ↦ (p.0, rw f p.1)
           ]
     ]
-part_is deal members m i shape (PartEnd share member ∷ earlier) all at within =
+part_has_its_turn deal members m i shape (PartEnd share member ∷ earlier) all at within =
     elim (cases_Bool (member == m)) [
       | inl e ↦ absurd (let no = rw e at within in cc)
       | inr e ↦
-          let p = part_is deal members m i shape earlier all.1 at (rw e at within) in
+          let p = part_has_its_turn deal members m i shape earlier all.1 at (rw e at within) in
           elim (cases_Bool (share == i)) [
             | inl f ↦
-                let q = part_is deal members member i all.0.shape earlier all.1 (rw (is_equal share i f) at all.0.inside) all.0.within in
+                let q = part_has_its_turn deal members member i all.0.shape earlier all.1 (rw (is_equal share i f) at all.0.inside) all.0.within in
                 let both : Some member ≡ Some m = sym q.1 ∙ p.1 in
                 absurd (differs member m e (let same : member ≡ m = cc in same))
             | inr f ↦ (p.0, rw f p.1)
           ]
     ]
-part_is deal members m i shape (_ ∷ earlier) all at within = part_is deal members m i shape earlier all.1 at within
+part_has_its_turn deal members m i shape (_ ∷ earlier) all at within = part_has_its_turn deal members m i shape earlier all.1 at within
 
 -- The laws
 
-rises : (deal : Deal) (members : ℕ) (event : Event) (earlier : List Event) → ShareRule deal members event earlier → Always (ShareRule deal members) earlier → PartsRise event earlier
-rises deal members (Part share m iteration) earlier rule all = λ n other stands.
+parts_rise : (deal : Deal) (members : ℕ) (event : Event) (earlier : List Event) → ShareRule deal members event earlier → Always (ShareRule deal members) earlier → PartsRise event earlier
+parts_rise deal members (Part share m iteration) earlier rule all = λ n other stands.
     elim (parts_before deal members m share n other rule.low rule.high rule.shape earlier all rule.inside rule.piece (piece_of_turn members m share rule.low rule.high rule.shape earlier rule.next rule.piece) stands) [
       | inl lt ↦ let from = rule.from in omega arith
       | inr lt ↦ let after = rule.after in omega arith
     ]
-rises deal members _ earlier rule all = tt
+parts_rise deal members _ earlier rule all = tt
 
 parts_in_turn : (deal : Deal) (members : ℕ) (event : Event) (earlier : List Event) → ShareRule deal members event earlier → Always (ShareRule deal members) earlier → PartsInTurn members event earlier
 parts_in_turn deal members (Part share m iteration) earlier rule all = (
@@ -458,7 +458,7 @@ parts_in_turn deal members (Part share m iteration) earlier rule all = (
   rule.high,
   rule.ordered,
   inside_stands m share rule.shape earlier rule.inside,
-  took deal members m share rule.low rule.high rule.shape earlier all rule.inside rule.piece,
+  last_piece_was_taken deal members m share rule.low rule.high rule.shape earlier all rule.inside rule.piece,
   (λ stands. not_both (has_ended share m earlier) (stands_ended share m earlier stands) (not_ended deal members m share rule.shape earlier all rule.inside)),
   rule.piece,
   rule.from,
@@ -470,12 +470,12 @@ parts_in_turn deal members _ earlier rule all = tt
 -- the piece that is handed on has the number of the turn
 pub hands_the_turn : (deal : Deal) (members m share piece : ℕ) (earlier : List Event) → Always (ShareRule deal members) earlier → MayHandOn members share m piece earlier → piece ≡ turn share earlier
 hands_the_turn deal members m share piece earlier all may =
-    let found = (inside deal members m share may.shape earlier all may.inside).0 in
-    may.number ∙ last_is_turn members m share may.shape.trips may.shape earlier (tiled deal members share may.shape earlier all found) may.next
+    let found = (member_is_inside deal members m share may.shape earlier all may.inside).0 in
+    may.number ∙ last_is_turn members m share may.shape.trips may.shape earlier (share_is_tiled deal members share may.shape earlier all found) may.next
 
 handed_on : (deal : Deal) (members : ℕ) (event : Event) (earlier : List Event) → ShareRule deal members event earlier → Always (ShareRule deal members) earlier → HandsOnInTurn members event earlier
 handed_on deal members (HandOn share m piece) earlier rule all =
-    let own = turned members m share rule.shape earlier rule.next in
+    let own = turn_has_its_piece members m share rule.shape earlier rule.next in
     let number = hands_the_turn deal members m share piece earlier all rule in
     (rule.shape, own.0, own.1, rule.ordered, inside_stands m share rule.shape earlier rule.inside, (λ stands. not_both (has_ended share m earlier) (stands_ended share m earlier stands) (not_ended deal members m share rule.shape earlier all rule.inside)), own.3, number, rw number own.2)
 handed_on deal members _ earlier rule all = tt
@@ -487,7 +487,7 @@ none_open deal members m share shape earlier all at next away =
     elim (cases_Bool (is_some (open_part share earlier))) [
       | inl e ↦
           let w = open_within deal members share earlier all e in
-          let same = one_turn deal members m w.who share shape w.shape earlier all at w.there (turned members m share shape earlier next) (turned members w.who share w.shape earlier w.next) in
+          let same = one_turn deal members m w.who share shape w.shape earlier all at w.there (turn_has_its_piece members m share shape earlier next) (turn_has_its_piece members w.who share w.shape earlier w.next) in
           absurd (not_both (in_part w.who earlier) w.part (rw (← same) away))
       | inr e ↦ none_of (open_part share earlier) e
     ]
@@ -496,23 +496,23 @@ none_open deal members m share shape earlier all at next away =
 not_its : (deal : Deal) (members m share : ℕ) (earlier : List Event) → Always (ShareRule deal members) earlier → in_part m earlier ≡ false → open_part share earlier ≡ Some m → ⊥
 not_its deal members m share earlier all away its =
     let w = open_within deal members share earlier all (rw its refl) in
-    let own = (part_is deal members w.who share w.shape earlier all w.there w.part).1 in
+    let own = (part_has_its_turn deal members w.who share w.shape earlier all w.there w.part).1 in
     let same : w.who ≡ m = let both = sym own ∙ its in cc in
     not_both (in_part w.who earlier) w.part (rw same away)
 
-apart : (deal : Deal) (members : ℕ) (event : Event) (earlier : List Event) → ShareRule deal members event earlier → Always (ShareRule deal members) earlier → PartsApart event earlier
-apart deal members (Part share m iteration) earlier rule all = none_open deal members m share rule.shape earlier all rule.inside rule.next rule.apart
-apart deal members (HandOn share m piece) earlier rule all = none_open deal members m share rule.shape earlier all rule.inside rule.next rule.apart
-apart deal members (End share m) earlier rule all = not_its deal members m share earlier all rule.apart
-apart deal members (PartEnd share m) earlier rule all = (part_is deal members m share rule.shape earlier all rule.inside rule.within).1
-apart deal members _ earlier rule all = tt
+parts_stay_apart : (deal : Deal) (members : ℕ) (event : Event) (earlier : List Event) → ShareRule deal members event earlier → Always (ShareRule deal members) earlier → PartsApart event earlier
+parts_stay_apart deal members (Part share m iteration) earlier rule all = none_open deal members m share rule.shape earlier all rule.inside rule.next rule.apart
+parts_stay_apart deal members (HandOn share m piece) earlier rule all = none_open deal members m share rule.shape earlier all rule.inside rule.next rule.apart
+parts_stay_apart deal members (End share m) earlier rule all = not_its deal members m share earlier all rule.apart
+parts_stay_apart deal members (PartEnd share m) earlier rule all = (part_has_its_turn deal members m share rule.shape earlier all rule.inside rule.within).1
+parts_stay_apart deal members _ earlier rule all = tt
 
 pub ordered_keep : (members : ℕ) (h : List Event) → Always (ShareRule (schedule members) members) h → OrderedLaws members h
 ordered_keep members h all =
     let deal = schedule members in
     record {
-      rise = always (ShareRule deal members) PartsRise (rises deal members) h all;
-      in_turn = always (ShareRule deal members) (PartsInTurn members) (parts_in_turn deal members) h all;
-      handed_on = always (ShareRule deal members) (HandsOnInTurn members) (handed_on deal members) h all;
-      apart = always (ShareRule deal members) PartsApart (apart deal members) h all;
+      rise = always_so (ShareRule deal members) PartsRise (parts_rise deal members) h all;
+      in_turn = always_so (ShareRule deal members) (PartsInTurn members) (parts_in_turn deal members) h all;
+      handed_on = always_so (ShareRule deal members) (HandsOnInTurn members) (handed_on deal members) h all;
+      apart = always_so (ShareRule deal members) PartsApart (parts_stay_apart deal members) h all;
     }

@@ -29,16 +29,16 @@ seen_apart (PartEnd share m) k h other = rw (other_number m k (λ e. other (sym 
 seen_apart _ k h other = refl
 
 -- what a member sees after an event follows from what it saw before
-abbrev after : Event → ℕ → Seen → Seen
-after (Enter share m shape) k s = if m == k then record { entered = s.entered + 1; current = Some (share, shape); drained = false; piece = None; next_part = 0; in_part = false } else s
-after (Take share m low high) k s = if m == k then record s { piece = Some (low, high) } else s
-after (Drained share m) k s = if m == k then record s { drained = true; piece = None } else s
-after (End share m) k s = if m == k then record s { current = None } else s
-after (Part share m iteration) k s = if m == k then record s { next_part = iteration + 1; in_part = true } else s
-after (PartEnd share m) k s = if m == k then record s { in_part = false } else s
-after _ k s = s
+abbrev seen_after_own_event : Event → ℕ → Seen → Seen
+seen_after_own_event (Enter share m shape) k s = if m == k then record { entered = s.entered + 1; current = Some (share, shape); drained = false; piece = None; next_part = 0; in_part = false } else s
+seen_after_own_event (Take share m low high) k s = if m == k then record s { piece = Some (low, high) } else s
+seen_after_own_event (Drained share m) k s = if m == k then record s { drained = true; piece = None } else s
+seen_after_own_event (End share m) k s = if m == k then record s { current = None } else s
+seen_after_own_event (Part share m iteration) k s = if m == k then record s { next_part = iteration + 1; in_part = true } else s
+seen_after_own_event (PartEnd share m) k s = if m == k then record s { in_part = false } else s
+seen_after_own_event _ k s = s
 
-seen_after : (event : Event) (k : ℕ) (h : List Event) → seen_of k (event ∷ h) ≡ after event k (seen_of k h)
+seen_after : (event : Event) (k : ℕ) (h : List Event) → seen_of k (event ∷ h) ≡ seen_after_own_event event k (seen_of k h)
 seen_after (Enter share m shape) k h = elim (cases_Bool (m == k)) [ inl e ↦ rw e refl | inr e ↦ rw e refl ]
 seen_after (Take share m low high) k h = elim (cases_Bool (m == k)) [ inl e ↦ rw e refl | inr e ↦ rw e refl ]
 seen_after (Drained share m) k h = elim (cases_Bool (m == k)) [ inl e ↦ rw e refl | inr e ↦ rw e refl ]
@@ -50,6 +50,6 @@ seen_after _ k h = refl
 pub seen_own : (m : ℕ) (h : List Event) → seen_of m (own_of m h) ≡ seen_of m h
 seen_own m [] = refl
 seen_own m (event ∷ h) = elim (cases_Bool (member_of event == m)) [
-  | inl is ↦ rw is (seen_after event m (own_of m h) ∙ ap (after event m) (seen_own m h) ∙ sym (seen_after event m h))
+  | inl is ↦ rw is (seen_after event m (own_of m h) ∙ ap (seen_after_own_event event m) (seen_own m h) ∙ sym (seen_after event m h))
   | inr other ↦ rw other (seen_own m h ∙ sym (seen_apart event m h (λ e. differs _ _ other (sym e))))
 ]

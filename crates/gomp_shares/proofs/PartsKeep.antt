@@ -112,8 +112,8 @@ pub record InRest (own : Option Piece) (after k : ℕ) : Type 0 where
 at_most : (a b : ℕ) → nat_le a b ≡ true → a ≤ b
 at_most a b e = grind (arith, nat_tests)
 
-below : (a b : ℕ) → nat_lt a b ≡ true → a < b
-below a b e = grind (arith, nat_tests)
+below_by_test : (a b : ℕ) → nat_lt a b ≡ true → a < b
+below_by_test a b e = grind (arith, nat_tests)
 
 in_rest : (own : Option Piece) (after k : ℕ) (is : Bool) → is_in_rest own after (if is then Some k else None) ≡ true → InRest own after k
 in_rest None after k true e = absurd (cc)
@@ -126,7 +126,7 @@ in_rest (Some piece) after k true e =
       high = piece.1;
       piece = refl;
       from = at_most piece.0 k (and_left (nat_le piece.0 k) (nat_lt k piece.1) has);
-      before = below k piece.1 (and_right (nat_le piece.0 k) (nat_lt k piece.1) has);
+      before = below_by_test k piece.1 (and_right (nat_le piece.0 k) (nat_lt k piece.1) has);
       past = at_most after k (and_right (has_iteration k piece.0 piece.1) (nat_le after k) e);
     }
 

@@ -119,8 +119,8 @@ pub events_of_the_sections : events_of 2 in_sections ≡
 events_of_the_sections = refl
 
 -- nor does what has to wait
-pub events_of_a_wait : events_of 2 (eight_ahead ++ (asks 0 (OpenSingle false), Opened NotYet) ∷ []) ≡ events_of 2 eight_ahead
-events_of_a_wait = refl
+pub wait_adds_no_event : events_of 2 (eight_ahead ++ (asks 0 (OpenSingle false), Opened NotYet) ∷ []) ≡ events_of 2 eight_ahead
+wait_adds_no_event = refl
 
 -- Lists of answers
 

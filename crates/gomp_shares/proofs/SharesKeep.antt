@@ -10,7 +10,7 @@ use Rattle.gomp_types.specs.declared.event.Event.TheVariants.{Enter, Take, Drain
 use Rattle.gomp_types.specs.Pieces.{Piece}
 use Rattle.gomp_types.specs.Events.{entered, open_share, has_drained, has_ended, shape_at, is_over, has_room, has_iteration, times_taken}
 use Rattle.gomp_types.specs.Deals.{Deal, IsDealt, taken_in, takes_in, next_in, next_for, times}
-use Rattle.gomp_types.proofs.Always.{always}
+use Rattle.gomp_types.proofs.Always.{always_so}
 use Rattle.gomp_types.specs.Laws.{Always, Happened}
 use Rattle.gomp_shares.specs.Rules.{MayTake, HasNone, ShareRule}
 use Rattle.gomp_shares.specs.Laws.{IsOver, TakesNext, TakesWithin, LeavesNothing, EntersOneByOne, EndsInside, EntersWithRoom, ShareLaws}
@@ -29,23 +29,23 @@ shape_stays deal members i shape (Enter share member other) earlier rule at =
 shape_stays deal members i shape _ earlier rule at = at
 
 -- each share that was entered is dealt
-pub dealt : (deal : Deal) (members i : ℕ) (shape : Shape) (h : List Event) → Always (ShareRule deal members) h → shape_at i h ≡ Some shape → IsDealt deal members shape
-dealt deal members i shape [] all at = absurd (cc)
-dealt deal members i shape (Enter share member other ∷ earlier) all at =
+pub share_is_dealt : (deal : Deal) (members i : ℕ) (shape : Shape) (h : List Event) → Always (ShareRule deal members) h → shape_at i h ≡ Some shape → IsDealt deal members shape
+share_is_dealt deal members i shape [] all at = absurd (cc)
+share_is_dealt deal members i shape (Enter share member other ∷ earlier) all at =
     elim (tells (share == i) (Some other) (shape_at i earlier) (Some shape) at) [
       | inl e ↦ let same : other ≡ shape = let t = e.1 in cc in rw same at all.0.dealt
-      | inr e ↦ dealt deal members i shape earlier all.1 e.1
+      | inr e ↦ share_is_dealt deal members i shape earlier all.1 e.1
     ]
-dealt deal members i shape (_ ∷ earlier) all at = dealt deal members i shape earlier all.1 at
+share_is_dealt deal members i shape (_ ∷ earlier) all at = share_is_dealt deal members i shape earlier all.1 at
 
 -- What is known of the share that a member is in
 
 abbrev pub Inside : ℕ → ℕ → ℕ → Shape → List Event → Type 0
 Inside members m i shape h = (shape_at i h ≡ Some shape) × (m < members) × (entered m h ≡ i + 1) × (shape.incr ≢ pos 0)
 
-pub inside : (deal : Deal) (members m i : ℕ) (shape : Shape) (h : List Event) → Always (ShareRule deal members) h → open_share m h ≡ Some (i, shape) → Inside members m i shape h
-inside deal members m i shape [] all at = absurd (cc)
-inside deal members m i shape (Enter share member other ∷ earlier) all at =
+pub member_is_inside : (deal : Deal) (members m i : ℕ) (shape : Shape) (h : List Event) → Always (ShareRule deal members) h → open_share m h ≡ Some (i, shape) → Inside members m i shape h
+member_is_inside deal members m i shape [] all at = absurd (cc)
+member_is_inside deal members m i shape (Enter share member other ∷ earlier) all at =
     elim (tells (member == m) (Some (share, other)) (open_share m earlier) (Some (i, shape)) at) [
       | inl e ↦
           let p = share_is share i other shape e.1 in
@@ -53,15 +53,15 @@ inside deal members m i shape (Enter share member other ∷ earlier) all at =
           let number : share ≡ entered m earlier = rw (← who) all.0.number in
           rw (e.0, p.0, p.1, same_number i) (refl, (rw who at all.0.member), rw (← p.0) (rw number refl), (rw p.1 at all.0.moves))
       | inr e ↦
-          let before = inside deal members m i shape earlier all.1 e.1 in
+          let before = member_is_inside deal members m i shape earlier all.1 e.1 in
           (shape_stays deal members i shape (Enter share member other) earlier all.0 before.0, before.1, rw e.0 before.2, before.3)
     ]
-inside deal members m i shape (End share member ∷ earlier) all at =
+member_is_inside deal members m i shape (End share member ∷ earlier) all at =
     elim (tells (member == m) None (open_share m earlier) (Some (i, shape)) at) [
       | inl e ↦ absurd (cc)
-      | inr e ↦ inside deal members m i shape earlier all.1 e.1
+      | inr e ↦ member_is_inside deal members m i shape earlier all.1 e.1
     ]
-inside deal members m i shape (_ ∷ earlier) all at = inside deal members m i shape earlier all.1 at
+member_is_inside deal members m i shape (_ ∷ earlier) all at = member_is_inside deal members m i shape earlier all.1 at
 
 -- the member has entered the share that it is in
 pub inside_stands : (m i : ℕ) (shape : Shape) (h : List Event) → open_share m h ≡ Some (i, shape) → Happened (Enter i m shape) h
@@ -91,7 +91,7 @@ none_taken deal members i (Enter share member shape ∷ earlier) all at =
     ]
 none_taken deal members i (Take share member low high ∷ earlier) all at =
     elim (cases_Bool (share == i)) [
-      | inl e ↦ absurd (let found : shape_at share earlier ≡ Some all.0.shape = (inside deal members member share all.0.shape earlier all.1 all.0.inside).0 in
+      | inl e ↦ absurd (let found : shape_at share earlier ≡ Some all.0.shape = (member_is_inside deal members member share all.0.shape earlier all.1 all.0.inside).0 in
           let there : shape_at i earlier ≡ None = at in
           let is : share ≡ i = is_equal share i e in
           let none : Some all.0.shape ≡ None = sym found ∙ ap (λ (n : ℕ). shape_at n earlier) is ∙ there in cc)
@@ -100,10 +100,10 @@ none_taken deal members i (Take share member low high ∷ earlier) all at =
 none_taken deal members i (_ ∷ earlier) all at = none_taken deal members i earlier all.1 at
 
 -- what a take takes, in the words of its share
-next_is : (deal : Deal) (members i m low high : ℕ) (shape : Shape) (h : List Event) → Always (ShareRule deal members) h → shape_at i h ≡ Some shape → MayTake deal i m low high h →
+next_of_queue_is_taken : (deal : Deal) (members i m low high : ℕ) (shape : Shape) (h : List Event) → Always (ShareRule deal members) h → shape_at i h ≡ Some shape → MayTake deal i m low high h →
     next_in deal shape i (deal.queue_of shape m) h ≡ Some (low, high)
-next_is deal members i m low high shape h all at may =
-    let found = (inside deal members m i may.shape h all may.inside).0 in
+next_of_queue_is_taken deal members i m low high shape h all at may =
+    let found = (member_is_inside deal members m i may.shape h all may.inside).0 in
     let same : may.shape ≡ shape = cc in
     rw same at may.next
 
@@ -113,33 +113,33 @@ earlier_shape None shape same = inl refl
 earlier_shape (Some other) shape same = inr (ap Some (same other refl))
 
 -- the takes from a queue are its first pieces, in order
-pub front : (deal : Deal) (members i q : ℕ) (shape : Shape) (h : List Event) → Always (ShareRule deal members) h → shape_at i h ≡ Some shape →
+pub taken_front_of_queue : (deal : Deal) (members i q : ℕ) (shape : Shape) (h : List Event) → Always (ShareRule deal members) h → shape_at i h ≡ Some shape →
     takes_in (deal.queue_of shape) i q h ≡ take (taken_in (deal.queue_of shape) i q h) (deal.queue shape q)
-front deal members i q shape [] all at = absurd (cc)
-front deal members i q shape (Enter share member other ∷ earlier) all at =
+taken_front_of_queue deal members i q shape [] all at = absurd (cc)
+taken_front_of_queue deal members i q shape (Enter share member other ∷ earlier) all at =
     elim (tells (share == i) (Some other) (shape_at i earlier) (Some shape) at) [
       | inl e ↦
           let same : other ≡ shape = let t = e.1 in cc in
           elim (earlier_shape (shape_at i earlier) shape (rw (is_equal share i e.0, same) at all.0.same)) [
             | inl none ↦ let empty = (none_taken deal members i earlier all.1 none).0 (deal.queue_of shape) q in rw (empty.0, empty.1) refl
-            | inr some ↦ front deal members i q shape earlier all.1 some
+            | inr some ↦ taken_front_of_queue deal members i q shape earlier all.1 some
           ]
-      | inr e ↦ front deal members i q shape earlier all.1 e.1
+      | inr e ↦ taken_front_of_queue deal members i q shape earlier all.1 e.1
     ]
-front deal members i q shape (Take share member low high ∷ earlier) all at =
+taken_front_of_queue deal members i q shape (Take share member low high ∷ earlier) all at =
     elim (cases_Bool (share == i && deal.queue_of shape member == q)) [
       | inl e ↦
           let is = is_equal share i (and_left (share == i) (deal.queue_of shape member == q) e) in
           let from = is_equal (deal.queue_of shape member) q (and_right (share == i) (deal.queue_of shape member == q) e) in
-          let next = next_is deal members i member low high shape earlier all.1 at (rw is at all.0) in
-          rw (e, front deal members i q shape earlier all.1 at, take_next (deal.queue shape q) (taken_in (deal.queue_of shape) i q earlier) (low, high) (rw from at next)) refl
-      | inr e ↦ rw e (front deal members i q shape earlier all.1 at)
+          let next = next_of_queue_is_taken deal members i member low high shape earlier all.1 at (rw is at all.0) in
+          rw (e, taken_front_of_queue deal members i q shape earlier all.1 at, take_next (deal.queue shape q) (taken_in (deal.queue_of shape) i q earlier) (low, high) (rw from at next)) refl
+      | inr e ↦ rw e (taken_front_of_queue deal members i q shape earlier all.1 at)
     ]
-front deal members i q shape (_ ∷ earlier) all at = front deal members i q shape earlier all.1 at
+taken_front_of_queue deal members i q shape (_ ∷ earlier) all at = taken_front_of_queue deal members i q shape earlier all.1 at
 
-one_more : (has : Bool) (k low high n : ℕ) (xs : List Piece) → has_iteration k low high ≡ has → n ≡ times k xs → (if has then n + 1 else n) ≡ times k (xs ++ (low, high) ∷ [])
-one_more true k low high n xs e before = rw (times-append k xs ((low, high) ∷ []), e, before) refl
-one_more false k low high n xs e before = rw (times-append k xs ((low, high) ∷ []), e, before) (omega arith)
+times_with_one_more : (has : Bool) (k low high n : ℕ) (xs : List Piece) → has_iteration k low high ≡ has → n ≡ times k xs → (if has then n + 1 else n) ≡ times k (xs ++ (low, high) ∷ [])
+times_with_one_more true k low high n xs e before = rw (times-append k xs ((low, high) ∷ []), e, before) refl
+times_with_one_more false k low high n xs e before = rw (times-append k xs ((low, high) ∷ []), e, before) (omega arith)
 
 -- how often an iteration was taken is told by the queue that has it
 by_queue : (deal : Deal) (members i k : ℕ) (shape : Shape) (d : IsDealt deal members shape) (h : List Event) → Always (ShareRule deal members) h → shape_at i h ≡ Some shape →
@@ -158,11 +158,11 @@ by_queue deal members i k shape d (Enter share member other ∷ earlier) all at 
 by_queue deal members i k shape d (Take share member low high ∷ earlier) all at =
     elim (cases_Bool (share == i)) [
       | inl e ↦
-          let next = next_is deal members i member low high shape earlier all.1 at (rw (is_equal share i e) at all.0) in
+          let next = next_of_queue_is_taken deal members i member low high shape earlier all.1 at (rw (is_equal share i e) at all.0) in
           elim (cases_Bool (deal.queue_of shape member == d.home k)) [
-            | inl own ↦ rw (e, own) (one_more (has_iteration k low high) k low high (times_taken i k earlier) (takes_in (deal.queue_of shape) i (d.home k) earlier) refl (by_queue deal members i k shape d earlier all.1 at))
+            | inl own ↦ rw (e, own) (times_with_one_more (has_iteration k low high) k low high (times_taken i k earlier) (takes_in (deal.queue_of shape) i (d.home k) earlier) refl (by_queue deal members i k shape d earlier all.1 at))
             | inr other ↦
-                let away = d.elsewhere k member (inside deal members member share all.0.shape earlier all.1 all.0.inside).1 (differs (deal.queue_of shape member) (d.home k) other) in
+                let away = d.elsewhere k member (member_is_inside deal members member share all.0.shape earlier all.1 all.0.inside).1 (differs (deal.queue_of shape member) (d.home k) other) in
                 rw (e, other, none_has k (taken_in (deal.queue_of shape) i (deal.queue_of shape member) earlier) low high (deal.queue shape (deal.queue_of shape member)) next away) (by_queue deal members i k shape d earlier all.1 at)
           ]
       | inr e ↦ rw e (by_queue deal members i k shape d earlier all.1 at)
@@ -176,12 +176,12 @@ taken_once deal members i k h all = by_shape (shape_at i h) refl
     by_shape : (own : Option Shape) → shape_at i h ≡ own → times_taken i k h ≤ 1
     by_shape None at = let none = (none_taken deal members i h all at).1 k in omega arith
     by_shape (Some shape) at =
-        let d = dealt deal members i shape h all at in
+        let d = share_is_dealt deal members i shape h all at in
         let q = d.home k in
         let told = by_queue deal members i k shape d h all at in
         let part = times-take k (taken_in (deal.queue_of shape) i q h) (deal.queue shape q) in
         let most = d.most k in
-        rw (told, front deal members i q shape h all at) (omega arith)
+        rw (told, taken_front_of_queue deal members i q shape h all at) (omega arith)
 
 -- Members that left
 
@@ -203,7 +203,7 @@ ended_none deal members m i (End share member ∷ earlier) all ended =
           let is = is_equal share i (and_left (share == i) (member == m) e) in
           let who = is_equal member m (and_right (share == i) (member == m) e) in
           let end : HasNone deal i m earlier = rw (is, who) at all.0 in
-          (end.shape, (inside deal members m i end.shape earlier all.1 end.inside).0, end.none)
+          (end.shape, (member_is_inside deal members m i end.shape earlier all.1 end.inside).0, end.none)
       | inr e ↦ ended_none deal members m i earlier all.1 (rw e at ended)
     ]
 ended_none deal members m i (event ∷ earlier) all ended =
@@ -214,7 +214,7 @@ ended_none deal members m i (event ∷ earlier) all ended =
 pub taken_whole : (deal : Deal) (members i k : ℕ) (shape : Shape) (h : List Event) → Always (ShareRule deal members) h → shape_at i h ≡ Some shape →
     ((m : ℕ) → m < members → has_ended i m h ≡ true) → k < shape.trips → times_taken i k h ≡ 1
 taken_whole deal members i k shape h all at over lt =
-    let d = dealt deal members i shape h all at in
+    let d = share_is_dealt deal members i shape h all at in
     let who = d.taker k lt in
     let left = ended_none deal members who.0 i h all (over who.0 who.1) in
     let same : left.0 ≡ shape = let one = left.1 in cc in
@@ -223,7 +223,7 @@ taken_whole deal members i k shape h all at over lt =
     let past = still_past (deal.queue shape (d.home k)) (taken_in (deal.queue_of shape) i (d.home k) h) home in
     rw (
       by_queue deal members i k shape d h all at,
-      front deal members i (d.home k) shape h all at,
+      taken_front_of_queue deal members i (d.home k) shape h all at,
       take_past (deal.queue shape (d.home k)) (taken_in (deal.queue_of shape) i (d.home k) h) past,
     ) (d.one k lt)
 
@@ -252,7 +252,7 @@ ended_below deal members m i (End share member ∷ earlier) all ended =
       | inl e ↦ elim (cases_Bool (share == i)) [
         | inl same ↦
             let at : open_share m earlier ≡ Some (share, all.0.shape) = rw (← is_equal member m e) all.0.inside in
-            let found = inside deal members m share all.0.shape earlier all.1 at in
+            let found = member_is_inside deal members m share all.0.shape earlier all.1 at in
             let number = found.2 in let is = is_equal share i same in
             rw e (omega arith, λ j other within. absurd (cc))
         | inr other ↦
@@ -343,17 +343,17 @@ room_over members share old h e room =
 abbrev pub Entry : ℕ → ℕ → ℕ → Shape → List Event → Type 0
 Entry members share m shape h = (m < members) × (shape_at share h ≡ Some shape)
 
-pub entry : (deal : Deal) (members share m : ℕ) (shape : Shape) (h : List Event) → Always (ShareRule deal members) h → Happened (Enter share m shape) h → Entry members share m shape h
-entry deal members share m shape [] all stands = absurd stands
-entry deal members share m shape (Enter i member other ∷ earlier) all (inl e) =
+pub enter_has_its_shape : (deal : Deal) (members share m : ℕ) (shape : Shape) (h : List Event) → Always (ShareRule deal members) h → Happened (Enter share m shape) h → Entry members share m shape h
+enter_has_its_shape deal members share m shape [] all stands = absurd stands
+enter_has_its_shape deal members share m shape (Enter i member other ∷ earlier) all (inl e) =
     let number : i ≡ share = cc in
     let who : member ≡ m = cc in
     let what : other ≡ shape = cc in
     let in_team : m < members = rw (← who) all.0.member in
     rw (number, same_number share) (in_team, ap Some what)
-entry deal members share m shape (_ ∷ earlier) all (inl e) = absurd (cc)
-entry deal members share m shape (event ∷ earlier) all (inr stands) =
-    let before = entry deal members share m shape earlier all.1 stands in
+enter_has_its_shape deal members share m shape (_ ∷ earlier) all (inl e) = absurd (cc)
+enter_has_its_shape deal members share m shape (event ∷ earlier) all (inr stands) =
+    let before = enter_has_its_shape deal members share m shape earlier all.1 stands in
     (before.0, shape_stays deal members share shape event earlier all.0 before.1)
 
 takes_next : (deal : Deal) (members : ℕ) (event : Event) (earlier : List Event) → ShareRule deal members event earlier → Always (ShareRule deal members) earlier → TakesNext deal event earlier
@@ -406,16 +406,16 @@ left_before deal members m h all outside i other stands =
 
 takes_within : (deal : Deal) (members : ℕ) (event : Event) (earlier : List Event) → ShareRule deal members event earlier → Always (ShareRule deal members) earlier → TakesWithin event earlier
 takes_within deal members (Take share m low high) earlier rule all =
-    let known = inside deal members m share rule.shape earlier all rule.inside in
-    let fair = dealt deal members share rule.shape earlier all known.0 in
+    let known = member_is_inside deal members m share rule.shape earlier all rule.inside in
+    let fair = share_is_dealt deal members share rule.shape earlier all known.0 in
     let number = taken_in (deal.queue_of rule.shape) share (deal.queue_of rule.shape m) earlier in
     (rule.shape, inside_stands m share rule.shape earlier rule.inside, fair.some m number (low, high) known.1 rule.next, fair.within m number (low, high) known.1 rule.next)
 takes_within deal members _ earlier rule all = tt
 
 leaves_nothing : (deal : Deal) (members : ℕ) (event : Event) (earlier : List Event) → ShareRule deal members event earlier → Always (ShareRule deal members) earlier → LeavesNothing deal event earlier
 leaves_nothing deal members (End share m) earlier rule all = λ shape stands.
-    let one : shape_at share earlier ≡ Some rule.shape = (inside deal members m share rule.shape earlier all rule.inside).0 in
-    let other : shape_at share earlier ≡ Some shape = (entry deal members share m shape earlier all stands).1 in
+    let one : shape_at share earlier ≡ Some rule.shape = (member_is_inside deal members m share rule.shape earlier all rule.inside).0 in
+    let other : shape_at share earlier ≡ Some shape = (enter_has_its_shape deal members share m shape earlier all stands).1 in
     let same : rule.shape ≡ shape = let both = sym one ∙ other in cc in
     rw (← same) rule.none
 leaves_nothing deal members _ earlier rule all = tt
@@ -442,19 +442,19 @@ pub shares_keep : (deal : Deal) (members : ℕ) (h : List Event) → Always (Sha
 shares_keep deal members h all = record {
   taken_once = record {
     once = λ share k. taken_once deal members share k h all;
-    pieces = always (ShareRule deal members) (TakesNext deal) (takes_next deal members) h all;
-    within = always (ShareRule deal members) TakesWithin (takes_within deal members) h all;
-    left = always (ShareRule deal members) (LeavesNothing deal) (leaves_nothing deal members) h all;
-    order = λ share m q shape stands. front deal members share q shape h all (entry deal members share m shape h all stands).1;
+    pieces = always_so (ShareRule deal members) (TakesNext deal) (takes_next deal members) h all;
+    within = always_so (ShareRule deal members) TakesWithin (takes_within deal members) h all;
+    left = always_so (ShareRule deal members) (LeavesNothing deal) (leaves_nothing deal members) h all;
+    order = λ share m q shape stands. taken_front_of_queue deal members share q shape h all (enter_has_its_shape deal members share m shape h all stands).1;
   };
   whole = λ share m shape stands over k lt.
-      taken_whole deal members share k shape h all (entry deal members share m shape h all stands).1 (λ x below. stands_ended share x h (over x below)) lt;
+      taken_whole deal members share k shape h all (enter_has_its_shape deal members share m shape h all stands).1 (λ x below. stands_ended share x h (over x below)) lt;
   same_shares = record {
-    one_by_one = always (ShareRule deal members) (EntersOneByOne members) (enters_one_by_one deal members) h all;
-    ends = always (ShareRule deal members) EndsInside (ends_inside deal members) h all;
+    one_by_one = always_so (ShareRule deal members) (EntersOneByOne members) (enters_one_by_one deal members) h all;
+    ends = always_so (ShareRule deal members) EndsInside (ends_inside deal members) h all;
     shapes = λ share m n one other first second.
-        let a = (entry deal members share m one h all first).1 in
-        let b = (entry deal members share n other h all second).1 in cc;
-    room = always (ShareRule deal members) (EntersWithRoom members) (enters_with_room deal members) h all;
+        let a = (enter_has_its_shape deal members share m one h all first).1 in
+        let b = (enter_has_its_shape deal members share n other h all second).1 in cc;
+    room = always_so (ShareRule deal members) (EntersWithRoom members) (enters_with_room deal members) h all;
   };
 }

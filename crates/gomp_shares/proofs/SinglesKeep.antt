@@ -15,9 +15,9 @@ use Rattle.gomp_types.specs.Laws.{Always}
 use Rattle.gomp_shares.specs.Rules.{ShareRule}
 use Rattle.gomp_types.proofs.Booleans.{is_equal, same_number, share_is}
 
-pub one_more : (test : Bool) (n : ℕ) → 0 < n → 0 < (if test then n + 1 else n)
-one_more true n lt = omega arith
-one_more false n lt = lt
+pub some_with_one_more : (test : Bool) (n : ℕ) → 0 < n → 0 < (if test then n + 1 else n)
+some_with_one_more true n lt = omega arith
+some_with_one_more false n lt = lt
 
 -- a member with a piece of its share took one from its queue
 pub piece_taken : (deal : Deal) (members m i : ℕ) (shape : Shape) (h : List Event) → Always (ShareRule deal members) h → open_share m h ≡ Some (i, shape) → is_some (last_piece m h) ≡ true →
@@ -35,7 +35,7 @@ piece_taken deal members m i shape (Take share member low high ∷ earlier) all 
           let there : open_share m earlier ≡ Some (share, all.0.shape) = rw (← who) all.0.inside in
           let number : share ≡ i = (share_is share i all.0.shape shape (sym there ∙ at)).0 in
           rw (who, number, same_number i, same_number (deal.queue_of shape m)) (omega arith)
-      | inr e ↦ one_more (share == i && deal.queue_of shape member == deal.queue_of shape m) _ (piece_taken deal members m i shape earlier all.1 at (rw e at piece))
+      | inr e ↦ some_with_one_more (share == i && deal.queue_of shape member == deal.queue_of shape m) _ (piece_taken deal members m i shape earlier all.1 at (rw e at piece))
     ]
 piece_taken deal members m i shape (Drained share member ∷ earlier) all at piece =
     elim (cases_Bool (member == m)) [

@@ -12,7 +12,7 @@ use Rattle.gomp_types.specs.Deals.{Deal}
 use Rattle.gomp_types.specs.Laws.{Always}
 use Rattle.gomp_shares.specs.Rules.{ShareRule}
 use Rattle.gomp_types.proofs.Booleans.{tells, is_equal, or_tells, or_right, not_both, every_tells, every_by}
-use Rattle.gomp_shares.proofs.SharesKeep.{inside, ended_none, ended_below, not_ended}
+use Rattle.gomp_shares.proofs.SharesKeep.{member_is_inside, ended_none, ended_below, not_ended}
 
 -- a member that has not left the share keeps it open
 stays_open : (members i m : ℕ) (h : List Event) → m < members → has_ended i m h ≡ false → is_over members i h ≡ false
@@ -25,7 +25,7 @@ stays_open members i m h lt stays =
 pub inside_is_open : (deal : Deal) (members m i : ℕ) (shape : Shape) (h : List Event) → Always (ShareRule deal members) h → open_share m h ≡ Some (i, shape) →
     (shape_at i h ≡ Some shape) × (is_over members i h ≡ false)
 inside_is_open deal members m i shape h all at =
-    let known = inside deal members m i shape h all at in
+    let known = member_is_inside deal members m i shape h all at in
     (known.0, stays_open members i m h known.1 (not_ended deal members m i shape h all at))
 
 pub next_is_open : (deal : Deal) (members m : ℕ) (h : List Event) → Always (ShareRule deal members) h → m < members → is_over members (entered m h) h ≡ false

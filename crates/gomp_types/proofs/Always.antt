@@ -4,6 +4,6 @@ use Rattle.gomp_types.specs.declared.event.Event.{Event}
 use Rattle.gomp_types.specs.Laws.{Always}
 
 -- a law of each event follows from one that gives it of each
-pub always : (P Q : Event → List Event → Type 0) → ((event : Event) (earlier : List Event) → P event earlier → Always P earlier → Q event earlier) → (h : List Event) → Always P h → Always Q h
-always P Q each [] all = tt
-always P Q each (event ∷ earlier) all = (each event earlier all.0 all.1, always P Q each earlier all.1)
+pub always_so : (P Q : Event → List Event → Type 0) → ((event : Event) (earlier : List Event) → P event earlier → Always P earlier → Q event earlier) → (h : List Event) → Always P h → Always Q h
+always_so P Q each [] all = tt
+always_so P Q each (event ∷ earlier) all = (each event earlier all.0 all.1, always_so P Q each earlier all.1)

@@ -9,7 +9,7 @@ use Rattle.gomp_types.specs.Events.{arrival, tag_at}
 use Rattle.gomp_types.specs.Laws.{Always, Happened}
 use Rattle.gomp_types.specs.Arrivals.{ArrivalRule, BarriersOneByOne, SameArrivals, PassesAfterAll, ArrivalLaws}
 use Rattle.gomp_types.proofs.Booleans.{tells, is_equal, same_number, and_left, and_right, some_of, every_tells}
-use Rattle.gomp_types.proofs.Always.{always}
+use Rattle.gomp_types.proofs.Always.{always_so}
 
 tag_stays : (members g : ℕ) (tag : Tag) (event : Event) (earlier : List Event) → ArrivalRule members event earlier → tag_at g earlier ≡ Some tag → tag_at g (event ∷ earlier) ≡ Some tag
 tag_stays members g tag (Arrive barrier member other) earlier rule at =
@@ -35,7 +35,7 @@ barriers_one_by_one members _ earlier rule all = tt
 
 pub same_arrivals : (members : ℕ) (h : List Event) → Always (ArrivalRule members) h → SameArrivals h
 same_arrivals members h all = record {
-  one_by_one = always (ArrivalRule members) BarriersOneByOne (barriers_one_by_one members) h all;
+  one_by_one = always_so (ArrivalRule members) BarriersOneByOne (barriers_one_by_one members) h all;
   tags = λ barrier m n one other first second.
       let a = tag_stands members barrier m one h all first in
       let b = tag_stands members barrier n other h all second in cc;
@@ -60,5 +60,5 @@ passes_after_all members _ earlier rule all = tt
 pub arrivals_keep : (members : ℕ) (h : List Event) → Always (ArrivalRule members) h → ArrivalLaws members h
 arrivals_keep members h all = record {
   same_arrivals = same_arrivals members h all;
-  passes = always (ArrivalRule members) (PassesAfterAll members) (passes_after_all members) h all;
+  passes = always_so (ArrivalRule members) (PassesAfterAll members) (passes_after_all members) h all;
 }

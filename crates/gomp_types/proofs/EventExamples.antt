@@ -139,8 +139,8 @@ pub open_part_of_a_loop :
 open_part_of_a_loop = (refl, refl, refl)
 
 -- the pieces of a loop of six iterations
-abbrev three : List Piece
-three = (0, 2) ∷ (2, 3) ∷ (3, 6) ∷ []
+abbrev three_pieces : List Piece
+three_pieces = (0, 2) ∷ (2, 3) ∷ (3, 6) ∷ []
 
 -- two pieces are one where both ends are
 pub pieces_that_are_one :
@@ -150,8 +150,8 @@ pieces_that_are_one = (refl, refl, refl, refl, refl, refl)
 
 -- the number of the first piece of a list, the second and the last; all stand before none, and before a piece that is not in the list
 pub numbers_of_pieces :
-    (number_of_piece three (Some (0, 2)) ≡ 0) × (number_of_piece three (Some (2, 3)) ≡ 1) × (number_of_piece three (Some (3, 6)) ≡ 2)
-    × (number_of_piece three None ≡ 3) × (number_of_piece three (Some (2, 6)) ≡ 3) × (number_of_piece three (Some (1, 3)) ≡ 3) × (number_of_piece [] (Some (0, 2)) ≡ 0)
+    (number_of_piece three_pieces (Some (0, 2)) ≡ 0) × (number_of_piece three_pieces (Some (2, 3)) ≡ 1) × (number_of_piece three_pieces (Some (3, 6)) ≡ 2)
+    × (number_of_piece three_pieces None ≡ 3) × (number_of_piece three_pieces (Some (2, 6)) ≡ 3) × (number_of_piece three_pieces (Some (1, 3)) ≡ 3) × (number_of_piece [] (Some (0, 2)) ≡ 0)
 numbers_of_pieces = (refl, refl, refl, refl, refl, refl, refl)
 
 -- and that of a member's last piece, whatever was handed on, and whatever another member took
@@ -203,24 +203,24 @@ words_of_a_member = (refl, refl, refl, refl, refl, refl)
 -- Barriers
 
 -- two members arrive at one barrier, and one of them passes and arrives at the next
-abbrev arrivals : List Event
-arrivals = Arrive 0 0 (at Barrier 0) ∷ Arrive 0 1 (at Barrier 0) ∷ Pass 0 0 ∷ Arrive 1 0 (at ShareEnd 1) ∷ []
+abbrev some_arrivals : List Event
+some_arrivals = Arrive 0 0 (at Barrier 0) ∷ Arrive 0 1 (at Barrier 0) ∷ Pass 0 0 ∷ Arrive 1 0 (at ShareEnd 1) ∷ []
 
 -- how many barriers each has passed
-pub passes_are_counted : (passed 0 (after arrivals) ≡ 1) × (passed 1 (after arrivals) ≡ 0)
+pub passes_are_counted : (passed 0 (after some_arrivals) ≡ 1) × (passed 1 (after some_arrivals) ≡ 0)
 passes_are_counted = (refl, refl)
 
 -- with which tag each has arrived
 pub tags_of_members :
-    (arrival 0 0 (after arrivals) ≡ Some (at Barrier 0)) × (arrival 1 0 (after arrivals) ≡ Some (at ShareEnd 1)) × (arrival 1 1 (after arrivals) ≡ None) × (arrival 0 2 (after arrivals) ≡ None)
+    (arrival 0 0 (after some_arrivals) ≡ Some (at Barrier 0)) × (arrival 1 0 (after some_arrivals) ≡ Some (at ShareEnd 1)) × (arrival 1 1 (after some_arrivals) ≡ None) × (arrival 0 2 (after some_arrivals) ≡ None)
 tags_of_members = (refl, refl, refl, refl)
 
 -- with which tag any has
-pub tags_of_barriers : (tag_at 0 (after arrivals) ≡ Some (at Barrier 0)) × (tag_at 1 (after arrivals) ≡ Some (at ShareEnd 1)) × (tag_at 2 (after arrivals) ≡ None)
+pub tags_of_barriers : (tag_at 0 (after some_arrivals) ≡ Some (at Barrier 0)) × (tag_at 1 (after some_arrivals) ≡ Some (at ShareEnd 1)) × (tag_at 2 (after some_arrivals) ≡ None)
 tags_of_barriers = (refl, refl, refl)
 
 -- where all have
-pub barriers_that_are_met : (barrier_met 2 0 (after arrivals) ≡ true) × (barrier_met 3 0 (after arrivals) ≡ false) × (barrier_met 2 1 (after arrivals) ≡ false)
+pub barriers_that_are_met : (barrier_met 2 0 (after some_arrivals) ≡ true) × (barrier_met 3 0 (after some_arrivals) ≡ false) × (barrier_met 2 1 (after some_arrivals) ≡ false)
 barriers_that_are_met = (refl, refl, refl)
 
 -- a member leaves the region where it passes its end, and not where another does, or at another barrier

@@ -21,8 +21,8 @@ pub lesser_of_refusals :
 lesser_of_refusals = refl
 
 -- the other where there is no first
-pub lesser_of_none : map (λ other. lesser None other) (None ∷ Some NotDrained ∷ []) ≡ None ∷ Some NotDrained ∷ []
-lesser_of_none = refl
+pub lesser_with_none : map (λ other. lesser None other) (None ∷ Some NotDrained ∷ []) ≡ None ∷ Some NotDrained ∷ []
+lesser_with_none = refl
 
 -- of two with one number the first
 pub lesser_of_equals :
@@ -39,8 +39,8 @@ pub least_behind : least ((true, NotDrained) ∷ (true, InsideShare) ∷ []) ≡
 least_behind = refl
 
 -- and so it does before it
-pub least_before : least ((true, InsideShare) ∷ (true, NotDrained) ∷ []) ≡ Some InsideShare
-least_before = refl
+pub least_is_the_first_test : least ((true, InsideShare) ∷ (true, NotDrained) ∷ []) ≡ Some InsideShare
+least_is_the_first_test = refl
 
 -- and between two of higher numbers
 pub least_between : least ((true, Mismatch) ∷ (true, InsideShare) ∷ (true, TooManyShares) ∷ []) ≡ Some InsideShare

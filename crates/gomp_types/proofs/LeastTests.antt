@@ -58,8 +58,8 @@ lesser_none : (one : Option Refusal) → lesser one None ≡ one
 lesser_none None = refl
 lesser_none (Some one) = refl
 
-assoc : (a b c : Refusal) → lesser (Some a) (lesser (Some b) (Some c)) ≡ lesser (lesser (Some a) (Some b)) (Some c)
-assoc a b c =
+lesser_is_associative : (a b c : Refusal) → lesser (Some a) (lesser (Some b) (Some c)) ≡ lesser (lesser (Some a) (Some b)) (Some c)
+lesser_is_associative a b c =
     elim (cases_Bool (nat_le (number_of a) (number_of b))) [
       | inl ab ↦ elim (cases_Bool (nat_le (number_of b) (number_of c))) [
         | inl bc ↦ simp (ab, bc, le_trans (number_of a) (number_of b) (number_of c) ab bc) refl
@@ -75,7 +75,7 @@ pub lesser_assoc : (a b c : Option Refusal) → lesser a (lesser b c) ≡ lesser
 lesser_assoc None b c = refl
 lesser_assoc (Some a) None c = refl
 lesser_assoc (Some a) (Some b) None = sym (lesser_none (lesser (Some a) (Some b)))
-lesser_assoc (Some a) (Some b) (Some c) = assoc a b c
+lesser_assoc (Some a) (Some b) (Some c) = lesser_is_associative a b c
 
 pub least_append : (tests more : List Test) → least (tests ++ more) ≡ lesser (least tests) (least more)
 least_append [] more = refl

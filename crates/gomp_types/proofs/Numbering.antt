@@ -16,15 +16,15 @@ pub record Lies (low number : ℕ) (piece : Piece) (high : ℕ) : Type 0 where
   pub some : piece.0 < piece.1
   pub within : piece.1 ≤ high
 
-pub lies : (low high : ℕ) (pieces : List Piece) (number : ℕ) (piece : Piece) → Tiles low pieces high → slice_get pieces number ≡ Some piece → Lies low number piece high
-lies low high [] number piece tiles at = absurd (cc)
-lies low high (first ∷ pieces) zero piece tiles at =
+pub piece_lies_within : (low high : ℕ) (pieces : List Piece) (number : ℕ) (piece : Piece) → Tiles low pieces high → slice_get pieces number ≡ Some piece → Lies low number piece high
+piece_lies_within low high [] number piece tiles at = absurd (cc)
+piece_lies_within low high (first ∷ pieces) zero piece tiles at =
     let same : first ≡ piece = let t = at in cc in
     let begin = tiles.0 in let some = tiles.1 in
     let rest = tiles_rise first.1 high pieces tiles.2 in
     rw (← same) (record { from = omega arith; some = omega arith; within = rest })
-lies low high (first ∷ pieces) (suc n) piece tiles at =
-    let rest = lies first.1 high pieces n piece tiles.2 at in
+piece_lies_within low high (first ∷ pieces) (suc n) piece tiles at =
+    let rest = piece_lies_within first.1 high pieces n piece tiles.2 at in
     let from = rest.from in let within = rest.within in
     let begin = tiles.0 in let some = tiles.1 in
     record { from = omega arith; some = rest.some; within = rest.within }
@@ -38,8 +38,8 @@ same_is (Some one) (Some own) e =
     let high = is_equal one.1 own.1 (and_right (one.0 == own.0) (one.1 == own.1) e) in
     (own.0, own.1, rw (low, high) refl, refl)
 
-pub same_itself : (piece : Piece) → same_piece (Some piece) (Some piece) ≡ true
-same_itself piece = rw (same_number piece.0, same_number piece.1) refl
+pub piece_same_as_itself : (piece : Piece) → same_piece (Some piece) (Some piece) ≡ true
+piece_same_as_itself piece = rw (same_number piece.0, same_number piece.1) refl
 
 -- a piece that begins later is another
 begins_later : (one other : Piece) → one.0 < other.0 → same_piece (Some one) (Some other) ≡ false
@@ -54,9 +54,9 @@ pub number_at : (low high : ℕ) (pieces : List Piece) (n : ℕ) (piece : Piece)
 number_at low high [] n piece tiles at = absurd (cc)
 number_at low high (first ∷ pieces) zero piece tiles at =
     let same : first ≡ piece = let t = at in cc in
-    rw (same, same_itself piece) refl
+    rw (same, piece_same_as_itself piece) refl
 number_at low high (first ∷ pieces) (suc n) piece tiles at =
-    let later = (lies first.1 high pieces n piece tiles.2 at).from in
+    let later = (piece_lies_within first.1 high pieces n piece tiles.2 at).from in
     let begin = tiles.0 in let some = tiles.1 in
     rw (begins_later first piece (omega arith), number_at first.1 high pieces n piece tiles.2 at) (omega arith)
 

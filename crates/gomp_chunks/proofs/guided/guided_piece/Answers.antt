@@ -1,7 +1,7 @@
 use Rattle.std.proofs.Common.{◌≡◌, sym, arith}
 use Rattle.std.proofs.lemmas.Option.{slice_get_within}
 use Rattle.gomp_types.specs.Pieces.{guided_pieces}
-use Rattle.gomp_chunks.proofs.GuidedSpots.{few_pieces, none_there, piece_there}
+use Rattle.gomp_chunks.proofs.GuidedSpots.{few_pieces, no_piece_past_the_last, piece_there}
 use Rattle.gomp_chunks.proofs.guided.guided_piece.Goals as goal
 
 pub returns-then-spot-shape-clause-piece : goal.returns-then-spot-shape-clause-piece
@@ -24,4 +24,4 @@ pub returns-else-spot-shape-clause-piece : goal.returns-else-spot-shape-clause-p
 returns-else-spot-shape-clause-piece c =
     let most = c.requires.spot.within in
     let past = c.if-spot-shape.false in
-    sym (none_there c.args.members c.args.shape.now c.args.spot c.args.j c.requires.spot (omega arith) c.requires.ahead)
+    sym (no_piece_past_the_last c.args.members c.args.shape.now c.args.spot c.args.j c.requires.spot (omega arith) c.requires.ahead)

@@ -5,7 +5,7 @@ use Rattle.gomp_types.specs.Pieces.{shape_of}
 use Rattle.gomp_shares.proofs.PartsKeep.{loop_is_loop}
 use Rattle.gomp_shares.specs.declared.calls.ShareCall.TheVariants.{Open, Claim, Leave, Begin, HandOn}
 use Rattle.gomp_shares.specs.Runs.{may_make}
-use Rattle.gomp_shares.proofs.CallRuns.{made, open_fits, opens_loop, can_open, can_claim, can_leave, can_begin, can_hand}
+use Rattle.gomp_shares.proofs.CallRuns.{call_is_made, open_fits, opens_loop, can_open, can_claim, can_leave, can_begin, can_hand}
 use Rattle.gomp_types.proofs.TestRows.{outcome_value}
 use Rattle.gomp_shares.proofs.calls.make_call.Goals as goal
 
@@ -18,13 +18,13 @@ pub returns-in-Claim-clause-answer : goal.returns-in-Claim-clause-answer
 returns-in-Claim-clause-answer g c = λ h st.
     let lt : c.args.step.now.member < g.S.Shares.members c.args.shares.now = rw c.requires.team (omega arith) in
     let e = c.look-seen.ensures.value ∙ g.met.S.Shares.agrees c.args.shares.now h c.args.step.now.member st lt in
-    (made _ c.args.step.now c.look-seen.result h e (omega arith) (sym c.may_make.ensures ∙ c.if-not-may_make.false), rw c.in-Claim.is (rw c.requires.team at (c.claim.ensures.answer h st)))
+    (call_is_made _ c.args.step.now c.look-seen.result h e (omega arith) (sym c.may_make.ensures ∙ c.if-not-may_make.false), rw c.in-Claim.is (rw c.requires.team at (c.claim.ensures.answer h st)))
 
 pub returns-in-Leave-clause-answer : goal.returns-in-Leave-clause-answer
 returns-in-Leave-clause-answer g c = λ h st.
     let lt : c.args.step.now.member < g.S.Shares.members c.args.shares.now = rw c.requires.team (omega arith) in
     let e = c.look-seen.ensures.value ∙ g.met.S.Shares.agrees c.args.shares.now h c.args.step.now.member st lt in
-    (made _ c.args.step.now c.look-seen.result h e (omega arith) (sym c.may_make.ensures ∙ c.if-not-may_make.false), rw c.in-Leave.is tt)
+    (call_is_made _ c.args.step.now c.look-seen.result h e (omega arith) (sym c.may_make.ensures ∙ c.if-not-may_make.false), rw c.in-Leave.is tt)
 
 pub try_open-requires : goal.try_open-requires
 try_open-requires g c =
@@ -37,7 +37,7 @@ returns-in-Ok-clause-answer g c = λ h st.
     let lt : c.args.step.now.member < g.S.Shares.members c.args.shares.now = rw c.requires.team (omega arith) in
     let e = c.look-seen.ensures.value ∙ g.met.S.Shares.agrees c.args.shares.now h c.args.step.now.member st lt in
     let shape : c.in-Ok.shape ≡ shape_of c.in-Open.desc = outcome_value (first_refusal (loop_tests c.in-Open.desc)) (shape_of c.in-Open.desc) c.in-Ok.shape (sym c.shape.ensures.shape ∙ c.in-Ok.is) in
-    (made _ c.args.step.now c.look-seen.result h e (omega arith) (sym c.may_make.ensures ∙ c.if-not-may_make.false), rw (c.in-Open.is, ← shape) (rw c.requires.team at (c.try_open.ensures.answer h st)))
+    (call_is_made _ c.args.step.now c.look-seen.result h e (omega arith) (sym c.may_make.ensures ∙ c.if-not-may_make.false), rw (c.in-Open.is, ← shape) (rw c.requires.team at (c.try_open.ensures.answer h st)))
 
 pub claim-requires : goal.claim-requires
 claim-requires g c =
@@ -68,16 +68,16 @@ pub returns-in-Begin-clause-answer : goal.returns-in-Begin-clause-answer
 returns-in-Begin-clause-answer g c = λ h st.
     let lt : c.args.step.now.member < g.S.Shares.members c.args.shares.now = rw c.requires.team (omega arith) in
     let e = c.look-seen.ensures.value ∙ g.met.S.Shares.agrees c.args.shares.now h c.args.step.now.member st lt in
-    (made _ c.args.step.now c.look-seen.result h e (omega arith) (sym c.may_make.ensures ∙ c.if-not-may_make.false), rw c.in-Begin.is (rw c.requires.team at (c.try_turn.ensures.answer h st)))
+    (call_is_made _ c.args.step.now c.look-seen.result h e (omega arith) (sym c.may_make.ensures ∙ c.if-not-may_make.false), rw c.in-Begin.is (rw c.requires.team at (c.try_turn.ensures.answer h st)))
 
 pub returns-in-HandOn-clause-answer : goal.returns-in-HandOn-clause-answer
 returns-in-HandOn-clause-answer g c = λ h st.
     let lt : c.args.step.now.member < g.S.Shares.members c.args.shares.now = rw c.requires.team (omega arith) in
     let e = c.look-seen.ensures.value ∙ g.met.S.Shares.agrees c.args.shares.now h c.args.step.now.member st lt in
-    (made _ c.args.step.now c.look-seen.result h e (omega arith) (sym c.may_make.ensures ∙ c.if-not-may_make.false), rw c.in-HandOn.is (rw c.requires.team at (c.hand_on.ensures.answer h st)))
+    (call_is_made _ c.args.step.now c.look-seen.result h e (omega arith) (sym c.may_make.ensures ∙ c.if-not-may_make.false), rw c.in-HandOn.is (rw c.requires.team at (c.hand_on.ensures.answer h st)))
 
 pub returns-in-EndPart-clause-answer : goal.returns-in-EndPart-clause-answer
 returns-in-EndPart-clause-answer g c = λ h st.
     let lt : c.args.step.now.member < g.S.Shares.members c.args.shares.now = rw c.requires.team (omega arith) in
     let e = c.look-seen.ensures.value ∙ g.met.S.Shares.agrees c.args.shares.now h c.args.step.now.member st lt in
-    (made _ c.args.step.now c.look-seen.result h e (omega arith) (sym c.may_make.ensures ∙ c.if-not-may_make.false), rw c.in-EndPart.is tt)
+    (call_is_made _ c.args.step.now c.look-seen.result h e (omega arith) (sym c.may_make.ensures ∙ c.if-not-may_make.false), rw c.in-EndPart.is tt)

@@ -5,12 +5,12 @@ use Rattle.std.specs.Prelude.{All, List}
 use Rattle.gomp_barrier.specs.declared.front.Seat.{Seat}
 use Rattle.gomp_barrier.specs.Seats.{is_ahead, passed_by, advanced, IsThere}
 use Rattle.gomp_barrier.specs.Stands.{BarriersView, members_of}
-use Rattle.gomp_barrier.proofs.BarrierSteps.{within, met_ahead, met_not, met_now, turn_keeps}
+use Rattle.gomp_barrier.proofs.BarrierSteps.{view_stands_too, met_ahead, met_not, met_now, turn_keeps}
 use Rattle.gomp_barrier.proofs.barriers.Barriers.turn.Goals as goal
 
 pub returns-then-is_ahead-clause-answer : goal.returns-then-is_ahead-clause-answer
 returns-then-is_ahead-clause-answer c = λ h st0.
-    let st = within _ _ h c.self.view_is st0 in
+    let st = view_stands_too _ _ h c.self.view_is st0 in
     let lt : c.args.member < length c.self.inside.seats.items = subst (λ (v : BarriersView). c.args.member < members_of v) (sym c.self.view_is) c.requires.member in
     let at = slice_get_read c.self.inside.seats.items _ c.args.member _ refl lt c.index.ensures in
     let no = met_ahead c.self.inside.seats.items c.self.inside.front c.args.member _ h st at (sym c.is_ahead.ensures ∙ c.if-is_ahead.true) in
@@ -18,7 +18,7 @@ returns-then-is_ahead-clause-answer c = λ h st0.
 
 pub returns-then-not-all_there-clause-answer : goal.returns-then-not-all_there-clause-answer
 returns-then-not-all_there-clause-answer c = λ h st0.
-    let st = within _ _ h c.self.view_is st0 in
+    let st = view_stands_too _ _ h c.self.view_is st0 in
     let lt : c.args.member < length c.self.inside.seats.items = subst (λ (v : BarriersView). c.args.member < members_of v) (sym c.self.view_is) c.requires.member in
     let at = slice_get_read c.self.inside.seats.items _ c.args.member _ refl lt c.index.ensures in
     let no = met_not c.self.inside.seats.items c.self.inside.front c.args.member _ h st at (sym c.is_ahead.ensures ∙ c.if-is_ahead.false) (λ all. let there = c.all_there.ensures.1 (subst (λ (xs : List Seat). All (IsThere c.self.inside.front) xs) (sym c.deref.ensures.value) all) in cc) in
@@ -26,7 +26,7 @@ returns-then-not-all_there-clause-answer c = λ h st0.
 
 pub returns-clause-answer : goal.returns-clause-answer
 returns-clause-answer c = λ h st0.
-    let st = within _ _ h c.self.view_is st0 in
+    let st = view_stands_too _ _ h c.self.view_is st0 in
     let lt : c.args.member < length c.self.inside.seats.items = subst (λ (v : BarriersView). c.args.member < members_of v) (sym c.self.view_is) c.requires.member in
     let at = slice_get_read c.self.inside.seats.items _ c.args.member _ refl lt c.index.ensures in
     let yes = met_now c.self.inside.seats.items c.self.inside.front c.args.member _ h st at (sym c.is_ahead.ensures ∙ c.if-is_ahead.false) (subst (λ (xs : List Seat). All (IsThere c.self.inside.front) xs) c.deref.ensures.value (c.all_there.ensures.0 cc)) in
@@ -34,7 +34,7 @@ returns-clause-answer c = λ h st0.
 
 pub returns-clause-stands : goal.returns-clause-stands
 returns-clause-stands c = λ h st0.
-    let st = within _ _ h c.self.view_is st0 in
+    let st = view_stands_too _ _ h c.self.view_is st0 in
     let lt : c.args.member < length c.self.inside.seats.items = subst (λ (v : BarriersView). c.args.member < members_of v) (sym c.self.view_is) c.requires.member in
     let at = slice_get_read c.self.inside.seats.items _ c.args.member _ refl lt c.index.ensures in
     let seat : c.passed_by.result ≡ _ = c.passed_by.ensures ∙ ap (passed_by c.index.result.now) c.ends_region.ensures in
@@ -44,4 +44,4 @@ returns-clause-stands c = λ h st0.
     (subst (λ (xs : List Seat). (All (λ (p : Seat). is_ahead c.self.inside.front p ≡ true) xs → ⊥) → c.settled-self-inside.result ≡ c.self.inside.front) now c.settled-self-inside.ensures.stays))
 
 pub invariant_of-self : goal.invariant_of-self
-invariant_of-self c = let (h, st) = c.self.invariant in (_, returns-clause-stands c h (within _ _ h (sym c.self.view_is) st))
+invariant_of-self c = let (h, st) = c.self.invariant in (_, returns-clause-stands c h (view_stands_too _ _ h (sym c.self.view_is) st))

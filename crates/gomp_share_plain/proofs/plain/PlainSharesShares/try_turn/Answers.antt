@@ -7,19 +7,19 @@ use Rattle.gomp_shares.specs.Calls.{CanBeginPart}
 use Rattle.gomp_shares.proofs.AnswerRules.{begins_inside, rest_tells}
 use Rattle.gomp_types.proofs.Laws.{pieces_tile_the_share}
 use Rattle.gomp_share_plain.proofs.Places.{place_is, own_place, not_empty}
-use Rattle.gomp_share_plain.proofs.Views.{told, known_by}
-use Rattle.gomp_share_plain.proofs.PartsKeep.{next_tells, number_below, begins}
+use Rattle.gomp_share_plain.proofs.Views.{known_of_a_place, known_by}
+use Rattle.gomp_share_plain.proofs.PartsKeep.{next_tells, number_below, part_start_stands}
 use Rattle.gomp_share_plain.proofs.plain.PlainSharesShares.try_turn.Goals as goal
 
 pub returns-in_default-clause-answer : goal.returns-in_default-clause-answer
 returns-in_default-clause-answer c = λ h st0.
-    let (can, st) = told _ _ c.args.member h (λ n seen. CanBeginPart n c.args.member c.args.iteration seen) c.self.view_is c.requires.place c.requires.place.member st0 in
+    let (can, st) = known_of_a_place _ _ c.args.member h (λ n seen. CanBeginPart n c.args.member c.args.iteration seen) c.self.view_is c.requires.place c.requires.place.member st0 in
     let at = slice_get_read c.self.inside.seats.items _ c.args.member c.index.result.now refl can.member c.index.ensures in
     absurd (not_empty _ _ _ h (own_place _ _ _ _ h c.args.member c.index.result.now st at (begins_inside _ c.args.member c.args.iteration h can)) (place_is _ _ _ c.share_at.ensures.there c.in_default.is))
 
 pub returns-then-not-is_next-clause-answer : goal.returns-then-not-is_next-clause-answer
 returns-then-not-is_next-clause-answer c = λ h st0.
-    let (can, st) = told _ _ c.args.member h (λ n seen. CanBeginPart n c.args.member c.args.iteration seen) c.self.view_is c.requires.place c.requires.place.member st0 in
+    let (can, st) = known_of_a_place _ _ c.args.member h (λ n seen. CanBeginPart n c.args.member c.args.iteration seen) c.self.view_is c.requires.place c.requires.place.member st0 in
     let at = slice_get_read c.self.inside.seats.items _ c.args.member c.index.result.now refl can.member c.index.ensures in
     let there = place_is _ _ _ c.share_at.ensures.there c.in-Some.is in
     let tells = next_tells _ _ _ _ h c.args.member c.index.result.now c.in-Some.share st at (begins_inside _ c.args.member c.args.iteration h can) there can.member pieces_tile_the_share in
@@ -27,7 +27,7 @@ returns-then-not-is_next-clause-answer c = λ h st0.
 
 pub returns-clause-answer : goal.returns-clause-answer
 returns-clause-answer c = λ h st0.
-    let (can, st) = told _ _ c.args.member h (λ n seen. CanBeginPart n c.args.member c.args.iteration seen) c.self.view_is c.requires.place c.requires.place.member st0 in
+    let (can, st) = known_of_a_place _ _ c.args.member h (λ n seen. CanBeginPart n c.args.member c.args.iteration seen) c.self.view_is c.requires.place c.requires.place.member st0 in
     let at = slice_get_read c.self.inside.seats.items _ c.args.member c.index.result.now refl can.member c.index.ensures in
     let there = place_is _ _ _ c.share_at.ensures.there c.in-Some.is in
     let tells = next_tells _ _ _ _ h c.args.member c.index.result.now c.in-Some.share st at (begins_inside _ c.args.member c.args.iteration h can) there can.member pieces_tile_the_share in
@@ -35,12 +35,12 @@ returns-clause-answer c = λ h st0.
 
 pub returns-clause-stands : goal.returns-clause-stands
 returns-clause-stands c = λ h st0.
-    let (can, st) = told _ _ c.args.member h (λ n seen. CanBeginPart n c.args.member c.args.iteration seen) c.self.view_is c.requires.place c.requires.place.member st0 in
+    let (can, st) = known_of_a_place _ _ c.args.member h (λ n seen. CanBeginPart n c.args.member c.args.iteration seen) c.self.view_is c.requires.place c.requires.place.member st0 in
     let at = slice_get_read c.self.inside.seats.items _ c.args.member c.index.result.now refl can.member c.index.ensures in
     let there = place_is _ _ _ c.share_at.ensures.there c.in-Some.is in
     let tells = next_tells _ _ _ _ h c.args.member c.index.result.now c.in-Some.share st at (begins_inside _ c.args.member c.args.iteration h can) there can.member pieces_tile_the_share in
     let next = tells ∙ sym c.is_next.ensures ∙ c.if-not-is_next.false in
-    rw (length-set c.self.inside.seats.items c.args.member _) (begins _ _ _ _ h c.args.member c.index.result.now c.args.iteration st at can next)
+    rw (length-set c.self.inside.seats.items c.args.member _) (part_start_stands _ _ _ _ h c.args.member c.index.result.now c.args.iteration st at can next)
 
 pub invariant_of-self : goal.invariant_of-self
 invariant_of-self c = let (h, st0) = known_by _ _ c.self.view_is c.self.invariant in (_, returns-clause-stands c h st0)
@@ -48,7 +48,7 @@ invariant_of-self c = let (h, st0) = known_by _ _ c.self.view_is c.self.invarian
 pub overflow_add-iteration : goal.overflow_add-iteration
 overflow_add-iteration c =
     let (h, st0) = known_by _ _ c.self.view_is c.self.invariant in
-    let (can, st) = told _ _ c.args.member h (λ n seen. CanBeginPart n c.args.member c.args.iteration seen) c.self.view_is c.requires.place c.requires.place.member st0 in
+    let (can, st) = known_of_a_place _ _ c.args.member h (λ n seen. CanBeginPart n c.args.member c.args.iteration seen) c.self.view_is c.requires.place c.requires.place.member st0 in
     let at = slice_get_read c.self.inside.seats.items _ c.args.member c.index.result.now refl can.member c.index.ensures in
     let there = place_is _ _ _ c.share_at.ensures.there c.in-Some.is in
     let piece = some_of c.index.result.now.piece (and_left (is_some c.index.result.now.piece) _ (sym c.is_next.ensures ∙ c.if-not-is_next.false)) in

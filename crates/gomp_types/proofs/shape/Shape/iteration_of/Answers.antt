@@ -4,7 +4,7 @@ use Rattle.std.specs.Int.{w64}
 use Rattle.std.specs.Prelude.{ℤ, FitsSigned}
 use mir.Val.{to_z, of_z}
 use Rattle.gomp_types.specs.Values.{iteration_at}
-use Rattle.gomp_types.proofs.IterationValues.{found_here, other_there, none_there}
+use Rattle.gomp_types.proofs.IterationValues.{found_here, other_there, no_iteration_past_the_last}
 use Rattle.gomp_types.proofs.shape.Shape.iteration_of.Goals as goal
 use Rattle.gomp_types.proofs.shape.Shape.iteration_of.Goals.{else-k-self-via-then-k-self+else-value_at-value, else-k-self-via-else-k-self}
 
@@ -23,5 +23,5 @@ returns c =
     let at : iteration_at c.args.self.now c.args.value ≡ c.abs_diff.result / c.unsigned_abs.result = search rules in
     elim c.else-k-self.branch [
       | else-k-self-via-then-k-self+else-value_at-value w ↦ other_there c.args.self.now c.args.value _ at (λ here. w.if-value_at-value.false (ap (of_z w64) (w.value_at.ensures ∙ here)))
-      | else-k-self-via-else-k-self w ↦ none_there c.args.self.now c.args.value _ at w.if-k-self.false
+      | else-k-self-via-else-k-self w ↦ no_iteration_past_the_last c.args.self.now c.args.value _ at w.if-k-self.false
     ]
