@@ -81,14 +81,14 @@ next_waits members m i shape h there ordered e =
     rw there waits
 
 -- no refusal is dealt out
-never_refused : (members m : ℕ) (share : Option (ℕ × Shape)) (h : List Event) (refusal : Refusal) → DealsNext members m share (Refused refusal) h → ⊥
-never_refused members m None h refusal given = given
-never_refused members m (Some share) h refusal given = given.1
+next_never_refuses : (members m : ℕ) (share : Option (ℕ × Shape)) (h : List Event) (refusal : Refusal) → DealsNext members m share (Refused refusal) h → ⊥
+next_never_refuses members m None h refusal given = given
+next_never_refuses members m (Some share) h refusal given = given.1
 
 -- so a next that the member's own tests let through is answered as its share deals
 pub next_admitted : (members m : ℕ) (reply : Reply) (h : List Event) → least (next_tests (seen_of m h)) ≡ None → DealsNext members m (open_share m h) reply h → AnswersLoopNext members m reply h
 next_admitted members m reply h none given =
-    answers_let (next_tests (seen_of m h)) (λ given. DealsNext members m (open_share m h) given h) reply none (never_refused members m (open_share m h) h) given
+    answers_let (next_tests (seen_of m h)) (λ given. DealsNext members m (open_share m h) given h) reply none (next_never_refuses members m (open_share m h) h) given
 
 -- and so is a start, where there is room
 pub begin_reply : (members m : ℕ) (shape : Shape) (answer : Option Piece) (h : List Event) → least (compared_share shape m h) ≡ None → has_room members (entered m h) h ≡ true →

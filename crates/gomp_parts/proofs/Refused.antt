@@ -79,13 +79,13 @@ stays_there false there = there
 
 -- The refusal of a call
 
-same_limits : (row : Row) (m : ℕ) (p : Past) (limits : Limits) → p.terms.limits ≡ limits → least (row.by_place limits (seen_of m p.events)) ≡ least (row.by_place p.terms.limits (seen_of m p.events))
-same_limits row m p limits is = ap (λ (l : Limits). least (row.by_place l (seen_of m p.events))) (sym is)
+place_by_same_limits : (row : Row) (m : ℕ) (p : Past) (limits : Limits) → p.terms.limits ≡ limits → least (row.by_place limits (seen_of m p.events)) ≡ least (row.by_place p.terms.limits (seen_of m p.events))
+place_by_same_limits row m p limits is = ap (λ (l : Limits). least (row.by_place l (seen_of m p.events))) (sym is)
 
 pub refused_there : (row : Row) (m : ℕ) (p : Past) (limits : Limits) (seen : Seen) (found : Option Refusal) (refusal : Refusal) → p.terms.limits ≡ limits → seen ≡ seen_of m p.events → found ≡ least (row.by_place limits seen) →
     ComesFirst row found → found ≡ Some refusal → Some refusal ≡ least (row_tests false row m p)
 refused_there row m p limits seen found refusal bounds at is first some =
-    let here : least (row.by_place p.terms.limits (seen_of m p.events)) ≡ Some refusal = sym (same_limits row m p limits bounds) ∙ ap (λ (s : Seen). least (row.by_place limits s)) (sym at) ∙ sym is ∙ some in
+    let here : least (row.by_place p.terms.limits (seen_of m p.events)) ≡ Some refusal = sym (place_by_same_limits row m p limits bounds) ∙ ap (λ (s : Seen). least (row.by_place limits s)) (sym at) ∙ sym is ∙ some in
     let rest : ComesFirst row (Some refusal) = rw some at first in
     sym (least_append (row.by_place p.terms.limits (seen_of m p.events)) (row.by_team m p ++ row.compared false m p)
     ∙ ap (λ (x : Option Refusal). lesser x (least (row.by_team m p ++ row.compared false m p))) here ∙ rest m p)
@@ -93,7 +93,7 @@ refused_there row m p limits seen found refusal bounds at is first some =
 pub compared_then : (row : Row) (m : ℕ) (p : Past) (limits : Limits) (seen : Seen) (found other : Option Refusal) → p.terms.limits ≡ limits → seen ≡ seen_of m p.events → found ≡ least (row.by_place limits seen) → found ≡ None →
     least (row.by_team m p) ≡ None → other ≡ least (row.compared false m p) → other ≡ least (row_tests false row m p)
 compared_then row m p limits seen found other bounds at is none team same =
-    let here : least (row.by_place p.terms.limits (seen_of m p.events)) ≡ None = sym (same_limits row m p limits bounds) ∙ ap (λ (s : Seen). least (row.by_place limits s)) (sym at) ∙ sym is ∙ none in
+    let here : least (row.by_place p.terms.limits (seen_of m p.events)) ≡ None = sym (place_by_same_limits row m p limits bounds) ∙ ap (λ (s : Seen). least (row.by_place limits s)) (sym at) ∙ sym is ∙ none in
     same ∙ sym (by_layers row m p ∙ both_none (least (row.by_place p.terms.limits (seen_of m p.events))) (least (row.by_team m p)) (least (row.compared false m p)) here team)
   where
     both_none : (place team compared : Option Refusal) → place ≡ None → team ≡ None → lesser place (lesser team compared) ≡ compared
@@ -146,14 +146,14 @@ same_share row seen starts (Ok other) is same = rw same is
 same_share row seen starts (Err refusal) is same = tt
 
 -- the share that a start has found is its own
-pub own_share : (starts : Option Shape) (shape own : Shape) → starts ≡ Some shape → starts ≡ Some own → own ≡ shape
-own_share starts shape own is e = let both = sym e ∙ is in cc
+pub start_has_its_share : (starts : Option Shape) (shape own : Shape) → starts ≡ Some shape → starts ≡ Some own → own ≡ shape
+start_has_its_share starts shape own is e = let both = sym e ∙ is in cc
 
 pub opens_own : (starts : Option Shape) (seen : Seen) (shape : Shape) → starts ≡ Some shape → IfSome starts (MayOpenAs seen) → MayOpenAs seen shape
 opens_own starts seen shape is may = rw is at may
 
-pub no_share : (starts : Option Shape) (own : Shape) → starts ≡ None → starts ≡ Some own → ⊥
-no_share starts own is e = let both = sym e ∙ is in cc
+pub start_has_a_share : (starts : Option Shape) (own : Shape) → starts ≡ None → starts ≡ Some own → ⊥
+start_has_a_share starts own is e = let both = sym e ∙ is in cc
 
 -- a call whose test fails is not refused
 pub refused_not : {A : Type 0} (tests : List Test) (x : A) (told : Result A Refusal) (refusal : Refusal) → least tests ≡ None → told ≡ outcome (least tests) x → told ≡ Err refusal → ⊥

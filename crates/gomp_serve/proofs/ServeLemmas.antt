@@ -5,14 +5,14 @@ use Rattle.std.specs.Option.{option_map}
 use Rattle.std.proofs.lemmas.List.{length-take, take_all}
 use Rattle.gomp_serve.specs.Serving.{IsShort, Whole}
 
-taken_whole : (limit : ℕ) (text : List ℕ) → length (take (limit + 1) text) ≤ limit → take (limit + 1) text ≡ text
-taken_whole limit text short =
+text_taken_whole : (limit : ℕ) (text : List ℕ) → length (take (limit + 1) text) ≤ limit → take (limit + 1) text ≡ text
+text_taken_whole limit text short =
     let size = length-take (limit + 1) text in
     take_all (limit + 1) text (omega arith)
 
 pub read_all : (limit : ℕ) (remaining : Option (List ℕ)) (items : List ℕ) → IfSome (option_map (take (limit + 1)) remaining) (λ xs. items ≡ xs) → length items ≤ limit → Whole limit remaining items
 read_all limit None items bytes short = (tt, short)
-read_all limit (Some text) items bytes short = (bytes ∙ taken_whole limit text (rw bytes at short), short)
+read_all limit (Some text) items bytes short = (bytes ∙ text_taken_whole limit text (rw bytes at short), short)
 
 -- a reader whose text was read whole has no more than the limit
 pub short_of : (limit : ℕ) (remaining : Option (List ℕ)) (text : List ℕ) → Whole limit remaining text → IsShort limit remaining

@@ -99,7 +99,3 @@ returns-in-Stop g c =
       | inl is ↦ rw is (admits_at_once (row_of Stop) c.args.limits.now (g.S.Shares.seen c.args.shares.now c.args.member) refl refl (λ m p. refl))
       | inr is ↦ rw is (admits_at_once (row_of Resume) c.args.limits.now (g.S.Shares.seen c.args.shares.now c.args.member) refl refl (λ m p. refl))
     ]
-
-pub returns-in-OrderedEnd : goal.returns-in-OrderedEnd
-returns-in-OrderedEnd g c =
-    rw (c.in-OrderedEnd.is, ← c.look-seen.ensures.value) (admits_none _ c.args.limits.now c.look-seen.result c.part_end_refusal.result c.none_started-in-OrderedEnd.result c.none_started-in-OrderedEnd.ensures c.part_end_refusal.ensures refl refl (λ m p. refl) (λ m p. refl))

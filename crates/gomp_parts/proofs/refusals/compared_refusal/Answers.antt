@@ -2,19 +2,19 @@ use Rattle.std.proofs.Common.{◌≡◌, subst, refl, inl, inr}
 use Rattle.gomp_types.specs.declared.shape.Shape.{Shape}
 use Rattle.gomp_types.specs.Least.{least}
 use Rattle.gomp_shares.specs.Starts.{compared_share}
-use Rattle.gomp_parts.proofs.Refused.{own_share, no_share}
+use Rattle.gomp_parts.proofs.Refused.{start_has_its_share, start_has_a_share}
 use Rattle.gomp_parts.proofs.refusals.compared_refusal.Goals as goal
 
 -- a call that starts a share has its shape
 pub unreachable-requires : goal.unreachable-requires
 unreachable-requires g c =
     elim c.in-LoopStart.is [
-      | inl is ↦ no_share c.args.starts.now _ c.in_default.is (rw is.1 at c.requires.starts)
+      | inl is ↦ start_has_a_share c.args.starts.now _ c.in_default.is (rw is.1 at c.requires.starts)
       | inr other ↦ elim other [
-        | inl is ↦ no_share c.args.starts.now _ c.in_default.is (rw is.2 at c.requires.starts)
+        | inl is ↦ start_has_a_share c.args.starts.now _ c.in_default.is (rw is.2 at c.requires.starts)
         | inr other ↦ elim other [
-          | inl is ↦ no_share c.args.starts.now _ c.in_default.is (rw is at c.requires.starts)
-          | inr is ↦ no_share c.args.starts.now _ c.in_default.is (rw is at c.requires.starts)
+          | inl is ↦ start_has_a_share c.args.starts.now _ c.in_default.is (rw is at c.requires.starts)
+          | inr is ↦ start_has_a_share c.args.starts.now _ c.in_default.is (rw is at c.requires.starts)
         ]
       ]
     ]
@@ -45,12 +45,12 @@ pub returns-in-Some-clause-compared : goal.returns-in-Some-clause-compared
 returns-in-Some-clause-compared g c = λ p both.
     let compared : (own : Shape) → own ≡ c.in-Some.shape → c.share_refusal.result ≡ least (compared_share own c.args.member p.events) = λ own is. rw is (c.share_refusal.ensures.compared p.events both.0) in
     elim c.in-LoopStart.is [
-      | inl is ↦ rw is.1 (compared _ (own_share c.args.starts.now c.in-Some.shape _ c.in-Some.is (rw is.1 at c.requires.starts)))
+      | inl is ↦ rw is.1 (compared _ (start_has_its_share c.args.starts.now c.in-Some.shape _ c.in-Some.is (rw is.1 at c.requires.starts)))
       | inr other ↦ elim other [
-        | inl is ↦ rw is.2 (compared _ (own_share c.args.starts.now c.in-Some.shape _ c.in-Some.is (rw is.2 at c.requires.starts)))
+        | inl is ↦ rw is.2 (compared _ (start_has_its_share c.args.starts.now c.in-Some.shape _ c.in-Some.is (rw is.2 at c.requires.starts)))
         | inr other ↦ elim other [
-          | inl is ↦ rw is (compared _ (own_share c.args.starts.now c.in-Some.shape _ c.in-Some.is (rw is at c.requires.starts)))
-          | inr is ↦ rw is (compared _ (own_share c.args.starts.now c.in-Some.shape _ c.in-Some.is (rw is at c.requires.starts)))
+          | inl is ↦ rw is (compared _ (start_has_its_share c.args.starts.now c.in-Some.shape _ c.in-Some.is (rw is at c.requires.starts)))
+          | inr is ↦ rw is (compared _ (start_has_its_share c.args.starts.now c.in-Some.shape _ c.in-Some.is (rw is at c.requires.starts)))
         ]
       ]
     ]

@@ -4,25 +4,25 @@ use Rattle.gomp_types.specs.Pieces.{shape_of}
 use Rattle.gomp_types.specs.Sections.{sections_shape, sections_tests}
 use Rattle.gomp_shares.specs.Loops.{DealsOut, piece_given}
 use Rattle.gomp_shares.specs.Sections.{DealsSections, section_given}
-use Rattle.gomp_parts.proofs.Refused.{no_share, own_share, opens_own}
+use Rattle.gomp_parts.proofs.Refused.{start_has_a_share, start_has_its_share, opens_own}
 use Rattle.gomp_parts.proofs.Answered.{begin_may}
 use Rattle.gomp_parts.proofs.shares.share_reply.Goals as goal
 
 pub unreachable-requires : goal.unreachable-requires
-unreachable-requires g c = no_share c.args.starts.now _ c.in_default.is (rw c.in-LoopStart.is at c.requires.starts.0)
+unreachable-requires g c = start_has_a_share c.args.starts.now _ c.in_default.is (rw c.in-LoopStart.is at c.requires.starts.0)
 
 pub begin_loop-requires : goal.begin_loop-requires
 begin_loop-requires g c = record { place = opens_own c.args.starts.now _ c.in-Some.shape c.in-Some.is c.requires.starts.1 (g.S.Shares.members c.args.shares.now) c.args.member c.requires.member }
 
 pub returns-in-Some-clause-answer : goal.returns-in-Some-clause-answer
 returns-in-Some-clause-answer g c = λ again p ready words.
-    let is = own_share c.args.starts.now c.in-Some.shape (shape_of c.in-LoopStart.field-0) c.in-Some.is (rw c.in-LoopStart.is at c.requires.starts.0) in
+    let is = start_has_its_share c.args.starts.now c.in-Some.shape (shape_of c.in-LoopStart.field-0) c.in-Some.is (rw c.in-LoopStart.is at c.requires.starts.0) in
     rw c.in-LoopStart.is (begin_may true (loop_tests c.in-LoopStart.field-0) (shape_of c.in-LoopStart.field-0) DealsOut piece_given (g.S.Shares.members c.args.shares.now) c.args.limits.now again c.args.member p c.begin_loop.result (rw c.in-LoopStart.is at ready)
     (rw (← is) at (c.begin_loop.ensures.answer p.events words.0)))
 
 pub returns-in-Some-clause-stands : goal.returns-in-Some-clause-stands
 returns-in-Some-clause-stands g c = λ again p ready st.
-    let is = own_share c.args.starts.now c.in-Some.shape (shape_of c.in-LoopStart.field-0) c.in-Some.is (rw c.in-LoopStart.is at c.requires.starts.0) in
+    let is = start_has_its_share c.args.starts.now c.in-Some.shape (shape_of c.in-LoopStart.field-0) c.in-Some.is (rw c.in-LoopStart.is at c.requires.starts.0) in
     rw c.in-LoopStart.is (rw (← is) at (c.begin_loop.ensures.stands p.events st))
 
 pub returns-in-Some-clause-stops : goal.returns-in-Some-clause-stops
@@ -32,11 +32,11 @@ returns-in-Some-clause-stops g c = λ stopped.
     absurd (answers.1.1)
 
 pub unreachable-requires-in_default-starts : goal.unreachable-requires-in_default-starts
-unreachable-requires-in_default-starts g c = no_share c.args.starts.now _ c.in_default-starts.is (rw c.in-SectionsStart.is at c.requires.starts.0)
+unreachable-requires-in_default-starts g c = start_has_a_share c.args.starts.now _ c.in_default-starts.is (rw c.in-SectionsStart.is at c.requires.starts.0)
 
 pub begin_sections-requires-clause-sections : goal.begin_sections-requires-clause-sections
 begin_sections-requires-clause-sections g c =
-    let is = own_share c.args.starts.now c.in-Some-starts.shape (sections_shape c.in-SectionsStart.count c.in-SectionsStart.end_kind) c.in-Some-starts.is (rw c.in-SectionsStart.is at c.requires.starts.0) in
+    let is = start_has_its_share c.args.starts.now c.in-Some-starts.shape (sections_shape c.in-SectionsStart.count c.in-SectionsStart.end_kind) c.in-Some-starts.is (rw c.in-SectionsStart.is at c.requires.starts.0) in
     rw (← is) refl
 
 pub begin_sections-requires-clause-place : goal.begin_sections-requires-clause-place
@@ -44,13 +44,13 @@ begin_sections-requires-clause-place g c = opens_own c.args.starts.now _ c.in-So
 
 pub returns-in-Some-starts-clause-answer : goal.returns-in-Some-starts-clause-answer
 returns-in-Some-starts-clause-answer g c = λ again p ready words.
-    let is = own_share c.args.starts.now c.in-Some-starts.shape (sections_shape c.in-SectionsStart.count c.in-SectionsStart.end_kind) c.in-Some-starts.is (rw c.in-SectionsStart.is at c.requires.starts.0) in
+    let is = start_has_its_share c.args.starts.now c.in-Some-starts.shape (sections_shape c.in-SectionsStart.count c.in-SectionsStart.end_kind) c.in-Some-starts.is (rw c.in-SectionsStart.is at c.requires.starts.0) in
     rw c.in-SectionsStart.is (begin_may true (sections_tests c.in-SectionsStart.count) (sections_shape c.in-SectionsStart.count c.in-SectionsStart.end_kind) DealsSections section_given (g.S.Shares.members c.args.shares.now) c.args.limits.now again c.args.member p c.begin_sections.result (rw c.in-SectionsStart.is at ready)
     (rw (← is) at (c.begin_sections.ensures.answer p.events words.0)))
 
 pub returns-in-Some-starts-clause-stands : goal.returns-in-Some-starts-clause-stands
 returns-in-Some-starts-clause-stands g c = λ again p ready st.
-    let is = own_share c.args.starts.now c.in-Some-starts.shape (sections_shape c.in-SectionsStart.count c.in-SectionsStart.end_kind) c.in-Some-starts.is (rw c.in-SectionsStart.is at c.requires.starts.0) in
+    let is = start_has_its_share c.args.starts.now c.in-Some-starts.shape (sections_shape c.in-SectionsStart.count c.in-SectionsStart.end_kind) c.in-Some-starts.is (rw c.in-SectionsStart.is at c.requires.starts.0) in
     rw c.in-SectionsStart.is (rw (← is) at (c.begin_sections.ensures.stands p.events st))
 
 pub returns-in-Some-starts-clause-stops : goal.returns-in-Some-starts-clause-stops
