@@ -5,12 +5,12 @@ use std::fmt::Debug;
 use std::process::Abort;
 
 /// That these are equal; `case` is the number of the case, or the size that is tried.
-pub fn same<T: PartialEq + Debug>(rt: &impl Abort, found: &T, expected: &T, what: &str, case: u64) {
+pub(crate) fn same<T: PartialEq + Debug>(rt: &impl Abort, found: &T, expected: &T, what: &str, case: u64) {
     assert_eq!(rt; found, expected, "{what} {case}");
 }
 
 /// That these are as many, and equal one by one.
-pub fn same_slices<T: PartialEq + Debug>(
+pub(crate) fn same_slices<T: PartialEq + Debug>(
     rt: &impl Abort,
     found: &[T],
     expected: &[T],
@@ -21,7 +21,7 @@ pub fn same_slices<T: PartialEq + Debug>(
 }
 
 /// That each of these is the one that is expected.
-pub fn each_is<T: PartialEq + Debug>(
+pub(crate) fn each_is<T: PartialEq + Debug>(
     rt: &impl Abort,
     found: &[T],
     expected: &T,
@@ -34,6 +34,6 @@ pub fn each_is<T: PartialEq + Debug>(
 }
 
 /// That this holds; `case` is the number of the case, or the size that is tried.
-pub fn holds(rt: &impl Abort, found: bool, what: &str, case: u64) {
+pub(crate) fn holds(rt: &impl Abort, found: bool, what: &str, case: u64) {
     assert!(rt; found, "{what} {case}");
 }
