@@ -4,7 +4,7 @@
 
 ghost use Rattle.std.specs.Prelude.{◌≡◌, ◌≤◌, pos, int_lt, false};
 ghost use Rattle.gomp_types.specs.Iterations.{is_runtime, max_chunk};
-ghost use Rattle.gomp_icv.specs.Variables.{IsNumThreads, max_number, initial, first_of};
+ghost use Rattle.gomp_icv.specs.Variables.{IsNumThreads, max_number, initial};
 ghost use Rattle.gomp_icv.specs.Teams.{child};
 ghost use Rattle.gomp_icv.specs.EnvWords.{IsSetting, with_setting};
 

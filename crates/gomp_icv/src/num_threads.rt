@@ -2,7 +2,7 @@
 //!
 //! OpenMP API 5.2, sections 2.4 (nthreads-var) and 21.1.2 (`OMP_NUM_THREADS`).
 
-ghost use Rattle.std.specs.Prelude.{◌≡◌, ◌≤◌, ◌==◌, ◌∷◌, [], IfSome, bytes_eq};
+ghost use Rattle.std.specs.Prelude.{◌≡◌, ◌≤◌, ◌==◌, ◌∷◌, [], bytes_eq};
 ghost use Rattle.std.specs.Cmp.{partial_equiv_from_equiv};
 ghost use Rattle.std.specs.Cmp.Lexicographic.{nat_list_eq_equiv};
 ghost use Rattle.gomp_icv.specs.Variables.{IsNumThreads, first_of, without_first};

@@ -1,5 +1,5 @@
 -- What a member sees, and the piece that it was given, in the words of the events.
-use Rattle.std.proofs.Common.{◌≡◌, ℕ, ◌+◌, ◌-◌, ◌<◌, ◌≤◌, Bool, true, false, List, [], ◌∷◌, ◌++◌, Option, Some, None, refl, ap, ◌∙◌, sym, subst, arith, inl}
+use Rattle.std.proofs.Common.{◌≡◌, ℕ, ◌+◌, ◌-◌, ◌<◌, ◌≤◌, Bool, true, false, List, [], ◌∷◌, ◌++◌, Option, Some, None, refl, ap, ◌∙◌, sym, subst, arith}
 use Rattle.std.specs.Prelude.{pos, not, ◌≢◌, ◌&&◌, if◌then◌else◌, nat_le, is_some}
 use Rattle.gomp_types.specs.declared.reply.Reply.{Reply}
 use Rattle.gomp_types.specs.declared.reply.Reply.TheVariants.{Wait, Refused}
@@ -7,7 +7,7 @@ use Rattle.gomp_types.specs.declared.loop_desc.LoopDesc.{LoopDesc}
 use Rattle.gomp_types.specs.declared.loop_desc.EndKind.{EndKind}
 use Rattle.gomp_types.specs.declared.limits.Limits.{Limits}
 use Rattle.gomp_types.specs.declared.refusal.Refusal.{Refusal}
-use Rattle.gomp_types.specs.declared.refusal.Refusal.TheVariants.{InsideShare, TooManyShares, Mismatch}
+use Rattle.gomp_types.specs.declared.refusal.Refusal.TheVariants.{TooManyShares}
 use Rattle.gomp_types.specs.declared.seen.Seen.{Seen}
 use Rattle.gomp_types.specs.declared.shape.Shape.{Shape}
 use Rattle.gomp_types.specs.declared.event.Event.{Event}
@@ -18,12 +18,11 @@ use Rattle.gomp_types.specs.Seen.{seen_of}
 use Rattle.gomp_types.specs.Iterations.{loop_tests}
 use Rattle.gomp_types.specs.Pieces.{Piece, shape_of}
 use Rattle.gomp_types.specs.Values.{IsShape, value_at, iteration_at}
-use Rattle.gomp_types.specs.Events.{entered, open_share, open_number, share_number, turn, shape_at, has_room}
+use Rattle.gomp_types.specs.Events.{entered, open_share, open_number, share_number, turn, has_room}
 use Rattle.gomp_types.specs.Ordered.{has_turn, last_number, must_wait}
-use Rattle.gomp_types.specs.Compare.{shape_differs}
 use Rattle.gomp_types.proofs.Booleans.{same_number}
 use Rattle.gomp_types.proofs.LeastTests.{all_fail, first_is_least}
-use Rattle.gomp_types.proofs.TestRows.{front_holds, front_fails, head_fails}
+use Rattle.gomp_types.proofs.TestRows.{front_holds}
 use Rattle.gomp_shares.specs.Calls.{CanClaim, MayOpen, Claims, claimed, own_turn, piece_handed}
 use Rattle.gomp_shares.specs.declared.Opening.TheVariants.{Entered}
 use Rattle.gomp_shares.proofs.Admitted.{begin_compared, answers_let}

@@ -1,6 +1,6 @@
 //! What a member is answered where no test of its call holds.
 
-ghost use Rattle.std.specs.Prelude.{◌≡◌, ◌<◌, ◌++◌, ℕ, List, true, false, None};
+ghost use Rattle.std.specs.Prelude.{◌≡◌, ◌<◌, ◌++◌, List, true, None};
 ghost use Rattle.gomp_types.specs.declared.event.Event.{Event};
 ghost use Rattle.gomp_types.specs.declared.call.Call.TheVariants.{Stop};
 ghost use Rattle.gomp_types.specs.declared.reply.Reply.TheVariants.{Wait, Stopped};

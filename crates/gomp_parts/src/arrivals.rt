@@ -4,7 +4,7 @@
 //! OpenMP API 5.2, sections 15.3.1 and 15.3.2; libgomp's `GOMP_barrier`, `GOMP_loop_end`,
 //! `GOMP_sections_end` and `GOMP_parallel_end`.
 
-ghost use Rattle.std.specs.Prelude.{◌≡◌, ◌≢◌, ◌<◌, ◌++◌, ℕ, List, false, true, None};
+ghost use Rattle.std.specs.Prelude.{◌≡◌, ◌≢◌, ◌<◌, ◌++◌, List, false, true, None};
 ghost use Rattle.gomp_types.specs.declared.event.Event.{Event};
 ghost use Rattle.gomp_types.specs.declared.event.Arrival.TheVariants.{ShareEnd};
 ghost use Rattle.gomp_types.specs.declared.loop_desc.EndKind.TheVariants.{Wait as WaitEnd};

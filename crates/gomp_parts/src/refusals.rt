@@ -1,19 +1,17 @@
 //! Why a call is refused, layer by layer: by the member's place among the shares, and by how it
 //! compares with other members' calls.
 
-ghost use Rattle.std.specs.Prelude.{◌≡◌, ◌<◌, ℕ, true, Some, None, Ok, IfOk};
+ghost use Rattle.std.specs.Prelude.{◌≡◌, ◌<◌, true, Some, None, Ok, IfOk};
 ghost use Rattle.std.specs.Result.{result_err, result_map_both};
 ghost use Rattle.gomp_types.specs.Tests.{outcome};
-ghost use Rattle.gomp_types.specs.declared.event.Event.{Event};
 ghost use Rattle.gomp_types.specs.declared.limits.Limits.{Limits};
 ghost use Rattle.gomp_types.specs.Least.{lesser, least};
-ghost use Rattle.gomp_types.specs.Seen.{seen_of};
 ghost use Rattle.gomp_types.specs.Limits.{shown};
 ghost use Rattle.gomp_shares.specs.Calls.{EachStands};
 ghost use Rattle.gomp_shares.specs.Starts.{compared_share};
 ghost use Rattle.gomp_shares.specs.OrderedParts.{part_tests, part_end_tests};
 ghost use Rattle.gomp_ordered.specs.Iterations.{HasShape};
-ghost use Rattle.gomp_barrier.specs.Stands.{Stands as BarriersStand, members_of as barrier_members};
+ghost use Rattle.gomp_barrier.specs.Stands.{members_of as barrier_members};
 ghost use Rattle.gomp_model.specs.Past.{Past};
 ghost use Rattle.gomp_model.specs.Row.{row_tests};
 ghost use Rattle.gomp_model.specs.Arrivals.{outside_tests, compared_arrival};
@@ -22,7 +20,7 @@ ghost use Rattle.gomp_parts.specs.Answers.{BothStand, StartsShare, Admits};
 ghost use Rattle.gomp_types.specs.declared.refusal.Place.TheVariants.{Share};
 
 use gomp_barrier::Barriers;
-use gomp_shares::own::{end_refusal, next_refusal, outside_refusal};
+use gomp_shares::own::{end_refusal, next_refusal};
 use gomp_shares::{Construct, Shares};
 use gomp_types::{Arrival, Call, EndKind, Limits, Place, Refusal, Seen, Shape, Tag};
 

@@ -3,7 +3,7 @@
 //!
 //! OpenMP API 5.2, sections 11.1, 11.3, 11.5 and 15.10.2.
 
-ghost use Rattle.std.specs.Prelude.{◌≡◌, ◌<◌, ℕ, Bool, List, false, None};
+ghost use Rattle.std.specs.Prelude.{◌≡◌, ◌<◌, Bool, List, false, None};
 ghost use Rattle.gomp_types.specs.declared.event.Event.{Event};
 ghost use Rattle.gomp_types.specs.declared.call.Call.TheVariants.{Resume, Stop};
 ghost use Rattle.gomp_types.specs.declared.reply.Reply.TheVariants.{Wait, Stopped};

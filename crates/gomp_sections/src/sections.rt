@@ -2,7 +2,7 @@
 //!
 //! OpenMP API 5.2, section 11.3.
 
-ghost use Rattle.std.specs.Prelude.{◌≡◌, ◌<◌, ℕ, List, Err};
+ghost use Rattle.std.specs.Prelude.{◌≡◌, ◌<◌, List, Err};
 ghost use Rattle.std.specs.Option.{ForSome};
 ghost use Rattle.gomp_types.specs.declared.event.Event.{Event};
 ghost use Rattle.gomp_types.specs.declared.loop_desc.EndKind.TheVariants.{Wait as WaitEnd, Nowait};

@@ -3,7 +3,7 @@
 //!
 //! OpenMP API 5.2, sections 11.1 and 5.7.2 (the `copyprivate` clause).
 
-ghost use Rattle.std.specs.Prelude.{◌≡◌, ◌<◌, ◌↔◌, ℕ, List, [], Some, Err, true, option_copied};
+ghost use Rattle.std.specs.Prelude.{◌≡◌, ◌<◌, ◌↔◌, List, [], Some, Err, true, option_copied};
 ghost use Rattle.gomp_types.specs.declared.event.Event.{Event};
 ghost use Rattle.gomp_types.specs.declared.reply.Reply.TheVariants.{Wait, Refused};
 ghost use Rattle.gomp_types.specs.declared.refusal.Refusal.{Refusal};

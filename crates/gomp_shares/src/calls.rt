@@ -1,7 +1,7 @@
 //! A list of calls on the work-shares of a team, whatever body they have: what it keeps is the
 //! contract of one function.
 
-ghost use Rattle.std.specs.Prelude.{◌≡◌, ◌<◌, ℕ, List, [], length, IfOk, Some, vec_len};
+ghost use Rattle.std.specs.Prelude.{◌≡◌, ◌<◌, List, [], length, IfOk, Some, vec_len};
 ghost use Rattle.gomp_types.specs.declared.event.Event.{Event};
 ghost use Rattle.gomp_types.specs.Deals.{schedule};
 ghost use Rattle.gomp_types.specs.Limits.{IsTeamSize};

@@ -1,7 +1,7 @@
 //! The numbers of a text.
 
-ghost use Rattle.std.specs.Prelude.{◌≡◌, ◌≤◌, ◌^◌, pos, neg_ℤ};
-ghost use Rattle.gomp_text.specs.Numbers.{unsigned, signed, is_digit};
+ghost use Rattle.std.specs.Prelude.{◌≡◌, ◌≤◌, ◌^◌};
+ghost use Rattle.gomp_text.specs.Numbers.{unsigned, signed};
 
 /// The number that these digits write, up to `most`. None where there is no digit, or another byte,
 /// or where the number is larger.

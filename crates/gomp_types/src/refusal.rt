@@ -3,7 +3,6 @@
 //! A call tests its reasons in the order of their numbers and answers the first that holds.
 
 ghost use Rattle.std.specs.Prelude.{◌≡◌, ◌∷◌, ◌++◌, Some};
-ghost use Rattle.std.specs.Fmt.{decimal};
 ghost use Rattle.gomp_types.specs.RefusalTexts.{number_of, name_of, text_of, clash_text, place_text};
 
 use crate::name::Name;

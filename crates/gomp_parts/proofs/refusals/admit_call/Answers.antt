@@ -1,4 +1,4 @@
-use Rattle.std.proofs.Common.{◌≡◌, Some, None, ◌∙◌, sym, ap, refl}
+use Rattle.std.proofs.Common.{◌≡◌, ◌∙◌, ap}
 use Rattle.std.specs.Result.{result_err}
 use Rattle.gomp_model.specs.Calls.{row_of}
 use Rattle.gomp_parts.proofs.Refused.{refused_there, compared_then, same_share}

@@ -1,4 +1,4 @@
-use Rattle.std.proofs.Common.{rules, ◌≡◌, [], None, Ok, true, false, ◌∙◌, refl, inl, inr}
+use Rattle.std.proofs.Common.{rules, ◌≡◌, [], true, false, ◌∙◌, refl, inl, inr}
 use Rattle.gomp_types.specs.declared.call.Call.TheVariants.{LoopStart, LoopNext, LoopEnd, LoopEndNowait, SectionsStart, SectionsNext, SectionsEnd, SectionsEndNowait, SingleStart, SingleCopyStart, SingleCopyEnd, OrderedStart, Barrier, RegionEnd, Resume, Stop}
 use Rattle.gomp_types.specs.declared.loop_desc.EndKind.TheVariants.{Wait, Nowait}
 use Rattle.gomp_types.specs.Events.{open_share}

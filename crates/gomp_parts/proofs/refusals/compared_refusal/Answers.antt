@@ -1,4 +1,4 @@
-use Rattle.std.proofs.Common.{◌≡◌, subst, refl, inl, inr}
+use Rattle.std.proofs.Common.{◌≡◌, refl, inl, inr}
 use Rattle.gomp_types.specs.declared.shape.Shape.{Shape}
 use Rattle.gomp_types.specs.Least.{least}
 use Rattle.gomp_shares.specs.Starts.{compared_share}

@@ -1,6 +1,6 @@
 use Rattle.std.proofs.Common.{◌≡◌, map}
 use Rattle.std.proofs.lemmas.Result.{IfOk-weaker}
-use Rattle.clap.specs.Words.{App, HasMatchesOf, app_of, subcommand_rows_of}
+use Rattle.clap.specs.Words.{HasMatchesOf, app_of, subcommand_rows_of}
 use Rattle.gomp_serve.specs.CommandLine.{faults_of, ompteam, settings_in, settings_of}
 use Rattle.gomp_serve.proofs.CommandLemmas.{fails_by_faults, fails_by_memory, nothing_given, settings_matched}
 use Rattle.gomp_serve.proofs.command.accepted.Goals as goal

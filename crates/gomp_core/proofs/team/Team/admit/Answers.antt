@@ -7,7 +7,6 @@ use Rattle.gomp_types.specs.declared.call.Step.{Step}
 use Rattle.gomp_types.specs.Least.{lesser, least}
 use Rattle.gomp_model.specs.Team.{meant, member_tests, wait_tests, refusal_of, row_at}
 use Rattle.gomp_core.specs.Stands.{TeamView, past, terms_of, members_of}
-use Rattle.gomp_model.specs.Calls.{row_of}
 use Rattle.gomp_parts.specs.Answers.{StartsShare}
 use Rattle.gomp_core.proofs.Refused.{bad_member, step_refused, still_admitted}
 use Rattle.gomp_core.proofs.Waits.{same_members, same_limits, step_place}
