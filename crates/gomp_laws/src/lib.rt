@@ -7,3 +7,4 @@
 //! what is proved, and `proofs/HeadlineExamples.antt` has lists of events that the headline refuses.
 //!
 //! This crate has definitions and lemmas alone, and no function.
+#![tactic(auto)]

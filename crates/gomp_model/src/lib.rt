@@ -8,3 +8,4 @@
 //! (`WrongAnswers`, `WrongShareAnswers`), and an example to each call, test and field of a row.
 //!
 //! This crate has definitions and lemmas alone, and no function.
+#![tactic(auto)]

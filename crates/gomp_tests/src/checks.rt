@@ -5,7 +5,13 @@ use std::fmt::Debug;
 use std::process::Abort;
 
 /// That these are equal; `case` is the number of the case, or the size that is tried.
-pub(crate) fn same<T: PartialEq + Debug>(rt: &impl Abort, found: &T, expected: &T, what: &str, case: u64) {
+pub(crate) fn same<T: PartialEq + Debug>(
+    rt: &impl Abort,
+    found: &T,
+    expected: &T,
+    what: &str,
+    case: u64,
+) {
     assert_eq!(rt; found, expected, "{what} {case}");
 }
 
