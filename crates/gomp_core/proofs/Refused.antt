@@ -16,6 +16,8 @@ use Rattle.gomp_model.specs.Past.{Past}
 use Rattle.gomp_model.specs.Row.{row_tests}
 use Rattle.gomp_model.specs.Team.{is_resume, row_at, broken_tests, member_tests, wait_tests, refusal_of}
 use Rattle.gomp_laws.proofs.Layers.{step_layers}
+use Rattle.gomp_types.proofs.LeastTests.{lesser_assoc}
+use Rattle.gomp_parts.proofs.Refused.{up_to, beginning, least_up, least_before}
 
 -- no number is less than that of a bad member
 low_number : (refusal : Refusal) → nat_le 1 (number_of refusal) ≡ true
@@ -79,13 +81,35 @@ wait_none Resume waiting e = refl
 wait_none Stop waiting e = refl
 wait_none _ waiting e = rw e refl
 
-pub step_refused : (p : Past) (step : Step) (member wait row : Option Refusal) → member ≡ least (member_tests p.terms.members step.member p.events) → wait ≡ least (wait_tests step.call (p.waits step.member)) →
-    row ≡ least (row_tests (is_resume step.call) (row_at p step) step.member p) → lesser member (lesser wait row) ≡ refusal_of p step
-step_refused p step member wait row one two three = rw (one, two, three) (sym (step_layers p step))
+-- what refuses a member, whatever it calls, comes before its wait
+up_to_broken : (bad left : Bool) (clash : Option Clash) → up_to 4 ((bad, BadMember) ∷ (left, Ended) ∷ broken_tests clash) ≡ true
+up_to_broken bad left None = refl
+up_to_broken bad left (Some clash) = refl
+
+wait_begins : (call : Call) (waiting : Option Call) → beginning 4 (wait_tests call waiting) ≡ true
+wait_begins Resume waiting = refl
+wait_begins Stop waiting = refl
+wait_begins _ waiting = refl
+
+pub member_before_wait : (members m : ℕ) (h : List Event) (call : Call) (waiting : Option Call) (found : Option Refusal) (refusal : Refusal) → found ≡ least (member_tests members m h) → found ≡ Some refusal →
+    Some refusal ≡ lesser (least (member_tests members m h)) (least (wait_tests call waiting))
+member_before_wait members m h call waiting found refusal is some =
+    let here : least (member_tests members m h) ≡ Some refusal = sym is ∙ some in
+    let low = least_up 4 (member_tests members m h) refusal (up_to_broken (nat_le members m) (has_left_region m h) (clash_of h)) here in
+    sym (ap (λ (x : Option Refusal). lesser x (least (wait_tests call waiting))) here ∙ least_before 4 refusal (wait_tests call waiting) low (wait_begins call waiting))
+
+pub wait_alone : (members m : ℕ) (h : List Event) (wait found : Option Refusal) → found ≡ least (member_tests members m h) → found ≡ None → wait ≡ lesser (least (member_tests members m h)) wait
+wait_alone members m h wait found is none =
+    let here : least (member_tests members m h) ≡ None = sym is ∙ none in
+    rw here refl
+
+pub step_refused : (p : Past) (step : Step) (team row : Option Refusal) → team ≡ lesser (least (member_tests p.terms.members step.member p.events)) (least (wait_tests step.call (p.waits step.member))) →
+    row ≡ least (row_tests (is_resume step.call) (row_at p step) step.member p) → lesser team row ≡ refusal_of p step
+step_refused p step team row one two =
+    rw (one, two) (sym (lesser_assoc (least (member_tests p.terms.members step.member p.events)) (least (wait_tests step.call (p.waits step.member))) (least (row_tests (is_resume step.call) (row_at p step) step.member p))))
+    ∙ sym (step_layers p step)
 
 -- what a call was admitted to stays so where nothing else refuses it
-pub still_admitted : {A : Type 0} (P : A → Type 0) (own wait all : Result A Refusal) → IfOk all (λ found. wait ≡ Ok found) → IfOk wait (λ found. own ≡ Ok found) → IfOk own P → IfOk all P
-still_admitted P own wait (Ok found) same waited may =
-    let here : own ≡ Ok found = rw same at waited in
-    rw here at may
-still_admitted P own wait (Err refusal) same waited may = tt
+pub still_admitted : {A : Type 0} (P : A → Type 0) (own all : Result A Refusal) → IfOk all (λ found. own ≡ Ok found) → IfOk own P → IfOk all P
+still_admitted P own (Ok found) same may = rw same at may
+still_admitted P own (Err refusal) same may = tt

@@ -11,7 +11,7 @@ ghost use Rattle.gomp_types.specs.declared.event.Event.{Event};
 ghost use Rattle.gomp_types.specs.Events.{clash_of};
 ghost use Rattle.gomp_laws.specs.Headline.{Headline};
 ghost use Rattle.std.specs.Result.{result_err};
-ghost use Rattle.gomp_types.specs.Least.{least};
+ghost use Rattle.gomp_types.specs.Least.{lesser, least};
 ghost use Rattle.gomp_model.specs.Team.{Record, row_at, meant, is_resume, member_tests, wait_tests, wait_after, refusal_of, MayAnswer, events};
 ghost use Rattle.gomp_barrier.specs.Stands.{Stands as BarriersStand, members_of as barrier_members};
 ghost use Rattle.gomp_parts.specs.Answers.{StartsShare, broken_after};
@@ -228,8 +228,7 @@ impl<S: Shares> Team<S> {
             return Err(Refusal::BadMember);
         }
         let waiting = &self.waiting[member as usize];
-        let by_member = member_refusal(&self.barriers, self.broken, member);
-        let by_wait = wait_refusal(call, waiting);
+        let by_team = team_refusal(&self.barriers, self.broken, member, call, waiting);
         let by_call = admit_call(
             &mut self.shares,
             &self.barriers,
@@ -238,7 +237,7 @@ impl<S: Shares> Team<S> {
             meant(call, waiting),
             is_resume(call),
         );
-        unless_refused(by_member, unless_refused(by_wait, by_call))
+        unless_refused(by_team, by_call)
     }
 
     /// Where the team breaks if the call, or the one that it repeats, is another than other members'.
@@ -263,6 +262,26 @@ fn no_calls(alloc: Global, count: u16) -> Result<Vec<Option<Call>>, AllocError>
         waiting.push_reserved(None);
     }
     Ok(waiting)
+}
+
+/// Why the team does not answer this call of its member, whatever its construct: `Ended`, `Broken`, or
+/// `Waiting`.
+fn team_refusal(
+    barriers: &Barriers,
+    broken: Option<Clash>,
+    member: u16,
+    call: &Call,
+    waiting: &Option<Call>,
+) -> Option<Refusal>
+    requires member { member < barrier_members barriers.now }
+    ensures { (h : List Event) → BarriersStand barriers.now h → broken ≡ clash_of h →
+        result ≡ lesser (least (member_tests (barrier_members barriers.now) member h))
+        (least (wait_tests call.now waiting.now)) }
+{
+    match member_refusal(barriers, broken, member) {
+        Some(refusal) => Some(refusal),
+        None => wait_refusal(call, waiting),
+    }
 }
 
 /// Why no call of this member of the team is answered: it has passed the region's end, or the team

@@ -43,13 +43,13 @@ below_both a b n one other = grind (arith, nat_tests)
 between : (a n b : ℕ) → nat_le a n ≡ true → nat_le n b ≡ true → nat_le a b ≡ true
 between a n b one other = grind (arith, nat_tests)
 
-least_up : (n : ℕ) (tests : List Test) (refusal : Refusal) → up_to n tests ≡ true → least tests ≡ Some refusal → nat_le (number_of refusal) n ≡ true
+pub least_up : (n : ℕ) (tests : List Test) (refusal : Refusal) → up_to n tests ≡ true → least tests ≡ Some refusal → nat_le (number_of refusal) n ≡ true
 least_up n [] refusal low is = absurd (cc)
 least_up n ((true, one) ∷ tests) refusal low is =
     below_both (number_of refusal) (number_of one) n (lesser_low one refusal (least tests) is) (and_left (nat_le (number_of one) n) (up_to n tests) low)
 least_up n ((false, one) ∷ tests) refusal low is = least_up n tests refusal (and_right (nat_le (number_of one) n) (up_to n tests) low) is
 
-least_before : (n : ℕ) (refusal : Refusal) (tests : List Test) → nat_le (number_of refusal) n ≡ true → beginning n tests ≡ true → lesser (Some refusal) (least tests) ≡ Some refusal
+pub least_before : (n : ℕ) (refusal : Refusal) (tests : List Test) → nat_le (number_of refusal) n ≡ true → beginning n tests ≡ true → lesser (Some refusal) (least tests) ≡ Some refusal
 least_before n refusal [] low high = refl
 least_before n refusal ((true, one) ∷ tests) low high =
     let less = between (number_of refusal) n (number_of one) low (and_left (nat_le n (number_of one)) (beginning n tests) high) in
@@ -99,6 +99,12 @@ compared_then row m p limits seen found other bounds at is none team same =
     both_none : (place team compared : Option Refusal) → place ≡ None → team ≡ None → lesser place (lesser team compared) ≡ compared
     both_none place team compared one two = rw (one, two) refl
 
+-- what the comparison answers is the call's answer: where it is repeated no other test is made, and else its place has let it
+pub compared_last : (again : Bool) (row : Row) (m : ℕ) (p : Past) (limits : Limits) (seen : Seen) (found other : Option Refusal) → p.terms.limits ≡ limits → seen ≡ seen_of m p.events → ByPlace row limits seen found →
+    (again ≡ false → found ≡ None) → other ≡ least (row.compared again m p) → other ≡ least (row_tests again row m p)
+compared_last true row m p limits seen found other bounds at place fine same = same
+compared_last false row m p limits seen found other bounds at place fine same = compared_then row m p limits seen found other bounds at place.place (fine refl) (place.team m p) same
+
 -- What the member's place makes of a call
 
 err_kept : (shape : Result Shape Refusal) → result_err (result_map_both (λ s. Some s) (λ refusal. refusal) shape) ≡ result_err shape
@@ -111,13 +117,13 @@ started_here row seen tests own (Ok shape) starts is may = (ap (λ (s : Shape). 
 started_here row seen tests own (Err refusal) starts is may = tt
 
 -- of a start: the refusal of its tests, or its shape
-pub admits_start : (row : Row) (limits : Limits) (seen : Seen) (tests : List Test) (own : Shape) (shape : Result Shape Refusal) (found : Result (Option Shape) Refusal) → row.starts ≡ Some own → row.by_place limits seen ≡ tests →
+pub admits_start : (row : Row) (limits : Limits) (seen : Seen) (tests : List Test) (own : Shape) (shape : Result Shape Refusal) (found : Result (Option Shape) Refusal) → row.stays ≡ true → row.starts ≡ Some own → row.by_place limits seen ≡ tests →
     shape ≡ outcome (first_refusal tests) own → IfOk shape (MayOpenAs seen) → found ≡ result_map_both (λ s. Some s) (λ refusal. refusal) shape → from 0 tests ≡ true → up_to 34 (row.by_place limits seen) ≡ true →
     ((m : ℕ) (p : Past) → beginning 34 (row.by_team m p ++ row.compared false m p) ≡ true) → ((m : ℕ) (p : Past) → least (row.by_team m p) ≡ None) → Admits row limits seen found
-admits_start row limits seen tests own shape found starts are is may told rising low high none =
+admits_start row limits seen tests own shape found stays starts are is may told rising low high none =
     let err : result_err found ≡ least (row.by_place limits seen) =
     ap result_err told ∙ err_kept shape ∙ ap result_err is ∙ outcome_err (first_refusal tests) own ∙ first_is_least 0 tests rising ∙ ap least (sym are) in
-    record { place = by_place row limits seen (result_err found) err low high none; starts = rw told (started_here row seen tests own shape starts is may) }
+    record { place = by_place row limits seen (result_err found) err low high none; starts = rw told (started_here row seen tests own shape starts is may); leaving = λ goes. absurd (let both = sym stays ∙ goes in cc) }
 
 none_here : (row : Row) (seen : Seen) (refusal : Option Refusal) → row.starts ≡ None → IfOk (outcome refusal None) (StartsShare row seen)
 none_here row seen None starts = (sym starts, tt)
@@ -128,22 +134,11 @@ pub admits_none : (row : Row) (limits : Limits) (seen : Seen) (refusal : Option 
     up_to 34 (row.by_place limits seen) ≡ true → ((m : ℕ) (p : Past) → beginning 34 (row.by_team m p ++ row.compared false m p) ≡ true) → ((m : ℕ) (p : Past) → least (row.by_team m p) ≡ None) → Admits row limits seen found
 admits_none row limits seen refusal found told is starts low high none =
     let err : result_err found ≡ least (row.by_place limits seen) = ap result_err told ∙ outcome_err refusal None ∙ is in
-    record { place = by_place row limits seen (result_err found) err low high none; starts = rw told (none_here row seen refusal starts) }
+    record { place = by_place row limits seen (result_err found) err low high none; starts = rw told (none_here row seen refusal starts); leaving = λ goes. starts }
 
 -- of one with no such test
 pub admits_at_once : (row : Row) (limits : Limits) (seen : Seen) → None ≡ least (row.by_place limits seen) → row.starts ≡ None → ((m : ℕ) (p : Past) → least (row.by_team m p) ≡ None) → Admits row limits seen (Ok None)
-admits_at_once row limits seen is starts none = record { place = no_place row limits seen is none; starts = (sym starts, tt) }
-
--- a call that no test of its place refuses is admitted there
-pub not_refused : {A : Type 0} (found : Result A Refusal) (least_of : Option Refusal) (refusal : Refusal) → result_err found ≡ least_of → least_of ≡ None → found ≡ Err refusal → ⊥
-not_refused found least_of refusal is none err =
-    let some : result_err found ≡ Some refusal = rw err refl in
-    let both = sym some ∙ is ∙ none in cc
-
--- and what was found there stays so
-pub same_share : (row : Row) (seen : Seen) (starts : Option Shape) (found : Result (Option Shape) Refusal) → StartsShare row seen starts → IfOk found (λ other. other ≡ starts) → IfOk found (StartsShare row seen)
-same_share row seen starts (Ok other) is same = rw same is
-same_share row seen starts (Err refusal) is same = tt
+admits_at_once row limits seen is starts none = record { place = no_place row limits seen is none; starts = (sym starts, tt); leaving = λ goes. starts }
 
 -- the share that a start has found is its own
 pub start_has_its_share : (starts : Option Shape) (shape own : Shape) → starts ≡ Some shape → starts ≡ Some own → own ≡ shape

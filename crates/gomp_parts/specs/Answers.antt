@@ -41,6 +41,8 @@ StartsShare row seen starts = (starts ≡ row.starts) × IfSome starts (MayOpenA
 pub record Admits (row : Row) (limits : Limits) (seen : Seen) (found : Result (Option Shape) Refusal) : Type 0 where
   pub place : ByPlace row limits seen (result_err found)
   pub starts : IfOk found (StartsShare row seen)
+  -- a call whose member leaves its place before it waits starts no share
+  pub leaving : row.stays ≡ false → row.starts ≡ None
 
 -- whether what its place has shown of a call holds: where it is made, and where it is repeated if its member has stayed there
 abbrev pub in_place : Bool → Bool → Bool

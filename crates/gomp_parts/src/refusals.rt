@@ -46,9 +46,9 @@ pub fn unless_refused(
     }
 }
 
-/// The shape of the share that the call starts, if it starts one, where none of its own tests refuses
+/// The shape of the share that the call starts, if it starts one, unless one of its own tests refuses
 /// it: those on the member's place among the shares, and the comparison with other members' calls. A
-/// call that is repeated (`again`) is only compared.
+/// call that is repeated (`again`) is only compared: its place was tested when it was made.
 pub fn admit_call<S: Shares>(
     shares: &mut S,
     barriers: &Barriers,
@@ -67,69 +67,15 @@ pub fn admit_call<S: Shares>(
         result_err result ≡ least (row_tests again (row_of call.now) member p) }
     ensures starts { IfOk result (StartsShare (row_of call.now) (S.seen shares.old member)) }
 {
-    if again {
-        let starts = repeated_start(shares, limits, member, call);
-        return admit_compared(shares, barriers, member, call, starts, true);
-    }
-    match admit_place(shares, limits, member, call) {
-        Ok(starts) => admit_compared(shares, barriers, member, call, starts, false),
-        Err(refusal) => Err(refusal),
-    }
-}
-
-/// The shape of the share that the call starts, if it starts one, unless the comparison with other
-/// members' calls refuses it.
-fn admit_compared<S: Shares>(
-    shares: &mut S,
-    barriers: &Barriers,
-    member: u16,
-    call: &Call,
-    starts: Option<Shape>,
-    again: bool,
-) -> Result<Option<Shape>, Refusal>
-    requires member { member < S.members shares.old }
-    requires team { barrier_members barriers.now ≡ S.members shares.old }
-    requires starts { starts ≡ (row_of call.now).starts }
-    ensures kept { shares.new ≡ shares.old }
-    ensures compared { (p : Past) → BothStand S.stands shares.old barriers.now p.events →
-        result_err result ≡ least ((row_of call.now).compared again member p) }
-    ensures starts { IfOk result (λ found. found ≡ starts) }
-{
+    let starts = match admit_place(shares, limits, member, call) {
+        Ok(starts) => starts,
+        // A member that waits at a barrier may have left its place.
+        Err(_) if again => None,
+        Err(refusal) => return Err(refusal),
+    };
     match compared_refusal(shares, barriers, member, call, &starts, again) {
         Some(refusal) => Err(refusal),
         None => Ok(starts),
-    }
-}
-
-/// The shape of the share that a call which waits starts, if it starts one: its member has stayed in
-/// its place, so no test there refuses it.
-fn repeated_start<S: Shares>(shares: &S, limits: &Limits, member: u16, call: &Call) -> Option<Shape>
-    requires member { member < S.members shares.now }
-    requires place { (row_of call.now).stays ≡ true →
-        least ((row_of call.now).by_place limits.now (S.seen shares.now member)) ≡ None }
-    ensures { StartsShare (row_of call.now) (S.seen shares.now member) result }
-{
-    match call {
-        Call::LoopStart(_)
-        | Call::SectionsStart { .. }
-        | Call::SingleStart
-        | Call::SingleCopyStart => match admit_place(shares, limits, member, call) {
-            Ok(starts) => starts,
-            Err(_) => unreachable!(),
-        },
-        Call::LoopNext
-        | Call::LoopEnd
-        | Call::LoopEndNowait
-        | Call::SectionsNext
-        | Call::SectionsEnd
-        | Call::SectionsEndNowait
-        | Call::SingleCopyEnd(_)
-        | Call::OrderedStart(_)
-        | Call::OrderedEnd
-        | Call::Barrier
-        | Call::RegionEnd
-        | Call::Stop
-        | Call::Resume => None,
     }
 }
 

@@ -25,7 +25,7 @@ part_refusal-requires g c =
 pub returns-in-LoopStart : goal.returns-in-LoopStart
 returns-in-LoopStart g c =
     let tests = start_tests (loop_tests c.in-LoopStart.desc) c.args.limits.now c.look-seen.result in
-    rw (c.in-LoopStart.is, ← c.look-seen.ensures.value) (admits_start (row_of (LoopStart c.in-LoopStart.desc)) c.args.limits.now c.look-seen.result tests (shape_of c.in-LoopStart.desc) c.admit_start.result c.share_started.result refl refl
+    rw (c.in-LoopStart.is, ← c.look-seen.ensures.value) (admits_start (row_of (LoopStart c.in-LoopStart.desc)) c.args.limits.now c.look-seen.result tests (shape_of c.in-LoopStart.desc) c.admit_start.result c.share_started.result refl refl refl
     c.admit_start.ensures.first c.admit_start.ensures.place c.share_started.ensures refl refl (λ m p. refl) (λ m p. refl))
 
 pub returns-in-LoopNext : goal.returns-in-LoopNext
@@ -47,7 +47,7 @@ pub returns-in-SectionsStart : goal.returns-in-SectionsStart
 returns-in-SectionsStart g c =
     let tests = start_tests (sections_tests c.in-SectionsStart.count) c.args.limits.now c.look-seen.result in
     rw (c.in-SectionsStart.is, ← c.look-seen.ensures.value) (admits_start (row_of (SectionsStart c.in-SectionsStart.count c.in-SectionsStart.end_kind)) c.args.limits.now c.look-seen.result tests (sections_shape c.in-SectionsStart.count c.in-SectionsStart.end_kind)
-    c.admit_start-in-SectionsStart.result c.share_started-in-SectionsStart.result refl refl c.admit_start-in-SectionsStart.ensures.first c.admit_start-in-SectionsStart.ensures.place c.share_started-in-SectionsStart.ensures refl refl (λ m p. refl) (λ m p. refl))
+    c.admit_start-in-SectionsStart.result c.share_started-in-SectionsStart.result refl refl refl c.admit_start-in-SectionsStart.ensures.first c.admit_start-in-SectionsStart.ensures.place c.share_started-in-SectionsStart.ensures refl refl (λ m p. refl) (λ m p. refl))
 
 pub returns-in-SectionsNext : goal.returns-in-SectionsNext
 returns-in-SectionsNext g c =
@@ -67,13 +67,13 @@ returns-in-SectionsEndNowait g c =
 pub returns-in-SingleStart : goal.returns-in-SingleStart
 returns-in-SingleStart g c =
     let tests = start_tests [] c.args.limits.now c.look-seen.result in
-    rw (c.in-SingleStart.is, ← c.look-seen.ensures.value) (admits_start (row_of SingleStart) c.args.limits.now c.look-seen.result tests (single_shape false) c.admit_single.result c.share_started-in-SingleStart.result refl refl
+    rw (c.in-SingleStart.is, ← c.look-seen.ensures.value) (admits_start (row_of SingleStart) c.args.limits.now c.look-seen.result tests (single_shape false) c.admit_single.result c.share_started-in-SingleStart.result refl refl refl
     c.admit_single.ensures.first c.admit_single.ensures.place c.share_started-in-SingleStart.ensures refl refl (λ m p. refl) (λ m p. refl))
 
 pub returns-in-SingleCopyStart : goal.returns-in-SingleCopyStart
 returns-in-SingleCopyStart g c =
     let tests = start_tests [] c.args.limits.now c.look-seen.result in
-    rw (c.in-SingleCopyStart.is, ← c.look-seen.ensures.value) (admits_start (row_of SingleCopyStart) c.args.limits.now c.look-seen.result tests (single_shape true) c.admit_single-in-SingleCopyStart.result c.share_started-in-SingleCopyStart.result refl refl
+    rw (c.in-SingleCopyStart.is, ← c.look-seen.ensures.value) (admits_start (row_of SingleCopyStart) c.args.limits.now c.look-seen.result tests (single_shape true) c.admit_single-in-SingleCopyStart.result c.share_started-in-SingleCopyStart.result refl refl refl
     c.admit_single-in-SingleCopyStart.ensures.first c.admit_single-in-SingleCopyStart.ensures.place c.share_started-in-SingleCopyStart.ensures refl refl (λ m p. refl) (λ m p. refl))
 
 pub returns-in-SingleCopyEnd : goal.returns-in-SingleCopyEnd

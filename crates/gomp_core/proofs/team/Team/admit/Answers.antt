@@ -6,6 +6,7 @@ use Rattle.gomp_types.specs.declared.call.Call.{Call}
 use Rattle.gomp_types.specs.declared.call.Step.{Step}
 use Rattle.gomp_types.specs.Least.{lesser, least}
 use Rattle.gomp_model.specs.Team.{meant, member_tests, wait_tests, refusal_of, row_at}
+use Rattle.gomp_barrier.specs.Stands.{members_of as barrier_members}
 use Rattle.gomp_core.specs.Stands.{TeamView, past, terms_of, members_of}
 use Rattle.gomp_parts.specs.Answers.{StartsShare}
 use Rattle.gomp_core.proofs.Refused.{bad_member, step_refused, still_admitted}
@@ -39,10 +40,12 @@ returns-clause-least g c = λ before st0.
     let lt : c.args.member < length c.self.inside.waiting.items = let under = c.if-member-len.false in let len = c.len.ensures in omega arith in
     let at = slice_get_read c.self.inside.waiting.items _ c.args.member _ refl lt c.index-waiting.ensures in
     let is = c.meant.ensures ∙ ap (meant c.args.call.now) (sym (st.wait c.args.member _ at)) in
-    let by_member = c.member_refusal-by_member.ensures (past team before).events st.barriers_are st.broken_is ∙ ap (λ (n : ℕ). least (member_tests n c.args.member (past team before).events)) (st.barriers_size ∙ sym (same_members (terms_of team) before)) in
-    let by_wait = c.wait_refusal-by_wait.ensures ∙ ap (λ (w : Option Call). least (wait_tests c.args.call.now w)) (sym (st.wait c.args.member _ at)) in
+    let by_team = c.team_refusal-by_team.ensures (past team before).events st.barriers_are st.broken_is
+    ∙ ap (λ (w : Option Call). lesser (least (member_tests (barrier_members team.barriers) c.args.member (past team before).events)) (least (wait_tests c.args.call.now w))) (sym (st.wait c.args.member _ at))
+    ∙ ap (λ (n : ℕ). lesser (least (member_tests n c.args.member (past team before).events)) (least (wait_tests c.args.call.now ((past team before).waits c.args.member)))) (st.barriers_size ∙ sym (same_members (terms_of team) before)) in
     let by_call = rw (is, c.is_resume.ensures) at (c.admit_call-by_call.ensures.least (past team before) (same_limits (terms_of team) before st.limits_are) (st.shares_are, st.barriers_are)) in
-    subst (λ (t : TeamView g.row.S.Denot). result_err c.unless_refused-2.result ≡ refusal_of (past t before) step) c.self.view_is (c.unless_refused-2.ensures.least ∙ ap (lesser c.member_refusal-by_member.result) c.unless_refused.ensures.least ∙ step_refused (past team before) step c.member_refusal-by_member.result c.wait_refusal-by_wait.result (result_err c.admit_call-by_call.result) by_member by_wait by_call)
+    subst (λ (t : TeamView g.row.S.Denot). result_err c.unless_refused.result ≡ refusal_of (past t before) step) c.self.view_is
+    (c.unless_refused.ensures.least ∙ step_refused (past team before) step c.team_refusal-by_team.result (result_err c.admit_call-by_call.result) by_team by_call)
 
 pub returns-clause-starts : goal.returns-clause-starts
 returns-clause-starts g c = λ before st0.
@@ -53,5 +56,5 @@ returns-clause-starts g c = λ before st0.
     let at = slice_get_read c.self.inside.waiting.items _ c.args.member _ refl lt c.index-waiting.ensures in
     let is = c.meant.ensures ∙ ap (meant c.args.call.now) (sym (st.wait c.args.member _ at)) in
     let starts : IfOk c.admit_call-by_call.result (StartsShare (row_at (past team before) step) (g.S.Shares.seen team.shares c.args.member)) = rw is at c.admit_call-by_call.ensures.starts in
-    subst (λ (t : TeamView g.row.S.Denot). IfOk c.unless_refused-2.result (StartsShare (row_at (past t before) step) (g.S.Shares.seen t.shares c.args.member))) c.self.view_is
-    (still_admitted (StartsShare (row_at (past team before) step) (g.S.Shares.seen team.shares c.args.member)) c.admit_call-by_call.result c.unless_refused.result c.unless_refused-2.result c.unless_refused-2.ensures.admitted c.unless_refused.ensures.admitted starts)
+    subst (λ (t : TeamView g.row.S.Denot). IfOk c.unless_refused.result (StartsShare (row_at (past t before) step) (g.S.Shares.seen t.shares c.args.member))) c.self.view_is
+    (still_admitted (StartsShare (row_at (past team before) step) (g.S.Shares.seen team.shares c.args.member)) c.admit_call-by_call.result c.unless_refused.result c.unless_refused.ensures.admitted starts)

@@ -1,0 +1,10 @@
+use Rattle.std.proofs.Common.{◌∙◌}
+use Rattle.gomp_barrier.specs.Stands.{members_of as barrier_members}
+use Rattle.gomp_core.proofs.Refused.{member_before_wait, wait_alone}
+use Rattle.gomp_core.proofs.team.team_refusal.Goals as goal
+
+pub returns-in-Some : goal.returns-in-Some
+returns-in-Some c = λ h st broken. member_before_wait (barrier_members c.args.barriers.now) c.args.member h c.args.call.now c.args.waiting.now c.member_refusal.result c.in-Some.refusal (c.member_refusal.ensures h st broken) c.in-Some.is
+
+pub returns-in-None : goal.returns-in-None
+returns-in-None c = λ h st broken. c.wait_refusal.ensures ∙ wait_alone (barrier_members c.args.barriers.now) c.args.member h _ c.member_refusal.result (c.member_refusal.ensures h st broken) c.in-None.is
