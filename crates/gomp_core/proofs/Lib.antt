@@ -2,3 +2,4 @@ pub mod Refused
 pub mod Waits
 pub mod Stepping
 pub mod StandsExamples
+pub mod Laws

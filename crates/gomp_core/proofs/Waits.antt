@@ -58,16 +58,16 @@ open_waits terms (pair ∷ earlier) caused k call e =
 
 -- The call that a step makes or repeats
 
-shown : (stays again : Bool) → in_place stays again ≡ true → shows stays again ≡ true
-shown true again e = refl
-shown false again e = e
+stays_shown : (stays again : Bool) → in_place stays again ≡ true → shows stays again ≡ true
+stays_shown true again e = refl
+stays_shown false again e = e
 
 -- a resume with no wait open is refused
-repeated : (m : ℕ) (p : Past) (call : Call) (waiting : Option Call) → AllFail ((row_of (meant call waiting)).compared (is_resume call) m p) → ((other : Call) → waiting ≡ Some other → MayWait m other) →
+resumed_may_wait : (m : ℕ) (p : Past) (call : Call) (waiting : Option Call) → AllFail ((row_of (meant call waiting)).compared (is_resume call) m p) → ((other : Call) → waiting ≡ Some other → MayWait m other) →
     is_resume call ≡ true → MayWait m (meant call waiting)
-repeated m p Resume None fail waits again = absurd (let shut = fail.0 in cc)
-repeated m p Resume (Some call) fail waits again = waits call refl
-repeated m p _ waiting fail waits again = absurd (cc)
+resumed_may_wait m p Resume None fail waits again = absurd (let shut = fail.0 in cc)
+resumed_may_wait m p Resume (Some call) fail waits again = waits call refl
+resumed_may_wait m p _ waiting fail waits again = absurd (cc)
 
 pub step_ready : (terms : Terms) (run : Record) (step : Step) (members : ℕ) (limits : Limits) → Caused terms run → capped terms.limits ≡ terms.limits → members ≡ terms.members → limits ≡ terms.limits → refusal_of (past_of terms run) step ≡ None →
     IsReady (row_at (past_of terms run) step) members limits (is_resume step.call) step.member (past_of terms run)
@@ -78,24 +78,24 @@ step_ready terms run step members limits caused small size bounds none =
     let is : p.terms.limits ≡ limits = same_limits terms run small ∙ sym bounds in
     record {
       members_are = same_members terms run ∙ sym size;
-      place = λ e. subst (λ (l : Limits). least (row.by_place l (seen_of step.member p.events)) ≡ None) is (none_holds (row.by_place p.terms.limits (seen_of step.member p.events)) (known.place (shown row.stays (is_resume step.call) e)));
+      place = λ e. subst (λ (l : Limits). least (row.by_place l (seen_of step.member p.events)) ≡ None) is (none_holds (row.by_place p.terms.limits (seen_of step.member p.events)) (known.place (stays_shown row.stays (is_resume step.call) e)));
       compared = none_holds (row.compared (is_resume step.call) step.member p) known.compared;
-      waits = repeated step.member p step.call (p.waits step.member) known.compared (open_waits terms run caused step.member);
+      waits = resumed_may_wait step.member p step.call (p.waits step.member) known.compared (open_waits terms run caused step.member);
     }
 
 -- the place of a call that waits there is tested still
-place_kept : (m : ℕ) (limits : Limits) (h : List Event) (call : Call) (waiting : Option Call) → Pending limits m waiting h → is_resume call ≡ true → (row_of (meant call waiting)).stays ≡ true →
+waiting_place_kept : (m : ℕ) (limits : Limits) (h : List Event) (call : Call) (waiting : Option Call) → Pending limits m waiting h → is_resume call ≡ true → (row_of (meant call waiting)).stays ≡ true →
     least ((row_of (meant call waiting)).by_place limits (seen_of m h)) ≡ None
-place_kept m limits h Resume None pending again stays = absurd (cc)
-place_kept m limits h Resume (Some call) pending again stays = none_holds ((row_of call).by_place limits (seen_of m h)) (pending stays)
-place_kept m limits h _ waiting pending again stays = absurd (cc)
+waiting_place_kept m limits h Resume None pending again stays = absurd (cc)
+waiting_place_kept m limits h Resume (Some call) pending again stays = none_holds ((row_of call).by_place limits (seen_of m h)) (pending stays)
+waiting_place_kept m limits h _ waiting pending again stays = absurd (cc)
 
 pub step_place : (terms : Terms) (run : Record) (step : Step) (limits : Limits) → Caused terms run → capped terms.limits ≡ terms.limits → limits ≡ terms.limits → is_resume step.call ≡ true → (row_at (past_of terms run) step).stays ≡ true →
     least ((row_at (past_of terms run) step).by_place limits (seen_of step.member (past_of terms run).events)) ≡ None
 step_place terms run step limits caused small bounds again stays =
     let p = past_of terms run in
     let is : p.terms.limits ≡ limits = same_limits terms run small ∙ sym bounds in
-    place_kept step.member limits p.events step.call (p.waits step.member) (subst (λ (l : Limits). Pending l step.member (p.waits step.member) p.events) is ((known_of terms run caused).pending step.member)) again stays
+    waiting_place_kept step.member limits p.events step.call (p.waits step.member) (subst (λ (l : Limits). Pending l step.member (p.waits step.member) p.events) is ((known_of terms run caused).pending step.member)) again stays
 
 -- a member whose step is not refused for that is one of the team
 pub step_below : (p : Past) (step : Step) → (refusal_of p step ≡ Some BadMember → ⊥) → step.member < p.terms.members

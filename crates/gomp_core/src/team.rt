@@ -9,7 +9,6 @@ ghost use Rattle.gomp_types.specs.declared.call.Call.{Call};
 ghost use Rattle.gomp_types.specs.declared.call.Call.TheVariants.{Resume};
 ghost use Rattle.gomp_types.specs.declared.event.Event.{Event};
 ghost use Rattle.gomp_types.specs.Events.{clash_of};
-ghost use Rattle.gomp_laws.specs.Headline.{Headline};
 ghost use Rattle.std.specs.Result.{result_err};
 ghost use Rattle.gomp_types.specs.Least.{lesser, least};
 ghost use Rattle.gomp_model.specs.Team.{Record, row_at, meant, is_resume, member_tests, wait_tests, wait_after, refusal_of, MayAnswer, events};
@@ -32,7 +31,7 @@ use std::marker::Model;
 /// Every value stands for some record of steps and replies (its invariant), so a team may lie
 /// anywhere, and be stepped with nothing to prove. A record is the list of steps and replies, the newest
 /// first (specs/Team.antt of gomp_model); what it means that a team stands for one is `Stands` in
-/// specs/Stands.antt.
+/// specs/Stands.antt. The headline holds of each such record (proofs/Laws.antt).
 #[derive(Drop)]
 pub struct Team<S: Shares> {
     icv: Icv,
@@ -197,19 +196,6 @@ impl<S: Shares> Team<S> {
                 Reply::Refused(refusal)
             }
         }
-    }
-
-    /// Whatever was asked, the headline holds of each record that the team stands for
-    /// (proofs/Laws.antt of gomp_laws): no iteration, section or single is taken twice, what all
-    /// members left was all taken, ordered parts run in order, words are copied as they were put, and
-    /// no member passes a barrier early.
-    pub fn laws(&self)
-        ensures known { (before : Record) × Stands S.stands S.members self.now before }
-        ensures size { IsTeamSize (members_of self.now) }
-        ensures laws { (before : Record) → Stands S.stands S.members self.now before →
-            Headline (members_of self.now) (events (terms_of self.now) before) }
-    {
-        let _ = &self.waiting;
     }
 
     /// The shape of the share that the step starts, if it starts one; or why it is refused: of its tests

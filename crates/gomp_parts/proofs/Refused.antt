@@ -40,8 +40,8 @@ beginning n (test ∷ tests) = nat_le n (number_of test.1) && beginning n tests
 below_both : (a b n : ℕ) → a ≤ b → nat_le b n ≡ true → nat_le a n ≡ true
 below_both a b n one other = grind (arith, nat_tests)
 
-between : (a n b : ℕ) → nat_le a n ≡ true → nat_le n b ≡ true → nat_le a b ≡ true
-between a n b one other = grind (arith, nat_tests)
+number_between : (a n b : ℕ) → nat_le a n ≡ true → nat_le n b ≡ true → nat_le a b ≡ true
+number_between a n b one other = grind (arith, nat_tests)
 
 pub least_up : (n : ℕ) (tests : List Test) (refusal : Refusal) → up_to n tests ≡ true → least tests ≡ Some refusal → nat_le (number_of refusal) n ≡ true
 least_up n [] refusal low is = absurd (cc)
@@ -52,7 +52,7 @@ least_up n ((false, one) ∷ tests) refusal low is = least_up n tests refusal (a
 pub least_before : (n : ℕ) (refusal : Refusal) (tests : List Test) → nat_le (number_of refusal) n ≡ true → beginning n tests ≡ true → lesser (Some refusal) (least tests) ≡ Some refusal
 least_before n refusal [] low high = refl
 least_before n refusal ((true, one) ∷ tests) low high =
-    let less = between (number_of refusal) n (number_of one) low (and_left (nat_le n (number_of one)) (beginning n tests) high) in
+    let less = number_between (number_of refusal) n (number_of one) low (and_left (nat_le n (number_of one)) (beginning n tests) high) in
     let first : lesser (Some refusal) (Some one) ≡ Some refusal = rw less refl in
     lesser_assoc (Some refusal) (Some one) (least tests) ∙ ap (λ (x : Option Refusal). lesser x (least tests)) first
     ∙ least_before n refusal tests low (and_right (nat_le n (number_of one)) (beginning n tests) high)
