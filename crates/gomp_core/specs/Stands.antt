@@ -1,11 +1,13 @@
 -- When a team stands for a record. (own)
 use Rattle.std.specs.Prelude.{ℕ, ◌≡◌, ◌≢◌, List, [], ◌∷◌, Option, Some, length, slice_get}
 use Rattle.gomp_types.specs.declared.call.Call.{Call}
+use Rattle.gomp_types.specs.declared.call.Call.TheVariants.{Resume}
 use Rattle.gomp_types.specs.declared.limits.Limits.{Limits}
 use Rattle.gomp_types.specs.declared.refusal.Clash.{Clash}
-use Rattle.gomp_types.specs.declared.refusal.Refusal.TheVariants.{NoMemory}
+use Rattle.gomp_types.specs.declared.refusal.Refusal.{Refusal}
+use Rattle.gomp_types.specs.declared.refusal.Refusal.TheVariants.{Mismatch, NoMemory}
 use Rattle.gomp_types.specs.declared.reply.Reply.{Reply}
-use Rattle.gomp_types.specs.declared.reply.Reply.TheVariants.{Refused}
+use Rattle.gomp_types.specs.declared.reply.Reply.TheVariants.{Wait, Refused}
 use Rattle.gomp_types.specs.declared.event.Event.{Event}
 use Rattle.gomp_types.specs.Limits.{standard, capped, IsTeamSize}
 use Rattle.gomp_types.specs.Events.{clash_of}
@@ -57,6 +59,19 @@ pub record Stands {S : Type 0} (stands : S → List Event → Type 0) (members :
   -- one place for each member in every part
   pub shares_size : members team.shares ≡ members_of team
   pub barriers_size : barrier_members team.barriers ≡ members_of team
+
+-- what a step leaves of a team as it was
+pub record Keeps {S : Type 0} (team after : TeamView S) (call : Call) (reply : Reply) : Type 0 where
+  -- what it was made with
+  pub members : members_of after ≡ members_of team
+  pub icv : after.icv ≡ team.icv
+  pub limits : after.limits ≡ team.limits
+  -- all of it, where the step is refused and does not break it
+  pub refused : (refusal : Refusal) → reply ≡ Refused refusal → refusal ≢ Mismatch → after ≡ team
+  -- all but that it is broken, where the step breaks it
+  pub broken : reply ≡ Refused Mismatch → after ≡ record team { broken = after.broken }
+  -- and all of it, where a resume waits on
+  pub waits : reply ≡ Wait → call ≡ Resume → after ≡ team
 
 -- what a team of this many members is made with, by these control variables, where no limits are given
 abbrev pub standard_terms : ℕ → Variables → Terms

@@ -2,11 +2,9 @@
 
 ghost use Rattle.std.specs.Prelude.{◌≡◌, ◌≢◌, ◌<◌, ◌↔◌, ◌⊎◌, ◌∷◌, List, [], IfOk, Err, None, replicate};
 ghost use Rattle.gomp_types.specs.declared.refusal.Refusal.{Refusal};
-ghost use Rattle.gomp_types.specs.declared.refusal.Refusal.TheVariants.{BadTeam, NoMemory, Mismatch};
+ghost use Rattle.gomp_types.specs.declared.refusal.Refusal.TheVariants.{BadTeam, NoMemory};
 ghost use Rattle.gomp_types.specs.Limits.{capped, standard, IsTeamSize};
-ghost use Rattle.gomp_types.specs.declared.reply.Reply.TheVariants.{Wait, Refused};
-ghost use Rattle.gomp_types.specs.declared.call.Call.{Call};
-ghost use Rattle.gomp_types.specs.declared.call.Call.TheVariants.{Resume};
+ghost use Rattle.gomp_types.specs.declared.reply.Reply.TheVariants.{Refused};
 ghost use Rattle.gomp_types.specs.declared.event.Event.{Event};
 ghost use Rattle.gomp_types.specs.Events.{clash_of};
 ghost use Rattle.std.specs.Result.{result_err};
@@ -14,7 +12,7 @@ ghost use Rattle.gomp_types.specs.Least.{lesser, least};
 ghost use Rattle.gomp_model.specs.Team.{Record, row_at, meant, is_resume, member_tests, wait_tests, wait_after, refusal_of, MayAnswer, events};
 ghost use Rattle.gomp_barrier.specs.Stands.{Stands as BarriersStand, members_of as barrier_members};
 ghost use Rattle.gomp_parts.specs.Answers.{StartsShare, broken_after};
-ghost use Rattle.gomp_core.specs.Stands.{Stands, past, terms_of, members_of};
+ghost use Rattle.gomp_core.specs.Stands.{Stands, Keeps, past, terms_of, members_of};
 ghost use Rattle.gomp_core.specs.Resolved.{resolved_call, resolved_step};
 
 use gomp_barrier::Barriers;
@@ -132,15 +130,8 @@ impl<S: Shares> Team<S> {
     pub fn step(&mut self, member: u16, call: Call) -> Reply
         ensures known { (before : Record) × Stands S.stands S.members self.old before }
         ensures size { IsTeamSize (members_of self.old) }
-        ensures members { members_of self.new ≡ members_of self.old }
-        ensures icv { self.new.icv ≡ self.old.icv }
-        ensures limits { self.new.limits ≡ self.old.limits }
+        ensures keeps { Keeps self.old self.new call result }
         ensures memory { result ≢ Refused NoMemory }
-        ensures kept { (refusal : Refusal) → result ≡ Refused refusal → refusal ≢ Mismatch →
-            self.new ≡ self.old }
-        ensures broken { result ≡ Refused Mismatch →
-            self.new ≡ record self.old { broken = self.new.broken } }
-        ensures again { result ≡ Wait → call ≡ Resume → self.new ≡ self.old }
         ensures answer { (before : Record) → Stands S.stands S.members self.old before →
             MayAnswer (past self.old before) (resolved_step self.old.icv
             (record { member = member; call = call })) result }
@@ -155,15 +146,8 @@ impl<S: Shares> Team<S> {
 
     /// The reply to a call that has the schedule which counts.
     fn resolved_step(&mut self, member: u16, call: Call) -> Reply
-        ensures members { members_of self.new ≡ members_of self.old }
-        ensures icv { self.new.icv ≡ self.old.icv }
-        ensures limits { self.new.limits ≡ self.old.limits }
+        ensures keeps { Keeps self.old self.new call result }
         ensures memory { result ≢ Refused NoMemory }
-        ensures kept { (refusal : Refusal) → result ≡ Refused refusal → refusal ≢ Mismatch →
-            self.new ≡ self.old }
-        ensures broken { result ≡ Refused Mismatch →
-            self.new ≡ record self.old { broken = self.new.broken } }
-        ensures again { result ≡ Wait → call ≡ Resume → self.new ≡ self.old }
         ensures answer { (before : Record) → Stands S.stands S.members self.old before →
             MayAnswer (past self.old before) (record { member = member; call = call }) result }
         ensures stands { (before : Record) → Stands S.stands S.members self.old before →

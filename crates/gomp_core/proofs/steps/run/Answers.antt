@@ -37,9 +37,9 @@ loop-step-preserved g c =
       all = sym (moved_on c.loop-step.yielded c.next.new.self.rest.items c.in-Some.step) ∙ ap (λ (xs : List Step). c.loop-step.yielded ++ xs) (sym c.in-Some.ensures.steps.0) ∙ inv.all;
       each = let each = inv.each in rw c.push_reserved.ensures.items (simp length-append (omega arith));
       room = let kept = c.push_reserved.ensures.capacity in let room = inv.room in omega arith;
-      members = c.step.ensures.members ∙ inv.members;
-      icv = c.step.ensures.icv ∙ inv.icv;
-      limits = c.step.ensures.limits ∙ inv.limits;
+      members = c.step.ensures.keeps.members ∙ inv.members;
+      icv = c.step.ensures.keeps.icv ∙ inv.icv;
+      limits = c.step.ensures.keeps.limits ∙ inv.limits;
       memory = rw c.push_reserved.ensures.items (memory_more c.loop-step.replies.items c.step.result inv.memory c.step.ensures.memory);
       stands = rw (c.push_reserved.ensures.items, more) (rw inv.icv at (c.step.ensures.stands before inv.stands));
     }

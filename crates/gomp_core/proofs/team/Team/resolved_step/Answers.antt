@@ -1,4 +1,4 @@
-use Rattle.std.proofs.Common.{◌≡◌, ◌∙◌, ◌<◌, Some, None, length, slice_get, refl, ap, sym, subst, arith}
+use Rattle.std.proofs.Common.{◌≡◌, ◌∙◌, ◌<◌, Some, None, length, slice_get, refl, ap, sym, subst, arith, rules}
 use Rattle.std.specs.Result.{result_err}
 use Rattle.std.proofs.lemmas.Option.{slice_get_read}
 use Rattle.gomp_types.specs.declared.call.Step.{Step}
@@ -126,18 +126,21 @@ own_known g c = let (before, st) = c.self.invariant in (before, known_of g c bef
 pub returns-in-Ok-clause-memory : goal.returns-in-Ok-clause-memory
 returns-in-Ok-clause-memory g c = let (before, k) = own_known g c in never_refused (past (team_of g c) before) (step_of g c) NoMemory c.answer-reply.result k.may
 
-pub returns-in-Ok-clause-kept : goal.returns-in-Ok-clause-kept
-returns-in-Ok-clause-kept g c = λ refusal same differ. let (before, k) = own_known g c in absurd (never_refused (past (team_of g c) before) (step_of g c) refusal c.answer-reply.result k.may same)
-
-pub returns-in-Ok-clause-broken : goal.returns-in-Ok-clause-broken
-returns-in-Ok-clause-broken g c = λ same. let (before, k) = own_known g c in absurd (never_refused (past (team_of g c) before) (step_of g c) Mismatch c.answer-reply.result k.may same)
-
-pub returns-in-Ok-clause-again : goal.returns-in-Ok-clause-again
-returns-in-Ok-clause-again g c = λ wait resume.
+pub returns-in-Ok-clause-keeps : goal.returns-in-Ok-clause-keeps
+returns-in-Ok-clause-keeps g c =
     let (before, k) = own_known g c in
-    let kept = c.answer-reply.ensures.again (c.is_resume.ensures ∙ ap is_resume resume) wait in
-    rw (set_twice c.self.inside.waiting.items c.args.member c.take-waiting.new.self c.wait_after.result, c.wait_after.ensures, c.broken_after-self-inside.ensures)
-    (waits_on (team_of g c) c.answer-reply.new.shares c.answer-reply.new.barriers c.answer-reply.new.payloads (past (team_of g c) before) (step_of g c) c.take-waiting.result c.answer-reply.result k.at (k.st.wait c.args.member c.take-waiting.result k.at) k.none kept wait resume ∙ same_as g c)
+    let never = never_refused (past (team_of g c) before) (step_of g c) in
+    record {
+      members = search rules;
+      icv = search rules;
+      limits = search rules;
+      refused = λ refusal same differ. absurd (never refusal c.answer-reply.result k.may same);
+      broken = λ same. absurd (never Mismatch c.answer-reply.result k.may same);
+      waits = λ wait resume.
+          let kept = c.answer-reply.ensures.again (c.is_resume.ensures ∙ ap is_resume resume) wait in
+          rw (set_twice c.self.inside.waiting.items c.args.member c.take-waiting.new.self c.wait_after.result, c.wait_after.ensures, c.broken_after-self-inside.ensures)
+          (waits_on (team_of g c) c.answer-reply.new.shares c.answer-reply.new.barriers c.answer-reply.new.payloads (past (team_of g c) before) (step_of g c) c.take-waiting.result c.answer-reply.result k.at (k.st.wait c.args.member c.take-waiting.result k.at) k.none kept wait resume ∙ same_as g c);
+    }
 
 pub returns-in-Ok-clause-answer : goal.returns-in-Ok-clause-answer
 returns-in-Ok-clause-answer g c = λ before st0.

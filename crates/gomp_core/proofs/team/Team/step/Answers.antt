@@ -2,5 +2,7 @@ use Rattle.std.proofs.Common.{ap, ◌∙◌}
 use Rattle.gomp_core.specs.Resolved.{resolved_call}
 use Rattle.gomp_core.proofs.team.Team.step.Goals as goal
 
-pub returns-clause-again : goal.returns-clause-again
-returns-clause-again g c = λ same resume. c.resolved_step.ensures.again same (c.resolved-call.ensures ∙ ap (resolved_call c.self.inside.icv) resume)
+pub returns-clause-keeps : goal.returns-clause-keeps
+returns-clause-keeps g c =
+    let kept = c.resolved_step.ensures.keeps in
+    record { members = kept.members; icv = kept.icv; limits = kept.limits; refused = kept.refused; broken = kept.broken; waits = λ same resume. kept.waits same (c.resolved-call.ensures ∙ ap (resolved_call c.self.inside.icv) resume) }
