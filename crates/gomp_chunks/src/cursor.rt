@@ -66,9 +66,14 @@ impl Cursor {
     pub fn next_piece(&mut self, member: u16, own: u64, all: u64) -> Option<(u64, (u64, u64))>
         requires member { member < self.old.plan.members }
         ensures plan { self.new.plan ≡ self.old.plan }
-        ensures piece { option_map (λ taken. taken.1) result ≡ next_piece self.old.plan member own all }
-        ensures number { IfSome result (λ taken. slice_get (pieces self.old.plan) taken.0 ≡ Some taken.1) }
-        ensures within { IfSome result (λ taken. IsPieceWithin self.old.plan.shape.trips taken.1) }
+        ensures piece { option_map (λ taken. taken.1) result ≡
+            next_piece self.old.plan member own all }
+        ensures number { IfSome result (λ taken.
+            slice_get (pieces self.old.plan) taken.0 ≡ Some taken.1) }
+        ensures within { IfSome result (λ taken.
+            IsPieceWithin self.old.plan.shape.trips taken.1) }
+        ensures spot { IfSome result (λ taken.
+            IsSpotAt self.new.plan.shape self.new.spot taken.0) }
     {
         let number = self.plan.next_number(member, own, all)?;
         let piece = self.advance_to(number)?;

@@ -17,7 +17,7 @@ ghost use Rattle.std.specs.Prelude.{◌≡◌, ◌≢◌, ◌<◌, ◌≤◌, �
 ghost use Rattle.gomp_types.specs.declared.shape.ShareKind.TheVariants.{Guided};
 ghost use Rattle.gomp_types.specs.Pieces.{Tiles};
 ghost use Rattle.gomp_types.specs.Values.{IsShape};
-ghost use Rattle.gomp_chunks.specs.Plans.{next_piece, owner, piece_at, pieces};
+ghost use Rattle.gomp_chunks.specs.Plans.{IsPieceWithin, next_piece, owner, piece_at, pieces};
 ghost use Rattle.gomp_chunks.specs.Spots.{IsSpot, IsSpotAt};
 
 use chunked::{chunked_count, chunked_piece};
@@ -92,7 +92,7 @@ impl Plan {
         ensures piece { result ≡ slice_get (pieces self.now) j }
 
         // A piece has an iteration, and its ends and its number lie within the loop.
-        ensures within { IfSome result (λ piece. (piece.0 < piece.1) × (piece.1 ≤ self.now.shape.trips)) }
+        ensures within { IfSome result (IsPieceWithin self.now.shape.trips) }
         ensures number { OnSome result (j < self.now.shape.trips) }
     {
         self.piece_from(self.spot_from(Spot::START, j), self.count_ahead(), j)
@@ -164,7 +164,7 @@ impl Plan {
         requires there { IsSpotAt self.now.shape spot j }
         requires count { self.now.shape.kind ≢ Guided → count ≡ length (pieces self.now) }
         ensures piece { result ≡ slice_get (pieces self.now) j }
-        ensures within { IfSome result (λ piece. (piece.0 < piece.1) × (piece.1 ≤ self.now.shape.trips)) }
+        ensures within { IfSome result (IsPieceWithin self.now.shape.trips) }
         ensures number { OnSome result (j < self.now.shape.trips) }
     {
         match self.shape.kind {
