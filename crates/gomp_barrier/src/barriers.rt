@@ -49,7 +49,7 @@ impl Model for Barriers {
 
 impl Barriers {
     /// The barriers of a new team of `count` members, at least 1 (a team has 1 to 64). It fails
-    /// where their memory is refused.
+    /// if their memory is refused.
     pub fn make(alloc: Global, count: u16) -> Result<Barriers, AllocError>
         requires some { 0 < count }
         ensures members { IfOk result (λ barriers. members_of barriers ≡ count) }

@@ -14,7 +14,7 @@ use gomp_types::{Arrival, Tag};
 pub struct Seat {
     /// Whether it has passed an odd number of barriers.
     pub odd: bool,
-    /// With which tag it has arrived at its next barrier: none where it has not.
+    /// With which tag it has arrived at its next barrier: none if it has not.
     pub arrived: Option<Tag>,
     /// Whether it has passed the region's end.
     pub left: bool,
@@ -40,7 +40,7 @@ pub fn is_ahead(front: &Front, member: &Seat) -> bool
     member.odd != front.odd
 }
 
-/// With which tag any member has arrived at the member's next barrier: none where nobody has.
+/// With which tag any member has arrived at the member's next barrier: none if nobody has.
 pub fn tag_for(front: &Front, member: &Seat) -> Option<Tag>
     ensures { result ≡ tag_for front.now member.now }
 {

@@ -61,7 +61,7 @@ impl Cursor {
         self.plan.piece_from(self.spot, self.count, j)
     }
 
-    /// The piece that a member takes next, with its number, where it took `own` pieces and all members
+    /// The piece that a member takes next, with its number, if it took `own` pieces and all members
     /// together took `all`: of a static loop its own next one, of others the next one of all.
     pub fn next_piece(&mut self, member: u16, own: u64, all: u64) -> Option<(u64, (u64, u64))>
         requires member { member < self.old.plan.members }

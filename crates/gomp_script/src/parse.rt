@@ -152,7 +152,7 @@ fn first_fault(lines: Option<&[u8]>, first: u64) -> ParseError
     ParseError::Memory
 }
 
-/// Keeps the step of a line, if it has one. Only a step takes memory, and only where the list is full.
+/// Keeps the step of a line, if it has one. Only a step takes memory, and only if the list is full.
 fn keep(steps: &mut Vec<Step>, step: Option<Step>) -> Result<(), AllocError>
     ensures kept { OnOk result (steps.new.items ≡ kept steps.old.items step) }
     ensures step { OnErr result (IsSome step) }
@@ -186,7 +186,7 @@ fn read_step(line: &[u8]) -> Result<Option<Step>, Why>
     Ok(Some(step))
 }
 
-/// The first word of a line, and the rest of the line after it. None where the line has no word, or
+/// The first word of a line, and the rest of the line after it. None if the line has no word, or
 /// is a comment.
 fn first_word(line: &[u8]) -> Result<Option<(&[u8], &[u8])>, Why>
     ensures { IsFirstOfLine line.now result }
