@@ -69,6 +69,10 @@ pub record FrontStands (members : List Seat) (front : Front) (least : ℕ) (h : 
   pub beyond : (g : ℕ) → least + 2 ≤ g → tag_at g h ≡ None
   pub seat : (m : ℕ) (member : Seat) → slice_get members m ≡ Some member → SeatStands front least m member h
 
--- some member has not passed the front
+-- every member has passed the front
+abbrev pub AllAhead : Front → List Seat → Type 0
+AllAhead front members = All (λ member. is_ahead front member ≡ true) members
+
+-- some member has not
 abbrev pub SomeBehind : Front → List Seat → Type 0
-SomeBehind front members = All (λ member. is_ahead front member ≡ true) members → ⊥
+SomeBehind front members = AllAhead front members → ⊥

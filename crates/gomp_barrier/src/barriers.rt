@@ -49,7 +49,7 @@ impl Model for Barriers {
 
 impl Barriers {
     /// The barriers of a new team of `count` members, at least 1 (a team has 1 to 64). It fails
-    /// where their memory is refused.
+    /// if their memory is refused.
     pub fn make(alloc: Global, count: u16) -> Result<Barriers, AllocError>
         requires some { 0 < count }
         ensures members { IfOk result (λ barriers. members_of barriers ≡ count) }
@@ -93,9 +93,11 @@ impl Barriers {
         requires member { member < members_of self.old }
         ensures members { members_of self.new ≡ members_of self.old }
         ensures known { (h : List Event) × Stands self.old h }
-        ensures answer { (h : List Event) → Stands self.old h → result ≡ not (tag_differs tag (tag_at (passed member h) h)) }
+        ensures answer { (h : List Event) → Stands self.old h →
+            result ≡ not (tag_differs tag (tag_at (passed member h) h)) }
         ensures kept { result ≡ false → self.new ≡ self.old }
-        ensures stands { (h : List Event) → Stands self.old h → Stands self.new (arrived_after result member tag h) }
+        ensures stands { (h : List Event) → Stands self.old h →
+            Stands self.new (arrived_after result member tag h) }
     {
         let seat = self.seats[member as usize];
         if differs(tag, tag_for(&self.front, &seat)) {
@@ -110,15 +112,17 @@ impl Barriers {
         true
     }
 
-    /// The member, numbered from 0, passes its next barrier where every member has arrived there; else nothing
-    /// changes, and the answer is false.
+    /// The member, numbered from 0, passes its next barrier if every member has arrived there; else
+    /// nothing changes, and the answer is false.
     pub fn turn(&mut self, member: u16) -> bool
         requires member { member < members_of self.old }
         ensures members { members_of self.new ≡ members_of self.old }
         ensures known { (h : List Event) × Stands self.old h }
-        ensures answer { (h : List Event) → Stands self.old h → result ≡ barrier_met (members_of self.old) (passed member h) h }
+        ensures answer { (h : List Event) → Stands self.old h →
+            result ≡ barrier_met (members_of self.old) (passed member h) h }
         ensures kept { result ≡ false → self.new ≡ self.old }
-        ensures stands { (h : List Event) → Stands self.old h → Stands self.new (turn_after result member h) }
+        ensures stands { (h : List Event) → Stands self.old h →
+            Stands self.new (turn_after result member h) }
     {
         let seat = self.seats[member as usize];
         if is_ahead(&self.front, &seat) {

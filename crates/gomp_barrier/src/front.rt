@@ -3,9 +3,9 @@
 //! No member is two barriers ahead of another, so it is enough to know of each whether it is ahead
 //! of the slowest, which the parities tell.
 
-ghost use Rattle.std.specs.Prelude.{◌≡◌, ◌↔◌, IsTrue, All, true};
+ghost use Rattle.std.specs.Prelude.{◌≡◌, ◌↔◌, IsTrue, All};
 ghost use Rattle.gomp_types.specs.Events.{was_region_end};
-ghost use Rattle.gomp_barrier.specs.Seats.{is_ahead, tag_for, number_for, IsThere, arrived_at, passed_by, advanced};
+ghost use Rattle.gomp_barrier.specs.Seats.{is_ahead, tag_for, number_for, IsThere, AllAhead, SomeBehind, arrived_at, passed_by, advanced};
 
 use gomp_types::{Arrival, Tag};
 
@@ -14,7 +14,7 @@ use gomp_types::{Arrival, Tag};
 pub struct Seat {
     /// Whether it has passed an odd number of barriers.
     pub odd: bool,
-    /// With which tag it has arrived at its next barrier: none where it has not.
+    /// With which tag it has arrived at its next barrier: none if it has not.
     pub arrived: Option<Tag>,
     /// Whether it has passed the region's end.
     pub left: bool,
@@ -40,7 +40,7 @@ pub fn is_ahead(front: &Front, member: &Seat) -> bool
     member.odd != front.odd
 }
 
-/// With which tag any member has arrived at the member's next barrier: none where nobody has.
+/// With which tag any member has arrived at the member's next barrier: none if nobody has.
 pub fn tag_for(front: &Front, member: &Seat) -> Option<Tag>
     ensures { result ≡ tag_for front.now member.now }
 {
@@ -103,8 +103,8 @@ pub fn passed_by(member: &Seat, at_region_end: bool) -> Seat
 
 /// The front after members have passed: the next barrier, once all have passed this one.
 pub fn settled(front: &Front, members: &[Seat]) -> Front
-    ensures moved { All (λ member. is_ahead front.now member ≡ true) members.now → result ≡ advanced front.now }
-    ensures stays { (All (λ member. is_ahead front.now member ≡ true) members.now → ⊥) → result ≡ front.now }
+    ensures moved { AllAhead front.now members.now → result ≡ advanced front.now }
+    ensures stays { SomeBehind front.now members.now → result ≡ front.now }
 {
     if members.iter().all(|member| is_ahead(front, member)) {
         Front {

@@ -61,14 +61,19 @@ impl Cursor {
         self.plan.piece_from(self.spot, self.count, j)
     }
 
-    /// The piece that a member takes next, with its number, where it took `own` pieces and all members
+    /// The piece that a member takes next, with its number, if it took `own` pieces and all members
     /// together took `all`: of a static loop its own next one, of others the next one of all.
     pub fn next_piece(&mut self, member: u16, own: u64, all: u64) -> Option<(u64, (u64, u64))>
         requires member { member < self.old.plan.members }
         ensures plan { self.new.plan ≡ self.old.plan }
-        ensures piece { option_map (λ taken. taken.1) result ≡ next_piece self.old.plan member own all }
-        ensures number { IfSome result (λ taken. slice_get (pieces self.old.plan) taken.0 ≡ Some taken.1) }
-        ensures within { IfSome result (λ taken. IsPieceWithin self.old.plan.shape.trips taken.1) }
+        ensures piece { option_map (λ taken. taken.1) result ≡
+            next_piece self.old.plan member own all }
+        ensures number { IfSome result (λ taken.
+            slice_get (pieces self.old.plan) taken.0 ≡ Some taken.1) }
+        ensures within { IfSome result (λ taken.
+            IsPieceWithin self.old.plan.shape.trips taken.1) }
+        ensures spot { IfSome result (λ taken.
+            IsSpotAt self.new.plan.shape self.new.spot taken.0) }
     {
         let number = self.plan.next_number(member, own, all)?;
         let piece = self.advance_to(number)?;

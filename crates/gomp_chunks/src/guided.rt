@@ -36,7 +36,7 @@ pub fn size_from(shape: &Shape, members: u16, first: u64) -> u64
     rest.div_ceil(members as u64).max(shape.chunk).min(rest)
 }
 
-/// Goes forward from a spot to piece number `j`, or past the last piece where there is none of this
+/// Goes forward from a spot to piece number `j`, or past the last piece if there is none of this
 /// number.
 pub fn forward(shape: &Shape, members: u16, start: Spot, j: u64) -> Spot
     requires shape { IsShape shape.now }
@@ -57,7 +57,7 @@ pub fn forward(shape: &Shape, members: u16, start: Spot, j: u64) -> Spot
     spot
 }
 
-/// Piece number `j`, from its spot; none where that lies past the last piece.
+/// Piece number `j`, from its spot; none if that lies past the last piece.
 pub fn guided_piece(shape: &Shape, members: u16, spot: Spot, j: u64) -> Option<(u64, u64)>
     requires shape { IsShape shape.now }
     requires team { 0 < members }

@@ -17,7 +17,7 @@ ghost use Rattle.std.specs.Prelude.{◌≡◌, ◌≢◌, ◌<◌, ◌≤◌, �
 ghost use Rattle.gomp_types.specs.declared.shape.ShareKind.TheVariants.{Guided};
 ghost use Rattle.gomp_types.specs.Pieces.{Tiles};
 ghost use Rattle.gomp_types.specs.Values.{IsShape};
-ghost use Rattle.gomp_chunks.specs.Plans.{next_piece, owner, piece_at, pieces};
+ghost use Rattle.gomp_chunks.specs.Plans.{IsPieceWithin, next_piece, owner, piece_at, pieces};
 ghost use Rattle.gomp_chunks.specs.Spots.{IsSpot, IsSpotAt};
 
 use chunked::{chunked_count, chunked_piece};
@@ -70,7 +70,7 @@ impl Plan {
         }
     }
 
-    /// How many pieces there are, 0 to 2^39; none where the share has no iterations. Those of a guided
+    /// How many pieces there are, 0 to 2^39; none if the share has no iterations. Those of a guided
     /// loop are counted anew at each call.
     pub fn chunks(&self) -> u64
         ensures count { result ≡ length (pieces self.now) }
@@ -86,20 +86,20 @@ impl Plan {
     }
 
     /// Piece number `j`, counted from 0: its first iteration, and the one after its last. `None`
-    /// where `j` is past the last piece. Any number may be asked for, at the same small cost; only a
+    /// if `j` is past the last piece. Any number may be asked for, at the same small cost; only a
     /// guided loop's pieces are gone over from the first one on (see [`Cursor`]).
     pub fn chunk(&self, j: u64) -> Option<(u64, u64)>
         ensures piece { result ≡ slice_get (pieces self.now) j }
 
         // A piece has an iteration, and its ends and its number lie within the loop.
-        ensures within { IfSome result (λ piece. (piece.0 < piece.1) × (piece.1 ≤ self.now.shape.trips)) }
+        ensures within { IfSome result (IsPieceWithin self.now.shape.trips) }
         ensures number { OnSome result (j < self.now.shape.trips) }
     {
         self.piece_from(self.spot_from(Spot::START, j), self.count_ahead(), j)
     }
 
-    /// The member that owns piece number `j` of a static loop. `None` where `j` is past the last
-    /// piece, and where the pieces belong to whoever asks next.
+    /// The member that owns piece number `j` of a static loop. `None` if `j` is past the last
+    /// piece, and if the pieces belong to whoever asks next.
     pub fn owner(&self, j: u64) -> Option<u16>
         ensures owner { result ≡ owner self.now j }
         ensures member { IfSome result (λ member. member < self.now.members) }
@@ -115,9 +115,9 @@ impl Plan {
         }
     }
 
-    /// The number of the piece that a member takes next, where it took `own` pieces and all members
+    /// The number of the piece that a member takes next, if it took `own` pieces and all members
     /// together took `all`: of a static loop its own next one, of others the next one of all. `None`,
-    /// or a number past the last piece, where nothing is left for it.
+    /// or a number past the last piece, if nothing is left for it.
     pub fn next_number(&self, member: u16, own: u64, all: u64) -> Option<u64>
         requires { member < self.now.members }
         ensures { next_piece self.now member own all ≡ piece_at self.now result }
@@ -146,7 +146,7 @@ impl Plan {
         }
     }
 
-    /// How many pieces there are, where that is known ahead: 0 for a guided loop, whose pieces are not
+    /// How many pieces there are, if that is known ahead: 0 for a guided loop, whose pieces are not
     /// gone over.
     fn count_ahead(&self) -> u64
         ensures { self.now.shape.kind ≢ Guided → result ≡ length (pieces self.now) }
@@ -157,14 +157,14 @@ impl Plan {
         }
     }
 
-    /// Piece number `j`, where this is its spot, and there are `count` pieces if the loop is not guided.
+    /// Piece number `j`, if this is its spot, and there are `count` pieces if the loop is not guided.
     fn piece_from(&self, spot: Spot, count: u64, j: u64) -> Option<(u64, u64)>
         requires spot { IsSpot self.now.members self.now.shape spot }
         requires ahead { spot.number ≤ j }
         requires there { IsSpotAt self.now.shape spot j }
         requires count { self.now.shape.kind ≢ Guided → count ≡ length (pieces self.now) }
         ensures piece { result ≡ slice_get (pieces self.now) j }
-        ensures within { IfSome result (λ piece. (piece.0 < piece.1) × (piece.1 ≤ self.now.shape.trips)) }
+        ensures within { IfSome result (IsPieceWithin self.now.shape.trips) }
         ensures number { OnSome result (j < self.now.shape.trips) }
     {
         match self.shape.kind {

@@ -5,7 +5,7 @@ ghost use Rattle.gomp_types.specs.Pieces.{whole_piece};
 
 use gomp_types::Shape;
 
-/// How many pieces there are: one, and none where there is nothing to do.
+/// How many pieces there are: one, and none if there is nothing to do.
 pub fn whole_count(shape: &Shape) -> u64
     ensures count { result ≡ length (whole_piece shape.now.trips) }
     ensures bounded { result ≤ shape.now.trips }

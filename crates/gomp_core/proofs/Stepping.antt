@@ -25,7 +25,7 @@ use Rattle.gomp_model.specs.Calls.{row_of}
 use Rattle.gomp_model.specs.Team.{Record, record_after, meant, is_resume, row_at, broken_tests, refusal_of, MayAnswer, wait_after, past_of, Caused}
 use Rattle.gomp_barrier.specs.Stands.{BarriersView, Stands as BarriersStand, members_of as barrier_members}
 use Rattle.gomp_laws.proofs.Sound.{Gives, gives_of, IsLast, breaks}
-use Rattle.gomp_laws.proofs.Steps.{step_keeps}
+use Rattle.gomp_laws.proofs.CallsKeep.{step_keeps}
 use Rattle.gomp_laws.proofs.Known.{unrefused_step_passes}
 use Rattle.gomp_laws.proofs.Layers.{step_layers}
 use Rattle.gomp_laws.proofs.Calls.{row_is_sound}

@@ -13,7 +13,7 @@ use Rattle.gomp_types.specs.declared.reply.Reply.TheVariants.{Wait, Refused}
 use Rattle.gomp_types.specs.Limits.{capped}
 use Rattle.gomp_types.specs.Least.{least}
 use Rattle.gomp_types.specs.Seen.{seen_of}
-use Rattle.gomp_types.proofs.Booleans.{tells, is_equal}
+use Rattle.gomp_types.proofs.Booleans.{which_branch, is_equal}
 use Rattle.gomp_types.proofs.LeastTests.{AllFail, none_holds}
 use Rattle.gomp_model.specs.Past.{Terms, Past}
 use Rattle.gomp_model.specs.Row.{since}
@@ -48,7 +48,7 @@ pub open_waits : (terms : Terms) (run : Record) → Caused terms run → (k : �
 open_waits terms [] caused k call e = absurd (cc)
 open_waits terms (pair ∷ earlier) caused k call e =
     let p = past_of terms earlier in
-    elim (tells (pair.0.member == k) (wait_after pair.1 pair.0.call (p.waits k)) (p.waits k) (Some call) e) [
+    elim (which_branch (pair.0.member == k) (wait_after pair.1 pair.0.call (p.waits k)) (p.waits k) (Some call) e) [
       | inl own ↦
           let same : pair.0.member ≡ k = is_equal pair.0.member k own.0 in
           subst (λ (n : ℕ). MayWait n call) same

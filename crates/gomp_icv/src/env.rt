@@ -47,7 +47,7 @@ pub enum Setting {
 /// The control variables that these words give, each a name and its value, and a refusal for each
 /// word that is ignored, in the order of the words.
 ///
-/// A word is ignored, with `BadEnv` (E41), where its name is that of no variable that is read or its
+/// A word is ignored, with `BadEnv` (E41), if its name is that of no variable that is read or its
 /// value is bad; the case of a name counts. Of two good values of a variable the last counts.
 ///
 /// The error is want of memory. Only an ignored word takes memory.
@@ -66,7 +66,7 @@ pub fn read_env(alloc: Global, words: &[(&str, &str)]) -> Result<(Icv, Vec<Refus
     Ok((icv, ignored))
 }
 
-/// What this word sets. None where it is ignored.
+/// What this word sets. None if it is ignored.
 fn setting_of(name: &[u8], value: &[u8]) -> Option<Setting>
     ensures value { result ≡ setting_of name.now value.now }
     ensures range { IfSome result IsSetting }
@@ -77,7 +77,7 @@ fn setting_of(name: &[u8], value: &[u8]) -> Option<Setting>
     }
 }
 
-/// The variable of this name. None where it is that of no variable that is read.
+/// The variable of this name. None if it is that of no variable that is read.
 fn variable_of(name: &[u8]) -> Option<Variable>
     ensures { result ≡ variable_of name.now }
 {
@@ -102,7 +102,7 @@ fn variable_of(name: &[u8]) -> Option<Variable>
     None
 }
 
-/// What this value makes of a variable. None where the value is bad.
+/// What this value makes of a variable. None if the value is bad.
 fn value_for(variable: Variable, value: &[u8]) -> Option<Setting>
     ensures value { result ≡ value_for variable value.now }
     ensures range { IfSome result IsSetting }

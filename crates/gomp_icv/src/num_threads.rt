@@ -75,7 +75,7 @@ impl NumThreads {
         NumThreads::of(self.as_slice())
     }
 
-    /// The list for the members of the next team: without its first size, where it has more than one
+    /// The list for the members of the next team: without its first size, if it has more than one
     /// (OpenMP API 5.2, section 2.4).
     pub fn without_first(&self) -> NumThreads
         ensures { result ≡ without_first self.now }
@@ -87,7 +87,7 @@ impl NumThreads {
     }
 
     /// The list that a value of the environment gives: positive numbers, parted by commas, each with
-    /// blanks around it or none. Those after the fourth are read and dropped. None where a part is
+    /// blanks around it or none. Those after the fourth are read and dropped. None if a part is
     /// no such number.
     pub fn read(value: &[u8]) -> Option<NumThreads>
         ensures { result ≡ threads_of value.now }

@@ -15,7 +15,7 @@ use gomp_types::MAX_MEMBERS;
 /// `requested` is the number of the `num_threads` clause, 0 counting as 1 (own); without a clause the
 /// first size of nthreads-var counts. `busy` is how many threads of the program are busy, from 1,
 /// since the encountering one counts; with 0, which no caller has, one thread above thread-limit-var
-/// may be given. The size is 1 where the `if` clause is false, or where as many active levels are
+/// may be given. The size is 1 if the `if` clause is false, or if as many active levels are
 /// around as max-active-levels-var allows; else it is the least of what is requested, of what
 /// thread-limit-var leaves, at least 1, and of 64. dyn-var changes nothing (own).
 pub fn team_size(icv: &Icv, requested: Option<u32>, if_clause: bool, busy: u32) -> u32
@@ -35,7 +35,7 @@ pub fn team_size(icv: &Icv, requested: Option<u32>, if_clause: bool, busy: u32) 
 }
 
 /// The control variables of the members of a new team of `size` members, 1 to 64: nthreads-var has
-/// lost its first size, where it has more than one, and active-levels-var is one more where the team
+/// lost its first size, if it has more than one, and active-levels-var is one more if the team
 /// has more than one member; it stays at the largest number of its type (own). It takes no memory.
 pub fn child_icv(icv: &Icv, size: u32) -> Icv
     ensures { result ≡ child icv.now size }

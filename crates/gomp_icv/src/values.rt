@@ -15,7 +15,7 @@ use gomp_types::{MAX_CHUNK, Sched};
 pub const MAX_NUMBER: u64 = 2_147_483_647;
 
 /// The decimal number that a part of a value is, from `least` to `most`; no sign stands before it.
-/// None where the part is no such number.
+/// None if the part is no such number.
 pub fn number_of(part: &[u8], least: u64, most: u64) -> Option<u64>
     ensures value { result ≡ number_of least most part.now }
     ensures range { IfSome result (λ number. (least ≤ number) × (number ≤ most)) }
@@ -33,7 +33,7 @@ fn is_named(part: &[u8], name: &[u8]) -> bool
     is_word_in_any_case(trimmed(part), name)
 }
 
-/// `true` or `false`. None where the value is neither.
+/// `true` or `false`. None if the value is neither.
 pub fn switch_of(value: &[u8]) -> Option<bool>
     ensures { result ≡ switch_of value.now }
 {
@@ -46,8 +46,8 @@ pub fn switch_of(value: &[u8]) -> Option<bool>
     None
 }
 
-/// `[monotonic:|nonmonotonic:]kind[,chunk]`, as the schedule and the chunk, which is 0 where there is
-/// none (OpenMP API 5.2, section 21.2.1). The modifiers change nothing (own). None where the value
+/// `[monotonic:|nonmonotonic:]kind[,chunk]`, as the schedule and the chunk, which is 0 if there is
+/// none (OpenMP API 5.2, section 21.2.1). The modifiers change nothing (own). None if the value
 /// is no schedule.
 pub fn schedule_of(value: &[u8]) -> Option<(Sched, i64)>
     ensures value { result ≡ schedule_of value.now }

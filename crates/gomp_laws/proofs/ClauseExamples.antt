@@ -9,7 +9,7 @@ use Rattle.gomp_types.specs.declared.event.Tag.{Tag}
 use Rattle.gomp_types.specs.declared.event.Event.{Event}
 use Rattle.gomp_types.specs.declared.event.Event.TheVariants.{Enter, Take, Drained, End, Arrive, Pass, Break}
 use Rattle.gomp_types.specs.Pieces.{Piece}
-use Rattle.gomp_types.specs.Deals.{Deal, one_queue, schedule}
+use Rattle.gomp_types.specs.Deals.{Queues, one_queue, schedule}
 use Rattle.gomp_types.specs.Laws.{Always, Happened}
 use Rattle.gomp_shares.specs.Laws.{IsOver, TakesNext, TakesWithin, LeavesNothing, TakenOnce, TakesItsOwn, WholeWhereOver, EntersOneByOne, EndsInside, EntersWithRoom, SameShares, OrderedLaws, ShareLaws}
 use Rattle.gomp_types.specs.Arrivals.{BarriersOneByOne, SameArrivals, PassesAfterAll, ArrivalLaws}
@@ -157,7 +157,7 @@ take_outside_all law = elim law.1 [
 pub leave_early : RefusedAfter (LeavesNothing (schedule 2)) (Enter 0 0 (four false) ∷ Take 0 1 0 2 ∷ []) (End 0 0)
 leave_early law = absurd (let none = law (four false) (inr (inl refl)) in cc)
 
--- an iteration is taken twice, since the deal has its piece twice
+-- an iteration is taken twice, since the queue has its piece twice
 pub taken_again : Refuses (TakenOnce (one_queue (λ shape. (0, 2) ∷ (0, 2) ∷ []))) (Enter 0 0 (four false) ∷ Take 0 0 0 2 ∷ Take 0 0 0 2 ∷ [])
 taken_again laws = absurd (let most = laws.once 0 1 in omega arith)
 
@@ -167,7 +167,7 @@ taken_otherwise laws =
     let order = laws.order 0 0 0 (four false) (inr (inr (inr (inl refl)))) in
     absurd (let second = ap (λ (pieces : List Piece). low_of (slice_get pieces 1)) order in omega arith)
 
--- a piece that the deal has, and the loop has not
+-- a piece that the queue has, and the loop has not
 pub taken_outside_deal : Refuses (TakenOnce (one_queue (λ shape. (0, 5) ∷ []))) (Enter 0 0 (four false) ∷ Take 0 0 0 5 ∷ [])
 taken_outside_deal laws = take_outside_all laws.within.0
 
@@ -386,8 +386,8 @@ headline_has members h laws = (
 )
 
 -- and so have the laws of the shares
-pub share_laws_have : (deal : Deal) (members : ℕ) (h : List Event) → ShareLaws deal members h → TakenOnce deal h × WholeWhereOver members h × SameShares members h
-share_laws_have deal members h laws = (laws.taken_once, laws.whole, laws.same_shares)
+pub share_laws_have : (queues : Queues) (members : ℕ) (h : List Event) → ShareLaws queues members h → TakenOnce queues h × WholeWhereOver members h × SameShares members h
+share_laws_have queues members h laws = (laws.taken_once, laws.whole, laws.same_shares)
 
 -- and those of the arrivals
 pub arrival_laws_have : (members : ℕ) (h : List Event) → ArrivalLaws members h → SameArrivals h × Always (PassesAfterAll members) h

@@ -6,12 +6,12 @@ use Rattle.gomp_types.specs.declared.shape.Shape.{Shape}
 use Rattle.gomp_types.specs.declared.event.Event.{Event}
 use Rattle.gomp_types.specs.declared.event.Event.TheVariants.{Enter, Take, Drained, End, Put, Got}
 use Rattle.gomp_types.specs.Events.{entered, open_share, last_piece, shape_at, has_ended, payload_at, has_piece, has_words}
-use Rattle.gomp_types.specs.Deals.{Deal, schedule}
+use Rattle.gomp_types.specs.Deals.{Queues, schedule}
 use Rattle.gomp_types.specs.Laws.{Always, Happened}
 use Rattle.gomp_shares.specs.Rules.{ShareRule}
 use Rattle.gomp_laws.specs.Rules.{TeamRule}
 use Rattle.gomp_laws.specs.Laws.{PutsOnce, GetsWhatWasPut, LeavesWithWords}
-use Rattle.gomp_types.proofs.Booleans.{tells, is_equal, same_number, share_is, and_left, and_right, or_tells, or_right, not_both}
+use Rattle.gomp_types.proofs.Booleans.{which_branch, is_equal, same_number, share_is, and_left, and_right, or_tells, or_right, not_both}
 use Rattle.gomp_shares.proofs.SharesKeep.{member_is_inside, inside_stands, enter_has_its_shape, not_ended, stands_ended}
 
 -- what was had is had still
@@ -19,41 +19,41 @@ had_later : (share m : ℕ) (event : Event) (h : List Event) → ((payload : Lis
 had_later share m event h had = (had.0, elim had.1 [ inl put ↦ inl (inr put) | inr got ↦ inr (inr got) ])
 
 -- a member with a piece of its share took one
-pub piece_was_taken : (deal : Deal) (members m i : ℕ) (shape : Shape) (h : List Event) → Always (ShareRule deal members) h → open_share m h ≡ Some (i, shape) → is_some (last_piece m h) ≡ true →
+pub piece_was_taken : (queues : Queues) (members m i : ℕ) (shape : Shape) (h : List Event) → Always (ShareRule queues members) h → open_share m h ≡ Some (i, shape) → is_some (last_piece m h) ≡ true →
     (low high : ℕ) × Happened (Take i m low high) h
-piece_was_taken deal members m i shape [] all at piece = absurd (cc)
-piece_was_taken deal members m i shape (Enter share member other ∷ earlier) all at piece =
+piece_was_taken queues members m i shape [] all at piece = absurd (cc)
+piece_was_taken queues members m i shape (Enter share member other ∷ earlier) all at piece =
     elim (cases_Bool (member == m)) [
       | inl e ↦ absurd (let none = rw e at piece in cc)
-      | inr e ↦ let before = piece_was_taken deal members m i shape earlier all.1 (rw e at at) (rw e at piece) in (before.0, before.1, inr before.2)
+      | inr e ↦ let before = piece_was_taken queues members m i shape earlier all.1 (rw e at at) (rw e at piece) in (before.0, before.1, inr before.2)
     ]
-piece_was_taken deal members m i shape (Take share member low high ∷ earlier) all at piece =
+piece_was_taken queues members m i shape (Take share member low high ∷ earlier) all at piece =
     elim (cases_Bool (member == m)) [
       | inl e ↦
           let who = is_equal member m e in
           let there : open_share m earlier ≡ Some (share, all.0.shape) = rw (← who) all.0.inside in
           let number : share ≡ i = (share_is share i all.0.shape shape (sym there ∙ at)).0 in
           (low, high, inl (rw (who, number) refl))
-      | inr e ↦ let before = piece_was_taken deal members m i shape earlier all.1 at (rw e at piece) in (before.0, before.1, inr before.2)
+      | inr e ↦ let before = piece_was_taken queues members m i shape earlier all.1 at (rw e at piece) in (before.0, before.1, inr before.2)
     ]
-piece_was_taken deal members m i shape (Drained share member ∷ earlier) all at piece =
+piece_was_taken queues members m i shape (Drained share member ∷ earlier) all at piece =
     elim (cases_Bool (member == m)) [
       | inl e ↦ absurd (let none = rw e at piece in cc)
-      | inr e ↦ let before = piece_was_taken deal members m i shape earlier all.1 at (rw e at piece) in (before.0, before.1, inr before.2)
+      | inr e ↦ let before = piece_was_taken queues members m i shape earlier all.1 at (rw e at piece) in (before.0, before.1, inr before.2)
     ]
-piece_was_taken deal members m i shape (End share member ∷ earlier) all at piece =
+piece_was_taken queues members m i shape (End share member ∷ earlier) all at piece =
     elim (cases_Bool (member == m)) [
       | inl e ↦ absurd (let none = rw e at at in cc)
-      | inr e ↦ let before = piece_was_taken deal members m i shape earlier all.1 (rw e at at) piece in (before.0, before.1, inr before.2)
+      | inr e ↦ let before = piece_was_taken queues members m i shape earlier all.1 (rw e at at) piece in (before.0, before.1, inr before.2)
     ]
-piece_was_taken deal members m i shape (_ ∷ earlier) all at piece = let before = piece_was_taken deal members m i shape earlier all.1 at piece in (before.0, before.1, inr before.2)
+piece_was_taken queues members m i shape (_ ∷ earlier) all at piece = let before = piece_was_taken queues members m i shape earlier all.1 at piece in (before.0, before.1, inr before.2)
 
 -- where no words are, none were put
 never_put : (share n : ℕ) (words : List ℕ) (h : List Event) → payload_at share h ≡ None → Happened (Put share n words) h → ⊥
 never_put share n words [] none put = put
 never_put share n words (Put i member payload ∷ earlier) none (inl e) = let number : i ≡ share = cc in absurd (let same = rw (number, same_number share) at none in cc)
 never_put share n words (Put i member payload ∷ earlier) none (inr put) =
-    elim (tells (i == share) (Some payload) (payload_at share earlier) None none) [
+    elim (which_branch (i == share) (Some payload) (payload_at share earlier) None none) [
       | inl e ↦ absurd (let same = e.1 in cc)
       | inr e ↦ never_put share n words earlier e.1 put
     ]
@@ -76,27 +76,27 @@ never_took share m low high (_ ∷ earlier) none (inl e) = absurd (cc)
 never_took share m low high (_ ∷ earlier) none (inr took) = never_took share m low high earlier none took
 
 -- a member has taken no piece of the share that it comes to next
-took_below : (deal : Deal) (members m i : ℕ) (h : List Event) → Always (ShareRule deal members) h → has_piece i m h ≡ true → i < entered m h
-took_below deal members m i [] all e = absurd (cc)
-took_below deal members m i (Enter share member shape ∷ earlier) all e =
-    let before = took_below deal members m i earlier all.1 e in
+took_below : (queues : Queues) (members m i : ℕ) (h : List Event) → Always (ShareRule queues members) h → has_piece i m h ≡ true → i < entered m h
+took_below queues members m i [] all e = absurd (cc)
+took_below queues members m i (Enter share member shape ∷ earlier) all e =
+    let before = took_below queues members m i earlier all.1 e in
     elim (cases_Bool (member == m)) [ inl own ↦ rw own (omega arith) | inr other ↦ rw other before ]
-took_below deal members m i (Take share member low high ∷ earlier) all e =
+took_below queues members m i (Take share member low high ∷ earlier) all e =
     elim (or_tells (share == i && member == m) (has_piece i m earlier) e) [
       | inl own ↦
           let number = is_equal share i (and_left (share == i) (member == m) own) in
           let who = is_equal member m (and_right (share == i) (member == m) own) in
-          let count = (member_is_inside deal members member share all.0.shape earlier all.1 all.0.inside).2 in
+          let count = (member_is_inside queues members member share all.0.shape earlier all.1 all.0.inside).2 in
           let own_count : entered m earlier ≡ share + 1 = rw (← who) count in
           omega (arith, number)
-      | inr before ↦ took_below deal members m i earlier all.1 before
+      | inr before ↦ took_below queues members m i earlier all.1 before
     ]
-took_below deal members m i (_ ∷ earlier) all e = took_below deal members m i earlier all.1 e
+took_below queues members m i (_ ∷ earlier) all e = took_below queues members m i earlier all.1 e
 
-pub takes_below : (deal : Deal) (members m : ℕ) (h : List Event) → Always (ShareRule deal members) h → has_piece (entered m h) m h ≡ false
-takes_below deal members m h all =
+pub takes_below : (queues : Queues) (members m : ℕ) (h : List Event) → Always (ShareRule queues members) h → has_piece (entered m h) m h ≡ false
+takes_below queues members m h all =
     elim (cases_Bool (has_piece (entered m h) m h)) [
-      | inl e ↦ absurd (let less = took_below deal members m (entered m h) h all e in omega arith)
+      | inl e ↦ absurd (let less = took_below queues members m (entered m h) h all e in omega arith)
       | inr e ↦ e
     ]
 
@@ -108,7 +108,7 @@ not_left members m share shape h all at left = not_both (has_ended share m h) (s
 pub was_put : (share : ℕ) (words : List ℕ) (h : List Event) → payload_at share h ≡ Some words → (n : ℕ) × Happened (Put share n words) h
 was_put share words [] at = absurd (cc)
 was_put share words (Put i member payload ∷ earlier) at =
-    elim (tells (i == share) (Some payload) (payload_at share earlier) (Some words) at) [
+    elim (which_branch (i == share) (Some payload) (payload_at share earlier) (Some words) at) [
       | inl e ↦ (member, inl (let number = is_equal i share e.0 in let same : payload ≡ words = let t = e.1 in cc in rw (number, same) refl))
       | inr e ↦ let before = was_put share words earlier e.1 in (before.0, inr before.1)
     ]

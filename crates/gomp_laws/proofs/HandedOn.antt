@@ -15,7 +15,7 @@ use Rattle.gomp_shares.specs.Rules.{MayTake, MayHandOn, ShareRule}
 use Rattle.gomp_laws.specs.Rules.{MayTakeIn, HasNoneIn, MayLeave, TeamRule}
 use Rattle.gomp_shares.specs.Laws.{IsOver}
 use Rattle.gomp_laws.specs.Laws.{LeavesHandedOn, HandedOnWhereOver}
-use Rattle.gomp_types.proofs.Booleans.{tells, is_equal, same_number, share_is, and_left, and_right, not_both}
+use Rattle.gomp_types.proofs.Booleans.{which_branch, is_equal, same_number, share_is, and_left, and_right, not_both}
 use Rattle.gomp_types.proofs.Tiling.{piece_some, piece_within}
 use Rattle.gomp_shares.proofs.SharesKeep.{member_is_inside, enter_has_its_shape, drained_none, shape_stays, not_ended, stands_ended, shares_keep}
 use Rattle.gomp_shares.proofs.OrderedKeep.{piece_before, share_is_tiled, piece_of_turn, hands_the_turn}
@@ -89,7 +89,7 @@ handed_or_held members m i low high shape (Take share member from to ∷ earlier
     inr (rw (who, begins, ends, same_number m) refl, rw (who, same_number m) refl)
 handed_or_held members m i low high shape (_ ∷ earlier) all at ordered (inl e) = absurd (cc)
 handed_or_held members m i low high shape (Enter share member other ∷ earlier) all at ordered (inr took) =
-    elim (tells (member == m) (Some (share, other)) (open_share m earlier) (Some (i, shape)) at) [
+    elim (which_branch (member == m) (Some (share, other)) (open_share m earlier) (Some (i, shape)) at) [
       | inl e ↦
           let number : share ≡ i = (share_is share i other shape e.1).0 in
           let next : share ≡ entered m earlier = rw (← is_equal member m e.0) all.0.number in
@@ -131,7 +131,7 @@ handed_or_held members m i low high shape (HandOn share member number ∷ earlie
       | inr e ↦ handed_or_held_stays members i m shape (low, high) (HandOn share member number) earlier refl (rw e refl) before
     ]
 handed_or_held members m i low high shape (End share member ∷ earlier) all at ordered (inr took) =
-    elim (tells (member == m) None (open_share m earlier) (Some (i, shape)) at) [
+    elim (which_branch (member == m) None (open_share m earlier) (Some (i, shape)) at) [
       | inl e ↦ absurd (let outside = e.1 in cc)
       | inr e ↦ handed_or_held_stays members i m shape (low, high) (End share member) earlier refl refl (handed_or_held members m i low high shape earlier all.1 e.1 ordered took)
     ]

@@ -20,7 +20,7 @@ use Rattle.gomp_model.specs.Past.{Terms, Past}
 use Rattle.gomp_model.specs.Row.{since, row_tests}
 use Rattle.gomp_model.specs.Team.{Record, meant, is_resume, row_at, broken_tests, wait_tests, refusal_of, MayAnswer, after, past_of, events, Caused}
 use Rattle.gomp_laws.proofs.Sound.{IsLast, AreGiven, gives_of, Gives}
-use Rattle.gomp_laws.proofs.Steps.{OwnKeeps, own_keeps, since_keeps}
+use Rattle.gomp_laws.proofs.CallsKeep.{OwnKeeps, own_keeps, since_keeps}
 use Rattle.gomp_types.proofs.LeastTests.{some_stays, lesser_low}
 use Rattle.gomp_laws.proofs.Calls.{row_is_sound}
 

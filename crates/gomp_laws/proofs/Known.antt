@@ -25,7 +25,7 @@ use Rattle.gomp_model.specs.Row.{Row, once, since, row_tests, events_after}
 use Rattle.gomp_model.specs.Calls.{stop_row, row_of}
 use Rattle.gomp_model.specs.Team.{Record, meant, is_resume, row_at, broken_tests, member_tests, wait_tests, refusal_of, MayAnswer, wait_after, after, before_all, past_of, events, Caused}
 use Rattle.gomp_laws.proofs.Sound.{shows, Ready, IsSound, Gives, gives_of, IsLast}
-use Rattle.gomp_laws.proofs.Steps.{step_keeps}
+use Rattle.gomp_laws.proofs.CallsKeep.{step_keeps}
 use Rattle.gomp_laws.proofs.Calls.{row_is_sound}
 use Rattle.gomp_laws.proofs.Places.{seen_other, SameBarriers, barriers_other, barriers_own, was_whole}
 

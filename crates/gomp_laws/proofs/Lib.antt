@@ -23,7 +23,7 @@ pub mod Singles
 pub mod SomeReply
 pub mod Sound
 pub mod Starts
-pub mod Steps
+pub mod CallsKeep
 pub mod TeamKeeps
 pub mod TeamShares
 pub mod WordsToCome

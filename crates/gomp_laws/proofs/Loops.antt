@@ -37,7 +37,7 @@ use Rattle.gomp_laws.proofs.TeamShares.{share_rules}
 use Rattle.gomp_shares.specs.Loops.{IsChunk, end_tests, DealsOut, DealsNext, piece_given, handed_on, next_given}
 use Rattle.gomp_model.specs.Loops.{loop_start_row, loop_next_row, loop_end_row, loop_end_nowait_row}
 use Rattle.gomp_laws.proofs.Sound.{AreOwn, own_append, own_given, is_wait, IsSound, quiet}
-use Rattle.gomp_laws.proofs.Steps.{regroup_rules}
+use Rattle.gomp_laws.proofs.CallsKeep.{regroup_rules}
 use Rattle.gomp_laws.proofs.Starts.{IsDeal, start_sound}
 use Rattle.gomp_laws.proofs.Arrivals.{IsEnd, end_sound, end_arrival_sound}
 

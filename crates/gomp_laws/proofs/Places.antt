@@ -10,7 +10,7 @@ use Rattle.gomp_types.specs.Seen.{seen_of}
 use Rattle.gomp_model.specs.Past.{Past}
 use Rattle.gomp_model.specs.Row.{Row, events_after}
 use Rattle.gomp_laws.proofs.Sound.{IsSound, gives_of, Gives}
-use Rattle.gomp_laws.proofs.Steps.{LastKeeps, step_keeps}
+use Rattle.gomp_laws.proofs.CallsKeep.{LastKeeps, step_keeps}
 
 record SamePlace (k : ℕ) (h after : List Event) : Type 0 where
   number : entered k after ≡ entered k h

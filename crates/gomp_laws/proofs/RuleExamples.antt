@@ -11,7 +11,7 @@ use Rattle.gomp_types.specs.declared.event.Event.TheVariants.{Enter, Take, Drain
 use Rattle.gomp_types.specs.Shapes.{is_copy}
 use Rattle.gomp_types.specs.Singles.{single_shape}
 use Rattle.gomp_types.specs.Sections.{sections_shape}
-use Rattle.gomp_types.specs.Deals.{Deal, IsDealt, one_queue, schedule}
+use Rattle.gomp_types.specs.Deals.{Queues, IsDealt, one_queue, schedule}
 use Rattle.gomp_shares.specs.Rules.{ShareRule}
 use Rattle.gomp_types.specs.Arrivals.{ArrivalRule}
 use Rattle.gomp_laws.specs.Rules.{TeamRule}
@@ -20,11 +20,11 @@ use Rattle.gomp_types.specs.EventLists.{no_iterations, eight_entered, four, at}
 use Rattle.gomp_laws.proofs.ClauseExamples.{same_low, same_high}
 
 -- no team of this size deals a share out so
-abbrev RefusedDeal : Deal → ℕ → Shape → Type 0
-RefusedDeal deal members shape = IsDealt deal members shape → ⊥
+abbrev RefusedQueues : Queues → ℕ → Shape → Type 0
+RefusedQueues queues members shape = IsDealt queues members shape → ⊥
 
 -- two members, each with a queue that has all iterations
-abbrev both_have_all : Deal
+abbrev both_have_all : Queues
 both_have_all = record { queue_of = λ shape m. m; queue = λ shape q. (0, 4) ∷ [] }
 
 -- a loop that is in no pieces
@@ -51,35 +51,35 @@ other_share share number one other e = let same : ◌≡◌ {A = ℕ × Shape} (
 never_ordered : (shape : Shape) → four false ≡ shape → shape.ordered ≡ true → ⊥
 never_ordered shape same ordered = absurd (let is = ap (λ (shape : Shape). shape.ordered) same in cc)
 
--- one of two members has a queue that is not home to the first iteration
-in_two : (deals : IsDealt both_have_all 2 (four false)) (home : ℕ) → deals.home 0 ≡ home → ⊥
-in_two deals zero is = absurd (let other = deals.elsewhere 0 1 (omega arith) (λ same. absurd (omega arith)) in omega arith)
-in_two deals (suc home) is = absurd (let other = deals.elsewhere 0 0 (omega arith) (λ same. absurd (omega arith)) in omega arith)
+-- one of two members has a queue that is not the one with the first iteration
+in_two : (deals : IsDealt both_have_all 2 (four false)) (queue : ℕ) → deals.queue_with 0 ≡ queue → ⊥
+in_two deals zero is = absurd (let other = deals.not_in_another 0 1 (omega arith) (λ same. absurd (omega arith)) in omega arith)
+in_two deals (suc queue) is = absurd (let other = deals.not_in_another 0 0 (omega arith) (λ same. absurd (omega arith)) in omega arith)
 
 -- Deals
 
 -- an iteration lies in the queues of two members
-pub dealt_to_two : RefusedDeal both_have_all 2 (four false)
-dealt_to_two deals = in_two deals (deals.home 0) refl
+pub dealt_to_two : RefusedQueues both_have_all 2 (four false)
+dealt_to_two deals = in_two deals (deals.queue_with 0) refl
 
 -- an iteration lies in no queue
-pub dealt_to_none : RefusedDeal (one_queue (λ shape. (0, 3) ∷ [])) 1 (four false)
+pub dealt_to_none : RefusedQueues (one_queue (λ shape. (0, 3) ∷ [])) 1 (four false)
 dealt_to_none deals = absurd (let last = deals.one 3 (omega arith) in omega arith)
 
 -- iterations lie in a queue from which nobody takes
-pub dealt_to_nobody : RefusedDeal (one_queue (λ shape. (0, 4) ∷ [])) 0 (four false)
+pub dealt_to_nobody : RefusedQueues (one_queue (λ shape. (0, 4) ∷ [])) 0 (four false)
 dealt_to_nobody deals = let taker = deals.taker 0 (omega arith) in absurd (let member = taker.1 in omega arith)
 
 -- a number that is no iteration lies in a queue twice
-pub dealt_twice_outside : RefusedDeal (one_queue (λ shape. (0, 4) ∷ (4, 5) ∷ (4, 5) ∷ [])) 0 no_iterations
+pub dealt_twice_outside : RefusedQueues (one_queue (λ shape. (0, 4) ∷ (4, 5) ∷ (4, 5) ∷ [])) 0 no_iterations
 dealt_twice_outside deals = absurd (let most = deals.most 4 in omega arith)
 
 -- or once
-pub dealt_outside : RefusedDeal (one_queue (λ shape. (0, 4) ∷ (4, 5) ∷ [])) 1 (four false)
+pub dealt_outside : RefusedQueues (one_queue (λ shape. (0, 4) ∷ (4, 5) ∷ [])) 1 (four false)
 dealt_outside deals = absurd (let within = deals.within 0 1 (4, 5) (omega arith) refl in omega arith)
 
 -- a piece without iterations
-pub dealt_empty : RefusedDeal (one_queue (λ shape. (0, 4) ∷ (4, 4) ∷ [])) 1 (four false)
+pub dealt_empty : RefusedQueues (one_queue (λ shape. (0, 4) ∷ (4, 4) ∷ [])) 1 (four false)
 dealt_empty deals = absurd (let some = deals.some 0 1 (4, 4) (omega arith) refl in omega arith)
 
 -- A member enters

@@ -24,7 +24,7 @@ use Rattle.gomp_shares.specs.Starts.{Deals, Starts, behind, entry_and}
 use Rattle.gomp_model.specs.Past.{Past}
 use Rattle.gomp_model.specs.Starts.{start}
 use Rattle.gomp_laws.proofs.Sound.{AreOwn, own_append, own_given, memoryless, clean_append, Ready, IsSound, quiet}
-use Rattle.gomp_laws.proofs.Steps.{regroup_rules}
+use Rattle.gomp_laws.proofs.CallsKeep.{regroup_rules}
 
 -- a start that waits found no room, and every other one found some
 waits_or_not : (deals : Deals) (members m : ℕ) (shape : Shape) (reply : Reply) (h : List Event) → Starts deals members m shape reply h →

@@ -15,7 +15,7 @@ use Rattle.gomp_laws.specs.Rules.{TeamRule}
 use Rattle.gomp_shares.specs.Laws.{TakesItsOwn}
 use Rattle.gomp_laws.specs.Laws.{LeavesHandedOn, PutsOnce, GetsWhatWasPut, LeavesWithWords, ArrivesOutside, ClosesShares, HappensUnbroken, HappensInside, ArrivesOnce, TellsShares}
 use Rattle.gomp_laws.specs.Headline.{Headline}
-use Rattle.gomp_types.proofs.Booleans.{tells, is_equal, same_number}
+use Rattle.gomp_types.proofs.Booleans.{which_branch, is_equal, same_number}
 use Rattle.gomp_types.proofs.Always.{always_so}
 use Rattle.gomp_shares.proofs.SharesKeep.{shares_keep, left_before}
 use Rattle.gomp_laws.proofs.TeamShares.{share_rules}
@@ -64,7 +64,7 @@ never_arrived g m tag (Arrive barrier member other ∷ earlier) none (inl e) =
     let who : member ≡ m = cc in
     absurd (let some = rw (number, who, same_number g, same_number m) at none in cc)
 never_arrived g m tag (Arrive barrier member other ∷ earlier) none (inr stands) =
-    elim (tells (barrier == g && member == m) (Some other) (arrival g m earlier) None none) [
+    elim (which_branch (barrier == g && member == m) (Some other) (arrival g m earlier) None none) [
       | inl e ↦ absurd (let some = e.1 in cc)
       | inr e ↦ never_arrived g m tag earlier e.1 stands
     ]

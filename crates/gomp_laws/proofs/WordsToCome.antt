@@ -13,7 +13,7 @@ use Rattle.gomp_types.specs.Deals.{next_for, taken_in, schedule}
 use Rattle.gomp_types.specs.Laws.{Always, Happened}
 use Rattle.gomp_shares.specs.Rules.{ShareRule, MayTake}
 use Rattle.gomp_laws.specs.Rules.{TeamRule}
-use Rattle.gomp_types.proofs.Booleans.{is_equal, differs, same_number, share_is}
+use Rattle.gomp_types.proofs.Booleans.{is_equal, unequal_numbers, same_number, share_is}
 use Rattle.gomp_shares.proofs.SharesKeep.{member_is_inside}
 use Rattle.gomp_shares.proofs.SinglesKeep.{some_with_one_more, one_only, single_is_done}
 use Rattle.gomp_laws.proofs.CopiesKeep.{piece_was_taken, was_put}
@@ -177,7 +177,7 @@ put_and_left members m i shape payload h all inside_it its_kind has words = λ k
         | inl f ↦
             let number = is_equal i j f in
             let there : open_share k h ≡ Some (i, own) = rw number (rw e at at) in
-            absurd (differs m k e (one_executor members m k i shape own h (share_rules members h all) inside_it there its_kind single has piece))
+            absurd (unequal_numbers m k e (one_executor members m k i shape own h (share_rules members h all) inside_it there its_kind single has piece))
         | inr f ↦ rw f (words k j own (rw e at at) single piece)
       ]
     ]

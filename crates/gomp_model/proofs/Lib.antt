@@ -4,6 +4,6 @@ pub mod RecordExamples
 pub mod RowExamples
 pub mod StepExamples
 pub mod TestExamples
-pub mod WorkedRuns
+pub mod RunsWithCauses
 pub mod WrongAnswers
 pub mod WrongShareAnswers

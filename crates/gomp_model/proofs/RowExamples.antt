@@ -2,7 +2,7 @@
 use Rattle.std.proofs.Common.{ℕ, ◌≡◌, true, false, List, [], ◌∷◌, Some, None, refl, rules}
 use Rattle.std.specs.Prelude.{Bool, Option, pos, map, ◌++◌, ◌==◌, ◌&&◌}
 use Rattle.gomp_types.specs.declared.call.Call.{Call}
-use Rattle.gomp_types.specs.declared.call.Call.TheVariants.{LoopNext, LoopEnd, LoopEndNowait, SectionsNext, SectionsEnd, SectionsEndNowait, SingleStart, SingleCopyStart, SingleCopyEnd, OrderedStart, OrderedEnd, Barrier, RegionEnd, Resume, Stop}
+use Rattle.gomp_types.specs.declared.call.Call.TheVariants.{LoopStart, LoopNext, LoopEnd, LoopEndNowait, SectionsNext, SectionsEnd, SectionsEndNowait, SingleStart, SingleCopyStart, SingleCopyEnd, OrderedStart, OrderedEnd, Barrier, RegionEnd, Resume, Stop}
 use Rattle.gomp_types.specs.declared.loop_desc.EndKind.TheVariants.{Wait as WaitEnd}
 use Rattle.gomp_types.specs.declared.refusal.Place.TheVariants.{Share, Barrier as AtBarrier, Stopped as AtStop}
 use Rattle.gomp_types.specs.declared.refusal.Refusal.{Refusal}
@@ -27,7 +27,7 @@ use Rattle.gomp_model.specs.Loops.{loop_next_row}
 use Rattle.gomp_model.specs.Past.{Past}
 use Rattle.gomp_model.specs.Arrivals.{barrier_row}
 use Rattle.gomp_model.specs.OrderedParts.{ordered_start_row}
-use Rattle.gomp_model.specs.Examples.{MayReplyAfter, past_with, past_after, ten_by_three, stopped_waiting}
+use Rattle.gomp_model.specs.Examples.{MayReplyAfter, past_with, past_after, ten_by_three, up_to, stopped_waiting}
 use Rattle.gomp_model.specs.ShareExamples.{three_sections}
 
 -- Flags
@@ -385,6 +385,10 @@ shapes_of_starts = refl
 
 pub shape_of_a_loop_start : (row_of (ten_by_three)).starts ≡ Some (record { start = pos 0; incr = pos 1; trips = 10; kind = Dynamic; chunk = 3; ordered = false; end_kind = WaitEnd })
 shape_of_a_loop_start = refl
+
+-- an ordered loop's start too
+pub shape_of_an_ordered_start : (row_of (LoopStart (record (up_to (pos 4) (pos 2)) { ordered = true }))).starts ≡ Some (four true)
+shape_of_an_ordered_start = refl
 
 -- and every other call none
 pub no_share_started :

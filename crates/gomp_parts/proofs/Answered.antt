@@ -34,7 +34,7 @@ use Rattle.gomp_model.specs.Starts.{start}
 use Rattle.gomp_model.specs.Arrivals.{Awaits, compared_arrival, arrival, ending}
 use Rattle.gomp_model.specs.Calls.{row_of}
 use Rattle.gomp_laws.proofs.Sound.{Gives, gives_of, IsLast}
-use Rattle.gomp_laws.proofs.Steps.{step_keeps}
+use Rattle.gomp_laws.proofs.CallsKeep.{step_keeps}
 use Rattle.gomp_laws.proofs.Calls.{row_is_sound}
 use Rattle.gomp_parts.specs.Answers.{IsReady, MayReply, given_after, left_once}
 

@@ -12,8 +12,8 @@ use Rattle.gomp_types.specs.declared.seen.Seen.{Seen}
 use Rattle.gomp_types.specs.declared.event.Event.{Event}
 use Rattle.gomp_types.specs.declared.event.Event.TheVariants.{Enter, End, Put}
 use Rattle.gomp_types.specs.Events.{open_share, open_number, share_number, shape_at, is_over, payload_at}
-use Rattle.gomp_types.proofs.Booleans.{tells, is_equal, differs, same_number, not_both, some_of}
-use Rattle.gomp_shares.proofs.Windows.{over_stays}
+use Rattle.gomp_types.proofs.Booleans.{which_branch, is_equal, unequal_numbers, same_number, not_both, some_of}
+use Rattle.gomp_shares.proofs.SharesOver.{over_stays}
 use Rattle.gomp_types.proofs.Lists.{slice_get-set_same, slice_get-set_other}
 use Rattle.gomp_types.specs.Least.{lesser, least}
 use Rattle.gomp_shares.specs.Singles.{is_executor, put_tests, words_put}
@@ -112,18 +112,18 @@ put_stands members places i m shape words h before st at open_ = record {
         let within : i % OPEN_SHARES < length places = rw st.eight (omega arith) in
         rw (← same, slice_get-set_same places (i % OPEN_SHARES) _ within) (rw (same_number i) refl)
     | inr two ↦
-        let other : j ≢ i = λ same. differs i j two (sym same) in
+        let other : j ≢ i = λ same. unequal_numbers i j two (sym same) in
         elim (cases_Bool (i % OPEN_SHARES == j % OPEN_SHARES)) [
           | inl near ↦
               let same : i % OPEN_SHARES ≡ j % OPEN_SHARES = is_equal (i % OPEN_SHARES) (j % OPEN_SHARES) near in
               let within : i % OPEN_SHARES < length places = rw st.eight (omega arith) in
               rw (← same, slice_get-set_same places (i % OPEN_SHARES) _ within, two) (sym (none_at members places i j shape h before st at open_ still other same))
           | inr far ↦
-              let away : j % OPEN_SHARES ≢ i % OPEN_SHARES = λ same. differs (i % OPEN_SHARES) (j % OPEN_SHARES) far (sym same) in
+              let away : j % OPEN_SHARES ≢ i % OPEN_SHARES = λ same. unequal_numbers (i % OPEN_SHARES) (j % OPEN_SHARES) far (sym same) in
               rw (slice_get-set_other places (i % OPEN_SHARES) (j % OPEN_SHARES) _ away, two) (st.words j still)
         ]
   ];
-  entered = λ j others is. elim (tells (i == j) (Some words) (payload_at j h) (Some others) is) [
+  entered = λ j others is. elim (which_branch (i == j) (Some words) (payload_at j h) (Some others) is) [
     | inl e ↦ subst (λ (k : ℕ). is_some (shape_at k h) ≡ true) (is_equal i j e.0) (ap is_some at)
     | inr e ↦ st.entered j others e.1
   ];

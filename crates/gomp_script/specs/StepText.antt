@@ -205,9 +205,9 @@ abbrev pub begins_comment : List ℕ → Bool
 begins_comment [] = false
 begins_comment (b ∷ bytes) = b == 35
 
-abbrev pub said : {A : Type 0} → Result A Why → Result (Option A) Why
-said (Ok value) = Ok (Some value)
-said (Err why) = Err why
+abbrev pub some_if_ok : {A : Type 0} → Result A Why → Result (Option A) Why
+some_if_ok (Ok value) = Ok (Some value)
+some_if_ok (Err why) = Err why
 
 -- these words, or none where they are a comment
 abbrev pub without_comment : List (List ℕ) → List (List ℕ)
@@ -224,7 +224,7 @@ IsFirstOfLine line read = MatchResult read (λ found. line_words line ≡ Ok (op
 
 abbrev pub read_words : {A : Type 0} → (List (List ℕ) → Result A Why) → List (List ℕ) → Result (Option A) Why
 read_words reads [] = Ok None
-read_words reads (word ∷ words) = said (reads (word ∷ words))
+read_words reads (word ∷ words) = some_if_ok (reads (word ∷ words))
 
 abbrev pub read_line : {A : Type 0} → (List (List ℕ) → Result A Why) → List ℕ → Result (Option A) Why
 read_line reads line = line_words line >>= read_words reads

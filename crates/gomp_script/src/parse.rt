@@ -88,13 +88,13 @@ pub fn parse_steps(alloc: Global, text: &[u8]) -> Result<(u32, Vec<Step>), Parse
     let mut number: u64 = 1;
     while let Some(lines) = rest {
         let (line, after) = cut(lines, b'\n');
-        let said = match read_team(line) {
-            Ok(said) => said,
+        let team = match read_team(line) {
+            Ok(team) => team,
             Err(why) => return Err(ParseError::Bad(BadLine { line: number, why })),
         };
         rest = after;
         number = number.saturating_add(1);
-        if let Some(count) = said {
+        if let Some(count) = team {
             return match parse_lines(alloc, rest, number) {
                 Ok(steps) => Ok((count, steps)),
                 Err(error) => Err(error),
@@ -122,13 +122,13 @@ fn parse_lines(alloc: Global, lines: Option<&[u8]>, first: u64) -> Result<Vec<St
     let mut number = first;
     while let Some(lines) = rest {
         let (line, after) = cut(lines, b'\n');
-        let said = match read_step(line) {
-            Ok(said) => said,
+        let step = match read_step(line) {
+            Ok(step) => step,
             Err(why) => return Err(ParseError::Bad(BadLine { line: number, why })),
         };
         rest = after;
         number = number.saturating_add(1);
-        if keep(&mut steps, said).is_err() {
+        if keep(&mut steps, step).is_err() {
             return Err(first_fault(rest, number));
         }
     }
@@ -152,13 +152,13 @@ fn first_fault(lines: Option<&[u8]>, first: u64) -> ParseError
     ParseError::Memory
 }
 
-/// Keeps what a line said. Only a step takes memory, and only where the list is full.
-fn keep(steps: &mut Vec<Step>, said: Option<Step>) -> Result<(), AllocError>
-    ensures kept { OnOk result (steps.new.items ≡ kept steps.old.items said) }
-    ensures step { OnErr result (IsSome said) }
+/// Keeps the step of a line, if it has one. Only a step takes memory, and only if the list is full.
+fn keep(steps: &mut Vec<Step>, step: Option<Step>) -> Result<(), AllocError>
+    ensures kept { OnOk result (steps.new.items ≡ kept steps.old.items step) }
+    ensures step { OnErr result (IsSome step) }
     ensures full { OnErr result (vec_capacity steps.old ≤ vec_len steps.old) }
 {
-    match said {
+    match step {
         Some(step) => Ok(steps.push(step)?),
         None => Ok(()),
     }
@@ -186,7 +186,7 @@ fn read_step(line: &[u8]) -> Result<Option<Step>, Why>
     Ok(Some(step))
 }
 
-/// The first word of a line, and the rest of the line after it. None where the line has no word, or
+/// The first word of a line, and the rest of the line after it. None if the line has no word, or
 /// is a comment.
 fn first_word(line: &[u8]) -> Result<Option<(&[u8], &[u8])>, Why>
     ensures { IsFirstOfLine line.now result }

@@ -12,7 +12,7 @@ use Rattle.gomp_types.specs.declared.event.Event.TheVariants.{Take}
 use Rattle.gomp_types.specs.Limits.{shown}
 use Rattle.gomp_types.specs.Values.{IsShape}
 use Rattle.gomp_types.specs.Pieces.{Piece, Tiles, pieces_of, kind_pieces, owner_by}
-use Rattle.gomp_types.specs.Deals.{deal_of, schedule, owned_from, taken_in, next_for}
+use Rattle.gomp_types.specs.Deals.{queues_of, schedule, owned_from, taken_in, next_for}
 use Rattle.gomp_types.proofs.Booleans.{same_number}
 use Rattle.gomp_chunks.specs.Plans.{count_for, next_piece, own_queue}
 use Rattle.gomp_shares.specs.Calls.{taken_of}
@@ -20,7 +20,7 @@ use Rattle.gomp_share_plain.specs.Plain.{taken_by}
 
 -- the takes that count for a member are its own of a static share, and else all
 counts_by : (members : ℕ) (kind : ShareKind) (shape : Shape) (i m : ℕ) (h : List Event) →
-    taken_in ((deal_of members kind).queue_of shape) i ((deal_of members kind).queue_of shape m) h ≡ count_for (owner_by members kind) (taken_by i m h) (taken_of i h)
+    taken_in ((queues_of members kind).queue_of shape) i ((queues_of members kind).queue_of shape m) h ≡ count_for (owner_by members kind) (taken_by i m h) (taken_of i h)
 counts_by members StaticChunked shape i m h = refl
 counts_by members StaticEven shape i m h = refl
 counts_by members Dynamic shape i m h = refl
@@ -48,7 +48,7 @@ tiles_few : (low high : ℕ) (pieces : List Piece) → Tiles low pieces high →
 tiles_few low high [] tiles = omega arith
 tiles_few low high (piece ∷ pieces) tiles = let rest = tiles_few piece.1 high pieces tiles.2 in let some = tiles.1 in omega arith
 
-queue_few : (members : ℕ) (kind : ShareKind) (shape : Shape) (m : ℕ) → Tiles 0 (kind_pieces members kind shape) shape.trips → length ((deal_of members kind).queue shape ((deal_of members kind).queue_of shape m)) ≤ shape.trips
+queue_few : (members : ℕ) (kind : ShareKind) (shape : Shape) (m : ℕ) → Tiles 0 (kind_pieces members kind shape) shape.trips → length ((queues_of members kind).queue shape ((queues_of members kind).queue_of shape m)) ≤ shape.trips
 queue_few members StaticChunked shape m tiles = let few = tiles_few 0 shape.trips _ tiles in let own = owned_few (λ j. j % members) m 0 (kind_pieces members StaticChunked shape) in omega arith
 queue_few members StaticEven shape m tiles = let few = tiles_few 0 shape.trips _ tiles in let own = owned_few (λ j. j) m 0 (kind_pieces members StaticEven shape) in omega arith
 queue_few members Dynamic shape m tiles = let few = tiles_few 0 shape.trips _ tiles in omega arith

@@ -11,7 +11,7 @@ use Rattle.gomp_types.specs.declared.event.Event.TheVariants.{Take}
 use Rattle.gomp_types.specs.Shapes.{is_static}
 use Rattle.gomp_types.specs.Pieces.{Piece, kind_pieces}
 use Rattle.gomp_types.specs.Events.{shape_at}
-use Rattle.gomp_types.specs.Deals.{deal_of, owned_from, schedule, taken_in}
+use Rattle.gomp_types.specs.Deals.{queues_of, owned_from, schedule, taken_in}
 use Rattle.gomp_types.specs.Laws.{Always}
 use Rattle.gomp_shares.specs.Rules.{ShareRule}
 use Rattle.gomp_shares.specs.Laws.{TakesItsOwn}
@@ -39,7 +39,7 @@ owned_place owner m j n piece (first ∷ pieces) at =
 
 -- of a static loop with a chunk it is the rest of the number, without one the number itself
 own_number : (members m n : ℕ) (shape : Shape) (piece : Piece) (kind : ShareKind) → m < members → is_static kind ≡ true →
-    slice_get ((deal_of members kind).queue shape ((deal_of members kind).queue_of shape m)) n ≡ Some piece →
+    slice_get ((queues_of members kind).queue shape ((queues_of members kind).queue_of shape m)) n ≡ Some piece →
     (number : ℕ) × (slice_get (kind_pieces members kind shape) number ≡ Some piece) × (number % members ≡ m)
 own_number members m n shape piece kinds.StaticChunked lt static at =
     let place = owned_place (λ j. j % members) m 0 n piece (kind_pieces members kinds.StaticChunked shape) at in

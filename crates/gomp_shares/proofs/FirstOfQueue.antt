@@ -5,7 +5,7 @@ use Rattle.gomp_types.specs.declared.shape.Shape.{Shape}
 use Rattle.gomp_types.specs.declared.event.Event.{Event}
 use Rattle.gomp_types.specs.Pieces.{Piece}
 use Rattle.gomp_types.specs.Events.{open_share}
-use Rattle.gomp_types.specs.Deals.{Deal, FirstOfQueue, taken_in, takes_in, next_for}
+use Rattle.gomp_types.specs.Deals.{Queues, FirstOfQueue, taken_in, takes_in, next_for}
 use Rattle.gomp_types.specs.Laws.{Always}
 use Rattle.gomp_shares.specs.Rules.{ShareRule}
 use Rattle.gomp_shares.proofs.SharesKeep.{taken_front_of_queue, member_is_inside}
@@ -16,10 +16,10 @@ parted_at [] n piece there = absurd (cc)
 parted_at (first ∷ pieces) zero piece there = (pieces, let same : first ≡ piece = cc in rw same refl)
 parted_at (first ∷ pieces) (suc n) piece there = let later = parted_at pieces n piece there in (later.0, ap (λ (l : List Piece). first ∷ l) later.1)
 
-pub first_of_queue : (deal : Deal) (members m i : ℕ) (shape : Shape) (piece : Piece) (h : List Event) → Always (ShareRule deal members) h → open_share m h ≡ Some (i, shape) → next_for deal shape i m h ≡ Some piece →
-    FirstOfQueue (deal.queue shape (deal.queue_of shape m)) (takes_in (deal.queue_of shape) i (deal.queue_of shape m) h) piece
-first_of_queue deal members m i shape piece h all at next =
-    let own = member_is_inside deal members m i shape h all at in
-    let q = deal.queue_of shape m in
-    let parted = parted_at (deal.queue shape q) (taken_in (deal.queue_of shape) i q h) piece next in
-    (parted.0, parted.1 ∙ ap (λ (l : List Piece). l ++ piece ∷ parted.0) (sym (taken_front_of_queue deal members i q shape h all own.0)))
+pub first_of_queue : (queues : Queues) (members m i : ℕ) (shape : Shape) (piece : Piece) (h : List Event) → Always (ShareRule queues members) h → open_share m h ≡ Some (i, shape) → next_for queues shape i m h ≡ Some piece →
+    FirstOfQueue (queues.queue shape (queues.queue_of shape m)) (takes_in (queues.queue_of shape) i (queues.queue_of shape m) h) piece
+first_of_queue queues members m i shape piece h all at next =
+    let own = member_is_inside queues members m i shape h all at in
+    let q = queues.queue_of shape m in
+    let parted = parted_at (queues.queue shape q) (taken_in (queues.queue_of shape) i q h) piece next in
+    (parted.0, parted.1 ∙ ap (λ (l : List Piece). l ++ piece ∷ parted.0) (sym (taken_front_of_queue queues members i q shape h all own.0)))

@@ -5,7 +5,7 @@ use Rattle.std.specs.Prelude.{is_some}
 use Rattle.gomp_types.specs.declared.event.Event.{Event}
 use Rattle.gomp_types.specs.declared.limits.TheConstants.{OPEN_SHARES}
 use Rattle.gomp_types.specs.declared.shape.Shape.{Shape}
-use Rattle.gomp_types.specs.Deals.{Deal, FirstOfQueue, schedule, takes_in, next_for}
+use Rattle.gomp_types.specs.Deals.{Queues, FirstOfQueue, schedule, takes_in, next_for}
 use Rattle.gomp_types.specs.Pieces.{Piece}
 use Rattle.gomp_types.specs.Shapes.{is_loop, is_single}
 use Rattle.gomp_types.specs.Events.{entered, open_share, has_drained, last_piece, shape_at, is_over, in_part}
@@ -17,11 +17,11 @@ use Rattle.gomp_shares.proofs.OrderedKeep.{ordered_keep}
 use Rattle.gomp_shares.proofs.PartsKeep.{part_inside}
 use Rattle.gomp_shares.proofs.SharesKeep.{shares_keep, drained_none}
 use Rattle.gomp_shares.proofs.SinglesKeep.{single_is_done}
-use Rattle.gomp_shares.proofs.Windows.{eight_before, inside_is_open, next_is_open}
+use Rattle.gomp_shares.proofs.SharesOver.{eight_before, inside_is_open, next_is_open}
 
 -- however the pieces of the work-shares are dealt out, events that keep the rule of the shares keep their laws: taken once,
 -- whole, same shares
-pub share_rule_keeps_laws : (deal : Deal) (members : ℕ) (h : List Event) → Always (ShareRule deal members) h → ShareLaws deal members h
+pub share_rule_keeps_laws : (queues : Queues) (members : ℕ) (h : List Event) → Always (ShareRule queues members) h → ShareLaws queues members h
 share_rule_keeps_laws = shares_keep
 
 -- however the shares are kept, events that keep their rule keep the order of ordered parts: they rise along a loop, each in its
@@ -31,13 +31,13 @@ share_rule_keeps_order = ordered_keep
 
 -- the next piece of a member is the first of its queue that nobody took: before it are the pieces that were taken from the
 -- queue, in the order in which they were taken
-pub next_piece_is_first_of_queue : (deal : Deal) (members m i : ℕ) (shape : Shape) (piece : Piece) (h : List Event) → Always (ShareRule deal members) h → open_share m h ≡ Some (i, shape) →
-    next_for deal shape i m h ≡ Some piece → FirstOfQueue (deal.queue shape (deal.queue_of shape m)) (takes_in (deal.queue_of shape) i (deal.queue_of shape m) h) piece
+pub next_piece_is_first_of_queue : (queues : Queues) (members m i : ℕ) (shape : Shape) (piece : Piece) (h : List Event) → Always (ShareRule queues members) h → open_share m h ≡ Some (i, shape) →
+    next_for queues shape i m h ≡ Some piece → FirstOfQueue (queues.queue shape (queues.queue_of shape m)) (takes_in (queues.queue_of shape) i (queues.queue_of shape m) h) piece
 next_piece_is_first_of_queue = first_of_queue
 
 -- once a member found nothing left in the share that it is in, nothing is left there for it
-pub drained_share_stays_drained : (deal : Deal) (members m i : ℕ) (shape : Shape) (h : List Event) → Always (ShareRule deal members) h → open_share m h ≡ Some (i, shape) → has_drained m h ≡ true →
-    next_for deal shape i m h ≡ None
+pub drained_share_stays_drained : (queues : Queues) (members m i : ℕ) (shape : Shape) (h : List Event) → Always (ShareRule queues members) h → open_share m h ≡ Some (i, shape) → has_drained m h ≡ true →
+    next_for queues shape i m h ≡ None
 drained_share_stays_drained = drained_none
 
 -- a member that took the piece of the single that it is in finds nothing left there

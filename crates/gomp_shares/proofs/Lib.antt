@@ -15,4 +15,4 @@ pub mod PartsKeep
 pub mod RunExamples
 pub mod SharesKeep
 pub mod SinglesKeep
-pub mod Windows
+pub mod SharesOver

@@ -7,7 +7,7 @@ use Rattle.gomp_types.specs.declared.event.Event.TheVariants.{Enter, Take, Drain
 use Rattle.gomp_types.specs.Events.{member_of}
 use Rattle.gomp_types.specs.Seen.{seen_of}
 use Rattle.gomp_types.specs.declared.seen.Seen.{Seen}
-use Rattle.gomp_types.proofs.Booleans.{other_number, differs}
+use Rattle.gomp_types.proofs.Booleans.{other_number, unequal_numbers}
 use Rattle.gomp_shares.specs.Only.{own_of}
 
 -- an event of another member is not among them
@@ -51,5 +51,5 @@ pub seen_own : (m : ℕ) (h : List Event) → seen_of m (own_of m h) ≡ seen_of
 seen_own m [] = refl
 seen_own m (event ∷ h) = elim (cases_Bool (member_of event == m)) [
   | inl is ↦ rw is (seen_after event m (own_of m h) ∙ ap (seen_after_own_event event m) (seen_own m h) ∙ sym (seen_after event m h))
-  | inr other ↦ rw other (seen_own m h ∙ sym (seen_apart event m h (λ e. differs _ _ other (sym e))))
+  | inr other ↦ rw other (seen_own m h ∙ sym (seen_apart event m h (λ e. unequal_numbers _ _ other (sym e))))
 ]

@@ -16,10 +16,10 @@ use Rattle.gomp_types.specs.Pieces.{Piece, kind_of}
 use Rattle.gomp_types.specs.Values.{value_at, iteration_at, iteration_of}
 use Rattle.gomp_types.specs.Events.{open_share, in_kind, in_part, has_iteration}
 use Rattle.gomp_types.specs.Ordered.{is_in_rest}
-use Rattle.gomp_types.specs.Deals.{Deal}
+use Rattle.gomp_types.specs.Deals.{Queues}
 use Rattle.gomp_types.specs.Laws.{Always}
 use Rattle.gomp_shares.specs.Rules.{ShareRule}
-use Rattle.gomp_types.proofs.Booleans.{tells, is_equal, share_is, and_left, and_right, not_both}
+use Rattle.gomp_types.proofs.Booleans.{which_branch, is_equal, share_is, and_left, and_right, not_both}
 
 -- What is ordered is a loop
 
@@ -28,52 +28,52 @@ loop_is_loop Static chunk = elim (cases_Bool (int_eq chunk (pos 0))) [ inl e ↦
 loop_is_loop Guided chunk = refl
 loop_is_loop _ chunk = refl
 
-pub ordered_loop : (deal : Deal) (members m i : ℕ) (shape : Shape) (h : List Event) → Always (ShareRule deal members) h → open_share m h ≡ Some (i, shape) → shape.ordered ≡ true → is_loop shape.kind ≡ true
-ordered_loop deal members m i shape [] all at ordered = absurd (cc)
-ordered_loop deal members m i shape (Enter share member other ∷ earlier) all at ordered =
-    elim (tells (member == m) (Some (share, other)) (open_share m earlier) (Some (i, shape)) at) [
+pub ordered_loop : (queues : Queues) (members m i : ℕ) (shape : Shape) (h : List Event) → Always (ShareRule queues members) h → open_share m h ≡ Some (i, shape) → shape.ordered ≡ true → is_loop shape.kind ≡ true
+ordered_loop queues members m i shape [] all at ordered = absurd (cc)
+ordered_loop queues members m i shape (Enter share member other ∷ earlier) all at ordered =
+    elim (which_branch (member == m) (Some (share, other)) (open_share m earlier) (Some (i, shape)) at) [
       | inl e ↦ let same : other ≡ shape = (share_is share i other shape e.1).1 in (rw same at all.0.ordered) ordered
-      | inr e ↦ ordered_loop deal members m i shape earlier all.1 e.1 ordered
+      | inr e ↦ ordered_loop queues members m i shape earlier all.1 e.1 ordered
     ]
-ordered_loop deal members m i shape (End share member ∷ earlier) all at ordered =
-    elim (tells (member == m) None (open_share m earlier) (Some (i, shape)) at) [
+ordered_loop queues members m i shape (End share member ∷ earlier) all at ordered =
+    elim (which_branch (member == m) None (open_share m earlier) (Some (i, shape)) at) [
       | inl e ↦ absurd (cc)
-      | inr e ↦ ordered_loop deal members m i shape earlier all.1 e.1 ordered
+      | inr e ↦ ordered_loop queues members m i shape earlier all.1 e.1 ordered
     ]
-ordered_loop deal members m i shape (_ ∷ earlier) all at ordered = ordered_loop deal members m i shape earlier all.1 at ordered
+ordered_loop queues members m i shape (_ ∷ earlier) all at ordered = ordered_loop queues members m i shape earlier all.1 at ordered
 
 -- a member in an ordered part is in a loop
-pub parts_in_loop : (deal : Deal) (members m : ℕ) (h : List Event) → Always (ShareRule deal members) h → in_part m h ≡ true → in_kind is_loop (open_share m h) ≡ true
-parts_in_loop deal members m [] all within = absurd (cc)
-parts_in_loop deal members m (Enter share member shape ∷ earlier) all within =
+pub parts_in_loop : (queues : Queues) (members m : ℕ) (h : List Event) → Always (ShareRule queues members) h → in_part m h ≡ true → in_kind is_loop (open_share m h) ≡ true
+parts_in_loop queues members m [] all within = absurd (cc)
+parts_in_loop queues members m (Enter share member shape ∷ earlier) all within =
     elim (cases_Bool (member == m)) [
       | inl e ↦ absurd (let no = rw e at within in cc)
-      | inr e ↦ rw e (parts_in_loop deal members m earlier all.1 (rw e at within))
+      | inr e ↦ rw e (parts_in_loop queues members m earlier all.1 (rw e at within))
     ]
-parts_in_loop deal members m (End share member ∷ earlier) all within =
+parts_in_loop queues members m (End share member ∷ earlier) all within =
     elim (cases_Bool (member == m)) [
       | inl e ↦ absurd (not_both (in_part m earlier) within (rw (is_equal member m e) at all.0.apart))
-      | inr e ↦ rw e (parts_in_loop deal members m earlier all.1 within)
+      | inr e ↦ rw e (parts_in_loop queues members m earlier all.1 within)
     ]
-parts_in_loop deal members m (Part share member iteration ∷ earlier) all within =
+parts_in_loop queues members m (Part share member iteration ∷ earlier) all within =
     elim (cases_Bool (member == m)) [
       | inl e ↦
           let there : open_share m earlier ≡ Some (share, all.0.shape) = rw (← is_equal member m e) all.0.inside in
-          rw there (ordered_loop deal members m share all.0.shape earlier all.1 there all.0.ordered)
-      | inr e ↦ parts_in_loop deal members m earlier all.1 (rw e at within)
+          rw there (ordered_loop queues members m share all.0.shape earlier all.1 there all.0.ordered)
+      | inr e ↦ parts_in_loop queues members m earlier all.1 (rw e at within)
     ]
-parts_in_loop deal members m (PartEnd share member ∷ earlier) all within =
+parts_in_loop queues members m (PartEnd share member ∷ earlier) all within =
     elim (cases_Bool (member == m)) [
       | inl e ↦ absurd (let no = rw e at within in cc)
-      | inr e ↦ parts_in_loop deal members m earlier all.1 (rw e at within)
+      | inr e ↦ parts_in_loop queues members m earlier all.1 (rw e at within)
     ]
-parts_in_loop deal members m (_ ∷ earlier) all within = parts_in_loop deal members m earlier all.1 within
+parts_in_loop queues members m (_ ∷ earlier) all within = parts_in_loop queues members m earlier all.1 within
 
 -- so one that is in none is in no part
-pub apart_by : (deal : Deal) (members m : ℕ) (h : List Event) → Always (ShareRule deal members) h → in_kind is_loop (open_share m h) ≡ false → in_part m h ≡ false
-apart_by deal members m h all away =
+pub apart_by : (queues : Queues) (members m : ℕ) (h : List Event) → Always (ShareRule queues members) h → in_kind is_loop (open_share m h) ≡ false → in_part m h ≡ false
+apart_by queues members m h all away =
     elim (cases_Bool (in_part m h)) [
-      | inl e ↦ absurd (not_both (in_kind is_loop (open_share m h)) (parts_in_loop deal members m h all e) away)
+      | inl e ↦ absurd (not_both (in_kind is_loop (open_share m h)) (parts_in_loop queues members m h all e) away)
       | inr e ↦ e
     ]
 
@@ -139,6 +139,6 @@ in_loop_found : (own : Option (ℕ × Shape)) → in_kind is_loop own ≡ true �
 in_loop_found None e = absurd (cc)
 in_loop_found (Some share) e = (share.0, share.1, refl, e)
 
-pub part_inside : (deal : Deal) (members m : ℕ) (h : List Event) → Always (ShareRule deal members) h → in_part m h ≡ true →
+pub part_inside : (queues : Queues) (members m : ℕ) (h : List Event) → Always (ShareRule queues members) h → in_part m h ≡ true →
     (i : ℕ) × (shape : Shape) × (open_share m h ≡ Some (i, shape)) × (is_loop shape.kind ≡ true)
-part_inside deal members m h all within = in_loop_found (open_share m h) (parts_in_loop deal members m h all within)
+part_inside queues members m h all within = in_loop_found (open_share m h) (parts_in_loop queues members m h all within)

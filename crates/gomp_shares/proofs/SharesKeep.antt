@@ -9,70 +9,70 @@ use Rattle.gomp_types.specs.declared.event.Event.{Event}
 use Rattle.gomp_types.specs.declared.event.Event.TheVariants.{Enter, Take, Drained, End}
 use Rattle.gomp_types.specs.Pieces.{Piece}
 use Rattle.gomp_types.specs.Events.{entered, open_share, has_drained, has_ended, shape_at, is_over, has_room, has_iteration, times_taken}
-use Rattle.gomp_types.specs.Deals.{Deal, IsDealt, taken_in, takes_in, next_in, next_for, times}
+use Rattle.gomp_types.specs.Deals.{Queues, IsDealt, taken_in, takes_in, next_in, next_for, times}
 use Rattle.gomp_types.proofs.Always.{always_so}
 use Rattle.gomp_types.specs.Laws.{Always, Happened}
 use Rattle.gomp_shares.specs.Rules.{MayTake, HasNone, ShareRule}
 use Rattle.gomp_shares.specs.Laws.{IsOver, TakesNext, TakesWithin, LeavesNothing, EntersOneByOne, EndsInside, EntersWithRoom, ShareLaws}
-use Rattle.gomp_types.proofs.Booleans.{tells, is_equal, differs, same_number, share_is, and_left, and_right, or_tells, or_right, not_both, every_tells}
+use Rattle.gomp_types.proofs.Booleans.{which_branch, is_equal, unequal_numbers, same_number, share_is, and_left, and_right, or_tells, or_right, not_both, every_tells}
 use Rattle.gomp_types.proofs.Tiling.{still_past, later_none, times-append, times-take, take_next, take_past, none_has}
 
 -- The shape of a share
 
-pub shape_stays : (deal : Deal) (members i : ℕ) (shape : Shape) (event : Event) (earlier : List Event) → ShareRule deal members event earlier →
+pub shape_stays : (queues : Queues) (members i : ℕ) (shape : Shape) (event : Event) (earlier : List Event) → ShareRule queues members event earlier →
     shape_at i earlier ≡ Some shape → shape_at i (event ∷ earlier) ≡ Some shape
-shape_stays deal members i shape (Enter share member other) earlier rule at =
+shape_stays queues members i shape (Enter share member other) earlier rule at =
     elim (cases_Bool (share == i)) [
       | inl e ↦ rw e (let same : shape ≡ other = rule.same shape (rw (is_equal share i e) at) in rw same refl)
       | inr e ↦ rw e at
     ]
-shape_stays deal members i shape _ earlier rule at = at
+shape_stays queues members i shape _ earlier rule at = at
 
 -- each share that was entered is dealt
-pub share_is_dealt : (deal : Deal) (members i : ℕ) (shape : Shape) (h : List Event) → Always (ShareRule deal members) h → shape_at i h ≡ Some shape → IsDealt deal members shape
-share_is_dealt deal members i shape [] all at = absurd (cc)
-share_is_dealt deal members i shape (Enter share member other ∷ earlier) all at =
-    elim (tells (share == i) (Some other) (shape_at i earlier) (Some shape) at) [
+pub share_is_dealt : (queues : Queues) (members i : ℕ) (shape : Shape) (h : List Event) → Always (ShareRule queues members) h → shape_at i h ≡ Some shape → IsDealt queues members shape
+share_is_dealt queues members i shape [] all at = absurd (cc)
+share_is_dealt queues members i shape (Enter share member other ∷ earlier) all at =
+    elim (which_branch (share == i) (Some other) (shape_at i earlier) (Some shape) at) [
       | inl e ↦ let same : other ≡ shape = let t = e.1 in cc in rw same at all.0.dealt
-      | inr e ↦ share_is_dealt deal members i shape earlier all.1 e.1
+      | inr e ↦ share_is_dealt queues members i shape earlier all.1 e.1
     ]
-share_is_dealt deal members i shape (_ ∷ earlier) all at = share_is_dealt deal members i shape earlier all.1 at
+share_is_dealt queues members i shape (_ ∷ earlier) all at = share_is_dealt queues members i shape earlier all.1 at
 
 -- What is known of the share that a member is in
 
 abbrev pub Inside : ℕ → ℕ → ℕ → Shape → List Event → Type 0
 Inside members m i shape h = (shape_at i h ≡ Some shape) × (m < members) × (entered m h ≡ i + 1) × (shape.incr ≢ pos 0)
 
-pub member_is_inside : (deal : Deal) (members m i : ℕ) (shape : Shape) (h : List Event) → Always (ShareRule deal members) h → open_share m h ≡ Some (i, shape) → Inside members m i shape h
-member_is_inside deal members m i shape [] all at = absurd (cc)
-member_is_inside deal members m i shape (Enter share member other ∷ earlier) all at =
-    elim (tells (member == m) (Some (share, other)) (open_share m earlier) (Some (i, shape)) at) [
+pub member_is_inside : (queues : Queues) (members m i : ℕ) (shape : Shape) (h : List Event) → Always (ShareRule queues members) h → open_share m h ≡ Some (i, shape) → Inside members m i shape h
+member_is_inside queues members m i shape [] all at = absurd (cc)
+member_is_inside queues members m i shape (Enter share member other ∷ earlier) all at =
+    elim (which_branch (member == m) (Some (share, other)) (open_share m earlier) (Some (i, shape)) at) [
       | inl e ↦
           let p = share_is share i other shape e.1 in
           let who = is_equal member m e.0 in
           let number : share ≡ entered m earlier = rw (← who) all.0.number in
           rw (e.0, p.0, p.1, same_number i) (refl, (rw who at all.0.member), rw (← p.0) (rw number refl), (rw p.1 at all.0.moves))
       | inr e ↦
-          let before = member_is_inside deal members m i shape earlier all.1 e.1 in
-          (shape_stays deal members i shape (Enter share member other) earlier all.0 before.0, before.1, rw e.0 before.2, before.3)
+          let before = member_is_inside queues members m i shape earlier all.1 e.1 in
+          (shape_stays queues members i shape (Enter share member other) earlier all.0 before.0, before.1, rw e.0 before.2, before.3)
     ]
-member_is_inside deal members m i shape (End share member ∷ earlier) all at =
-    elim (tells (member == m) None (open_share m earlier) (Some (i, shape)) at) [
+member_is_inside queues members m i shape (End share member ∷ earlier) all at =
+    elim (which_branch (member == m) None (open_share m earlier) (Some (i, shape)) at) [
       | inl e ↦ absurd (cc)
-      | inr e ↦ member_is_inside deal members m i shape earlier all.1 e.1
+      | inr e ↦ member_is_inside queues members m i shape earlier all.1 e.1
     ]
-member_is_inside deal members m i shape (_ ∷ earlier) all at = member_is_inside deal members m i shape earlier all.1 at
+member_is_inside queues members m i shape (_ ∷ earlier) all at = member_is_inside queues members m i shape earlier all.1 at
 
 -- the member has entered the share that it is in
 pub inside_stands : (m i : ℕ) (shape : Shape) (h : List Event) → open_share m h ≡ Some (i, shape) → Happened (Enter i m shape) h
 inside_stands m i shape [] at = absurd (cc)
 inside_stands m i shape (Enter share member other ∷ earlier) at =
-    elim (tells (member == m) (Some (share, other)) (open_share m earlier) (Some (i, shape)) at) [
+    elim (which_branch (member == m) (Some (share, other)) (open_share m earlier) (Some (i, shape)) at) [
       | inl e ↦ inl (let p = share_is share i other shape e.1 in let same = is_equal member m e.0 in rw (p.0, p.1, same) refl)
       | inr e ↦ inr (inside_stands m i shape earlier e.1)
     ]
 inside_stands m i shape (End share member ∷ earlier) at =
-    elim (tells (member == m) None (open_share m earlier) (Some (i, shape)) at) [
+    elim (which_branch (member == m) None (open_share m earlier) (Some (i, shape)) at) [
       | inl e ↦ absurd (cc)
       | inr e ↦ inr (inside_stands m i shape earlier e.1)
     ]
@@ -81,29 +81,29 @@ inside_stands m i shape (_ ∷ earlier) at = inr (inside_stands m i shape earlie
 -- Takes from a queue
 
 -- a share that nobody entered has no takes
-none_taken : (deal : Deal) (members i : ℕ) (h : List Event) → Always (ShareRule deal members) h → shape_at i h ≡ None →
+none_taken : (queues : Queues) (members i : ℕ) (h : List Event) → Always (ShareRule queues members) h → shape_at i h ≡ None →
     ((queue_of : ℕ → ℕ) (q : ℕ) → (taken_in queue_of i q h ≡ 0) × (takes_in queue_of i q h ≡ [])) × ((k : ℕ) → times_taken i k h ≡ 0)
-none_taken deal members i [] all at = ((λ queue_of q. (refl, refl)), λ k. refl)
-none_taken deal members i (Enter share member shape ∷ earlier) all at =
-    elim (tells (share == i) (Some shape) (shape_at i earlier) None at) [
+none_taken queues members i [] all at = ((λ queue_of q. (refl, refl)), λ k. refl)
+none_taken queues members i (Enter share member shape ∷ earlier) all at =
+    elim (which_branch (share == i) (Some shape) (shape_at i earlier) None at) [
       | inl e ↦ absurd (cc)
-      | inr e ↦ none_taken deal members i earlier all.1 e.1
+      | inr e ↦ none_taken queues members i earlier all.1 e.1
     ]
-none_taken deal members i (Take share member low high ∷ earlier) all at =
+none_taken queues members i (Take share member low high ∷ earlier) all at =
     elim (cases_Bool (share == i)) [
-      | inl e ↦ absurd (let found : shape_at share earlier ≡ Some all.0.shape = (member_is_inside deal members member share all.0.shape earlier all.1 all.0.inside).0 in
+      | inl e ↦ absurd (let found : shape_at share earlier ≡ Some all.0.shape = (member_is_inside queues members member share all.0.shape earlier all.1 all.0.inside).0 in
           let there : shape_at i earlier ≡ None = at in
           let is : share ≡ i = is_equal share i e in
           let none : Some all.0.shape ≡ None = sym found ∙ ap (λ (n : ℕ). shape_at n earlier) is ∙ there in cc)
-      | inr e ↦ rw e (none_taken deal members i earlier all.1 at)
+      | inr e ↦ rw e (none_taken queues members i earlier all.1 at)
     ]
-none_taken deal members i (_ ∷ earlier) all at = none_taken deal members i earlier all.1 at
+none_taken queues members i (_ ∷ earlier) all at = none_taken queues members i earlier all.1 at
 
 -- what a take takes, in the words of its share
-next_of_queue_is_taken : (deal : Deal) (members i m low high : ℕ) (shape : Shape) (h : List Event) → Always (ShareRule deal members) h → shape_at i h ≡ Some shape → MayTake deal i m low high h →
-    next_in deal shape i (deal.queue_of shape m) h ≡ Some (low, high)
-next_of_queue_is_taken deal members i m low high shape h all at may =
-    let found = (member_is_inside deal members m i may.shape h all may.inside).0 in
+next_of_queue_is_taken : (queues : Queues) (members i m low high : ℕ) (shape : Shape) (h : List Event) → Always (ShareRule queues members) h → shape_at i h ≡ Some shape → MayTake queues i m low high h →
+    next_in queues shape i (queues.queue_of shape m) h ≡ Some (low, high)
+next_of_queue_is_taken queues members i m low high shape h all at may =
+    let found = (member_is_inside queues members m i may.shape h all may.inside).0 in
     let same : may.shape ≡ shape = cc in
     rw same at may.next
 
@@ -113,118 +113,118 @@ earlier_shape None shape same = inl refl
 earlier_shape (Some other) shape same = inr (ap Some (same other refl))
 
 -- the takes from a queue are its first pieces, in order
-pub taken_front_of_queue : (deal : Deal) (members i q : ℕ) (shape : Shape) (h : List Event) → Always (ShareRule deal members) h → shape_at i h ≡ Some shape →
-    takes_in (deal.queue_of shape) i q h ≡ take (taken_in (deal.queue_of shape) i q h) (deal.queue shape q)
-taken_front_of_queue deal members i q shape [] all at = absurd (cc)
-taken_front_of_queue deal members i q shape (Enter share member other ∷ earlier) all at =
-    elim (tells (share == i) (Some other) (shape_at i earlier) (Some shape) at) [
+pub taken_front_of_queue : (queues : Queues) (members i q : ℕ) (shape : Shape) (h : List Event) → Always (ShareRule queues members) h → shape_at i h ≡ Some shape →
+    takes_in (queues.queue_of shape) i q h ≡ take (taken_in (queues.queue_of shape) i q h) (queues.queue shape q)
+taken_front_of_queue queues members i q shape [] all at = absurd (cc)
+taken_front_of_queue queues members i q shape (Enter share member other ∷ earlier) all at =
+    elim (which_branch (share == i) (Some other) (shape_at i earlier) (Some shape) at) [
       | inl e ↦
           let same : other ≡ shape = let t = e.1 in cc in
           elim (earlier_shape (shape_at i earlier) shape (rw (is_equal share i e.0, same) at all.0.same)) [
-            | inl none ↦ let empty = (none_taken deal members i earlier all.1 none).0 (deal.queue_of shape) q in rw (empty.0, empty.1) refl
-            | inr some ↦ taken_front_of_queue deal members i q shape earlier all.1 some
+            | inl none ↦ let empty = (none_taken queues members i earlier all.1 none).0 (queues.queue_of shape) q in rw (empty.0, empty.1) refl
+            | inr some ↦ taken_front_of_queue queues members i q shape earlier all.1 some
           ]
-      | inr e ↦ taken_front_of_queue deal members i q shape earlier all.1 e.1
+      | inr e ↦ taken_front_of_queue queues members i q shape earlier all.1 e.1
     ]
-taken_front_of_queue deal members i q shape (Take share member low high ∷ earlier) all at =
-    elim (cases_Bool (share == i && deal.queue_of shape member == q)) [
+taken_front_of_queue queues members i q shape (Take share member low high ∷ earlier) all at =
+    elim (cases_Bool (share == i && queues.queue_of shape member == q)) [
       | inl e ↦
-          let is = is_equal share i (and_left (share == i) (deal.queue_of shape member == q) e) in
-          let from = is_equal (deal.queue_of shape member) q (and_right (share == i) (deal.queue_of shape member == q) e) in
-          let next = next_of_queue_is_taken deal members i member low high shape earlier all.1 at (rw is at all.0) in
-          rw (e, taken_front_of_queue deal members i q shape earlier all.1 at, take_next (deal.queue shape q) (taken_in (deal.queue_of shape) i q earlier) (low, high) (rw from at next)) refl
-      | inr e ↦ rw e (taken_front_of_queue deal members i q shape earlier all.1 at)
+          let is = is_equal share i (and_left (share == i) (queues.queue_of shape member == q) e) in
+          let from = is_equal (queues.queue_of shape member) q (and_right (share == i) (queues.queue_of shape member == q) e) in
+          let next = next_of_queue_is_taken queues members i member low high shape earlier all.1 at (rw is at all.0) in
+          rw (e, taken_front_of_queue queues members i q shape earlier all.1 at, take_next (queues.queue shape q) (taken_in (queues.queue_of shape) i q earlier) (low, high) (rw from at next)) refl
+      | inr e ↦ rw e (taken_front_of_queue queues members i q shape earlier all.1 at)
     ]
-taken_front_of_queue deal members i q shape (_ ∷ earlier) all at = taken_front_of_queue deal members i q shape earlier all.1 at
+taken_front_of_queue queues members i q shape (_ ∷ earlier) all at = taken_front_of_queue queues members i q shape earlier all.1 at
 
 times_with_one_more : (has : Bool) (k low high n : ℕ) (xs : List Piece) → has_iteration k low high ≡ has → n ≡ times k xs → (if has then n + 1 else n) ≡ times k (xs ++ (low, high) ∷ [])
 times_with_one_more true k low high n xs e before = rw (times-append k xs ((low, high) ∷ []), e, before) refl
 times_with_one_more false k low high n xs e before = rw (times-append k xs ((low, high) ∷ []), e, before) (omega arith)
 
 -- how often an iteration was taken is told by the queue that has it
-by_queue : (deal : Deal) (members i k : ℕ) (shape : Shape) (d : IsDealt deal members shape) (h : List Event) → Always (ShareRule deal members) h → shape_at i h ≡ Some shape →
-    times_taken i k h ≡ times k (takes_in (deal.queue_of shape) i (d.home k) h)
-by_queue deal members i k shape d [] all at = absurd (cc)
-by_queue deal members i k shape d (Enter share member other ∷ earlier) all at =
-    elim (tells (share == i) (Some other) (shape_at i earlier) (Some shape) at) [
+by_queue : (queues : Queues) (members i k : ℕ) (shape : Shape) (d : IsDealt queues members shape) (h : List Event) → Always (ShareRule queues members) h → shape_at i h ≡ Some shape →
+    times_taken i k h ≡ times k (takes_in (queues.queue_of shape) i (d.queue_with k) h)
+by_queue queues members i k shape d [] all at = absurd (cc)
+by_queue queues members i k shape d (Enter share member other ∷ earlier) all at =
+    elim (which_branch (share == i) (Some other) (shape_at i earlier) (Some shape) at) [
       | inl e ↦
           let same : other ≡ shape = let t = e.1 in cc in
           elim (earlier_shape (shape_at i earlier) shape (rw (is_equal share i e.0, same) at all.0.same)) [
-            | inl none ↦ let empty = none_taken deal members i earlier all.1 none in rw (empty.1 k, (empty.0 (deal.queue_of shape) (d.home k)).1) refl
-            | inr some ↦ by_queue deal members i k shape d earlier all.1 some
+            | inl none ↦ let empty = none_taken queues members i earlier all.1 none in rw (empty.1 k, (empty.0 (queues.queue_of shape) (d.queue_with k)).1) refl
+            | inr some ↦ by_queue queues members i k shape d earlier all.1 some
           ]
-      | inr e ↦ by_queue deal members i k shape d earlier all.1 e.1
+      | inr e ↦ by_queue queues members i k shape d earlier all.1 e.1
     ]
-by_queue deal members i k shape d (Take share member low high ∷ earlier) all at =
+by_queue queues members i k shape d (Take share member low high ∷ earlier) all at =
     elim (cases_Bool (share == i)) [
       | inl e ↦
-          let next = next_of_queue_is_taken deal members i member low high shape earlier all.1 at (rw (is_equal share i e) at all.0) in
-          elim (cases_Bool (deal.queue_of shape member == d.home k)) [
-            | inl own ↦ rw (e, own) (times_with_one_more (has_iteration k low high) k low high (times_taken i k earlier) (takes_in (deal.queue_of shape) i (d.home k) earlier) refl (by_queue deal members i k shape d earlier all.1 at))
+          let next = next_of_queue_is_taken queues members i member low high shape earlier all.1 at (rw (is_equal share i e) at all.0) in
+          elim (cases_Bool (queues.queue_of shape member == d.queue_with k)) [
+            | inl own ↦ rw (e, own) (times_with_one_more (has_iteration k low high) k low high (times_taken i k earlier) (takes_in (queues.queue_of shape) i (d.queue_with k) earlier) refl (by_queue queues members i k shape d earlier all.1 at))
             | inr other ↦
-                let away = d.elsewhere k member (member_is_inside deal members member share all.0.shape earlier all.1 all.0.inside).1 (differs (deal.queue_of shape member) (d.home k) other) in
-                rw (e, other, none_has k (taken_in (deal.queue_of shape) i (deal.queue_of shape member) earlier) low high (deal.queue shape (deal.queue_of shape member)) next away) (by_queue deal members i k shape d earlier all.1 at)
+                let away = d.not_in_another k member (member_is_inside queues members member share all.0.shape earlier all.1 all.0.inside).1 (unequal_numbers (queues.queue_of shape member) (d.queue_with k) other) in
+                rw (e, other, none_has k (taken_in (queues.queue_of shape) i (queues.queue_of shape member) earlier) low high (queues.queue shape (queues.queue_of shape member)) next away) (by_queue queues members i k shape d earlier all.1 at)
           ]
-      | inr e ↦ rw e (by_queue deal members i k shape d earlier all.1 at)
+      | inr e ↦ rw e (by_queue queues members i k shape d earlier all.1 at)
     ]
-by_queue deal members i k shape d (_ ∷ earlier) all at = by_queue deal members i k shape d earlier all.1 at
+by_queue queues members i k shape d (_ ∷ earlier) all at = by_queue queues members i k shape d earlier all.1 at
 
 -- no iteration of a share is taken twice
-pub taken_once : (deal : Deal) (members i k : ℕ) (h : List Event) → Always (ShareRule deal members) h → times_taken i k h ≤ 1
-taken_once deal members i k h all = by_shape (shape_at i h) refl
+pub taken_once : (queues : Queues) (members i k : ℕ) (h : List Event) → Always (ShareRule queues members) h → times_taken i k h ≤ 1
+taken_once queues members i k h all = by_shape (shape_at i h) refl
   where
     by_shape : (own : Option Shape) → shape_at i h ≡ own → times_taken i k h ≤ 1
-    by_shape None at = let none = (none_taken deal members i h all at).1 k in omega arith
+    by_shape None at = let none = (none_taken queues members i h all at).1 k in omega arith
     by_shape (Some shape) at =
-        let d = share_is_dealt deal members i shape h all at in
-        let q = d.home k in
-        let told = by_queue deal members i k shape d h all at in
-        let part = times-take k (taken_in (deal.queue_of shape) i q h) (deal.queue shape q) in
+        let d = share_is_dealt queues members i shape h all at in
+        let q = d.queue_with k in
+        let told = by_queue queues members i k shape d h all at in
+        let part = times-take k (taken_in (queues.queue_of shape) i q h) (queues.queue shape q) in
         let most = d.most k in
-        rw (told, taken_front_of_queue deal members i q shape h all at) (omega arith)
+        rw (told, taken_front_of_queue queues members i q shape h all at) (omega arith)
 
 -- Members that left
 
 -- what a member that left a share found stays so
-pub none_stays : (deal : Deal) (shape : Shape) (i q : ℕ) (event : Event) (earlier : List Event) → next_in deal shape i q earlier ≡ None → next_in deal shape i q (event ∷ earlier) ≡ None
-none_stays deal shape i q (Take share member low high) earlier e =
-    elim (cases_Bool (share == i && deal.queue_of shape member == q)) [
-      | inl same ↦ rw same (later_none (deal.queue shape q) (taken_in (deal.queue_of shape) i q earlier) e)
+pub none_stays : (queues : Queues) (shape : Shape) (i q : ℕ) (event : Event) (earlier : List Event) → next_in queues shape i q earlier ≡ None → next_in queues shape i q (event ∷ earlier) ≡ None
+none_stays queues shape i q (Take share member low high) earlier e =
+    elim (cases_Bool (share == i && queues.queue_of shape member == q)) [
+      | inl same ↦ rw same (later_none (queues.queue shape q) (taken_in (queues.queue_of shape) i q earlier) e)
       | inr other ↦ rw other e
     ]
-none_stays deal shape i q _ earlier e = e
+none_stays queues shape i q _ earlier e = e
 
-pub ended_none : (deal : Deal) (members m i : ℕ) (h : List Event) → Always (ShareRule deal members) h → has_ended i m h ≡ true →
-    (shape : Shape) × (shape_at i h ≡ Some shape) × (next_for deal shape i m h ≡ None)
-ended_none deal members m i [] all ended = absurd (cc)
-ended_none deal members m i (End share member ∷ earlier) all ended =
+pub ended_none : (queues : Queues) (members m i : ℕ) (h : List Event) → Always (ShareRule queues members) h → has_ended i m h ≡ true →
+    (shape : Shape) × (shape_at i h ≡ Some shape) × (next_for queues shape i m h ≡ None)
+ended_none queues members m i [] all ended = absurd (cc)
+ended_none queues members m i (End share member ∷ earlier) all ended =
     elim (cases_Bool (share == i && member == m)) [
       | inl e ↦
           let is = is_equal share i (and_left (share == i) (member == m) e) in
           let who = is_equal member m (and_right (share == i) (member == m) e) in
-          let end : HasNone deal i m earlier = rw (is, who) at all.0 in
-          (end.shape, (member_is_inside deal members m i end.shape earlier all.1 end.inside).0, end.none)
-      | inr e ↦ ended_none deal members m i earlier all.1 (rw e at ended)
+          let end : HasNone queues i m earlier = rw (is, who) at all.0 in
+          (end.shape, (member_is_inside queues members m i end.shape earlier all.1 end.inside).0, end.none)
+      | inr e ↦ ended_none queues members m i earlier all.1 (rw e at ended)
     ]
-ended_none deal members m i (event ∷ earlier) all ended =
-    let before = ended_none deal members m i earlier all.1 ended in
-    (before.0, shape_stays deal members i before.0 event earlier all.0 before.1, none_stays deal before.0 i (deal.queue_of before.0 m) event earlier before.2)
+ended_none queues members m i (event ∷ earlier) all ended =
+    let before = ended_none queues members m i earlier all.1 ended in
+    (before.0, shape_stays queues members i before.0 event earlier all.0 before.1, none_stays queues before.0 i (queues.queue_of before.0 m) event earlier before.2)
 
 -- a share that every member has left had each of its iterations taken
-pub taken_whole : (deal : Deal) (members i k : ℕ) (shape : Shape) (h : List Event) → Always (ShareRule deal members) h → shape_at i h ≡ Some shape →
+pub taken_whole : (queues : Queues) (members i k : ℕ) (shape : Shape) (h : List Event) → Always (ShareRule queues members) h → shape_at i h ≡ Some shape →
     ((m : ℕ) → m < members → has_ended i m h ≡ true) → k < shape.trips → times_taken i k h ≡ 1
-taken_whole deal members i k shape h all at over lt =
-    let d = share_is_dealt deal members i shape h all at in
+taken_whole queues members i k shape h all at over lt =
+    let d = share_is_dealt queues members i shape h all at in
     let who = d.taker k lt in
-    let left = ended_none deal members who.0 i h all (over who.0 who.1) in
+    let left = ended_none queues members who.0 i h all (over who.0 who.1) in
     let same : left.0 ≡ shape = let one = left.1 in cc in
-    let none : next_for deal shape i who.0 h ≡ None = rw same at left.2 in
-    let home : next_in deal shape i (d.home k) h ≡ None = rw who.2 at none in
-    let past = still_past (deal.queue shape (d.home k)) (taken_in (deal.queue_of shape) i (d.home k) h) home in
+    let none : next_for queues shape i who.0 h ≡ None = rw same at left.2 in
+    let none_left : next_in queues shape i (d.queue_with k) h ≡ None = rw who.2 at none in
+    let past = still_past (queues.queue shape (d.queue_with k)) (taken_in (queues.queue_of shape) i (d.queue_with k) h) none_left in
     rw (
-      by_queue deal members i k shape d h all at,
-      taken_front_of_queue deal members i (d.home k) shape h all at,
-      take_past (deal.queue shape (d.home k)) (taken_in (deal.queue_of shape) i (d.home k) h) past,
+      by_queue queues members i k shape d h all at,
+      taken_front_of_queue queues members i (d.queue_with k) shape h all at,
+      take_past (queues.queue shape (d.queue_with k)) (taken_in (queues.queue_of shape) i (d.queue_with k) h) past,
     ) (d.one k lt)
 
 and_no : (a b c : Bool) → b ≡ false → (a && b || c) ≡ true → c ≡ true
@@ -232,11 +232,11 @@ and_no true b c off e = rw off at e
 and_no false b c off e = e
 
 -- the shares that a member left are below those that it entered, and below the one that it is in
-pub ended_below : (deal : Deal) (members m i : ℕ) (h : List Event) → Always (ShareRule deal members) h → has_ended i m h ≡ true →
+pub ended_below : (queues : Queues) (members m i : ℕ) (h : List Event) → Always (ShareRule queues members) h → has_ended i m h ≡ true →
     (i < entered m h) × ((j : ℕ) (shape : Shape) → open_share m h ≡ Some (j, shape) → i < j)
-ended_below deal members m i [] all ended = absurd (cc)
-ended_below deal members m i (Enter share member shape ∷ earlier) all ended =
-    let before = ended_below deal members m i earlier all.1 ended in
+ended_below queues members m i [] all ended = absurd (cc)
+ended_below queues members m i (Enter share member shape ∷ earlier) all ended =
+    let before = ended_below queues members m i earlier all.1 ended in
     elim (cases_Bool (member == m)) [
       | inl e ↦ rw e (
         omega (arith, before.0),
@@ -247,61 +247,61 @@ ended_below deal members m i (Enter share member shape ∷ earlier) all ended =
       )
       | inr e ↦ rw e before
     ]
-ended_below deal members m i (End share member ∷ earlier) all ended =
+ended_below queues members m i (End share member ∷ earlier) all ended =
     elim (cases_Bool (member == m)) [
       | inl e ↦ elim (cases_Bool (share == i)) [
         | inl same ↦
             let at : open_share m earlier ≡ Some (share, all.0.shape) = rw (← is_equal member m e) all.0.inside in
-            let found = member_is_inside deal members m share all.0.shape earlier all.1 at in
+            let found = member_is_inside queues members m share all.0.shape earlier all.1 at in
             let number = found.2 in let is = is_equal share i same in
             rw e (omega arith, λ j other within. absurd (cc))
         | inr other ↦
-            let before = ended_below deal members m i earlier all.1 (rw other at ended) in
+            let before = ended_below queues members m i earlier all.1 (rw other at ended) in
             rw e (before.0, λ j other within. absurd (cc))
       ]
-      | inr e ↦ rw e (ended_below deal members m i earlier all.1 (and_no (share == i) (member == m) (has_ended i m earlier) e ended))
+      | inr e ↦ rw e (ended_below queues members m i earlier all.1 (and_no (share == i) (member == m) (has_ended i m earlier) e ended))
     ]
-ended_below deal members m i (_ ∷ earlier) all ended = ended_below deal members m i earlier all.1 ended
+ended_below queues members m i (_ ∷ earlier) all ended = ended_below queues members m i earlier all.1 ended
 
 -- the member is still in its share
-pub not_ended : (deal : Deal) (members m i : ℕ) (shape : Shape) (h : List Event) → Always (ShareRule deal members) h → open_share m h ≡ Some (i, shape) → has_ended i m h ≡ false
-not_ended deal members m i shape h all within =
+pub not_ended : (queues : Queues) (members m i : ℕ) (shape : Shape) (h : List Event) → Always (ShareRule queues members) h → open_share m h ≡ Some (i, shape) → has_ended i m h ≡ false
+not_ended queues members m i shape h all within =
     elim (cases_Bool (has_ended i m h)) [
-      | inl e ↦ absurd (let below = (ended_below deal members m i h all e).1 i shape within in omega arith)
+      | inl e ↦ absurd (let below = (ended_below queues members m i h all e).1 i shape within in omega arith)
       | inr e ↦ e
     ]
 
 -- Members that were told that nothing is left
 
-none_same : (deal : Deal) (i j m : ℕ) (shape other : Shape) (h : List Event) → i ≡ j → shape ≡ other → next_for deal shape i m h ≡ None → next_for deal other j m h ≡ None
-none_same deal i j m shape other h e same none =
-    subst (λ (s : Shape). next_for deal s j m h ≡ None) same (subst (λ (n : ℕ). next_for deal shape n m h ≡ None) e none)
+none_same : (queues : Queues) (i j m : ℕ) (shape other : Shape) (h : List Event) → i ≡ j → shape ≡ other → next_for queues shape i m h ≡ None → next_for queues other j m h ≡ None
+none_same queues i j m shape other h e same none =
+    subst (λ (s : Shape). next_for queues s j m h ≡ None) same (subst (λ (n : ℕ). next_for queues shape n m h ≡ None) e none)
 
-pub drained_none : (deal : Deal) (members m i : ℕ) (shape : Shape) (h : List Event) → Always (ShareRule deal members) h → open_share m h ≡ Some (i, shape) → has_drained m h ≡ true →
-    next_for deal shape i m h ≡ None
-drained_none deal members m i shape [] all within drained = absurd (cc)
-drained_none deal members m i shape (Enter share member other ∷ earlier) all within drained =
+pub drained_none : (queues : Queues) (members m i : ℕ) (shape : Shape) (h : List Event) → Always (ShareRule queues members) h → open_share m h ≡ Some (i, shape) → has_drained m h ≡ true →
+    next_for queues shape i m h ≡ None
+drained_none queues members m i shape [] all within drained = absurd (cc)
+drained_none queues members m i shape (Enter share member other ∷ earlier) all within drained =
     elim (cases_Bool (member == m)) [
       | inl e ↦ absurd (let off = rw e at drained in cc)
-      | inr e ↦ drained_none deal members m i shape earlier all.1 (rw e at within) (rw e at drained)
+      | inr e ↦ drained_none queues members m i shape earlier all.1 (rw e at within) (rw e at drained)
     ]
-drained_none deal members m i shape (Drained share member ∷ earlier) all within drained =
+drained_none queues members m i shape (Drained share member ∷ earlier) all within drained =
     elim (cases_Bool (member == m)) [
       | inl e ↦
           let who = is_equal member m e in
-          let may : HasNone deal share m earlier = rw who at all.0 in
+          let may : HasNone queues share m earlier = rw who at all.0 in
           let p = share_is share i may.shape shape (sym may.inside ∙ within) in
-          none_same deal share i m may.shape shape earlier p.0 p.1 may.none
-      | inr e ↦ drained_none deal members m i shape earlier all.1 within (rw e at drained)
+          none_same queues share i m may.shape shape earlier p.0 p.1 may.none
+      | inr e ↦ drained_none queues members m i shape earlier all.1 within (rw e at drained)
     ]
-drained_none deal members m i shape (End share member ∷ earlier) all within drained =
+drained_none queues members m i shape (End share member ∷ earlier) all within drained =
     elim (cases_Bool (member == m)) [
       | inl e ↦ absurd (let off = rw e at within in cc)
-      | inr e ↦ drained_none deal members m i shape earlier all.1 (rw e at within) drained
+      | inr e ↦ drained_none queues members m i shape earlier all.1 (rw e at within) drained
     ]
-drained_none deal members m i shape (Take share member low high ∷ earlier) all within drained =
-    none_stays deal shape i (deal.queue_of shape m) (Take share member low high) earlier (drained_none deal members m i shape earlier all.1 within drained)
-drained_none deal members m i shape (_ ∷ earlier) all within drained = drained_none deal members m i shape earlier all.1 within drained
+drained_none queues members m i shape (Take share member low high ∷ earlier) all within drained =
+    none_stays queues shape i (queues.queue_of shape m) (Take share member low high) earlier (drained_none queues members m i shape earlier all.1 within drained)
+drained_none queues members m i shape (_ ∷ earlier) all within drained = drained_none queues members m i shape earlier all.1 within drained
 
 -- From tests on the list to what stands in it
 
@@ -343,47 +343,47 @@ room_over members share old h e room =
 abbrev pub Entry : ℕ → ℕ → ℕ → Shape → List Event → Type 0
 Entry members share m shape h = (m < members) × (shape_at share h ≡ Some shape)
 
-pub enter_has_its_shape : (deal : Deal) (members share m : ℕ) (shape : Shape) (h : List Event) → Always (ShareRule deal members) h → Happened (Enter share m shape) h → Entry members share m shape h
-enter_has_its_shape deal members share m shape [] all stands = absurd stands
-enter_has_its_shape deal members share m shape (Enter i member other ∷ earlier) all (inl e) =
+pub enter_has_its_shape : (queues : Queues) (members share m : ℕ) (shape : Shape) (h : List Event) → Always (ShareRule queues members) h → Happened (Enter share m shape) h → Entry members share m shape h
+enter_has_its_shape queues members share m shape [] all stands = absurd stands
+enter_has_its_shape queues members share m shape (Enter i member other ∷ earlier) all (inl e) =
     let number : i ≡ share = cc in
     let who : member ≡ m = cc in
     let what : other ≡ shape = cc in
     let in_team : m < members = rw (← who) all.0.member in
     rw (number, same_number share) (in_team, ap Some what)
-enter_has_its_shape deal members share m shape (_ ∷ earlier) all (inl e) = absurd (cc)
-enter_has_its_shape deal members share m shape (event ∷ earlier) all (inr stands) =
-    let before = enter_has_its_shape deal members share m shape earlier all.1 stands in
-    (before.0, shape_stays deal members share shape event earlier all.0 before.1)
+enter_has_its_shape queues members share m shape (_ ∷ earlier) all (inl e) = absurd (cc)
+enter_has_its_shape queues members share m shape (event ∷ earlier) all (inr stands) =
+    let before = enter_has_its_shape queues members share m shape earlier all.1 stands in
+    (before.0, shape_stays queues members share shape event earlier all.0 before.1)
 
-takes_next : (deal : Deal) (members : ℕ) (event : Event) (earlier : List Event) → ShareRule deal members event earlier → Always (ShareRule deal members) earlier → TakesNext deal event earlier
-takes_next deal members (Take share m low high) earlier rule all = (
+takes_next : (queues : Queues) (members : ℕ) (event : Event) (earlier : List Event) → ShareRule queues members event earlier → Always (ShareRule queues members) earlier → TakesNext queues event earlier
+takes_next queues members (Take share m low high) earlier rule all = (
   rule.shape,
   inside_stands m share rule.shape earlier rule.inside,
-  (λ stands. not_both (has_ended share m earlier) (stands_ended share m earlier stands) (not_ended deal members m share rule.shape earlier all rule.inside)),
+  (λ stands. not_both (has_ended share m earlier) (stands_ended share m earlier stands) (not_ended queues members m share rule.shape earlier all rule.inside)),
   rule.next,
 )
-takes_next deal members _ earlier rule all = tt
+takes_next queues members _ earlier rule all = tt
 
 -- the share that a member entered is the one that it is in, or it has left it
-entered_left : (deal : Deal) (members i m : ℕ) (shape : Shape) (h : List Event) → Always (ShareRule deal members) h → Happened (Enter i m shape) h → (open_share m h ≡ Some (i, shape)) ⊎ Happened (End i m) h
-entered_left deal members i m shape [] all stands = absurd stands
-entered_left deal members i m shape (Enter share member other ∷ earlier) all (inl e) =
+entered_left : (queues : Queues) (members i m : ℕ) (shape : Shape) (h : List Event) → Always (ShareRule queues members) h → Happened (Enter i m shape) h → (open_share m h ≡ Some (i, shape)) ⊎ Happened (End i m) h
+entered_left queues members i m shape [] all stands = absurd stands
+entered_left queues members i m shape (Enter share member other ∷ earlier) all (inl e) =
     let number : share ≡ i = cc in
     let who : member ≡ m = cc in
     let what : other ≡ shape = cc in
     inl (rw (number, who, what, same_number m) refl)
-entered_left deal members i m shape (_ ∷ earlier) all (inl e) = absurd (cc)
-entered_left deal members i m shape (Enter share member other ∷ earlier) all (inr stands) =
-    elim (entered_left deal members i m shape earlier all.1 stands) [
+entered_left queues members i m shape (_ ∷ earlier) all (inl e) = absurd (cc)
+entered_left queues members i m shape (Enter share member other ∷ earlier) all (inr stands) =
+    elim (entered_left queues members i m shape earlier all.1 stands) [
       | inl at ↦ elim (cases_Bool (member == m)) [
         | inl e ↦ absurd (let none : open_share m earlier ≡ None = rw (← is_equal member m e) all.0.outside in let both = sym at ∙ none in cc)
         | inr e ↦ inl (rw e at)
       ]
       | inr left ↦ inr (inr left)
     ]
-entered_left deal members i m shape (End share member ∷ earlier) all (inr stands) =
-    elim (entered_left deal members i m shape earlier all.1 stands) [
+entered_left queues members i m shape (End share member ∷ earlier) all (inr stands) =
+    elim (entered_left queues members i m shape earlier all.1 stands) [
       | inl at ↦ elim (cases_Bool (member == m)) [
         | inl e ↦
             let who = is_equal member m e in
@@ -394,67 +394,67 @@ entered_left deal members i m shape (End share member ∷ earlier) all (inr stan
       ]
       | inr left ↦ inr (inr left)
     ]
-entered_left deal members i m shape (_ ∷ earlier) all (inr stands) =
-    elim (entered_left deal members i m shape earlier all.1 stands) [ inl at ↦ inl at | inr left ↦ inr (inr left) ]
+entered_left queues members i m shape (_ ∷ earlier) all (inr stands) =
+    elim (entered_left queues members i m shape earlier all.1 stands) [ inl at ↦ inl at | inr left ↦ inr (inr left) ]
 
-pub left_before : (deal : Deal) (members m : ℕ) (h : List Event) → Always (ShareRule deal members) h → open_share m h ≡ None → (i : ℕ) (other : Shape) → Happened (Enter i m other) h → Happened (End i m) h
-left_before deal members m h all outside i other stands =
-    elim (entered_left deal members i m other h all stands) [
+pub left_before : (queues : Queues) (members m : ℕ) (h : List Event) → Always (ShareRule queues members) h → open_share m h ≡ None → (i : ℕ) (other : Shape) → Happened (Enter i m other) h → Happened (End i m) h
+left_before queues members m h all outside i other stands =
+    elim (entered_left queues members i m other h all stands) [
       | inl at ↦ absurd (let both = sym at ∙ outside in cc)
       | inr left ↦ left
     ]
 
-takes_within : (deal : Deal) (members : ℕ) (event : Event) (earlier : List Event) → ShareRule deal members event earlier → Always (ShareRule deal members) earlier → TakesWithin event earlier
-takes_within deal members (Take share m low high) earlier rule all =
-    let known = member_is_inside deal members m share rule.shape earlier all rule.inside in
-    let fair = share_is_dealt deal members share rule.shape earlier all known.0 in
-    let number = taken_in (deal.queue_of rule.shape) share (deal.queue_of rule.shape m) earlier in
+takes_within : (queues : Queues) (members : ℕ) (event : Event) (earlier : List Event) → ShareRule queues members event earlier → Always (ShareRule queues members) earlier → TakesWithin event earlier
+takes_within queues members (Take share m low high) earlier rule all =
+    let known = member_is_inside queues members m share rule.shape earlier all rule.inside in
+    let fair = share_is_dealt queues members share rule.shape earlier all known.0 in
+    let number = taken_in (queues.queue_of rule.shape) share (queues.queue_of rule.shape m) earlier in
     (rule.shape, inside_stands m share rule.shape earlier rule.inside, fair.some m number (low, high) known.1 rule.next, fair.within m number (low, high) known.1 rule.next)
-takes_within deal members _ earlier rule all = tt
+takes_within queues members _ earlier rule all = tt
 
-leaves_nothing : (deal : Deal) (members : ℕ) (event : Event) (earlier : List Event) → ShareRule deal members event earlier → Always (ShareRule deal members) earlier → LeavesNothing deal event earlier
-leaves_nothing deal members (End share m) earlier rule all = λ shape stands.
-    let one : shape_at share earlier ≡ Some rule.shape = (member_is_inside deal members m share rule.shape earlier all rule.inside).0 in
-    let other : shape_at share earlier ≡ Some shape = (enter_has_its_shape deal members share m shape earlier all stands).1 in
+leaves_nothing : (queues : Queues) (members : ℕ) (event : Event) (earlier : List Event) → ShareRule queues members event earlier → Always (ShareRule queues members) earlier → LeavesNothing queues event earlier
+leaves_nothing queues members (End share m) earlier rule all = λ shape stands.
+    let one : shape_at share earlier ≡ Some rule.shape = (member_is_inside queues members m share rule.shape earlier all rule.inside).0 in
+    let other : shape_at share earlier ≡ Some shape = (enter_has_its_shape queues members share m shape earlier all stands).1 in
     let same : rule.shape ≡ shape = let both = sym one ∙ other in cc in
     rw (← same) rule.none
-leaves_nothing deal members _ earlier rule all = tt
+leaves_nothing queues members _ earlier rule all = tt
 
-enters_one_by_one : (deal : Deal) (members : ℕ) (event : Event) (earlier : List Event) → ShareRule deal members event earlier → Always (ShareRule deal members) earlier → EntersOneByOne members event earlier
-enters_one_by_one deal members (Enter share m shape) earlier rule all = (rule.member, rule.number, left_before deal members m earlier all rule.outside)
-enters_one_by_one deal members _ earlier rule all = tt
+enters_one_by_one : (queues : Queues) (members : ℕ) (event : Event) (earlier : List Event) → ShareRule queues members event earlier → Always (ShareRule queues members) earlier → EntersOneByOne members event earlier
+enters_one_by_one queues members (Enter share m shape) earlier rule all = (rule.member, rule.number, left_before queues members m earlier all rule.outside)
+enters_one_by_one queues members _ earlier rule all = tt
 
-ends_inside : (deal : Deal) (members : ℕ) (event : Event) (earlier : List Event) → ShareRule deal members event earlier → Always (ShareRule deal members) earlier → EndsInside event earlier
-ends_inside deal members (End share m) earlier rule all = (
+ends_inside : (queues : Queues) (members : ℕ) (event : Event) (earlier : List Event) → ShareRule queues members event earlier → Always (ShareRule queues members) earlier → EndsInside event earlier
+ends_inside queues members (End share m) earlier rule all = (
   rule.shape,
   inside_stands m share rule.shape earlier rule.inside,
-  (λ stands. not_both (has_ended share m earlier) (stands_ended share m earlier stands) (not_ended deal members m share rule.shape earlier all rule.inside)),
+  (λ stands. not_both (has_ended share m earlier) (stands_ended share m earlier stands) (not_ended queues members m share rule.shape earlier all rule.inside)),
 )
-ends_inside deal members _ earlier rule all = tt
+ends_inside queues members _ earlier rule all = tt
 
-enters_with_room : (deal : Deal) (members : ℕ) (event : Event) (earlier : List Event) → ShareRule deal members event earlier → Always (ShareRule deal members) earlier → EntersWithRoom members event earlier
-enters_with_room deal members (Enter share m shape) earlier rule all =
+enters_with_room : (queues : Queues) (members : ℕ) (event : Event) (earlier : List Event) → ShareRule queues members event earlier → Always (ShareRule queues members) earlier → EntersWithRoom members event earlier
+enters_with_room queues members (Enter share m shape) earlier rule all =
     λ old e. over_stands members old earlier (room_over members share old earlier e rule.room)
-enters_with_room deal members _ earlier rule all = tt
+enters_with_room queues members _ earlier rule all = tt
 
 -- the laws of the work-shares, from their rule alone
-pub shares_keep : (deal : Deal) (members : ℕ) (h : List Event) → Always (ShareRule deal members) h → ShareLaws deal members h
-shares_keep deal members h all = record {
+pub shares_keep : (queues : Queues) (members : ℕ) (h : List Event) → Always (ShareRule queues members) h → ShareLaws queues members h
+shares_keep queues members h all = record {
   taken_once = record {
-    once = λ share k. taken_once deal members share k h all;
-    pieces = always_so (ShareRule deal members) (TakesNext deal) (takes_next deal members) h all;
-    within = always_so (ShareRule deal members) TakesWithin (takes_within deal members) h all;
-    left = always_so (ShareRule deal members) (LeavesNothing deal) (leaves_nothing deal members) h all;
-    order = λ share m q shape stands. taken_front_of_queue deal members share q shape h all (enter_has_its_shape deal members share m shape h all stands).1;
+    once = λ share k. taken_once queues members share k h all;
+    pieces = always_so (ShareRule queues members) (TakesNext queues) (takes_next queues members) h all;
+    within = always_so (ShareRule queues members) TakesWithin (takes_within queues members) h all;
+    left = always_so (ShareRule queues members) (LeavesNothing queues) (leaves_nothing queues members) h all;
+    order = λ share m q shape stands. taken_front_of_queue queues members share q shape h all (enter_has_its_shape queues members share m shape h all stands).1;
   };
   whole = λ share m shape stands over k lt.
-      taken_whole deal members share k shape h all (enter_has_its_shape deal members share m shape h all stands).1 (λ x below. stands_ended share x h (over x below)) lt;
+      taken_whole queues members share k shape h all (enter_has_its_shape queues members share m shape h all stands).1 (λ x below. stands_ended share x h (over x below)) lt;
   same_shares = record {
-    one_by_one = always_so (ShareRule deal members) (EntersOneByOne members) (enters_one_by_one deal members) h all;
-    ends = always_so (ShareRule deal members) EndsInside (ends_inside deal members) h all;
+    one_by_one = always_so (ShareRule queues members) (EntersOneByOne members) (enters_one_by_one queues members) h all;
+    ends = always_so (ShareRule queues members) EndsInside (ends_inside queues members) h all;
     shapes = λ share m n one other first second.
-        let a = (enter_has_its_shape deal members share m one h all first).1 in
-        let b = (enter_has_its_shape deal members share n other h all second).1 in cc;
-    room = always_so (ShareRule deal members) (EntersWithRoom members) (enters_with_room deal members) h all;
+        let a = (enter_has_its_shape queues members share m one h all first).1 in
+        let b = (enter_has_its_shape queues members share n other h all second).1 in cc;
+    room = always_so (ShareRule queues members) (EntersWithRoom members) (enters_with_room queues members) h all;
   };
 }

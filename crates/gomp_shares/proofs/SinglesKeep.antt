@@ -10,7 +10,7 @@ use Rattle.gomp_types.specs.declared.event.Event.TheVariants.{Enter, Take, Drain
 use Rattle.gomp_types.specs.Shapes.{is_single}
 use Rattle.gomp_types.specs.Pieces.{whole_piece}
 use Rattle.gomp_types.specs.Events.{open_share, last_piece}
-use Rattle.gomp_types.specs.Deals.{Deal, taken_in, next_for, schedule}
+use Rattle.gomp_types.specs.Deals.{Queues, taken_in, next_for, schedule}
 use Rattle.gomp_types.specs.Laws.{Always}
 use Rattle.gomp_shares.specs.Rules.{ShareRule}
 use Rattle.gomp_types.proofs.Booleans.{is_equal, same_number, share_is}
@@ -20,34 +20,34 @@ some_with_one_more true n lt = omega arith
 some_with_one_more false n lt = lt
 
 -- a member with a piece of its share took one from its queue
-pub piece_taken : (deal : Deal) (members m i : ℕ) (shape : Shape) (h : List Event) → Always (ShareRule deal members) h → open_share m h ≡ Some (i, shape) → is_some (last_piece m h) ≡ true →
-    0 < taken_in (deal.queue_of shape) i (deal.queue_of shape m) h
-piece_taken deal members m i shape [] all at piece = absurd (cc)
-piece_taken deal members m i shape (Enter share member other ∷ earlier) all at piece =
+pub piece_taken : (queues : Queues) (members m i : ℕ) (shape : Shape) (h : List Event) → Always (ShareRule queues members) h → open_share m h ≡ Some (i, shape) → is_some (last_piece m h) ≡ true →
+    0 < taken_in (queues.queue_of shape) i (queues.queue_of shape m) h
+piece_taken queues members m i shape [] all at piece = absurd (cc)
+piece_taken queues members m i shape (Enter share member other ∷ earlier) all at piece =
     elim (cases_Bool (member == m)) [
       | inl e ↦ absurd (let none = rw e at piece in cc)
-      | inr e ↦ piece_taken deal members m i shape earlier all.1 (rw e at at) (rw e at piece)
+      | inr e ↦ piece_taken queues members m i shape earlier all.1 (rw e at at) (rw e at piece)
     ]
-piece_taken deal members m i shape (Take share member low high ∷ earlier) all at piece =
+piece_taken queues members m i shape (Take share member low high ∷ earlier) all at piece =
     elim (cases_Bool (member == m)) [
       | inl e ↦
           let who = is_equal member m e in
           let there : open_share m earlier ≡ Some (share, all.0.shape) = rw (← who) all.0.inside in
           let number : share ≡ i = (share_is share i all.0.shape shape (sym there ∙ at)).0 in
-          rw (who, number, same_number i, same_number (deal.queue_of shape m)) (omega arith)
-      | inr e ↦ some_with_one_more (share == i && deal.queue_of shape member == deal.queue_of shape m) _ (piece_taken deal members m i shape earlier all.1 at (rw e at piece))
+          rw (who, number, same_number i, same_number (queues.queue_of shape m)) (omega arith)
+      | inr e ↦ some_with_one_more (share == i && queues.queue_of shape member == queues.queue_of shape m) _ (piece_taken queues members m i shape earlier all.1 at (rw e at piece))
     ]
-piece_taken deal members m i shape (Drained share member ∷ earlier) all at piece =
+piece_taken queues members m i shape (Drained share member ∷ earlier) all at piece =
     elim (cases_Bool (member == m)) [
       | inl e ↦ absurd (let none = rw e at piece in cc)
-      | inr e ↦ piece_taken deal members m i shape earlier all.1 at (rw e at piece)
+      | inr e ↦ piece_taken queues members m i shape earlier all.1 at (rw e at piece)
     ]
-piece_taken deal members m i shape (End share member ∷ earlier) all at piece =
+piece_taken queues members m i shape (End share member ∷ earlier) all at piece =
     elim (cases_Bool (member == m)) [
       | inl e ↦ absurd (let none = rw e at at in cc)
-      | inr e ↦ piece_taken deal members m i shape earlier all.1 (rw e at at) piece
+      | inr e ↦ piece_taken queues members m i shape earlier all.1 (rw e at at) piece
     ]
-piece_taken deal members m i shape (_ ∷ earlier) all at piece = piece_taken deal members m i shape earlier all.1 at piece
+piece_taken queues members m i shape (_ ∷ earlier) all at piece = piece_taken queues members m i shape earlier all.1 at piece
 
 pub one_only : (trips taken : ℕ) → 0 < taken → slice_get (whole_piece trips) taken ≡ None
 one_only zero taken lt = refl

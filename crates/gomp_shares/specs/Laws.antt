@@ -7,7 +7,7 @@ use Rattle.gomp_types.specs.declared.event.Event.TheVariants.{Enter, Take, End, 
 use Rattle.gomp_types.specs.Shapes.{is_static}
 use Rattle.gomp_types.specs.Pieces.{pieces_of}
 use Rattle.gomp_types.specs.Events.{entered, last_piece, turn, open_part, times_taken}
-use Rattle.gomp_types.specs.Deals.{Deal, taken_in, takes_in, next_for}
+use Rattle.gomp_types.specs.Deals.{Queues, taken_in, takes_in, next_for}
 use Rattle.gomp_types.specs.Laws.{Always, Happened}
 
 -- every member has left the share
@@ -15,13 +15,13 @@ abbrev pub IsOver : ℕ → ℕ → List Event → Type 0
 IsOver members share h = (m : ℕ) → m < members → Happened (End share m) h
 
 -- a take is the least piece that nobody took of those that are its member's to take; its member has entered the share, and not left it
-abbrev pub TakesNext : Deal → Event → List Event → Type 0
-TakesNext deal (Take share m low high) earlier =
+abbrev pub TakesNext : Queues → Event → List Event → Type 0
+TakesNext queues (Take share m low high) earlier =
     (shape : Shape)
     × Happened (Enter share m shape) earlier
     × (Happened (End share m) earlier → ⊥)
-    × (next_for deal shape share m earlier ≡ Some (low, high))
-TakesNext deal _ earlier = Unit {0}
+    × (next_for queues shape share m earlier ≡ Some (low, high))
+TakesNext queues _ earlier = Unit {0}
 
 -- it has iterations of its share, at least one
 abbrev pub TakesWithin : Event → List Event → Type 0
@@ -29,22 +29,22 @@ TakesWithin (Take share m low high) earlier = (shape : Shape) × Happened (Enter
 TakesWithin _ earlier = Unit {0}
 
 -- a member leaves a share only where nothing is left there for it
-abbrev pub LeavesNothing : Deal → Event → List Event → Type 0
-LeavesNothing deal (End share m) earlier = (shape : Shape) → Happened (Enter share m shape) earlier → next_for deal shape share m earlier ≡ None
-LeavesNothing deal _ earlier = Unit {0}
+abbrev pub LeavesNothing : Queues → Event → List Event → Type 0
+LeavesNothing queues (End share m) earlier = (shape : Shape) → Happened (Enter share m shape) earlier → next_for queues shape share m earlier ≡ None
+LeavesNothing queues _ earlier = Unit {0}
 
 -- Taken once (OpenMP API 5.2, section 11.5: each iteration is executed once).
-pub record TakenOnce (deal : Deal) (h : List Event) : Type 0 where
+pub record TakenOnce (queues : Queues) (h : List Event) : Type 0 where
   -- of the takes of a share at most one has the iteration k
   pub once : (share k : ℕ) → times_taken share k h ≤ 1
   -- each take is a piece of its share, between its member's entry and end
-  pub pieces : Always (TakesNext deal) h
+  pub pieces : Always (TakesNext queues) h
   -- of iterations that the share has
   pub within : Always TakesWithin h
   -- its member leaves the share when nothing is left for it, and not before
-  pub left : Always (LeavesNothing deal) h
+  pub left : Always (LeavesNothing queues) h
   -- the takes from a queue are its pieces 0, 1, 2 and on
-  pub order : (share m q : ℕ) (shape : Shape) → Happened (Enter share m shape) h → takes_in (deal.queue_of shape) share q h ≡ take (taken_in (deal.queue_of shape) share q h) (deal.queue shape q)
+  pub order : (share m q : ℕ) (shape : Shape) → Happened (Enter share m shape) h → takes_in (queues.queue_of shape) share q h ≡ take (taken_in (queues.queue_of shape) share q h) (queues.queue shape q)
 
 -- Own pieces (OpenMP API 5.2, section 11.5.3): the pieces of a static loop are assigned to the members in turn, and a member takes only those whose numbers count round to it.
 abbrev pub TakesItsOwn : ℕ → Event → List Event → Type 0
@@ -132,7 +132,7 @@ pub record OrderedLaws (members : ℕ) (h : List Event) : Type 0 where
   pub apart : Always PartsApart h
 
 -- what the work-shares alone keep, however they are kept
-pub record ShareLaws (deal : Deal) (members : ℕ) (h : List Event) : Type 0 where
-  pub taken_once : TakenOnce deal h
+pub record ShareLaws (queues : Queues) (members : ℕ) (h : List Event) : Type 0 where
+  pub taken_once : TakenOnce queues h
   pub whole : WholeWhereOver members h
   pub same_shares : SameShares members h

@@ -7,16 +7,16 @@ use Rattle.gomp_types.specs.Shapes.{is_loop}
 use Rattle.gomp_types.specs.Events.{entered, open_share, last_piece, next_part, in_part, shape_at, has_room}
 use Rattle.gomp_types.specs.Pieces.{Tiles, pieces_of}
 use Rattle.gomp_types.specs.Ordered.{has_turn, last_number}
-use Rattle.gomp_types.specs.Deals.{Deal, IsDealt, next_for}
+use Rattle.gomp_types.specs.Deals.{Queues, IsDealt, next_for}
 
 -- A member of the team that is in no share enters its next one. All that entered it before did so in this shape, and the share
 -- eight before is over. The shape is that of a construct: fairly dealt out, in pieces that lead from its first iteration to its
 -- last, with a step that leads on.
-pub record MayEnter (deal : Deal) (members share m : ℕ) (shape : Shape) (earlier : List Event) : Type 0 where
+pub record MayEnter (queues : Queues) (members share m : ℕ) (shape : Shape) (earlier : List Event) : Type 0 where
   pub member : m < members
   pub number : share ≡ entered m earlier
   pub outside : open_share m earlier ≡ None
-  pub dealt : IsDealt deal members shape
+  pub dealt : IsDealt queues members shape
   pub tiles : Tiles 0 (pieces_of members shape) shape.trips
   pub moves : shape.incr ≢ pos 0
   -- only a loop is ordered
@@ -25,17 +25,17 @@ pub record MayEnter (deal : Deal) (members share m : ℕ) (shape : Shape) (earli
   pub room : has_room members share earlier ≡ true
 
 -- a member takes the next piece of the share that it is in
-pub record MayTake (deal : Deal) (share m low high : ℕ) (earlier : List Event) : Type 0 where
+pub record MayTake (queues : Queues) (share m low high : ℕ) (earlier : List Event) : Type 0 where
   pub shape : Shape
   pub inside : open_share m earlier ≡ Some (share, shape)
-  pub next : next_for deal shape share m earlier ≡ Some (low, high)
+  pub next : next_for queues shape share m earlier ≡ Some (low, high)
   pub apart : in_part m earlier ≡ false
 
 -- nothing is left for a member of the share that it is in: it may be told so, and it may leave, whether it was told or not
-pub record HasNone (deal : Deal) (share m : ℕ) (earlier : List Event) : Type 0 where
+pub record HasNone (queues : Queues) (share m : ℕ) (earlier : List Event) : Type 0 where
   pub shape : Shape
   pub inside : open_share m earlier ≡ Some (share, shape)
-  pub none : next_for deal shape share m earlier ≡ None
+  pub none : next_for queues shape share m earlier ≡ None
   pub apart : in_part m earlier ≡ false
 
 -- a member hands its last piece of an ordered loop on, by the number of that piece: it is the next one that is handed on, and no part of it is open
@@ -68,12 +68,12 @@ pub record MayEndPart (share m : ℕ) (earlier : List Event) : Type 0 where
   pub within : in_part m earlier ≡ true
 
 -- the rule of the work-shares alone
-abbrev pub ShareRule : Deal → ℕ → Event → List Event → Type 0
-ShareRule deal members (Enter share m shape) earlier = MayEnter deal members share m shape earlier
-ShareRule deal members (Take share m low high) earlier = MayTake deal share m low high earlier
-ShareRule deal members (Drained share m) earlier = HasNone deal share m earlier
-ShareRule deal members (End share m) earlier = HasNone deal share m earlier
-ShareRule deal members (HandOn share m piece) earlier = MayHandOn members share m piece earlier
-ShareRule deal members (Part share m iteration) earlier = MayPart members share m iteration earlier
-ShareRule deal members (PartEnd share m) earlier = MayEndPart share m earlier
-ShareRule deal members _ earlier = Unit {0}
+abbrev pub ShareRule : Queues → ℕ → Event → List Event → Type 0
+ShareRule queues members (Enter share m shape) earlier = MayEnter queues members share m shape earlier
+ShareRule queues members (Take share m low high) earlier = MayTake queues share m low high earlier
+ShareRule queues members (Drained share m) earlier = HasNone queues share m earlier
+ShareRule queues members (End share m) earlier = HasNone queues share m earlier
+ShareRule queues members (HandOn share m piece) earlier = MayHandOn members share m piece earlier
+ShareRule queues members (Part share m iteration) earlier = MayPart members share m iteration earlier
+ShareRule queues members (PartEnd share m) earlier = MayEndPart share m earlier
+ShareRule queues members _ earlier = Unit {0}

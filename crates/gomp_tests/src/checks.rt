@@ -9,10 +9,10 @@ pub(crate) fn same<T: PartialEq + Debug>(
     rt: &impl Abort,
     found: &T,
     expected: &T,
-    what: &str,
+    name: &str,
     case: u64,
 ) {
-    assert_eq!(rt; found, expected, "{what} {case}");
+    assert_eq!(rt; found, expected, "{name} {case}");
 }
 
 /// That these are as many, and equal one by one.
@@ -20,10 +20,10 @@ pub(crate) fn same_slices<T: PartialEq + Debug>(
     rt: &impl Abort,
     found: &[T],
     expected: &[T],
-    what: &str,
+    name: &str,
     case: u64,
 ) {
-    assert_eq!(rt; found, expected, "{what} {case}");
+    assert_eq!(rt; found, expected, "{name} {case}");
 }
 
 /// That each of these is the one that is expected.
@@ -31,15 +31,15 @@ pub(crate) fn each_is<T: PartialEq + Debug>(
     rt: &impl Abort,
     found: &[T],
     expected: &T,
-    what: &str,
+    name: &str,
     case: u64,
 ) {
     for item in found {
-        same(rt, item, expected, what, case);
+        same(rt, item, expected, name, case);
     }
 }
 
 /// That this holds; `case` is the number of the case, or the size that is tried.
-pub(crate) fn holds(rt: &impl Abort, found: bool, what: &str, case: u64) {
-    assert!(rt; found, "{what} {case}");
+pub(crate) fn holds(rt: &impl Abort, found: bool, name: &str, case: u64) {
+    assert!(rt; found, "{name} {case}");
 }

@@ -43,7 +43,7 @@ fn is_blank(byte: u8) -> bool
     matches!(byte, b' ' | b'\t')
 }
 
-/// Whether a word is this one, where the letters `A` to `Z` and `a` to `z` are the same.
+/// Whether a word is this one; `A` to `Z` and `a` to `z` count as the same letters.
 pub fn is_word_in_any_case(word: &[u8], name: &[u8]) -> bool
     ensures { result ≡ same_word (lowered word.now) (lowered name.now) }
 {

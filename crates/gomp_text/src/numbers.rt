@@ -3,8 +3,8 @@
 ghost use Rattle.std.specs.Prelude.{◌≡◌, ◌≤◌, ◌^◌};
 ghost use Rattle.gomp_text.specs.Numbers.{unsigned, signed};
 
-/// The number that these digits write, up to `most`. None where there is no digit, or another byte,
-/// or where the number is larger.
+/// The number that these digits write, up to `most`. None if there is no digit, or another byte,
+/// or if the number is larger.
 pub fn unsigned(word: &[u8], most: u64) -> Option<u64>
     ensures { result ≡ unsigned most word.now }
 {
@@ -24,8 +24,8 @@ pub fn unsigned(word: &[u8], most: u64) -> Option<u64>
     Some(number as u64)
 }
 
-/// The number that digits write, before which `-` may stand. None where there is no digit, or
-/// another byte, or where the number is no `i64`.
+/// The number that digits write, before which `-` may stand. None if there is no digit, or
+/// another byte, or if the number is no `i64`.
 pub fn signed(word: &[u8]) -> Option<i64>
     ensures { result ≡ signed word.now }
 {

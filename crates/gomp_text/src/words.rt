@@ -4,7 +4,7 @@ ghost use Rattle.std.specs.Prelude.{◌≡◌, ◌<◌, length, IfSome, option_c
 ghost use Rattle.gomp_text.specs.Words.{HasParts, IsFirstWord, is_ascii, cut, past_spaces, left, same_word};
 
 /// The bytes before the first `separator`, which is any byte, and those after it. None in the place
-/// of those where no separator stands in the text.
+/// of those if no separator stands in the text.
 pub fn cut(text: &[u8], separator: u8) -> (&[u8], Option<&[u8]>)
     ensures before { result.0.now ≡ (cut separator text.now).0 }
     ensures after { option_copied result.1 ≡ (cut separator text.now).1 }
@@ -27,7 +27,7 @@ fn past_spaces(mut text: &[u8]) -> &[u8]
     text
 }
 
-/// The first word of a line, and the rest of the line after it. None where there is no word: the
+/// The first word of a line, and the rest of the line after it. None if there is no word: the
 /// line is empty, or has spaces alone.
 pub fn next_word(line: &[u8]) -> Option<(&[u8], &[u8])>
     ensures words { IsFirstWord line.now result }

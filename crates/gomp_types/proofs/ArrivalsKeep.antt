@@ -8,7 +8,7 @@ use Rattle.gomp_types.specs.declared.event.Event.TheVariants.{Arrive, Pass}
 use Rattle.gomp_types.specs.Events.{arrival, tag_at}
 use Rattle.gomp_types.specs.Laws.{Always, Happened}
 use Rattle.gomp_types.specs.Arrivals.{ArrivalRule, BarriersOneByOne, SameArrivals, PassesAfterAll, ArrivalLaws}
-use Rattle.gomp_types.proofs.Booleans.{tells, is_equal, same_number, and_left, and_right, some_of, every_tells}
+use Rattle.gomp_types.proofs.Booleans.{which_branch, is_equal, same_number, and_left, and_right, some_of, every_tells}
 use Rattle.gomp_types.proofs.Always.{always_so}
 
 tag_stays : (members g : ℕ) (tag : Tag) (event : Event) (earlier : List Event) → ArrivalRule members event earlier → tag_at g earlier ≡ Some tag → tag_at g (event ∷ earlier) ≡ Some tag
@@ -44,7 +44,7 @@ same_arrivals members h all = record {
 arrival_stands : (g m : ℕ) (tag : Tag) (h : List Event) → arrival g m h ≡ Some tag → Happened (Arrive g m tag) h
 arrival_stands g m tag [] at = absurd (cc)
 arrival_stands g m tag (Arrive barrier member other ∷ earlier) at =
-    elim (tells (barrier == g && member == m) (Some other) (arrival g m earlier) (Some tag) at) [
+    elim (which_branch (barrier == g && member == m) (Some other) (arrival g m earlier) (Some tag) at) [
       | inl e ↦ inl (let n = is_equal barrier g (and_left (barrier == g) (member == m) e.0) in let w = is_equal member m (and_right (barrier == g) (member == m) e.0) in let t : other ≡ tag = let h = e.1 in cc in rw (n, w, t) refl)
       | inr e ↦ inr (arrival_stands g m tag earlier e.1)
     ]

@@ -17,4 +17,4 @@ pub mod RefusalExamples
 pub mod ShapeExamples
 pub mod TestRows
 pub mod Tiling
-pub mod Wide
+pub mod ValueIn128Bits

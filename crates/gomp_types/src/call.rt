@@ -3,7 +3,7 @@
 use crate::loop_desc::{EndKind, LoopDesc};
 use crate::payload::Payload;
 
-/// One call of a member, in the form that does not wait: where it would, the answer is
+/// One call of a member, in the form that does not wait: if it would, the answer is
 /// [`Reply::Wait`](crate::Reply::Wait), and `Resume` asks again.
 #[derive(Debug, Drop, PartialEq, Eq)]
 pub enum Call {
@@ -24,7 +24,7 @@ pub enum Call {
         /// What stands at its end.
         end_kind: EndKind,
     },
-    /// Asks for the next section of the member's construct; 0 is answered where none is left.
+    /// Asks for the next section of the member's construct; 0 is answered if none is left.
     SectionsNext,
     /// Ends the member's sections construct, and waits at its barrier.
     SectionsEnd,

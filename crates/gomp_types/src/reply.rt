@@ -10,7 +10,7 @@ pub enum Reply {
     Chunk { first: i64, count: u64 },
     /// No iterations are left for this member.
     NoChunk,
-    /// The section to do, numbered from 1; 0 where none is left.
+    /// The section to do, numbered from 1; 0 if none is left.
     Section(u64),
     /// Whether the member is the one that executes the `single` construct.
     Executor(bool),

@@ -22,8 +22,8 @@ loop-rest-preserved c =
     let here = lines_here c.in-Some.lines.now c.cut.result.0.now (option_copied c.loop-rest.rest) (option_copied c.cut.result.1) (ap option_copied c.in-Some.is) c.cut.ensures.parts in
     let told = sym c.read_step.ensures ∙ c.in-Ok.is in
     let later = steps_left (shown (number + 1)) (option_copied c.cut.result.1) in
-    let step_kept : c.keep.new.steps.items ≡ kept c.loop-rest.steps.items c.in-Ok.said = search rules in
-    rw (step_kept, c.saturating_add-number.ensures) (sym (line_kept c.loop-rest.steps.items number c.in-Ok.said later) ∙ rw (here, told) at c.loop-rest.invariant)
+    let step_kept : c.keep.new.steps.items ≡ kept c.loop-rest.steps.items c.in-Ok.step = search rules in
+    rw (step_kept, c.saturating_add-number.ensures) (sym (line_kept c.loop-rest.steps.items number c.in-Ok.step later) ∙ rw (here, told) at c.loop-rest.invariant)
 
 pub returns-then-is_err-clause-steps : goal.returns-then-is_err-clause-steps
 returns-then-is_err-clause-steps c =
@@ -32,8 +32,8 @@ returns-then-is_err-clause-steps c =
     let told = sym c.read_step.ensures ∙ c.in-Ok.is in
     let all = rw (here, told) at c.loop-rest.invariant in
     let later = steps_left (shown (number + 1)) (option_copied c.cut.result.1) in
-    let step : IsSome c.in-Ok.said = search rules in
-    rw (c.first_fault.ensures, c.saturating_add-number.ensures, ← all) (fault_behind c.loop-rest.steps.items number c.in-Ok.said later step)
+    let step : IsSome c.in-Ok.step = search rules in
+    rw (c.first_fault.ensures, c.saturating_add-number.ensures, ← all) (fault_behind c.loop-rest.steps.items number c.in-Ok.step later step)
 
 pub returns-then-is_err-clause-memory : goal.returns-then-is_err-clause-memory
 returns-then-is_err-clause-memory c =
@@ -42,9 +42,9 @@ returns-then-is_err-clause-memory c =
     let told = sym c.read_step.ensures ∙ c.in-Ok.is in
     let all = rw (here, told) at c.loop-rest.invariant in
     let later = steps_left (shown (number + 1)) (option_copied c.cut.result.1) in
-    let step : IsSome c.in-Ok.said = search rules in
+    let step : IsSome c.in-Ok.step = search rules in
     let fault = rw c.saturating_add-number.ensures at c.first_fault.ensures in
-    λ refused. rw (← all) (has_refused_step c.loop-rest.steps.items number c.in-Ok.said later step (sym fault ∙ (cc)))
+    λ refused. rw (← all) (has_refused_step c.loop-rest.steps.items number c.in-Ok.step later step (sym fault ∙ (cc)))
 
 pub returns-clause-steps : goal.returns-clause-steps
 returns-clause-steps c = search rules

@@ -19,14 +19,14 @@ loop-rest-smaller c =
 pub loop-rest-preserved : goal.loop-rest-preserved
 loop-rest-preserved c =
     let here = lines_here c.in-Some.lines.now c.cut.result.0.now (option_copied c.loop-rest.rest) (option_copied c.cut.result.1) (ap option_copied c.in-Some.is) c.cut.ensures.parts in
-    let told = sym c.read_team.ensures ∙ c.in-Ok.is ∙ ap Ok c.in_default-said.is in
+    let told = sym c.read_team.ensures ∙ c.in-Ok.is ∙ ap Ok c.in_default-team.is in
     rw c.saturating_add-number.ensures (rw (here, told) at c.loop-rest.invariant)
 
 pub returns-in-Ok-parse_lines-clause-steps : goal.returns-in-Ok-parse_lines-clause-steps
 returns-in-Ok-parse_lines-clause-steps c =
     let number = c.loop-rest.number in
     let here = lines_here c.in-Some.lines.now c.cut.result.0.now (option_copied c.loop-rest.rest) (option_copied c.cut.result.1) (ap option_copied c.in-Some.is) c.cut.ensures.parts in
-    let told = sym c.read_team.ensures ∙ c.in-Ok.is ∙ ap Ok c.in-Some-said.is in
+    let told = sym c.read_team.ensures ∙ c.in-Ok.is ∙ ap Ok c.in-Some-team.is in
     let read : steps_left (shown (number + 1)) (option_copied c.cut.result.1) ≡ Ok c.in-Ok-parse_lines.steps.items = rw c.saturating_add-number.ensures at c.in-Ok-parse_lines.ensures.steps in
     sym (rw (here, told, read) at c.loop-rest.invariant)
 
@@ -34,18 +34,18 @@ pub returns-in-Err-parse_lines-clause-steps : goal.returns-in-Err-parse_lines-cl
 returns-in-Err-parse_lines-clause-steps c =
     let number = c.loop-rest.number in
     let here = lines_here c.in-Some.lines.now c.cut.result.0.now (option_copied c.loop-rest.rest) (option_copied c.cut.result.1) (ap option_copied c.in-Some.is) c.cut.ensures.parts in
-    let told = sym c.read_team.ensures ∙ c.in-Ok.is ∙ ap Ok c.in-Some-said.is in
+    let told = sym c.read_team.ensures ∙ c.in-Ok.is ∙ ap Ok c.in-Some-team.is in
     let all = rw (here, told) at c.loop-rest.invariant in
-    rw (← all) (gives_team c.in-Some-said.count c.in-Err-parse_lines.error (steps_left (shown (number + 1)) (option_copied c.cut.result.1)) (rw c.saturating_add-number.ensures at c.in-Err-parse_lines.ensures.steps))
+    rw (← all) (gives_team c.in-Some-team.count c.in-Err-parse_lines.error (steps_left (shown (number + 1)) (option_copied c.cut.result.1)) (rw c.saturating_add-number.ensures at c.in-Err-parse_lines.ensures.steps))
 
 pub returns-in-Err-parse_lines-clause-memory : goal.returns-in-Err-parse_lines-clause-memory
 returns-in-Err-parse_lines-clause-memory c =
     let number = c.loop-rest.number in
     let here = lines_here c.in-Some.lines.now c.cut.result.0.now (option_copied c.loop-rest.rest) (option_copied c.cut.result.1) (ap option_copied c.in-Some.is) c.cut.ensures.parts in
-    let told = sym c.read_team.ensures ∙ c.in-Ok.is ∙ ap Ok c.in-Some-said.is in
+    let told = sym c.read_team.ensures ∙ c.in-Ok.is ∙ ap Ok c.in-Some-team.is in
     let all = rw (here, told) at c.loop-rest.invariant in
     let memory = rw c.saturating_add-number.ensures at c.in-Err-parse_lines.ensures.memory in
-    λ refused. rw (← all) (team_has_step c.in-Some-said.count (steps_left (shown (number + 1)) (option_copied c.cut.result.1)) (memory (cc)))
+    λ refused. rw (← all) (team_has_step c.in-Some-team.count (steps_left (shown (number + 1)) (option_copied c.cut.result.1)) (memory (cc)))
 
 pub loop-rest-init : goal.loop-rest-init
 loop-rest-init c = search rules
