@@ -9,7 +9,7 @@ use crate::open_share::{OpenShare, is_next, shape_there, share_at};
 use crate::seat::{Seat, has_room};
 use gomp_chunks::{Cursor, Plan};
 use gomp_shares::{Opening, Shares};
-use gomp_types::{Seen, Shape};
+use gomp_types::{OPEN_SHARES, Seen, Shape};
 use std::alloc::{AllocError, Global};
 use std::marker::Model;
 
@@ -20,7 +20,7 @@ pub struct PlainShares {
     seats: Vec<Seat>,
     /// How many shares were ever opened.
     opened: u64,
-    places: [Option<OpenShare>; 8],
+    places: [Option<OpenShare>; OPEN_SHARES as usize],
 }
 
 impl Model for PlainShares {
@@ -54,7 +54,7 @@ impl Shares for PlainShares {
         Ok(PlainShares {
             seats: vec![in alloc; Seat::NEW; count as usize]?,
             opened: 0,
-            places: [None; 8],
+            places: [None; OPEN_SHARES as usize],
         })
     }
 
@@ -81,7 +81,7 @@ impl Shares for PlainShares {
             return false;
         }
         let Some(share) = share_at(&self.places, next) else {
-            return false;
+            unreachable!()
         };
         !share.shape.is_same(shape)
     }
@@ -92,7 +92,7 @@ impl Shares for PlainShares {
             return false;
         }
         let Some(share) = share_at(&self.places, number) else {
-            return false;
+            unreachable!()
         };
         share.taken > 0
     }
@@ -101,10 +101,10 @@ impl Shares for PlainShares {
         let members = self.seats.len() as u16;
         let seat = self.seats[member as usize];
         let number = seat.started;
-        let place = (number % 8) as usize;
+        let place = (number % OPEN_SHARES) as usize;
         if number < self.opened {
             let Some(share) = share_at(&self.places, number) else {
-                return Opening::Differs;
+                unreachable!()
             };
             if !share.shape.is_same(shape) {
                 return Opening::Differs;
@@ -136,9 +136,9 @@ impl Shares for PlainShares {
 
     fn claim(&mut self, member: u16) -> Option<(u64, u64)> {
         let seat = self.seats[member as usize];
-        let place = (seat.ended % 8) as usize;
+        let place = (seat.ended % OPEN_SHARES) as usize;
         let Some(share) = share_at(&self.places, seat.ended) else {
-            return None;
+            unreachable!()
         };
         let mut cursor = share.cursor;
         let Some((number, piece)) = cursor.next_piece(member, seat.taken, share.taken) else {
@@ -166,7 +166,7 @@ impl Shares for PlainShares {
     fn try_turn(&mut self, member: u16, iteration: u64) -> bool {
         let seat = self.seats[member as usize];
         let Some(share) = share_at(&self.places, seat.ended) else {
-            return false;
+            unreachable!()
         };
         if !is_next(&seat, &share) {
             return false;
@@ -185,9 +185,9 @@ impl Shares for PlainShares {
 
     fn hand_on(&mut self, member: u16) -> bool {
         let seat = self.seats[member as usize];
-        let place = (seat.ended % 8) as usize;
+        let place = (seat.ended % OPEN_SHARES) as usize;
         let Some(share) = share_at(&self.places, seat.ended) else {
-            return false;
+            unreachable!()
         };
         if !is_next(&seat, &share) {
             return false;

@@ -8,11 +8,12 @@ use Rattle.gomp_share_plain.proofs.TakesKeep.{claim_stands, drained_stands, piec
 use Rattle.gomp_share_plain.proofs.Views.{known_of_a_place, known_by}
 use Rattle.gomp_share_plain.proofs.plain.PlainSharesShares.claim.Goals as goal
 
-pub returns-in_default-clause-stands : goal.returns-in_default-clause-stands
-returns-in_default-clause-stands c = λ h st0.
+pub unreachable-requires : goal.unreachable-requires
+unreachable-requires c =
+    let (h, st0) = known_by _ _ c.self.view_is c.self.invariant in
     let (can, st) = known_of_a_place _ _ c.args.member h (λ n seen. CanClaim n c.args.member seen) c.self.view_is c.requires.place c.requires.place.member st0 in
     let at = slice_get_read c.self.inside.seats.items _ c.args.member c.index-seat.result.now refl can.member c.index-seat.ensures in
-    absurd (not_empty _ _ _ h (own_place _ _ _ _ h c.args.member c.index-seat.result.now st at can.inside) (place_is _ _ _ c.share_at.ensures.there c.in_default.is))
+    not_empty _ _ _ h (own_place _ _ _ _ h c.args.member c.index-seat.result.now st at can.inside) (place_is _ _ _ c.share_at.ensures.there c.in_default.is)
 
 pub next_piece-requires : goal.next_piece-requires
 next_piece-requires c =

@@ -98,11 +98,12 @@ returns-clause-stands c = λ h st0.
 pub invariant_of-self-2 : goal.invariant_of-self-2
 invariant_of-self-2 c = let (h, st0) = known_by _ _ c.self.view_is c.self.invariant in (_, returns-clause-stands c h st0)
 
-pub returns-in_default-clause-answer : goal.returns-in_default-clause-answer
-returns-in_default-clause-answer c = λ h st0.
+pub unreachable-requires : goal.unreachable-requires
+unreachable-requires c =
+    let (h, st0) = known_by _ _ c.self.view_is c.self.invariant in
     let (can, st) = known_of_a_place _ _ c.args.member h (λ n seen. CanOpen n c.args.member c.args.shape.now seen) c.self.view_is c.requires.place c.requires.place.member st0 in
     let at = slice_get_read c.self.inside.seats.items _ c.args.member c.index-seat.result.now refl can.member c.index-seat.ensures in
-    absurd (not_empty _ _ _ h (next_place _ _ _ _ h c.args.member c.index-seat.result.now st at c.if-number-self.true) (place_is _ _ _ c.share_at.ensures.there c.in_default.is))
+    not_empty _ _ _ h (next_place _ _ _ _ h c.args.member c.index-seat.result.now st at c.if-number-self.true) (place_is _ _ _ c.share_at.ensures.there c.in_default.is)
 
 pub overflow_cast-members : goal.overflow_cast-members
 overflow_cast-members c =

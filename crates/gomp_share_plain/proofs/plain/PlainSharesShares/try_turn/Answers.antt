@@ -11,11 +11,12 @@ use Rattle.gomp_share_plain.proofs.Views.{known_of_a_place, known_by}
 use Rattle.gomp_share_plain.proofs.PartsKeep.{next_tells, number_below, part_start_stands}
 use Rattle.gomp_share_plain.proofs.plain.PlainSharesShares.try_turn.Goals as goal
 
-pub returns-in_default-clause-answer : goal.returns-in_default-clause-answer
-returns-in_default-clause-answer c = λ h st0.
+pub unreachable-requires : goal.unreachable-requires
+unreachable-requires c =
+    let (h, st0) = known_by _ _ c.self.view_is c.self.invariant in
     let (can, st) = known_of_a_place _ _ c.args.member h (λ n seen. CanBeginPart n c.args.member c.args.iteration seen) c.self.view_is c.requires.place c.requires.place.member st0 in
     let at = slice_get_read c.self.inside.seats.items _ c.args.member c.index.result.now refl can.member c.index.ensures in
-    absurd (not_empty _ _ _ h (own_place _ _ _ _ h c.args.member c.index.result.now st at (begins_inside _ c.args.member c.args.iteration h can)) (place_is _ _ _ c.share_at.ensures.there c.in_default.is))
+    not_empty _ _ _ h (own_place _ _ _ _ h c.args.member c.index.result.now st at (begins_inside _ c.args.member c.args.iteration h can)) (place_is _ _ _ c.share_at.ensures.there c.in_default.is)
 
 pub returns-then-not-is_next-clause-answer : goal.returns-then-not-is_next-clause-answer
 returns-then-not-is_next-clause-answer c = λ h st0.
