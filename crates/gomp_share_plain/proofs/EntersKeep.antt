@@ -1,5 +1,5 @@
 -- A member that enters a share, which it opens where nobody else has, keeps the plain shares in step with the events.
-use Rattle.std.proofs.Common.{◌≡◌, ◌≢◌, ℕ, ◌+◌, ◌%◌, ◌<◌, ◌≤◌, List, ◌∷◌, length, slice_get, slice_set, Some, None, inl, inr, refl, ap, ◌∙◌, sym, subst, arith}
+use Rattle.std.proofs.Common.{◌≡◌, ◌≢◌, ℕ, ◌+◌, ◌%◌, ◌<◌, ◌≤◌, nat_lt, List, ◌∷◌, length, slice_get, slice_set, Some, None, inl, inr, refl, ap, ◌∙◌, sym, subst, arith}
 use Rattle.std.specs.Prelude.{Option}
 use Rattle.std.proofs.lemmas.Bool.Decides.{nat_tests, eqb_tells}
 use Rattle.std.proofs.lemmas.List.{length-set}
@@ -10,6 +10,7 @@ use Rattle.gomp_types.specs.declared.event.Event.TheVariants.{Enter}
 use Rattle.gomp_types.specs.Events.{entered, turn, shape_at}
 use Rattle.gomp_types.specs.Limits.{shown}
 use Rattle.gomp_chunks.specs.Spots.{CursorView}
+use Rattle.gomp_types.proofs.Booleans.{same_number, share_is}
 use Rattle.gomp_types.proofs.Lists.{slice_get-set, slice_get-set_same, slice_get-set_other}
 use Rattle.gomp_types.specs.Seen.{seen_of}
 use Rattle.gomp_shares.specs.declared.Opening.TheVariants.{Entered}
@@ -17,32 +18,25 @@ use Rattle.gomp_shares.specs.Calls.{CanOpen, MayOpen, taken_of}
 use Rattle.gomp_shares.proofs.AnswerRules.{enter_rule}
 use Rattle.gomp_share_plain.specs.declared.seat.Seat.{Seat}
 use Rattle.gomp_share_plain.specs.declared.open_share.OpenShare.{OpenShare}
-use Rattle.gomp_share_plain.specs.Plain.{SeatStands, StandsFor, new_seat}
+use Rattle.gomp_share_plain.specs.Plain.{SeatStands, StandsFor, seat_in_share, ended_of}
 use Rattle.gomp_share_plain.specs.Same.{seat_near, SamePlaces, place_same}
-use Rattle.gomp_share_plain.proofs.Seats.{seat_outside_ended, number_is_another, other_seat, seat_steps}
-use Rattle.gomp_share_plain.proofs.Places.{places_differ}
+use Rattle.gomp_share_plain.proofs.Seats.{seat_outside, number_is_another, other_seat, seat_steps}
+use Rattle.gomp_share_plain.proofs.Places.{places_differ, seat_entered}
 
 -- the seat of the member that enters
-own_enters : (members m : ℕ) (seat : Seat) (opened more : ℕ) (shape : Shape) (h : List Event) → SeatStands members m seat opened h → seat.started ≡ seat.ended → seat.started + 1 ≤ more → more ≤ seat.ended + OPEN_SHARES →
-    shape_at seat.started (Enter (entered m h) m shape ∷ h) ≡ Some shape →
-    SeatStands members m (record new_seat { started = seat.started + 1; ended = seat.ended }) more (Enter (entered m h) m shape ∷ h)
+own_enters : (members m : ℕ) (seat : Seat) (opened more : ℕ) (shape : Shape) (h : List Event) → SeatStands members m seat opened h → ended_of seat ≡ seat.seen.entered → seat.seen.entered + 1 ≤ more → more ≤ seat.seen.entered + OPEN_SHARES →
+    shape_at seat.seen.entered (Enter (entered m h) m shape ∷ h) ≡ Some shape →
+    SeatStands members m (seat_in_share seat.seen.entered shape) more (Enter (entered m h) m shape ∷ h)
 own_enters members m seat opened more shape h s even known near there = record {
-  started = grind (arith, nat_tests, s.started);
-  ended = s.ended;
-  drained = grind (arith, nat_tests);
-  piece = grind (arith, nat_tests);
-  number = λ share piece there e. absurd (cc);
-  next_part = grind (arith, nat_tests);
-  in_part = grind (arith, nat_tests);
+  seen = rw (same_number m, seat_entered members m seat opened h s) refl;
+  ended = λ i. s.ended i ∙ ap (nat_lt i) even;
+  inside = λ share is. let one = share_is seat.seen.entered share.0 shape share.1 is in (ap (λ (n : ℕ). n + 1) one.0, subst (λ n. shape_at n (Enter (entered m h) m shape ∷ h) ≡ Some shape) one.0 there ∙ ap Some one.1);
   apart = λ e. refl;
-  taken = λ e. let none = s.fresh seat.ended (omega arith) in omega arith;
+  number = λ share piece there e. absurd (cc);
+  taken = λ share is. let one = (share_is seat.seen.entered share.0 shape share.1 is).0 in let none = s.fresh share.0 (omega arith) in omega arith;
   fresh = λ i le. s.fresh i (omega arith);
-  in_order = omega arith;
-  one = omega arith;
   known = known;
   near = near;
-  outside = λ e. absurd (omega arith);
-  inside = λ e. (shape, (let here = s.started in grind (arith, nat_tests, here, even)), subst (λ n. shape_at n (Enter (entered m h) m shape ∷ h) ≡ Some shape) even there);
 }
 
 -- one more entry into a share, in its shape, changes no place
@@ -58,28 +52,30 @@ entered_again i m shape h here = record {
 
 -- a member enters a share that another opened
 pub entering_stands : (members : ℕ) (seats : List Seat) (opened : ℕ) (places : List (Option OpenShare)) (h : List Event) (m : ℕ) (seat : Seat) (shape : Shape) →
-    StandsFor members seats opened places h → slice_get seats m ≡ Some seat → CanOpen members m shape (seen_of m h) → MayOpen members m shape Entered h → seat.started < opened →
-    shape_at seat.started h ≡ Some shape →
-    StandsFor members (slice_set seats m (record new_seat { started = seat.started + 1; ended = seat.ended })) opened places (Enter (entered m h) m shape ∷ h)
+    StandsFor members seats opened places h → slice_get seats m ≡ Some seat → CanOpen members m shape (seen_of m h) → MayOpen members m shape Entered h → seat.seen.entered < opened →
+    shape_at seat.seen.entered h ≡ Some shape →
+    StandsFor members (slice_set seats m (seat_in_share seat.seen.entered shape)) opened places (Enter (entered m h) m shape ∷ h)
 entering_stands members seats opened places h m seat shape st at can may before same =
     let s : SeatStands members m seat opened h = st.seat m seat at in
-    let even : seat.started ≡ seat.ended = seat_outside_ended members m seat opened h s can.outside in
-    let here : shape_at (entered m h) h ≡ Some shape = ap (λ n. shape_at n h) s.started ∙ same in
+    let even : ended_of seat ≡ seat.seen.entered = (seat_outside members m seat opened h s can.outside).1 in
+    let number : seat.seen.entered ≡ entered m h = seat_entered members m seat opened h s in
+    let here : shape_at (entered m h) h ≡ Some shape = ap (λ n. shape_at n h) (sym number) ∙ same in
     let near = s.near in
-    seat_steps members seats opened places h (Enter (entered m h) m shape) (record new_seat { started = seat.started + 1; ended = seat.ended }) st
+    seat_steps members seats opened places h (Enter (entered m h) m shape) (seat_in_share seat.seen.entered shape) st
     (entered_again (entered m h) m shape h here)
-    (own_enters members m seat opened opened shape h s even (omega arith) near (let w = s.started in grind (arith, nat_tests, w)))
+    (own_enters members m seat opened opened shape h s even (omega arith) (omega arith) (grind (arith, nat_tests, number)))
     (enter_rule members m shape h can may)
 
 -- a member opens the next share
 pub opening_stands : (members : ℕ) (seats : List Seat) (count : ℕ) (places : List (Option OpenShare)) (h : List Event) (m : ℕ) (seat : Seat) (shape : Shape) (cursor : CursorView) → cursor.plan ≡ record { members = members; shape = shape } →
-    StandsFor members seats count places h → slice_get seats m ≡ Some seat → CanOpen members m shape (seen_of m h) → MayOpen members m shape Entered h → seat.started ≡ count →
-    ((k : ℕ) (other : Seat) → slice_get seats k ≡ Some other → count < other.ended + OPEN_SHARES) →
-    StandsFor members (slice_set seats m (record new_seat { started = count + 1; ended = seat.ended })) (count + 1) (slice_set places (count % OPEN_SHARES) (Some (record { shape = shape; taken = 0; turn = 0; cursor = cursor }))) (Enter (entered m h) m shape ∷ h)
+    StandsFor members seats count places h → slice_get seats m ≡ Some seat → CanOpen members m shape (seen_of m h) → MayOpen members m shape Entered h → seat.seen.entered ≡ count →
+    ((k : ℕ) (other : Seat) → slice_get seats k ≡ Some other → count < ended_of other + OPEN_SHARES) →
+    StandsFor members (slice_set seats m (seat_in_share count shape)) (count + 1) (slice_set places (count % OPEN_SHARES) (Some (record { shape = shape; taken = 0; turn = 0; cursor = cursor }))) (Enter (entered m h) m shape ∷ h)
 opening_stands members seats count places h m seat shape cursor plan st at can may now room =
     let s : SeatStands members m seat count h = st.seat m seat at in
-    let here : entered m h ≡ count = s.started ∙ now in
-    let even : seat.started ≡ seat.ended = seat_outside_ended members m seat count h s can.outside in
+    let number : seat.seen.entered ≡ entered m h = seat_entered members m seat count h s in
+    let here : entered m h ≡ count = sym number ∙ now in
+    let even : ended_of seat ≡ seat.seen.entered = (seat_outside members m seat count h s can.outside).1 in
     let none = st.beyond count (omega arith) in
     let within : (count % OPEN_SHARES) < length places = rw st.eight (omega arith) in
     let away : (i : ℕ) → i ≢ count → shape_at i (Enter (entered m h) m shape ∷ h) ≡ shape_at i h = λ i differ. rw (here, number_is_another i count differ) refl in
@@ -89,7 +85,7 @@ opening_stands members seats count places h m seat shape cursor plan st at can m
       eight = length-set places (count % OPEN_SHARES) _ ∙ st.eight;
       seat = λ k other at_k. elim (slice_get-set seats m k _ other at_k) [
         | inl e ↦ let r = room m seat at in
-            rw (e.0, e.1, ← now) (own_enters members m seat count (seat.started + 1) shape h s even (omega arith) (omega arith) (let w = s.started in grind (arith, nat_tests, w)))
+            rw (e.0, e.1, ← now) (own_enters members m seat count (seat.seen.entered + 1) shape h s even (omega arith) (omega arith) (grind (arith, nat_tests, number)))
         | inr e ↦ let r = room k other e.1 in
             seat_near members k other count (count + 1) (Enter (entered m h) m shape ∷ h) h (other_seat (Enter (entered m h) m shape) k h e.0 (λ j old is.
             away j (λ same. absurd (let n : Some old ≡ None = sym is ∙ ap (λ n. shape_at n h) same ∙ none.0 in cc)) ∙ is))

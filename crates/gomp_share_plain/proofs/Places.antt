@@ -10,12 +10,13 @@ use Rattle.gomp_types.specs.Events.{entered, open_share, shape_at, is_inside}
 use Rattle.gomp_types.specs.Compare.{shape_differs}
 use Rattle.gomp_types.specs.Values.{IsShape}
 use Rattle.gomp_types.specs.Limits.{shown}
+use Rattle.gomp_types.specs.declared.seen.Seen.{Seen}
 use Rattle.gomp_types.proofs.Compared.{same_shape_is}
 use Rattle.gomp_shares.specs.Calls.{taken_of, was_taken}
 use Rattle.gomp_share_plain.specs.declared.seat.Seat.{Seat}
 use Rattle.gomp_share_plain.specs.declared.open_share.OpenShare.{OpenShare}
-use Rattle.gomp_share_plain.specs.Plain.{SeatStands, PlaceStands, StandsFor}
-use Rattle.gomp_share_plain.proofs.Seats.{seat_inside_started}
+use Rattle.gomp_share_plain.specs.Plain.{SeatStands, PlaceStands, StandsFor, ended_of}
+use Rattle.gomp_share_plain.proofs.Seats.{seat_inside, ended_few}
 
 -- eight numbers in a row lie at eight places
 pub places_differ : (i n : ℕ) → i < n → n ≤ i + 7 → (i % OPEN_SHARES) ≢ (n % OPEN_SHARES)
@@ -49,80 +50,83 @@ shape_here members i place share h p e = p.shape ∙ ap (λ (v : OpenShare). Som
 
 -- the place of the share that the member is in
 pub own_place : (members : ℕ) (seats : List Seat) (count : ℕ) (places : List (Option OpenShare)) (h : List Event) (m : ℕ) (seat : Seat) →
-    StandsFor members seats count places h → slice_get seats m ≡ Some seat → is_inside m h ≡ true → PlaceStands members seat.ended (slice_get places (seat.ended % OPEN_SHARES)) h
+    StandsFor members seats count places h → slice_get seats m ≡ Some seat → is_inside m h ≡ true → PlaceStands members (ended_of seat) (slice_get places (ended_of seat % OPEN_SHARES)) h
 own_place members seats count places h m seat st at within =
     let s : SeatStands members m seat count h = st.seat m seat at in
-    let one : seat.started ≡ seat.ended + 1 = seat_inside_started members m seat count h s within in
-    st.place seat.ended (let k = s.known in omega arith) (let k = s.near in omega arith)
+    let full = (seat_inside members m seat count h s within).full in
+    st.place (ended_of seat) (let k = s.known in omega arith) (let k = s.near in omega arith)
 
 -- the share that the member is in
 pub own_share : (members : ℕ) (seats : List Seat) (count : ℕ) (places : List (Option OpenShare)) (h : List Event) (m : ℕ) (seat : Seat) (share : OpenShare) →
-    StandsFor members seats count places h → slice_get seats m ≡ Some seat → is_inside m h ≡ true → slice_get places (seat.ended % OPEN_SHARES) ≡ Some (Some share) → open_share m h ≡ Some (seat.ended, share.shape)
+    StandsFor members seats count places h → slice_get seats m ≡ Some seat → is_inside m h ≡ true → slice_get places (ended_of seat % OPEN_SHARES) ≡ Some (Some share) → open_share m h ≡ Some (ended_of seat, share.shape)
 own_share members seats count places h m seat share st at within found =
-    let s : SeatStands members m seat count h = st.seat m seat at in
     let p = own_place members seats count places h m seat st at within in
-    let own = s.inside (seat_inside_started members m seat count h s within) in
-    let one_shape : Some own.0 ≡ Some share.shape = sym own.2 ∙ shape_here members seat.ended (slice_get places (seat.ended % OPEN_SHARES)) share h p found in
-    let shape : own.0 ≡ share.shape = let e = one_shape in cc in
-    own.1 ∙ ap (λ (v : Shape). Some (seat.ended, v)) shape
+    let own = seat_inside members m seat count h (st.seat m seat at) within in
+    let one_shape : Some own.shape ≡ Some share.shape = sym own.there ∙ shape_here members (ended_of seat) (slice_get places (ended_of seat % OPEN_SHARES)) share h p found in
+    let shape : own.shape ≡ share.shape = let e = one_shape in cc in
+    own.is_open ∙ ap (λ (v : Shape). Some (ended_of seat, v)) shape
 
 -- The next share of a member
 
+-- the seat has its number
+pub seat_entered : (members m : ℕ) (seat : Seat) (opened : ℕ) (h : List Event) → SeatStands members m seat opened h → seat.seen.entered ≡ entered m h
+seat_entered members m seat opened h s = ap (λ (seen : Seen). seen.entered) s.seen
+
 -- a member starts no share beyond the next
 pub next_number_is_count : (members : ℕ) (seats : List Seat) (count : ℕ) (places : List (Option OpenShare)) (h : List Event) (m : ℕ) (seat : Seat) →
-    StandsFor members seats count places h → slice_get seats m ≡ Some seat → count ≤ seat.started → seat.started ≡ count
+    StandsFor members seats count places h → slice_get seats m ≡ Some seat → count ≤ seat.seen.entered → seat.seen.entered ≡ count
 next_number_is_count members seats count places h m seat st at past = let k = (st.seat m seat at).known in omega arith
 
 -- the place of the member's next share, where another has opened it
 pub next_place : (members : ℕ) (seats : List Seat) (count : ℕ) (places : List (Option OpenShare)) (h : List Event) (m : ℕ) (seat : Seat) →
-    StandsFor members seats count places h → slice_get seats m ≡ Some seat → seat.started < count → PlaceStands members seat.started (slice_get places (seat.started % OPEN_SHARES)) h
+    StandsFor members seats count places h → slice_get seats m ≡ Some seat → seat.seen.entered < count → PlaceStands members seat.seen.entered (slice_get places (seat.seen.entered % OPEN_SHARES)) h
 next_place members seats count places h m seat st at before =
     let s : SeatStands members m seat count h = st.seat m seat at in
-    st.place seat.started before (let r = s.near in let o = s.in_order in omega arith)
+    st.place seat.seen.entered before (let r = s.near in let few = ended_few members m seat count h s in omega arith)
 
 above_none : (n k : ℕ) → shown n ≡ k → nat_lt 0 k ≡ nat_lt 0 n
 above_none n k e = grind (arith, nat_tests, e)
 
 -- whether a piece of the member's next share was taken: the place tells it, where the share is open
 pub next_taken : (members : ℕ) (seats : List Seat) (count : ℕ) (places : List (Option OpenShare)) (h : List Event) (m : ℕ) (seat : Seat) (share : OpenShare) →
-    StandsFor members seats count places h → slice_get seats m ≡ Some seat → seat.started < count → slice_get places (seat.started % OPEN_SHARES) ≡ Some (Some share) →
+    StandsFor members seats count places h → slice_get seats m ≡ Some seat → seat.seen.entered < count → slice_get places (seat.seen.entered % OPEN_SHARES) ≡ Some (Some share) →
     nat_lt 0 share.taken ≡ was_taken (entered m h) h
 next_taken members seats count places h m seat share st at before found =
     let s : SeatStands members m seat count h = st.seat m seat at in
     let p = next_place members seats count places h m seat st at before in
-    let same = here_is members seat.started (slice_get places (seat.started % OPEN_SHARES)) share h p found in
-    let taken : shown (taken_of seat.started h) ≡ share.taken = rw (← same) p.taken_is in
-    rw s.started (above_none (taken_of seat.started h) share.taken taken)
+    let same = here_is members seat.seen.entered (slice_get places (seat.seen.entered % OPEN_SHARES)) share h p found in
+    let taken : shown (taken_of seat.seen.entered h) ≡ share.taken = rw (← same) p.taken_is in
+    rw (← seat_entered members m seat count h s) (above_none (taken_of seat.seen.entered h) share.taken taken)
 
 -- of a share that nobody opened none was
 pub next_new : (members : ℕ) (seats : List Seat) (count : ℕ) (places : List (Option OpenShare)) (h : List Event) (m : ℕ) (seat : Seat) →
-    StandsFor members seats count places h → slice_get seats m ≡ Some seat → count ≤ seat.started → was_taken (entered m h) h ≡ false
+    StandsFor members seats count places h → slice_get seats m ≡ Some seat → count ≤ seat.seen.entered → was_taken (entered m h) h ≡ false
 next_new members seats count places h m seat st at past =
     let s : SeatStands members m seat count h = st.seat m seat at in
-    let none : taken_of seat.started h ≡ 0 = (st.beyond seat.started past).1 (λ k. 0) 0 in
-    rw (s.started, none) refl
+    let none : taken_of seat.seen.entered h ≡ 0 = (st.beyond seat.seen.entered past).1 (λ k. 0) 0 in
+    rw (← seat_entered members m seat count h s, none) refl
 
 -- whether the member's next share is of another shape: its place tells it
 pub next_differs : (members : ℕ) (seats : List Seat) (count : ℕ) (places : List (Option OpenShare)) (h : List Event) (m : ℕ) (seat : Seat) (share : OpenShare) (shape : Shape) →
-    StandsFor members seats count places h → slice_get seats m ≡ Some seat → seat.started < count → slice_get places (seat.started % OPEN_SHARES) ≡ Some (Some share) →
+    StandsFor members seats count places h → slice_get seats m ≡ Some seat → seat.seen.entered < count → slice_get places (seat.seen.entered % OPEN_SHARES) ≡ Some (Some share) →
     not (same_shape share.shape shape) ≡ shape_differs shape (shape_at (entered m h) h)
 next_differs members seats count places h m seat share shape st at before found =
     let s : SeatStands members m seat count h = st.seat m seat at in
     let p = next_place members seats count places h m seat st at before in
-    let same = here_is members seat.started (slice_get places (seat.started % OPEN_SHARES)) share h p found in
-    let there : shape_at seat.started h ≡ Some share.shape = rw (← same) p.shape in
-    rw (s.started, there) refl
+    let same = here_is members seat.seen.entered (slice_get places (seat.seen.entered % OPEN_SHARES)) share h p found in
+    let there : shape_at seat.seen.entered h ≡ Some share.shape = rw (← same) p.shape in
+    rw (← seat_entered members m seat count h s, there) refl
 
 -- where it is not, it is of the shape that the member comes with
 pub next_same : (members : ℕ) (seats : List Seat) (count : ℕ) (places : List (Option OpenShare)) (h : List Event) (m : ℕ) (seat : Seat) (share : OpenShare) (shape : Shape) →
-    StandsFor members seats count places h → slice_get seats m ≡ Some seat → seat.started < count → slice_get places (seat.started % OPEN_SHARES) ≡ Some (Some share) →
-    same_shape share.shape shape ≡ true → shape_at seat.started h ≡ Some shape
+    StandsFor members seats count places h → slice_get seats m ≡ Some seat → seat.seen.entered < count → slice_get places (seat.seen.entered % OPEN_SHARES) ≡ Some (Some share) →
+    same_shape share.shape shape ≡ true → shape_at seat.seen.entered h ≡ Some shape
 next_same members seats count places h m seat share shape st at before found same =
-    shape_here members seat.started (slice_get places (seat.started % OPEN_SHARES)) share h (next_place members seats count places h m seat st at before) found ∙ ap Some (same_shape_is share.shape shape same)
+    shape_here members seat.seen.entered (slice_get places (seat.seen.entered % OPEN_SHARES)) share h (next_place members seats count places h m seat st at before) found ∙ ap Some (same_shape_is share.shape shape same)
 
 -- and one that nobody opened differs from none
 pub new_differs : (members : ℕ) (seats : List Seat) (count : ℕ) (places : List (Option OpenShare)) (h : List Event) (m : ℕ) (seat : Seat) (shape : Shape) →
-    StandsFor members seats count places h → slice_get seats m ≡ Some seat → count ≤ seat.started → shape_differs shape (shape_at (entered m h) h) ≡ false
+    StandsFor members seats count places h → slice_get seats m ≡ Some seat → count ≤ seat.seen.entered → shape_differs shape (shape_at (entered m h) h) ≡ false
 new_differs members seats count places h m seat shape st at past =
     let s : SeatStands members m seat count h = st.seat m seat at in
-    rw (s.started, (st.beyond seat.started past).0) refl
+    rw (← seat_entered members m seat count h s, (st.beyond seat.seen.entered past).0) refl

@@ -1,44 +1,67 @@
 -- Where a member is, by its seat; and a step that changes the seat of its member alone.
-use Rattle.std.proofs.Common.{◌≡◌, ◌≢◌, ℕ, ◌+◌, ◌%◌, true, false, List, ◌∷◌, slice_get, slice_set, Some, inl, inr, refl, ap, ◌∙◌, sym, arith}
+use Rattle.std.proofs.Common.{◌≡◌, ◌≢◌, ℕ, ◌+◌, ◌%◌, ◌≤◌, true, false, List, ◌∷◌, slice_get, slice_set, Some, None, inl, inr, refl, ap, ◌∙◌, sym, arith}
 use Rattle.std.specs.Prelude.{Option, ◌==◌}
+use Rattle.std.proofs.lemmas.Bool.{cases_Bool}
 use Rattle.std.proofs.lemmas.Bool.Decides.{nat_tests, eqb_tells}
 use Rattle.std.proofs.lemmas.List.{length-set}
 use Rattle.gomp_types.specs.declared.limits.TheConstants.{OPEN_SHARES}
 use Rattle.gomp_types.specs.declared.shape.Shape.{Shape}
 use Rattle.gomp_types.specs.declared.event.Event.{Event}
 use Rattle.gomp_types.specs.declared.event.Event.TheVariants.{Enter, Take, Drained, End, Part, PartEnd}
-use Rattle.gomp_types.specs.Events.{open_number, share_number, shape_at, is_inside, member_of}
+use Rattle.gomp_types.specs.Events.{open_share, open_number, share_number, shape_at, is_inside, member_of}
+use Rattle.gomp_types.specs.declared.seen.Seen.{Seen}
+use Rattle.gomp_types.proofs.Booleans.{some_of, none_of}
 use Rattle.gomp_types.specs.Deals.{schedule}
 use Rattle.gomp_shares.specs.Rules.{ShareRule}
 use Rattle.gomp_types.proofs.Lists.{slice_get-set}
 use Rattle.gomp_share_plain.specs.declared.seat.Seat.{Seat}
 use Rattle.gomp_share_plain.specs.declared.open_share.OpenShare.{OpenShare}
-use Rattle.gomp_share_plain.specs.Plain.{SeatStands, StandsFor}
+use Rattle.gomp_share_plain.specs.Plain.{SeatStands, StandsFor, number_or, ended_of}
 use Rattle.gomp_share_plain.proofs.Takes.{taken_theirs}
-use Rattle.gomp_share_plain.specs.Same.{SameSeat, seat_same, SamePlaces, place_kept, beyond_kept}
+use Rattle.gomp_share_plain.specs.Same.{ended_is, SameSeat, seat_same, SamePlaces, same_place_kept, beyond_kept}
 
 -- Where a member is
 
--- a member that is outside has left what it entered
-pub seat_outside_ended : (members m : ℕ) (seat : Seat) (opened : ℕ) (h : List Event) → SeatStands members m seat opened h → is_inside m h ≡ false → seat.started ≡ seat.ended
-seat_outside_ended members m seat opened h s out =
-    elim (eqb_tells seat.started seat.ended) [
-      | inl e ↦ e.1
-      | inr e ↦ let in_order = s.in_order in let one = s.one in
-          let full : seat.started ≡ seat.ended + 1 = omega (arith, e.1) in
-          let there = (s.inside full).1 in absurd (let t : is_inside m h ≡ true = rw there refl in cc)
-    ]
+-- what is known of a member that is in a share: its seat shows it, with its shape, and it is the one that the member entered last
+pub record SeatInside (seat : Seat) (m : ℕ) (h : List Event) : Type 0 where
+  pub shape : Shape
+  pub current : seat.seen.current ≡ Some (ended_of seat, shape)
+  pub is_open : open_share m h ≡ Some (ended_of seat, shape)
+  pub there : shape_at (ended_of seat) h ≡ Some shape
+  pub full : seat.seen.entered ≡ ended_of seat + 1
 
-pub seat_inside_started : (members m : ℕ) (seat : Seat) (opened : ℕ) (h : List Event) → SeatStands members m seat opened h → is_inside m h ≡ true → seat.started ≡ seat.ended + 1
-seat_inside_started members m seat opened h s within =
-    elim (eqb_tells seat.started seat.ended) [
-      | inl e ↦ let there = s.outside e.1 in absurd (let f : is_inside m h ≡ false = rw there refl in cc)
-      | inr e ↦ let in_order = s.in_order in let one = s.one in omega (arith, e.1)
-    ]
+pub seat_inside : (members m : ℕ) (seat : Seat) (opened : ℕ) (h : List Event) → SeatStands members m seat opened h → is_inside m h ≡ true → SeatInside seat m h
+seat_inside members m seat opened h s within =
+    let own = some_of (open_share m h) within in
+    let current : seat.seen.current ≡ Some own.0 = ap (λ (seen : Seen). seen.current) s.seen ∙ own.1 in
+    let number : ended_of seat ≡ own.0.0 = ended_is seat own.0 current in
+    let last = s.inside own.0 current in
+    let share : own.0 ≡ (ended_of seat, own.0.1) = ap (λ (n : ℕ). (n, own.0.1)) (sym number) in
+    record {
+      shape = own.0.1;
+      current = current ∙ ap Some share;
+      is_open = own.1 ∙ ap Some share;
+      there = ap (λ n. shape_at n h) number ∙ last.1;
+      full = last.0 ∙ ap (λ (n : ℕ). n + 1) (sym number);
+    }
 
 -- the number of the share that it is in
-pub inside_number : (members m : ℕ) (seat : Seat) (opened : ℕ) (h : List Event) → SeatStands members m seat opened h → is_inside m h ≡ true → open_number m h ≡ seat.ended
-inside_number members m seat opened h s within = ap share_number (s.inside (seat_inside_started members m seat opened h s within)).1
+pub inside_number : (members m : ℕ) (seat : Seat) (opened : ℕ) (h : List Event) → SeatStands members m seat opened h → is_inside m h ≡ true → open_number m h ≡ ended_of seat
+inside_number members m seat opened h s within = ap share_number (seat_inside members m seat opened h s within).is_open
+
+-- a member that is outside has left what it entered
+pub seat_outside : (members m : ℕ) (seat : Seat) (opened : ℕ) (h : List Event) → SeatStands members m seat opened h → is_inside m h ≡ false → (seat.seen.current ≡ None) × (ended_of seat ≡ seat.seen.entered)
+seat_outside members m seat opened h s out =
+    let none : seat.seen.current ≡ None = ap (λ (seen : Seen). seen.current) s.seen ∙ none_of (open_share m h) out in
+    (none, ap (number_or seat.seen.entered) none)
+
+-- in any case it has left no more than it entered
+pub ended_few : (members m : ℕ) (seat : Seat) (opened : ℕ) (h : List Event) → SeatStands members m seat opened h → ended_of seat ≤ seat.seen.entered
+ended_few members m seat opened h s =
+    elim (cases_Bool (is_inside m h)) [
+      | inl within ↦ let full = (seat_inside members m seat opened h s within).full in omega arith
+      | inr out ↦ let even = (seat_outside members m seat opened h s out).1 in omega arith
+    ]
 
 -- Another member's seat
 
@@ -70,7 +93,7 @@ seat_steps members seats count places h event now st same own rule = record {
     | inl e ↦ rw (e.0, e.1) own
     | inr e ↦ seat_same members k other count (event ∷ h) h (other_seat event k h e.0 (λ i shape is. same.shape i ∙ is)) (st.seat k other e.1)
   ];
-  place = λ i low high. place_kept members i (slice_get places (i % OPEN_SHARES)) (event ∷ h) h same (st.place i low high);
+  place = λ i low high. same_place_kept members i (slice_get places (i % OPEN_SHARES)) (event ∷ h) h same (st.place i low high);
   beyond = λ i past. beyond_kept i (event ∷ h) h same (st.beyond i past);
   rule = (rule, st.rule);
 }

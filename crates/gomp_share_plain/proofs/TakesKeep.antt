@@ -1,7 +1,7 @@
 -- A member that takes a piece, or is told that nothing is left, keeps the plain shares in step with the events.
 use Rattle.std.proofs.Common.{◌≡◌, ◌≢◌, ℕ, ◌+◌, ◌%◌, ◌<◌, ◌≤◌, true, false, List, ◌∷◌, length, slice_get, slice_set, Some, None, inl, inr, refl, ap, ◌∙◌, sym, subst, arith}
 use Rattle.std.specs.Prelude.{Option, ◌==◌, IfSome}
-use Rattle.std.proofs.lemmas.Bool.Decides.{nat_tests, eqb_tells}
+use Rattle.std.proofs.lemmas.Bool.Decides.{eqb_tells}
 use Rattle.std.proofs.lemmas.List.{length-set}
 use Rattle.gomp_types.specs.declared.limits.TheConstants.{OPEN_SHARES}
 use Rattle.gomp_types.specs.declared.shape.Shape.{Shape}
@@ -15,14 +15,16 @@ use Rattle.gomp_chunks.specs.Plans.{PlanView, next_piece, pieces}
 use Rattle.gomp_chunks.specs.Spots.{CursorView}
 use Rattle.gomp_types.proofs.Lists.{slice_get-set, slice_get-set_same, slice_get-set_other}
 use Rattle.gomp_types.specs.Seen.{seen_of}
+use Rattle.gomp_types.specs.declared.seen.Seen.{Seen}
+use Rattle.gomp_types.proofs.Booleans.{same_number}
 use Rattle.gomp_shares.specs.Calls.{CanClaim, Claims, taken_of}
 use Rattle.gomp_shares.proofs.AnswerRules.{take_rule, none_rule}
 use Rattle.gomp_share_plain.specs.declared.seat.Seat.{Seat}
 use Rattle.gomp_share_plain.specs.declared.open_share.OpenShare.{OpenShare}
-use Rattle.gomp_share_plain.specs.Plain.{SeatStands, StandsFor, taken_by}
+use Rattle.gomp_share_plain.specs.Plain.{SeatStands, StandsFor, ended_of, taken_by}
 use Rattle.gomp_share_plain.proofs.Takes.{next_is_for, next_shown, shown_more, taken_here, taken_mine, taken_else}
-use Rattle.gomp_share_plain.specs.Same.{seat_same, place_same}
-use Rattle.gomp_share_plain.proofs.Seats.{seat_inside_started, inside_number, number_is_another, other_seat, seat_steps}
+use Rattle.gomp_share_plain.specs.Same.{ended_is, seat_same, place_same}
+use Rattle.gomp_share_plain.proofs.Seats.{seat_inside, inside_number, number_is_another, other_seat, seat_steps}
 use Rattle.gomp_share_plain.proofs.Places.{places_apart, here_is, here_valid, shape_here, own_place, own_share}
 
 -- the number of a piece that the plan of a member's share has is that among the pieces of its share
@@ -36,86 +38,79 @@ taken_has_its_number members i m share number piece h other taken there plan is 
     rw (← shape) (here ∙ same)
 
 -- what the member may take
-pub piece_at : (members : ℕ) (seats : List Seat) (count : ℕ) (places : List (Option OpenShare)) (h : List Event) (m : ℕ) (seat : Seat) (share : OpenShare) (answer : Option Piece) →
-    StandsFor members seats count places h → slice_get seats m ≡ Some seat → is_inside m h ≡ true → slice_get places (seat.ended % OPEN_SHARES) ≡ Some (Some share) →
+pub claim_answers : (members : ℕ) (seats : List Seat) (count : ℕ) (places : List (Option OpenShare)) (h : List Event) (m : ℕ) (seat : Seat) (share : OpenShare) (answer : Option Piece) →
+    StandsFor members seats count places h → slice_get seats m ≡ Some seat → is_inside m h ≡ true → slice_get places (ended_of seat % OPEN_SHARES) ≡ Some (Some share) →
     answer ≡ next_piece share.cursor.plan m seat.taken share.taken → IfSome answer (λ piece. (piece.0 < piece.1) × (piece.1 ≤ share.cursor.plan.shape.trips)) →
     (IsShape share.shape → Tiles 0 (pieces_of members share.shape) share.shape.trips) → Claims members m answer h
-piece_at members seats count places h m seat share answer st at within found is size tiles =
+claim_answers members seats count places h m seat share answer st at within found is size tiles =
     let s : SeatStands members m seat count h = st.seat m seat at in
     let p = own_place members seats count places h m seat st at within in
-    let same = here_is members seat.ended (slice_get places (seat.ended % OPEN_SHARES)) share h p found in
-    let full = seat_inside_started members m seat count h s within in
-    let valid = here_valid members seat.ended (slice_get places (seat.ended % OPEN_SHARES)) share h p found in
+    let same = here_is members (ended_of seat) (slice_get places (ended_of seat % OPEN_SHARES)) share h p found in
+    let own = seat_inside members m seat count h s within in
+    let valid = here_valid members (ended_of seat) (slice_get places (ended_of seat % OPEN_SHARES)) share h p found in
     let plan : share.cursor.plan ≡ record { members = members; shape = share.shape } = rw (← same) p.cursor_is in
-    let all : shown (taken_of seat.ended h) ≡ share.taken = rw (← same) p.taken_is in
+    let all : shown (taken_of (ended_of seat) h) ≡ share.taken = rw (← same) p.taken_is in
     let view : PlanView = record { members = members; shape = share.shape } in
     let next : answer ≡ next_piece view m seat.taken share.taken = is ∙ ap (λ (p : PlanView). next_piece p m seat.taken share.taken) plan in
-    let least : answer ≡ next_piece view m (shown (taken_by seat.ended m h)) (shown (taken_of seat.ended h)) =
-    next ∙ sym (ap (λ n. next_piece view m n share.taken) (s.taken full)) ∙ sym (ap (λ n. next_piece view m (shown (taken_by seat.ended m h)) n) all) in
+    let least : answer ≡ next_piece view m (shown (taken_by (ended_of seat) m h)) (shown (taken_of (ended_of seat) h)) =
+    next ∙ sym (ap (λ n. next_piece view m n share.taken) (s.taken (ended_of seat, own.shape) own.current)) ∙ sym (ap (λ n. next_piece view m (shown (taken_by (ended_of seat) m h)) n) all) in
     record {
-      share = (seat.ended, share.shape);
+      share = (ended_of seat, share.shape);
       there = own_share members seats count places h m seat share st at within found;
       valid = valid;
-      least = least ∙ next_shown members share.shape m (taken_by seat.ended m h) (taken_of seat.ended h) valid (tiles valid) ∙ sym (next_is_for members share.shape seat.ended m h);
+      least = least ∙ next_shown members share.shape m (taken_by (ended_of seat) m h) (taken_of (ended_of seat) h) valid (tiles valid) ∙ sym (next_is_for members share.shape (ended_of seat) m h);
       within = subst (λ (plan : PlanView). IfSome answer (λ piece. (piece.0 < piece.1) × (piece.1 ≤ plan.shape.trips))) plan size;
     }
 
 -- a member takes a piece
 pub claim_stands : (members : ℕ) (seats : List Seat) (count : ℕ) (places : List (Option OpenShare)) (h : List Event) (m : ℕ) (seat : Seat) (share : OpenShare) (number : ℕ) (piece : Piece) (cursor : CursorView) → cursor.plan ≡ share.cursor.plan → slice_get (pieces share.cursor.plan) number ≡ Some piece →
-    StandsFor members seats count places h → slice_get seats m ≡ Some seat → is_inside m h ≡ true → slice_get places (seat.ended % OPEN_SHARES) ≡ Some (Some share) → CanClaim members m (seen_of m h) → Claims members m (Some piece) h →
-    StandsFor members (slice_set seats m (record seat { piece = Some piece; taken = shown (seat.taken + 1); number = number })) count (slice_set places (seat.ended % OPEN_SHARES) (Some (record share { taken = shown (share.taken + 1); cursor = cursor }))) (Take (open_number m h) m piece.0 piece.1 ∷ h)
+    StandsFor members seats count places h → slice_get seats m ≡ Some seat → is_inside m h ≡ true → slice_get places (ended_of seat % OPEN_SHARES) ≡ Some (Some share) → CanClaim members m (seen_of m h) → Claims members m (Some piece) h →
+    StandsFor members (slice_set seats m (record seat { seen = record seat.seen { piece = Some piece }; taken = shown (seat.taken + 1); number = number })) count (slice_set places (ended_of seat % OPEN_SHARES) (Some (record share { taken = shown (share.taken + 1); cursor = cursor }))) (Take (open_number m h) m piece.0 piece.1 ∷ h)
 claim_stands members seats count places h m seat share number piece cursor plan is st at within found can may =
     let s : SeatStands members m seat count h = st.seat m seat at in
-    let here : open_number m h ≡ seat.ended = inside_number members m seat count h s within in
-    let one : seat.started ≡ seat.ended + 1 = seat_inside_started members m seat count h s within in
-    let room : (seat.ended % OPEN_SHARES) < length places = rw st.eight (omega arith) in
+    let here : open_number m h ≡ ended_of seat = inside_number members m seat count h s within in
+    let one : seat.seen.entered ≡ ended_of seat + 1 = (seat_inside members m seat count h s within).full in
+    let room : (ended_of seat % OPEN_SHARES) < length places = rw st.eight (omega arith) in
     let now = own_place members seats count places h m seat st at within in
-    let same = here_is members seat.ended (slice_get places (seat.ended % OPEN_SHARES)) share h now found in
+    let same = here_is members (ended_of seat) (slice_get places (ended_of seat % OPEN_SHARES)) share h now found in
     let own_number : (other : ℕ × Shape) (taken : Piece) → open_share m h ≡ Some other → Some piece ≡ Some taken → slice_get (pieces_of members other.1) number ≡ Some taken =
-    λ other taken there e. taken_has_its_number members seat.ended m share number piece h other taken (own_share members seats count places h m seat share st at within found) (rw (← same) now.cursor_is) is there e in
-    let away : (i : ℕ) → i ≢ seat.ended → (open_number m h == i) ≡ false = λ i differ. rw here (number_is_another i seat.ended differ) in
+    λ other taken there e. taken_has_its_number members (ended_of seat) m share number piece h other taken (own_share members seats count places h m seat share st at within found) (rw (← same) now.cursor_is) is there e in
+    let away : (i : ℕ) → i ≢ ended_of seat → (open_number m h == i) ≡ false = λ i differ. rw here (number_is_another i (ended_of seat) differ) in
     record {
       size = length-set seats m _ ∙ st.size;
       team = st.team;
-      eight = length-set places (seat.ended % OPEN_SHARES) _ ∙ st.eight;
+      eight = length-set places (ended_of seat % OPEN_SHARES) _ ∙ st.eight;
       seat = λ k other at_k. elim (slice_get-set seats m k _ other at_k) [
         | inl e ↦ rw (e.0, e.1) (record {
-          started = s.started;
+          seen = rw (same_number m) (ap (λ (seen : Seen). record seen { piece = Some piece }) s.seen);
           ended = s.ended;
-          drained = s.drained;
-          piece = grind (arith, nat_tests);
-          number = λ other taken there e. own_number other taken there e;
-          next_part = s.next_part;
-          in_part = s.in_part;
+          inside = s.inside;
           apart = s.apart;
-          taken = λ full. rw here (ap shown (taken_mine seat.ended m piece.0 piece.1 h) ∙ shown_more (taken_by seat.ended m h) ∙ ap (λ n. shown (n + 1)) (s.taken one));
+          number = λ other taken there e. own_number other taken (sym (ap (λ (seen : Seen). seen.current) s.seen) ∙ there) e;
+          taken = λ other is. rw (here ∙ ended_is seat other is) (ap shown (taken_mine other.0 m piece.0 piece.1 h) ∙ shown_more (taken_by other.0 m h) ∙ ap (λ n. shown (n + 1)) (s.taken other is));
           fresh = λ i le. taken_else (λ k. k) m i (open_number m h) m piece.0 piece.1 h (away i (λ equal. omega arith)) ∙ s.fresh i le;
-          in_order = s.in_order;
-          one = s.one;
           known = s.known;
           near = s.near;
-          outside = s.outside;
-          inside = s.inside;
         })
         | inr e ↦ seat_same members k other count (Take (open_number m h) m piece.0 piece.1 ∷ h) h (other_seat (Take (open_number m h) m piece.0 piece.1) k h e.0 (λ i shape is. is)) (st.seat k other e.1)
       ];
-      place = λ i low high. elim (eqb_tells i seat.ended) [
+      place = λ i low high. elim (eqb_tells i (ended_of seat)) [
         | inl e ↦ record {
           share = record share { taken = shown (share.taken + 1); cursor = cursor };
-          there = rw e.1 (slice_get-set_same places (seat.ended % OPEN_SHARES) _ room);
-          shape = ap (λ n. shape_at n h) e.1 ∙ shape_here members seat.ended (slice_get places (seat.ended % OPEN_SHARES)) share h now found;
+          there = rw e.1 (slice_get-set_same places (ended_of seat % OPEN_SHARES) _ room);
+          shape = ap (λ n. shape_at n h) e.1 ∙ shape_here members (ended_of seat) (slice_get places (ended_of seat % OPEN_SHARES)) share h now found;
           taken_is =
-              let before : shown (taken_of seat.ended h) ≡ share.taken = rw (← same) now.taken_is in
+              let before : shown (taken_of (ended_of seat) h) ≡ share.taken = rw (← same) now.taken_is in
               subst (λ (n : ℕ). shown (taken_of n (Take (open_number m h) m piece.0 piece.1 ∷ h)) ≡ shown (share.taken + 1)) (sym e.1)
-              (rw here (ap shown (taken_here seat.ended m piece.0 piece.1 h) ∙ shown_more (taken_of seat.ended h) ∙ ap (λ (n : ℕ). shown (n + 1)) before));
+              (rw here (ap shown (taken_here (ended_of seat) m piece.0 piece.1 h) ∙ shown_more (taken_of (ended_of seat) h) ∙ ap (λ (n : ℕ). shown (n + 1)) before));
           turn_is = ap (λ n. turn n h) e.1 ∙ (rw (← same) now.turn_is);
           cursor_is = plan ∙ (rw (← same) now.cursor_is);
           valid = rw (← same) now.valid;
         }
         | inr e ↦
-            let apart : (i % OPEN_SHARES) ≢ (seat.ended % OPEN_SHARES) = places_apart i seat.ended count e.1 (omega arith) (let k = s.known in omega arith) (omega arith) (let k = s.near in omega arith) in
+            let apart : (i % OPEN_SHARES) ≢ (ended_of seat % OPEN_SHARES) = places_apart i (ended_of seat) count e.1 (omega arith) (let k = s.known in omega arith) (omega arith) (let k = s.near in omega arith) in
             place_same members i (slice_get places (i % OPEN_SHARES)) _ (Take (open_number m h) m piece.0 piece.1 ∷ h) h (st.place i low high)
-            (slice_get-set_other places (seat.ended % OPEN_SHARES) (i % OPEN_SHARES) _ apart) refl (taken_else (λ k. 0) 0 i (open_number m h) m piece.0 piece.1 h (away i e.1)) refl
+            (slice_get-set_other places (ended_of seat % OPEN_SHARES) (i % OPEN_SHARES) _ apart) refl (taken_else (λ k. 0) 0 i (open_number m h) m piece.0 piece.1 h (away i e.1)) refl
       ];
       beyond = λ i past. let b = st.beyond i past in (
         b.0,
@@ -128,27 +123,20 @@ claim_stands members seats count places h m seat share number piece cursor plan 
 -- a member is told that nothing is left
 pub drained_stands : (members : ℕ) (seats : List Seat) (count : ℕ) (places : List (Option OpenShare)) (h : List Event) (m : ℕ) (seat : Seat) →
     StandsFor members seats count places h → slice_get seats m ≡ Some seat → CanClaim members m (seen_of m h) → Claims members m None h →
-    StandsFor members (slice_set seats m (record seat { drained = true; piece = None })) count places (Drained (open_number m h) m ∷ h)
+    StandsFor members (slice_set seats m (record seat { seen = record seat.seen { drained = true; piece = None } })) count places (Drained (open_number m h) m ∷ h)
 drained_stands members seats count places h m seat st at can may =
     let s : SeatStands members m seat count h = st.seat m seat at in
     seat_steps members seats count places h (Drained (open_number m h) m) _ st
     (record { shape = λ i. refl; taken = λ queue_of i q. refl; turn = λ i. refl })
     (record {
-      started = s.started;
+      seen = rw (same_number m) (ap (λ (seen : Seen). record seen { drained = true; piece = None }) s.seen);
       ended = s.ended;
-      drained = grind (arith, nat_tests);
-      piece = grind (arith, nat_tests);
-      number = λ share piece there e. absurd (cc);
-      next_part = s.next_part;
-      in_part = s.in_part;
+      inside = s.inside;
       apart = s.apart;
+      number = λ share piece there e. absurd (cc);
       taken = s.taken;
       fresh = s.fresh;
-      in_order = s.in_order;
-      one = s.one;
       known = s.known;
       near = s.near;
-      outside = s.outside;
-      inside = s.inside;
     })
     (none_rule members m h can may)

@@ -11,7 +11,7 @@ use Rattle.gomp_share_plain.specs.Plain.{StandsFor, PlainView, new_seat, plain_s
 use Rattle.gomp_share_plain.specs.PlainLaws.{plain_agrees}
 
 -- what it tells of them, and of each list of events that they stand for
-pub known_of_a_place : (view now : PlainView) (m : ℕ) (h : List Event) (P : ℕ → Seen → Type 0) → view ≡ now → P (length now.seats) (plain_seen now.seats now.places m) → m < length now.seats →
+pub known_of_a_place : (view now : PlainView) (m : ℕ) (h : List Event) (P : ℕ → Seen → Type 0) → view ≡ now → P (length now.seats) (plain_seen now.seats m) → m < length now.seats →
     StandsFor (length now.seats) now.seats now.opened now.places h → P (length view.seats) (seen_of m h) × StandsFor (length view.seats) view.seats view.opened view.places h
 known_of_a_place view now m h P e p lt st = rw e (subst (P (length now.seats)) (plain_agrees (length now.seats) now.seats now.opened now.places h m st lt) p, st)
 
@@ -35,22 +35,15 @@ new_shares_stand seats n small e = record {
       let lt : m < n = rw (length-replicate n new_seat) at (slice_get_within _ m seat in_new) in
       let one : new_seat ≡ seat = sym (get_or-replicate n m new_seat seat lt) ∙ get_or_from_slice_get (replicate n new_seat) m seat seat in_new in
       rw (← one) (record {
-        started = refl;
+        seen = refl;
         ended = λ i. grind (arith, nat_tests);
-        drained = refl;
-        piece = refl;
-        number = λ share piece there e. absurd (cc);
-        next_part = refl;
-        in_part = refl;
+        inside = λ share is. absurd (cc);
         apart = λ e. refl;
-        taken = λ e. absurd (omega arith);
+        number = λ share piece there e. absurd (cc);
+        taken = λ share is. absurd (cc);
         fresh = λ i le. refl;
-        in_order = omega arith;
-        one = omega arith;
         known = omega arith;
         near = omega arith;
-        outside = λ e. refl;
-        inside = λ e. absurd (omega arith);
       });
   place = λ i low high. absurd (omega arith);
   beyond = λ i past. (refl, (λ queue_of q. refl), refl);

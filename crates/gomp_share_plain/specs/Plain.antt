@@ -1,10 +1,11 @@
 -- What the plain shares keep of the events: the representation, and when it stands for a list of events. (own)
-use Rattle.std.specs.Prelude.{ℕ, ◌+◌, ◌%◌, ◌^◌, ◌<◌, ◌≤◌, ◌≡◌, nat_lt, List, Option, Some, None, length, slice_get, if◌then◌else◌, false}
+use Rattle.std.specs.Prelude.{ℕ, ◌+◌, ◌%◌, ◌^◌, ◌<◌, ◌≤◌, ◌≡◌, nat_lt, List, Option, Some, None, length, slice_get, false}
 use Rattle.gomp_types.specs.declared.shape.Shape.{Shape}
 use Rattle.gomp_types.specs.declared.event.Event.{Event}
 use Rattle.gomp_types.specs.Values.{IsShape}
 use Rattle.gomp_types.specs.Pieces.{Piece, pieces_of}
-use Rattle.gomp_types.specs.Events.{entered, open_share, has_ended, has_drained, last_piece, turn, next_part, in_part, shape_at}
+use Rattle.gomp_types.specs.Events.{has_ended, turn, shape_at}
+use Rattle.gomp_types.specs.Seen.{seen_of}
 use Rattle.gomp_types.specs.Limits.{shown}
 use Rattle.gomp_types.specs.declared.limits.TheConstants.{OPEN_SHARES}
 use Rattle.gomp_types.specs.Deals.{schedule, taken_in}
@@ -23,33 +24,48 @@ pub record PlainView : Type 0 where
 
 -- the seat of a member that has entered no share
 abbrev pub new_seat : Seat
-new_seat = record { started = 0; ended = 0; drained = false; piece = None; taken = 0; number = 0; next_part = 0; in_part = false }
+new_seat = record {
+  seen = record { entered = 0; current = None; drained = false; piece = None; next_part = 0; in_part = false };
+  taken = 0;
+  number = 0;
+}
+
+-- the seat of a member that has just entered the share of this number, in this shape
+abbrev pub seat_in_share : ℕ → Shape → Seat
+seat_in_share number shape = record {
+  seen = record { entered = number + 1; current = Some (number, shape); drained = false; piece = None; next_part = 0; in_part = false };
+  taken = 0;
+  number = 0;
+}
+
+-- the number of the share that a member is in, or of its next one if it is in none
+abbrev pub number_or : ℕ → Option (ℕ × Shape) → ℕ
+number_or next None = next
+number_or next (Some share) = share.0
+
+-- how many shares a member has left: those that it entered, but the one that it is in
+abbrev pub ended_of : Seat → ℕ
+ended_of seat = number_or seat.seen.entered seat.seen.current
 
 -- how many pieces of a share were taken by one member
 abbrev pub taken_by : ℕ → ℕ → List Event → ℕ
 taken_by share m h = taken_in (λ k. k) share m h
 
--- a member's seat says what it entered and left, and it is near the newest share
+-- a member's seat says what the member sees and which shares it left, and it is near the newest share
 pub record SeatStands (members m : ℕ) (seat : Seat) (opened : ℕ) (h : List Event) : Type 0 where
-  pub started : entered m h ≡ seat.started
-  pub ended : (i : ℕ) → has_ended i m h ≡ nat_lt i seat.ended
-  pub drained : has_drained m h ≡ seat.drained
-  pub piece : last_piece m h ≡ seat.piece
-  -- its piece has this number among the pieces of the share that it is in
-  pub number : (share : ℕ × Shape) (piece : Piece) → open_share m h ≡ Some share → seat.piece ≡ Some piece → slice_get (pieces_of members share.1) seat.number ≡ Some piece
-  pub next_part : next_part m h ≡ seat.next_part
-  pub in_part : in_part m h ≡ seat.in_part
+  pub seen : seat.seen ≡ seen_of m h
+  pub ended : (i : ℕ) → has_ended i m h ≡ nat_lt i (ended_of seat)
+  -- the share that it is in is the one that it entered last, and has this shape
+  pub inside : (share : ℕ × Shape) → seat.seen.current ≡ Some share → (seat.seen.entered ≡ share.0 + 1) × (shape_at share.0 h ≡ Some share.1)
   -- outside a share it is in no part
-  pub apart : seat.started ≡ seat.ended → seat.in_part ≡ false
+  pub apart : seat.seen.current ≡ None → seat.seen.in_part ≡ false
+  -- its piece has this number among the pieces of the share that it is in
+  pub number : (share : ℕ × Shape) (piece : Piece) → seat.seen.current ≡ Some share → seat.seen.piece ≡ Some piece → slice_get (pieces_of members share.1) seat.number ≡ Some piece
   -- how many pieces it took of the share that it is in, and none of those that it has not entered
-  pub taken : seat.started ≡ seat.ended + 1 → shown (taken_by seat.ended m h) ≡ seat.taken
-  pub fresh : (i : ℕ) → seat.started ≤ i → taken_by i m h ≡ 0
-  pub in_order : seat.ended ≤ seat.started
-  pub one : seat.started ≤ seat.ended + 1
-  pub known : seat.started ≤ opened
-  pub near : opened ≤ seat.ended + OPEN_SHARES
-  pub outside : seat.started ≡ seat.ended → open_share m h ≡ None
-  pub inside : seat.started ≡ seat.ended + 1 → (shape : Shape) × (open_share m h ≡ Some (seat.ended, shape)) × (shape_at seat.ended h ≡ Some shape)
+  pub taken : (share : ℕ × Shape) → seat.seen.current ≡ Some share → shown (taken_by share.0 m h) ≡ seat.taken
+  pub fresh : (i : ℕ) → seat.seen.entered ≤ i → taken_by i m h ≡ 0
+  pub known : seat.seen.entered ≤ opened
+  pub near : opened ≤ ended_of seat + OPEN_SHARES
 
 -- the place of a share has its shape, a cursor in its pieces, and how many of them were taken and handed on
 pub record PlaceStands (members i : ℕ) (place : Option (Option OpenShare)) (h : List Event) : Type 0 where
@@ -75,23 +91,10 @@ pub record StandsFor (members : ℕ) (seats : List Seat) (opened : ℕ) (places 
   pub beyond : (i : ℕ) → opened ≤ i → Untouched i h
   pub rule : Always (ShareRule (schedule members) members) h
 
--- the share at a place
-abbrev pub share_there : ℕ → Option (Option OpenShare) → Option (ℕ × Shape)
-share_there i (Some (Some share)) = Some (i, share.shape)
-share_there i (Some None) = None
-share_there i None = None
-
 -- what a member sees of its place
-abbrev pub seat_seen : List (Option OpenShare) → Option Seat → Seen
-seat_seen places None = record { entered = 0; current = None; drained = false; piece = None; next_part = 0; in_part = false }
-seat_seen places (Some seat) = record {
-  entered = seat.started;
-  current = if nat_lt seat.ended seat.started then share_there seat.ended (slice_get places (seat.ended % OPEN_SHARES)) else None;
-  drained = seat.drained;
-  piece = seat.piece;
-  next_part = seat.next_part;
-  in_part = seat.in_part;
-}
+abbrev pub seat_seen : Option Seat → Seen
+seat_seen None = new_seat.seen
+seat_seen (Some seat) = seat.seen
 
-abbrev pub plain_seen : List Seat → List (Option OpenShare) → ℕ → Seen
-plain_seen seats places m = seat_seen places (slice_get seats m)
+abbrev pub plain_seen : List Seat → ℕ → Seen
+plain_seen seats m = seat_seen (slice_get seats m)

@@ -3,18 +3,21 @@ use Rattle.std.specs.Prelude.{ℕ, ◌+◌, ◌≤◌, ◌≡◌, List, Option, 
 use Rattle.std.proofs.Common.{sym, ap, ◌∙◌, arith}
 use Rattle.gomp_types.specs.declared.shape.Shape.{Shape}
 use Rattle.gomp_types.specs.declared.event.Event.{Event}
-use Rattle.gomp_types.specs.Events.{open_share, has_ended, turn, shape_at}
+use Rattle.gomp_types.specs.Events.{has_ended, turn, shape_at}
 use Rattle.gomp_types.specs.Limits.{shown}
 use Rattle.gomp_types.specs.declared.limits.TheConstants.{OPEN_SHARES}
 use Rattle.gomp_types.specs.Deals.{taken_in}
 use Rattle.gomp_types.specs.Seen.{seen_of}
 use Rattle.gomp_shares.specs.Calls.{taken_of}
-use Rattle.gomp_share_plain.specs.Plain.{SeatStands, PlaceStands, Untouched, taken_by}
-use Rattle.gomp_types.specs.declared.seen.Seen.{Seen}
+use Rattle.gomp_share_plain.specs.Plain.{SeatStands, PlaceStands, Untouched, taken_by, number_or, ended_of}
 use Rattle.gomp_share_plain.specs.declared.seat.Seat.{Seat}
 use Rattle.gomp_share_plain.specs.declared.open_share.OpenShare.{OpenShare}
 
 -- Seats
+
+-- the number of the share that a seat shows is that of the shares that its member left
+pub ended_is : (seat : Seat) (share : ℕ × Shape) → seat.seen.current ≡ Some share → ended_of seat ≡ share.0
+ended_is seat share is = ap (number_or seat.seen.entered) is
 
 -- the later events say the same of where a member is, of what it left and took, and of the shape of each share that is open
 pub record SameSeat (m : ℕ) (after before : List Event) : Type 0 where
@@ -24,27 +27,18 @@ pub record SameSeat (m : ℕ) (after before : List Event) : Type 0 where
   pub shape : (i : ℕ) (shape : Shape) → shape_at i before ≡ Some shape → shape_at i after ≡ Some shape
 
 -- then its seat stands as before, also where more shares were opened, but not too many for it
-pub seat_near : (members m : ℕ) (seat : Seat) (opened more : ℕ) (after before : List Event) → SameSeat m after before → SeatStands members m seat opened before → opened ≤ more → more ≤ seat.ended + OPEN_SHARES → SeatStands members m seat more after
-seat_near members m seat opened more after before same s le near =
-    let own : open_share m after ≡ open_share m before = ap (λ (seen : Seen). seen.current) same.seen in
-    record {
-      started = ap (λ (seen : Seen). seen.entered) same.seen ∙ s.started;
-      ended = λ i. same.left i ∙ s.ended i;
-      drained = ap (λ (seen : Seen). seen.drained) same.seen ∙ s.drained;
-      piece = ap (λ (seen : Seen). seen.piece) same.seen ∙ s.piece;
-      number = λ share piece there e. s.number share piece (sym own ∙ there) e;
-      next_part = ap (λ (seen : Seen). seen.next_part) same.seen ∙ s.next_part;
-      in_part = ap (λ (seen : Seen). seen.in_part) same.seen ∙ s.in_part;
-      apart = s.apart;
-      taken = λ full. ap shown (same.taken seat.ended) ∙ s.taken full;
-      fresh = λ i le. same.taken i ∙ s.fresh i le;
-      in_order = s.in_order;
-      one = s.one;
-      known = let k = s.known in omega arith;
-      near = near;
-      outside = λ e. own ∙ s.outside e;
-      inside = λ e. let o = s.inside e in (o.0, own ∙ o.1, same.shape seat.ended o.0 o.2);
-    }
+pub seat_near : (members m : ℕ) (seat : Seat) (opened more : ℕ) (after before : List Event) → SameSeat m after before → SeatStands members m seat opened before → opened ≤ more → more ≤ ended_of seat + OPEN_SHARES → SeatStands members m seat more after
+seat_near members m seat opened more after before same s le near = record {
+  seen = s.seen ∙ sym same.seen;
+  ended = λ i. same.left i ∙ s.ended i;
+  inside = λ share is. let o = s.inside share is in (o.0, same.shape share.0 share.1 o.1);
+  apart = s.apart;
+  number = s.number;
+  taken = λ share is. ap shown (same.taken share.0) ∙ s.taken share is;
+  fresh = λ i le. same.taken i ∙ s.fresh i le;
+  known = let k = s.known in omega arith;
+  near = near;
+}
 
 pub seat_same : (members m : ℕ) (seat : Seat) (opened : ℕ) (after before : List Event) → SameSeat m after before → SeatStands members m seat opened before → SeatStands members m seat opened after
 seat_same members m seat opened after before same s = seat_near members m seat opened opened after before same s (omega arith) s.near
@@ -70,8 +64,8 @@ place_same members i place now after before p here shape taken handed = record {
   valid = p.valid;
 }
 
-pub place_kept : (members i : ℕ) (place : Option (Option OpenShare)) (after before : List Event) → SamePlaces after before → PlaceStands members i place before → PlaceStands members i place after
-place_kept members i place after before same p = place_same members i place place after before p refl (same.shape i) (same.taken (λ k. 0) i 0) (same.turn i)
+pub same_place_kept : (members i : ℕ) (place : Option (Option OpenShare)) (after before : List Event) → SamePlaces after before → PlaceStands members i place before → PlaceStands members i place after
+same_place_kept members i place after before same p = place_same members i place place after before p refl (same.shape i) (same.taken (λ k. 0) i 0) (same.turn i)
 
 -- and a share is untouched where it was
 pub beyond_kept : (i : ℕ) (after before : List Event) → SamePlaces after before → Untouched i before → Untouched i after

@@ -2,11 +2,10 @@
 
 ghost use Rattle.std.specs.Prelude.{◌≡◌, ◌%◌, ◌==◌, ◌&&◌, is_some, slice_get, Some};
 ghost use Rattle.gomp_types.specs.declared.limits.TheConstants.{OPEN_SHARES};
-ghost use Rattle.gomp_share_plain.specs.Plain.{share_there};
 
 use crate::seat::Seat;
 use gomp_chunks::Cursor;
-use gomp_types::Shape;
+use gomp_types::{OPEN_SHARES, Shape};
 
 /// A share that some member may still be in.
 #[derive(Clone, Copy, Debug)]
@@ -22,25 +21,18 @@ pub struct OpenShare {
 }
 
 /// The share that lies at the place of this number, if one does.
-pub fn share_at(places: &[Option<OpenShare>; 8], number: u64) -> Option<OpenShare>
+pub fn share_at(
+    places: &[Option<OpenShare>; OPEN_SHARES as usize],
+    number: u64,
+) -> Option<OpenShare>
     ensures there { Some result ≡ slice_get places.now (number % OPEN_SHARES) }
 {
-    places[(number % 8) as usize]
-}
-
-/// The number and the shape of the share that lies at the place of this number, if one does.
-pub fn shape_there(places: &[Option<OpenShare>; 8], number: u64) -> Option<(u64, Shape)>
-    ensures answer { result ≡ share_there number (slice_get places.now (number % OPEN_SHARES)) }
-{
-    match share_at(places, number) {
-        Some(share) => Some((number, share.shape)),
-        None => None,
-    }
+    places[(number % OPEN_SHARES) as usize]
 }
 
 /// Whether the ordered parts of the member's piece are next in its share.
 pub fn is_next(seat: &Seat, share: &OpenShare) -> bool
-    ensures { result ≡ (is_some seat.now.piece && seat.now.number == share.now.turn) }
+    ensures { result ≡ (is_some seat.now.seen.piece && seat.now.number == share.now.turn) }
 {
-    seat.piece.is_some() && seat.number == share.turn
+    seat.seen.piece.is_some() && seat.number == share.turn
 }

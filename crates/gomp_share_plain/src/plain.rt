@@ -5,11 +5,11 @@ ghost use Rattle.std.specs.Prelude.{length};
 ghost use Rattle.gomp_share_plain.specs.Plain.{StandsFor, plain_seen};
 ghost use Rattle.gomp_share_plain.specs.PlainLaws.{plain_aside, plain_agrees, plain_valid};
 
-use crate::open_share::{OpenShare, is_next, shape_there, share_at};
-use crate::seat::{Seat, has_room};
+use crate::open_share::{OpenShare, is_next, share_at};
+use crate::seat::{Seat, ended_shares, has_room};
 use gomp_chunks::{Cursor, Plan};
 use gomp_shares::{Opening, Shares};
-use gomp_types::{Seen, Shape};
+use gomp_types::{OPEN_SHARES, Seen, Shape};
 use std::alloc::{AllocError, Global};
 use std::marker::Model;
 
@@ -20,7 +20,7 @@ pub struct PlainShares {
     seats: Vec<Seat>,
     /// How many shares were ever opened.
     opened: u64,
-    places: [Option<OpenShare>; 8],
+    places: [Option<OpenShare>; OPEN_SHARES as usize],
 }
 
 impl Model for PlainShares {
@@ -32,21 +32,26 @@ impl Model for PlainShares {
 
     ghost view = { λ s. record { seats = s.seats.items; opened = s.opened; places = s.places } };
 
-    ghost invariant = { λ s. (h : List Event) × StandsFor (length s.seats.items) s.seats.items s.opened s.places h };
+    ghost invariant = { λ s. (h : List Event) ×
+        StandsFor (length s.seats.items) s.seats.items s.opened s.places h };
 }
 
 impl Shares for PlainShares {
     ghost members = { λ shares. length shares.seats };
 
-    ghost seen = { λ shares m. plain_seen shares.seats shares.places m };
+    ghost seen = { λ shares m. plain_seen shares.seats m };
 
-    ghost stands = { λ shares h. StandsFor (length shares.seats) shares.seats shares.opened shares.places h };
+    ghost stands = { λ shares h.
+        StandsFor (length shares.seats) shares.seats shares.opened shares.places h };
 
-    ghost aside = { λ shares h event. plain_aside (length shares.seats) shares.seats shares.opened shares.places h event };
+    ghost aside = { λ shares h event.
+        plain_aside (length shares.seats) shares.seats shares.opened shares.places h event };
 
-    ghost agrees = { λ shares h m. plain_agrees (length shares.seats) shares.seats shares.opened shares.places h m };
+    ghost agrees = { λ shares h m.
+        plain_agrees (length shares.seats) shares.seats shares.opened shares.places h m };
 
-    ghost valid = { λ shares h m i shape. plain_valid (length shares.seats) shares.seats shares.opened shares.places h m i shape };
+    ghost valid = { λ shares h m i shape.
+        plain_valid (length shares.seats) shares.seats shares.opened shares.places h m i shape };
 
     ghost ruled = { λ shares h stands. stands.rule };
 
@@ -54,66 +59,48 @@ impl Shares for PlainShares {
         Ok(PlainShares {
             seats: vec![in alloc; Seat::NEW; count as usize]?,
             opened: 0,
-            places: [None; 8],
+            places: [None; OPEN_SHARES as usize],
         })
     }
 
     fn look(&self, member: u16) -> Seen {
-        let seat = self.seats[member as usize];
-        let current = if seat.ended < seat.started {
-            shape_there(&self.places, seat.ended)
-        } else {
-            None
-        };
-        Seen {
-            entered: seat.started,
-            current,
-            drained: seat.drained,
-            piece: seat.piece,
-            next_part: seat.next_part,
-            in_part: seat.in_part,
-        }
+        self.seats[member as usize].seen
     }
 
     fn next_differs(&mut self, member: u16, shape: &Shape) -> bool {
-        let next = self.seats[member as usize].started;
+        let next = self.seats[member as usize].seen.entered;
         if next >= self.opened {
             return false;
         }
         let Some(share) = share_at(&self.places, next) else {
-            return false;
+            unreachable!()
         };
         !share.shape.is_same(shape)
     }
 
     fn next_is_taken(&mut self, member: u16) -> bool {
-        let number = self.seats[member as usize].started;
+        let number = self.seats[member as usize].seen.entered;
         if number >= self.opened {
             return false;
         }
         let Some(share) = share_at(&self.places, number) else {
-            return false;
+            unreachable!()
         };
         share.taken > 0
     }
 
     fn try_open(&mut self, member: u16, shape: &Shape) -> Opening {
         let members = self.seats.len() as u16;
-        let seat = self.seats[member as usize];
-        let number = seat.started;
-        let place = (number % 8) as usize;
+        let number = self.seats[member as usize].seen.entered;
+        let place = (number % OPEN_SHARES) as usize;
         if number < self.opened {
             let Some(share) = share_at(&self.places, number) else {
-                return Opening::Differs;
+                unreachable!()
             };
             if !share.shape.is_same(shape) {
                 return Opening::Differs;
             }
-            self.seats[member as usize] = Seat {
-                started: number + 1,
-                ended: seat.ended,
-                ..Seat::NEW
-            };
+            self.seats[member as usize] = Seat::in_share(number, shape);
             return Opening::Entered;
         }
         if !has_room(&self.seats, number) {
@@ -126,36 +113,26 @@ impl Shares for PlainShares {
             cursor: Cursor::new(Plan::of(shape, members)),
         });
         self.opened = number + 1;
-        self.seats[member as usize] = Seat {
-            started: number + 1,
-            ended: seat.ended,
-            ..Seat::NEW
-        };
+        self.seats[member as usize] = Seat::in_share(number, shape);
         Opening::Entered
     }
 
     fn claim(&mut self, member: u16) -> Option<(u64, u64)> {
-        let seat = self.seats[member as usize];
-        let place = (seat.ended % 8) as usize;
-        let Some(share) = share_at(&self.places, seat.ended) else {
-            return None;
+        let seat = &mut self.seats[member as usize];
+        let number = ended_shares(seat);
+        let Some(share) = share_at(&self.places, number) else {
+            unreachable!()
         };
         let mut cursor = share.cursor;
-        let Some((number, piece)) = cursor.next_piece(member, seat.taken, share.taken) else {
-            self.seats[member as usize] = Seat {
-                drained: true,
-                piece: None,
-                ..seat
-            };
+        let Some((piece_number, piece)) = cursor.next_piece(member, seat.taken, share.taken) else {
+            seat.seen.drained = true;
+            seat.seen.piece = None;
             return None;
         };
-        self.seats[member as usize] = Seat {
-            taken: seat.taken.saturating_add(1),
-            piece: Some(piece),
-            number,
-            ..seat
-        };
-        self.places[place] = Some(OpenShare {
+        seat.seen.piece = Some(piece);
+        seat.taken = seat.taken.saturating_add(1);
+        seat.number = piece_number;
+        self.places[(number % OPEN_SHARES) as usize] = Some(OpenShare {
             taken: share.taken.saturating_add(1),
             cursor,
             ..share
@@ -164,35 +141,33 @@ impl Shares for PlainShares {
     }
 
     fn try_turn(&mut self, member: u16, iteration: u64) -> bool {
-        let seat = self.seats[member as usize];
-        let Some(share) = share_at(&self.places, seat.ended) else {
-            return false;
+        let seat = &self.seats[member as usize];
+        let Some(share) = share_at(&self.places, ended_shares(seat)) else {
+            unreachable!()
         };
-        if !is_next(&seat, &share) {
+        if !is_next(seat, &share) {
             return false;
         }
-        self.seats[member as usize] = Seat {
-            next_part: iteration + 1,
-            in_part: true,
-            ..seat
-        };
+        let seat = &mut self.seats[member as usize];
+        seat.seen.next_part = iteration + 1;
+        seat.seen.in_part = true;
         true
     }
 
     fn end_part(&mut self, member: u16) {
-        self.seats[member as usize].in_part = false;
+        self.seats[member as usize].seen.in_part = false;
     }
 
     fn hand_on(&mut self, member: u16) -> bool {
-        let seat = self.seats[member as usize];
-        let place = (seat.ended % 8) as usize;
-        let Some(share) = share_at(&self.places, seat.ended) else {
-            return false;
+        let seat = &self.seats[member as usize];
+        let number = ended_shares(seat);
+        let Some(share) = share_at(&self.places, number) else {
+            unreachable!()
         };
-        if !is_next(&seat, &share) {
+        if !is_next(seat, &share) {
             return false;
         }
-        self.places[place] = Some(OpenShare {
+        self.places[(number % OPEN_SHARES) as usize] = Some(OpenShare {
             turn: seat.number + 1,
             ..share
         });
@@ -200,6 +175,6 @@ impl Shares for PlainShares {
     }
 
     fn leave(&mut self, member: u16) {
-        self.seats[member as usize].ended += 1;
+        self.seats[member as usize].seen.current = None;
     }
 }

@@ -1,48 +1,67 @@
 //! A member's seat among the shares of a team that one thread steps.
 
-ghost use Rattle.std.specs.Prelude.{◌<◌, ◌+◌, ◌↔◌, IsTrue, All};
+ghost use Rattle.std.specs.Prelude.{◌≡◌, ◌<◌, ◌+◌, ◌^◌, ◌↔◌, IsTrue, All};
 ghost use Rattle.gomp_types.specs.declared.limits.TheConstants.{OPEN_SHARES};
+ghost use Rattle.gomp_share_plain.specs.Plain.{ended_of, seat_in_share};
 
-use gomp_types::OPEN_SHARES;
+use gomp_types::{OPEN_SHARES, Seen, Shape};
 
 /// Where a member is among the shares.
 #[derive(Clone, Copy, Debug)]
 pub struct Seat {
-    /// How many shares it has entered.
-    pub started: u64,
-    /// How many of them it has left; the share that it is in has this number.
-    pub ended: u64,
-    /// Whether it was told that nothing is left of the share that it entered last.
-    pub drained: bool,
-    /// The piece that it took last of that share, until it was told that nothing is left.
-    pub piece: Option<(u64, u64)>,
-    /// How many pieces it took of that share; the count stays at the largest number.
+    /// What the member sees of its place.
+    pub seen: Seen,
+    /// How many pieces it took of the share that it entered last; the count stays at the largest
+    /// number.
     pub taken: u64,
-    /// The number of `piece` among the pieces of the share.
+    /// The number of its piece among the pieces of that share.
     pub number: u64,
-    /// The iteration after that of its last ordered part there, 0 before its first.
-    pub next_part: u64,
-    /// Whether it is in an ordered part.
-    pub in_part: bool,
 }
 
 impl Seat {
     /// A member that has entered no share.
     pub const NEW: Seat = Seat {
-        started: 0,
-        ended: 0,
-        drained: false,
-        piece: None,
+        seen: Seen {
+            entered: 0,
+            current: None,
+            drained: false,
+            piece: None,
+            next_part: 0,
+            in_part: false,
+        },
         taken: 0,
         number: 0,
-        next_part: 0,
-        in_part: false,
     };
+
+    /// A member that has just entered the share of this number, in this shape.
+    pub fn in_share(number: u64, shape: &Shape) -> Seat
+        requires few { number < 2 ^ 48 }
+        ensures seat { result ≡ seat_in_share number shape.now }
+    {
+        Seat {
+            seen: Seen {
+                entered: number + 1,
+                current: Some((number, *shape)),
+                ..Seat::NEW.seen
+            },
+            ..Seat::NEW
+        }
+    }
+}
+
+/// How many shares the member has left; the one that it is in has this number.
+pub fn ended_shares(seat: &Seat) -> u64
+    ensures { result ≡ ended_of seat.now }
+{
+    match seat.seen.current {
+        Some((number, _)) => number,
+        None => seat.seen.entered,
+    }
 }
 
 /// Whether every member has left the share eight before this one.
 pub fn has_room(seats: &[Seat], number: u64) -> bool
-    ensures { IsTrue result ↔ All (λ seat. number < seat.ended + OPEN_SHARES) seats.now }
+    ensures { IsTrue result ↔ All (λ seat. number < ended_of seat + OPEN_SHARES) seats.now }
 {
-    seats.iter().all(|seat| number < OPEN_SHARES || number - OPEN_SHARES < seat.ended)
+    seats.iter().all(|seat| number < OPEN_SHARES || number - OPEN_SHARES < ended_shares(seat))
 }

@@ -1,9 +1,8 @@
-use Rattle.std.proofs.Common.{◌<◌, ◌^◌, refl, rules, arith}
+use Rattle.std.proofs.Common.{refl}
 use Rattle.std.proofs.lemmas.List.{length-set}
 use Rattle.std.proofs.lemmas.Option.{slice_get_read}
 use Rattle.gomp_shares.specs.Calls.{CanLeave}
 use Rattle.gomp_shares.proofs.AnswerRules.{leave_rule}
-use Rattle.gomp_share_plain.proofs.Seats.{seat_inside_started}
 use Rattle.gomp_share_plain.proofs.LeavesKeep.{leave_stands}
 use Rattle.gomp_share_plain.proofs.Views.{known_of_a_place, known_by}
 use Rattle.gomp_share_plain.proofs.plain.PlainSharesShares.leave.Goals as goal
@@ -17,14 +16,3 @@ returns-clause-stands c = λ h st0.
 
 pub invariant_of-self : goal.invariant_of-self
 invariant_of-self c = let (h, st0) = known_by _ _ c.self.view_is c.self.invariant in (_, returns-clause-stands c h st0)
-
-pub overflow_add-index_mut : goal.overflow_add-index_mut
-overflow_add-index_mut c =
-    let (h, st0) = known_by _ _ c.self.view_is c.self.invariant in
-    let (can, st) = known_of_a_place _ _ c.args.member h (λ n seen. CanLeave n c.args.member seen) c.self.view_is c.requires.place c.requires.place.member st0 in
-    let at = slice_get_read c.self.inside.seats.items _ c.args.member c.index_mut.result.now refl can.member c.index_mut.ensures.value in
-    let s = st.seat c.args.member _ at in
-    let full = seat_inside_started _ c.args.member c.index_mut.result.now _ h s can.inside in
-    let known = s.known in
-    let most : c.self.inside.opened < 2 ^ 64 = search rules in
-    grind (arith, full, known, most)
