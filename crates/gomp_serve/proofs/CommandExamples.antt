@@ -4,7 +4,7 @@ use Rattle.std.specs.Option.{option_map}
 use Rattle.clap.specs.declared.error.kind.ErrorKind.TheVariants as kinds
 use Rattle.clap.proofs.OnLiterals.{clap_on_literals}
 use Rattle.gomp_types.specs.declared.refusal.Refusal.TheVariants.{BadEnv}
-use Rattle.gomp_serve.specs.CommandLine.{faults_of, lines_of, no_equals_text, settings_of}
+use Rattle.gomp_serve.specs.CommandLine.{faults_of, no_equals_text, settings_of}
 use Rattle.gomp_serve.specs.Examples.{with_another_command, with_settings, with_two_faults}
 use Rattle.gomp_serve.specs.Settings.{first_without, read_settings}
 
@@ -32,9 +32,6 @@ pub first_word_without_equals : first_without (settings_of with_two_faults) ≡ 
 unfolding clap_on_literals
 first_word_without_equals = refl
 
--- what is written of two ignored words, and of a word that has no `=`
-pub ignored_words_written : lines_of (BadEnv (codes "FOO") ∷ BadEnv (codes "omp_dynamic") ∷ []) ≡ codes "ignored FOO\nignored omp_dynamic\n"
-ignored_words_written = refl
-
+-- what is written of a word that has no `=`
 pub word_without_equals_written : no_equals_text (codes "FOO") ≡ codes "error: the word 'FOO' is not NAME=VALUE\n"
 word_without_equals_written = refl

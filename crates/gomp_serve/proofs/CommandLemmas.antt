@@ -17,10 +17,10 @@ use Rattle.gomp_types.specs.declared.refusal.Refusal.{Refusal}
 use Rattle.gomp_icv.specs.Variables.{Variables}
 use Rattle.gomp_serve.specs.CommandLine.{Asks, Ends, EndsOnSteps, EndsWithRead, IsErrorReport, faults_of, ompteam, settings_in, settings_name, settings_of}
 use Rattle.gomp_serve.specs.Settings.{read_settings}
-use Rattle.gomp_serve.specs.declared.serve.Ending.TheVariants as ending
-use Rattle.gomp_serve.specs.declared.command.Notes.{Notes}
-use Rattle.gomp_serve.specs.declared.command.Notes.TheVariants as notes
-use Rattle.gomp_serve.specs.declared.command.Status.{Status}
+use Rattle.gomp_steps.specs.declared.serve.Ending.TheVariants as ending
+use Rattle.gomp_steps.specs.declared.notes.Notes.{Notes}
+use Rattle.gomp_steps.specs.declared.notes.Notes.TheVariants as notes
+use Rattle.gomp_steps.specs.declared.notes.Status.{Status}
 
 -- clap's clauses on the kinds of errors speak of such commands alone
 pub is_covered : is_simple_and_free ompteam ≡ true

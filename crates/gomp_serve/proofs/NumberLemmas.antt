@@ -10,13 +10,13 @@ use Rattle.gomp_script.specs.declared.parse.BadLine.{BadLine}
 use Rattle.gomp_script.specs.StepText.{steps_of}
 use Rattle.gomp_serve.specs.CommandLine.{Ends, EndsWithRead, IsFault, IsStatus, IsErrorReport}
 use Rattle.gomp_serve.specs.Settings.{first_without, read_settings}
-use Rattle.gomp_serve.specs.Output.{AnswerTo, Runs, is_size}
-use Rattle.gomp_serve.specs.Serving.{Serves}
-use Rattle.gomp_serve.specs.declared.command.Notes.{Notes}
-use Rattle.gomp_serve.specs.declared.command.Notes.TheVariants as notes
-use Rattle.gomp_serve.specs.declared.command.Status.{Status}
-use Rattle.gomp_serve.specs.declared.serve.Ending.{Ending}
-use Rattle.gomp_serve.specs.declared.serve.Ending.TheVariants as ending
+use Rattle.gomp_steps.specs.Output.{AnswerTo, Runs, is_size}
+use Rattle.gomp_steps.specs.Serving.{Serves}
+use Rattle.gomp_steps.specs.declared.notes.Notes.{Notes}
+use Rattle.gomp_steps.specs.declared.notes.Notes.TheVariants as notes
+use Rattle.gomp_steps.specs.declared.notes.Status.{Status}
+use Rattle.gomp_steps.specs.declared.serve.Ending.{Ending}
+use Rattle.gomp_steps.specs.declared.serve.Ending.TheVariants as ending
 
 runs_number : (icv : Variables) (fits : Bool) (count : ℕ) (steps : List Step) (text : List ℕ) (code : ℕ) → Runs icv fits count steps text code → code ≤ 3
 runs_number icv true count steps text code runs = let is = runs.code_is in omega (arith, is)

@@ -1,5 +1,5 @@
 -- The command line, and how the program ends. (own)
-use Rattle.std.specs.Prelude.{◌≡◌, ◌≢◌, ◌⊎◌, ℕ, true, List, [], ◌∷◌, ◌++◌, Option, Some, None, codes, find, flat_map, map, string_bytes}
+use Rattle.std.specs.Prelude.{◌≡◌, ◌≢◌, ◌⊎◌, ℕ, true, List, [], ◌∷◌, ◌++◌, Option, Some, None, codes, find, map, string_bytes}
 use Rattle.std.specs.Borrow.{Bor}
 use Rattle.std.specs.Option.{option_map, option_map_or}
 use Rattle.std.specs.Str.{bytes_eq}
@@ -12,15 +12,14 @@ use Rattle.clap.specs.declared.parser.matches.ArgMatches.{ArgMatches}
 use Rattle.clap.specs.declared.error.kind.ErrorKind.{ErrorKind}
 use Rattle.clap.specs.declared.error.kind.ErrorKind.TheVariants as kinds
 use Rattle.gomp_types.specs.declared.refusal.Refusal.{Refusal}
-use Rattle.gomp_types.specs.declared.refusal.Refusal.TheVariants.{BadEnv}
 use Rattle.gomp_icv.specs.Variables.{Variables}
-use Rattle.gomp_serve.specs.Serving.{Serves}
+use Rattle.gomp_steps.specs.Serving.{Serves}
 use Rattle.gomp_serve.specs.Settings.{first_without, read_settings}
-use Rattle.gomp_serve.specs.declared.serve.Ending.{Ending}
-use Rattle.gomp_serve.specs.declared.serve.Ending.TheVariants as ending
-use Rattle.gomp_serve.specs.declared.command.Notes.{Notes}
-use Rattle.gomp_serve.specs.declared.command.Notes.TheVariants as notes
-use Rattle.gomp_serve.specs.declared.command.Status.{Status}
+use Rattle.gomp_steps.specs.declared.serve.Ending.{Ending}
+use Rattle.gomp_steps.specs.declared.serve.Ending.TheVariants as ending
+use Rattle.gomp_steps.specs.declared.notes.Notes.{Notes}
+use Rattle.gomp_steps.specs.declared.notes.Notes.TheVariants as notes
+use Rattle.gomp_steps.specs.declared.notes.Status.{Status}
 
 -- by which the settings are found
 abbrev pub settings_name : Text
@@ -80,36 +79,6 @@ ArePlain (word ∷ words) = IsPlain word × ArePlain words
 abbrev pub Names : List Refusal → Notes → Type 0
 Names ignored (notes.Ignored words) = words.items ≡ ignored
 Names ignored _ = ⊥
-
--- the line that names an ignored word; nothing for another refusal, which is never among the ignored words
-abbrev pub ignored_line : Refusal → List ℕ
-ignored_line (BadEnv name) = codes "ignored " ++ (name ++ codes "\n")
-ignored_line _ = []
-
--- the lines that name ignored words, in their order
-abbrev pub lines_of : List Refusal → List ℕ
-lines_of words = flat_map ignored_line words
-
--- what standard error gets: nothing, one line, or one line for each ignored word, in order
-abbrev pub notes_text : Notes → List ℕ
-notes_text notes.Nothing = []
-notes_text notes.NoMemory = codes "no memory\n"
-notes_text (notes.Command text) = string_bytes text
-notes_text (notes.Ignored words) = lines_of words.items
-notes_text notes.InputFault = codes "input fault\n"
-notes_text notes.OutputFault = codes "output fault\n"
-
--- these notes, and nothing else, were written behind what was there before
-abbrev pub AddsNotes : Notes → Option (List ℕ) → Option (List ℕ) → Type 0
-AddsNotes notes before after = Appends before after (notes_text notes)
-
--- the same of the lines of ignored words
-abbrev pub AddsLines : List Refusal → Option (List ℕ) → Option (List ℕ) → Type 0
-AddsLines words before after = Appends before after (lines_of words)
-
--- the same of what is noted at this end
-abbrev pub IsNoted : Status → Option (List ℕ) → Option (List ℕ) → Type 0
-IsNoted status before after = AddsNotes status.notes before after
 
 -- the status in which a text of steps ends that was served so, where these words were ignored: they are named beside whatever was answered
 abbrev pub IsStatus : Ending → List Refusal → Status → Type 0

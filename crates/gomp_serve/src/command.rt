@@ -4,42 +4,17 @@ ghost use Rattle.std.specs.Prelude.{◌≡◌, ◌≤◌, ℕ, false, Some, List
 ghost use Rattle.std.specs.IoError.{error_kind};
 ghost use Rattle.clap.specs.Words.{FailsBy, app_of, kind_of, rule_of, subcommand_rows_of};
 ghost use Rattle.gomp_serve.specs.CommandLine.{ArePlain, Ends, EndsOnSteps, HasSettings, ReportsError, IsStatus, IsFault, HasNoWords, faults_of, settings_of, settings_in, settings_rule, values_given, ompteam};
-ghost use Rattle.gomp_serve.specs.declared.command.Notes.TheVariants.{NoMemory, OutputFault};
+ghost use Rattle.gomp_steps.specs.declared.notes.Notes.TheVariants.{NoMemory, OutputFault};
 
-use crate::serve::{Ending, serve_steps};
 use crate::settings::{SettingsError, read_settings};
 use clap::error::ErrorKind;
 use clap::{Arg, ArgMatches, Command, Error};
+use gomp_steps::notes::{Notes, Status};
+use gomp_steps::serve::{Ending, serve_steps};
 use gomp_types::Refusal;
 use std::alloc::{AllocError, Global};
 use std::convert::AsStr;
 use std::io::{self, Read, Write};
-
-/// What is noted beside the output, on standard error.
-#[derive(Drop)]
-pub enum Notes {
-    Nothing,
-    /// Memory was refused outside of the steps.
-    NoMemory,
-    /// The command line is refused, for this reason.
-    Command(String),
-    /// These words of the environment were ignored, at least one, each with `BadEnv` (E41).
-    Ignored(Vec<Refusal>),
-    /// The text could not be read, or is too long.
-    InputFault,
-    /// The output could not be written whole.
-    OutputFault,
-}
-
-/// How the program ends.
-#[derive(Drop)]
-pub struct Status {
-    /// 0 where the text was answered; 1 where a line of it is bad, the command line is refused, or
-    /// input or output failed; 2 where there is no such team; 3 for want of memory.
-    pub code: u8,
-    /// What is noted beside the output.
-    pub notes: Notes,
-}
 
 /// Does what the words of the command line say, of which the first is the program's name.
 ///
@@ -204,7 +179,8 @@ fn output_fault() -> Status
 
 /// The end where the words are no command: it writes help and the version, and notes a fault.
 fn report_error<W: Write>(alloc: Global, error: &Error, writer: &mut W) -> Status
-    ensures { ReportsError (kind_of error.now) (W.contents writer.old) (W.contents writer.new) result }
+    ensures { ReportsError (kind_of error.now)
+        (W.contents writer.old) (W.contents writer.new) result }
 {
     if let ErrorKind::OutOfMemory = error.kind() {
         return no_memory();

@@ -1,15 +1,12 @@
-//! What `ompteam` does: it reads a text of steps of an OpenMP team, and prints the reply to each.
+//! What `ompteam` does with its words: it reads the command line, and has a text of steps served.
 //!
 //! [`run_process`] does everything, from the words of the command line to the number with which the process ends:
-//! [`command::serve`] reads the words and the text, runs it and writes the replies, and [`notes::finish`] writes what is noted beside
-//! the output. The program only hands the process's words, input, output and standard error on.
+//! [`command::serve`] reads the words and has the text served, and what is noted beside the output is written. The program only
+//! hands the process's words, input, output and standard error on. gomp_steps serves the text and writes the notes.
 #![tactic(auto)]
 
-mod answer;
 pub mod command;
-pub mod notes;
 mod process;
-pub mod serve;
 mod settings;
 
 pub use process::run_process;

@@ -4,8 +4,8 @@ ghost use Rattle.std.specs.Prelude.{◌≤◌, IfOk, IfErr};
 ghost use Rattle.std.specs.Process.{exit_status};
 ghost use Rattle.gomp_serve.specs.Process.{EndsAs, EndsOn, EndsWithout, texts_of};
 
-use crate::command::{Status, no_memory, serve, status_without_words};
-use crate::notes::finish;
+use crate::command::{no_memory, serve, status_without_words};
+use gomp_steps::notes::{Status, finish};
 use std::alloc::Global;
 use std::env::Args;
 use std::io::{self, Read, Write};

@@ -48,7 +48,8 @@ pub fn read_settings<'a>(
 
 /// The first word that has no `=`.
 fn first_without<'a>(words: &[&'a str]) -> Option<&'a str>
-    ensures { option_map (λ word. word.now) result ≡ first_without (map (λ word. word.now) words.now) }
+    ensures { option_map (λ word. word.now) result
+        ≡ first_without (map (λ word. word.now) words.now) }
 {
     words.iter().find(|word| !has_equals(word)).copied()
 }

@@ -1,0 +1,3 @@
+mod AnswerLemmas
+mod ServeLemmas
+pub mod ServingExamples

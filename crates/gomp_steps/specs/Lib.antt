@@ -1,0 +1,3 @@
+pub mod Notes
+pub mod Output
+pub mod Serving

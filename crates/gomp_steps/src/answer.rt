@@ -1,0 +1,56 @@
+//! From a text of steps to the text of their replies, and the exit status.
+
+ghost use Rattle.std.specs.Prelude.{◌≡◌, min, IfOk};
+ghost use Rattle.gomp_steps.specs.Output.{IsAnswer};
+
+use gomp_core::run;
+use gomp_icv::Icv;
+use gomp_script::{ParseError, parse_steps, print_bad_line, print_refusal, print_replies};
+use gomp_share_plain::PlainShares;
+use gomp_types::Refusal;
+use std::alloc::{AllocError, Global};
+
+/// What is written for a text, and the exit status.
+#[derive(Drop)]
+pub struct Answer {
+    /// The lines that are written.
+    pub text: String,
+    /// 0 where the steps were answered, 1 where a line is bad, 2 where there is no such team.
+    pub code: u8,
+}
+
+/// The replies to a text of steps, a line for each, of a team by these control variables; or why the
+/// text or its team is refused. The error is want of memory outside of the steps.
+pub fn answer_steps(alloc: Global, icv: Icv, text: &[u8]) -> Result<Answer, AllocError>
+    ensures { IfOk result (IsAnswer icv text.now) }
+{
+    let (count, steps) = match parse_steps(alloc, text) {
+        Ok(found) => found,
+        Err(ParseError::Bad(bad)) => {
+            return Ok(Answer {
+                text: print_bad_line(alloc, &bad)?,
+                code: 1,
+            });
+        }
+        Err(ParseError::Memory) => return Err(AllocError),
+    };
+    match run::<PlainShares>(alloc, team_size(count), icv, steps) {
+        Ok((_, replies)) => Ok(Answer {
+            text: print_replies(alloc, replies.as_slice())?,
+            code: 0,
+        }),
+        Err(Refusal::BadTeam) => Ok(Answer {
+            text: print_refusal(alloc, &Refusal::BadTeam)?,
+            code: 2,
+        }),
+        Err(_) => Err(AllocError),
+    }
+}
+
+/// The number of members as a `u16`: one above the largest `u16` becomes that, since no team may have
+/// either.
+fn team_size(count: u32) -> u16
+    ensures { result ≡ min count 65535 }
+{
+    u16::try_from(count).unwrap_or(u16::MAX)
+}
