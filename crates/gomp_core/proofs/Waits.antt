@@ -58,9 +58,9 @@ open_waits terms (pair ∷ earlier) caused k call e =
 
 -- The call that a step makes or repeats
 
-stays_shown : (stays again : Bool) → in_place stays again ≡ true → shows stays again ≡ true
-stays_shown true again e = refl
-stays_shown false again e = e
+place_is_shown : (stays again : Bool) → in_place stays again ≡ true → shows stays again ≡ true
+place_is_shown true again e = refl
+place_is_shown false again e = e
 
 -- a resume with no wait open is refused
 resumed_may_wait : (m : ℕ) (p : Past) (call : Call) (waiting : Option Call) → AllFail ((row_of (meant call waiting)).compared (is_resume call) m p) → ((other : Call) → waiting ≡ Some other → MayWait m other) →
@@ -78,7 +78,7 @@ step_ready terms run step members limits caused small size bounds none =
     let is : p.terms.limits ≡ limits = same_limits terms run small ∙ sym bounds in
     record {
       members_are = same_members terms run ∙ sym size;
-      place = λ e. subst (λ (l : Limits). least (row.by_place l (seen_of step.member p.events)) ≡ None) is (none_holds (row.by_place p.terms.limits (seen_of step.member p.events)) (known.place (stays_shown row.stays (is_resume step.call) e)));
+      place = λ e. subst (λ (l : Limits). least (row.by_place l (seen_of step.member p.events)) ≡ None) is (none_holds (row.by_place p.terms.limits (seen_of step.member p.events)) (known.place (place_is_shown row.stays (is_resume step.call) e)));
       compared = none_holds (row.compared (is_resume step.call) step.member p) known.compared;
       waits = resumed_may_wait step.member p step.call (p.waits step.member) known.compared (open_waits terms run caused step.member);
     }
