@@ -95,6 +95,10 @@ outcome_none (Some refusal) value found e = absurd (cc)
 pub least_seen : (tests : Seen → List Test) (m : ℕ) (seen : Seen) (h : List Event) (found : Option Refusal) → from 0 (tests (seen_of m h)) ≡ true → seen ≡ seen_of m h → found ≡ first_refusal (tests seen) → least (tests (seen_of m h)) ≡ found
 least_seen tests m seen h found rising e is = sym (first_is_least 0 (tests (seen_of m h)) rising) ∙ row_is tests seen (seen_of m h) found e is
 
+-- if no first test holds, then no least one does
+pub no_test_holds : (tests : List Test) → from 0 tests ≡ true → None ≡ first_refusal tests → least tests ≡ None
+no_test_holds tests rising none = sym (first_is_least 0 tests rising) ∙ sym none
+
 -- the tests of an end stand in the order of their numbers
 pub end_tests_rise : (construct : Construct) (kind : EndKind) (seen : Seen) → from 0 (end_tests_of construct kind seen) ≡ true
 end_tests_rise Loop kind seen = refl
