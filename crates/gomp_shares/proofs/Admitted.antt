@@ -38,7 +38,7 @@ use Rattle.gomp_shares.proofs.Laws.{ordered_part_is_in_a_loop}
 use Rattle.gomp_shares.proofs.PartsKeep.{sections_away}
 
 -- where no test of the front holds, those behind it decide alone
-behind_front : (front tests : List Test) → least front ≡ None → least (front ++ tests) ≡ least tests
+pub behind_front : (front tests : List Test) → least front ≡ None → least (front ++ tests) ≡ least tests
 behind_front front tests none = least_append front tests ∙ ap (λ (found : Option _). lesser found (least tests)) none
 
 pub answers_behind : (front tests : List Test) (may : Reply → Type 0) (reply : Reply) → least front ≡ None → Answers tests may reply → Answers (front ++ tests) may reply
@@ -143,15 +143,26 @@ end_lets_leave Sections kind members m seen h ruled e lt none =
       apart = rw e (in_no_part m h (ordered_part_is_in_a_loop members m h ruled) (sections_away (open_share m h) here));
     }
 
--- where no test of the start of a single holds, the member can open one
+-- a member outside of every share can open a single
+pub single_may_open : (copies : Bool) (members m : ℕ) (seen : Seen) → m < members → is_some seen.current ≡ false → seen.entered < most_shares → CanOpen members m (single_shape copies) seen
+single_may_open copies members m seen lt out few = record {
+  member = lt;
+  valid = record {
+    trips = omega arith;
+    chunk = omega arith;
+    some = omega arith;
+    moves = λ is. absurd (cc);
+    fits = λ k below. let first : k ≡ 0 = omega arith in rw first (omega (arith, ints));
+  };
+  ordered = λ is. absurd (cc);
+  outside = out;
+  few = few;
+}
+
+-- where no test of its start holds, it is one
 pub single_can_open : (copies : Bool) (limits : Limits) (members m : ℕ) (seen : Seen) → limits.shares ≤ most_shares → m < members → least (start_tests [] limits seen) ≡ None →
     CanOpen members m (single_shape copies) seen
 single_can_open copies limits members m seen few lt none =
     let tests = all_fail (start_tests [] limits seen) none in
-    record {
-      member = lt;
-      valid = record { trips = omega arith; chunk = omega arith; some = omega arith; moves = λ is. absurd (cc); fits = λ k below. let first : k ≡ 0 = omega arith in rw first (omega (arith, ints)) };
-      ordered = λ is. absurd (cc);
-      outside = tests.0;
-      few = (let all : nat_le limits.shares seen.entered ≡ false = tests.1.0 in grind (arith, nat_tests));
-    }
+    let all : nat_le limits.shares seen.entered ≡ false = tests.1.0 in
+    single_may_open copies members m seen lt tests.0 (grind (arith, nat_tests))
