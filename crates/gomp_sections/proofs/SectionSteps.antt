@@ -1,11 +1,12 @@
 -- A section is a piece of one iteration.
-use Rattle.std.proofs.Common.{◌≡◌, ℕ, ◌+◌, ◌*◌, ◌<◌, suc, false, List, ◌∷◌, Option, Some, None, slice_get, refl, ap, ◌∙◌, sym, arith}
+use Rattle.std.proofs.Common.{◌≡◌, ℕ, ◌+◌, ◌*◌, ◌<◌, suc, false, List, [], ◌∷◌, Option, Some, None, slice_get, refl, ap, ◌∙◌, sym, arith}
 use Rattle.std.specs.Prelude.{min, not, IfSome, option_map}
 use Rattle.std.specs.Int.{div_ceil}
 use Rattle.std.specs.List.{range_with_len}
 use Rattle.std.proofs.lemmas.Option.{slice_get-map}
-use Rattle.gomp_types.specs.declared.loop_desc.EndKind.{EndKind}
-use Rattle.gomp_types.specs.declared.reply.Reply.TheVariants.{Section}
+use Rattle.gomp_types.specs.declared.refusal.Refusal.{Refusal}
+use Rattle.gomp_types.specs.declared.reply.Reply.{Reply}
+use Rattle.gomp_types.specs.declared.reply.Reply.TheVariants.{Refused, Section}
 use Rattle.gomp_types.specs.declared.seen.Seen.{Seen}
 use Rattle.gomp_types.specs.declared.shape.Shape.{Shape}
 use Rattle.gomp_types.specs.declared.shape.ShareKind.{ShareKind}
@@ -15,19 +16,19 @@ use Rattle.gomp_types.specs.declared.event.Event.TheVariants.{Enter}
 use Rattle.gomp_types.specs.Pieces.{Piece, dynamic_piece, dynamic_pieces}
 use Rattle.gomp_types.specs.Shapes.{is_sections}
 use Rattle.gomp_types.specs.Deals.{schedule, next_for}
-use Rattle.gomp_types.specs.Events.{entered, open_share, in_kind, has_drained}
+use Rattle.gomp_types.specs.Events.{entered, open_share, in_kind}
 use Rattle.gomp_types.specs.Least.{least}
 use Rattle.gomp_types.specs.Seen.{seen_of}
 use Rattle.gomp_shares.specs.declared.Opening.TheVariants.{Entered}
-use Rattle.gomp_shares.specs.Calls.{MayOpen, CanClaim, CanLeave, Claims, claimed, taken_of}
+use Rattle.gomp_shares.specs.Calls.{MayOpen, CanClaim, Claims, claimed, taken_of}
 use Rattle.gomp_shares.specs.Starts.{AnswersBegin}
-use Rattle.gomp_shares.proofs.Admitted.{begin_compared}
-use Rattle.gomp_shares.specs.Sections.{DealsSections, section_next_tests, sections_end_tests, sections_begun, section_next_taken}
+use Rattle.gomp_shares.proofs.Admitted.{PartInLoop, answers_let, begin_compared, in_no_part, in_some_share}
+use Rattle.gomp_shares.specs.Sections.{AnswersSectionsNext, DealsSections, TakesSection, section_next_given, section_next_tests, sections_begun, section_next_taken}
 use Rattle.gomp_sections.specs.Answers.{section_of}
 use Rattle.gomp_types.proofs.Booleans.{same_number, not_false}
 use Rattle.gomp_types.proofs.LeastTests.{all_fail}
 use Rattle.gomp_shares.proofs.PartsKeep.{sections_away}
-use Rattle.gomp_sections.proofs.Tests.{PartInLoop, claim_entered, in_no_part, in_some_share}
+use Rattle.gomp_sections.proofs.Tests.{claim_entered}
 
 -- what is given is one section, if it is any
 abbrev pub IsSection : Option Piece → Type 0
@@ -96,18 +97,6 @@ next_may_claim members m seen h lt e law none =
       apart = rw e (in_no_part m h law (sections_away (open_share m h) inside));
     }
 
--- and to leave its sections
-pub end_may_leave : (members m : ℕ) (kind : EndKind) (seen : Seen) (h : List Event) → m < members → seen ≡ seen_of m h → PartInLoop m h → least (sections_end_tests kind (seen_of m h)) ≡ None → CanLeave members m seen
-end_may_leave members m kind seen h lt e law none =
-    let tests = all_fail (sections_end_tests kind (seen_of m h)) none in
-    let inside = not_false (in_kind is_sections (open_share m h)) tests.0 in
-    record {
-      member = lt;
-      inside = rw e (in_some_share is_sections (open_share m h) inside);
-      done = rw (e, not_false (has_drained m h) tests.1.1.0) refl;
-      apart = rw e (in_no_part m h law (sections_away (open_share m h) inside));
-    }
-
 -- The first section
 
 first_section : (members m i : ℕ) (shape : Shape) (answer : Option Piece) (h : List Event) → shape.kind ≡ kinds.Sections → Claims members m answer (Enter i m shape ∷ h) → IsSection answer
@@ -135,3 +124,17 @@ first_adds m shape (Some piece) h one = rw (same_number m, one) refl
 pub sections_add : (members m : ℕ) (shape : Shape) (answer : Option Piece) (h : List Event) → shape.kind ≡ kinds.Sections → Claims members m answer (Enter (entered m h) m shape ∷ h) →
     sections_begun shape m (Section (section_of answer)) h ≡ claimed m answer (Enter (entered m h) m shape ∷ h)
 sections_add members m shape answer h kind claims = first_adds m shape answer h (first_section members m (entered m h) shape answer h kind claims)
+
+-- a section number is neither a refusal nor a wait, and a refused next gives nothing
+pub section_refusal_given : (m : ℕ) (refusal : Refusal) (share : Option (ℕ × Shape)) → section_next_given share m (Refused refusal) ≡ []
+section_refusal_given m refusal None = refl
+section_refusal_given m refusal (Some share) = refl
+
+-- so a next that the member's own tests let through is answered as its share deals
+section_never_refuses : (members m : ℕ) (share : Option (ℕ × Shape)) (h : List Event) (refusal : Refusal) → DealsSections members m share (Refused refusal) h → ⊥
+section_never_refuses members m None h refusal given = given
+section_never_refuses members m (Some share) h refusal given = given
+
+pub section_admitted : (members m : ℕ) (reply : Reply) (h : List Event) → least (section_next_tests (seen_of m h)) ≡ None → TakesSection members m reply h → AnswersSectionsNext members m reply h
+section_admitted members m reply h none given =
+    answers_let (section_next_tests (seen_of m h)) (λ given. DealsSections members m (open_share m h) given h) reply none (section_never_refuses members m (open_share m h) h) given

@@ -21,7 +21,8 @@ use Rattle.gomp_shares.specs.Singles.{DealsSingle, single_started, copy_started,
 use Rattle.gomp_types.proofs.Booleans.{same_number, not_false, and_left, and_right}
 use Rattle.gomp_types.proofs.LeastTests.{all_fail}
 use Rattle.gomp_shares.proofs.PartsKeep.{copy_away}
-use Rattle.gomp_sections.proofs.Tests.{PartInLoop, claim_entered, in_no_part, in_some_share}
+use Rattle.gomp_sections.proofs.Tests.{claim_entered}
+use Rattle.gomp_shares.proofs.Admitted.{PartInLoop, in_no_part, in_some_share}
 
 -- what was given is what was there before the share was entered
 pub single_least : (members m i : ℕ) (copies : Bool) (answer : Option Piece) (h : List Event) → Claims members m answer (Enter i m (single_shape copies) ∷ h) →

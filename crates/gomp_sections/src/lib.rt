@@ -1,10 +1,11 @@
 //! The calls of a member on the sections and `single` constructs of its team.
 //!
 //! Each construct is one work-share: sections are its pieces, one each, and a `single` has one piece,
-//! whose taker executes it. Each call makes the tests of its own (specs/Sections.antt and
-//! specs/Singles.antt of gomp_shares) and asks for a member of the team alone. Where none of them
-//! holds it answers what is defined there, but for three calls:
-//! `single_copy_start` does so where the words that it is handed are those that were put, and the two
+//! whose taker executes it. Each call that libgomp has makes the tests of its own (specs/Sections.antt
+//! and specs/Singles.antt of gomp_shares) and asks for a member of the team alone; those named `begin_..`
+//! and `take_section` do what these tests let, and ask that the tests show it. If no test holds, a call
+//! answers what is defined there, but for three calls:
+//! `single_copy_start` does so if the words that it is handed are those that were put, and the two
 //! ends that have a part above them (`sections_end`, whose arrival is compared there, and
 //! `single_copy_end`, whose words are kept there) answer that the member has left.
 //!
@@ -22,6 +23,6 @@ pub mod sections;
 pub mod single;
 
 pub use sections::{
-    begin_sections, sections_end, sections_end_nowait, sections_next, sections_start,
+    begin_sections, sections_end, sections_end_nowait, sections_next, sections_start, take_section,
 };
-pub use single::{single_copy_end, single_copy_start, single_start};
+pub use single::{begin_copy, begin_single, single_copy_end, single_copy_start, single_start};

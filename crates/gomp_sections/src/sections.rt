@@ -2,33 +2,31 @@
 //!
 //! OpenMP API 5.2, section 11.3.
 
-ghost use Rattle.std.specs.Prelude.{◌≡◌, ◌<◌, List, Err};
+ghost use Rattle.std.specs.Prelude.{◌≡◌, ◌<◌, List, None};
 ghost use Rattle.std.specs.Option.{ForSome};
 ghost use Rattle.gomp_types.specs.declared.event.Event.{Event};
 ghost use Rattle.gomp_types.specs.declared.loop_desc.EndKind.TheVariants.{Wait as WaitEnd, Nowait};
-ghost use Rattle.gomp_types.specs.declared.reply.Reply.TheVariants.{Wait, Refused};
-ghost use Rattle.gomp_types.specs.declared.refusal.Refusal.{Refusal};
-ghost use Rattle.gomp_types.specs.Tests.{outcome};
 ghost use Rattle.gomp_types.specs.Least.{least};
-ghost use Rattle.gomp_types.specs.Seen.{seen_of};
 ghost use Rattle.gomp_types.specs.declared.shape.ShareKind.TheVariants.{Sections};
-ghost use Rattle.gomp_shares.specs.Calls.{EachStands, CanOpen, left_unless_refused};
+ghost use Rattle.gomp_shares.specs.Calls.{CanOpen};
+ghost use Rattle.gomp_shares.specs.Serves.{Leaves, Serves};
 ghost use Rattle.gomp_shares.specs.Starts.{AnswersBegin, left_at_once};
-ghost use Rattle.gomp_shares.specs.Sections.{AnswersSectionsStart, DealsSections, sections_begun, sections_started, AnswersSectionsNext, section_next_taken, AnswersSectionsEnd, sections_end_tests};
+ghost use Rattle.gomp_shares.specs.Sections.{AnswersSectionsStart, DealsSections, TakesSection, sections_begun, sections_started, AnswersSectionsNext, section_next_taken, section_next_tests, AnswersSectionsEnd, sections_end_tests};
 ghost use Rattle.gomp_sections.specs.Answers.{section_of};
 
 use crate::own::admit_start;
-use gomp_shares::own::{end_refusal, next_refusal};
+use gomp_shares::ends::end_construct;
+use gomp_shares::own::next_refusal;
 use gomp_shares::{Construct, Opening, Shares};
 use gomp_types::{EndKind, Limits, Refusal, Reply, Shape};
 
 /// Enters the member's next share for a construct of `count` sections, 0 to 65,536, and answers the
-/// first section that nobody took, numbered from 1, or 0 where none is left; the member is in the
+/// first section that nobody took, numbered from 1, or 0 if none is left; the member is in the
 /// construct all the same, and may end it.
 ///
-/// `Wait` where some member has not left the share eight before, and nothing is entered: the layer
+/// `Wait` if some member has not left the share eight before, and nothing is entered: the layer
 /// above calls again on `Resume`. Refused with `InsideShare`, `BadSections`, `TooManyShares`, or with
-/// `Mismatch` where the team's share of this number is of another shape.
+/// `Mismatch` if the team's share of this number is of another shape.
 pub fn sections_start<S: Shares>(
     shares: &mut S,
     member: u16,
@@ -38,11 +36,9 @@ pub fn sections_start<S: Shares>(
 ) -> Reply
     requires member { member < S.members shares.old }
     ensures members { S.members shares.new ≡ S.members shares.old }
-    ensures known { (h : List Event) × S.stands shares.old h }
-    ensures answer { EachStands (S.stands shares.old) (AnswersSectionsStart count end_kind limits.now (S.members shares.old) member result) }
-    ensures stands { EachStands (S.stands shares.old) (λ h. S.stands shares.new (sections_started count end_kind member result h)) }
-    ensures kept { (refusal : Refusal) → result ≡ Refused refusal → shares.new ≡ shares.old }
-    ensures waits { result ≡ Wait → shares.new ≡ shares.old }
+    ensures serves { Serves S.stands shares.old shares.new result
+        (AnswersSectionsStart count end_kind limits.now (S.members shares.old) member)
+        (sections_started count end_kind member) }
 {
     match admit_start(&shares.look(member), limits, count, end_kind) {
         Ok(shape) => begin_sections(shares, member, &shape),
@@ -58,13 +54,9 @@ pub fn begin_sections<S: Shares>(shares: &mut S, member: u16, shape: &Shape) -> 
     requires sections { shape.now.kind ≡ Sections }
     requires place { CanOpen (S.members shares.old) member shape.now (S.seen shares.old member) }
     ensures members { S.members shares.new ≡ S.members shares.old }
-    ensures known { (h : List Event) × S.stands shares.old h }
-    ensures answer { EachStands (S.stands shares.old)
-        (AnswersBegin shape.now DealsSections (S.members shares.old) member result) }
-    ensures stands { EachStands (S.stands shares.old)
-        (λ h. S.stands shares.new (sections_begun shape.now member result h)) }
-    ensures kept { (refusal : Refusal) → result ≡ Refused refusal → shares.new ≡ shares.old }
-    ensures waits { result ≡ Wait → shares.new ≡ shares.old }
+    ensures serves { Serves S.stands shares.old shares.new result
+        (AnswersBegin shape.now DealsSections (S.members shares.old) member)
+        (sections_begun shape.now member) }
 {
     match shares.try_open(member, shape) {
         Opening::Differs => Reply::Refused(Refusal::Mismatch),
@@ -73,22 +65,32 @@ pub fn begin_sections<S: Shares>(shares: &mut S, member: u16, shape: &Shape) -> 
     }
 }
 
-/// Answers the next section of the member's construct, numbered from 1, or 0 where none is left: then
+/// Answers the next section of the member's construct, numbered from 1, or 0 if none is left: then
 /// it may end the construct, and not ask again.
 ///
 /// Refused with `OutsideShare` or `Drained`.
 pub fn sections_next<S: Shares>(shares: &mut S, member: u16) -> Reply
     requires member { member < S.members shares.old }
     ensures members { S.members shares.new ≡ S.members shares.old }
-    ensures known { (h : List Event) × S.stands shares.old h }
-    ensures answer { EachStands (S.stands shares.old) (AnswersSectionsNext (S.members shares.old) member result) }
-    ensures stands { EachStands (S.stands shares.old) (λ h. S.stands shares.new (section_next_taken member result h)) }
-    ensures kept { (refusal : Refusal) → result ≡ Refused refusal → shares.new ≡ shares.old }
+    ensures serves { Serves S.stands shares.old shares.new result
+        (AnswersSectionsNext (S.members shares.old) member) (section_next_taken member) }
 {
-    let seen = shares.look(member);
-    if let Some(refusal) = next_refusal(&seen, Construct::Sections) {
-        return Reply::Refused(refusal);
+    match next_refusal(&shares.look(member), Construct::Sections) {
+        Some(refusal) => Reply::Refused(refusal),
+        None => take_section(shares, member),
     }
+}
+
+/// Answers the next section of the member's construct, which its own tests let it ask for
+/// (`gomp_shares::own::next_refusal`).
+pub fn take_section<S: Shares>(shares: &mut S, member: u16) -> Reply
+    requires member { member < S.members shares.old }
+    requires known { (h : List Event) × S.stands shares.old h }
+    requires place { least (section_next_tests (S.seen shares.old member)) ≡ None }
+    ensures members { S.members shares.new ≡ S.members shares.old }
+    ensures serves { Serves S.stands shares.old shares.new result
+        (TakesSection (S.members shares.old) member) (section_next_taken member) }
+{
     Reply::Section(section_number(shares.claim(member)))
 }
 
@@ -100,17 +102,10 @@ pub fn sections_next<S: Shares>(shares: &mut S, member: u16) -> Reply
 pub fn sections_end<S: Shares>(shares: &mut S, member: u16) -> Result<(), Refusal>
     requires member { member < S.members shares.old }
     ensures members { S.members shares.new ≡ S.members shares.old }
-    ensures known { (h : List Event) × S.stands shares.old h }
-    ensures answer { EachStands (S.stands shares.old) (λ h. result ≡ outcome (least (sections_end_tests WaitEnd (seen_of member h))) tt) }
-    ensures stands { EachStands (S.stands shares.old) (λ h. S.stands shares.new (left_unless_refused result member h)) }
-    ensures kept { (refusal : Refusal) → result ≡ Err refusal → shares.new ≡ shares.old }
+    ensures leaves { Leaves S.stands shares.old shares.new result
+        (sections_end_tests WaitEnd) member }
 {
-    let seen = shares.look(member);
-    if let Some(refusal) = end_refusal(&seen, Construct::Sections, EndKind::Wait) {
-        return Err(refusal);
-    }
-    shares.leave(member);
-    Ok(())
+    end_construct(shares, member, Construct::Sections, EndKind::Wait)
 }
 
 /// Leaves the member's sections, which have no barrier at their end.
@@ -119,20 +114,16 @@ pub fn sections_end<S: Shares>(shares: &mut S, member: u16) -> Result<(), Refusa
 pub fn sections_end_nowait<S: Shares>(shares: &mut S, member: u16) -> Reply
     requires member { member < S.members shares.old }
     ensures members { S.members shares.new ≡ S.members shares.old }
-    ensures known { (h : List Event) × S.stands shares.old h }
-    ensures answer { EachStands (S.stands shares.old) (AnswersSectionsEnd Nowait member result) }
-    ensures stands { EachStands (S.stands shares.old) (λ h. S.stands shares.new (left_at_once member result h)) }
-    ensures kept { (refusal : Refusal) → result ≡ Refused refusal → shares.new ≡ shares.old }
+    ensures serves { Serves S.stands shares.old shares.new result
+        (AnswersSectionsEnd Nowait member) (left_at_once member) }
 {
-    let seen = shares.look(member);
-    if let Some(refusal) = end_refusal(&seen, Construct::Sections, EndKind::Nowait) {
-        return Reply::Refused(refusal);
+    match end_construct(shares, member, Construct::Sections, EndKind::Nowait) {
+        Ok(()) => Reply::Finished,
+        Err(refusal) => Reply::Refused(refusal),
     }
-    shares.leave(member);
-    Reply::Finished
 }
 
-/// The number of the section that a member was given, 0 where it was given none.
+/// The number of the section that a member was given, 0 if it was given none.
 fn section_number(piece: Option<(u64, u64)>) -> u64
     requires some { ForSome piece (λ p. p.0 < p.1) }
     ensures answer { result ≡ section_of piece }

@@ -3,18 +3,15 @@
 //!
 //! OpenMP API 5.2, sections 11.1 and 5.7.2 (the `copyprivate` clause).
 
-ghost use Rattle.std.specs.Prelude.{◌≡◌, ◌<◌, ◌↔◌, List, [], Some, Err, true, option_copied};
-ghost use Rattle.gomp_types.specs.declared.event.Event.{Event};
-ghost use Rattle.gomp_types.specs.declared.reply.Reply.TheVariants.{Wait, Refused};
+ghost use Rattle.std.specs.Prelude.{◌≡◌, ◌<◌, ◌↔◌, [], Some, true, false, option_copied};
+ghost use Rattle.gomp_types.specs.declared.reply.Reply.TheVariants.{Refused};
 ghost use Rattle.gomp_types.specs.declared.refusal.Refusal.{Refusal};
-ghost use Rattle.gomp_types.specs.Tests.{outcome};
 ghost use Rattle.gomp_types.specs.Least.{least};
 ghost use Rattle.gomp_types.specs.Singles.{single_shape};
-ghost use Rattle.gomp_types.specs.Events.{entered, payload_at};
-ghost use Rattle.gomp_types.specs.Seen.{seen_of};
-ghost use Rattle.gomp_shares.specs.Calls.{EachStands, left_unless_refused};
-ghost use Rattle.gomp_shares.specs.Starts.{share_tests};
-ghost use Rattle.gomp_shares.specs.Singles.{AnswersSingle, single_started, AnswersCopy, copy_started, put_tests};
+ghost use Rattle.gomp_shares.specs.Calls.{CanOpen, EachStands};
+ghost use Rattle.gomp_shares.specs.Serves.{Leaves, Serves};
+ghost use Rattle.gomp_shares.specs.Starts.{AnswersBegin, compared_share, share_tests};
+ghost use Rattle.gomp_shares.specs.Singles.{AnswersSingle, ByWords, DealsCopy, DealsSingle, single_started, AnswersCopy, copy_started, put_tests};
 
 use crate::own::copy_end_refusal;
 use gomp_shares::own::outside_refusal;
@@ -24,22 +21,33 @@ use gomp_types::{Limits, Payload, Refusal, Reply, single_shape};
 /// The member goes through a `single`: it enters its next share, executes it where nobody else does,
 /// and has left it. The body has no end call, and a barrier at its end is a call of its own.
 ///
-/// `Wait` where some member has not left the share eight before, and nothing is entered. Refused with
-/// `InsideShare`, `TooManyShares`, or with `Mismatch` where the team's share of this number is
+/// `Wait` if some member has not left the share eight before, and nothing is entered. Refused with
+/// `InsideShare`, `TooManyShares`, or with `Mismatch` if the team's share of this number is
 /// another construct.
 pub fn single_start<S: Shares>(shares: &mut S, member: u16, limits: &Limits) -> Reply
     requires member { member < S.members shares.old }
     ensures members { S.members shares.new ≡ S.members shares.old }
-    ensures known { (h : List Event) × S.stands shares.old h }
-    ensures answer { EachStands (S.stands shares.old) (AnswersSingle limits.now (S.members shares.old) member result) }
-    ensures stands { EachStands (S.stands shares.old) (λ h. S.stands shares.new (single_started member result h)) }
-    ensures kept { (refusal : Refusal) → result ≡ Refused refusal → shares.new ≡ shares.old }
-    ensures waits { result ≡ Wait → shares.new ≡ shares.old }
+    ensures serves { Serves S.stands shares.old shares.new result
+        (AnswersSingle limits.now (S.members shares.old) member) (single_started member) }
 {
-    let seen = shares.look(member);
-    if let Some(refusal) = outside_refusal(&seen, limits) {
-        return Reply::Refused(refusal);
+    match outside_refusal(&shares.look(member), limits) {
+        Some(refusal) => Reply::Refused(refusal),
+        None => begin_single(shares, member),
     }
+}
+
+/// The member goes through a `single`, which its own tests let it start
+/// (`gomp_shares::own::outside_refusal`).
+///
+/// `Wait` and `Mismatch` as [`single_start`] has them.
+pub fn begin_single<S: Shares>(shares: &mut S, member: u16) -> Reply
+    requires place { CanOpen (S.members shares.old) member
+        (single_shape false) (S.seen shares.old member) }
+    ensures members { S.members shares.new ≡ S.members shares.old }
+    ensures serves { Serves S.stands shares.old shares.new result
+        (AnswersBegin (single_shape false) DealsSingle (S.members shares.old) member)
+        (single_started member) }
+{
     match shares.try_open(member, &single_shape(false)) {
         Opening::Differs => Reply::Refused(Refusal::Mismatch),
         Opening::NotYet => Reply::Wait,
@@ -56,9 +64,9 @@ pub fn single_start<S: Shares>(shares: &mut S, member: u16, limits: &Limits) -> 
 /// then left it.
 ///
 /// `put` is what the executor of the member's next share put, None while nobody has; whether the call
-/// is refused does not depend on it. `Wait` where some member has not left the share eight before, or
+/// is refused does not depend on it. `Wait` if some member has not left the share eight before, or
 /// another member executes and has put no words; nothing is entered then. Refused with `InsideShare`,
-/// `TooManyShares`, or with `Mismatch` where the team's share of this number is another construct.
+/// `TooManyShares`, or with `Mismatch` if the team's share of this number is another construct.
 pub fn single_copy_start<S: Shares>(
     shares: &mut S,
     member: u16,
@@ -67,17 +75,34 @@ pub fn single_copy_start<S: Shares>(
 ) -> Reply
     requires member { member < S.members shares.old }
     ensures members { S.members shares.new ≡ S.members shares.old }
-    ensures known { (h : List Event) × S.stands shares.old h }
-    ensures refused { (refusal : Refusal) → EachStands (S.stands shares.old) (λ h. result ≡ Refused refusal ↔ least (share_tests [] (single_shape true) limits.now member h) ≡ Some refusal) }
-    ensures answer { EachStands (S.stands shares.old) (λ h. payload_at (entered member h) h ≡ option_copied put.entry → AnswersCopy limits.now (S.members shares.old) member result h) }
-    ensures stands { EachStands (S.stands shares.old) (λ h. S.stands shares.new (copy_started member result h)) }
-    ensures kept { (refusal : Refusal) → result ≡ Refused refusal → shares.new ≡ shares.old }
-    ensures waits { result ≡ Wait → shares.new ≡ shares.old }
+    ensures refused { (refusal : Refusal) → EachStands (S.stands shares.old) (λ h.
+        result ≡ Refused refusal ↔
+        least (share_tests [] (single_shape true) limits.now member h) ≡ Some refusal) }
+    ensures serves { Serves S.stands shares.old shares.new result (ByWords (option_copied put.entry)
+        member (AnswersCopy limits.now (S.members shares.old) member))
+        (copy_started member) }
 {
-    let seen = shares.look(member);
-    if let Some(refusal) = outside_refusal(&seen, limits) {
-        return Reply::Refused(refusal);
+    match outside_refusal(&shares.look(member), limits) {
+        Some(refusal) => Reply::Refused(refusal),
+        None => begin_copy(shares, member, put),
     }
+}
+
+/// The member comes to a `single` with words for the others, which its own tests let it start
+/// (`gomp_shares::own::outside_refusal`).
+///
+/// `put`, `Wait` and `Mismatch` as [`single_copy_start`] has them.
+pub fn begin_copy<S: Shares>(shares: &mut S, member: u16, put: Option<&Payload>) -> Reply
+    requires place { CanOpen (S.members shares.old) member
+        (single_shape true) (S.seen shares.old member) }
+    ensures members { S.members shares.new ≡ S.members shares.old }
+    ensures refused { (refusal : Refusal) → EachStands (S.stands shares.old) (λ h.
+        result ≡ Refused refusal ↔
+        least (compared_share (single_shape true) member h) ≡ Some refusal) }
+    ensures serves { Serves S.stands shares.old shares.new result (ByWords (option_copied put.entry)
+        member (AnswersBegin (single_shape true) DealsCopy (S.members shares.old) member))
+        (copy_started member) }
+{
     let shape = single_shape(true);
     if shares.next_differs(member, &shape) {
         return Reply::Refused(Refusal::Mismatch);
@@ -106,14 +131,11 @@ pub fn single_copy_start<S: Shares>(
 /// The executor of a `single` leaves it: this crate's part of putting its words, which the layer above
 /// then keeps.
 ///
-/// Refused with `NotInside` where the member does not execute a `single` with words.
+/// Refused with `NotInside` if the member does not execute a `single` with words.
 pub fn single_copy_end<S: Shares>(shares: &mut S, member: u16) -> Result<(), Refusal>
     requires member { member < S.members shares.old }
     ensures members { S.members shares.new ≡ S.members shares.old }
-    ensures known { (h : List Event) × S.stands shares.old h }
-    ensures answer { EachStands (S.stands shares.old) (λ h. result ≡ outcome (least (put_tests (seen_of member h))) tt) }
-    ensures stands { EachStands (S.stands shares.old) (λ h. S.stands shares.new (left_unless_refused result member h)) }
-    ensures kept { (refusal : Refusal) → result ≡ Err refusal → shares.new ≡ shares.old }
+    ensures leaves { Leaves S.stands shares.old shares.new result put_tests member }
 {
     let seen = shares.look(member);
     if let Some(refusal) = copy_end_refusal(&seen) {

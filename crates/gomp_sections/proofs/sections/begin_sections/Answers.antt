@@ -12,15 +12,18 @@ claim-requires g c =
     let e = g.met.S.Shares.agrees c.try_open.new.self _ c.args.member now lt in
     record { place = may_claim _ c.args.member (entered c.args.member h) c.args.shape.now _ h e lt }
 
-pub returns-in-Entered-clause-answer : goal.returns-in-Entered-clause-answer
-returns-in-Entered-clause-answer g c = λ h st.
-    let may = c.in-Entered.ensures.answer h st in
-    let now = c.in-Entered.ensures.stands h st in
-    let claims = rw c.try_open.ensures.members at (c.claim.ensures.answer _ now) in
-    rw c.section_number.ensures.answer (sections_dealt (g.S.Shares.members c.args.shares.now) c.args.member c.args.shape.now c.claim.result h c.requires.sections may claims)
-
-pub returns-in-Entered-clause-stands : goal.returns-in-Entered-clause-stands
-returns-in-Entered-clause-stands g c = λ h st.
-    let now = c.in-Entered.ensures.stands h st in
-    let adds = sections_add _ c.args.member c.args.shape.now c.claim.result h c.requires.sections (c.claim.ensures.answer _ now) in
-    rw (c.section_number.ensures.answer, adds) (c.claim.ensures.stands _ now)
+pub returns-in-Entered-clause-serves : goal.returns-in-Entered-clause-serves
+returns-in-Entered-clause-serves g c = record {
+  known = c.in-Entered.ensures.known;
+  answer = λ h st.
+      let may = c.in-Entered.ensures.answer h st in
+      let now = c.in-Entered.ensures.stands h st in
+      let claims = rw c.try_open.ensures.members at (c.claim.ensures.answer _ now) in
+      rw c.section_number.ensures.answer (sections_dealt (g.S.Shares.members c.args.shares.now) c.args.member c.args.shape.now c.claim.result h c.requires.sections may claims);
+  stands_for = λ h st.
+      let now = c.in-Entered.ensures.stands h st in
+      let adds = sections_add _ c.args.member c.args.shape.now c.claim.result h c.requires.sections (c.claim.ensures.answer _ now) in
+      rw (c.section_number.ensures.answer, adds) (c.claim.ensures.stands _ now);
+  kept = λ refusal is. absurd (cc);
+  waits = λ is. absurd (cc);
+}

@@ -1,33 +1,28 @@
-use Rattle.std.proofs.Common.{refl, ◌∙◌, sym}
-use Rattle.gomp_shares.specs.Sections.{section_next_tests}
-use Rattle.gomp_shares.proofs.Laws.{ordered_part_is_in_a_loop}
-use Rattle.gomp_sections.proofs.Tests.{least_seen}
-use Rattle.gomp_sections.proofs.SectionSteps.{next_is_section, section_next_dealt, next_may_claim, section_next_adds}
+use Rattle.std.proofs.Common.{◌∙◌, sym, refl}
+use Rattle.gomp_types.specs.Events.{open_share}
+use Rattle.gomp_shares.specs.Sections.{AnswersSectionsNext, TakesSection, section_next_taken, section_next_tests}
+use Rattle.gomp_shares.proofs.Admitted.{least_seen, no_test_holds}
+use Rattle.gomp_shares.proofs.Served.{serves_above, serves_refused}
+use Rattle.gomp_sections.proofs.SectionSteps.{section_admitted, section_refusal_given}
 use Rattle.gomp_sections.proofs.sections.sections_next.Goals as goal
 
-pub claim-requires : goal.claim-requires
-claim-requires g c =
-    let (h, st) = c.look-seen.ensures.known in
-    let seen = g.met.S.Shares.agrees c.args.shares.now h c.args.member st c.requires.member in
-    let law = ordered_part_is_in_a_loop (g.S.Shares.members c.args.shares.now) c.args.member h (g.met.S.Shares.ruled c.args.shares.now h st) in
-    let none = least_seen section_next_tests c.args.member c.look-seen.result h _ refl (c.look-seen.ensures.value ∙ seen) (sym c.in_default.is ∙ c.next_refusal.ensures.first) in
-    record { place = next_may_claim _ c.args.member _ h c.requires.member seen law none }
+pub take_section-requires-clause-place : goal.take_section-requires-clause-place
+take_section-requires-clause-place g c = rw (← c.look.ensures.value) (no_test_holds (section_next_tests c.look.result) refl (sym c.in-None.is ∙ c.next_refusal.ensures.first))
 
-pub returns-in-Some-clause-answer : goal.returns-in-Some-clause-answer
-returns-in-Some-clause-answer g c = λ h st.
-    let e = c.look-seen.ensures.value ∙ g.met.S.Shares.agrees c.args.shares.now h c.args.member st c.requires.member in
-    least_seen section_next_tests c.args.member c.look-seen.result h _ refl e (sym c.in-Some.is ∙ c.next_refusal.ensures.first)
+pub returns-in-Some-clause-serves : goal.returns-in-Some-clause-serves
+returns-in-Some-clause-serves g c =
+    serves_refused g.S.Shares.stands c.args.shares.now c.in-Some.refusal (AnswersSectionsNext (g.S.Shares.members c.args.shares.now) c.args.member) (section_next_taken c.args.member) c.look.ensures.known
+    (λ h st.
+    let e = c.look.ensures.value ∙ g.met.S.Shares.agrees c.args.shares.now h c.args.member st c.requires.member in
+    least_seen section_next_tests c.args.member c.look.result h _ refl e (sym c.in-Some.is ∙ c.next_refusal.ensures.first))
+    (λ h. rw (section_refusal_given c.args.member c.in-Some.refusal (open_share c.args.member h)) refl)
 
-pub returns-clause-answer : goal.returns-clause-answer
-returns-clause-answer g c = λ h st.
-    let e = c.look-seen.ensures.value ∙ g.met.S.Shares.agrees c.args.shares.now h c.args.member st c.requires.member in
-    let none = least_seen section_next_tests c.args.member c.look-seen.result h _ refl e (sym c.in_default.is ∙ c.next_refusal.ensures.first) in
-    (none, rw c.section_number.ensures.answer (section_next_dealt (g.S.Shares.members c.args.shares.now) c.args.member c.claim.result h (c.claim.ensures.answer h st) none))
-
-pub returns-clause-stands : goal.returns-clause-stands
-returns-clause-stands g c = λ h st.
-    let e = c.look-seen.ensures.value ∙ g.met.S.Shares.agrees c.args.shares.now h c.args.member st c.requires.member in
-    let none = least_seen section_next_tests c.args.member c.look-seen.result h _ refl e (sym c.in_default.is ∙ c.next_refusal.ensures.first) in
-    let claims = c.claim.ensures.answer h st in
-    let adds = section_next_adds _ c.args.member c.claim.result h claims (next_is_section _ c.args.member c.claim.result h claims none) in
-    rw (c.section_number.ensures.answer, adds) (c.claim.ensures.stands h st)
+pub returns-in-None-clause-serves : goal.returns-in-None-clause-serves
+returns-in-None-clause-serves g c =
+    serves_above g.S.Shares.stands c.args.shares.now c.take_section.new.shares c.take_section.result (TakesSection (g.S.Shares.members c.args.shares.now) c.args.member) (AnswersSectionsNext (g.S.Shares.members c.args.shares.now) c.args.member)
+    (section_next_taken c.args.member) (section_next_taken c.args.member)
+    (λ h st taken.
+    let e = c.look.ensures.value ∙ g.met.S.Shares.agrees c.args.shares.now h c.args.member st c.requires.member in
+    section_admitted (g.S.Shares.members c.args.shares.now) c.args.member c.take_section.result h (least_seen section_next_tests c.args.member c.look.result h _ refl e (sym c.in-None.is ∙ c.next_refusal.ensures.first)) taken)
+    (λ h st. refl)
+    c.take_section.ensures.serves

@@ -2,10 +2,11 @@ use Rattle.std.proofs.Common.{◌≡◌, refl, ◌∙◌, sym}
 use Rattle.gomp_types.specs.Sections.{sections_shape, sections_tests}
 use Rattle.gomp_types.specs.Tests.{first_refusal}
 use Rattle.gomp_types.proofs.TestRows.{outcome_value, outcome_refused}
-use Rattle.gomp_shares.specs.Starts.{start_tests}
-use Rattle.gomp_shares.specs.Sections.{DealsSections}
-use Rattle.gomp_shares.proofs.Admitted.{outcome_none, start_admitted}
-use Rattle.gomp_sections.proofs.Tests.{least_seen, own_refuses}
+use Rattle.gomp_shares.specs.Starts.{AnswersBegin, start_tests}
+use Rattle.gomp_shares.specs.Sections.{AnswersSectionsStart, DealsSections, sections_begun, sections_started}
+use Rattle.gomp_shares.proofs.Admitted.{least_seen, outcome_none, start_admitted}
+use Rattle.gomp_shares.proofs.Served.{serves_above, serves_refused}
+use Rattle.gomp_sections.proofs.Tests.{own_refuses}
 use Rattle.gomp_sections.proofs.sections.sections_start.Goals as goal
 
 pub begin_sections-requires-clause-sections : goal.begin_sections-requires-clause-sections
@@ -17,25 +18,26 @@ begin_sections-requires-clause-sections g c =
 pub begin_sections-requires-clause-place : goal.begin_sections-requires-clause-place
 begin_sections-requires-clause-place g c = rw (← c.look.ensures.value) (c.in-Ok.ensures.place (g.S.Shares.members c.args.shares.now) c.args.member c.requires.member)
 
-pub returns-in-Ok-clause-answer : goal.returns-in-Ok-clause-answer
-returns-in-Ok-clause-answer g c = λ h st.
-    let e = c.look.ensures.value ∙ g.met.S.Shares.agrees c.args.shares.now h c.args.member st c.requires.member in
+pub returns-in-Ok-clause-serves : goal.returns-in-Ok-clause-serves
+returns-in-Ok-clause-serves g c =
     let found = sym c.admit_start.ensures.first ∙ c.in-Ok.is in
     let tests = start_tests (sections_tests c.args.count) c.args.limits.now c.look.result in
     let is : c.in-Ok.shape ≡ sections_shape c.args.count c.args.end_kind = outcome_value (first_refusal tests) _ _ found in
+    serves_above g.S.Shares.stands c.args.shares.now c.begin_sections.new.shares c.begin_sections.result (AnswersBegin (sections_shape c.args.count c.args.end_kind) DealsSections (g.S.Shares.members c.args.shares.now) c.args.member)
+    (AnswersSectionsStart c.args.count c.args.end_kind c.args.limits.now (g.S.Shares.members c.args.shares.now) c.args.member) (sections_begun (sections_shape c.args.count c.args.end_kind) c.args.member) (sections_started c.args.count c.args.end_kind c.args.member)
+    (λ h st begun.
+    let e = c.look.ensures.value ∙ g.met.S.Shares.agrees c.args.shares.now h c.args.member st c.requires.member in
     let none = least_seen (start_tests (sections_tests c.args.count) c.args.limits.now) c.args.member c.look.result h _ refl e (outcome_none (first_refusal tests) _ _ found) in
-    start_admitted (sections_tests c.args.count) (sections_shape c.args.count c.args.end_kind) DealsSections c.args.limits.now (g.S.Shares.members c.args.shares.now) c.args.member c.begin_sections.result h none
-    (rw is at (c.begin_sections.ensures.answer h st))
+    start_admitted (sections_tests c.args.count) (sections_shape c.args.count c.args.end_kind) DealsSections c.args.limits.now (g.S.Shares.members c.args.shares.now) c.args.member c.begin_sections.result h none begun)
+    (λ h st. refl)
+    (rw is at c.begin_sections.ensures.serves)
 
-pub returns-in-Ok-clause-stands : goal.returns-in-Ok-clause-stands
-returns-in-Ok-clause-stands g c = λ h st.
-    let tests = start_tests (sections_tests c.args.count) c.args.limits.now c.look.result in
-    let is : c.in-Ok.shape ≡ sections_shape c.args.count c.args.end_kind = outcome_value (first_refusal tests) _ _ (sym c.admit_start.ensures.first ∙ c.in-Ok.is) in
-    rw is at (c.begin_sections.ensures.stands h st)
-
-pub returns-in-Err-clause-answer : goal.returns-in-Err-clause-answer
-returns-in-Err-clause-answer g c = λ h st.
+pub returns-in-Err-clause-serves : goal.returns-in-Err-clause-serves
+returns-in-Err-clause-serves g c =
+    serves_refused g.S.Shares.stands c.args.shares.now c.in-Err.refusal (AnswersSectionsStart c.args.count c.args.end_kind c.args.limits.now (g.S.Shares.members c.args.shares.now) c.args.member) (sections_started c.args.count c.args.end_kind c.args.member) c.look.ensures.known
+    (λ h st.
     let e = c.look.ensures.value ∙ g.met.S.Shares.agrees c.args.shares.now h c.args.member st c.requires.member in
     let tests = start_tests (sections_tests c.args.count) c.args.limits.now c.look.result in
     own_refuses (sections_tests c.args.count) (sections_shape c.args.count c.args.end_kind) c.args.limits.now c.args.member c.look.result h c.in-Err.refusal refl e
-    (sym (outcome_refused (first_refusal tests) _ c.in-Err.refusal (sym c.admit_start.ensures.first ∙ c.in-Err.is)))
+    (sym (outcome_refused (first_refusal tests) _ c.in-Err.refusal (sym c.admit_start.ensures.first ∙ c.in-Err.is))))
+    (λ h. refl)

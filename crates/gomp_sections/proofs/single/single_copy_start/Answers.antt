@@ -1,99 +1,49 @@
-use Rattle.std.proofs.Common.{◌≡◌, ◌<◌, [], true, false, List, None, refl, ◌∙◌, sym}
-use Rattle.std.specs.Prelude.{is_some}
-use Rattle.gomp_types.specs.Events.{entered}
+use Rattle.std.proofs.Common.{◌≡◌, ◌<◌, ◌∙◌, sym, refl, [], true, Some, Option, subst, arith}
+use Rattle.std.specs.Prelude.{◌^◌, ◌↔◌, option_copied}
 use Rattle.gomp_types.specs.Singles.{single_shape}
-use Rattle.gomp_types.specs.declared.event.Event.{Event}
-use Rattle.gomp_types.specs.declared.event.Event.TheVariants.{Got}
-use Rattle.gomp_types.specs.Least.{least}
-use Rattle.gomp_shares.specs.Starts.{share_tests}
-use Rattle.gomp_shares.proofs.Entered.{may_claim}
-use Rattle.gomp_sections.proofs.Tests.{own_refuses, share_decides, refused_by_least, none_and_some}
-use Rattle.gomp_sections.proofs.SingleSteps.{may_leave, single_least, given_no_piece, not_given, copy_dealt, executor_adds, copy_adds}
-use Rattle.gomp_sections.proofs.single.single_copy_start.Given.{Over}
+use Rattle.gomp_types.proofs.LeastTests.{all_fail}
+use Rattle.gomp_types.specs.declared.refusal.Refusal.{Refusal}
+use Rattle.gomp_types.specs.declared.reply.Reply.TheVariants.{Refused}
+use Rattle.gomp_types.specs.Seen.{seen_of}
+use Rattle.gomp_shares.specs.Starts.{AnswersBegin, compared_share, start_tests}
+use Rattle.gomp_shares.specs.Singles.{AnswersCopy, ByWords, DealsCopy, copy_started}
+use Rattle.gomp_shares.proofs.Admitted.{behind_front, least_seen, no_test_holds, single_may_open, start_admitted}
+use Rattle.gomp_shares.proofs.Served.{serves_above, serves_refused}
+use Rattle.gomp_sections.proofs.Tests.{own_refuses, refused_by_least}
 use Rattle.gomp_sections.proofs.single.single_copy_start.Goals as goal
-use Rattle.gomp_sections.proofs.single.single_copy_start.Goals.{In-Entered, else-is_none-via-then-is_none+else-next_is_taken, else-is_none-via-else-is_none}
 
--- nothing changes before the share is opened
-unchanged : (g : Over) (c : In-Entered g) → c.else-is_none.shares ≡ c.args.shares.now
-unchanged g c =
-    elim c.else-is_none.branch [
-      | else-is_none-via-then-is_none+else-next_is_taken w ↦ w.shares-is ∙ w.next_is_taken.ensures.kept ∙ c.next_differs.ensures.kept
-      | else-is_none-via-else-is_none w ↦ w.shares-is ∙ c.next_differs.ensures.kept
-    ]
-
--- so it is opened after the same events
-opens : (g : Over) (c : In-Entered g) (h : List Event) → g.S.Shares.stands c.args.shares.now h → g.S.Shares.stands c.else-is_none.shares h
-opens g c h st = rw (unchanged g c) st
-
--- and no test refuses
-passes : (g : Over) (c : In-Entered g) (h : List Event) → g.S.Shares.stands c.args.shares.now h → least (share_tests [] (single_shape true) c.args.limits.now c.args.member h) ≡ None
-passes g c h st =
-    let e = c.look-seen.ensures.value ∙ g.met.S.Shares.agrees c.args.shares.now h c.args.member st c.requires.member in
-    let may = rw c.single_shape-shape.ensures.shape at (c.in-Entered.ensures.answer h (opens g c h st)) in
-    share_decides [] (single_shape true) c.args.limits.now c.args.member c.look-seen.result h false refl e (sym c.in_default.is ∙ c.outside_refusal.ensures.first) may.0
+pub begin_copy-requires : goal.begin_copy-requires
+begin_copy-requires g c =
+    let out = all_fail (start_tests [] c.args.limits.now c.look.result) (no_test_holds (start_tests [] c.args.limits.now c.look.result) refl (sym c.in-None.is ∙ c.outside_refusal.ensures.first)) in
+    let few : c.look.result.entered < 2 ^ 32 = rw c.in-None.is at c.outside_refusal.ensures.few in
+    record { place = rw (← c.look.ensures.value) (single_may_open true _ c.args.member c.look.result c.requires.member out.0 (omega arith)) }
 
 pub returns-in-Some-clause-refused : goal.returns-in-Some-clause-refused
 returns-in-Some-clause-refused g c = λ refusal h st.
-    let e = c.look-seen.ensures.value ∙ g.met.S.Shares.agrees c.args.shares.now h c.args.member st c.requires.member in
-    refused_by_least c.in-Some.refusal refusal _ (own_refuses [] (single_shape true) c.args.limits.now c.args.member c.look-seen.result h c.in-Some.refusal refl e (sym c.in-Some.is ∙ c.outside_refusal.ensures.first))
+    let e = c.look.ensures.value ∙ g.met.S.Shares.agrees c.args.shares.now h c.args.member st c.requires.member in
+    refused_by_least c.in-Some.refusal refusal _ (own_refuses [] (single_shape true) c.args.limits.now c.args.member c.look.result h c.in-Some.refusal refl e (sym c.in-Some.is ∙ c.outside_refusal.ensures.first))
 
-pub claim-requires : goal.claim-requires
-claim-requires g c =
-    let (h, st) = c.in-Entered.ensures.known in
-    let now = c.in-Entered.ensures.stands h st in
-    let same = unchanged g (goal.at.claim-requires g c).In-Entered in
-    let lt : c.args.member < g.S.Shares.members c.try_open.new.self = rw (c.try_open.ensures.members, same) c.requires.member in
-    let e = g.met.S.Shares.agrees c.try_open.new.self _ c.args.member now lt in
-    record { place = may_claim _ c.args.member (entered c.args.member h) c.single_shape-shape.result _ h e lt }
+pub returns-in-None-clause-refused : goal.returns-in-None-clause-refused
+returns-in-None-clause-refused g c = λ refusal h st.
+    let e = c.look.ensures.value ∙ g.met.S.Shares.agrees c.args.shares.now h c.args.member st c.requires.member in
+    let none = least_seen (start_tests [] c.args.limits.now) c.args.member c.look.result h _ refl e (sym c.in-None.is ∙ c.outside_refusal.ensures.first) in
+    subst (λ (found : Option Refusal). c.begin_copy.result ≡ Refused refusal ↔ found ≡ Some refusal)
+    (sym (behind_front (start_tests [] c.args.limits.now (seen_of c.args.member h)) (compared_share (single_shape true) c.args.member h) none)) (c.begin_copy.ensures.refused refusal h st)
 
-pub returns-then-is_some-clause-answer : goal.returns-then-is_some-clause-answer
-returns-then-is_some-clause-answer g c = λ h st put.
-    let at = (goal.at.returns-then-is_some-clause-answer g c).In-Entered in
-    let may = rw (c.single_shape-shape.ensures.shape, unchanged g at) at (c.in-Entered.ensures.answer h (opens g at h st)) in
-    let claims = rw (c.single_shape-shape.ensures.shape, c.try_open.ensures.members, unchanged g at) at (c.claim.ensures.answer _ (c.in-Entered.ensures.stands h (opens g at h st))) in
-    (passes g at h st, (may.1, copy_dealt (g.S.Shares.members c.args.shares.now) c.args.member (entered c.args.member h) c.claim.result h (sym c.if-is_some.true ∙ c.is_some.ensures) claims))
+pub returns-in-Some-clause-serves : goal.returns-in-Some-clause-serves
+returns-in-Some-clause-serves g c =
+    serves_refused g.S.Shares.stands c.args.shares.now c.in-Some.refusal (ByWords (option_copied c.args.put) c.args.member (AnswersCopy c.args.limits.now (g.S.Shares.members c.args.shares.now) c.args.member)) (copy_started c.args.member) c.look.ensures.known
+    (λ h st put.
+    let e = c.look.ensures.value ∙ g.met.S.Shares.agrees c.args.shares.now h c.args.member st c.requires.member in
+    own_refuses [] (single_shape true) c.args.limits.now c.args.member c.look.result h c.in-Some.refusal refl e (sym c.in-Some.is ∙ c.outside_refusal.ensures.first))
+    (λ h. refl)
 
-pub returns-then-is_some-clause-stands : goal.returns-then-is_some-clause-stands
-returns-then-is_some-clause-stands g c = λ h st.
-    let at = (goal.at.returns-then-is_some-clause-stands g c).In-Entered in
-    let now = c.in-Entered.ensures.stands h (opens g at h st) in
-    let claims = rw c.single_shape-shape.ensures.shape at (c.claim.ensures.answer _ now) in
-    let adds = executor_adds _ c.args.member c.claim.result h (sym c.if-is_some.true ∙ c.is_some.ensures) claims in
-    rw adds (rw c.single_shape-shape.ensures.shape at (c.claim.ensures.stands _ now))
-
-pub leave-requires : goal.leave-requires
-leave-requires g c =
-    let (h, st) = c.in-Entered.ensures.known in
-    let same = unchanged g (goal.at.leave-requires g c).In-Entered in
-    let now = rw c.single_shape-shape.ensures.shape at (c.claim.ensures.stands _ (c.in-Entered.ensures.stands h st)) in
-    let lt : c.args.member < g.S.Shares.members c.claim.new.self = rw (c.claim.ensures.members, c.try_open.ensures.members, same) c.requires.member in
-    let e = g.met.S.Shares.agrees c.claim.new.self _ c.args.member now lt in
-    record { place = may_leave _ c.args.member (entered c.args.member h) true c.claim.result _ h e lt }
-
-pub returns-in-Some-put-clause-answer : goal.returns-in-Some-put-clause-answer
-returns-in-Some-put-clause-answer g c = λ h st put.
-    let at = (goal.at.returns-in-Some-put-clause-answer g c).In-Entered in
-    let may = rw (c.single_shape-shape.ensures.shape, unchanged g at) at (c.in-Entered.ensures.answer h (opens g at h st)) in
-    let claims = rw (c.single_shape-shape.ensures.shape, c.try_open.ensures.members, unchanged g at) at (c.claim.ensures.answer _ (c.in-Entered.ensures.stands h (opens g at h st))) in
-    let gone = single_least (g.S.Shares.members c.args.shares.now) c.args.member (entered c.args.member h) true c.claim.result h claims ∙ given_no_piece c.claim.result (sym c.if-is_some.false ∙ c.is_some.ensures) in
-    (passes g at h st, (may.1, (gone, rw c.copied.ensures (rw c.in-Some-put.is at put))))
-
-pub returns-in-Some-put-clause-stands : goal.returns-in-Some-put-clause-stands
-returns-in-Some-put-clause-stands g c = λ h st.
-    let at = (goal.at.returns-in-Some-put-clause-stands g c).In-Entered in
-    let now = rw c.single_shape-shape.ensures.shape at (c.claim.ensures.stands _ (c.in-Entered.ensures.stands h (opens g at h st))) in
-    let adds = copy_adds c.args.member c.copied.result c.claim.result h (sym c.if-is_some.false ∙ c.is_some.ensures) in
-    rw adds (c.leave.ensures.stands _ (g.met.S.Shares.aside c.claim.new.self _ (Got (entered c.args.member h) c.args.member c.copied.result) tt now))
-
--- no words were put, so nobody took the piece before, and this member was given it
-pub unreachable-requires-in-None : goal.unreachable-requires-in-None
-unreachable-requires-in-None g c =
-    let (h, st) = c.look-seen.ensures.known in
-    let at = (goal.at.unreachable-requires-in-None g c).In-Entered in
-    let claims = rw c.single_shape-shape.ensures.shape at (c.claim.ensures.answer _ (c.in-Entered.ensures.stands h (opens g at h st))) in
-    let asked : is_some c.args.put ≡ false = rw c.in-None.is refl in
-    elim c.else-is_none.branch [
-      | else-is_none-via-then-is_none+else-next_is_taken w ↦
-          not_given _ c.args.member (entered c.args.member h) c.claim.result h claims (sym c.if-is_some.false ∙ c.is_some.ensures) (sym w.if-next_is_taken.false ∙ w.next_is_taken.ensures.answer h (rw c.next_differs.ensures.kept st))
-      | else-is_none-via-else-is_none w ↦ none_and_some (is_some c.args.put) c.is_none.result c.is_none.ensures w.if-is_none.false asked
-    ]
+pub returns-in-None-clause-serves : goal.returns-in-None-clause-serves
+returns-in-None-clause-serves g c =
+    serves_above g.S.Shares.stands c.args.shares.now c.begin_copy.new.shares c.begin_copy.result (ByWords (option_copied c.args.put) c.args.member (AnswersBegin (single_shape true) DealsCopy (g.S.Shares.members c.args.shares.now) c.args.member)) (ByWords (option_copied c.args.put) c.args.member (AnswersCopy c.args.limits.now (g.S.Shares.members c.args.shares.now) c.args.member)) (copy_started c.args.member) (copy_started c.args.member)
+    (λ h st begun put.
+    let e = c.look.ensures.value ∙ g.met.S.Shares.agrees c.args.shares.now h c.args.member st c.requires.member in
+    let none = least_seen (start_tests [] c.args.limits.now) c.args.member c.look.result h _ refl e (sym c.in-None.is ∙ c.outside_refusal.ensures.first) in
+    start_admitted [] (single_shape true) DealsCopy c.args.limits.now (g.S.Shares.members c.args.shares.now) c.args.member c.begin_copy.result h none (begun put))
+    (λ h st. refl)
+    c.begin_copy.ensures.serves

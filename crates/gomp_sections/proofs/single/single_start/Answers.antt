@@ -1,39 +1,34 @@
-use Rattle.std.proofs.Common.{◌<◌, [], false, refl, ◌∙◌, sym}
-use Rattle.gomp_types.specs.Events.{entered}
+use Rattle.std.proofs.Common.{◌<◌, ◌∙◌, sym, refl, [], false, arith}
+use Rattle.std.specs.Prelude.{◌^◌}
 use Rattle.gomp_types.specs.Singles.{single_shape}
-use Rattle.gomp_shares.proofs.Entered.{may_claim}
-use Rattle.gomp_sections.proofs.Tests.{share_decides}
-use Rattle.gomp_sections.proofs.SingleSteps.{may_leave, single_dealt, single_adds}
+use Rattle.gomp_types.proofs.LeastTests.{all_fail}
+use Rattle.gomp_shares.specs.Starts.{AnswersBegin, start_tests}
+use Rattle.gomp_shares.specs.Singles.{AnswersSingle, DealsSingle, single_started}
+use Rattle.gomp_shares.proofs.Admitted.{least_seen, no_test_holds, single_may_open, start_admitted}
+use Rattle.gomp_shares.proofs.Served.{serves_above, serves_refused}
+use Rattle.gomp_sections.proofs.Tests.{own_refuses}
 use Rattle.gomp_sections.proofs.single.single_start.Goals as goal
 
-pub claim-requires : goal.claim-requires
-claim-requires g c =
-    let (h, st) = c.in-Entered.ensures.known in
-    let now = c.in-Entered.ensures.stands h st in
-    let lt : c.args.member < g.S.Shares.members c.try_open.new.self = rw c.try_open.ensures.members c.requires.member in
-    let e = g.met.S.Shares.agrees c.try_open.new.self _ c.args.member now lt in
-    record { place = may_claim _ c.args.member (entered c.args.member h) c.single_shape.result _ h e lt }
+pub begin_single-requires : goal.begin_single-requires
+begin_single-requires g c =
+    let out = all_fail (start_tests [] c.args.limits.now c.look.result) (no_test_holds (start_tests [] c.args.limits.now c.look.result) refl (sym c.in-None.is ∙ c.outside_refusal.ensures.first)) in
+    let few : c.look.result.entered < 2 ^ 32 = rw c.in-None.is at c.outside_refusal.ensures.few in
+    record { place = rw (← c.look.ensures.value) (single_may_open false _ c.args.member c.look.result c.requires.member out.0 (omega arith)) }
 
-pub leave-requires : goal.leave-requires
-leave-requires g c =
-    let (h, st) = c.in-Entered.ensures.known in
-    let now = rw c.single_shape.ensures.shape at (c.claim.ensures.stands _ (c.in-Entered.ensures.stands h st)) in
-    let lt : c.args.member < g.S.Shares.members c.claim.new.self = rw (c.claim.ensures.members, c.try_open.ensures.members) c.requires.member in
-    let e = g.met.S.Shares.agrees c.claim.new.self _ c.args.member now lt in
-    record { place = may_leave _ c.args.member (entered c.args.member h) false c.claim.result _ h e lt }
+pub returns-in-Some-clause-serves : goal.returns-in-Some-clause-serves
+returns-in-Some-clause-serves g c =
+    serves_refused g.S.Shares.stands c.args.shares.now c.in-Some.refusal (AnswersSingle c.args.limits.now (g.S.Shares.members c.args.shares.now) c.args.member) (single_started c.args.member) c.look.ensures.known
+    (λ h st.
+    let e = c.look.ensures.value ∙ g.met.S.Shares.agrees c.args.shares.now h c.args.member st c.requires.member in
+    own_refuses [] (single_shape false) c.args.limits.now c.args.member c.look.result h c.in-Some.refusal refl e (sym c.in-Some.is ∙ c.outside_refusal.ensures.first))
+    (λ h. refl)
 
-pub returns-in-Entered-clause-answer : goal.returns-in-Entered-clause-answer
-returns-in-Entered-clause-answer g c = λ h st.
-    let e = c.look-seen.ensures.value ∙ g.met.S.Shares.agrees c.args.shares.now h c.args.member st c.requires.member in
-    let may = rw c.single_shape.ensures.shape at (c.in-Entered.ensures.answer h st) in
-    let none = share_decides [] (single_shape false) c.args.limits.now c.args.member c.look-seen.result h false refl e (sym c.in_default.is ∙ c.outside_refusal.ensures.first) may.0 in
-    let now = c.in-Entered.ensures.stands h st in
-    let claims = rw (c.single_shape.ensures.shape, c.try_open.ensures.members) at (c.claim.ensures.answer _ now) in
-    (none, (may.1, rw c.is_some-executes.ensures (single_dealt (g.S.Shares.members c.args.shares.now) c.args.member (entered c.args.member h) c.claim.result h claims)))
-
-pub returns-in-Entered-clause-stands : goal.returns-in-Entered-clause-stands
-returns-in-Entered-clause-stands g c = λ h st.
-    let now = c.in-Entered.ensures.stands h st in
-    let claims = rw c.single_shape.ensures.shape at (c.claim.ensures.answer _ now) in
-    let adds = single_adds _ c.args.member c.claim.result h claims in
-    rw (c.is_some-executes.ensures, adds) (rw c.single_shape.ensures.shape at (c.leave.ensures.stands _ (c.claim.ensures.stands _ now)))
+pub returns-in-None-clause-serves : goal.returns-in-None-clause-serves
+returns-in-None-clause-serves g c =
+    serves_above g.S.Shares.stands c.args.shares.now c.begin_single.new.shares c.begin_single.result (AnswersBegin (single_shape false) DealsSingle (g.S.Shares.members c.args.shares.now) c.args.member) (AnswersSingle c.args.limits.now (g.S.Shares.members c.args.shares.now) c.args.member) (single_started c.args.member) (single_started c.args.member)
+    (λ h st begun.
+    let e = c.look.ensures.value ∙ g.met.S.Shares.agrees c.args.shares.now h c.args.member st c.requires.member in
+    let none = least_seen (start_tests [] c.args.limits.now) c.args.member c.look.result h _ refl e (sym c.in-None.is ∙ c.outside_refusal.ensures.first) in
+    start_admitted [] (single_shape false) DealsSingle c.args.limits.now (g.S.Shares.members c.args.shares.now) c.args.member c.begin_single.result h none begun)
+    (λ h st. refl)
+    c.begin_single.ensures.serves
