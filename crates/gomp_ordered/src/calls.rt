@@ -1,35 +1,48 @@
 //! The calls of libgomp's ordered parts, over any body of the shares.
 
-ghost use Rattle.std.specs.Prelude.{◌≡◌, ◌<◌, List};
-ghost use Rattle.gomp_types.specs.declared.event.Event.{Event};
-ghost use Rattle.gomp_types.specs.declared.reply.Reply.TheVariants.{Wait, Refused};
-ghost use Rattle.gomp_types.specs.declared.refusal.Refusal.{Refusal};
-ghost use Rattle.gomp_shares.specs.Calls.{EachStands};
-ghost use Rattle.gomp_shares.specs.OrderedParts.{AnswersPart, part_started, AnswersPartEnd, part_ended_at_once};
+ghost use Rattle.std.specs.Prelude.{◌≡◌, ◌<◌, None};
+ghost use Rattle.gomp_types.specs.Least.{least};
+ghost use Rattle.gomp_shares.specs.Serves.{IsDone, Serves};
+ghost use Rattle.gomp_shares.specs.OrderedParts.{AnswersPart, BeginsOwnPart, part_started, part_tests, AnswersPartEnd, part_end_tests, part_ended_at_once};
 
-use crate::own::admit_start;
+use crate::own::start_refusal;
 use gomp_shares::Shares;
 use gomp_types::{Refusal, Reply};
 
 /// Begins the ordered part of the iteration with this value.
 ///
-/// `Wait` where some piece before the member's was not handed on, and nothing is begun: the layer above
-/// calls again on `Resume`. Refused with `OutsideShare` where the member is in no loop, `InOrdered`
-/// where it is in an ordered part, `NotOrdered` where its loop has no `ordered` clause, and
-/// `OrderedBackwards` where no iteration of its last piece has this value, or its part is not after
-/// the last one.
+/// `Wait` if some piece before the member's was not handed on, and nothing is begun: the layer above
+/// calls again on `Resume`. Refused with `OutsideShare` if the member is in no loop, `InOrdered` if it
+/// is in an ordered part, `NotOrdered` if its loop has no `ordered` clause, and `OrderedBackwards` if no
+/// iteration of its last piece has this value, or its part is not after the last one.
 pub fn ordered_start<S: Shares>(shares: &mut S, member: u16, value: i64) -> Reply
     requires member { member < S.members shares.old }
     ensures members { S.members shares.new ≡ S.members shares.old }
-    ensures known { (h : List Event) × S.stands shares.old h }
-    ensures answer { EachStands (S.stands shares.old) (AnswersPart (S.members shares.old) value member result) }
-    ensures stands { EachStands (S.stands shares.old) (λ h. S.stands shares.new (part_started value member result h)) }
-    ensures kept { (refusal : Refusal) → result ≡ Refused refusal → shares.new ≡ shares.old }
-    ensures waits { result ≡ Wait → shares.new ≡ shares.old }
+    ensures serves { Serves S.stands shares.old shares.new result
+        (AnswersPart (S.members shares.old) value member) (part_started value member) }
 {
-    let iteration = match admit_start(&shares.look(member), value) {
-        Ok(iteration) => iteration,
-        Err(refusal) => return Reply::Refused(refusal),
+    match start_refusal(&shares.look(member), value) {
+        Some(refusal) => Reply::Refused(refusal),
+        None => begin_part(shares, member, value),
+    }
+}
+
+/// Begins the ordered part of the iteration with this value, which the member's own tests let it begin
+/// ([`start_refusal`]).
+///
+/// `Wait` as [`ordered_start`] has it.
+pub fn begin_part<S: Shares>(shares: &mut S, member: u16, value: i64) -> Reply
+    requires member { member < S.members shares.old }
+    requires place { least (part_tests value (S.seen shares.old member)) ≡ None }
+    ensures members { S.members shares.new ≡ S.members shares.old }
+    ensures serves { Serves S.stands shares.old shares.new result
+        (BeginsOwnPart (S.members shares.old) member) (part_started value member) }
+{
+    let Some((_, shape)) = shares.look(member).current else {
+        unreachable!()
+    };
+    let Some(iteration) = shape.iteration_of(value) else {
+        unreachable!()
     };
     if shares.try_turn(member, iteration) {
         Reply::Finished
@@ -40,19 +53,27 @@ pub fn ordered_start<S: Shares>(shares: &mut S, member: u16, value: i64) -> Repl
 
 /// Ends the member's ordered part.
 ///
-/// Refused with `NotInside` where it is in none.
+/// Refused with `NotInside` if it is in none.
 pub fn ordered_end<S: Shares>(shares: &mut S, member: u16) -> Reply
     requires member { member < S.members shares.old }
     ensures members { S.members shares.new ≡ S.members shares.old }
-    ensures known { (h : List Event) × S.stands shares.old h }
-    ensures answer { EachStands (S.stands shares.old) (AnswersPartEnd member result) }
-    ensures stands { EachStands (S.stands shares.old) (λ h. S.stands shares.new (part_ended_at_once member result h)) }
-    ensures kept { (refusal : Refusal) → result ≡ Refused refusal → shares.new ≡ shares.old }
+    ensures serves { Serves S.stands shares.old shares.new result
+        (AnswersPartEnd member) (part_ended_at_once member) }
 {
-    let seen = shares.look(member);
-    if !seen.in_part {
+    if !shares.look(member).in_part {
         return Reply::Refused(Refusal::NotInside);
     }
+    finish_part(shares, member)
+}
+
+/// Ends the ordered part that the member is in, as its own test shows.
+pub fn finish_part<S: Shares>(shares: &mut S, member: u16) -> Reply
+    requires member { member < S.members shares.old }
+    requires place { least (part_end_tests (S.seen shares.old member)) ≡ None }
+    ensures members { S.members shares.new ≡ S.members shares.old }
+    ensures serves { Serves S.stands shares.old shares.new result
+        IsDone (part_ended_at_once member) }
+{
     shares.end_part(member);
     Reply::Finished
 }

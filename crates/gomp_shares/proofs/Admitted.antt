@@ -1,21 +1,41 @@
 -- What the answer to a member that its own tests let through is to the whole call: for the crates of the calls above.
-use Rattle.std.proofs.Common.{◌≡◌, ℕ, Bool, true, false, List, [], ◌∷◌, ◌++◌, Option, Some, None, refl, ap, ◌∙◌}
-use Rattle.std.specs.Prelude.{if◌then◌else◌, Ok}
+use Rattle.std.proofs.Common.{◌≡◌, ◌<◌, ◌≤◌, ℕ, Bool, true, false, List, [], ◌∷◌, ◌++◌, Option, Some, None, refl, ap, ◌∙◌, sym, inl, inr, arith}
+use Rattle.std.proofs.lemmas.Bool.{cases_Bool}
+use Rattle.std.proofs.lemmas.Bool.Decides.{nat_tests}
+use Rattle.std.proofs.lemmas.Int.{ints}
+use Rattle.std.specs.Prelude.{if◌then◌else◌, Ok, is_some, nat_le}
 use Rattle.std.specs.Result.{result_err}
 use Rattle.gomp_types.specs.declared.limits.Limits.{Limits}
+use Rattle.gomp_types.specs.declared.loop_desc.EndKind.{EndKind}
 use Rattle.gomp_types.specs.declared.reply.Reply.{Reply}
 use Rattle.gomp_types.specs.declared.reply.Reply.TheVariants.{Chunk, NoChunk, Section, Executor, Copied, Finished, Passed, Wait, Stopped, Refused}
+use Rattle.gomp_types.specs.declared.seen.Seen.{Seen}
 use Rattle.gomp_types.specs.declared.shape.Shape.{Shape}
+use Rattle.gomp_types.specs.declared.shape.ShareKind.{ShareKind}
 use Rattle.gomp_types.specs.declared.event.Event.{Event}
 use Rattle.gomp_types.specs.declared.refusal.Refusal.{Refusal}
 use Rattle.gomp_types.specs.declared.refusal.Refusal.TheVariants.{Mismatch}
 use Rattle.gomp_types.specs.Compare.{shape_differs}
-use Rattle.gomp_types.specs.Events.{entered, shape_at}
-use Rattle.gomp_types.specs.Tests.{Test, outcome}
+use Rattle.gomp_types.specs.Events.{entered, in_kind, in_part, open_share, shape_at}
+use Rattle.gomp_types.specs.Deals.{schedule}
+use Rattle.gomp_types.specs.Laws.{Always}
+use Rattle.gomp_types.specs.Shapes.{is_loop, is_sections}
+use Rattle.gomp_types.specs.Singles.{single_shape}
+use Rattle.gomp_types.specs.Tests.{Test, first_refusal, outcome}
 use Rattle.gomp_types.specs.Least.{lesser, least, Answers}
 use Rattle.gomp_types.specs.Seen.{seen_of}
-use Rattle.gomp_types.proofs.LeastTests.{least_append}
+use Rattle.gomp_types.proofs.Booleans.{not_false}
+use Rattle.gomp_types.proofs.LeastTests.{all_fail, first_is_least, from, least_append}
+use Rattle.gomp_shares.specs.declared.own.Construct.{Construct}
+use Rattle.gomp_shares.specs.declared.own.Construct.TheVariants.{Loop, Sections}
+use Rattle.gomp_shares.specs.Calls.{CanLeave, CanOpen, most_shares}
+use Rattle.gomp_shares.specs.Own.{end_tests_of}
+use Rattle.gomp_shares.specs.Rules.{ShareRule}
+use Rattle.gomp_shares.specs.Sections.{sections_end_tests}
 use Rattle.gomp_shares.specs.Starts.{Deals, Starts, start_tests, compared_share, AnswersBegin, AnswersStart}
+use Rattle.gomp_shares.proofs.Entered.{row_is}
+use Rattle.gomp_shares.proofs.Laws.{ordered_part_is_in_a_loop}
+use Rattle.gomp_shares.proofs.PartsKeep.{sections_away}
 
 -- where no test of the front holds, those behind it decide alone
 behind_front : (front tests : List Test) → least front ≡ None → least (front ++ tests) ≡ least tests
@@ -68,3 +88,70 @@ outcome_err (Some refusal) value = refl
 pub outcome_none : {A : Type 0} (first : Option Refusal) (value found : A) → outcome first value ≡ Ok found → None ≡ first
 outcome_none None value found e = refl
 outcome_none (Some refusal) value found e = absurd (cc)
+
+-- What a member's tests tell
+
+-- of tests in the order of their numbers the first that holds of what is seen is the least that holds of the events
+pub least_seen : (tests : Seen → List Test) (m : ℕ) (seen : Seen) (h : List Event) (found : Option Refusal) → from 0 (tests (seen_of m h)) ≡ true → seen ≡ seen_of m h → found ≡ first_refusal (tests seen) → least (tests (seen_of m h)) ≡ found
+least_seen tests m seen h found rising e is = sym (first_is_least 0 (tests (seen_of m h)) rising) ∙ row_is tests seen (seen_of m h) found e is
+
+-- if no first test holds, then no least one does
+pub no_test_holds : (tests : List Test) → from 0 tests ≡ true → None ≡ first_refusal tests → least tests ≡ None
+no_test_holds tests rising none = sym (first_is_least 0 tests rising) ∙ sym none
+
+-- the tests of an end stand in the order of their numbers
+pub end_tests_rise : (construct : Construct) (kind : EndKind) (seen : Seen) → from 0 (end_tests_of construct kind seen) ≡ true
+end_tests_rise Loop kind seen = refl
+end_tests_rise Sections kind seen = refl
+
+-- a member that is in a share of some kind is in a share
+pub in_some_share : (is : ShareKind → Bool) (own : Option (ℕ × Shape)) → in_kind is own ≡ true → is_some own ≡ true
+in_some_share is None e = absurd (cc)
+in_some_share is (Some share) e = refl
+
+-- what the law of the ordered parts tells: a member in a part is in a loop
+abbrev pub PartInLoop : ℕ → List Event → Type 0
+PartInLoop m h = in_part m h ≡ true → (i : ℕ) × (shape : Shape) × (open_share m h ≡ Some (i, shape)) × (is_loop shape.kind ≡ true)
+
+-- so a member in a share that is no loop is in no part
+pub in_no_part : (m : ℕ) (h : List Event) → PartInLoop m h → in_kind is_loop (open_share m h) ≡ false → in_part m h ≡ false
+in_no_part m h law away =
+    elim (cases_Bool (in_part m h)) [
+      | inl part ↦ absurd (let (i, shape, at, loop) = law part in let none : is_loop shape.kind ≡ false = rw at at away in cc)
+      | inr apart ↦ apart
+    ]
+
+-- where no test of an end holds, the member can leave
+pub end_lets_leave : (construct : Construct) (kind : EndKind) (members m : ℕ) (seen : Seen) (h : List Event) → Always (ShareRule (schedule members) members) h → seen ≡ seen_of m h → m < members →
+    least (end_tests_of construct kind seen) ≡ None → CanLeave members m seen
+end_lets_leave Loop kind members m seen h ruled e lt none =
+    let tests = all_fail (end_tests_of Loop kind seen) none in
+    record {
+      member = lt;
+      inside = in_some_share is_loop seen.current (not_false (in_kind is_loop seen.current) tests.0);
+      done = rw (not_false seen.drained tests.1.1.1.0) refl;
+      apart = tests.1.0;
+    }
+end_lets_leave Sections kind members m seen h ruled e lt none =
+    let tests = all_fail (sections_end_tests kind seen) none in
+    let inside = not_false (in_kind is_sections seen.current) tests.0 in
+    let here : in_kind is_sections (open_share m h) ≡ true = sym (ap (λ (s : Seen). in_kind is_sections s.current) e) ∙ inside in
+    record {
+      member = lt;
+      inside = in_some_share is_sections seen.current inside;
+      done = rw (not_false seen.drained tests.1.1.0) refl;
+      apart = rw e (in_no_part m h (ordered_part_is_in_a_loop members m h ruled) (sections_away (open_share m h) here));
+    }
+
+-- where no test of the start of a single holds, the member can open one
+pub single_can_open : (copies : Bool) (limits : Limits) (members m : ℕ) (seen : Seen) → limits.shares ≤ most_shares → m < members → least (start_tests [] limits seen) ≡ None →
+    CanOpen members m (single_shape copies) seen
+single_can_open copies limits members m seen few lt none =
+    let tests = all_fail (start_tests [] limits seen) none in
+    record {
+      member = lt;
+      valid = record { trips = omega arith; chunk = omega arith; some = omega arith; moves = λ is. absurd (cc); fits = λ k below. let first : k ≡ 0 = omega arith in rw first (omega (arith, ints)) };
+      ordered = λ is. absurd (cc);
+      outside = tests.0;
+      few = (let all : nat_le limits.shares seen.entered ≡ false = tests.1.0 in grind (arith, nat_tests));
+    }

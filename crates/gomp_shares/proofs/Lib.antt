@@ -13,6 +13,7 @@ pub mod OrderedKeep
 pub mod OwnEvents
 pub mod PartsKeep
 pub mod RunExamples
+pub mod Served
 pub mod SharesKeep
 pub mod SinglesKeep
 pub mod Windows

@@ -8,5 +8,6 @@ pub mod Own
 pub mod Rules
 pub mod Runs
 pub mod Sections
+pub mod Serves
 pub mod Singles
 pub mod Starts

@@ -87,6 +87,10 @@ abbrev pub AnswersLoopNext : ℕ → ℕ → Reply → List Event → Type 0
 AnswersLoopNext members m reply h =
     Answers (next_tests (seen_of m h)) (λ given. DealsNext members m (open_share m h) given h) reply
 
+-- the answer to a member that its own tests let ask for the next piece: its share deals so
+abbrev pub TakesNext : ℕ → ℕ → Reply → List Event → Type 0
+TakesNext members m reply h = DealsNext members m (open_share m h) reply h
+
 abbrev pub loop_next_taken : ℕ → ℕ → Reply → List Event → List Event
 loop_next_taken members m reply h = next_given members (open_share m h) m h reply ++ h
 

@@ -49,6 +49,10 @@ abbrev pub AnswersPart : ℕ → ℤ → ℕ → Reply → List Event → Type 0
 AnswersPart members value m reply h =
     Answers (part_tests value (seen_of m h)) (λ given. BeginsPart members m (open_share m h) given h) reply
 
+-- the answer to a member that its own tests let begin a part: it waits for the turn in its share
+abbrev pub BeginsOwnPart : ℕ → ℕ → Reply → List Event → Type 0
+BeginsOwnPart members m reply h = BeginsPart members m (open_share m h) reply h
+
 abbrev pub part_started : ℤ → ℕ → Reply → List Event → List Event
 part_started value m reply h = part_given (open_share m h) m value reply ++ h
 

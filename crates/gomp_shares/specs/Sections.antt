@@ -63,6 +63,10 @@ abbrev pub AnswersSectionsNext : ℕ → ℕ → Reply → List Event → Type 0
 AnswersSectionsNext members m reply h =
     Answers (section_next_tests (seen_of m h)) (λ given. DealsSections members m (open_share m h) given h) reply
 
+-- the answer to a member that its own tests let ask for the next section: its share deals so
+abbrev pub TakesSection : ℕ → ℕ → Reply → List Event → Type 0
+TakesSection members m reply h = DealsSections members m (open_share m h) reply h
+
 abbrev pub section_next_taken : ℕ → Reply → List Event → List Event
 section_next_taken m reply h = section_next_given (open_share m h) m reply ++ h
 

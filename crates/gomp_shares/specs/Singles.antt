@@ -10,7 +10,7 @@ use Rattle.gomp_types.specs.declared.event.Event.TheVariants.{Take, Drained, End
 use Rattle.gomp_types.specs.Tests.{Test}
 use Rattle.gomp_types.specs.Shapes.{is_copy}
 use Rattle.gomp_types.specs.Deals.{schedule, next_for}
-use Rattle.gomp_types.specs.Events.{in_kind, open_number, payload_at}
+use Rattle.gomp_types.specs.Events.{entered, in_kind, open_number, payload_at}
 use Rattle.gomp_types.specs.declared.limits.Limits.{Limits}
 use Rattle.gomp_types.specs.Singles.{single_shape}
 use Rattle.gomp_shares.specs.Starts.{AnswersStart, entry_and}
@@ -64,6 +64,10 @@ single_started m reply h = entry_and single_given (single_shape false) m h reply
 
 abbrev pub AnswersCopy : Limits → ℕ → ℕ → Reply → List Event → Type 0
 AnswersCopy limits members m reply h = AnswersStart [] (single_shape true) DealsCopy limits members m reply h
+
+-- an answer by these words, if they are what was put in the member's next share
+abbrev pub ByWords : Option (List ℕ) → ℕ → (Reply → List Event → Type 0) → Reply → List Event → Type 0
+ByWords words m May reply h = payload_at (entered m h) h ≡ words → May reply h
 
 abbrev pub copy_started : ℕ → Reply → List Event → List Event
 copy_started m reply h = entry_and copy_given (single_shape true) m h reply ++ h

@@ -74,7 +74,8 @@ pub fn make_call<S: Shares>(shares: &mut S, count: u16, step: &ShareStep) -> Sha
     ensures known { step.now.member < count → (h : List Event) × S.stands shares.old h }
     ensures kept { result ≡ NotMade → shares.new ≡ shares.old }
     ensures answer { EachStands (S.stands shares.old) (IsAnswer count step.now result) }
-    ensures stands { EachStands (S.stands shares.old) (λ h. S.stands shares.new (answered count step.now result h)) }
+    ensures stands { EachStands (S.stands shares.old) (λ h.
+        S.stands shares.new (answered count step.now result h)) }
 {
     if step.member >= count {
         return ShareAnswer::NotMade;
@@ -176,9 +177,12 @@ pub fn make_calls<S: Shares>(
     ensures members { IfOk result (λ made. S.members made.0 ≡ count) }
     ensures each { IfOk result (λ made. vec_len made.1 ≡ length steps.now) }
     ensures answers { IfOk result (λ made. AreAnswers count steps.now made.1.items []) }
-    ensures stands { IfOk result (λ made. S.stands made.0 (events_after count steps.now made.1.items [])) }
-    ensures laws { IfOk result (λ made. ShareLaws (schedule count) count (events_after count steps.now made.1.items [])) }
-    ensures ordered { IfOk result (λ made. OrderedLaws count (events_after count steps.now made.1.items [])) }
+    ensures stands { IfOk result (λ made.
+        S.stands made.0 (events_after count steps.now made.1.items [])) }
+    ensures laws { IfOk result (λ made.
+        ShareLaws (schedule count) count (events_after count steps.now made.1.items [])) }
+    ensures ordered { IfOk result (λ made.
+        OrderedLaws count (events_after count steps.now made.1.items [])) }
 {
     let mut answers = Vec::with_capacity(alloc, steps.len())?;
     let mut shares = S::make(alloc, count)?;

@@ -9,6 +9,7 @@
 #![tactic(auto)]
 
 pub mod calls;
+pub mod ends;
 pub mod own;
 
 ghost use Rattle.std.specs.Prelude.{◌≡◌, ◌<◌, ℕ, List, [], ◌∷◌, IfOk, Some, false};
@@ -75,14 +76,16 @@ pub trait Shares: Sized {
     fn next_differs(&mut self, member: u16, shape: &Shape) -> bool
         requires member { member < members self.old }
         ensures known { (h : List Event) × stands self.old h }
-        ensures answer { EachStands (stands self.old) (λ h. result ≡ shape_differs shape.now (shape_at (entered member h) h)) }
+        ensures answer { EachStands (stands self.old) (λ h.
+            result ≡ shape_differs shape.now (shape_at (entered member h) h)) }
         ensures kept { self.new ≡ self.old };
 
     /// Whether some member took a piece of the share that this member enters next. Nothing changes.
     fn next_is_taken(&mut self, member: u16) -> bool
         requires member { member < members self.old }
         ensures known { (h : List Event) × stands self.old h }
-        ensures answer { EachStands (stands self.old) (λ h. result ≡ was_taken (entered member h) h) }
+        ensures answer { EachStands (stands self.old) (λ h.
+            result ≡ was_taken (entered member h) h) }
         ensures kept { self.new ≡ self.old };
 
     /// Enters the member's next share, which is opened where no other member has. Where it does not,
@@ -94,8 +97,10 @@ pub trait Shares: Sized {
         requires place { CanOpen (members self.old) member shape.now (seen self.old member) }
         ensures members { members self.new ≡ members self.old }
         ensures known { (h : List Event) × stands self.old h }
-        ensures answer { EachStands (stands self.old) (MayOpen (members self.old) member shape.now result) }
-        ensures stands { EachStands (stands self.old) (λ h. stands self.new (opened member shape.now result h)) }
+        ensures answer { EachStands (stands self.old)
+            (MayOpen (members self.old) member shape.now result) }
+        ensures stands { EachStands (stands self.old) (λ h.
+            stands self.new (opened member shape.now result h)) }
         ensures kept { (result ≡ Entered → ⊥) → self.new ≡ self.old };
 
     /// Takes the next piece of the member's share that is its to take: its first iteration and the
@@ -107,7 +112,8 @@ pub trait Shares: Sized {
         ensures members { members self.new ≡ members self.old }
         ensures known { (h : List Event) × stands self.old h }
         ensures answer { EachStands (stands self.old) (Claims (members self.old) member result) }
-        ensures stands { EachStands (stands self.old) (λ h. stands self.new (claimed member result h)) };
+        ensures stands { EachStands (stands self.old) (λ h.
+            stands self.new (claimed member result h)) };
 
     /// Begins the ordered part of this iteration of the member's piece, where every piece before its own
     /// was handed on, and its own was not: whether it did. Where it did not, nothing changes.
@@ -118,8 +124,10 @@ pub trait Shares: Sized {
         requires place { CanBeginPart (members self.old) member iteration (seen self.old member) }
         ensures members { members self.new ≡ members self.old }
         ensures known { (h : List Event) × stands self.old h }
-        ensures answer { EachStands (stands self.old) (λ h. result ≡ own_turn (members self.old) member h) }
-        ensures stands { EachStands (stands self.old) (λ h. stands self.new (part_begun member iteration result h)) }
+        ensures answer { EachStands (stands self.old) (λ h.
+            result ≡ own_turn (members self.old) member h) }
+        ensures stands { EachStands (stands self.old) (λ h.
+            stands self.new (part_begun member iteration result h)) }
         ensures kept { result ≡ false → self.new ≡ self.old };
 
     /// Ends the member's ordered part, in which it is.
@@ -127,7 +135,8 @@ pub trait Shares: Sized {
         requires place { CanEndPart (members self.old) member (seen self.old member) }
         ensures members { members self.new ≡ members self.old }
         ensures known { (h : List Event) × stands self.old h }
-        ensures stands { EachStands (stands self.old) (λ h. stands self.new (part_ended member h)) };
+        ensures stands { EachStands (stands self.old) (λ h.
+            stands self.new (part_ended member h)) };
 
     /// Hands the member's piece of an ordered loop on, where every piece before it was, and it was not:
     /// whether it did. Where it did not, nothing changes.
@@ -137,8 +146,10 @@ pub trait Shares: Sized {
         requires place { CanHandOn (members self.old) member (seen self.old member) }
         ensures members { members self.new ≡ members self.old }
         ensures known { (h : List Event) × stands self.old h }
-        ensures answer { EachStands (stands self.old) (λ h. result ≡ own_turn (members self.old) member h) }
-        ensures stands { EachStands (stands self.old) (λ h. stands self.new (piece_handed (members self.old) member result h)) }
+        ensures answer { EachStands (stands self.old) (λ h.
+            result ≡ own_turn (members self.old) member h) }
+        ensures stands { EachStands (stands self.old) (λ h.
+            stands self.new (piece_handed (members self.old) member result h)) }
         ensures kept { result ≡ false → self.new ≡ self.old };
 
     /// Leaves the member's share, of which nothing is left for it: it was told so, or it took the one
@@ -152,14 +163,18 @@ pub trait Shares: Sized {
         ensures stands { EachStands (stands self.old) (λ h. stands self.new (left member h)) };
 
     /// Arrivals, payloads and the like change nothing.
-    ghost aside: { (s : Self) (h : List Event) (event : Event) → IsAside event → stands s h → stands s (event ∷ h) };
+    ghost aside: { (s : Self) (h : List Event) (event : Event) →
+        IsAside event → stands s h → stands s (event ∷ h) };
 
     /// A member sees of its place what the events say.
-    ghost agrees: { (s : Self) (h : List Event) (m : ℕ) → stands s h → m < members s → seen s m ≡ seen_of m h };
+    ghost agrees: { (s : Self) (h : List Event) (m : ℕ) →
+        stands s h → m < members s → seen s m ≡ seen_of m h };
 
     /// The shape of a share that a member is in is one that a construct has.
-    ghost valid: { (s : Self) (h : List Event) (m i : ℕ) (shape : Shape) → stands s h → open_share m h ≡ Some (i, shape) → IsShape shape };
+    ghost valid: { (s : Self) (h : List Event) (m i : ℕ) (shape : Shape) →
+        stands s h → open_share m h ≡ Some (i, shape) → IsShape shape };
 
     /// Each event keeps the rule of the work-shares.
-    ghost ruled: { (s : Self) (h : List Event) → stands s h → Always (ShareRule (schedule (members s)) (members s)) h };
+    ghost ruled: { (s : Self) (h : List Event) →
+        stands s h → Always (ShareRule (schedule (members s)) (members s)) h };
 }

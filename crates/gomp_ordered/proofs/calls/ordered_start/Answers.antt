@@ -1,47 +1,42 @@
-use Rattle.std.proofs.Common.{◌≡◌, ap, ◌∙◌, sym, Some, w64}
+use Rattle.std.proofs.Common.{◌≡◌, ◌∙◌, sym, refl, w64}
 use Rattle.std.proofs.lemmas.Int.{to_z-of_z}
-use Rattle.std.specs.Result.{result_err}
-use Rattle.gomp_types.specs.Tests.{first_refusal}
 use Rattle.gomp_types.specs.Events.{open_share}
-use Rattle.gomp_types.specs.declared.seen.Seen.{Seen}
-use Rattle.gomp_shares.specs.OrderedParts.{part_tests}
-use Rattle.gomp_ordered.specs.Iterations.{seen_iteration}
-use Rattle.gomp_ordered.proofs.Steps.{has_shape, start_is, start_ordered, begins, waits, part_is}
+use Rattle.gomp_types.specs.Tests.{first_refusal}
+use Rattle.gomp_shares.specs.OrderedParts.{AnswersPart, BeginsOwnPart, part_started, part_tests}
+use Rattle.gomp_shares.proofs.Admitted.{no_test_holds}
+use Rattle.gomp_shares.proofs.Served.{serves_above, serves_refused}
+use Rattle.gomp_ordered.proofs.PartReplies.{has_shape, part_admitted, part_refused, start_is}
 use Rattle.gomp_ordered.proofs.calls.ordered_start.Goals as goal
 
-pub admit_start-requires : goal.admit_start-requires
-admit_start-requires g c =
+pub start_refusal-requires : goal.start_refusal-requires
+start_refusal-requires g c =
     let (h, st) = c.look.ensures.known in
     let e = c.look.ensures.value ∙ g.met.S.Shares.agrees c.args.shares.now h c.args.member st c.requires.member in
     record { shape = has_shape c.args.member c.look.result h e (λ i shape there. g.met.S.Shares.valid c.args.shares.now h c.args.member i shape st there) }
 
-pub try_turn-requires : goal.try_turn-requires
-try_turn-requires g c = record { place = rw (← c.look.ensures.value) (c.in-Ok.ensures.place (g.S.Shares.members c.args.shares.now) c.args.member c.requires.member) }
+pub begin_part-requires-clause-place : goal.begin_part-requires-clause-place
+begin_part-requires-clause-place g c =
+    let first : c.start_refusal.result ≡ first_refusal (part_tests c.args.value c.look.result) = rw (to_z-of_z w64 c.args.value c.ranges.value) at c.start_refusal.ensures.first in
+    let none = no_test_holds (part_tests c.args.value c.look.result) refl (sym c.in-None.is ∙ first) in
+    rw (to_z-of_z w64 c.args.value c.ranges.value, ← c.look.ensures.value) none
 
-pub returns-in-Err-clause-answer : goal.returns-in-Err-clause-answer
-returns-in-Err-clause-answer g c = λ h st.
+pub returns-in-Some-clause-serves : goal.returns-in-Some-clause-serves
+returns-in-Some-clause-serves g c =
+    serves_refused g.S.Shares.stands c.args.shares.now c.in-Some.refusal (AnswersPart (g.S.Shares.members c.args.shares.now) c.args.value c.args.member) (part_started c.args.value c.args.member) c.look.ensures.known
+    (λ h st.
     let e = c.look.ensures.value ∙ g.met.S.Shares.agrees c.args.shares.now h c.args.member st c.requires.member in
-    let first : result_err c.admit_start.result ≡ first_refusal (part_tests c.args.value c.look.result) = rw (to_z-of_z w64 c.args.value c.ranges.value) at c.admit_start.ensures.first in
-    start_is c.args.member c.args.value c.look.result h _ e (sym (ap result_err c.in-Err.is) ∙ first)
+    let first : c.start_refusal.result ≡ first_refusal (part_tests c.args.value c.look.result) = rw (to_z-of_z w64 c.args.value c.ranges.value) at c.start_refusal.ensures.first in
+    start_is c.args.member c.args.value c.look.result h _ e (sym c.in-Some.is ∙ first))
+    (λ h. rw (part_refused c.args.member c.args.value c.in-Some.refusal (open_share c.args.member h)) refl)
 
-pub returns-then-try_turn-clause-answer : goal.returns-then-try_turn-clause-answer
-returns-then-try_turn-clause-answer g c = λ h st.
+pub returns-in-None-clause-serves : goal.returns-in-None-clause-serves
+returns-in-None-clause-serves g c =
+    serves_above g.S.Shares.stands c.args.shares.now c.begin_part.new.shares c.begin_part.result (BeginsOwnPart (g.S.Shares.members c.args.shares.now) c.args.member) (AnswersPart (g.S.Shares.members c.args.shares.now) c.args.value c.args.member)
+    (part_started c.args.value c.args.member) (part_started c.args.value c.args.member)
+    (λ h st begun.
     let e = c.look.ensures.value ∙ g.met.S.Shares.agrees c.args.shares.now h c.args.member st c.requires.member in
-    let first : result_err c.admit_start.result ≡ first_refusal (part_tests c.args.value c.look.result) = rw (to_z-of_z w64 c.args.value c.ranges.value) at c.admit_start.ensures.first in
-    let none = start_is c.args.member c.args.value c.look.result h _ e (sym (ap result_err c.in-Ok.is) ∙ first) in
-    (none, begins (g.S.Shares.members c.args.shares.now) c.args.member (open_share c.args.member h) h (sym c.if-try_turn.true ∙ c.try_turn.ensures.answer h st))
-
-pub returns-then-try_turn-clause-stands : goal.returns-then-try_turn-clause-stands
-returns-then-try_turn-clause-stands g c = λ h st.
-    let e = c.look.ensures.value ∙ g.met.S.Shares.agrees c.args.shares.now h c.args.member st c.requires.member in
-    let found : seen_iteration c.look.result.current c.args.value ≡ Some c.in-Ok.iteration = rw (to_z-of_z w64 c.args.value c.ranges.value) at c.in-Ok.ensures.iteration in
-    let here : seen_iteration (open_share c.args.member h) c.args.value ≡ Some c.in-Ok.iteration = sym (ap (λ (s : Seen). seen_iteration s.current c.args.value) e) ∙ found in
-    rw (← part_is c.args.member c.in-Ok.iteration c.args.value (open_share c.args.member h) h here) (rw c.if-try_turn.true at (c.try_turn.ensures.stands h st))
-
-pub returns-else-try_turn-clause-answer : goal.returns-else-try_turn-clause-answer
-returns-else-try_turn-clause-answer g c = λ h st.
-    let e = c.look.ensures.value ∙ g.met.S.Shares.agrees c.args.shares.now h c.args.member st c.requires.member in
-    let first : result_err c.admit_start.result ≡ first_refusal (part_tests c.args.value c.look.result) = rw (to_z-of_z w64 c.args.value c.ranges.value) at c.admit_start.ensures.first in
-    let none = start_is c.args.member c.args.value c.look.result h _ e (sym (ap result_err c.in-Ok.is) ∙ first) in
-    let ordered = start_ordered c.args.member c.args.value h none in
-    (none, waits (g.S.Shares.members c.args.shares.now) c.args.member (open_share c.args.member h) h ordered (sym c.if-try_turn.false ∙ c.try_turn.ensures.answer h st))
+    let first : c.start_refusal.result ≡ first_refusal (part_tests c.args.value c.look.result) = rw (to_z-of_z w64 c.args.value c.ranges.value) at c.start_refusal.ensures.first in
+    let none = start_is c.args.member c.args.value c.look.result h _ e (sym c.in-None.is ∙ first) in
+    part_admitted (g.S.Shares.members c.args.shares.now) c.args.member c.args.value c.begin_part.result h none begun)
+    (λ h st. refl)
+    (rw (to_z-of_z w64 c.args.value c.ranges.value) at c.begin_part.ensures.serves)
