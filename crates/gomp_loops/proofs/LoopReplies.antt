@@ -4,7 +4,6 @@ use Rattle.std.specs.Prelude.{pos, not, ◌≢◌, ◌&&◌, if◌then◌else◌
 use Rattle.gomp_types.specs.declared.reply.Reply.{Reply}
 use Rattle.gomp_types.specs.declared.reply.Reply.TheVariants.{Wait, Refused}
 use Rattle.gomp_types.specs.declared.loop_desc.LoopDesc.{LoopDesc}
-use Rattle.gomp_types.specs.declared.loop_desc.EndKind.{EndKind}
 use Rattle.gomp_types.specs.declared.limits.Limits.{Limits}
 use Rattle.gomp_types.specs.declared.refusal.Refusal.{Refusal}
 use Rattle.gomp_types.specs.declared.refusal.Refusal.TheVariants.{TooManyShares}
@@ -27,14 +26,11 @@ use Rattle.gomp_shares.specs.Calls.{CanClaim, MayOpen, Claims, claimed, own_turn
 use Rattle.gomp_shares.specs.declared.Opening.TheVariants.{Entered}
 use Rattle.gomp_shares.proofs.Admitted.{begin_compared, answers_let}
 use Rattle.gomp_shares.specs.Starts.{start_tests, share_tests, compared_share, AnswersBegin}
-use Rattle.gomp_shares.specs.Loops.{DealsOut, handed_on, next_tests, end_tests, loop_begun, AnswersLoopNext, DealsNext, loop_next_taken}
+use Rattle.gomp_shares.specs.Loops.{DealsOut, handed_on, next_given, next_tests, loop_begun, AnswersLoopNext, DealsNext, loop_next_taken}
 use Rattle.gomp_shares.proofs.Entered.{row_is, open_entered}
 use Rattle.gomp_loops.specs.Answers.{reply_of}
 
 -- The tests
-
-pub end_is : (kind : EndKind) (m : ℕ) (seen : Seen) (h : List Event) (found : Option Refusal) → seen ≡ seen_of m h → found ≡ first_refusal (end_tests kind seen) → least (end_tests kind (seen_of m h)) ≡ found
-end_is kind m seen h found e is = sym (first_is_least 0 (end_tests kind (seen_of m h)) refl) ∙ row_is (end_tests kind) seen (seen_of m h) found e is
 
 pub next_is : (m : ℕ) (seen : Seen) (h : List Event) (found : Option Refusal) → seen ≡ seen_of m h → found ≡ first_refusal (next_tests seen) → least (next_tests (seen_of m h)) ≡ found
 next_is m seen h found e is = sym (first_is_least 0 (next_tests (seen_of m h)) refl) ∙ row_is next_tests seen (seen_of m h) found e is
@@ -127,8 +123,8 @@ deals_by members m share (Some piece) h claims same =
     subst (λ (s : ℕ × Shape). DealsOut members m (Some s) (reply_of s.1 (Some piece)) h) same
     (rw (← claims.least) (refl, (let within = claims.within.0 in omega arith)))
 
-pub deals : (members m i : ℕ) (shape : Shape) (answer : Option Piece) (h : List Event) → open_share m h ≡ Some (i, shape) → Claims members m answer h → DealsOut members m (Some (i, shape)) (reply_of shape answer) h
-deals members m i shape answer h there claims = deals_by members m (i, shape) answer h claims (claim_here members m i shape answer h there claims)
+pub piece_deals : (members m i : ℕ) (shape : Shape) (answer : Option Piece) (h : List Event) → open_share m h ≡ Some (i, shape) → Claims members m answer h → DealsOut members m (Some (i, shape)) (reply_of shape answer) h
+piece_deals members m i shape answer h there claims = deals_by members m (i, shape) answer h claims (claim_here members m i shape answer h there claims)
 
 -- A next piece
 
@@ -156,9 +152,9 @@ pub record Handed (Stand : List Event → Type 0) (members now m i : ℕ) (shape
   pub turn : must_wait members (i, shape) m h ≡ false
   pub same : now ≡ members
 
-pub handed : (stands : List Event → Type 0) (members now m i : ℕ) (shape : Shape) (h : List Event) → open_share m h ≡ Some (i, shape) → shape.ordered ≡ true →
+pub piece_is_handed : (stands : List Event → Type 0) (members now m i : ℕ) (shape : Shape) (h : List Event) → open_share m h ≡ Some (i, shape) → shape.ordered ≡ true →
     true ≡ own_turn members m h → now ≡ members → stands (piece_handed members m true h) → Handed stands members now m i shape h
-handed stands members now m i shape h there ordered e same st =
+piece_is_handed stands members now m i shape h there ordered e same st =
     let last : has_turn members (i, shape) m h ≡ true = sym (rw there at e) in
     let is : piece_handed members m true h ≡ handed_on members (i, shape) m h ++ h = rw (there, ordered) refl in
     record {
@@ -168,8 +164,8 @@ handed stands members now m i shape h there ordered e same st =
     }
 
 -- a piece of another loop is not handed on
-pub kept : (stands : List Event → Type 0) (members now m i : ℕ) (shape : Shape) (h : List Event) → shape.ordered ≡ false → now ≡ members → stands h → Handed stands members now m i shape h
-kept stands members now m i shape h ordered same st =
+pub piece_is_kept : (stands : List Event → Type 0) (members now m i : ℕ) (shape : Shape) (h : List Event) → shape.ordered ≡ false → now ≡ members → stands h → Handed stands members now m i shape h
+piece_is_kept stands members now m i shape h ordered same st =
     let is : h ≡ handed_on members (i, shape) m h ++ h = rw ordered refl in
     record {
       stands = subst stands is st;
@@ -190,7 +186,7 @@ next_claims members now m i shape seen h lt e there none =
 
 pub next_deals : (members m i : ℕ) (shape : Shape) (answer : Option Piece) (h : List Event) → open_share m h ≡ Some (i, shape) → Claims members m answer (handed_on members (i, shape) m h ++ h) → DealsOut members m (Some (i, shape)) (reply_of shape answer) h
 next_deals members m i shape answer h there claims =
-    handed_deals members m (last_number members (i, shape) m h) shape.ordered (i, shape) answer h (deals members m i shape answer (handed_on members (i, shape) m h ++ h) (handed_there members m i shape h there) claims)
+    handed_deals members m (last_number members (i, shape) m h) shape.ordered (i, shape) answer h (piece_deals members m i shape answer (handed_on members (i, shape) m h ++ h) (handed_there members m i shape h there) claims)
 
 -- and it gives what the shares give
 pub next_adds : (members m i : ℕ) (shape : Shape) (answer : Option Piece) (h : List Event) → ValuesTell → open_share m h ≡ Some (i, shape) → Claims members m answer (handed_on members (i, shape) m h ++ h) →
@@ -211,8 +207,8 @@ next_adds members m i shape (Some piece) h tell there claims =
 
 -- what is dealt out after an entry is dealt out before it
 start_deals : (members m i : ℕ) (shape : Shape) (answer : Option Piece) (h : List Event) → Claims members m answer (Enter i m shape ∷ h) → DealsOut members m (Some (i, shape)) (reply_of shape answer) h
-start_deals members m i shape None h claims = deals members m i shape None (Enter i m shape ∷ h) (open_entered m i shape h) claims
-start_deals members m i shape (Some piece) h claims = deals members m i shape (Some piece) (Enter i m shape ∷ h) (open_entered m i shape h) claims
+start_deals members m i shape None h claims = piece_deals members m i shape None (Enter i m shape ∷ h) (open_entered m i shape h) claims
+start_deals members m i shape (Some piece) h claims = piece_deals members m i shape (Some piece) (Enter i m shape ∷ h) (open_entered m i shape h) claims
 
 pub begin_deals : (members m : ℕ) (shape : Shape) (answer : Option Piece) (h : List Event) → MayOpen members m shape Entered h → Claims members m answer (Enter (entered m h) m shape ∷ h) →
     AnswersBegin shape DealsOut members m (reply_of shape answer) h
@@ -229,3 +225,25 @@ begin_adds members m shape (Some piece) h tell claims =
     let some = within.0 in
     let back : piece.0 + (piece.1 - piece.0) ≡ piece.1 = omega arith in
     rw (same_number m, tell shape piece.0 valid.moves, back) refl
+
+-- A reply that a piece gives is neither a wait nor a refusal
+
+pub piece_never_waits : (shape : Shape) (answer : Option Piece) → reply_of shape answer ≡ Wait → ⊥
+piece_never_waits shape None is = absurd (cc)
+piece_never_waits shape (Some piece) is = absurd (cc)
+
+pub piece_never_refuses : (shape : Shape) (answer : Option Piece) (refusal : Refusal) → reply_of shape answer ≡ Refused refusal → ⊥
+piece_never_refuses shape None refusal is = absurd (cc)
+piece_never_refuses shape (Some piece) refusal is = absurd (cc)
+
+-- and these give no event
+pub next_wait_given : (members m i : ℕ) (shape : Shape) (h : List Event) → open_share m h ≡ Some (i, shape) → loop_next_taken members m Wait h ≡ h
+next_wait_given members m i shape h there = rw there refl
+
+pub next_refusal_given : (members m : ℕ) (refusal : Refusal) (share : Option (ℕ × Shape)) (h : List Event) → next_given members share m h (Refused refusal) ≡ []
+next_refusal_given members m refusal None h = refl
+next_refusal_given members m refusal (Some share) h = refl
+
+-- a member that may ask for the next piece of its loop is in a share
+pub next_has_share : (seen : Seen) → seen.current ≡ None → least (next_tests seen) ≡ None → ⊥
+next_has_share seen out none = let tests = all_fail (next_tests seen) none in let one : true ≡ false = rw out at tests.0 in absurd (cc)

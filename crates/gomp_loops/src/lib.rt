@@ -1,8 +1,9 @@
 //! The calls of a member on the loops of its team.
 //!
-//! A loop is one work-share. Each call makes the tests of its own (specs/Loops.antt of gomp_shares), so
-//! it has no premise but a member of the team, and answers what is defined there where none of them
-//! holds. Whether the team is broken, the member has left the region or has a wait open, and how it
+//! A loop is one work-share. Each call that libgomp has makes the tests of its own (specs/Loops.antt of
+//! gomp_shares), so it has no premise but a member of the team, and answers what is defined there if
+//! none of them holds. [`begin_loop`] and [`take_next`] do what these tests let, and ask that the tests
+//! show it. Whether the team is broken, the member has left the region or has a wait open, and how it
 //! arrives at a barrier, is tested by the layer above.
 //!
 //! The pieces of an ordered loop are handed on in their order: a member that asks for its next chunk

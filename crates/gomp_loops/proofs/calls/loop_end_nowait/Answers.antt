@@ -1,14 +1,10 @@
-use Rattle.std.proofs.Common.{refl, ◌∙◌, sym}
 use Rattle.gomp_types.specs.declared.loop_desc.EndKind.TheVariants.{Nowait}
-use Rattle.gomp_loops.proofs.Steps.{end_is}
+use Rattle.gomp_shares.specs.Loops.{end_tests}
+use Rattle.gomp_shares.proofs.Served.{end_serves_done, end_serves_refused}
 use Rattle.gomp_loops.proofs.calls.loop_end_nowait.Goals as goal
 
-pub returns-in-Some-clause-answer : goal.returns-in-Some-clause-answer
-returns-in-Some-clause-answer g c = λ h st.
-    let e = c.look-seen.ensures.value ∙ g.met.S.Shares.agrees c.args.shares.now h c.args.member st c.requires.member in
-    end_is Nowait c.args.member c.look-seen.result h _ e (sym c.in-Some.is ∙ c.end_refusal.ensures.first)
+pub returns-in-Ok-clause-serves : goal.returns-in-Ok-clause-serves
+returns-in-Ok-clause-serves g c = end_serves_done g.S.Shares.stands c.args.shares.now c.end_construct.new.shares (end_tests Nowait) c.args.member (rw c.in-Ok.is at c.end_construct.ensures.leaves)
 
-pub returns-clause-answer : goal.returns-clause-answer
-returns-clause-answer g c = λ h st.
-    let e = c.look-seen.ensures.value ∙ g.met.S.Shares.agrees c.args.shares.now h c.args.member st c.requires.member in
-    (end_is Nowait c.args.member c.look-seen.result h _ e (sym c.in_default.is ∙ c.end_refusal.ensures.first), refl)
+pub returns-in-Err-clause-serves : goal.returns-in-Err-clause-serves
+returns-in-Err-clause-serves g c = end_serves_refused g.S.Shares.stands c.args.shares.now c.end_construct.new.shares c.in-Err.refusal (end_tests Nowait) c.args.member (rw c.in-Err.is at c.end_construct.ensures.leaves)

@@ -1,35 +1,37 @@
-use Rattle.std.proofs.Common.{◌≡◌, ◌∙◌, sym}
+use Rattle.std.proofs.Common.{◌≡◌, ◌∙◌, sym, refl}
 use Rattle.gomp_types.specs.Tests.{first_refusal}
 use Rattle.gomp_types.specs.Iterations.{loop_tests}
 use Rattle.gomp_types.specs.Pieces.{shape_of}
 use Rattle.gomp_types.proofs.TestRows.{outcome_value, outcome_refused}
-use Rattle.gomp_shares.specs.Starts.{start_tests}
-use Rattle.gomp_shares.specs.Loops.{DealsOut}
+use Rattle.gomp_shares.specs.Starts.{AnswersBegin, start_tests}
+use Rattle.gomp_shares.specs.Loops.{AnswersLoopStart, DealsOut, loop_begun, loop_started}
 use Rattle.gomp_shares.proofs.Admitted.{outcome_none, start_admitted}
-use Rattle.gomp_loops.proofs.Steps.{start_fine, start_refused}
+use Rattle.gomp_shares.proofs.Served.{serves_above, serves_refused}
+use Rattle.gomp_loops.proofs.LoopReplies.{start_fine, start_refused}
 use Rattle.gomp_loops.proofs.calls.loop_start.Goals as goal
 
 pub begin_loop-requires : goal.begin_loop-requires
 begin_loop-requires g c = record { place = rw (← c.look.ensures.value) (c.in-Ok.ensures.place (g.S.Shares.members c.args.shares.now) c.args.member c.requires.member) }
 
-pub returns-in-Ok-clause-answer : goal.returns-in-Ok-clause-answer
-returns-in-Ok-clause-answer g c = λ h st.
-    let e = c.look.ensures.value ∙ g.met.S.Shares.agrees c.args.shares.now h c.args.member st c.requires.member in
+pub returns-in-Ok-clause-serves : goal.returns-in-Ok-clause-serves
+returns-in-Ok-clause-serves g c =
     let found = sym c.admit_start.ensures.first ∙ c.in-Ok.is in
     let tests = start_tests (loop_tests c.args.desc.now) c.args.limits.now c.look.result in
     let is : c.in-Ok.shape ≡ shape_of c.args.desc.now = outcome_value (first_refusal tests) _ _ found in
+    serves_above g.S.Shares.stands c.args.shares.now c.begin_loop.new.shares c.begin_loop.result (AnswersBegin (shape_of c.args.desc.now) DealsOut (g.S.Shares.members c.args.shares.now) c.args.member)
+    (AnswersLoopStart c.args.desc.now c.args.limits.now (g.S.Shares.members c.args.shares.now) c.args.member) (loop_begun (shape_of c.args.desc.now) c.args.member) (loop_started c.args.desc.now c.args.member)
+    (λ h st begun.
+    let e = c.look.ensures.value ∙ g.met.S.Shares.agrees c.args.shares.now h c.args.member st c.requires.member in
     let none = start_fine c.args.limits.now c.args.member c.args.desc.now c.look.result h e (outcome_none (first_refusal tests) _ _ found) in
-    start_admitted (loop_tests c.args.desc.now) (shape_of c.args.desc.now) DealsOut c.args.limits.now (g.S.Shares.members c.args.shares.now) c.args.member c.begin_loop.result h none
-    (rw is at (c.begin_loop.ensures.answer h st))
+    start_admitted (loop_tests c.args.desc.now) (shape_of c.args.desc.now) DealsOut c.args.limits.now (g.S.Shares.members c.args.shares.now) c.args.member c.begin_loop.result h none begun)
+    (λ h st. refl)
+    (rw is at c.begin_loop.ensures.serves)
 
-pub returns-in-Ok-clause-stands : goal.returns-in-Ok-clause-stands
-returns-in-Ok-clause-stands g c = λ h st.
-    let tests = start_tests (loop_tests c.args.desc.now) c.args.limits.now c.look.result in
-    let is : c.in-Ok.shape ≡ shape_of c.args.desc.now = outcome_value (first_refusal tests) _ _ (sym c.admit_start.ensures.first ∙ c.in-Ok.is) in
-    rw is at (c.begin_loop.ensures.stands h st)
-
-pub returns-in-Err-clause-answer : goal.returns-in-Err-clause-answer
-returns-in-Err-clause-answer g c = λ h st.
+pub returns-in-Err-clause-serves : goal.returns-in-Err-clause-serves
+returns-in-Err-clause-serves g c =
+    serves_refused g.S.Shares.stands c.args.shares.now c.in-Err.refusal (AnswersLoopStart c.args.desc.now c.args.limits.now (g.S.Shares.members c.args.shares.now) c.args.member) (loop_started c.args.desc.now c.args.member) c.look.ensures.known
+    (λ h st.
     let e = c.look.ensures.value ∙ g.met.S.Shares.agrees c.args.shares.now h c.args.member st c.requires.member in
     let tests = start_tests (loop_tests c.args.desc.now) c.args.limits.now c.look.result in
-    start_refused c.args.limits.now c.args.member c.args.desc.now c.look.result h c.in-Err.refusal e (sym (outcome_refused (first_refusal tests) _ c.in-Err.refusal (sym c.admit_start.ensures.first ∙ c.in-Err.is)))
+    start_refused c.args.limits.now c.args.member c.args.desc.now c.look.result h c.in-Err.refusal e (sym (outcome_refused (first_refusal tests) _ c.in-Err.refusal (sym c.admit_start.ensures.first ∙ c.in-Err.is))))
+    (λ h. refl)

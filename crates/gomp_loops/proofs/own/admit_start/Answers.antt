@@ -4,7 +4,7 @@ use Rattle.gomp_types.specs.Tests.{first_refusal, outcome}
 use Rattle.gomp_types.specs.Iterations.{loop_tests}
 use Rattle.gomp_types.specs.Pieces.{shape_of}
 use Rattle.gomp_types.proofs.TestRows.{outcome_refused}
-use Rattle.gomp_loops.proofs.Steps.{start_own}
+use Rattle.gomp_loops.proofs.LoopReplies.{start_own}
 use Rattle.gomp_loops.proofs.own.admit_start.Goals as goal
 
 pub returns-in-Err-clause-first : goal.returns-in-Err-clause-first
