@@ -3,7 +3,6 @@ use Rattle.std.proofs.Common.{◌≡◌, ℕ, Bool, true, false, List, [], ◌�
 use Rattle.std.specs.Prelude.{not, is_some}
 use Rattle.gomp_types.specs.declared.call.Call.{Call}
 use Rattle.gomp_types.specs.declared.call.Call.TheVariants.{SingleCopyEnd, Resume}
-use Rattle.gomp_types.specs.declared.limits.Limits.{Limits}
 use Rattle.gomp_types.specs.declared.refusal.Refusal.{Refusal}
 use Rattle.gomp_types.specs.declared.reply.Reply.{Reply}
 use Rattle.gomp_types.specs.declared.reply.Reply.TheVariants.{Finished, Passed, Wait, Stopped, Refused}
@@ -22,7 +21,9 @@ use Rattle.gomp_types.specs.Seen.{seen_of}
 use Rattle.gomp_types.proofs.LeastTests.{least_append}
 use Rattle.gomp_laws.proofs.WordsToCome.{PutsNone}
 use Rattle.gomp_shares.specs.Calls.{IsAside as SharesAside}
-use Rattle.gomp_shares.specs.Starts.{Deals, Starts, start_tests, compared_share, share_tests, AnswersBegin, AnswersStart, done_given}
+use Rattle.gomp_shares.specs.Serves.{Serves, IsDone}
+use Rattle.gomp_shares.specs.Starts.{Deals, Starts, compared_share, AnswersBegin, done_given, entry_and}
+use Rattle.gomp_parts.specs.declared.payloads.Put.{Put as Words}
 use Rattle.gomp_shares.specs.Loops.{DealsNext}
 use Rattle.gomp_shares.specs.Sections.{DealsSections}
 use Rattle.gomp_shares.specs.Singles.{words_put}
@@ -36,7 +37,7 @@ use Rattle.gomp_model.specs.Calls.{row_of}
 use Rattle.gomp_laws.proofs.Sound.{Gives, gives_of, IsLast}
 use Rattle.gomp_laws.proofs.CallsKeep.{step_keeps}
 use Rattle.gomp_laws.proofs.Calls.{row_is_sound}
-use Rattle.gomp_parts.specs.Answers.{IsReady, MayReply, given_after, left_once}
+use Rattle.gomp_parts.specs.Answers.{IsReady, MayReply, SharesServe, given_after, left_once}
 
 -- By its own tests
 
@@ -51,53 +52,61 @@ answers_never tests may reply never answers not_so same = not_so (subst (Answers
 pub stays_may : (tests : List Test) (may : ℕ → Reply → Type 0) (members n : ℕ) (reply : Reply) → n ≡ members → least tests ≡ None → Answers tests (may members) reply → may n reply
 stays_may tests may members n reply is none answers = subst (λ (k : ℕ). may k reply) (sym is) (answers_may tests (may members) reply none answers)
 
-both_fail : (tests more : List Test) → least tests ≡ None → least more ≡ None → least (tests ++ more) ≡ None
-both_fail tests more one two = least_append tests more ∙ ap (λ (x : Option Refusal). lesser x (least more)) one ∙ two
-
-pub start_may : (memory : Bool) (own : List Test) (shape : Shape) (deals : Deals) (Given : ℕ → Shape → ℕ → Reply → List Event) (members : ℕ) (limits : Limits) (again : Bool) (m : ℕ) (p : Past) (reply : Reply) →
-    IsReady (start memory own shape deals Given) members limits again m p → AnswersStart own shape deals limits members m reply p.events → Starts deals p.terms.members m shape reply p.events
-start_may memory own shape deals Given members limits again m p reply ready answers =
-    stays_may (share_tests own shape limits m p.events) (λ n given. Starts deals n m shape given p.events) members p.terms.members reply ready.members_are
-    (both_fail (start_tests own limits (seen_of m p.events)) (compared_share shape m p.events) (ready.place refl) ready.compared) answers
-
 -- a start that its member's own tests let through is compared alone
-pub begin_may : (memory : Bool) (own : List Test) (shape : Shape) (deals : Deals) (Given : ℕ → Shape → ℕ → Reply → List Event) (members : ℕ) (limits : Limits) (again : Bool) (m : ℕ) (p : Past) (reply : Reply) →
-    IsReady (start memory own shape deals Given) members limits again m p → AnswersBegin shape deals members m reply p.events → Starts deals p.terms.members m shape reply p.events
-begin_may memory own shape deals Given members limits again m p reply ready answers =
+pub begin_may : (memory : Bool) (own : List Test) (shape : Shape) (deals : Deals) (Given : ℕ → Shape → ℕ → Reply → List Event) (members : ℕ) (again : Bool) (m : ℕ) (p : Past) (reply : Reply) →
+    IsReady (start memory own shape deals Given) members again m p → AnswersBegin shape deals members m reply p.events → Starts deals p.terms.members m shape reply p.events
+begin_may memory own shape deals Given members again m p reply ready answers =
     stays_may (compared_share shape m p.events) (λ n given. Starts deals n m shape given p.events) members p.terms.members reply ready.members_are ready.compared answers
 
 -- Calls that are done at once
 
-pub once_made : (tests : Seen → List Test) (events : ℕ → List Event → List Event) (members : ℕ) (limits : Limits) (again : Bool) (m : ℕ) (p : Past) → IsReady (at_once tests events) members limits again m p → again ≡ false
+pub once_made : (tests : Seen → List Test) (events : ℕ → List Event → List Event) (members : ℕ) (again : Bool) (m : ℕ) (p : Past) → IsReady (at_once tests events) members again m p → again ≡ false
 once_made tests events members limits true m p ready = absurd (let wait = (ready.waits refl).1 in cc)
 once_made tests events members limits false m p ready = refl
-
-pub once_done : (tests : Seen → List Test) (events : ℕ → List Event → List Event) (members : ℕ) (limits : Limits) (again : Bool) (m : ℕ) (p : Past) (reply : Reply) → IsReady (at_once tests events) members limits again m p →
-    Answers (tests (seen_of m p.events)) (λ given. given ≡ Finished) reply → reply ≡ Finished
-once_done tests events members limits again m p reply ready answers =
-    answers_may (tests (seen_of m p.events)) (λ given. given ≡ Finished) reply (ready.place (ap not (once_made tests events members limits again m p ready))) answers
 
 made_first : (events : List Event) → once events false ≡ events
 made_first [] = refl
 made_first (event ∷ events) = refl
 
-pub once_after : (P : List Event → Type 0) (tests : Seen → List Test) (events : ℕ → List Event → List Event) (members : ℕ) (limits : Limits) (again : Bool) (m : ℕ) (p : Past) (reply : Reply) → IsReady (at_once tests events) members limits again m p →
-    Answers (tests (seen_of m p.events)) (λ given. given ≡ Finished) reply → P (done_given (events m p.events) reply ++ p.events) → P (given_after (at_once tests events) again m p reply)
-once_after P tests events members limits again m p reply ready answers holds =
-    let done = once_done tests events members limits again m p reply ready answers in
+pub once_after : (P : List Event → Type 0) (tests : Seen → List Test) (events : ℕ → List Event → List Event) (members : ℕ) (again : Bool) (m : ℕ) (p : Past) (reply : Reply) → IsReady (at_once tests events) members again m p →
+    reply ≡ Finished → P (done_given (events m p.events) reply ++ p.events) → P (given_after (at_once tests events) again m p reply)
+once_after P tests events members again m p reply ready done holds =
     let now : P (events m p.events ++ p.events) = subst (λ (r : Reply). P (done_given (events m p.events) r ++ p.events)) done holds in
-    let first = once_made tests events members limits again m p ready in
+    let first = once_made tests events members again m p ready in
     subst (λ (b : Bool). P (once (events m p.events) b ++ p.events)) (sym first) (subst (λ (es : List Event). P (es ++ p.events)) (sym (made_first (events m p.events))) now)
 
+-- what the shares serve of a call that is done at once
+pub done_serves : {S : Type 0} (stands : S → List Event → Type 0) (members : ℕ) (before after : S) (payloads : List (Option Words)) (tests : Seen → List Test) (events : ℕ → List Event → List Event) (m : ℕ) (reply : Reply) →
+    Serves stands before after reply IsDone (λ given h. done_given (events m h) given ++ h) → SharesServe stands members before after payloads (at_once tests events) m reply
+done_serves stands members before after payloads tests events m reply serves = record {
+  waits = serves.waits;
+  answer = λ again p ready words. serves.answer p.events words.0;
+  stands_for = λ again p ready st. once_after (stands after) tests events members again m p reply ready (serves.answer p.events st) (serves.stands_for p.events st);
+}
+
+-- and of a start that its member's own tests let through
+pub start_serves : {S : Type 0} (stands : S → List Event → Type 0) (members : ℕ) (before after : S) (payloads : List (Option Words)) (memory : Bool) (own : List Test) (shape : Shape) (deals : Deals) (Given : ℕ → Shape → ℕ → Reply → List Event) (m : ℕ) (reply : Reply) →
+    Serves stands before after reply (AnswersBegin shape deals members m) (λ given h. entry_and Given shape m h given ++ h) → SharesServe stands members before after payloads (start memory own shape deals Given) m reply
+start_serves stands members before after payloads memory own shape deals Given m reply serves = record {
+  waits = serves.waits;
+  answer = λ again p ready words. begin_may memory own shape deals Given members again m p reply ready (serves.answer p.events words.0);
+  stands_for = λ again p ready st. serves.stands_for p.events st;
+}
+
+-- a call whose answer is another's
+pub row_serves : {S : Type 0} (stands : S → List Event → Type 0) (members : ℕ) (before after : S) (payloads : List (Option Words)) (call other : Call) (m : ℕ) (reply : Reply) → call ≡ other →
+    SharesServe stands members before after payloads (row_of other) m reply → SharesServe stands members before after payloads (row_of call) m reply
+row_serves stands members before after payloads call other m reply is serves = rw is serves
+
 -- words are put once
-pub words_made : (words : List ℕ) (members : ℕ) (limits : Limits) (again : Bool) (m : ℕ) (p : Past) → IsReady (row_of (SingleCopyEnd words)) members limits again m p → again ≡ false
+pub words_made : (words : List ℕ) (members : ℕ) (again : Bool) (m : ℕ) (p : Past) → IsReady (row_of (SingleCopyEnd words)) members again m p → again ≡ false
 words_made words members limits true m p ready = absurd (let wait = (ready.waits refl).1 in cc)
 words_made words members limits false m p ready = refl
 
-pub words_after : (P : List Event → Type 0) (words : List ℕ) (members : ℕ) (limits : Limits) (again : Bool) (m : ℕ) (p : Past) → IsReady (row_of (SingleCopyEnd words)) members limits again m p →
+pub words_after : (P : List Event → Type 0) (words : List ℕ) (members : ℕ) (again : Bool) (m : ℕ) (p : Past) → IsReady (row_of (SingleCopyEnd words)) members again m p →
     P (words_put words m p.events ++ p.events) → P (given_after (row_of (SingleCopyEnd words)) again m p Finished)
-words_after P words members limits again m p ready holds =
-    subst (λ (b : Bool). P (given_after (row_of (SingleCopyEnd words)) b m p Finished)) (sym (words_made words members limits again m p ready)) holds
+words_after P words members again m p ready holds =
+    subst (λ (b : Bool). P (given_after (row_of (SingleCopyEnd words)) b m p Finished)) (sym (words_made words members again m p ready)) holds
 
 -- Replies that a construct never gives
 
@@ -196,6 +205,6 @@ left_compared kind true m h same = same
 left_compared kind false m h same = same
 
 -- a resume has no answer of its own
-pub not_resume : (call : Call) (members : ℕ) (limits : Limits) (again : Bool) (m : ℕ) (p : Past) → IsReady (row_of call) members limits again m p → call ≡ Resume → ⊥
-not_resume call members limits again m p ready same =
+pub not_resume : (call : Call) (members : ℕ) (again : Bool) (m : ℕ) (p : Past) → IsReady (row_of call) members again m p → call ≡ Resume → ⊥
+not_resume call members again m p ready same =
     let none : least ((row_of Resume).compared again m p) ≡ None = rw same at ready.compared in cc

@@ -44,8 +44,8 @@ two_after h = record (before_all two_members) { events = h }
 
 -- a call is ready in a past of its own team, outside of every share; and a resume that repeats nothing, and a repeated call that never waits, are not
 pub ready_calls :
-    IsReady barrier_row 2 standard false 0 (two_after []) × (IsReady barrier_row 3 standard false 0 (two_after []) → ⊥) × (IsReady barrier_row 2 standard false 0 (two_after (Enter 0 0 (single_shape true) ∷ [])) → ⊥)
-    × (IsReady resume_row 2 standard true 0 (two_after []) → ⊥) × (IsReady loop_end_nowait_row 2 standard true 0 (two_after []) → ⊥)
+    IsReady barrier_row 2 false 0 (two_after []) × (IsReady barrier_row 3 false 0 (two_after []) → ⊥) × (IsReady barrier_row 2 false 0 (two_after (Enter 0 0 (single_shape true) ∷ [])) → ⊥)
+    × (IsReady resume_row 2 true 0 (two_after []) → ⊥) × (IsReady loop_end_nowait_row 2 true 0 (two_after []) → ⊥)
 ready_calls = (
   record { members_are = refl; place = λ e. refl; compared = refl; waits = λ e. absurd (cc) },
   λ ready. absurd (let members = ready.members_are in omega arith),

@@ -1,5 +1,5 @@
 -- What a team knows of a call that no test refuses, and what its parts stand for after the answer. OpenMP API 5.2, chapters 11 and 15, section 5.7.2.
-use Rattle.std.specs.Prelude.{ℕ, ◌≡◌, not, Bool, true, false, List, ◌++◌, Option, Some, None, IfSome, Result, IfOk}
+use Rattle.std.specs.Prelude.{ℕ, ◌≡◌, not, Bool, true, false, List, [], ◌++◌, Option, Some, None, IfSome, Result, IfOk}
 use Rattle.std.specs.Result.{result_err}
 use Rattle.gomp_types.specs.declared.shape.Shape.{Shape}
 use Rattle.gomp_types.specs.declared.limits.Limits.{Limits}
@@ -16,6 +16,8 @@ use Rattle.gomp_shares.specs.Calls.{MayOpenAs}
 use Rattle.gomp_shares.specs.Starts.{leaves}
 use Rattle.gomp_model.specs.Past.{Past}
 use Rattle.gomp_model.specs.Row.{Row, once, since}
+use Rattle.gomp_model.specs.Arrivals.{arrival, ending}
+use Rattle.gomp_types.specs.declared.event.Arrival.TheVariants.{ShareEnd}
 use Rattle.gomp_barrier.specs.Stands.{BarriersView, Stands as BarriersStand}
 use Rattle.gomp_parts.specs.declared.payloads.Put.{Put}
 use Rattle.gomp_parts.specs.Payloads.{PayloadsStand}
@@ -51,12 +53,16 @@ in_place false again = not again
 
 -- Answers
 
--- none of the tests of a call with this row holds, in a past of a team of so many members with these limits; one that is repeated is one that may wait
-pub record IsReady (row : Row) (members : ℕ) (limits : Limits) (again : Bool) (m : ℕ) (p : Past) : Type 0 where
+-- none of the tests of a call with this row holds, in a past of a team of so many members; one that is repeated is one that may wait
+pub record IsReady (row : Row) (members : ℕ) (again : Bool) (m : ℕ) (p : Past) : Type 0 where
   pub members_are : p.terms.members ≡ members
-  pub place : in_place row.stays again ≡ true → least (row.by_place limits (seen_of m p.events)) ≡ None
+  pub place : in_place row.stays again ≡ true → least (row.by_place p.terms.limits (seen_of m p.events)) ≡ None
   pub compared : least (row.compared again m p) ≡ None
   pub waits : again ≡ true → (q : Past) × row.may_reply m q Wait
+
+-- no test that the place of a member which sees this decides holds, by some limits
+abbrev pub IsPlaced : Row → Seen → Type 0
+IsPlaced row seen = (limits : Limits) × (least (row.by_place limits seen) ≡ None)
 
 -- what a reply that is no refusal may be
 abbrev pub MayReply : Row → Bool → ℕ → Past → Reply → Type 0
@@ -65,6 +71,10 @@ MayReply row again m p reply = row.may_reply m (since again row m p) reply
 -- the events after the call and such a reply
 abbrev pub given_after : Row → Bool → ℕ → Past → Reply → List Event
 given_after row again m p reply = row.gives m (since again row m p) reply ++ (since again row m p).events
+
+-- the row of a loop's end with a barrier, and of that of sections, but for their tests
+abbrev pub end_of_a_share : Row
+end_of_a_share = ending (λ seen. []) (arrival ShareEnd)
 
 -- the events after a member has left its share, unless its call is repeated
 abbrev pub left_once : Bool → ℕ → List Event → List Event
@@ -93,14 +103,28 @@ PartsStand stands members shares barriers payloads h = stands shares h × Barrie
 abbrev pub ArePartsKept : {S : Type 0} → S → BarriersView → List (Option Put) → S → BarriersView → List (Option Put) → Type 0
 ArePartsKept shares barriers payloads shares_after barriers_after payloads_after = (shares_after ≡ shares) × (barriers_after ≡ barriers) × (payloads_after ≡ payloads)
 
+-- of each past of a team of so many members for whose events these parts stand, this holds
+abbrev pub EachPast : (List Event → Type 0) → ℕ → (Past → Type 0) → Type 0
+EachPast stand members P = (p : Past) → p.terms.members ≡ members → stand p.events → P p
+
 -- A call that no test refuses
 
 -- the parts stand for some past in which a call with this row is ready
-abbrev pub SomeReady : {S : Type 0} → (S → List Event → Type 0) → (S → ℕ) → S → BarriersView → List (Option Put) → Row → Limits → Bool → ℕ → Type 0
-SomeReady stands members shares barriers payloads row limits again m =
-    (p : Past) × PartsStand stands (members shares) shares barriers payloads p.events × IsReady row (members shares) limits again m p
+abbrev pub SomeReady : {S : Type 0} → (S → List Event → Type 0) → (S → ℕ) → S → BarriersView → List (Option Put) → Row → Bool → ℕ → Type 0
+SomeReady stands members shares barriers payloads row again m =
+    (p : Past) × PartsStand stands (members shares) shares barriers payloads p.events × IsReady row (members shares) again m p
 
 -- of each such past this holds
-abbrev pub EachReady : {S : Type 0} → (S → List Event → Type 0) → (S → ℕ) → S → BarriersView → List (Option Put) → Row → Limits → Bool → ℕ → (Past → Type 0) → Type 0
-EachReady stands members shares barriers payloads row limits again m P =
-    (p : Past) → PartsStand stands (members shares) shares barriers payloads p.events → IsReady row (members shares) limits again m p → P p
+abbrev pub EachReady : {S : Type 0} → (S → List Event → Type 0) → (S → ℕ) → S → BarriersView → List (Option Put) → Row → Bool → ℕ → (Past → Type 0) → Type 0
+EachReady stands members shares barriers payloads row again m P =
+    (p : Past) → PartsStand stands (members shares) shares barriers payloads p.events → IsReady row (members shares) again m p → P p
+
+-- and after the reply to it the parts stand for this past with what the reply gives
+abbrev pub StandAfter : {S : Type 0} → (S → List Event → Type 0) → ℕ → S → BarriersView → List (Option Put) → Row → Bool → ℕ → Reply → Past → Type 0
+StandAfter stands members shares barriers payloads row again m reply p = PartsStand stands members shares barriers payloads (given_after row again m p reply)
+
+-- what the shares promise of their reply to such a call, whether it is repeated or not: a wait changes nothing, the reply is one that the row has, and they stand for what it gives
+pub record SharesServe {S : Type 0} (stands : S → List Event → Type 0) (members : ℕ) (before after : S) (payloads : List (Option Put)) (row : Row) (m : ℕ) (reply : Reply) : Type 0 where
+  pub waits : reply ≡ Wait → after ≡ before
+  pub answer : (again : Bool) (p : Past) → IsReady row members again m p → WordsStand stands members before payloads p.events → MayReply row again m p reply
+  pub stands_for : (again : Bool) (p : Past) → IsReady row members again m p → stands before p.events → stands after (given_after row again m p reply)

@@ -1,21 +1,21 @@
 //! What a member is answered where no test of its call holds.
 
-ghost use Rattle.std.specs.Prelude.{◌≡◌, ◌<◌, ◌++◌, List, true, None};
-ghost use Rattle.gomp_types.specs.declared.event.Event.{Event};
+ghost use Rattle.std.specs.Prelude.{◌≡◌, ◌<◌, ◌++◌, true, None};
 ghost use Rattle.gomp_types.specs.declared.call.Call.TheVariants.{Stop};
 ghost use Rattle.gomp_types.specs.declared.reply.Reply.TheVariants.{Wait, Stopped};
 ghost use Rattle.gomp_types.specs.Least.{least};
+ghost use Rattle.gomp_shares.specs.Calls.{EachStands};
 ghost use Rattle.gomp_shares.specs.Singles.{put_tests, words_put};
 ghost use Rattle.gomp_barrier.specs.Stands.{members_of as barrier_members};
 ghost use Rattle.gomp_model.specs.Calls.{row_of};
-ghost use Rattle.gomp_parts.specs.Answers.{ArePartsKept, StartsShare, PartsStand, WordsStand, SomeReady, EachReady, MayReply, given_after};
+ghost use Rattle.gomp_parts.specs.Answers.{ArePartsKept, StartsShare, StandAfter, WordsStand, SomeReady, EachReady, MayReply};
 
 use crate::arrivals::{arrival_reply, end_reply};
 use crate::payloads::Payloads;
 use crate::shares::share_reply;
 use gomp_barrier::Barriers;
-use gomp_shares::{Construct, Shares};
-use gomp_types::{Arrival, Call, Limits, Payload, Reply, Shape};
+use gomp_shares::Shares;
+use gomp_types::{Arrival, Call, Payload, Reply, Shape};
 
 /// Answers a call, which starts a share of this shape if it starts one (`starts`), or goes on with one
 /// that waits (`again`).
@@ -26,7 +26,6 @@ pub fn answer<S: Shares>(
     shares: &mut S,
     barriers: &mut Barriers,
     payloads: &mut Payloads,
-    limits: &Limits,
     member: u16,
     call: &Call,
     starts: &Option<Shape>,
@@ -36,23 +35,21 @@ pub fn answer<S: Shares>(
     requires starts { StartsShare (row_of call.now) (S.seen shares.old member) starts.now }
     requires team { barrier_members barriers.old ≡ S.members shares.old }
     requires ready { SomeReady S.stands S.members shares.old barriers.old payloads.old
-        (row_of call.now) limits.now again member }
+        (row_of call.now) again member }
     ensures members { S.members shares.new ≡ S.members shares.old }
     ensures barriers { barrier_members barriers.new ≡ barrier_members barriers.old }
     ensures again { again ≡ true → result ≡ Wait →
         ArePartsKept shares.old barriers.old payloads.old shares.new barriers.new payloads.new }
     ensures stops { result ≡ Stopped → call.now ≡ Stop }
     ensures answer { EachReady S.stands S.members shares.old barriers.old payloads.old
-        (row_of call.now) limits.now again member
-        (λ p. MayReply (row_of call.now) again member p result) }
+        (row_of call.now) again member (λ p. MayReply (row_of call.now) again member p result) }
     ensures stands { EachReady S.stands S.members shares.old barriers.old payloads.old
-        (row_of call.now) limits.now again member
-        (λ p. PartsStand S.stands (S.members shares.old) shares.new barriers.new payloads.new
-        (given_after (row_of call.now) again member p result)) }
+        (row_of call.now) again member (StandAfter S.stands (S.members shares.old)
+        shares.new barriers.new payloads.new (row_of call.now) again member result) }
 {
     match call {
-        Call::LoopEnd => end_reply(shares, barriers, member, Construct::Loop, again),
-        Call::SectionsEnd => end_reply(shares, barriers, member, Construct::Sections, again),
+        Call::LoopEnd => end_reply(shares, barriers, member, again),
+        Call::SectionsEnd => end_reply(shares, barriers, member, again),
         Call::Barrier => arrival_reply(shares, barriers, member, Arrival::Barrier, again),
         Call::RegionEnd => arrival_reply(shares, barriers, member, Arrival::RegionEnd, again),
         Call::SingleCopyEnd(words) => {
@@ -69,7 +66,7 @@ pub fn answer<S: Shares>(
         | Call::SingleCopyStart
         | Call::OrderedStart(_)
         | Call::OrderedEnd
-        | Call::Stop => { share_reply(shares, payloads, limits, member, call, starts) },
+        | Call::Stop => { share_reply(shares, payloads, member, call, starts) },
         Call::Resume => unreachable!(),
     }
 }
@@ -79,16 +76,13 @@ fn put_words<S: Shares>(shares: &mut S, payloads: &mut Payloads, member: u16, wo
     requires member { member < S.members shares.old }
     requires place { least (put_tests (S.seen shares.old member)) ≡ None }
     ensures members { S.members shares.new ≡ S.members shares.old }
-    ensures stands { (h : List Event) →
-        WordsStand S.stands (S.members shares.old) shares.old payloads.old h →
-        WordsStand S.stands (S.members shares.old) shares.new payloads.new
-        (words_put words.now member h ++ h) }
+    ensures stands { EachStands (WordsStand S.stands (S.members shares.old) shares.old payloads.old)
+        (λ h. WordsStand S.stands (S.members shares.old) shares.new payloads.new
+        (words_put words.now member h ++ h)) }
 {
     let Some((number, _)) = shares.look(member).current else {
         unreachable!()
     };
-    let Ok(()) = gomp_sections::single_copy_end(shares, member) else {
-        unreachable!()
-    };
+    shares.leave(member);
     payloads.put(number, words.copied());
 }

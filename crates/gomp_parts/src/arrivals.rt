@@ -7,36 +7,30 @@
 ghost use Rattle.std.specs.Prelude.{◌≡◌, ◌≢◌, ◌<◌, ◌++◌, List, false, true, None};
 ghost use Rattle.gomp_types.specs.declared.event.Event.{Event};
 ghost use Rattle.gomp_types.specs.declared.event.Arrival.TheVariants.{ShareEnd};
-ghost use Rattle.gomp_types.specs.declared.loop_desc.EndKind.TheVariants.{Wait as WaitEnd};
 ghost use Rattle.gomp_types.specs.Events.{passed, barrier_met};
 ghost use Rattle.gomp_types.specs.declared.reply.Reply.TheVariants.{Wait, Stopped};
 ghost use Rattle.gomp_types.specs.Least.{least};
-ghost use Rattle.gomp_types.specs.Seen.{seen_of};
-ghost use Rattle.gomp_types.specs.Tests.{outcome};
-ghost use Rattle.gomp_shares.specs.Calls.{EachStands, left_unless_refused};
-ghost use Rattle.gomp_shares.specs.Own.{end_tests_of};
+ghost use Rattle.gomp_shares.specs.Calls.{CanLeave, EachStands};
 ghost use Rattle.gomp_barrier.specs.Stands.{Stands as BarriersStand, members_of as barrier_members};
-ghost use Rattle.gomp_model.specs.Past.{Past};
-ghost use Rattle.gomp_model.specs.Arrivals.{Awaits, passes, compared_arrival, arrival, ending};
-ghost use Rattle.gomp_parts.specs.Answers.{MayReply, given_after, BothStand, left_once};
+ghost use Rattle.gomp_model.specs.Arrivals.{Awaits, passes, compared_arrival, arrival};
+ghost use Rattle.gomp_parts.specs.Answers.{BothStand, EachPast, MayReply, end_of_a_share, given_after};
 
 use gomp_barrier::Barriers;
-use gomp_shares::{Construct, Shares};
-use gomp_types::{Arrival, Refusal, Reply, Tag};
+use gomp_shares::Shares;
+use gomp_types::{Arrival, Reply, Tag};
 
 /// Ends a construct with a barrier at its end, or goes on at that (`again`): the member leaves the
-/// construct, arrives, and passes where all have arrived.
+/// construct, arrives, and passes if all have arrived.
 pub fn end_reply<S: Shares>(
     shares: &mut S,
     barriers: &mut Barriers,
     member: u16,
-    construct: Construct,
     again: bool,
 ) -> Reply
     requires member { member < S.members shares.old }
     requires team { barrier_members barriers.old ≡ S.members shares.old }
     requires place { again ≡ false →
-        least (end_tests_of construct WaitEnd (S.seen shares.old member)) ≡ None }
+        CanLeave (S.members shares.old) member (S.seen shares.old member) }
     requires same { (h : List Event) × BothStand S.stands shares.old barriers.old h ×
         least (compared_arrival ShareEnd again member h) ≡ None }
     ensures members { S.members shares.new ≡ S.members shares.old }
@@ -44,16 +38,15 @@ pub fn end_reply<S: Shares>(
     ensures again { again ≡ true → result ≡ Wait →
         (shares.new ≡ shares.old) × (barriers.new ≡ barriers.old) }
     ensures stops { result ≢ Stopped }
-    ensures answer { (p : Past) → p.terms.members ≡ S.members shares.old →
-        BothStand S.stands shares.old barriers.old p.events →
-        MayReply (ending (end_tests_of construct WaitEnd) (arrival ShareEnd))
-        again member p result }
-    ensures stands { (p : Past) → p.terms.members ≡ S.members shares.old →
-        BothStand S.stands shares.old barriers.old p.events →
-        BothStand S.stands shares.new barriers.new (given_after
-        (ending (end_tests_of construct WaitEnd) (arrival ShareEnd)) again member p result) }
+    ensures answer { EachPast (BothStand S.stands shares.old barriers.old) (S.members shares.old)
+        (λ p. MayReply end_of_a_share again member p result) }
+    ensures stands { EachPast (BothStand S.stands shares.old barriers.old) (S.members shares.old)
+        (λ p. BothStand S.stands shares.new barriers.new
+        (given_after end_of_a_share again member p result)) }
 {
-    leave(shares, member, construct, again);
+    if !again {
+        shares.leave(member);
+    }
     arrival_reply(shares, barriers, member, Arrival::ShareEnd, again)
 }
 
@@ -73,13 +66,11 @@ pub fn arrival_reply<S: Shares>(
     ensures barriers { barrier_members barriers.new ≡ barrier_members barriers.old }
     ensures again { again ≡ true → result ≡ Wait → barriers.new ≡ barriers.old }
     ensures stops { result ≢ Stopped }
-    ensures answer { (p : Past) → p.terms.members ≡ S.members shares.now →
-        BothStand S.stands shares.now barriers.old p.events →
-        MayReply (arrival kind) again member p result }
-    ensures stands { (p : Past) → p.terms.members ≡ S.members shares.now →
-        BothStand S.stands shares.now barriers.old p.events →
-        BothStand S.stands shares.now barriers.new
-        (given_after (arrival kind) again member p result) }
+    ensures answer { EachPast (BothStand S.stands shares.now barriers.old) (S.members shares.now)
+        (λ p. MayReply (arrival kind) again member p result) }
+    ensures stands { EachPast (BothStand S.stands shares.now barriers.old) (S.members shares.now)
+        (λ p. BothStand S.stands shares.now barriers.new
+        (given_after (arrival kind) again member p result)) }
 {
     if again {
         return pass_or_wait(barriers, member);
@@ -92,41 +83,6 @@ pub fn arrival_reply<S: Shares>(
         unreachable!()
     }
     pass_or_wait(barriers, member)
-}
-
-/// Leaves the construct, at the end of which a barrier stands; nothing changes where the call is
-/// repeated (`again`).
-fn leave<S: Shares>(shares: &mut S, member: u16, construct: Construct, again: bool)
-    requires member { member < S.members shares.old }
-    requires place { again ≡ false →
-        least (end_tests_of construct WaitEnd (S.seen shares.old member)) ≡ None }
-    ensures members { S.members shares.new ≡ S.members shares.old }
-    ensures kept { again ≡ true → shares.new ≡ shares.old }
-    ensures left { EachStands (S.stands shares.old)
-        (λ h. S.stands shares.new (left_once again member h)) }
-{
-    if again {
-        return;
-    }
-    let Ok(()) = end(shares, member, construct) else {
-        unreachable!()
-    };
-}
-
-/// Ends the construct, at the end of which a barrier stands.
-fn end<S: Shares>(shares: &mut S, member: u16, construct: Construct) -> Result<(), Refusal>
-    requires { member < S.members shares.old }
-    ensures members { S.members shares.new ≡ S.members shares.old }
-    ensures known { (h : List Event) × S.stands shares.old h }
-    ensures answer { EachStands (S.stands shares.old)
-        (λ h. result ≡ outcome (least (end_tests_of construct WaitEnd (seen_of member h))) tt) }
-    ensures stands { EachStands (S.stands shares.old)
-        (λ h. S.stands shares.new (left_unless_refused result member h)) }
-{
-    match construct {
-        Construct::Loop => gomp_loops::loop_end(shares, member),
-        Construct::Sections => gomp_sections::sections_end(shares, member),
-    }
 }
 
 /// The member passes the barrier at which it has arrived, where every member has; else it waits on.

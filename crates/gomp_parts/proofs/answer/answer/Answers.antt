@@ -1,6 +1,9 @@
 use Rattle.std.proofs.Common.{◌++◌, refl, ap}
 use Rattle.std.specs.Prelude.{not}
 use Rattle.gomp_types.specs.declared.call.Call.TheVariants.{LoopEnd, SectionsEnd, Barrier, RegionEnd}
+use Rattle.gomp_types.specs.declared.loop_desc.EndKind.TheVariants.{Wait as WaitEnd}
+use Rattle.gomp_shares.specs.declared.own.Construct.TheVariants.{Loop, Sections}
+use Rattle.gomp_shares.proofs.Admitted.{end_lets_leave}
 use Rattle.gomp_shares.specs.Singles.{words_put}
 use Rattle.gomp_barrier.specs.Stands.{Stands as BarriersStand}
 use Rattle.gomp_parts.specs.Payloads.{PayloadsStand}
@@ -13,7 +16,8 @@ pub end_reply-requires-clause-place : goal.end_reply-requires-clause-place
 end_reply-requires-clause-place g c = λ first.
     let (p, parts, ready) = c.requires.ready in
     let own = rw c.in-LoopEnd.is at ready in
-    rw (g.met.S.Shares.agrees c.args.shares.now p.events c.args.member parts.0 c.requires.member) (own.place (ap not first))
+    let e = g.met.S.Shares.agrees c.args.shares.now p.events c.args.member parts.0 c.requires.member in
+    end_lets_leave Loop WaitEnd (g.S.Shares.members c.args.shares.now) c.args.member _ p.events (g.met.S.Shares.ruled c.args.shares.now p.events parts.0) e c.requires.member (rw e (own.place (ap not first)))
 
 pub end_reply-requires-clause-same : goal.end_reply-requires-clause-same
 end_reply-requires-clause-same g c =
@@ -25,7 +29,8 @@ pub end_reply-requires-in-SectionsEnd-clause-place : goal.end_reply-requires-in-
 end_reply-requires-in-SectionsEnd-clause-place g c = λ first.
     let (p, parts, ready) = c.requires.ready in
     let own = rw c.in-SectionsEnd.is at ready in
-    rw (g.met.S.Shares.agrees c.args.shares.now p.events c.args.member parts.0 c.requires.member) (own.place (ap not first))
+    let e = g.met.S.Shares.agrees c.args.shares.now p.events c.args.member parts.0 c.requires.member in
+    end_lets_leave Sections WaitEnd (g.S.Shares.members c.args.shares.now) c.args.member _ p.events (g.met.S.Shares.ruled c.args.shares.now p.events parts.0) e c.requires.member (rw e (own.place (ap not first)))
 
 pub end_reply-requires-in-SectionsEnd-clause-same : goal.end_reply-requires-in-SectionsEnd-clause-same
 end_reply-requires-in-SectionsEnd-clause-same g c =
@@ -49,7 +54,7 @@ pub put_words-requires-clause-place : goal.put_words-requires-clause-place
 put_words-requires-clause-place g c =
     let (p, parts, ready) = c.requires.ready in
     let own = rw c.in-SingleCopyEnd.is at ready in
-    rw (g.met.S.Shares.agrees c.args.shares.now p.events c.args.member parts.0 c.requires.member) (own.place (ap not (words_made c.in-SingleCopyEnd.words (g.S.Shares.members c.args.shares.now) c.args.limits.now c.args.again c.args.member p own)))
+    rw (g.met.S.Shares.agrees c.args.shares.now p.events c.args.member parts.0 c.requires.member) (own.place (ap not (words_made c.in-SingleCopyEnd.words (g.S.Shares.members c.args.shares.now) c.args.again c.args.member p own)))
 
 pub share_reply-requires-clause-known : goal.share_reply-requires-clause-known
 share_reply-requires-clause-known g c = let (p, parts, ready) = c.requires.ready in (p.events, (parts.0, parts.2))
@@ -57,7 +62,7 @@ share_reply-requires-clause-known g c = let (p, parts, ready) = c.requires.ready
 pub unreachable-requires : goal.unreachable-requires
 unreachable-requires g c =
     let (p, parts, ready) = c.requires.ready in
-    not_resume c.args.call.now (g.S.Shares.members c.args.shares.now) c.args.limits.now c.args.again c.args.member p ready c.in-Resume.is
+    not_resume c.args.call.now (g.S.Shares.members c.args.shares.now) c.args.again c.args.member p ready c.in-Resume.is
 
 pub returns-in-LoopEnd-clause-members : goal.returns-in-LoopEnd-clause-members
 returns-in-LoopEnd-clause-members g c = c.end_reply.ensures.members
@@ -170,9 +175,9 @@ returns-in-SingleCopyEnd-clause-stands g c = λ p parts ready.
     let both = c.put_words.ensures.stands p.events (parts.0, parts.2) in
     let aside : BarriersStand c.args.barriers.now (words_put words c.args.member p.events ++ p.events) = events_aside_keep_barriers c.args.barriers.now _ _ tt (events_aside_keep_barriers c.args.barriers.now _ _ tt parts.1) in
     rw c.in-SingleCopyEnd.is (
-      words_after (g.S.Shares.stands c.put_words.new.shares) words members c.args.limits.now c.args.again c.args.member p own both.0,
-      words_after (BarriersStand c.args.barriers.now) words members c.args.limits.now c.args.again c.args.member p own aside,
-      words_after (PayloadsStand members c.put_words.new.payloads) words members c.args.limits.now c.args.again c.args.member p own both.1,
+      words_after (g.S.Shares.stands c.put_words.new.shares) words members c.args.again c.args.member p own both.0,
+      words_after (BarriersStand c.args.barriers.now) words members c.args.again c.args.member p own aside,
+      words_after (PayloadsStand members c.put_words.new.payloads) words members c.args.again c.args.member p own both.1,
     )
 
 pub returns-in-LoopStart-clause-members : goal.returns-in-LoopStart-clause-members
@@ -182,19 +187,19 @@ pub returns-in-LoopStart-clause-barriers : goal.returns-in-LoopStart-clause-barr
 returns-in-LoopStart-clause-barriers g c = refl
 
 pub returns-in-LoopStart-clause-again : goal.returns-in-LoopStart-clause-again
-returns-in-LoopStart-clause-again g c = λ again wait. (c.share_reply.ensures.waits wait, refl, refl)
+returns-in-LoopStart-clause-again g c = λ again wait. (c.share_reply.ensures.serves.waits wait, refl, refl)
 
 pub returns-in-LoopStart-clause-stops : goal.returns-in-LoopStart-clause-stops
 returns-in-LoopStart-clause-stops g c = c.share_reply.ensures.stops
 
 pub returns-in-LoopStart-clause-answer : goal.returns-in-LoopStart-clause-answer
-returns-in-LoopStart-clause-answer g c = λ p parts ready. c.share_reply.ensures.answer c.args.again p ready (parts.0, parts.2)
+returns-in-LoopStart-clause-answer g c = λ p parts ready. c.share_reply.ensures.serves.answer c.args.again p ready (parts.0, parts.2)
 
 pub returns-in-LoopStart-clause-stands : goal.returns-in-LoopStart-clause-stands
 returns-in-LoopStart-clause-stands g c = λ p parts ready.
     let members = g.S.Shares.members c.args.shares.now in
-    let may = c.share_reply.ensures.answer c.args.again p ready (parts.0, parts.2) in (
-      c.share_reply.ensures.stands c.args.again p ready parts.0,
+    let may = c.share_reply.ensures.serves.answer c.args.again p ready (parts.0, parts.2) in (
+      c.share_reply.ensures.serves.stands_for c.args.again p ready parts.0,
       aloof_stands (BarriersStand c.args.barriers.now) (events_aside_keep_barriers _) c.args.call.now c.args.again c.args.member p c.share_reply.result c.share_reply.ensures.apart.0 may parts.1,
       silent_stands (PayloadsStand members c.args.payloads.now) (words_aside members c.args.payloads.now) c.args.call.now c.args.again c.args.member p c.share_reply.result c.share_reply.ensures.apart.1 may parts.2,
     )

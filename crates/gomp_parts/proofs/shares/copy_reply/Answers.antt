@@ -1,30 +1,15 @@
-use Rattle.std.proofs.Common.{ap, sym, ◌∙◌, true, [], slice_get}
+use Rattle.std.proofs.Common.{ap, sym, ◌∙◌, slice_get}
 use Rattle.std.specs.Prelude.{◌%◌}
 use Rattle.gomp_types.specs.declared.limits.TheConstants.{OPEN_SHARES}
-use Rattle.gomp_types.specs.declared.reply.Reply.TheVariants.{Stopped}
 use Rattle.gomp_types.specs.declared.seen.Seen.{Seen}
-use Rattle.gomp_types.specs.Singles.{single_shape}
 use Rattle.gomp_types.specs.Events.{entered}
-use Rattle.gomp_shares.specs.Starts.{Starts, share_tests}
-use Rattle.gomp_shares.specs.Singles.{DealsCopy}
 use Rattle.gomp_parts.specs.Payloads.{there}
 use Rattle.gomp_shares.proofs.Laws.{next_share_is_open}
-use Rattle.gomp_parts.proofs.Answered.{answers_never}
 use Rattle.gomp_parts.proofs.shares.copy_reply.Goals as goal
-
-pub returns-clause-stops : goal.returns-clause-stops
-returns-clause-stops g c =
-    let (h, both) = c.requires.known in
-    let members = g.S.Shares.members c.args.shares.now in
-    let e = c.look.ensures.value ∙ g.met.S.Shares.agrees c.args.shares.now h c.args.member both.0 c.requires.member in
-    let open_ = next_share_is_open members c.args.member h (g.met.S.Shares.ruled c.args.shares.now h both.0) c.requires.member in
-    let words = sym (both.1.words (entered c.args.member h) open_) ∙ ap (λ (s : Seen). there s.entered (slice_get c.args.payloads.now (s.entered % OPEN_SHARES))) (sym e) ∙ sym c.at-put.ensures in
-    answers_never (share_tests [] (single_shape true) c.args.limits.now c.args.member h) (λ given. Starts DealsCopy members c.args.member (single_shape true) given h) c.single_copy_start.result Stopped
-    (c.single_copy_start.ensures.answer h both.0 words) (λ never. never.1.1)
 
 pub returns-clause-answer : goal.returns-clause-answer
 returns-clause-answer g c = λ h both.
-    let e = c.look.ensures.value ∙ g.met.S.Shares.agrees c.args.shares.now h c.args.member both.0 c.requires.member in
-    let open_ = next_share_is_open (g.S.Shares.members c.args.shares.now) c.args.member h (g.met.S.Shares.ruled c.args.shares.now h both.0) c.requires.member in
+    let e = c.look.ensures.value ∙ g.met.S.Shares.agrees c.args.shares.now h c.args.member both.0 c.requires.place.member in
+    let open_ = next_share_is_open (g.S.Shares.members c.args.shares.now) c.args.member h (g.met.S.Shares.ruled c.args.shares.now h both.0) c.requires.place.member in
     let words = sym (both.1.words (entered c.args.member h) open_) ∙ ap (λ (s : Seen). there s.entered (slice_get c.args.payloads.now (s.entered % OPEN_SHARES))) (sym e) ∙ sym c.at-put.ensures in
-    c.single_copy_start.ensures.answer h both.0 words
+    c.begin_copy.ensures.serves.answer h both.0 words
