@@ -30,14 +30,14 @@ use Rattle.gomp_shares.specs.Singles.{words_put}
 use Rattle.gomp_shares.specs.OrderedParts.{BeginsPart}
 use Rattle.gomp_barrier.specs.Calls.{IsAside as BarriersAside, arrived_after}
 use Rattle.gomp_model.specs.Past.{Past}
-use Rattle.gomp_model.specs.Row.{at_once, once, since, events_after}
+use Rattle.gomp_model.specs.Row.{Row, at_once, once, since, events_after}
 use Rattle.gomp_model.specs.Starts.{start}
 use Rattle.gomp_model.specs.Arrivals.{Awaits, compared_arrival, arrival, ending}
 use Rattle.gomp_model.specs.Calls.{row_of}
 use Rattle.gomp_laws.proofs.Sound.{Gives, gives_of, IsLast}
 use Rattle.gomp_laws.proofs.CallsKeep.{step_keeps}
 use Rattle.gomp_laws.proofs.Calls.{row_is_sound}
-use Rattle.gomp_parts.specs.Answers.{IsReady, MayReply, SharesServe, given_after, left_once}
+use Rattle.gomp_parts.specs.Answers.{in_place, IsReady, MayReply, SharesServe, given_after, left_once}
 
 -- By its own tests
 
@@ -203,6 +203,15 @@ left_aside P keeps false m h holds = keeps _ _ tt holds
 pub left_compared : (kind : Arrival) (again : Bool) (m : ℕ) (h : List Event) → least (compared_arrival kind again m h) ≡ None → least (compared_arrival kind again m (left_once again m h)) ≡ None
 left_compared kind true m h same = same
 left_compared kind false m h same = same
+
+-- a call is in its place as it is answered, if one that leaves it never waits
+pub ready_in_place : (row : Row) (members : ℕ) (again : Bool) (m : ℕ) (p : Past) → IsReady row members again m p → (row.stays ≡ false → (q : Past) → row.may_reply m q Wait → ⊥) → least (row.by_place p.terms.limits (seen_of m p.events)) ≡ None
+ready_in_place row members again m p ready never = ready.place (in_place_there row.stays again (λ goes repeats. let (q, wait) = ready.waits repeats in never goes q wait))
+  where
+    in_place_there : (stays again : Bool) → (stays ≡ false → again ≡ true → ⊥) → in_place stays again ≡ true
+    in_place_there true again no = refl
+    in_place_there false false no = refl
+    in_place_there false true no = absurd (no refl refl)
 
 -- a resume has no answer of its own
 pub not_resume : (call : Call) (members : ℕ) (again : Bool) (m : ℕ) (p : Past) → IsReady (row_of call) members again m p → call ≡ Resume → ⊥

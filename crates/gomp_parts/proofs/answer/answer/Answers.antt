@@ -1,14 +1,17 @@
-use Rattle.std.proofs.Common.{◌++◌, refl, ap}
+use Rattle.std.proofs.Common.{◌≡◌, ◌++◌, refl, ap, false, inl, inr}
 use Rattle.std.specs.Prelude.{not}
 use Rattle.gomp_types.specs.declared.call.Call.TheVariants.{LoopEnd, SectionsEnd, Barrier, RegionEnd}
 use Rattle.gomp_types.specs.declared.loop_desc.EndKind.TheVariants.{Wait as WaitEnd}
 use Rattle.gomp_shares.specs.declared.own.Construct.TheVariants.{Loop, Sections}
 use Rattle.gomp_shares.proofs.Admitted.{end_lets_leave}
 use Rattle.gomp_shares.specs.Singles.{words_put}
+use Rattle.gomp_types.specs.declared.reply.Reply.TheVariants.{Wait}
+use Rattle.gomp_model.specs.Past.{Past}
+use Rattle.gomp_model.specs.Calls.{row_of}
 use Rattle.gomp_barrier.specs.Stands.{Stands as BarriersStand}
 use Rattle.gomp_parts.specs.Payloads.{PayloadsStand}
 use Rattle.gomp_barrier.proofs.Laws.{events_aside_keep_barriers}
-use Rattle.gomp_parts.proofs.Answered.{aloof_stands, silent_stands, words_made, words_after, not_resume}
+use Rattle.gomp_parts.proofs.Answered.{aloof_stands, silent_stands, words_made, words_after, not_resume, ready_in_place}
 use Rattle.gomp_parts.proofs.Words.{words_aside}
 use Rattle.gomp_parts.proofs.answer.answer.Goals as goal
 
@@ -55,6 +58,42 @@ put_words-requires-clause-place g c =
     let (p, parts, ready) = c.requires.ready in
     let own = rw c.in-SingleCopyEnd.is at ready in
     rw (g.met.S.Shares.agrees c.args.shares.now p.events c.args.member parts.0 c.requires.member) (own.place (ap not (words_made c.in-SingleCopyEnd.words (g.S.Shares.members c.args.shares.now) c.args.again c.args.member p own)))
+
+pub share_reply-requires-clause-place : goal.share_reply-requires-clause-place
+share_reply-requires-clause-place g c =
+    let (p, parts, ready) = c.requires.ready in
+    let never : (row_of c.args.call.now).stays ≡ false → (q : Past) → (row_of c.args.call.now).may_reply c.args.member q Wait → ⊥ = elim c.in-LoopStart.is [
+      | inl is ↦ rw is.1 (λ goes q wait. absurd (cc))
+      | inr other ↦ elim other [
+        | inl is ↦ rw is (λ goes q wait. absurd (cc))
+        | inr other ↦ elim other [
+          | inl is ↦ rw is (λ goes q wait. absurd (cc))
+          | inr other ↦ elim other [
+            | inl is ↦ rw is.2 (λ goes q wait. absurd (cc))
+            | inr other ↦ elim other [
+              | inl is ↦ rw is (λ goes q wait. absurd (cc))
+              | inr other ↦ elim other [
+                | inl is ↦ rw is (λ goes q wait. absurd (cc))
+                | inr other ↦ elim other [
+                  | inl is ↦ rw is (λ goes q wait. absurd (cc))
+                  | inr other ↦ elim other [
+                    | inl is ↦ rw is (λ goes q wait. absurd (cc))
+                    | inr other ↦ elim other [
+                      | inl is ↦ rw is.1 (λ goes q wait. absurd (cc))
+                      | inr other ↦ elim other [
+                        | inl is ↦ rw is (λ goes q wait. absurd (cc))
+                        | inr is ↦ rw is (λ goes q wait. absurd (cc))
+                      ]
+                    ]
+                  ]
+                ]
+              ]
+            ]
+          ]
+        ]
+      ]
+    ] in
+    (p.terms.limits, rw (g.met.S.Shares.agrees c.args.shares.now p.events c.args.member parts.0 c.requires.member) (ready_in_place (row_of c.args.call.now) (g.S.Shares.members c.args.shares.now) c.args.again c.args.member p ready never))
 
 pub share_reply-requires-clause-known : goal.share_reply-requires-clause-known
 share_reply-requires-clause-known g c = let (p, parts, ready) = c.requires.ready in (p.events, (parts.0, parts.2))

@@ -98,6 +98,9 @@ returns-in-LoopNext-clause-stops g c = λ stopped.
 pub take_section-requires-clause-place : goal.take_section-requires-clause-place
 take_section-requires-clause-place g c = let (limits, none) = c.requires.place in rw c.in-SectionsNext.is at none
 
+pub take_section-requires-clause-known : goal.take_section-requires-clause-known
+take_section-requires-clause-known g c = let (h, words) = c.requires.known in (h, words.0)
+
 pub returns-in-SectionsNext-clause-serves : goal.returns-in-SectionsNext-clause-serves
 returns-in-SectionsNext-clause-serves g c =
     let m = c.args.member in
