@@ -69,16 +69,15 @@ resumed_may_wait m p Resume None fail waits again = absurd (let shut = fail.0 in
 resumed_may_wait m p Resume (Some call) fail waits again = waits call refl
 resumed_may_wait m p _ waiting fail waits again = absurd (cc)
 
-pub step_ready : (terms : Terms) (run : Record) (step : Step) (members : ℕ) (limits : Limits) → Caused terms run → capped terms.limits ≡ terms.limits → members ≡ terms.members → limits ≡ terms.limits → refusal_of (past_of terms run) step ≡ None →
-    IsReady (row_at (past_of terms run) step) members limits (is_resume step.call) step.member (past_of terms run)
-step_ready terms run step members limits caused small size bounds none =
+pub step_ready : (terms : Terms) (run : Record) (step : Step) (members : ℕ) → Caused terms run → members ≡ terms.members → refusal_of (past_of terms run) step ≡ None →
+    IsReady (row_at (past_of terms run) step) members (is_resume step.call) step.member (past_of terms run)
+step_ready terms run step members caused size none =
     let p = past_of terms run in
     let known = unrefused_step_is_ready p step none (known_of terms run caused) in
     let row = row_at p step in
-    let is : p.terms.limits ≡ limits = same_limits terms run small ∙ sym bounds in
     record {
       members_are = same_members terms run ∙ sym size;
-      place = λ e. subst (λ (l : Limits). least (row.by_place l (seen_of step.member p.events)) ≡ None) is (none_holds (row.by_place p.terms.limits (seen_of step.member p.events)) (known.place (place_is_shown row.stays (is_resume step.call) e)));
+      place = λ e. none_holds (row.by_place p.terms.limits (seen_of step.member p.events)) (known.place (place_is_shown row.stays (is_resume step.call) e));
       compared = none_holds (row.compared (is_resume step.call) step.member p) known.compared;
       waits = resumed_may_wait step.member p step.call (p.waits step.member) known.compared (open_waits terms run caused step.member);
     }

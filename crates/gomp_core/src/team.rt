@@ -161,7 +161,6 @@ impl<S: Shares> Team<S> {
                     &mut self.shares,
                     &mut self.barriers,
                     &mut self.payloads,
-                    &self.limits,
                     member,
                     meant(&call, &waiting),
                     &starts,

@@ -3,7 +3,6 @@ use Rattle.std.proofs.Common.{◌≡◌, ℕ, Bool, true, false, List, [], ◌�
 use Rattle.std.specs.Prelude.{not, is_some}
 use Rattle.gomp_types.specs.declared.call.Call.{Call}
 use Rattle.gomp_types.specs.declared.call.Call.TheVariants.{SingleCopyEnd, Resume}
-use Rattle.gomp_types.specs.declared.refusal.Refusal.{Refusal}
 use Rattle.gomp_types.specs.declared.reply.Reply.{Reply}
 use Rattle.gomp_types.specs.declared.reply.Reply.TheVariants.{Finished, Passed, Wait, Stopped, Refused}
 use Rattle.gomp_types.specs.declared.shape.Shape.{Shape}
@@ -16,9 +15,8 @@ use Rattle.gomp_types.specs.declared.refusal.Refusal.TheVariants.{Mismatch}
 use Rattle.gomp_types.specs.Tests.{Test}
 use Rattle.gomp_types.specs.Compare.{tag_with, tag_differs}
 use Rattle.gomp_types.specs.Events.{entered, passed, tag_at, barrier_met}
-use Rattle.gomp_types.specs.Least.{lesser, least, Answers}
+use Rattle.gomp_types.specs.Least.{least, Answers}
 use Rattle.gomp_types.specs.Seen.{seen_of}
-use Rattle.gomp_types.proofs.LeastTests.{least_append}
 use Rattle.gomp_laws.proofs.WordsToCome.{PutsNone}
 use Rattle.gomp_shares.specs.Calls.{IsAside as SharesAside}
 use Rattle.gomp_shares.specs.Serves.{Serves, IsDone}
@@ -61,8 +59,8 @@ begin_may memory own shape deals Given members again m p reply ready answers =
 -- Calls that are done at once
 
 pub once_made : (tests : Seen → List Test) (events : ℕ → List Event → List Event) (members : ℕ) (again : Bool) (m : ℕ) (p : Past) → IsReady (at_once tests events) members again m p → again ≡ false
-once_made tests events members limits true m p ready = absurd (let wait = (ready.waits refl).1 in cc)
-once_made tests events members limits false m p ready = refl
+once_made tests events members true m p ready = absurd (let wait = (ready.waits refl).1 in cc)
+once_made tests events members false m p ready = refl
 
 made_first : (events : List Event) → once events false ≡ events
 made_first [] = refl
@@ -100,8 +98,8 @@ row_serves stands members before after payloads call other m reply is serves = r
 
 -- words are put once
 pub words_made : (words : List ℕ) (members : ℕ) (again : Bool) (m : ℕ) (p : Past) → IsReady (row_of (SingleCopyEnd words)) members again m p → again ≡ false
-words_made words members limits true m p ready = absurd (let wait = (ready.waits refl).1 in cc)
-words_made words members limits false m p ready = refl
+words_made words members true m p ready = absurd (let wait = (ready.waits refl).1 in cc)
+words_made words members false m p ready = refl
 
 pub words_after : (P : List Event → Type 0) (words : List ℕ) (members : ℕ) (again : Bool) (m : ℕ) (p : Past) → IsReady (row_of (SingleCopyEnd words)) members again m p →
     P (words_put words m p.events ++ p.events) → P (given_after (row_of (SingleCopyEnd words)) again m p Finished)
@@ -209,9 +207,9 @@ pub ready_in_place : (row : Row) (members : ℕ) (again : Bool) (m : ℕ) (p : P
 ready_in_place row members again m p ready never = ready.place (in_place_there row.stays again (λ goes repeats. let (q, wait) = ready.waits repeats in never goes q wait))
   where
     in_place_there : (stays again : Bool) → (stays ≡ false → again ≡ true → ⊥) → in_place stays again ≡ true
-    in_place_there true again no = refl
-    in_place_there false false no = refl
-    in_place_there false true no = absurd (no refl refl)
+    in_place_there true again never = refl
+    in_place_there false false never = refl
+    in_place_there false true never = absurd (never refl refl)
 
 -- a resume has no answer of its own
 pub not_resume : (call : Call) (members : ℕ) (again : Bool) (m : ℕ) (p : Past) → IsReady (row_of call) members again m p → call ≡ Resume → ⊥

@@ -13,7 +13,7 @@ ghost use Rattle.gomp_types.specs.Least.{least};
 ghost use Rattle.gomp_shares.specs.Calls.{CanLeave, EachStands};
 ghost use Rattle.gomp_barrier.specs.Stands.{Stands as BarriersStand, members_of as barrier_members};
 ghost use Rattle.gomp_model.specs.Arrivals.{Awaits, passes, compared_arrival, arrival};
-ghost use Rattle.gomp_parts.specs.Answers.{BothStand, EachPast, MayReply, end_of_a_share, given_after};
+ghost use Rattle.gomp_parts.specs.Answers.{BothStand, EachPast, MayReply, end_of_a_share, given_after, left_once};
 
 use gomp_barrier::Barriers;
 use gomp_shares::Shares;
@@ -44,9 +44,7 @@ pub fn end_reply<S: Shares>(
         (λ p. BothStand S.stands shares.new barriers.new
         (given_after end_of_a_share again member p result)) }
 {
-    if !again {
-        shares.leave(member);
-    }
+    leave(shares, member, again);
     arrival_reply(shares, barriers, member, Arrival::ShareEnd, again)
 }
 
@@ -83,6 +81,20 @@ pub fn arrival_reply<S: Shares>(
         unreachable!()
     }
     pass_or_wait(barriers, member)
+}
+
+/// Leaves the member's share; nothing changes if the call is repeated (`again`).
+fn leave<S: Shares>(shares: &mut S, member: u16, again: bool)
+    requires place { again ≡ false →
+        CanLeave (S.members shares.old) member (S.seen shares.old member) }
+    ensures members { S.members shares.new ≡ S.members shares.old }
+    ensures kept { again ≡ true → shares.new ≡ shares.old }
+    ensures left { EachStands (S.stands shares.old)
+        (λ h. S.stands shares.new (left_once again member h)) }
+{
+    if !again {
+        shares.leave(member);
+    }
 }
 
 /// The member passes the barrier at which it has arrived, where every member has; else it waits on.

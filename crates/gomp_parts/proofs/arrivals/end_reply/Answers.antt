@@ -1,7 +1,5 @@
-use Rattle.std.proofs.Common.{sym, ◌∙◌}
+use Rattle.std.proofs.Common.{sym, ◌∙◌, []}
 use Rattle.gomp_types.specs.declared.event.Arrival.TheVariants.{ShareEnd}
-use Rattle.gomp_types.specs.declared.loop_desc.EndKind.TheVariants.{Wait as WaitEnd}
-use Rattle.gomp_shares.specs.Own.{end_tests_of}
 use Rattle.gomp_barrier.specs.Stands.{Stands as BarriersStand}
 use Rattle.gomp_parts.specs.Answers.{left_once}
 use Rattle.gomp_barrier.proofs.Laws.{events_aside_keep_barriers}
@@ -18,7 +16,7 @@ arrival_reply-requires-clause-same g c =
 
 pub returns-clause-answer : goal.returns-clause-answer
 returns-clause-answer g c = λ p size both.
-    end_may (end_tests_of c.args.construct WaitEnd) ShareEnd c.args.again c.args.member p c.arrival_reply.result
+    end_may (λ seen. []) ShareEnd c.args.again c.args.member p c.arrival_reply.result
     (c.arrival_reply.ensures.answer (left_past c.args.again c.args.member p) (size ∙ sym c.leave.ensures.members)
     (c.leave.ensures.left p.events both.0, left_aside (BarriersStand c.args.barriers.now) (events_aside_keep_barriers _) c.args.again c.args.member p.events both.1))
 
@@ -26,6 +24,6 @@ pub returns-clause-stands : goal.returns-clause-stands
 returns-clause-stands g c = λ p size both.
     let after = c.arrival_reply.ensures.stands (left_past c.args.again c.args.member p) (size ∙ sym c.leave.ensures.members)
     (c.leave.ensures.left p.events both.0, left_aside (BarriersStand c.args.barriers.now) (events_aside_keep_barriers _) c.args.again c.args.member p.events both.1) in (
-      end_after (g.S.Shares.stands c.leave.new.shares) (end_tests_of c.args.construct WaitEnd) ShareEnd c.args.again c.args.member p c.arrival_reply.result after.0,
-      end_after (BarriersStand c.arrival_reply.new.barriers) (end_tests_of c.args.construct WaitEnd) ShareEnd c.args.again c.args.member p c.arrival_reply.result after.1,
+      end_after (g.S.Shares.stands c.leave.new.shares) (λ seen. []) ShareEnd c.args.again c.args.member p c.arrival_reply.result after.0,
+      end_after (BarriersStand c.arrival_reply.new.barriers) (λ seen. []) ShareEnd c.args.again c.args.member p c.arrival_reply.result after.1,
     )

@@ -1,5 +1,4 @@
-use Rattle.std.proofs.Common.{◌≡◌, refl, subst, sym, true, false, ℕ, [], ◌++◌}
-use Rattle.gomp_types.specs.declared.call.Call.TheVariants.{LoopStart, LoopNext, LoopEndNowait, SectionsStart, SectionsNext, SectionsEndNowait, SingleStart, SingleCopyStart, OrderedStart}
+use Rattle.std.proofs.Common.{rules, refl, subst, sym, true, false, ℕ, [], ◌++◌}
 use Rattle.gomp_types.specs.declared.loop_desc.EndKind.TheVariants.{Nowait}
 use Rattle.gomp_types.specs.Events.{open_share}
 use Rattle.gomp_types.specs.Iterations.{loop_tests}
@@ -142,9 +141,6 @@ returns-in-SectionsEndNowait-clause-serves g c =
 
 -- Ordered parts
 
-pub begin_part-requires-clause-place : goal.begin_part-requires-clause-place
-begin_part-requires-clause-place g c = let (limits, none) = c.requires.place in rw c.in-OrderedStart.is at none
-
 pub returns-in-OrderedStart-clause-serves : goal.returns-in-OrderedStart-clause-serves
 returns-in-OrderedStart-clause-serves g c =
     let m = c.args.member in
@@ -152,7 +148,7 @@ returns-in-OrderedStart-clause-serves g c =
     rw c.in-OrderedStart.is (record {
       waits = serves.waits;
       answer = λ again p ready words. subst (λ (n : ℕ). BeginsPart n m (open_share m p.events) c.begin_part.result p.events) (sym ready.members_are) (serves.answer p.events words.0);
-      stands_for = λ again p ready st. serves.stands_for p.events st;
+      stands_for = search rules;
     })
 
 pub returns-in-OrderedStart-clause-stops : goal.returns-in-OrderedStart-clause-stops

@@ -53,7 +53,7 @@ answer-reply-requires-clause-ready g c =
     let is = c.meant.ensures ∙ ap (meant c.args.call) (c.take-waiting.ensures.value ∙ sym (st.wait c.args.member _ at)) in (
       past team before,
       (st.shares_are, st.barriers_are, rw st.shares_size st.payloads_are),
-      rw (is, c.is_resume.ensures) (step_ready (terms_of team) before step (g.S.Shares.members c.self.inside.shares) c.self.inside.limits st.caused st.limits_are st.shares_size refl none),
+      rw (is, c.is_resume.ensures) (step_ready (terms_of team) before step (g.S.Shares.members c.self.inside.shares) st.caused st.shares_size none),
     )
 
 pub answer-reply-requires-clause-starts : goal.answer-reply-requires-clause-starts
@@ -109,8 +109,8 @@ known_of g c before st0 =
     let at : slice_get c.self.inside.waiting.items c.args.member ≡ Some c.take-waiting.result = there ∙ ap Some (sym c.take-waiting.ensures.value) in
     let is = c.meant.ensures ∙ ap (meant c.args.call) (sym (st.wait c.args.member c.take-waiting.result at)) in
     let payloads : PayloadsStand (g.S.Shares.members c.self.inside.shares) c.self.inside.payloads p.events = rw st.shares_size st.payloads_are in
-    let ready : IsReady (row_of c.meant.result.now) (g.S.Shares.members c.self.inside.shares) c.self.inside.limits c.is_resume.result c.args.member p =
-    rw (is, c.is_resume.ensures) (step_ready (terms_of (team_of g c)) before (step_of g c) (g.S.Shares.members c.self.inside.shares) c.self.inside.limits st.caused st.limits_are st.shares_size refl none) in
+    let ready : IsReady (row_of c.meant.result.now) (g.S.Shares.members c.self.inside.shares) c.is_resume.result c.args.member p =
+    rw (is, c.is_resume.ensures) (step_ready (terms_of (team_of g c)) before (step_of g c) (g.S.Shares.members c.self.inside.shares) st.caused st.shares_size none) in
     record {
       st = st;
       none = none;
