@@ -17,7 +17,8 @@ use gomp_types::{Limits, LoopDesc, Refusal, Reply, Seen, Shape};
 /// `InsideShare`, `ZeroStep`, `BadChunk`, `LoopTooLong` or `TooManyShares`.
 pub fn admit_start(seen: &Seen, limits: &Limits, desc: &LoopDesc) -> Result<Shape, Refusal>
     ensures first { result ≡ outcome
-        (first_refusal (start_tests (loop_tests desc.now) limits.now seen.now)) (shape_of desc.now) }
+        (first_refusal (start_tests (loop_tests desc.now) limits.now seen.now))
+        (shape_of desc.now) }
     ensures place { IfOk result (MayOpenAs seen.now) }
 {
     if seen.current.is_some() {

@@ -72,9 +72,9 @@ none_in_rest (Some piece) after = refl
 pub part_has_share : (value : ℤ) (seen : Seen) → seen.current ≡ None → least (part_tests value seen) ≡ None → ⊥
 part_has_share value seen out none = let tests = all_fail (part_tests value seen) none in let one : true ≡ false = rw out at tests.0 in absurd (cc)
 
-in_rest : (value : ℤ) (share : ℕ × Shape) (seen : Seen) (found : Option ℕ) → seen.current ≡ Some share → iteration_of share.1 value ≡ found → least (part_tests value seen) ≡ None →
+iteration_in_rest : (value : ℤ) (share : ℕ × Shape) (seen : Seen) (found : Option ℕ) → seen.current ≡ Some share → iteration_of share.1 value ≡ found → least (part_tests value seen) ≡ None →
     is_in_rest seen.piece seen.next_part found ≡ true
-in_rest value share seen found there is none =
+iteration_in_rest value share seen found there is none =
     let tests = all_fail (part_tests value seen) none in
     let next = not_false (comes_next seen.current seen.piece seen.next_part value) tests.1.1.1.0 in
     rw (← is) (rw there at next)
@@ -90,7 +90,7 @@ part_may_begin members m iteration value share seen lt there is none =
       member = lt;
       ordered = not_false (is_ordered seen.current) tests.1.1.0;
       apart = tests.1.0;
-      rest = in_rest value share seen (Some iteration) there is none;
+      rest = iteration_in_rest value share seen (Some iteration) there is none;
     }
 
 -- and so with the end of a part

@@ -36,7 +36,8 @@ pub fn admit_start(
 
 /// Why a member may not start a construct of so many sections, as [`admit_start`] says.
 pub fn start_refusal(seen: &Seen, limits: &Limits, count: u32) -> Option<Refusal>
-    ensures first { result ≡ first_refusal (start_tests (sections_tests count) limits.now seen.now) }
+    ensures first { result ≡
+        first_refusal (start_tests (sections_tests count) limits.now seen.now) }
 {
     admit_start(seen, limits, count, EndKind::Nowait).err()
 }

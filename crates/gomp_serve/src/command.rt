@@ -30,11 +30,11 @@ pub fn serve<S: AsStr, R: Read + Drop, W: Write>(
 ) -> Status
     ensures ends { Ends (faults_of (map S.text words.now)) (settings_of (map S.text words.now))
         (R.remaining reader) (W.contents writer.old) (W.contents writer.new) result }
-    ensures steps { (name : List ℕ) → map S.text words.now ≡ name ∷ codes "steps" ∷ [] → EndsOnSteps []
-        (R.remaining reader) (W.contents writer.old) (W.contents writer.new) result }
+    ensures steps { (name : List ℕ) → map S.text words.now ≡ name ∷ codes "steps" ∷ [] →
+        EndsOnSteps [] (R.remaining reader) (W.contents writer.old) (W.contents writer.new) result }
     ensures settings { (name : List ℕ) (settings : List (List ℕ)) →
-        map S.text words.now ≡ name ∷ codes "steps" ∷ settings → ArePlain settings → EndsOnSteps settings
-        (R.remaining reader) (W.contents writer.old) (W.contents writer.new) result }
+        map S.text words.now ≡ name ∷ codes "steps" ∷ settings → ArePlain settings →
+        EndsOnSteps settings (R.remaining reader) (W.contents writer.old) (W.contents writer.new) result }
 {
     match accepted(alloc, words) {
         Ok(matches) => match settings(&matches) {

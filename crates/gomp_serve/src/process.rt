@@ -23,8 +23,8 @@ pub fn run_process<R: Read + Drop, W: Write, E: Write>(
     writer: &mut W,
     errors: &mut E,
 ) -> io::Result<ExitCode>
-    ensures words { IfOk words (λ given. EndsAs
-        (EndsOn (texts_of given) (R.remaining reader) (W.contents writer.old) (W.contents writer.new))
+    ensures words { IfOk words (λ given. EndsAs (EndsOn (texts_of given) (R.remaining reader)
+        (W.contents writer.old) (W.contents writer.new))
         (E.contents errors.old) (E.contents errors.new) result) }
     ensures none { IfErr words (λ error. EndsAs
         (EndsWithout error (W.contents writer.old) (W.contents writer.new))
