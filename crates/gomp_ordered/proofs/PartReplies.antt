@@ -80,7 +80,7 @@ iteration_in_rest value share seen found there is none =
     rw (← is) (rw there at next)
 
 pub part_has_iteration : (value : ℤ) (share : ℕ × Shape) (seen : Seen) → seen.current ≡ Some share → iteration_of share.1 value ≡ None → least (part_tests value seen) ≡ None → ⊥
-part_has_iteration value share seen there is none = let one : false ≡ true = sym (none_in_rest seen.piece seen.next_part) ∙ in_rest value share seen None there is none in absurd (cc)
+part_has_iteration value share seen there is none = let one : false ≡ true = sym (none_in_rest seen.piece seen.next_part) ∙ iteration_in_rest value share seen None there is none in absurd (cc)
 
 pub part_may_begin : (members m iteration : ℕ) (value : ℤ) (share : ℕ × Shape) (seen : Seen) → m < members → seen.current ≡ Some share → iteration_of share.1 value ≡ Some iteration → least (part_tests value seen) ≡ None →
     CanBeginPart members m iteration seen
