@@ -9,7 +9,7 @@ use Rattle.gomp_types.specs.declared.event.Event.TheVariants.{Enter, Take, Drain
 use Rattle.gomp_types.specs.Events.{arrival, tag_at}
 use Rattle.gomp_barrier.specs.declared.front.Seat.{Seat}
 use Rattle.gomp_barrier.specs.Calls.{at_barrier, arrived_after, turn_after, IsAside}
-use Rattle.gomp_barrier.specs.Seats.{differ, is_ahead, tag_for, number_for, IsThere, arrived_at, passed_by, advanced, barrier_of, SeatStands, FrontStands, SomeBehind}
+use Rattle.gomp_barrier.specs.Seats.{differ, is_ahead, tag_for, number_for, IsThere, arrived_at, passed_by, next_front, barrier_of, SeatStands, FrontStands, SomeBehind}
 use Rattle.gomp_barrier.specs.Stands.{Stands, members_of}
 use Rattle.gomp_barrier.specs.Examples.{at_barrier_tag, at_end_tag, both_arrived, second_ahead, first_left, seat_with, front_with, barriers_with, sees_barrier, new_seat, new_front, seat_behind, seat_ahead, front_between}
 
@@ -71,11 +71,11 @@ words_and_breaks_are_aside share m payload place = (tt, tt, tt)
 
 -- A member's seat and the front
 
--- a member is ahead where the parities differ
+-- a member is ahead if the parities differ
 pub parities_differ : (differ true false ≡ true) × (differ false true ≡ true)
 parities_differ = (refl, refl)
 
--- where they agree it is not
+-- if they agree it is not
 pub parities_agree : (differ true true ≡ false) × (differ false false ≡ false)
 parities_agree = (refl, refl)
 
@@ -87,7 +87,7 @@ second_is_ahead = refl
 pub first_is_not_ahead : is_ahead front_between seat_behind ≡ false
 first_is_not_ahead = refl
 
--- also where the front's number is odd
+-- also if the front's number is odd
 pub behind_an_odd_front : is_ahead (front_with true 1 None None) (seat_with true None false) ≡ false
 behind_an_odd_front = refl
 
@@ -151,7 +151,7 @@ arrival_at_the_front = refl
 pub arrival_after_the_front : arrived_at (front_with false 6 (Some at_barrier_tag) None) (seat_with true None false) at_end_tag ≡ front_with false 6 (Some at_barrier_tag) (Some at_end_tag)
 arrival_after_the_front = refl
 
--- a member that passes has not arrived at the next one; it has left the region where this was its end
+-- a member that passes has not arrived at the next one; it has left the region if this was its end
 pub passes_a_barrier : passed_by seat_behind false ≡ seat_with true None false
 passes_a_barrier = refl
 
@@ -164,15 +164,15 @@ pub stays_left : passed_by (seat_with true (Some at_end_tag) true) false ≡ sea
 stays_left = refl
 
 -- the front that all have passed is the next barrier
-pub front_advances : advanced front_between ≡ front_with true 1 (Some at_end_tag) None
+pub front_advances : next_front front_between ≡ front_with true 1 (Some at_end_tag) None
 front_advances = refl
 
 -- two barriers on the parity is the first again
-pub front_advances_back : advanced (front_with true 1 (Some at_end_tag) None) ≡ front_with false 2 None None
+pub front_advances_back : next_front (front_with true 1 (Some at_end_tag) None) ≡ front_with false 2 None None
 front_advances_back = refl
 
 -- the number stays at the largest one
-pub front_at_the_limit : advanced (front_with true (2 ^ 64 - 1) None None) ≡ front_with false (2 ^ 64 - 1) None None
+pub front_at_the_limit : next_front (front_with true (2 ^ 64 - 1) None None) ≡ front_with false (2 ^ 64 - 1) None None
 front_at_the_limit = refl
 
 -- When a seat stands for the events
@@ -222,7 +222,7 @@ seat_not_passed seat = absurd (let passed = seat.passed_is in omega arith)
 pub seat_not_arrived : SeatStands new_front 0 0 new_seat both_arrived → ⊥
 seat_not_arrived seat = absurd (let here = seat.here in cc)
 
--- one that has passed where it has not arrived
+-- one that has passed if it has not arrived
 pub seat_not_behind : SeatStands new_front 0 0 (seat_with true None false) (Pass 0 0 ∷ []) → ⊥
 seat_not_behind seat = absurd (let behind = seat.behind 0 (omega arith) in cc)
 
@@ -269,7 +269,7 @@ front_two_behind front = absurd (let beyond = front.beyond 2 (omega arith) in cc
 pub front_of_another_seat : FrontStands (seat_with false None true ∷ []) new_front 0 [] → ⊥
 front_of_another_seat front = seat_not_left (front.seat 0 (seat_with false None true) refl)
 
--- some member is behind where one has not passed the front
+-- some member is behind if one has not passed the front
 pub first_is_behind : SomeBehind front_between (seat_behind ∷ seat_ahead ∷ [])
 first_is_behind all = absurd (let passed = all 0 seat_behind (omega arith) in cc)
 
@@ -278,7 +278,7 @@ both_ahead zero other below = refl
 both_ahead (suc zero) other below = refl
 both_ahead (suc (suc k)) other below = absurd (omega arith)
 
--- nobody is where both have passed
+-- nobody is if both have passed
 pub nobody_is_behind : SomeBehind front_between (seat_ahead ∷ seat_ahead ∷ []) → ⊥
 nobody_is_behind behind = behind both_ahead
 

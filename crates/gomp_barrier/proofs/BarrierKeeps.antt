@@ -7,13 +7,13 @@ use Rattle.std.proofs.lemmas.Option.{slice_get-get_or, slice_get_within, get_or_
 use Rattle.gomp_types.specs.declared.event.Tag.{Tag}
 use Rattle.gomp_types.specs.declared.event.Event.{Event}
 use Rattle.gomp_types.specs.declared.event.Event.TheVariants.{Arrive, Pass}
-use Rattle.gomp_types.specs.Events.{passed, arrival, tag_at, has_left_region, is_region_end, barrier_met}
-use Rattle.gomp_types.specs.Limits.{shown}
+use Rattle.gomp_types.specs.Events.{barriers_passed, arrival, tag_at, has_left_region, is_region_end, barrier_met}
+use Rattle.gomp_types.specs.Limits.{shown_number}
 use Rattle.gomp_types.proofs.Booleans.{same_number, other_number, every_tells, every_by}
 use Rattle.gomp_types.proofs.Lists.{slice_get-set}
 use Rattle.gomp_barrier.specs.declared.front.Seat.{Seat}
 use Rattle.gomp_barrier.specs.declared.front.Front.{Front}
-use Rattle.gomp_barrier.specs.Seats.{differ, is_ahead, tag_for, number_for, IsThere, arrived_at, advanced, barrier_of, SeatStands, FrontStands, SomeBehind}
+use Rattle.gomp_barrier.specs.Seats.{differ, is_ahead, tag_for, number_for, IsThere, arrived_at, next_front, barrier_of, SeatStands, FrontStands, SomeBehind}
 
 -- What an arrival and a pass add
 
@@ -48,14 +48,14 @@ tag_is members front least member h st = by_ahead (is_ahead front member)
     by_ahead true = st.next
     by_ahead false = st.tag
 
-shown_next : (n : ℕ) → shown (shown n + 1) ≡ shown (n + 1)
+shown_next : (n : ℕ) → shown_number (shown_number n + 1) ≡ shown_number (n + 1)
 shown_next n = omega arith
 
-pub number_is : (members : List Seat) (front : Front) (least : ℕ) (member : Seat) (h : List Event) → FrontStands members front least h → number_for front member ≡ shown (barrier_of front least member)
+pub number_is : (members : List Seat) (front : Front) (least : ℕ) (member : Seat) (h : List Event) → FrontStands members front least h → number_for front member ≡ shown_number (barrier_of front least member)
 number_is members front least member h st = by_ahead (is_ahead front member)
   where
-    by_ahead : (ahead : Bool) → (if ahead then shown (front.number + 1) else front.number) ≡ shown (if ahead then least + 1 else least)
-    by_ahead true = ap (λ n. shown (n + 1)) st.number ∙ shown_next least
+    by_ahead : (ahead : Bool) → (if ahead then shown_number (front.number + 1) else front.number) ≡ shown_number (if ahead then least + 1 else least)
+    by_ahead true = ap (λ n. shown_number (n + 1)) st.number ∙ shown_next least
     by_ahead false = st.number
 
 -- An arrival
@@ -97,7 +97,7 @@ turn_arrived front member tag = by_ahead (is_ahead front member)
 
 -- the front's tags after an arrival
 record Tagged (front : Front) (least : ℕ) (h : List Event) : Type 0 where
-  number : front.number ≡ shown least
+  number : front.number ≡ shown_number least
   tag : tag_at least h ≡ front.tag
   next : tag_at (least + 1) h ≡ front.next
   beyond : (g : ℕ) → least + 2 ≤ g → tag_at g h ≡ None
@@ -138,10 +138,10 @@ arrival_keeps_the_front members front least m member after tag h st at odd arriv
 
 -- A pass
 
-passed_own : (g m : ℕ) (h : List Event) → passed m (Pass g m ∷ h) ≡ passed m h + 1
+passed_own : (g m : ℕ) (h : List Event) → barriers_passed m (Pass g m ∷ h) ≡ barriers_passed m h + 1
 passed_own g m h = rw (same_number m) refl
 
-passed_other : (g m k : ℕ) (h : List Event) → m ≢ k → passed k (Pass g m ∷ h) ≡ passed k h
+passed_other : (g m k : ℕ) (h : List Event) → m ≢ k → barriers_passed k (Pass g m ∷ h) ≡ barriers_passed k h
 passed_other g m k h other = rw (other_number m k other) refl
 
 left_other : (g m k : ℕ) (h : List Event) → m ≢ k → has_left_region k (Pass g m ∷ h) ≡ has_left_region k h
@@ -209,7 +209,7 @@ pass_keeps_the_front members front least m member after tag h st at behind arriv
 
 -- The front moves on once all have passed it
 
-not_ahead_once_advanced : (front : Front) (member : Seat) → is_ahead front member ≡ true → is_ahead (advanced front) member ≡ false
+not_ahead_once_advanced : (front : Front) (member : Seat) → is_ahead front member ≡ true → is_ahead (next_front front) member ≡ false
 not_ahead_once_advanced front member e = by member.odd front.odd e
   where
     by : (a b : Bool) → differ a b ≡ true → differ a (not b) ≡ false
@@ -221,9 +221,9 @@ not_ahead_once_advanced front member e = by member.odd front.odd e
 all_at : (front : Front) (members : List Seat) (m : ℕ) (member : Seat) → All (λ x. is_ahead front x ≡ true) members → slice_get members m ≡ Some member → is_ahead front member ≡ true
 all_at front members m member all at = rw (get_or_from_slice_get members m member member at) at (all m member (slice_get_within members m member at))
 
-pub moves_on : (members : List Seat) (front : Front) (least : ℕ) (h : List Event) → FrontStands members front least h → All (λ x. is_ahead front x ≡ true) members → FrontStands members (advanced front) (least + 1) h
+pub moves_on : (members : List Seat) (front : Front) (least : ℕ) (h : List Event) → FrontStands members front least h → All (λ x. is_ahead front x ≡ true) members → FrontStands members (next_front front) (least + 1) h
 moves_on members front least h st all = record {
-  number = ap (λ n. shown (n + 1)) st.number ∙ shown_next least;
+  number = ap (λ n. shown_number (n + 1)) st.number ∙ shown_next least;
   tag = st.next;
   next = st.beyond (least + 1 + 1) (omega arith);
   beyond = λ g le. st.beyond g (omega arith);
@@ -231,7 +231,7 @@ moves_on members front least h st all = record {
       let p = st.seat m member at in
       let ahead = all_at front members m member all at in
       let before : barrier_of front least member ≡ least + 1 = rw ahead refl in
-      let after : barrier_of (advanced front) (least + 1) member ≡ least + 1 = rw (not_ahead_once_advanced front member ahead) refl in
+      let after : barrier_of (next_front front) (least + 1) member ≡ least + 1 = rw (not_ahead_once_advanced front member ahead) refl in
       record {
         passed_is = p.passed_is ∙ before ∙ sym after;
         here = subst (λ b. arrival b m h ≡ member.arrived) (before ∙ sym after) p.here;
@@ -242,10 +242,10 @@ moves_on members front least h st all = record {
 }
 
 -- then some member is behind it
-pub behind_again : (members : List Seat) (front : Front) (m : ℕ) (member : Seat) → slice_get members m ≡ Some member → All (λ x. is_ahead front x ≡ true) members → SomeBehind (advanced front) members
-behind_again members front m member at all again =
+pub behind_again : (members : List Seat) (front : Front) (m : ℕ) (member : Seat) → slice_get members m ≡ Some member → All (λ x. is_ahead front x ≡ true) members → SomeBehind (next_front front) members
+behind_again members front m member at all repeated =
     let ahead = all_at front members m member all at in
-    let now = all_at (advanced front) members m member again at in
+    let now = all_at (next_front front) members m member repeated at in
     let off = not_ahead_once_advanced front member ahead in cc
 
 -- Whether a barrier is met

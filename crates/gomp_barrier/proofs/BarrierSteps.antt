@@ -7,8 +7,8 @@ use Rattle.std.proofs.lemmas.Option.{slice_get-get_or, slice_get_within, get_or_
 use Rattle.gomp_types.specs.declared.event.Tag.{Tag}
 use Rattle.gomp_types.specs.declared.event.Event.{Event}
 use Rattle.gomp_types.specs.declared.event.Event.TheVariants.{Arrive, Pass}
-use Rattle.gomp_types.specs.Events.{passed, arrival, tag_at, has_left_region, was_region_end, is_region_end, barrier_met}
-use Rattle.gomp_types.specs.Limits.{shown}
+use Rattle.gomp_types.specs.Events.{barriers_passed, arrival, tag_at, has_left_region, was_region_end, is_region_end, barrier_met}
+use Rattle.gomp_types.specs.Limits.{shown_number}
 use Rattle.gomp_types.specs.Compare.{tag_differs}
 use Rattle.gomp_types.specs.Laws.{Always}
 use Rattle.gomp_types.specs.Arrivals.{ArrivalRule}
@@ -18,7 +18,7 @@ use Rattle.gomp_types.proofs.Lists.{slice_get-set}
 use Rattle.gomp_barrier.specs.declared.front.Seat.{Seat}
 use Rattle.gomp_barrier.specs.declared.front.Front.{Front}
 use Rattle.gomp_barrier.specs.declared.barriers.AtBarrier.{AtBarrier}
-use Rattle.gomp_barrier.specs.Seats.{differ, is_ahead, tag_for, number_for, IsThere, arrived_at, passed_by, advanced, barrier_of, SeatStands, FrontStands, SomeBehind}
+use Rattle.gomp_barrier.specs.Seats.{differ, is_ahead, tag_for, number_for, IsThere, arrived_at, passed_by, next_front, barrier_of, SeatStands, FrontStands, SomeBehind}
 use Rattle.gomp_barrier.specs.Calls.{at_barrier, IsAside}
 use Rattle.gomp_barrier.specs.Stands.{BarriersView, Stands, members_of}
 use Rattle.gomp_barrier.proofs.BarrierKeeps.{tag_is, number_is, arrival_keeps_the_front, turn_arrived, pass_keeps_the_front, moves_on, behind_again, met_by, met_all, not_met_ahead}
@@ -38,9 +38,9 @@ pub look_is : (seats : List Seat) (front : Front) (m : ℕ) (seat : Seat) (h : L
     record { number = number_for front seat; tag = tag_for front seat; arrived = seat.arrived; left = seat.left } ≡ at_barrier m h
 look_is seats front m seat h st at =
     let p = st.barrier.seat m seat at in
-    let number : number_for front seat ≡ shown (passed m h) = number_is seats front st.least seat h st.barrier ∙ ap shown (sym p.passed_is) in
-    let tag : tag_for front seat ≡ tag_at (passed m h) h = sym (tag_is seats front st.least seat h st.barrier) ∙ ap (λ g. tag_at g h) (sym p.passed_is) in
-    let arrived : seat.arrived ≡ arrival (passed m h) m h = sym p.here ∙ ap (λ g. arrival g m h) (sym p.passed_is) in
+    let number : number_for front seat ≡ shown_number (barriers_passed m h) = number_is seats front st.least seat h st.barrier ∙ ap shown_number (sym p.passed_is) in
+    let tag : tag_for front seat ≡ tag_at (barriers_passed m h) h = sym (tag_is seats front st.least seat h st.barrier) ∙ ap (λ g. tag_at g h) (sym p.passed_is) in
+    let arrived : seat.arrived ≡ arrival (barriers_passed m h) m h = sym p.here ∙ ap (λ g. arrival g m h) (sym p.passed_is) in
     let left : seat.left ≡ has_left_region m h = sym p.left_is in
     same_look _ _ _ _ _ _ _ _ number tag arrived left
   where
@@ -80,7 +80,7 @@ aside_keeps barriers h event is st = record {
 
 -- Arriving
 
-pub tag_here : (seats : List Seat) (front : Front) (m : ℕ) (seat : Seat) (h : List Event) → StandAt seats front h → slice_get seats m ≡ Some seat → tag_at (passed m h) h ≡ tag_for front seat
+pub tag_here : (seats : List Seat) (front : Front) (m : ℕ) (seat : Seat) (h : List Event) → StandAt seats front h → slice_get seats m ≡ Some seat → tag_at (barriers_passed m h) h ≡ tag_for front seat
 tag_here seats front m seat h st at =
     ap (λ g. tag_at g h) (st.barrier.seat m seat at).passed_is ∙ tag_is seats front st.least seat h st.barrier
 
@@ -105,7 +105,7 @@ ahead_stays front after m seat new seats at odd turn behind = λ all. behind (λ
     same_ahead one other e is = subst (λ odd. differ odd front.odd ≡ true) e (subst (λ odd. differ one.odd odd ≡ true) turn is)
 
 pub arrive_keeps : (seats : List Seat) (front : Front) (m : ℕ) (seat : Seat) (tag : Tag) (h : List Event) → StandAt seats front h → slice_get seats m ≡ Some seat → tag_differs tag (tag_for front seat) ≡ false →
-    StandAt (slice_set seats m (record { odd = seat.odd; arrived = Some tag; left = seat.left })) (arrived_at front seat tag) (Arrive (passed m h) m tag ∷ h)
+    StandAt (slice_set seats m (record { odd = seat.odd; arrived = Some tag; left = seat.left })) (arrived_at front seat tag) (Arrive (barriers_passed m h) m tag ∷ h)
 arrive_keeps seats front m seat tag h st at fine =
     let new : Seat = record { odd = seat.odd; arrived = Some tag; left = seat.left } in
     let p = st.barrier.seat m seat at in
@@ -113,38 +113,38 @@ arrive_keeps seats front m seat tag h st at fine =
       least = st.least;
       barrier = subst (λ g. FrontStands (slice_set seats m new) (arrived_at front seat tag) st.least (Arrive g m tag ∷ h)) (sym p.passed_is) (arrival_keeps_the_front seats front st.least m seat new tag h st.barrier at refl refl refl);
       behind = ahead_stays front (arrived_at front seat tag) m seat new seats at refl (turn_arrived front seat tag) st.behind;
-      rule = subst (λ n. Always (ArrivalRule n) (Arrive (passed m h) m tag ∷ h)) (sym (length-set seats m new)) (
-        record { number = refl; same = same_tags tag (tag_at (passed m h) h) (ap (tag_differs tag) (tag_here seats front m seat h st at) ∙ fine) },
+      rule = subst (λ n. Always (ArrivalRule n) (Arrive (barriers_passed m h) m tag ∷ h)) (sym (length-set seats m new)) (
+        record { number = refl; same = same_tags tag (tag_at (barriers_passed m h) h) (ap (tag_differs tag) (tag_here seats front m seat h st at) ∙ fine) },
         st.rule,
       );
     }
 
 -- whether a tag differs from those of the others, by what the seat shows of them
 pub differs_is : (seats : List Seat) (front : Front) (m : ℕ) (seat : Seat) (tag : Tag) (others : Option Tag) (differs : Bool) (h : List Event) → StandAt seats front h → slice_get seats m ≡ Some seat → others ≡ tag_for front seat → differs ≡ tag_differs tag others →
-    tag_differs tag (tag_at (passed m h) h) ≡ differs
+    tag_differs tag (tag_at (barriers_passed m h) h) ≡ differs
 differs_is seats front m seat tag others differs h st at seen is = ap (tag_differs tag) (tag_here seats front m seat h st at ∙ sym seen) ∙ sym is
 
 -- Passing
 
-pub met_ahead : (seats : List Seat) (front : Front) (m : ℕ) (seat : Seat) (h : List Event) → StandAt seats front h → slice_get seats m ≡ Some seat → is_ahead front seat ≡ true → barrier_met (length seats) (passed m h) h ≡ false
+pub met_ahead : (seats : List Seat) (front : Front) (m : ℕ) (seat : Seat) (h : List Event) → StandAt seats front h → slice_get seats m ≡ Some seat → is_ahead front seat ≡ true → barrier_met (length seats) (barriers_passed m h) h ≡ false
 met_ahead seats front m seat h st at ahead =
     let next : barrier_of front st.least seat ≡ st.least + 1 = rw ahead refl in
     subst (λ g. barrier_met (length seats) g h ≡ false) (sym ((st.barrier.seat m seat at).passed_is ∙ next)) (not_met_ahead seats front st.least h st.barrier st.behind)
 
-at_least : (seats : List Seat) (front : Front) (m : ℕ) (seat : Seat) (h : List Event) (st : StandAt seats front h) → slice_get seats m ≡ Some seat → is_ahead front seat ≡ false → passed m h ≡ st.least
+at_least : (seats : List Seat) (front : Front) (m : ℕ) (seat : Seat) (h : List Event) (st : StandAt seats front h) → slice_get seats m ≡ Some seat → is_ahead front seat ≡ false → barriers_passed m h ≡ st.least
 at_least seats front m seat h st at behind =
     let same : barrier_of front st.least seat ≡ st.least = rw behind refl in (st.barrier.seat m seat at).passed_is ∙ same
 
 pub met_not : (seats : List Seat) (front : Front) (m : ℕ) (seat : Seat) (h : List Event) → StandAt seats front h → slice_get seats m ≡ Some seat → is_ahead front seat ≡ false → (All (IsThere front) seats → ⊥) →
-    barrier_met (length seats) (passed m h) h ≡ false
+    barrier_met (length seats) (barriers_passed m h) h ≡ false
 met_not seats front m seat h st at behind not_all =
-    elim (cases_Bool (barrier_met (length seats) (passed m h) h)) [
+    elim (cases_Bool (barrier_met (length seats) (barriers_passed m h) h)) [
       | inl e ↦ absurd (not_all (met_all seats front st.least h st.barrier (subst (λ g. barrier_met (length seats) g h ≡ true) (at_least seats front m seat h st at behind) e)))
       | inr e ↦ e
     ]
 
 pub met_now : (seats : List Seat) (front : Front) (m : ℕ) (seat : Seat) (h : List Event) → StandAt seats front h → slice_get seats m ≡ Some seat → is_ahead front seat ≡ false → All (IsThere front) seats →
-    barrier_met (length seats) (passed m h) h ≡ true
+    barrier_met (length seats) (barriers_passed m h) h ≡ true
 met_now seats front m seat h st at behind all =
     subst (λ g. barrier_met (length seats) g h ≡ true) (sym (at_least seats front m seat h st at behind)) (met_by seats front st.least h st.barrier all)
 
@@ -166,7 +166,7 @@ decide_all test (x ∷ xs) =
 
 -- the front after members have passed
 pub settle_keeps : (seats : List Seat) (front settled : Front) (m : ℕ) (seat : Seat) (least : ℕ) (h : List Event) → FrontStands seats front least h → slice_get seats m ≡ Some seat → Always (ArrivalRule (length seats)) h →
-    (All (λ p. is_ahead front p ≡ true) seats → settled ≡ advanced front) → ((All (λ p. is_ahead front p ≡ true) seats → ⊥) → settled ≡ front) → StandAt seats settled h
+    (All (λ p. is_ahead front p ≡ true) seats → settled ≡ next_front front) → ((All (λ p. is_ahead front p ≡ true) seats → ⊥) → settled ≡ front) → StandAt seats settled h
 settle_keeps seats front settled m seat least h st at rule all some =
     elim (decide_all (is_ahead front) seats) [
       | inl every ↦ rw (all every) (record { least = least + 1; barrier = moves_on seats front least h st every; behind = behind_again seats front m seat at every; rule = rule })
@@ -177,19 +177,19 @@ there_tag : (front : Front) (seat : Seat) → is_ahead front seat ≡ false → 
 there_tag front seat behind is = some_of seat.arrived (subst (λ b. (b || is_some seat.arrived) ≡ true) behind is)
 
 pub turn_keeps : (seats : List Seat) (front settled : Front) (m : ℕ) (seat : Seat) (h : List Event) → StandAt seats front h → slice_get seats m ≡ Some seat → is_ahead front seat ≡ false → All (IsThere front) seats →
-    (All (λ p. is_ahead front p ≡ true) (slice_set seats m (passed_by seat (was_region_end seat.arrived))) → settled ≡ advanced front) →
+    (All (λ p. is_ahead front p ≡ true) (slice_set seats m (passed_by seat (was_region_end seat.arrived))) → settled ≡ next_front front) →
     ((All (λ p. is_ahead front p ≡ true) (slice_set seats m (passed_by seat (was_region_end seat.arrived))) → ⊥) → settled ≡ front) →
-    StandAt (slice_set seats m (passed_by seat (was_region_end seat.arrived))) settled (Pass (passed m h) m ∷ h)
+    StandAt (slice_set seats m (passed_by seat (was_region_end seat.arrived))) settled (Pass (barriers_passed m h) m ∷ h)
 turn_keeps seats front settled m seat h st at behind all every some =
     let new : Seat = passed_by seat (was_region_end seat.arrived) in
     let is : IsThere front seat = rw (get_or_from_slice_get seats m seat seat at) at (all m seat (slice_get_within seats m seat at)) in
     let tag = there_tag front seat behind is in
     let number = at_least seats front m seat h st at behind in
     let left : new.left ≡ (seat.left || is_region_end tag.0.kind) = ap (λ t. seat.left || was_region_end t) tag.1 in
-    let moved : FrontStands (slice_set seats m new) front st.least (Pass (passed m h) m ∷ h) = subst (λ g. FrontStands (slice_set seats m new) front st.least (Pass g m ∷ h)) (sym number) (pass_keeps_the_front seats front st.least m seat new tag.0 h st.barrier at behind tag.1 refl refl left) in
+    let moved : FrontStands (slice_set seats m new) front st.least (Pass (barriers_passed m h) m ∷ h) = subst (λ g. FrontStands (slice_set seats m new) front st.least (Pass g m ∷ h)) (sym number) (pass_keeps_the_front seats front st.least m seat new tag.0 h st.barrier at behind tag.1 refl refl left) in
     let own : slice_get (slice_set seats m new) m ≡ Some new = set_same seats m new (slice_get_within seats m seat at) in
-    settle_keeps (slice_set seats m new) front settled m new st.least (Pass (passed m h) m ∷ h) moved own
-    (subst (λ n. Always (ArrivalRule n) (Pass (passed m h) m ∷ h)) (sym (length-set seats m new)) (record { number = refl; met = met_now seats front m seat h st at behind all }, st.rule)) every some
+    settle_keeps (slice_set seats m new) front settled m new st.least (Pass (barriers_passed m h) m ∷ h) moved own
+    (subst (λ n. Always (ArrivalRule n) (Pass (barriers_passed m h) m ∷ h)) (sym (length-set seats m new)) (record { number = refl; met = met_now seats front m seat h st at behind all }, st.rule)) every some
   where
     set_same : (xs : List Seat) (i : ℕ) (x : Seat) → i < length xs → slice_get (slice_set xs i x) i ≡ Some x
     set_same [] i x lt = absurd (omega arith)

@@ -2,8 +2,8 @@
 use Rattle.std.specs.Prelude.{ℕ, ◌+◌, ◌<◌, ◌≤◌, ◌≡◌, Bool, true, false, not, ◌||◌, if◌then◌else◌, List, Option, Some, None, is_some, All, slice_get}
 use Rattle.gomp_types.specs.declared.event.Tag.{Tag}
 use Rattle.gomp_types.specs.declared.event.Event.{Event}
-use Rattle.gomp_types.specs.Events.{passed, arrival, tag_at, has_left_region}
-use Rattle.gomp_types.specs.Limits.{shown}
+use Rattle.gomp_types.specs.Events.{barriers_passed, arrival, tag_at, has_left_region}
+use Rattle.gomp_types.specs.Limits.{shown_number}
 use Rattle.gomp_barrier.specs.declared.front.Seat.{Seat}
 use Rattle.gomp_barrier.specs.declared.front.Front.{Front}
 
@@ -23,7 +23,7 @@ tag_for front member = if is_ahead front member then front.next else front.tag
 
 -- the number of the member's next barrier, as it is shown
 abbrev pub number_for : Front → Seat → ℕ
-number_for front member = if is_ahead front member then shown (front.number + 1) else front.number
+number_for front member = if is_ahead front member then shown_number (front.number + 1) else front.number
 
 -- the member has arrived at the front, or has passed it
 abbrev pub IsThere : Front → Seat → Type 0
@@ -41,17 +41,17 @@ abbrev pub passed_by : Seat → Bool → Seat
 passed_by member at_region_end = record { odd = not member.odd; arrived = None; left = member.left || at_region_end }
 
 -- the front after all have passed
-abbrev pub advanced : Front → Front
-advanced front = record { odd = not front.odd; number = shown (front.number + 1); tag = front.next; next = None }
+abbrev pub next_front : Front → Front
+next_front front = record { odd = not front.odd; number = shown_number (front.number + 1); tag = front.next; next = None }
 
--- the number of the member's next barrier, where the front's exact number is `least` (`front.number` is that number as it is shown)
+-- the number of the member's next barrier, if the front's exact number is `least` (`front.number` is that number as it is shown)
 abbrev pub barrier_of : Front → ℕ → Seat → ℕ
 barrier_of front least member = if is_ahead front member then least + 1 else least
 
 -- a member's seat at the barriers
 pub record SeatStands (front : Front) (least m : ℕ) (member : Seat) (h : List Event) : Type 0 where
   -- so many barriers it has passed
-  pub passed_is : passed m h ≡ barrier_of front least member
+  pub passed_is : barriers_passed m h ≡ barrier_of front least member
   -- at the next it has arrived so
   pub here : arrival (barrier_of front least member) m h ≡ member.arrived
   -- it has arrived at every one before
@@ -62,7 +62,7 @@ pub record SeatStands (front : Front) (least m : ℕ) (member : Seat) (h : List 
 
 -- the front, and each member's seat
 pub record FrontStands (members : List Seat) (front : Front) (least : ℕ) (h : List Event) : Type 0 where
-  pub number : front.number ≡ shown least
+  pub number : front.number ≡ shown_number least
   pub tag : tag_at least h ≡ front.tag
   pub next : tag_at (least + 1) h ≡ front.next
   -- nobody has arrived at a later one

@@ -2,13 +2,13 @@
 
 ghost use Rattle.std.specs.Prelude.{◌≡◌, ◌<◌, List, [], IfOk, not, false};
 ghost use Rattle.gomp_types.specs.declared.event.Event.{Event};
-ghost use Rattle.gomp_types.specs.Events.{passed, tag_at, barrier_met};
+ghost use Rattle.gomp_types.specs.Events.{barriers_passed, tag_at, barrier_met};
 ghost use Rattle.gomp_types.specs.Compare.{tag_differs};
 ghost use Rattle.gomp_barrier.specs.Calls.{at_barrier, arrived_after, turn_after};
 ghost use Rattle.gomp_barrier.specs.Stands.{Stands, members_of};
 
 use crate::front::{
-    Front, Seat, all_there, arrived_at, ends_region, is_ahead, number_for, passed_by, settled,
+    Front, Seat, all_there, arrived_at, ends_region, front_after, is_ahead, number_for, passed_by,
     tag_for,
 };
 use gomp_types::Tag;
@@ -94,7 +94,7 @@ impl Barriers {
         ensures members { members_of self.new ≡ members_of self.old }
         ensures known { (h : List Event) × Stands self.old h }
         ensures answer { (h : List Event) → Stands self.old h →
-            result ≡ not (tag_differs tag (tag_at (passed member h) h)) }
+            result ≡ not (tag_differs tag (tag_at (barriers_passed member h) h)) }
         ensures kept { result ≡ false → self.new ≡ self.old }
         ensures stands { (h : List Event) → Stands self.old h →
             Stands self.new (arrived_after result member tag h) }
@@ -119,7 +119,7 @@ impl Barriers {
         ensures members { members_of self.new ≡ members_of self.old }
         ensures known { (h : List Event) × Stands self.old h }
         ensures answer { (h : List Event) → Stands self.old h →
-            result ≡ barrier_met (members_of self.old) (passed member h) h }
+            result ≡ barrier_met (members_of self.old) (barriers_passed member h) h }
         ensures kept { result ≡ false → self.new ≡ self.old }
         ensures stands { (h : List Event) → Stands self.old h →
             Stands self.new (turn_after result member h) }
@@ -132,7 +132,7 @@ impl Barriers {
             return false;
         }
         self.seats[member as usize] = passed_by(&seat, ends_region(seat.arrived));
-        self.front = settled(&self.front, &self.seats);
+        self.front = front_after(&self.front, &self.seats);
         true
     }
 }

@@ -5,7 +5,7 @@
 
 ghost use Rattle.std.specs.Prelude.{◌≡◌, ◌↔◌, IsTrue, All};
 ghost use Rattle.gomp_types.specs.Events.{was_region_end};
-ghost use Rattle.gomp_barrier.specs.Seats.{is_ahead, tag_for, number_for, IsThere, AllAhead, SomeBehind, arrived_at, passed_by, advanced};
+ghost use Rattle.gomp_barrier.specs.Seats.{is_ahead, tag_for, number_for, IsThere, AllAhead, SomeBehind, arrived_at, passed_by, next_front};
 
 use gomp_types::{Arrival, Tag};
 
@@ -102,8 +102,8 @@ pub fn passed_by(member: &Seat, at_region_end: bool) -> Seat
 }
 
 /// The front after members have passed: the next barrier, once all have passed this one.
-pub fn settled(front: &Front, members: &[Seat]) -> Front
-    ensures moved { AllAhead front.now members.now → result ≡ advanced front.now }
+pub fn front_after(front: &Front, members: &[Seat]) -> Front
+    ensures moved { AllAhead front.now members.now → result ≡ next_front front.now }
     ensures stays { SomeBehind front.now members.now → result ≡ front.now }
 {
     if members.iter().all(|member| is_ahead(front, member)) {

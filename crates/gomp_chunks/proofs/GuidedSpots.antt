@@ -48,7 +48,7 @@ piece_there members shape spot is left =
     let here : spot.number + 0 ≡ spot.number = omega arith in
     rw here at (is.rest 0) ∙ head_is members shape.chunk is.most spot.first (shape.trips - spot.first) (omega arith) is.enough
 
--- none is there, nor later, where no iteration is left
+-- none is there, nor later, if no iteration is left
 pub no_piece_past_the_last : (members : ℕ) (shape : Shape) (spot : Spot) (j : ℕ) → IsSpot members shape spot → spot.first ≡ shape.trips → spot.number ≤ j →
     slice_get (guided_pieces shape.trips members shape.chunk) j ≡ None
 no_piece_past_the_last members shape spot j is past ahead =

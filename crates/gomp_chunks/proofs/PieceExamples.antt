@@ -59,7 +59,7 @@ even_pieces_at_the_limit = refl
 pub guided_pieces_of_four : pieces (loop_plan 4 Guided (pos 20) (pos 2)) ≡ (0, 5) ∷ (5, 9) ∷ (9, 12) ∷ (12, 14) ∷ (14, 16) ∷ (16, 18) ∷ (18, 20) ∷ []
 guided_pieces_of_four = refl
 
--- the last piece has no more than what is left, also where the chunk is larger
+-- the last piece has no more than what is left, also if the chunk is larger
 pub guided_pieces_by_three : pieces guided_ten ≡ (0, 5) ∷ (5, 8) ∷ (8, 10) ∷ []
 guided_pieces_by_three = refl
 
@@ -183,11 +183,11 @@ static_next_second = refl
 pub static_next_last : next_piece static_ten 1 1 3 ≡ Some (9, 10)
 static_next_last = refl
 
--- none where it took all of its own
+-- none if it took all of its own
 pub static_next_none : next_piece static_ten 0 2 3 ≡ None
 static_next_none = refl
 
--- nor where it is said to have taken far more
+-- nor if it is said to have taken far more
 pub static_next_far : next_piece static_ten 0 (2 ^ 64 - 1) 3 ≡ None
 static_next_far = refl
 
@@ -203,7 +203,7 @@ even_next_none = refl
 pub dynamic_next : next_piece dynamic_ten 1 2 3 ≡ Some (9, 10)
 dynamic_next = refl
 
--- none where all pieces were taken
+-- none if all pieces were taken
 pub dynamic_next_none : next_piece dynamic_ten 1 2 4 ≡ None
 dynamic_next_none = refl
 
@@ -227,11 +227,11 @@ section_next_none = refl
 pub next_of_a_single : next_piece (plan_for 4 (single_shape false)) 3 0 0 ≡ Some (0, 1)
 next_of_a_single = refl
 
--- and none where it is taken
+-- and none if it is taken
 pub single_next_none : next_piece (plan_for 4 (single_shape false)) 3 0 1 ≡ None
 single_next_none = refl
 
--- the piece of a number, and none where there is no number or no piece
+-- the piece of a number, and none if there is no number or no piece
 pub piece_at_a_number : piece_at dynamic_ten (Some 3) ≡ Some (9, 10)
 piece_at_a_number = refl
 

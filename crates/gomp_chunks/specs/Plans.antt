@@ -12,7 +12,7 @@ pub record PlanView : Type 0 where
 abbrev pub pieces : PlanView → List Piece
 pieces plan = pieces_of plan.members plan.shape
 
--- the owner of piece number j, where there is one
+-- the owner of piece number j, if there is one
 abbrev pub owner_in : Option (ℕ → ℕ) → List Piece → ℕ → Option ℕ
 owner_in None pieces j = None
 owner_in (Some owner) pieces j = if nat_lt j (length pieces) then Some (owner j) else None
@@ -29,11 +29,11 @@ abbrev pub count_for : Option (ℕ → ℕ) → ℕ → ℕ → ℕ
 count_for None own all = all
 count_for (Some owner) own all = own
 
--- the least piece that nobody took of those that are the member's to take, where it took `own` pieces and all members took `all`
+-- the least piece that nobody took of those that are the member's to take, if it took `own` pieces and all members took `all`
 abbrev pub next_piece : PlanView → ℕ → ℕ → ℕ → Option Piece
 next_piece plan m own all = slice_get (own_queue plan m) (count_for (owner_by plan.members plan.shape.kind) own all)
 
--- the piece with this number, where there is a number
+-- the piece with this number, if there is a number
 abbrev pub piece_at : PlanView → Option ℕ → Option Piece
 piece_at plan number = option_and_then (slice_get (pieces plan)) number
 

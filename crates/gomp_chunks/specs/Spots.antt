@@ -6,7 +6,7 @@ use Rattle.gomp_types.specs.Pieces.{guided_from, guided_pieces}
 use Rattle.gomp_chunks.specs.Plans.{PlanView, pieces}
 use Rattle.gomp_chunks.specs.declared.guided.Spot.{Spot}
 
--- what a cursor keeps: the plan, the spot of the piece that was asked for last, which moves only where the loop is guided, and how many pieces there are, where it is not
+-- what a cursor keeps: the plan, the spot of the piece that was asked for last, which moves only if the loop is guided, and how many pieces there are, if it is not
 pub record CursorView : Type 0 where
   pub plan : PlanView
   pub spot : Spot
@@ -20,7 +20,7 @@ pub record IsSpot (members : ℕ) (shape : Shape) (spot : Spot) : Type 0 where
   pub enough : shape.trips - spot.first ≤ most
   pub rest : (i : ℕ) → slice_get (guided_pieces shape.trips members shape.chunk) (spot.number + i) ≡ slice_get (guided_from members shape.chunk most spot.first (shape.trips - spot.first)) i
 
--- the spot is one of the plan, and the count is that of its pieces where the loop is not guided
+-- the spot is one of the plan, and the count is that of its pieces if the loop is not guided
 pub record IsCursor (plan : PlanView) (spot : Spot) (count : ℕ) : Type 0 where
   pub there : IsSpot plan.members plan.shape spot
   pub counted : plan.shape.kind ≢ Guided → count ≡ length (pieces plan)

@@ -5,12 +5,12 @@ ghost use Rattle.gomp_chunks.specs.Plans.{IsPieceWithin, next_piece, pieces};
 ghost use Rattle.gomp_chunks.specs.Spots.{IsSpotAt};
 
 use crate::Plan;
-use crate::guided::{Spot, forward};
+use crate::guided::{Spot, spot_ahead};
 use std::marker::Model;
 
 /// A plan with the place of the piece of a guided loop that was asked for last, from which the next
-/// one is found without going over those before it anew. Pieces of other loops need no place: they are
-/// counted once, so that no call divides to find the last one.
+/// one is found without going over those before it anew. Pieces of other loops need no place: they
+/// are counted once, so that no call divides to find the last one.
 #[derive(Clone, Copy, Debug)]
 pub struct Cursor {
     plan: Plan,

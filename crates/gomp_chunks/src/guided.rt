@@ -38,7 +38,7 @@ pub fn size_from(shape: &Shape, members: u16, first: u64) -> u64
 
 /// Goes forward from a spot to piece number `j`, or past the last piece if there is none of this
 /// number.
-pub fn forward(shape: &Shape, members: u16, start: Spot, j: u64) -> Spot
+pub fn spot_ahead(shape: &Shape, members: u16, start: Spot, j: u64) -> Spot
     requires shape { IsShape shape.now }
     requires team { 0 < members }
     requires spot { IsSpot members shape.now start }
@@ -85,5 +85,5 @@ pub fn guided_count(shape: &Shape, members: u16) -> u64
     ensures count { result ≡ length (guided_pieces shape.now.trips members shape.now.chunk) }
     ensures bounded { result ≤ shape.now.trips }
 {
-    forward(shape, members, Spot::START, shape.trips).number
+    spot_ahead(shape, members, Spot::START, shape.trips).number
 }

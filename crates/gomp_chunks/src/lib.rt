@@ -25,7 +25,7 @@ pub use cursor::Cursor;
 use even::{even_count, even_owner, even_piece};
 use gomp_types::{Shape, ShareKind};
 pub use guided::Spot;
-use guided::{forward, guided_count, guided_piece};
+use guided::{guided_count, guided_piece, spot_ahead};
 use sections::{section_count, section_piece};
 use single::{whole_count, whole_piece};
 use std::marker::Model;
@@ -116,8 +116,8 @@ impl Plan {
     }
 
     /// The number of the piece that a member takes next, if it took `own` pieces and all members
-    /// together took `all`: of a static loop its own next one, of others the next one of all. `None`,
-    /// or a number past the last piece, if nothing is left for it.
+    /// together took `all`: of a static loop its own next one, of others the next one of all.
+    /// `None`, or a number past the last piece, if nothing is left for it.
     pub fn next_number(&self, member: u16, own: u64, all: u64) -> Option<u64>
         requires { member < self.now.members }
         ensures { next_piece self.now member own all ≡ piece_at self.now result }
@@ -132,7 +132,8 @@ impl Plan {
         }
     }
 
-    /// The spot of piece number `j`, from one that lies before it. Only a guided loop's is looked for.
+    /// The spot of piece number `j`, from one that lies before it. Only a guided loop's is looked
+    /// for.
     fn spot_from(&self, start: Spot, j: u64) -> Spot
         requires spot { IsSpot self.now.members self.now.shape start }
         requires ahead { start.number ≤ j }
@@ -141,7 +142,7 @@ impl Plan {
         ensures there { IsSpotAt self.now.shape result j }
     {
         match self.shape.kind {
-            ShareKind::Guided => forward(&self.shape, self.members, start, j),
+            ShareKind::Guided => spot_ahead(&self.shape, self.members, start, j),
             _ => start,
         }
     }
@@ -157,7 +158,8 @@ impl Plan {
         }
     }
 
-    /// Piece number `j`, if this is its spot, and there are `count` pieces if the loop is not guided.
+    /// Piece number `j`, if this is its spot, and there are `count` pieces if the loop is not
+    /// guided.
     fn piece_from(&self, spot: Spot, count: u64, j: u64) -> Option<(u64, u64)>
         requires spot { IsSpot self.now.members self.now.shape spot }
         requires ahead { spot.number ≤ j }

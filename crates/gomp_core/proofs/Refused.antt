@@ -109,7 +109,7 @@ step_refused p step team row one two =
     rw (one, two) (sym (lesser_assoc (least (member_tests p.terms.members step.member p.events)) (least (wait_tests step.call (p.waits step.member))) (least (row_tests (is_resume step.call) (row_at p step) step.member p))))
     ∙ sym (step_layers p step)
 
--- what a call was admitted to stays so where nothing else refuses it
+-- what a call was admitted to stays so if nothing else refuses it
 pub still_admitted : {A : Type 0} (P : A → Type 0) (own all : Result A Refusal) → IfOk all (λ found. own ≡ Ok found) → IfOk own P → IfOk all P
 still_admitted P own (Ok found) same may = rw same at may
 still_admitted P own (Err refusal) same may = tt

@@ -40,7 +40,7 @@ record_is_resolved = refl
 pub terms_of_three : standard_terms 3 by_four ≡ record { members = 3; limits = record { shares = 131064; tasks = 1048576; events = 16777216 }; cancellation = true }
 terms_of_three = refl
 
--- a wait is kept where the reply is to wait or a refusal, and closed by every other
+-- a wait is kept if the reply is to wait or a refusal, and closed by every other
 pub waits_that_are_kept :
     (wait_after Wait Barrier None ≡ Some Barrier) × (wait_after Wait Resume (Some Barrier) ≡ Some Barrier) × (wait_after (Refused InsideShare) LoopNext (Some Barrier) ≡ Some Barrier)
     × (wait_after Passed Resume (Some Barrier) ≡ None) × (wait_after Finished LoopEndNowait None ≡ None)

@@ -22,7 +22,7 @@ use Rattle.gomp_types.proofs.LeastTests.{AllFail, lesser_low}
 use Rattle.gomp_model.specs.Past.{Terms, Past}
 use Rattle.gomp_model.specs.Row.{row_tests, refusal_gives}
 use Rattle.gomp_model.specs.Calls.{row_of}
-use Rattle.gomp_model.specs.Team.{Record, record_after, meant, is_resume, row_at, broken_tests, refusal_of, MayAnswer, wait_after, past_of, Caused}
+use Rattle.gomp_model.specs.Team.{Record, record_after, call_meant, is_resume, row_at, broken_tests, refusal_of, MayAnswer, wait_after, past_of, Caused}
 use Rattle.gomp_barrier.specs.Stands.{BarriersView, Stands as BarriersStand, members_of as barrier_members}
 use Rattle.gomp_laws.proofs.Sound.{Gives, gives_of, IsLast, breaks}
 use Rattle.gomp_laws.proofs.CallsKeep.{step_keeps}
@@ -149,11 +149,11 @@ refused_memory p step refusal may is same = cc
 -- An answer
 
 pub may_answer : (p : Past) (step : Step) (reply : Reply) → refusal_of p step ≡ None → MayReply (row_at p step) (is_resume step.call) step.member p reply → MayAnswer p step reply
-may_answer p step (Refused refusal) none may = absurd ((row_is_sound (meant step.call (p.waits step.member))).accepts step.member _ refusal may)
+may_answer p step (Refused refusal) none may = absurd ((row_is_sound (call_meant step.call (p.waits step.member))).accepts step.member _ refusal may)
 may_answer p step reply none may = (none, may)
 
 pub never_refused : (p : Past) (step : Step) (refusal : Refusal) (reply : Reply) → MayReply (row_at p step) (is_resume step.call) step.member p reply → reply ≡ Refused refusal → ⊥
-never_refused p step refusal (Refused other) may same = (row_is_sound (meant step.call (p.waits step.member))).accepts step.member _ other may
+never_refused p step refusal (Refused other) may same = (row_is_sound (call_meant step.call (p.waits step.member))).accepts step.member _ other may
 never_refused p step refusal _ may same = cc
 
 -- a reply that breaks nothing leaves the team as whole as it was
@@ -161,19 +161,19 @@ last_whole : (can : Gives) (m : ℕ) (reply : Reply) (event : Event) (h after : 
 last_whole can m reply (Break n place) h after whole by same = absurd (let broken = by.1 in cc)
 last_whole can m reply _ h after whole by same = same
 
-clash_kept : (call : Call) (again : Bool) (m : ℕ) (p : Past) (reply : Reply) → breaks reply ≡ false → MayReply (row_of call) again m p reply → clash_of (given_after (row_of call) again m p reply) ≡ clash_of p.events
-clash_kept call again m p reply whole may =
-    subst (λ (h : List Event). clash_of h ≡ clash_of p.events) (events_given call again m p reply may)
-    (step_keeps (row_of call) (row_is_sound call) again m p reply (λ h. clash_of h ≡ clash_of p.events) (λ event h by same. last_whole (gives_of (row_of call)) m reply event p.events h whole by same) refl)
+clash_kept : (call : Call) (repeated : Bool) (m : ℕ) (p : Past) (reply : Reply) → breaks reply ≡ false → MayReply (row_of call) repeated m p reply → clash_of (given_after (row_of call) repeated m p reply) ≡ clash_of p.events
+clash_kept call repeated m p reply whole may =
+    subst (λ (h : List Event). clash_of h ≡ clash_of p.events) (events_given call repeated m p reply may)
+    (step_keeps (row_of call) (row_is_sound call) repeated m p reply (λ h. clash_of h ≡ clash_of p.events) (λ event h by same. last_whole (gives_of (row_of call)) m reply event p.events h whole by same) refl)
 
-stops_there : (call : Call) (again : Bool) (m : ℕ) (p : Past) (broken : Option Clash) → call ≡ Stop → clash_of p.events ≡ None → broken_after broken m Stopped ≡ clash_of (given_after (row_of call) again m p Stopped)
-stops_there call again m p broken stop whole = rw stop (rw whole refl)
+stops_there : (call : Call) (repeated : Bool) (m : ℕ) (p : Past) (broken : Option Clash) → call ≡ Stop → clash_of p.events ≡ None → broken_after broken m Stopped ≡ clash_of (given_after (row_of call) repeated m p Stopped)
+stops_there call repeated m p broken stop whole = rw stop (rw whole refl)
 
-clash_after : (call : Call) (again : Bool) (m : ℕ) (p : Past) (reply : Reply) (broken : Option Clash) → MayReply (row_of call) again m p reply → (reply ≡ Stopped → call ≡ Stop) → broken ≡ clash_of p.events → clash_of p.events ≡ None →
-    broken_after broken m reply ≡ clash_of (given_after (row_of call) again m p reply)
-clash_after call again m p Stopped broken may stops is whole = stops_there call again m p broken (stops refl) whole
-clash_after call again m p (Refused refusal) broken may stops is whole = absurd ((row_is_sound call).accepts m _ refusal may)
-clash_after call again m p reply broken may stops is whole = is ∙ sym (clash_kept call again m p reply refl may)
+clash_after : (call : Call) (repeated : Bool) (m : ℕ) (p : Past) (reply : Reply) (broken : Option Clash) → MayReply (row_of call) repeated m p reply → (reply ≡ Stopped → call ≡ Stop) → broken ≡ clash_of p.events → clash_of p.events ≡ None →
+    broken_after broken m reply ≡ clash_of (given_after (row_of call) repeated m p reply)
+clash_after call repeated m p Stopped broken may stops is whole = stops_there call repeated m p broken (stops refl) whole
+clash_after call repeated m p (Refused refusal) broken may stops is whole = absurd ((row_is_sound call).accepts m _ refusal may)
+clash_after call repeated m p reply broken may stops is whole = is ∙ sym (clash_kept call repeated m p reply refl may)
 
 whole_tests : (clash : Option Clash) → AllFail (broken_tests clash) → clash ≡ None
 whole_tests None fail = refl
@@ -188,13 +188,13 @@ team_after team shares barriers payloads step waiting reply = record { icv = tea
 
 pub stands_answered : {S : Type 0} (stands : S → List Event → Type 0) (members : S → ℕ) (team : TeamView S) (shares : S) (barriers : BarriersView) (payloads : List (Option Put)) (before : Record) (step : Step) (waiting : Option Call) (reply : Reply) →
     Stands stands members team before → slice_get team.waiting step.member ≡ Some waiting → refusal_of (past team before) step ≡ None → MayReply (row_at (past team before) step) (is_resume step.call) step.member (past team before) reply →
-    (reply ≡ Stopped → meant step.call ((past team before).waits step.member) ≡ Stop) →
+    (reply ≡ Stopped → call_meant step.call ((past team before).waits step.member) ≡ Stop) →
     PartsStand stands (members_of team) shares barriers payloads (given_after (row_at (past team before) step) (is_resume step.call) step.member (past team before) reply) →
     members shares ≡ members team.shares → barrier_members barriers ≡ barrier_members team.barriers →
     Stands stands members (team_after team shares barriers payloads step waiting reply) ((step, reply) ∷ before)
 stands_answered stands members team shares barriers payloads before step waiting reply st at none may stops parts shares_same barriers_same =
     let p = past team before in
-    let call = meant step.call (p.waits step.member) in
+    let call = call_meant step.call (p.waits step.member) in
     let adds : (past team ((step, reply) ∷ before)).events ≡ given_after (row_of call) (is_resume step.call) step.member p reply = events_given call (is_resume step.call) step.member p reply may in
     let after = team_after team shares barriers payloads step waiting reply in
     let size : members_of after ≡ members_of team = length-set team.waiting step.member (wait_after reply step.call waiting) in
@@ -276,16 +276,16 @@ set_twice (first ∷ items) zero one other = refl
 set_twice (first ∷ items) (suc i) one other = ap (λ xs. first ∷ xs) (set_twice items i one other)
 
 -- a resume that is answered keeps the call open
-open_again : (m : ℕ) (p : Past) (call : Call) (waiting : Option Call) → AllFail ((row_of (meant call waiting)).compared (is_resume call) m p) → call ≡ Resume → wait_after Wait call waiting ≡ waiting
-open_again m p Resume None fail again = absurd (let shut = fail.0 in cc)
-open_again m p Resume (Some call) fail again = refl
-open_again m p _ waiting fail again = absurd (cc)
+open_again : (m : ℕ) (p : Past) (call : Call) (waiting : Option Call) → AllFail ((row_of (call_meant call waiting)).compared (is_resume call) m p) → call ≡ Resume → wait_after Wait call waiting ≡ waiting
+open_again m p Resume None fail repeated = absurd (let shut = fail.0 in cc)
+open_again m p Resume (Some call) fail repeated = refl
+open_again m p _ waiting fail repeated = absurd (cc)
 
-compared_fails : (m : ℕ) (p : Past) (call : Call) (waiting : Option Call) → call ≡ Resume → AllFail (row_tests (is_resume call) (row_of (meant call waiting)) m p) → AllFail ((row_of (meant call waiting)).compared (is_resume call) m p)
-compared_fails m p Resume waiting again fail = fail
-compared_fails m p _ waiting again fail = absurd (cc)
+compared_fails : (m : ℕ) (p : Past) (call : Call) (waiting : Option Call) → call ≡ Resume → AllFail (row_tests (is_resume call) (row_of (call_meant call waiting)) m p) → AllFail ((row_of (call_meant call waiting)).compared (is_resume call) m p)
+compared_fails m p Resume waiting repeated fail = fail
+compared_fails m p _ waiting repeated fail = absurd (cc)
 
--- where a call that waits is asked about again and waits on, nothing changes
+-- if a call that waits is asked about again and waits on, nothing changes
 pub waits_on : {S : Type 0} (team : TeamView S) (shares : S) (barriers : BarriersView) (payloads : List (Option Put)) (p : Past) (step : Step) (waiting : Option Call) (reply : Reply) →
     slice_get team.waiting step.member ≡ Some waiting → p.waits step.member ≡ waiting → refusal_of p step ≡ None → ArePartsKept team.shares team.barriers team.payloads shares barriers payloads → reply ≡ Wait → step.call ≡ Resume →
     team_after team shares barriers payloads step waiting reply ≡ team

@@ -10,15 +10,15 @@ use Rattle.gomp_types.specs.declared.limits.Limits.{Limits}
 use Rattle.gomp_types.specs.declared.refusal.Refusal.TheVariants.{BadMember}
 use Rattle.gomp_types.specs.declared.reply.Reply.{Reply}
 use Rattle.gomp_types.specs.declared.reply.Reply.TheVariants.{Wait, Refused}
-use Rattle.gomp_types.specs.Limits.{capped}
+use Rattle.gomp_types.specs.Limits.{capped_limits}
 use Rattle.gomp_types.specs.Least.{least}
 use Rattle.gomp_types.specs.Seen.{seen_of}
 use Rattle.gomp_types.proofs.Booleans.{which_branch, is_equal}
 use Rattle.gomp_types.proofs.LeastTests.{AllFail, none_holds}
 use Rattle.gomp_model.specs.Past.{Terms, Past}
-use Rattle.gomp_model.specs.Row.{since}
+use Rattle.gomp_model.specs.Row.{begun_past}
 use Rattle.gomp_model.specs.Calls.{row_of}
-use Rattle.gomp_model.specs.Team.{Record, meant, is_resume, row_at, refusal_of, MayAnswer, wait_after, past_of, Caused}
+use Rattle.gomp_model.specs.Team.{Record, call_meant, is_resume, row_at, refusal_of, MayAnswer, wait_after, past_of, Caused}
 use Rattle.gomp_laws.proofs.Sound.{shows}
 use Rattle.gomp_laws.proofs.Known.{Pending, known_of, same_terms, unrefused_step_is_ready}
 use Rattle.gomp_parts.specs.Answers.{in_place, IsReady}
@@ -28,7 +28,7 @@ use Rattle.gomp_core.proofs.Refused.{bad_member}
 pub same_members : (terms : Terms) (run : Record) → (past_of terms run).terms.members ≡ terms.members
 same_members terms run = ap (λ (t : Terms). t.members) (same_terms terms run)
 
-pub same_limits : (terms : Terms) (run : Record) → capped terms.limits ≡ terms.limits → (past_of terms run).terms.limits ≡ terms.limits
+pub same_limits : (terms : Terms) (run : Record) → capped_limits terms.limits ≡ terms.limits → (past_of terms run).terms.limits ≡ terms.limits
 same_limits terms run small = ap (λ (t : Terms). t.limits) (same_terms terms run) ∙ small
 
 -- A call that waits is one that may wait
@@ -40,8 +40,8 @@ waits_so : (p : Past) (step : Step) (reply : Reply) (call : Call) → MayAnswer 
     wait_after reply step.call (p.waits step.member) ≡ Some call → MayWait step.member call
 waits_so p step (Refused refusal) call may before e = before call e
 waits_so p step Wait call may before e =
-    let same : meant step.call (p.waits step.member) ≡ call = cc in
-    subst (MayWait step.member) same (since (is_resume step.call) (row_at p step) step.member p, may.1)
+    let same : call_meant step.call (p.waits step.member) ≡ call = cc in
+    subst (MayWait step.member) same (begun_past (is_resume step.call) (row_at p step) step.member p, may.1)
 waits_so p step _ call may before e = absurd (cc)
 
 pub open_waits : (terms : Terms) (run : Record) → Caused terms run → (k : ℕ) (call : Call) → (past_of terms run).waits k ≡ Some call → MayWait k call
@@ -58,16 +58,16 @@ open_waits terms (pair ∷ earlier) caused k call e =
 
 -- The call that a step makes or repeats
 
-place_is_shown : (stays again : Bool) → in_place stays again ≡ true → shows stays again ≡ true
-place_is_shown true again e = refl
-place_is_shown false again e = e
+place_is_shown : (stays repeated : Bool) → in_place stays repeated ≡ true → shows stays repeated ≡ true
+place_is_shown true repeated e = refl
+place_is_shown false repeated e = e
 
 -- a resume with no wait open is refused
-resumed_may_wait : (m : ℕ) (p : Past) (call : Call) (waiting : Option Call) → AllFail ((row_of (meant call waiting)).compared (is_resume call) m p) → ((other : Call) → waiting ≡ Some other → MayWait m other) →
-    is_resume call ≡ true → MayWait m (meant call waiting)
-resumed_may_wait m p Resume None fail waits again = absurd (let shut = fail.0 in cc)
-resumed_may_wait m p Resume (Some call) fail waits again = waits call refl
-resumed_may_wait m p _ waiting fail waits again = absurd (cc)
+resumed_may_wait : (m : ℕ) (p : Past) (call : Call) (waiting : Option Call) → AllFail ((row_of (call_meant call waiting)).compared (is_resume call) m p) → ((other : Call) → waiting ≡ Some other → MayWait m other) →
+    is_resume call ≡ true → MayWait m (call_meant call waiting)
+resumed_may_wait m p Resume None fail waits repeated = absurd (let shut = fail.0 in cc)
+resumed_may_wait m p Resume (Some call) fail waits repeated = waits call refl
+resumed_may_wait m p _ waiting fail waits repeated = absurd (cc)
 
 pub step_ready : (terms : Terms) (run : Record) (step : Step) (members : ℕ) → Caused terms run → members ≡ terms.members → refusal_of (past_of terms run) step ≡ None →
     IsReady (row_at (past_of terms run) step) members (is_resume step.call) step.member (past_of terms run)
@@ -83,18 +83,18 @@ step_ready terms run step members caused size none =
     }
 
 -- the place of a call that waits there is tested still
-waiting_place_kept : (m : ℕ) (limits : Limits) (h : List Event) (call : Call) (waiting : Option Call) → Pending limits m waiting h → is_resume call ≡ true → (row_of (meant call waiting)).stays ≡ true →
-    least ((row_of (meant call waiting)).by_place limits (seen_of m h)) ≡ None
-waiting_place_kept m limits h Resume None pending again stays = absurd (cc)
-waiting_place_kept m limits h Resume (Some call) pending again stays = none_holds ((row_of call).by_place limits (seen_of m h)) (pending stays)
-waiting_place_kept m limits h _ waiting pending again stays = absurd (cc)
+waiting_place_kept : (m : ℕ) (limits : Limits) (h : List Event) (call : Call) (waiting : Option Call) → Pending limits m waiting h → is_resume call ≡ true → (row_of (call_meant call waiting)).stays ≡ true →
+    least ((row_of (call_meant call waiting)).by_place limits (seen_of m h)) ≡ None
+waiting_place_kept m limits h Resume None pending repeated stays = absurd (cc)
+waiting_place_kept m limits h Resume (Some call) pending repeated stays = none_holds ((row_of call).by_place limits (seen_of m h)) (pending stays)
+waiting_place_kept m limits h _ waiting pending repeated stays = absurd (cc)
 
-pub step_place : (terms : Terms) (run : Record) (step : Step) (limits : Limits) → Caused terms run → capped terms.limits ≡ terms.limits → limits ≡ terms.limits → is_resume step.call ≡ true → (row_at (past_of terms run) step).stays ≡ true →
+pub step_place : (terms : Terms) (run : Record) (step : Step) (limits : Limits) → Caused terms run → capped_limits terms.limits ≡ terms.limits → limits ≡ terms.limits → is_resume step.call ≡ true → (row_at (past_of terms run) step).stays ≡ true →
     least ((row_at (past_of terms run) step).by_place limits (seen_of step.member (past_of terms run).events)) ≡ None
-step_place terms run step limits caused small bounds again stays =
+step_place terms run step limits caused small bounds repeated stays =
     let p = past_of terms run in
     let is : p.terms.limits ≡ limits = same_limits terms run small ∙ sym bounds in
-    waiting_place_kept step.member limits p.events step.call (p.waits step.member) (subst (λ (l : Limits). Pending l step.member (p.waits step.member) p.events) is ((known_of terms run caused).pending step.member)) again stays
+    waiting_place_kept step.member limits p.events step.call (p.waits step.member) (subst (λ (l : Limits). Pending l step.member (p.waits step.member) p.events) is ((known_of terms run caused).pending step.member)) repeated stays
 
 -- a member whose step is not refused for that is one of the team
 pub step_below : (p : Past) (step : Step) → (refusal_of p step ≡ Some BadMember → ⊥) → step.member < p.terms.members

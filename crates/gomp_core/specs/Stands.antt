@@ -9,7 +9,7 @@ use Rattle.gomp_types.specs.declared.refusal.Refusal.TheVariants.{Mismatch, NoMe
 use Rattle.gomp_types.specs.declared.reply.Reply.{Reply}
 use Rattle.gomp_types.specs.declared.reply.Reply.TheVariants.{Wait, Refused}
 use Rattle.gomp_types.specs.declared.event.Event.{Event}
-use Rattle.gomp_types.specs.Limits.{standard, capped, IsTeamSize}
+use Rattle.gomp_types.specs.Limits.{standard, capped_limits, IsTeamSize}
 use Rattle.gomp_types.specs.Events.{clash_of}
 use Rattle.gomp_model.specs.Past.{Terms, Past}
 use Rattle.gomp_model.specs.Team.{Record, past_of, Caused}
@@ -55,7 +55,7 @@ pub record Stands {S : Type 0} (stands : S → List Event → Type 0) (members :
   -- it has 1 to 64 members
   pub size : IsTeamSize (members_of team)
   -- no limit is above the standard one
-  pub limits_are : capped team.limits ≡ team.limits
+  pub limits_are : capped_limits team.limits ≡ team.limits
   -- one place for each member in every part
   pub shares_size : members team.shares ≡ members_of team
   pub barriers_size : barrier_members team.barriers ≡ members_of team
@@ -66,14 +66,14 @@ pub record Keeps {S : Type 0} (team after : TeamView S) (call : Call) (reply : R
   pub members : members_of after ≡ members_of team
   pub icv : after.icv ≡ team.icv
   pub limits : after.limits ≡ team.limits
-  -- all of it, where the step is refused and does not break it
+  -- all of it, if the step is refused and does not break it
   pub refused : (refusal : Refusal) → reply ≡ Refused refusal → refusal ≢ Mismatch → after ≡ team
-  -- all but that it is broken, where the step breaks it
+  -- all but that it is broken, if the step breaks it
   pub broken : reply ≡ Refused Mismatch → after ≡ record team { broken = after.broken }
-  -- and all of it, where a resume waits on
+  -- and all of it, if a resume waits on
   pub waits : reply ≡ Wait → call ≡ Resume → after ≡ team
 
--- what a team of this many members is made with, by these control variables, where no limits are given
+-- what a team of this many members is made with, by these control variables, if no limits are given
 abbrev pub standard_terms : ℕ → Variables → Terms
 standard_terms count icv = record { members = count; limits = standard; cancellation = icv.cancellation }
 

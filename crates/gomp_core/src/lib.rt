@@ -2,14 +2,13 @@
 //!
 //! [`Team::step`] answers one call of one member; [`run`] makes a team and answers a list of steps.
 //! A team is made with the control variables of its members, from which runtime loops take their
-//! schedule, and any member may stop it.
-//! A team is generic in the body of its work-shares. Its parts are those of `gomp_parts`: the shares, the
-//! barriers and the words of singles, each of which stands for all of the team's events. The calls that
-//! wait are kept here.
+//! schedule, and any member may stop it. A team is generic in the body of its work-shares. Its
+//! parts are those of `gomp_parts`: the shares, the barriers and the words of singles, each of
+//! which stands for all of the team's events. The calls that wait are kept here.
 //!
-//! A step is refused by the least of its layers' refusals, before anything changes; else its call is
-//! answered. What a call is tested for, answered and gives is its row (`row_of` in specs/Calls.antt of
-//! gomp_model); no definition or proof here lists the calls.
+//! A step is refused by the least of its layers' refusals, before anything changes; else its call
+//! is answered. What a call is tested for, answered and gives is its row (`row_of` in
+//! specs/Calls.antt of gomp_model); no definition or proof here lists the calls.
 #![tactic(auto)]
 
 pub mod steps;

@@ -16,19 +16,19 @@ use gomp_types::{Refusal, Reply, Step};
 use std::alloc::Global;
 
 /// The replies of a new team of `count` members, by these control variables, to these steps, in
-/// order, one for each, and the team after them. The steps are dropped. In the record of what was
-/// asked a loop whose schedule is left to the control variables has theirs.
+/// order, one for each, and the team after them. The steps are dropped. In the record of the run the
+/// control variables have replaced each runtime schedule.
 ///
 /// **The headline**, of all that these steps and replies give: for every team size and list of steps
 /// no iteration, section or single is taken twice, and of a static loop a member takes only its own
-/// pieces; a loop or sections construct that all members end had every iteration or section taken,
-/// and a single that all members left was executed by one of them; ordered parts of a loop run in the
-/// order of its iterations, and an ordered loop that all members left had each of its pieces handed
-/// on; the words that a member copies are those that the executor of the single put; all members go
-/// through the same constructs in the same order; and no member passes a barrier before all arrived,
-/// and have left the constructs before it.
+/// pieces; a loop or sections construct that all members left had every iteration or section taken,
+/// and a single that all members left was executed by one of them; ordered parts of a loop run in
+/// the order of its iterations, and an ordered loop that all members left had each of its pieces
+/// handed on; the words that a member copies are those that the executor of the single put; all
+/// members go through the same constructs in the same order; and no member passes a barrier before
+/// all arrived, and have left the constructs before it.
 ///
-/// Refused with `BadTeam` (E38) where the size is not 1 to 64, and with `NoMemory` (E37) where the
+/// Refused with `BadTeam` (E38) if the size is not 1 to 64, and with `NoMemory` (E37) if the
 /// memory of the team or of the replies is refused; then the steps are dropped and nothing is kept.
 pub fn run<S: Shares + Drop>(
     alloc: Global,
@@ -39,7 +39,7 @@ pub fn run<S: Shares + Drop>(
     ensures size { result ≡ Err BadTeam ↔ (IsTeamSize count → ⊥) }
     ensures refused { (refusal : Refusal) → result ≡ Err refusal →
         (refusal ≡ BadTeam) ⊎ (refusal ≡ NoMemory) }
-    ensures each { IfOk result (λ ran. vec_len ran.1 ≡ length steps.items) }
+    ensures one_reply_each { IfOk result (λ ran. vec_len ran.1 ≡ length steps.items) }
     ensures terms { IfOk result (λ ran. terms_of ran.0 ≡ standard_terms count icv) }
     ensures icv { IfOk result (λ ran. ran.0.icv ≡ icv) }
     ensures memory { IfOk result (λ ran. NoneForMemory ran.1.items) }

@@ -3,17 +3,17 @@
 ghost use Rattle.std.specs.Prelude.{◌≡◌, ◌≢◌, ◌<◌, ◌↔◌, ◌⊎◌, ◌∷◌, List, [], IfOk, Err, None, replicate};
 ghost use Rattle.gomp_types.specs.declared.refusal.Refusal.{Refusal};
 ghost use Rattle.gomp_types.specs.declared.refusal.Refusal.TheVariants.{BadTeam, NoMemory};
-ghost use Rattle.gomp_types.specs.Limits.{capped, standard, IsTeamSize};
+ghost use Rattle.gomp_types.specs.Limits.{capped_limits, standard, IsTeamSize};
 ghost use Rattle.gomp_types.specs.declared.reply.Reply.TheVariants.{Refused};
 ghost use Rattle.gomp_types.specs.declared.event.Event.{Event};
 ghost use Rattle.gomp_types.specs.Events.{clash_of};
 ghost use Rattle.std.specs.Result.{result_err};
 ghost use Rattle.gomp_types.specs.Least.{lesser, least};
-ghost use Rattle.gomp_model.specs.Team.{Record, row_at, meant, is_resume, member_tests, wait_tests, wait_after, refusal_of, MayAnswer, events};
+ghost use Rattle.gomp_model.specs.Team.{Record, row_at, call_meant, is_resume, member_tests, wait_tests, wait_after, refusal_of, MayAnswer, events};
 ghost use Rattle.gomp_barrier.specs.Stands.{Stands as BarriersStand, members_of as barrier_members};
 ghost use Rattle.gomp_parts.specs.Answers.{StartsShare, broken_after};
 ghost use Rattle.gomp_core.specs.Stands.{Stands, Keeps, past, terms_of, members_of};
-ghost use Rattle.gomp_core.specs.Resolved.{resolved_call, resolved_step};
+ghost use Rattle.gomp_core.specs.Resolved.{resolved_call, resolved_step, step_by};
 
 use gomp_barrier::Barriers;
 use gomp_icv::Icv;
@@ -27,9 +27,9 @@ use std::marker::Model;
 /// A team of 1 to 64 members, numbered from 0, whose work-shares are kept by `S`.
 ///
 /// Every value stands for some record of steps and replies (its invariant), so a team may lie
-/// anywhere, and be stepped with nothing to prove. A record is the list of steps and replies, the newest
-/// first (specs/Team.antt of gomp_model); what it means that a team stands for one is `Stands` in
-/// specs/Stands.antt. The headline holds of each such record (proofs/Laws.antt).
+/// anywhere, and be stepped with nothing to prove. A record is the list of steps and replies, the
+/// newest first (specs/Team.antt of gomp_model); what it means that a team stands for one is
+/// `Stands` in specs/Stands.antt. The headline holds of each such record (proofs/Laws.antt).
 #[derive(Drop)]
 pub struct Team<S: Shares> {
     icv: Icv,
@@ -53,10 +53,10 @@ impl<S: Shares> Model for Team<S> {
 }
 
 impl<S: Shares> Team<S> {
-    /// A new team of this many members, by these control variables, with the standard limits. Runtime
-    /// schedules are those of the variables.
+    /// A new team of this many members, by these control variables, with the standard limits.
+    /// Runtime schedules are those of the variables.
     ///
-    /// Refused with `BadTeam` (E38) where the number is not 1 to 64, and with `NoMemory` (E37) where
+    /// Refused with `BadTeam` (E38) if the number is not 1 to 64, and with `NoMemory` (E37) if
     /// memory is refused.
     pub fn new(alloc: Global, count: u16, icv: Icv) -> Result<Team<S>, Refusal>
         ensures size { result ≡ Err BadTeam ↔ (IsTeamSize count → ⊥) }
@@ -70,7 +70,7 @@ impl<S: Shares> Team<S> {
         Team::with_limits(alloc, count, icv, Limits::STANDARD)
     }
 
-    /// A new team with these limits, each lowered to the standard one where it is larger.
+    /// A new team with these limits, each lowered to the standard one if it is larger.
     ///
     /// Refused as [`new`](Team::new) is.
     pub fn with_limits(
@@ -84,13 +84,13 @@ impl<S: Shares> Team<S> {
             (refusal ≡ BadTeam) ⊎ (refusal ≡ NoMemory) }
         ensures members { IfOk result (λ team. members_of team ≡ count) }
         ensures icv { IfOk result (λ team. team.icv ≡ icv) }
-        ensures limits { IfOk result (λ team. team.limits ≡ capped limits) }
+        ensures limits { IfOk result (λ team. team.limits ≡ capped_limits limits) }
         ensures stands { IfOk result (λ team. Stands S.stands S.members team []) }
     {
         if !is_team_size(count) {
             return Err(Refusal::BadTeam);
         }
-        match Team::make(alloc, count, icv, limits.capped()) {
+        match Team::make(alloc, count, icv, limits.capped_limits()) {
             Ok(team) => Ok(team),
             Err(_) => Err(Refusal::NoMemory),
         }
@@ -99,7 +99,7 @@ impl<S: Shares> Team<S> {
     /// A new team with these limits, of a size that a team may have. The error is want of memory.
     fn make(alloc: Global, count: u16, icv: Icv, limits: Limits) -> Result<Team<S>, AllocError>
         requires size { IsTeamSize count }
-        requires capped { capped limits ≡ limits }
+        requires capped { capped_limits limits ≡ limits }
         ensures members { IfOk result (λ team. members_of team ≡ count) }
         ensures icv { IfOk result (λ team. team.icv ≡ icv) }
         ensures limits { IfOk result (λ team. team.limits ≡ limits) }
@@ -109,21 +109,21 @@ impl<S: Shares> Team<S> {
             icv,
             limits,
             broken: None,
-            waiting: no_calls(alloc, count)?,
+            waiting: no_waits(alloc, count)?,
             barriers: Barriers::make(alloc, count)?,
             payloads: Payloads::new(),
             shares: S::make(alloc, count)?,
         })
     }
 
-    /// The reply to one call of one member, numbered from 0: the one that has its cause in what was
-    /// asked and answered before. [`Call`] says what each call is, [`Refusal`] when each refusal
-    /// comes; after one the team is as before, save that `Mismatch` (E35) breaks it. Where a `Resume` is
-    /// answered `Wait`, nothing changes either.
+    /// Answers one call of one member, numbered from 0: the definitions allow this reply alone
+    /// after what was asked and answered before. [`Call`] says what each call is, [`Refusal`] when
+    /// each refusal comes; after one the team is as before, save that `Mismatch` (E35) breaks it.
+    /// If a `Resume` is answered `Wait`, nothing changes either.
     ///
     /// A loop whose schedule is left to the control variables counts as one with theirs: the record
-    /// has it so (`resolved_step` in specs/Resolved.antt). Before and after the call the team stands for
-    /// a record, as `Stands` in specs/Stands.antt says.
+    /// has it so (`resolved_step` in specs/Resolved.antt). Before and after the call the team
+    /// stands for a record, as `Stands` in specs/Stands.antt says.
     ///
     /// It takes no memory, so `NoMemory` (E37) is no answer to any call here. Which replies have a
     /// cause is `MayAnswer` in specs/Team.antt of gomp_model (OpenMP API 5.2, chapters 11 and 15).
@@ -133,26 +133,24 @@ impl<S: Shares> Team<S> {
         ensures keeps { Keeps self.old self.new call result }
         ensures memory { result ≢ Refused NoMemory }
         ensures answer { (before : Record) → Stands S.stands S.members self.old before →
-            MayAnswer (past self.old before) (resolved_step self.old.icv
-            (record { member = member; call = call })) result }
+            MayAnswer (past self.old before)
+            (resolved_step self.old.icv (step_by member call)) result }
         ensures stands { (before : Record) → Stands S.stands S.members self.old before →
             Stands S.stands S.members self.new
-            ((resolved_step self.old.icv (record { member = member; call = call }), result) ∷
-            before) }
+            ((resolved_step self.old.icv (step_by member call), result) ∷ before) }
     {
-        let call = resolved(&self.icv, call);
-        self.resolved_step(member, call)
+        let call = resolved_call(&self.icv, call);
+        self.perform(member, call)
     }
 
     /// The reply to a call that has the schedule which counts.
-    fn resolved_step(&mut self, member: u16, call: Call) -> Reply
+    fn perform(&mut self, member: u16, call: Call) -> Reply
         ensures keeps { Keeps self.old self.new call result }
         ensures memory { result ≢ Refused NoMemory }
         ensures answer { (before : Record) → Stands S.stands S.members self.old before →
-            MayAnswer (past self.old before) (record { member = member; call = call }) result }
+            MayAnswer (past self.old before) (step_by member call) result }
         ensures stands { (before : Record) → Stands S.stands S.members self.old before →
-            Stands S.stands S.members self.new
-            ((record { member = member; call = call }, result) ∷ before) }
+            Stands S.stands S.members self.new ((step_by member call, result) ∷ before) }
     {
         match self.admit(member, &call) {
             Ok(starts) => {
@@ -162,7 +160,7 @@ impl<S: Shares> Team<S> {
                     &mut self.barriers,
                     &mut self.payloads,
                     member,
-                    meant(&call, &waiting),
+                    call_meant(&call, &waiting),
                     &starts,
                     is_resume(&call),
                 );
@@ -181,16 +179,14 @@ impl<S: Shares> Team<S> {
         }
     }
 
-    /// The shape of the share that the step starts, if it starts one; or why it is refused: of its tests
-    /// that hold the refusal with the least number.
+    /// The shape of the share that the step starts, if it starts one; or why it is refused: of its
+    /// tests that hold the refusal with the least number.
     fn admit(&mut self, member: u16, call: &Call) -> Result<Option<Shape>, Refusal>
         ensures kept { self.new ≡ self.old }
         ensures least { (before : Record) → Stands S.stands S.members self.old before →
-            result_err result ≡ refusal_of (past self.old before)
-            (record { member = member; call = call.now }) }
+            result_err result ≡ refusal_of (past self.old before) (step_by member call.now) }
         ensures starts { (before : Record) → Stands S.stands S.members self.old before →
-            IfOk result (StartsShare
-            (row_at (past self.old before) (record { member = member; call = call.now }))
+            IfOk result (StartsShare (row_at (past self.old before) (step_by member call.now))
             (S.seen self.old.shares member)) }
     {
         if member as usize >= self.waiting.len() {
@@ -203,27 +199,32 @@ impl<S: Shares> Team<S> {
             &self.barriers,
             &self.limits,
             member,
-            meant(call, waiting),
+            call_meant(call, waiting),
             is_resume(call),
         );
         unless_refused(by_team, by_call)
     }
 
-    /// Where the team breaks if the call, or the one that it repeats, is another than other members'.
+    /// Where the team breaks if the call, or the one that it repeats, is another than other
+    /// members'.
     fn place(&self, member: u16, call: &Call) -> Place
         requires member { member < members_of self.now }
         ensures { (before : Record) → Stands S.stands S.members self.now before →
-            result ≡ (row_at (past self.now before)
-            (record { member = member; call = call.now })).place member
-            (events (terms_of self.now) before) }
+            result ≡ (row_at (past self.now before) (step_by member call.now)).place
+            member (events (terms_of self.now) before) }
     {
         let waiting = &self.waiting[member as usize];
-        place_of(&self.shares, &self.barriers, member, meant(call, waiting))
+        place_of(
+            &self.shares,
+            &self.barriers,
+            member,
+            call_meant(call, waiting),
+        )
     }
 }
 
 /// No member of `count` waits.
-fn no_calls(alloc: Global, count: u16) -> Result<Vec<Option<Call>>, AllocError>
+fn no_waits(alloc: Global, count: u16) -> Result<Vec<Option<Call>>, AllocError>
     ensures { IfOk result (λ waiting. waiting.items ≡ replicate count None) }
 {
     let mut waiting = Vec::with_capacity(alloc, count as usize)?;
@@ -233,8 +234,8 @@ fn no_calls(alloc: Global, count: u16) -> Result<Vec<Option<Call>>, AllocError>
     Ok(waiting)
 }
 
-/// Why the team does not answer this call of its member, whatever its construct: `Ended`, `Broken`, or
-/// `Waiting`.
+/// Why the team does not answer this call of its member, whatever its construct: `Ended`, `Broken`,
+/// or `Waiting`.
 fn team_refusal(
     barriers: &Barriers,
     broken: Option<Clash>,
@@ -288,8 +289,8 @@ fn is_resume(call: &Call) -> bool
 }
 
 /// The call that is made, or that waits and is repeated.
-fn meant<'a>(call: &'a Call, waiting: &'a Option<Call>) -> &'a Call
-    ensures { result.now ≡ meant call.now waiting.now }
+fn call_meant<'a>(call: &'a Call, waiting: &'a Option<Call>) -> &'a Call
+    ensures { result.now ≡ call_meant call.now waiting.now }
 {
     match (call, waiting) {
         (Call::Resume, Some(open)) => open,
@@ -312,7 +313,7 @@ fn wait_after(reply: &Reply, call: Call, waiting: Option<Call>) -> Option<Call>
     }
 }
 
-/// Why the team is broken after this reply to a member: by it, where it stopped the team.
+/// By whom and where the team is broken after this reply to a member: by it, if it stopped the team.
 fn broken_after(broken: Option<Clash>, member: u16, reply: &Reply) -> Option<Clash>
     ensures { result ≡ broken_after broken member reply.now }
 {
@@ -325,13 +326,13 @@ fn broken_after(broken: Option<Clash>, member: u16, reply: &Reply) -> Option<Cla
     }
 }
 
-/// The call with the schedule of these control variables, where it is the start of a loop that
+/// The call with the schedule of these control variables, if it is the start of a loop that
 /// leaves its schedule to them.
-fn resolved(icv: &Icv, call: Call) -> Call
+fn resolved_call(icv: &Icv, call: Call) -> Call
     ensures { result ≡ resolved_call icv.now call }
 {
     match call {
-        Call::LoopStart(desc) => Call::LoopStart(desc.resolved(icv.sched(), icv.chunk())),
+        Call::LoopStart(desc) => Call::LoopStart(desc.resolved_loop(icv.sched(), icv.chunk())),
         call => call,
     }
 }

@@ -13,7 +13,7 @@ first_size_counts = refl
 pub false_if_clause : team_size (with_sizes (4 ∷ 2 ∷ [])) None false 1 ≡ 1
 false_if_clause = refl
 
--- also where more members are requested
+-- also if more members are requested
 pub false_if_clause_first : team_size (with_sizes (4 ∷ 2 ∷ [])) (Some 100) false 1 ≡ 1
 false_if_clause_first = refl
 
@@ -41,11 +41,11 @@ one_requested = refl
 pub one_busy_besides : team_size initial (Some 100) true 2 ≡ 63
 one_busy_besides = refl
 
--- where only one thread is left, it is the encountering one
+-- if only one thread is left, it is the encountering one
 pub only_one_left : team_size initial (Some 100) true 64 ≡ 1
 only_one_left = refl
 
--- where all threads are busy, the encountering one is left
+-- if all threads are busy, the encountering one is left
 pub encountering_thread_left : team_size initial (Some 100) true 65 ≡ 1
 encountering_thread_left = refl
 
@@ -137,11 +137,11 @@ level_before_the_last = refl
 pub child_inherits_each_variable : child (record { dynamic = true; nthreads = 3 ∷ []; sched = Guided; chunk = pos 7; max_active_levels = 5; thread_limit = 9; cancellation = true; active = 2 }) 3 ≡ record { dynamic = true; nthreads = 3 ∷ []; sched = Guided; chunk = pos 7; max_active_levels = 5; thread_limit = 9; cancellation = true; active = 3 }
 child_inherits_each_variable = refl
 
--- a team in a team of the list 4, 2 has one member, where one level is allowed
+-- a team in a team of the list 4, 2 has one member, if one level is allowed
 pub team_within : team_size (child (with_sizes (4 ∷ 2 ∷ [])) 4) None true 1 ≡ 1
 team_within = refl
 
--- and two members, where two levels are
+-- and two members, if two levels are
 pub second_level : team_size (child (record (with_sizes (4 ∷ 2 ∷ [])) { max_active_levels = 2 }) 4) None true 4 ≡ 2
 second_level = refl
 

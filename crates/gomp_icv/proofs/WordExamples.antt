@@ -6,7 +6,7 @@ use Rattle.gomp_types.specs.declared.refusal.Refusal.TheVariants.{BadEnv}
 use Rattle.gomp_icv.specs.Variables.{initial}
 use Rattle.gomp_icv.specs.EnvWords.{read_env, IsSetting}
 use Rattle.gomp_icv.specs.declared.env.Setting.TheVariants as sets
-use Rattle.gomp_icv.specs.Examples.{with_sizes, with_dynamic, with_schedule, with_levels, with_limit, with_cancellation, read_alone, parts, given, each_sets, each_ignored, several, several_set}
+use Rattle.gomp_icv.specs.Examples.{with_sizes, with_dynamic, with_schedule, with_levels, with_limit, with_cancellation, read_alone, parts, each_given, each_sets, each_ignored, several, several_set}
 
 -- without a word the variables are the initial ones
 pub no_word : read_env [] ≡ (initial, [])
@@ -29,51 +29,51 @@ pub named_twice : (read_env ((codes "FOO", codes "1") ∷ (codes "FOO", codes "1
 named_twice = refl
 
 -- two sizes, with blanks or zeros
-pub sizes_of_teams : given (codes "OMP_NUM_THREADS") (codes "4,2| 4 , 2 |\t4\t,\t2\t|04,0002") ≡ each_sets 4 (with_sizes (4 ∷ 2 ∷ []))
+pub sizes_of_teams : each_given (codes "OMP_NUM_THREADS") (codes "4,2| 4 , 2 |\t4\t,\t2\t|04,0002") ≡ each_sets 4 (with_sizes (4 ∷ 2 ∷ []))
 sizes_of_teams = refl
 
 -- the largest size
-pub largest_size : given (codes "OMP_NUM_THREADS") (codes "2147483647") ≡ each_sets 1 (with_sizes (2147483647 ∷ []))
+pub largest_size : each_given (codes "OMP_NUM_THREADS") (codes "2147483647") ≡ each_sets 1 (with_sizes (2147483647 ∷ []))
 largest_size = refl
 
 -- four sizes, and those behind them dropped
-pub four_sizes_kept : given (codes "OMP_NUM_THREADS") (codes "8,7,6,5|8,7,6,5,3|8,7,6,5,4,3") ≡ each_sets 3 (with_sizes (8 ∷ 7 ∷ 6 ∷ 5 ∷ []))
+pub four_sizes_kept : each_given (codes "OMP_NUM_THREADS") (codes "8,7,6,5|8,7,6,5,3|8,7,6,5,4,3") ≡ each_sets 3 (with_sizes (8 ∷ 7 ∷ 6 ∷ 5 ∷ []))
 four_sizes_kept = refl
 
 -- what is no list of sizes
-pub no_list : given (codes "OMP_NUM_THREADS") (codes "| |\t|0|4,0|+1|-1|4,+2|4,-2|4,|,4|4,,2|4, ,2|,|4;2|4 2|four") ≡ each_ignored 17 (codes "OMP_NUM_THREADS")
+pub no_list : each_given (codes "OMP_NUM_THREADS") (codes "| |\t|0|4,0|+1|-1|4,+2|4,-2|4,|,4|4,,2|4, ,2|,|4;2|4 2|four") ≡ each_ignored 17 (codes "OMP_NUM_THREADS")
 no_list = refl
 
 -- sizes above the largest
-pub sizes_above : given (codes "OMP_NUM_THREADS") (codes "2147483648|4,2147483648|99999999999999999999999999") ≡ each_ignored 3 (codes "OMP_NUM_THREADS")
+pub sizes_above : each_given (codes "OMP_NUM_THREADS") (codes "2147483648|4,2147483648|99999999999999999999999999") ≡ each_ignored 3 (codes "OMP_NUM_THREADS")
 sizes_above = refl
 
 -- a fifth size that is bad
-pub fifth_sizes : given (codes "OMP_NUM_THREADS") (codes "8,7,6,5,0|8,7,6,5,x|8,7,6,5,|8,7,6,5,2147483648") ≡ each_ignored 4 (codes "OMP_NUM_THREADS")
+pub fifth_sizes : each_given (codes "OMP_NUM_THREADS") (codes "8,7,6,5,0|8,7,6,5,x|8,7,6,5,|8,7,6,5,2147483648") ≡ each_ignored 4 (codes "OMP_NUM_THREADS")
 fifth_sizes = refl
 
 -- dyn-var on
-pub dynamic_on : given (codes "OMP_DYNAMIC") (codes "true|TRUE|True| true|true\t|\ttRuE ") ≡ each_sets 6 (with_dynamic true)
+pub dynamic_on : each_given (codes "OMP_DYNAMIC") (codes "true|TRUE|True| true|true\t|\ttRuE ") ≡ each_sets 6 (with_dynamic true)
 dynamic_on = refl
 
 -- and off
-pub dynamic_off : given (codes "OMP_DYNAMIC") (codes "false|FALSE|fAlse| false ") ≡ each_sets 4 (with_dynamic false)
+pub dynamic_off : each_given (codes "OMP_DYNAMIC") (codes "false|FALSE|fAlse| false ") ≡ each_sets 4 (with_dynamic false)
 dynamic_off = refl
 
 -- what is no switch of it
-pub dynamic_bad : given (codes "OMP_DYNAMIC") (codes "| |yes|no|1|0|+1|t|truee|tru|true,|true false|tr ue") ≡ each_ignored 13 (codes "OMP_DYNAMIC")
+pub dynamic_bad : each_given (codes "OMP_DYNAMIC") (codes "| |yes|no|1|0|+1|t|truee|tru|true,|true false|tr ue") ≡ each_ignored 13 (codes "OMP_DYNAMIC")
 dynamic_bad = refl
 
 -- cancel-var on
-pub cancellation_on : given (codes "OMP_CANCELLATION") (codes "true|TRUE|True| true|true\t|\ttRuE ") ≡ each_sets 6 (with_cancellation true)
+pub cancellation_on : each_given (codes "OMP_CANCELLATION") (codes "true|TRUE|True| true|true\t|\ttRuE ") ≡ each_sets 6 (with_cancellation true)
 cancellation_on = refl
 
 -- and off
-pub cancellation_off : given (codes "OMP_CANCELLATION") (codes "false|FALSE|fAlse| false ") ≡ each_sets 4 (with_cancellation false)
+pub cancellation_off : each_given (codes "OMP_CANCELLATION") (codes "false|FALSE|fAlse| false ") ≡ each_sets 4 (with_cancellation false)
 cancellation_off = refl
 
 -- what is no switch of it
-pub cancellation_bad : given (codes "OMP_CANCELLATION") (codes "| |yes|no|1|0|+1|t|truee|tru|true,|true false|tr ue") ≡ each_ignored 13 (codes "OMP_CANCELLATION")
+pub cancellation_bad : each_given (codes "OMP_CANCELLATION") (codes "| |yes|no|1|0|+1|t|truee|tru|true,|true false|tr ue") ≡ each_ignored 13 (codes "OMP_CANCELLATION")
 cancellation_bad = refl
 
 -- a switch that was on is turned off
@@ -81,31 +81,31 @@ pub turned_off : read_env ((codes "OMP_DYNAMIC", codes "true") ∷ (codes "OMP_C
 turned_off = refl
 
 -- static without a chunk, and auto
-pub static_alone : given (codes "OMP_SCHEDULE") (codes "static| STATIC |auto|Auto|auto,7|monotonic:auto,7|AUTO , 549755813888") ≡ each_sets 7 (with_schedule Static (pos 0))
+pub static_alone : each_given (codes "OMP_SCHEDULE") (codes "static| STATIC |auto|Auto|auto,7|monotonic:auto,7|AUTO , 549755813888") ≡ each_sets 7 (with_schedule Static (pos 0))
 static_alone = refl
 
 -- static with a chunk
-pub static_with_chunk : given (codes "OMP_SCHEDULE") (codes "static,4|monotonic:static,4|\tstatic\t,\t004\t| Monotonic : Static , 4 ") ≡ each_sets 4 (with_schedule Static (pos 4))
+pub static_with_chunk : each_given (codes "OMP_SCHEDULE") (codes "static,4|monotonic:static,4|\tstatic\t,\t004\t| Monotonic : Static , 4 ") ≡ each_sets 4 (with_schedule Static (pos 4))
 static_with_chunk = refl
 
 -- dynamic
-pub dynamic_alone : given (codes "OMP_SCHEDULE") (codes "dynamic| NonMonotonic : dynamic") ≡ each_sets 2 (with_schedule Dynamic (pos 0))
+pub dynamic_alone : each_given (codes "OMP_SCHEDULE") (codes "dynamic| NonMonotonic : dynamic") ≡ each_sets 2 (with_schedule Dynamic (pos 0))
 dynamic_alone = refl
 
 -- guided with the largest chunk
-pub guided_with_chunk : given (codes "OMP_SCHEDULE") (codes "GUIDED,549755813888") ≡ each_sets 1 (with_schedule Guided (pos 549755813888))
+pub guided_with_chunk : each_given (codes "OMP_SCHEDULE") (codes "GUIDED,549755813888") ≡ each_sets 1 (with_schedule Guided (pos 549755813888))
 guided_with_chunk = refl
 
 -- a bad kind or chunk
-pub bad_kinds : given (codes "OMP_SCHEDULE") (codes "| |dynamic,0|auto,x|auto,0|auto,|guided,549755813889|runtime|4|,4") ≡ each_ignored 10 (codes "OMP_SCHEDULE")
+pub bad_kinds : each_given (codes "OMP_SCHEDULE") (codes "| |dynamic,0|auto,x|auto,0|auto,|guided,549755813889|runtime|4|,4") ≡ each_ignored 10 (codes "OMP_SCHEDULE")
 bad_kinds = refl
 
 -- what stands before a colon is no modifier, or nothing good behind it
-pub bad_modifiers : given (codes "OMP_SCHEDULE") (codes "foo:static|:static|static:4|static,4:5|monotonic|monotonic:|mono tonic:static") ≡ each_ignored 7 (codes "OMP_SCHEDULE")
+pub bad_modifiers : each_given (codes "OMP_SCHEDULE") (codes "foo:static|:static|static:4|static,4:5|monotonic|monotonic:|mono tonic:static") ≡ each_ignored 7 (codes "OMP_SCHEDULE")
 bad_modifiers = refl
 
 -- more than a kind and a chunk
-pub too_many_parts : given (codes "OMP_SCHEDULE") (codes "static,4,5|static,|static,+4|static,-4|static,4 5|static 4|monotonic:nonmonotonic:static") ≡ each_ignored 7 (codes "OMP_SCHEDULE")
+pub too_many_parts : each_given (codes "OMP_SCHEDULE") (codes "static,4,5|static,|static,+4|static,-4|static,4 5|static 4|monotonic:nonmonotonic:static") ≡ each_ignored 7 (codes "OMP_SCHEDULE")
 too_many_parts = refl
 
 -- a schedule without a chunk takes the chunk of the word before it away
@@ -113,31 +113,31 @@ pub chunk_taken_away : read_env ((codes "OMP_SCHEDULE", codes "guided,7") ∷ (c
 chunk_taken_away = refl
 
 -- no active level
-pub no_levels : given (codes "OMP_MAX_ACTIVE_LEVELS") (codes "0|00| 0\t") ≡ each_sets 3 (with_levels 0)
+pub no_levels : each_given (codes "OMP_MAX_ACTIVE_LEVELS") (codes "0|00| 0\t") ≡ each_sets 3 (with_levels 0)
 no_levels = refl
 
 -- the most active levels
-pub most_active_levels : given (codes "OMP_MAX_ACTIVE_LEVELS") (codes "2147483647") ≡ each_sets 1 (with_levels 2147483647)
+pub most_active_levels : each_given (codes "OMP_MAX_ACTIVE_LEVELS") (codes "2147483647") ≡ each_sets 1 (with_levels 2147483647)
 most_active_levels = refl
 
 -- a limit of one thread
-pub one_thread : given (codes "OMP_THREAD_LIMIT") (codes "1|01|\t1 ") ≡ each_sets 3 (with_limit 1)
+pub one_thread : each_given (codes "OMP_THREAD_LIMIT") (codes "1|01|\t1 ") ≡ each_sets 3 (with_limit 1)
 one_thread = refl
 
 -- the largest limit of threads
-pub largest_limit : given (codes "OMP_THREAD_LIMIT") (codes "2147483647") ≡ each_sets 1 (with_limit 2147483647)
+pub largest_limit : each_given (codes "OMP_THREAD_LIMIT") (codes "2147483647") ≡ each_sets 1 (with_limit 2147483647)
 largest_limit = refl
 
 -- what is no number of levels
-pub bad_levels : given (codes "OMP_MAX_ACTIVE_LEVELS") (codes "| |+1|-1|1.5|1,2|0x1|one|2147483648|99999999999999999999999999") ≡ each_ignored 10 (codes "OMP_MAX_ACTIVE_LEVELS")
+pub bad_levels : each_given (codes "OMP_MAX_ACTIVE_LEVELS") (codes "| |+1|-1|1.5|1,2|0x1|one|2147483648|99999999999999999999999999") ≡ each_ignored 10 (codes "OMP_MAX_ACTIVE_LEVELS")
 bad_levels = refl
 
 -- what is no limit of threads
-pub bad_limits : given (codes "OMP_THREAD_LIMIT") (codes "| |+1|-1|1.5|1,2|0x1|one|2147483648|99999999999999999999999999") ≡ each_ignored 10 (codes "OMP_THREAD_LIMIT")
+pub bad_limits : each_given (codes "OMP_THREAD_LIMIT") (codes "| |+1|-1|1.5|1,2|0x1|one|2147483648|99999999999999999999999999") ≡ each_ignored 10 (codes "OMP_THREAD_LIMIT")
 bad_limits = refl
 
 -- nor is 0
-pub limit_zero : given (codes "OMP_THREAD_LIMIT") (codes "0|000") ≡ each_ignored 2 (codes "OMP_THREAD_LIMIT")
+pub limit_zero : each_given (codes "OMP_THREAD_LIMIT") (codes "0|000") ≡ each_ignored 2 (codes "OMP_THREAD_LIMIT")
 limit_zero = refl
 
 -- names of no variable that is read, whatever the value

@@ -5,9 +5,9 @@ use Rattle.std.specs.Option.{option_map}
 use Rattle.gomp_types.specs.declared.loop_desc.Sched.{Sched}
 use Rattle.gomp_types.specs.declared.loop_desc.Sched.TheVariants.{Static, Dynamic, Guided}
 use Rattle.gomp_types.specs.Iterations.{max_chunk}
-use Rattle.gomp_text.specs.Words.{cut, same_word}
+use Rattle.gomp_text.specs.Words.{cut_at, same_word}
 use Rattle.gomp_text.specs.Numbers.{unsigned}
-use Rattle.gomp_text.specs.Blanks.{trimmed, lowered}
+use Rattle.gomp_text.specs.Blanks.{without_blanks, in_small_letters}
 use Rattle.gomp_icv.specs.Variables.{max_number, most_sizes}
 
 -- a number from this one on
@@ -17,11 +17,11 @@ from_on least (Some number) = if nat_le least number then Some number else None
 
 -- a decimal number from `least` to `most`, without a sign
 abbrev pub number_of : ℕ → ℕ → List ℕ → Option ℕ
-number_of least most part = from_on least (unsigned most (trimmed part))
+number_of least most part = from_on least (unsigned most (without_blanks part))
 
 -- a part is this word
 abbrev pub is_named : List ℕ → List ℕ → Bool
-is_named part name = same_word (lowered (trimmed part)) (lowered name)
+is_named part name = same_word (in_small_letters (without_blanks part)) (in_small_letters name)
 
 -- `true` or `false`
 abbrev pub switch_of : List ℕ → Option Bool
@@ -49,8 +49,8 @@ threads_of value = option_map (take most_sizes) (sizes_of (slice_split (λ b. b 
 -- a schedule
 
 -- the schedule of this kind with this chunk; auto is static without a chunk, whatever chunk is given (own)
-abbrev pub chosen : List ℕ → ℤ → Option (Sched × ℤ)
-chosen kind chunk =
+abbrev pub schedule_chosen : List ℕ → ℤ → Option (Sched × ℤ)
+schedule_chosen kind chunk =
     if is_named kind (codes "static") then Some (Static, chunk)
     else if is_named kind (codes "dynamic") then Some (Dynamic, chunk)
     else if is_named kind (codes "guided") then Some (Guided, chunk)
@@ -59,21 +59,21 @@ chosen kind chunk =
 
 abbrev pub chosen_with : List ℕ → Option ℕ → Option (Sched × ℤ)
 chosen_with kind None = None
-chosen_with kind (Some chunk) = chosen kind (pos chunk)
+chosen_with kind (Some chunk) = schedule_chosen kind (pos chunk)
 
 -- `kind` or `kind,chunk`, cut at its first comma
 abbrev pub kind_and_chunk : List ℕ × Option (List ℕ) → Option (Sched × ℤ)
-kind_and_chunk (kind, None) = chosen kind (pos 0)
+kind_and_chunk (kind, None) = schedule_chosen kind (pos 0)
 kind_and_chunk (kind, Some chunk) = chosen_with kind (number_of 1 max_chunk chunk)
 
 abbrev pub is_modifier : List ℕ → Bool
 is_modifier part = is_named part (codes "monotonic") || is_named part (codes "nonmonotonic")
 
--- what stands before the first colon, where there is one, is a modifier; it changes nothing (own)
+-- what stands before the first colon, if there is one, is a modifier; it changes nothing (own)
 abbrev pub after_modifier : List ℕ × Option (List ℕ) → Option (Sched × ℤ)
-after_modifier (whole, None) = kind_and_chunk (cut 44 whole)
-after_modifier (modifier, Some rest) = if is_modifier modifier then kind_and_chunk (cut 44 rest) else None
+after_modifier (whole, None) = kind_and_chunk (cut_at 44 whole)
+after_modifier (modifier, Some rest) = if is_modifier modifier then kind_and_chunk (cut_at 44 rest) else None
 
 -- `[monotonic:|nonmonotonic:]kind[,chunk]`
 abbrev pub schedule_of : List ℕ → Option (Sched × ℤ)
-schedule_of value = after_modifier (cut 58 value)
+schedule_of value = after_modifier (cut_at 58 value)

@@ -32,7 +32,7 @@ variable_of name =
     else if same_word name (codes "OMP_CANCELLATION") then Some var.Cancellation
     else None
 
--- what a value makes of a variable; nothing where it is bad
+-- what a value makes of a variable; nothing if it is bad
 abbrev pub value_for : Variable → List ℕ → Option Setting
 value_for var.NumThreads value = option_map sets.NumThreads (threads_of value)
 value_for var.Dynamic value = option_map sets.Dynamic (switch_of value)
@@ -45,7 +45,7 @@ abbrev pub value_for_named : Option Variable → List ℕ → Option Setting
 value_for_named None value = None
 value_for_named (Some variable) value = value_for variable value
 
--- what a word sets; nothing where its name is that of no variable that is read, or its value is bad
+-- what a word sets; nothing if its name is that of no variable that is read, or its value is bad
 abbrev pub setting_of : List ℕ → List ℕ → Option Setting
 setting_of name value = value_for_named (variable_of name) value
 

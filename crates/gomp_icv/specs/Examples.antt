@@ -45,8 +45,8 @@ abbrev pub parts : List ℕ → List (List ℕ)
 parts text = slice_split (λ b. b == 124) text
 
 -- what each of these values gives under this name
-abbrev pub given : List ℕ → List ℕ → List (Variables × List Refusal)
-given name values = map (read_alone name) (parts values)
+abbrev pub each_given : List ℕ → List ℕ → List (Variables × List Refusal)
+each_given name values = map (read_alone name) (parts values)
 
 -- so many times these variables, and no word ignored
 abbrev pub each_sets : ℕ → Variables → List (Variables × List Refusal)

@@ -8,7 +8,7 @@ abbrev pub requested_size : Option ℕ → Variables → ℕ
 requested_size (Some number) icv = max number 1
 requested_size None icv = first_of icv.nthreads
 
--- how many threads the limit leaves where so many are busy, the encountering one counted; at least that one
+-- how many threads the limit leaves if so many are busy, the encountering one counted; at least that one
 abbrev pub available_threads : ℕ → ℕ → ℕ
 available_threads limit busy = max (limit + 1 - busy) 1
 

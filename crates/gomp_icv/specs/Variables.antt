@@ -72,7 +72,7 @@ abbrev pub first_of : List ℕ → ℕ
 first_of [] = 1
 first_of (size ∷ sizes) = size
 
--- a list without its first size, where it has more than one
+-- a list without its first size, if it has more than one
 abbrev pub without_first : List ℕ → List ℕ
 without_first [] = []
 without_first (size ∷ []) = size ∷ []

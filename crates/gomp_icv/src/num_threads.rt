@@ -10,7 +10,7 @@ ghost use Rattle.gomp_icv.specs.EnvValues.{threads_of};
 
 use crate::values::{MAX_NUMBER, number_of};
 use arrayvec::ArrayVec;
-use gomp_text::cut;
+use gomp_text::cut_at;
 use std::marker::Model;
 
 /// How many sizes are kept; what a list has beyond them is dropped (own).
@@ -95,7 +95,7 @@ impl NumThreads {
         let mut sizes: ArrayVec<u32, MAX_SIZES> = ArrayVec::new();
         let mut rest = Some(value);
         while let Some(parts) = rest {
-            let (part, after) = cut(parts, b',');
+            let (part, after) = cut_at(parts, b',');
             let number = number_of(part, 1, MAX_NUMBER)? as u32;
             if !sizes.is_full() {
                 sizes.push(number);

@@ -4,11 +4,11 @@
 //! each part of a value.
 
 ghost use Rattle.std.specs.Prelude.{◌≡◌, ◌≤◌, IfSome};
-ghost use Rattle.gomp_text.specs.Words.{cut};
+ghost use Rattle.gomp_text.specs.Words.{cut_at};
 ghost use Rattle.gomp_icv.specs.Variables.{IsChunk, IsSchedule};
-ghost use Rattle.gomp_icv.specs.EnvValues.{number_of, is_named, switch_of, is_modifier, chosen, kind_and_chunk, schedule_of};
+ghost use Rattle.gomp_icv.specs.EnvValues.{number_of, is_named, switch_of, is_modifier, schedule_chosen, kind_and_chunk, schedule_of};
 
-use gomp_text::{cut, is_word_in_any_case, trimmed, unsigned};
+use gomp_text::{cut_at, is_word_in_any_case, unsigned, without_blanks};
 use gomp_types::{MAX_CHUNK, Sched};
 
 /// The largest number that a value may be, save a chunk (own).
@@ -20,7 +20,7 @@ pub fn number_of(part: &[u8], least: u64, most: u64) -> Option<u64>
     ensures value { result ≡ number_of least most part.now }
     ensures range { IfSome result (λ number. (least ≤ number) × (number ≤ most)) }
 {
-    match unsigned(trimmed(part), most) {
+    match unsigned(without_blanks(part), most) {
         Some(number) if number >= least => Some(number),
         _ => None,
     }
@@ -30,7 +30,7 @@ pub fn number_of(part: &[u8], least: u64, most: u64) -> Option<u64>
 fn is_named(part: &[u8], name: &[u8]) -> bool
     ensures { result ≡ is_named part.now name.now }
 {
-    is_word_in_any_case(trimmed(part), name)
+    is_word_in_any_case(without_blanks(part), name)
 }
 
 /// `true` or `false`. None if the value is neither.
@@ -53,7 +53,7 @@ pub fn schedule_of(value: &[u8]) -> Option<(Sched, i64)>
     ensures value { result ≡ schedule_of value.now }
     ensures range { IfSome result (λ found. IsSchedule found.0 found.1) }
 {
-    let (front, rest) = cut(value, b':');
+    let (front, rest) = cut_at(value, b':');
     match rest {
         Some(rest) if is_modifier(front) => kind_and_chunk(rest),
         Some(_) => None,
@@ -70,23 +70,23 @@ fn is_modifier(part: &[u8]) -> bool
 
 /// `kind[,chunk]`, where a chunk is 1 to 2^39 iterations.
 fn kind_and_chunk(text: &[u8]) -> Option<(Sched, i64)>
-    ensures value { result ≡ kind_and_chunk (cut 44 text.now) }
+    ensures value { result ≡ kind_and_chunk (cut_at 44 text.now) }
     ensures range { IfSome result (λ found. IsSchedule found.0 found.1) }
 {
-    let (kind, chunk) = cut(text, b',');
+    let (kind, chunk) = cut_at(text, b',');
     match chunk {
         Some(chunk) => match number_of(chunk, 1, MAX_CHUNK as u64) {
-            Some(number) => chosen(kind, number as i64),
+            Some(number) => schedule_chosen(kind, number as i64),
             None => None,
         },
-        None => chosen(kind, 0),
+        None => schedule_chosen(kind, 0),
     }
 }
 
 /// The schedule of this kind with this chunk. `auto` leaves the choice to the runtime, which takes
 /// a static schedule without a chunk, whatever chunk is given (own).
-fn chosen(kind: &[u8], chunk: i64) -> Option<(Sched, i64)>
-    ensures value { result ≡ chosen kind.now chunk }
+fn schedule_chosen(kind: &[u8], chunk: i64) -> Option<(Sched, i64)>
+    ensures value { result ≡ schedule_chosen kind.now chunk }
     ensures range { IsChunk chunk → IfSome result (λ found. IsSchedule found.0 found.1) }
 {
     if is_named(kind, b"static") {

@@ -11,7 +11,7 @@ use Rattle.gomp_types.specs.declared.event.Event.{Event}
 use Rattle.gomp_types.specs.declared.event.Event.TheVariants.{End}
 use Rattle.gomp_types.specs.Tests.{Test}
 use Rattle.gomp_types.specs.Compare.{tag_differs, tag_with}
-use Rattle.gomp_types.specs.Events.{entered, open_share, open_number, passed, tag_at, arrival as arrival_of, barrier_met}
+use Rattle.gomp_types.specs.Events.{shares_entered, open_share, open_number, barriers_passed, tag_at, arrival as arrival_of, barrier_met}
 use Rattle.gomp_types.specs.Laws.{Always}
 use Rattle.gomp_laws.specs.Rules.{TeamRule, MayArriveIn, MayLeave}
 use Rattle.gomp_types.specs.Seen.{seen_of}
@@ -19,8 +19,8 @@ use Rattle.gomp_types.proofs.Booleans.{not_both, none_of, same_number}
 use Rattle.gomp_types.proofs.Compared.{same_tags}
 use Rattle.gomp_types.proofs.LeastTests.{AllFail}
 use Rattle.gomp_shares.specs.Starts.{leaves}
-use Rattle.gomp_model.specs.Row.{at_once, since}
-use Rattle.gomp_model.specs.Arrivals.{compared_arrival, Awaits, passes, arrival, ending, outside_tests, barrier_row, region_end_row}
+use Rattle.gomp_model.specs.Row.{at_once, begun_past}
+use Rattle.gomp_model.specs.Arrivals.{compared_arrival, Awaits, passes, arrival_row, ending, outside_tests, barrier_row, region_end_row}
 use Rattle.gomp_laws.proofs.AtOnce.{at_once_sound}
 use Rattle.gomp_laws.proofs.Sound.{AreGiven, memoryless, IsSound, only_arrives}
 
@@ -45,43 +45,43 @@ pass_own : (m : ℕ) (h : List Event) (reply : Reply) → AreGiven only_arrives 
 pass_own m h Passed = ((refl, refl, refl), tt)
 pass_own m h _ = tt
 
-pass_keeps : (members m : ℕ) (h : List Event) (reply : Reply) → m < members → Awaits (barrier_met members (passed m h) h) reply → Always (TeamRule members) h → Always (TeamRule members) (passes m h reply ++ h)
+pass_keeps : (members m : ℕ) (h : List Event) (reply : Reply) → m < members → Awaits (barrier_met members (barriers_passed m h) h) reply → Always (TeamRule members) h → Always (TeamRule members) (passes m h reply ++ h)
 pass_keeps members m h Passed lt may all = (record { passes = record { number = refl; met = may }; member = lt }, all)
 pass_keeps members m h _ lt may all = all
 
 -- what every arrival has, whatever is tested and given before it
-arrive_rule : (members m : ℕ) (kind : Arrival) (h after : List Event) → m < members → tag_differs (tag_with kind (entered m h)) (tag_at (passed m h) h) ≡ false → arrival_of (passed m h) m h ≡ None →
-    passed m after ≡ passed m h → entered m after ≡ entered m h → open_share m after ≡ None → tag_at (passed m h) after ≡ tag_at (passed m h) h → arrival_of (passed m h) m after ≡ arrival_of (passed m h) m h →
-    MayArriveIn members (passed m h) m (tag_with kind (entered m h)) after
+arrive_rule : (members m : ℕ) (kind : Arrival) (h after : List Event) → m < members → tag_differs (tag_with kind (shares_entered m h)) (tag_at (barriers_passed m h) h) ≡ false → arrival_of (barriers_passed m h) m h ≡ None →
+    barriers_passed m after ≡ barriers_passed m h → shares_entered m after ≡ shares_entered m h → open_share m after ≡ None → tag_at (barriers_passed m h) after ≡ tag_at (barriers_passed m h) h → arrival_of (barriers_passed m h) m after ≡ arrival_of (barriers_passed m h) m h →
+    MayArriveIn members (barriers_passed m h) m (tag_with kind (shares_entered m h)) after
 arrive_rule members m kind h after lt same first number shares outside tag own = record {
-  arrives = record { number = sym number; same = rw tag (same_tags (tag_with kind (entered m h)) (tag_at (passed m h) h) same) };
+  arrives = record { number = sym number; same = rw tag (same_tags (tag_with kind (shares_entered m h)) (tag_at (barriers_passed m h) h) same) };
   member = lt;
   outside = outside;
   once = own ∙ first;
   shares = sym shares;
 }
 
-compared_clean : (kind : Arrival) (again : Bool) (m : ℕ) (h : List Event) → memoryless (compared_arrival kind again m h) ≡ true
+compared_clean : (kind : Arrival) (repeated : Bool) (m : ℕ) (h : List Event) → memoryless (compared_arrival kind repeated m h) ≡ true
 compared_clean kind true m h = refl
 compared_clean kind false m h = refl
 
 -- an arrival outside of every share
-pub outside_sound : (kind : Arrival) (memory : Bool) → IsSound (record (arrival kind) { by_place = λ limits seen. outside_tests seen; memory = memory })
+pub outside_sound : (kind : Arrival) (memory : Bool) → IsSound (record (arrival_row kind) { by_place = λ limits seen. outside_tests seen; memory = memory })
 outside_sound kind memory = record {
-  decided = λ m p a b x y. one_await (barrier_met p.terms.members (passed m p.events) p.events) a b x y;
+  decided = λ m p a b x y. one_await (barrier_met p.terms.members (barriers_passed m p.events) p.events) a b x y;
   accepts = λ m p refusal x. x;
-  answered = λ again m p ready all. let q = since again (arrival kind) m p in await_some (barrier_met q.terms.members (passed m q.events) q.events);
-  counts = λ again m p first count ready all may. absurd may;
+  answered = λ repeated m p ready all. let q = begun_past repeated (arrival_row kind) m p in await_some (barrier_met q.terms.members (barriers_passed m q.events) q.events);
+  counts = λ repeated m p first count ready all may. absurd may;
   begins_own = λ m p. ((refl, refl), tt);
   gives_own = λ m p reply. pass_own m p.events reply;
   begins_keep = λ m p ready all.
       (arrive_rule p.terms.members m kind p.events p.events ready.member ready.compared.0 (ready.first refl refl) refl refl (none_of (open_share m p.events) (ready.place refl).0) refl refl, all);
-  gives_keep = λ again m p reply ready may all. let q = since again (arrival kind) m p in pass_keeps p.terms.members m q.events reply ready.member may all;
+  gives_keep = λ repeated m p reply ready may all. let q = begun_past repeated (arrival_row kind) m p in pass_keeps p.terms.members m q.events reply ready.member may all;
   still = λ stays m p. absurd (cc);
-  tells = λ arrives m p reply may. await_tells (barrier_met p.terms.members (passed m p.events) p.events) reply may;
+  tells = λ arrives m p reply may. await_tells (barrier_met p.terms.members (barriers_passed m p.events) p.events) reply may;
   one_pass = λ arrives m p. refl;
-  no_memory = λ m p. (refl, refl, λ again. compared_clean kind again m p.events);
-  words_keep = λ puts again m p reply ready may all. absurd (cc);
+  no_memory = λ m p. (refl, refl, λ repeated. compared_clean kind repeated m p.events);
+  words_keep = λ puts repeated m p reply ready may all. absurd (cc);
 }
 
 pub barrier_sound : IsSound barrier_row
@@ -97,12 +97,12 @@ pub record IsEnd (tests : Seen → List Test) : Type 0 where
   pub leaves : (members m : ℕ) (h : List Event) → AllFail (tests (seen_of m h)) → Always (TeamRule members) h → MayLeave members (open_number m h) m h
   pub no_memory : (seen : Seen) → memoryless (tests seen) ≡ true
 
-pub end_arrival_sound : (tests : Seen → List Test) (kind : Arrival) → IsEnd tests → IsSound (ending tests (arrival kind))
+pub end_arrival_sound : (tests : Seen → List Test) (kind : Arrival) → IsEnd tests → IsSound (ending tests (arrival_row kind))
 end_arrival_sound tests kind is = record {
-  decided = λ m p a b x y. one_await (barrier_met p.terms.members (passed m p.events) p.events) a b x y;
+  decided = λ m p a b x y. one_await (barrier_met p.terms.members (barriers_passed m p.events) p.events) a b x y;
   accepts = λ m p refusal x. x;
-  answered = λ again m p ready all. let q = since again (ending tests (arrival kind)) m p in await_some (barrier_met q.terms.members (passed m q.events) q.events);
-  counts = λ again m p first count ready all may. absurd may;
+  answered = λ repeated m p ready all. let q = begun_past repeated (ending tests (arrival_row kind)) m p in await_some (barrier_met q.terms.members (barriers_passed m q.events) q.events);
+  counts = λ repeated m p first count ready all may. absurd may;
   begins_own = λ m p. ((refl, refl), (refl, tt));
   gives_own = λ m p reply. pass_own m p.events reply;
   begins_keep = λ m p ready all.
@@ -110,12 +110,12 @@ end_arrival_sound tests kind is = record {
         arrive_rule p.terms.members m kind h (End (open_number m h) m ∷ h) ready.member ready.compared.0 (ready.first refl refl) refl refl (rw (same_number m) refl) refl refl,
         (is.leaves p.terms.members m h (ready.place refl) all, all),
       );
-  gives_keep = λ again m p reply ready may all. let q = since again (ending tests (arrival kind)) m p in pass_keeps p.terms.members m q.events reply ready.member may all;
+  gives_keep = λ repeated m p reply ready may all. let q = begun_past repeated (ending tests (arrival_row kind)) m p in pass_keeps p.terms.members m q.events reply ready.member may all;
   still = λ stays m p. absurd (cc);
-  tells = λ arrives m p reply may. await_tells (barrier_met p.terms.members (passed m p.events) p.events) reply may;
+  tells = λ arrives m p reply may. await_tells (barrier_met p.terms.members (barriers_passed m p.events) p.events) reply may;
   one_pass = λ arrives m p. refl;
-  no_memory = λ m p. (is.no_memory (seen_of m p.events), refl, λ again. compared_clean kind again m p.events);
-  words_keep = λ puts again m p reply ready may all. absurd (cc);
+  no_memory = λ m p. (is.no_memory (seen_of m p.events), refl, λ repeated. compared_clean kind repeated m p.events);
+  words_keep = λ puts repeated m p reply ready may all. absurd (cc);
 }
 
 -- an end with no barrier

@@ -21,15 +21,15 @@ pub at_once_sound : (tests : Seen → List Test) (events : ℕ → List Event �
 at_once_sound tests events is = record {
   decided = λ m p a b x y. x ∙ sym y;
   accepts = λ m p refusal x. cc;
-  answered = λ again m p ready all. (Finished, refl);
-  counts = λ again m p first count ready all may. absurd (cc);
+  answered = λ repeated m p ready all. (Finished, refl);
+  counts = λ repeated m p first count ready all may. absurd (cc);
   begins_own = λ m p. is.own m p.events;
   gives_own = λ m p reply. tt;
   begins_keep = is.keep;
-  gives_keep = λ again m p reply ready may all. all;
+  gives_keep = λ repeated m p reply ready may all. all;
   still = λ stays m p. absurd (cc);
   tells = λ arrives m p reply may. absurd (cc);
   one_pass = λ arrives m p. absurd (cc);
-  no_memory = λ m p. (is.no_memory (seen_of m p.events), refl, λ again. refl);
-  words_keep = λ puts again m p reply ready may all. absurd (cc);
+  no_memory = λ m p. (is.no_memory (seen_of m p.events), refl, λ repeated. refl);
+  words_keep = λ puts repeated m p reply ready may all. absurd (cc);
 }

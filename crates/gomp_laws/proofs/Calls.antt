@@ -19,17 +19,17 @@ pub resume_sound : IsSound resume_row
 resume_sound = record {
   decided = λ m p a b x y. absurd x;
   accepts = λ m p refusal x. x;
-  answered = λ again m p ready all. absurd (let never = ready.compared.0 in cc);
-  counts = λ again m p first count ready all may. absurd may;
+  answered = λ repeated m p ready all. absurd (let never = ready.compared.0 in cc);
+  counts = λ repeated m p first count ready all may. absurd may;
   begins_own = λ m p. tt;
   gives_own = λ m p reply. tt;
   begins_keep = λ m p ready all. all;
-  gives_keep = λ again m p reply ready may all. all;
+  gives_keep = λ repeated m p reply ready may all. all;
   still = λ stays m p. absurd (cc);
   tells = λ arrives m p reply may. absurd (cc);
   one_pass = λ arrives m p. absurd (cc);
-  no_memory = λ m p. (refl, refl, λ again. refl);
-  words_keep = λ puts again m p reply ready may all. absurd (cc);
+  no_memory = λ m p. (refl, refl, λ repeated. refl);
+  words_keep = λ puts repeated m p reply ready may all. absurd (cc);
 }
 
 stop_own : (m : ℕ) (reply : Reply) → AreGiven quiet m reply (stop_given m reply)
@@ -44,17 +44,17 @@ pub stop_sound : IsSound stop_row
 stop_sound = record {
   decided = λ m p a b x y. x ∙ sym y;
   accepts = λ m p refusal x. cc;
-  answered = λ again m p ready all. (Stopped, refl);
-  counts = λ again m p first count ready all may. absurd (cc);
+  answered = λ repeated m p ready all. (Stopped, refl);
+  counts = λ repeated m p first count ready all may. absurd (cc);
   begins_own = λ m p. tt;
   gives_own = λ m p reply. stop_own m reply;
   begins_keep = λ m p ready all. all;
-  gives_keep = λ again m p reply ready may all. stop_keeps p.terms.members m reply p.events all;
+  gives_keep = λ repeated m p reply ready may all. stop_keeps p.terms.members m reply p.events all;
   still = λ stays m p. absurd (cc);
   tells = λ arrives m p reply may. absurd (cc);
   one_pass = λ arrives m p. absurd (cc);
-  no_memory = λ m p. (refl, refl, λ again. refl);
-  words_keep = λ puts again m p reply ready may all. absurd (cc);
+  no_memory = λ m p. (refl, refl, λ repeated. refl);
+  words_keep = λ puts repeated m p reply ready may all. absurd (cc);
 }
 
 pub row_is_sound : (call : Call) → IsSound (row_of call)

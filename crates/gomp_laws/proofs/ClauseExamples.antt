@@ -60,7 +60,7 @@ pub alone_over : (share : ℕ) (earlier : List Event) → IsOver 1 share (End sh
 alone_over share earlier zero below = inl refl
 alone_over share earlier (suc m) below = absurd (omega arith)
 
--- where all events are the first member's, the second has left no share
+-- if all events are the first member's, the second has left no share
 abbrev all_of_first : List Event → Type 0
 all_of_first [] = Unit {0}
 all_of_first (event ∷ earlier) = (member_of event ≡ 0) × all_of_first earlier
@@ -90,27 +90,27 @@ newest_refused laws = absurd (let member = laws.0.0 in omega arith)
 pub oldest_refused : Refuses (Always (ArrivesOnce 2)) (Arrive 0 2 (at Barrier 0) ∷ Arrive 0 0 (at Barrier 0) ∷ [])
 oldest_refused laws = absurd (let member = laws.1.0.0 in omega arith)
 
--- where nothing happened, no member has left
+-- if nothing happened, no member has left
 pub nothing_happened : Refuses (Happened (End 0 0)) []
 nothing_happened never = never
 
--- nor where another member left, and this one left another share
+-- nor if another member left, and this one left another share
 pub other_happened : Refuses (Happened (End 0 0)) (End 0 1 ∷ End 1 0 ∷ [])
 other_happened (inl e) = absurd (cc)
 other_happened (inr (inl e)) = absurd (cc)
 other_happened (inr (inr never)) = never
 
--- a share is over where both members have left it
+-- a share is over if both members have left it
 pub over_for_all : IsOver 2 0 (End 0 1 ∷ End 0 0 ∷ [])
 over_for_all zero below = inr (inl refl)
 over_for_all (suc zero) below = inl refl
 over_for_all (suc (suc m)) below = absurd (omega arith)
 
--- and not where the last member has not
+-- and not if the last member has not
 pub over_but_one : Refuses (IsOver 2 0) (End 0 0 ∷ [])
 over_but_one over = elim (over 1 (omega arith)) [ inl e ↦ absurd (cc) | inr never ↦ never ]
 
--- nor where the first has not
+-- nor if the first has not
 pub over_but_first : Refuses (IsOver 2 0) (End 0 1 ∷ [])
 over_but_first over = elim (over 0 (omega arith)) [ inl e ↦ absurd (cc) | inr never ↦ never ]
 
@@ -221,7 +221,7 @@ enter_again law = absurd (let number = law.1 in omega arith)
 pub enter_nested : RefusedAfter (EntersOneByOne 2) (Enter 0 0 (four false) ∷ End 0 1 ∷ []) (Enter 1 0 (four false))
 enter_nested law = elim (law.2 0 (four false) (inr (inl refl))) [ inl e ↦ absurd (cc) | inr (inl e) ↦ absurd (cc) | inr (inr never) ↦ never ]
 
--- also where the two are of different shapes
+-- also if the two are of different shapes
 pub enter_nested_otherwise : RefusedAfter (EntersOneByOne 1) (Enter 0 0 (four true) ∷ []) (Enter 1 0 (four false))
 enter_nested_otherwise law = elim (law.2 0 (four true) (inl refl)) [ inl e ↦ absurd (cc) | inr never ↦ never ]
 

@@ -5,7 +5,7 @@ use Rattle.std.proofs.lemmas.Bool.{cases_Bool}
 use Rattle.gomp_types.specs.declared.shape.Shape.{Shape}
 use Rattle.gomp_types.specs.declared.event.Event.{Event}
 use Rattle.gomp_types.specs.declared.event.Event.TheVariants.{Enter, Take, Drained, End, Put, Got}
-use Rattle.gomp_types.specs.Events.{entered, open_share, last_piece, shape_at, has_ended, payload_at, has_piece, has_words}
+use Rattle.gomp_types.specs.Events.{shares_entered, open_share, last_piece, shape_at, has_ended, payload_at, has_piece, has_words}
 use Rattle.gomp_types.specs.Deals.{Queues, schedule}
 use Rattle.gomp_types.specs.Laws.{Always, Happened}
 use Rattle.gomp_shares.specs.Rules.{ShareRule}
@@ -48,7 +48,7 @@ piece_was_taken queues members m i shape (End share member ∷ earlier) all at p
     ]
 piece_was_taken queues members m i shape (_ ∷ earlier) all at piece = let before = piece_was_taken queues members m i shape earlier all.1 at piece in (before.0, before.1, inr before.2)
 
--- where no words are, none were put
+-- if no words are, none were put
 never_put : (share n : ℕ) (words : List ℕ) (h : List Event) → payload_at share h ≡ None → Happened (Put share n words) h → ⊥
 never_put share n words [] none put = put
 never_put share n words (Put i member payload ∷ earlier) none (inl e) = let number : i ≡ share = cc in absurd (let same = rw (number, same_number share) at none in cc)
@@ -76,7 +76,7 @@ never_took share m low high (_ ∷ earlier) none (inl e) = absurd (cc)
 never_took share m low high (_ ∷ earlier) none (inr took) = never_took share m low high earlier none took
 
 -- a member has taken no piece of the share that it comes to next
-took_below : (queues : Queues) (members m i : ℕ) (h : List Event) → Always (ShareRule queues members) h → has_piece i m h ≡ true → i < entered m h
+took_below : (queues : Queues) (members m i : ℕ) (h : List Event) → Always (ShareRule queues members) h → has_piece i m h ≡ true → i < shares_entered m h
 took_below queues members m i [] all e = absurd (cc)
 took_below queues members m i (Enter share member shape ∷ earlier) all e =
     let before = took_below queues members m i earlier all.1 e in
@@ -87,16 +87,16 @@ took_below queues members m i (Take share member low high ∷ earlier) all e =
           let number = is_equal share i (and_left (share == i) (member == m) own) in
           let who = is_equal member m (and_right (share == i) (member == m) own) in
           let count = (member_is_inside queues members member share all.0.shape earlier all.1 all.0.inside).2 in
-          let own_count : entered m earlier ≡ share + 1 = rw (← who) count in
+          let own_count : shares_entered m earlier ≡ share + 1 = rw (← who) count in
           omega (arith, number)
       | inr before ↦ took_below queues members m i earlier all.1 before
     ]
 took_below queues members m i (_ ∷ earlier) all e = took_below queues members m i earlier all.1 e
 
-pub takes_below : (queues : Queues) (members m : ℕ) (h : List Event) → Always (ShareRule queues members) h → has_piece (entered m h) m h ≡ false
+pub takes_below : (queues : Queues) (members m : ℕ) (h : List Event) → Always (ShareRule queues members) h → has_piece (shares_entered m h) m h ≡ false
 takes_below queues members m h all =
-    elim (cases_Bool (has_piece (entered m h) m h)) [
-      | inl e ↦ absurd (let less = took_below queues members m (entered m h) h all e in omega arith)
+    elim (cases_Bool (has_piece (shares_entered m h) m h)) [
+      | inl e ↦ absurd (let less = took_below queues members m (shares_entered m h) h all e in omega arith)
       | inr e ↦ e
     ]
 
@@ -104,7 +104,7 @@ takes_below queues members m h all =
 not_left : (members m share : ℕ) (shape : Shape) (h : List Event) → Always (ShareRule (schedule members) members) h → open_share m h ≡ Some (share, shape) → Happened (End share m) h → ⊥
 not_left members m share shape h all at left = not_both (has_ended share m h) (stands_ended share m h left) (not_ended (schedule members) members m share shape h all at)
 
--- where words are, they were put
+-- if words are, they were put
 pub was_put : (share : ℕ) (words : List ℕ) (h : List Event) → payload_at share h ≡ Some words → (n : ℕ) × Happened (Put share n words) h
 was_put share words [] at = absurd (cc)
 was_put share words (Put i member payload ∷ earlier) at =

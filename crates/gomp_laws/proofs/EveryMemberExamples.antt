@@ -370,7 +370,7 @@ take_after_end_in_second law = law.2 (inl refl)
 pub within_of_the_first : RefusedAfter TakesWithin (Enter 0 0 (four false) ∷ []) (Take 0 1 0 2)
 within_of_the_first law = elim law.1 [ inl e ↦ absurd (cc) | inr never ↦ never ]
 
--- and of the second share, where only the first was entered
+-- and of the second share, if only the first was entered
 pub within_of_first_share : RefusedAfter TakesWithin (Enter 0 0 (four false) ∷ []) (Take 1 0 0 2)
 within_of_first_share law = elim law.1 [ inl e ↦ absurd (cc) | inr never ↦ never ]
 
@@ -386,7 +386,7 @@ end_entered_by_the_first law = elim law.1 [ inl e ↦ absurd (cc) | inr never �
 pub end_twice_second : RefusedAfter EndsInside (Enter 0 1 (four false) ∷ End 0 1 ∷ []) (End 0 1)
 end_twice_second law = law.2 (inl refl)
 
--- a member leaves the second share where it entered the first
+-- a member leaves the second share if it entered the first
 pub end_entered_first_share : RefusedAfter EndsInside (Enter 0 0 (four false) ∷ []) (End 1 0)
 end_entered_first_share law = elim law.1 [ inl e ↦ absurd (cc) | inr never ↦ never ]
 
@@ -426,7 +426,7 @@ rule_pass_next_of_the_first may = absurd (let number = may.number in omega arith
 pub rule_second_barrier_otherwise : RefusedAfter (ArrivalRule 2) (Arrive 0 0 (at Barrier 0) ∷ Pass 0 0 ∷ Arrive 1 1 (at RegionEnd 0) ∷ []) (Arrive 1 0 (at Barrier 0))
 rule_second_barrier_otherwise may = absurd (let same = ap (λ (tag : Tag). tag.kind) (may.same (at RegionEnd 0) refl) in cc)
 
--- and passes it where the other has arrived at the first alone
+-- and passes it if the other has arrived at the first alone
 pub pass_second_alone : RefusedAfter (PassesAfterAll 2) (Arrive 0 0 (at Barrier 0) ∷ Arrive 0 1 (at Barrier 0) ∷ Arrive 1 0 (at Barrier 0) ∷ []) (Pass 1 0)
 pass_second_alone law = let other = law 1 (omega arith) in elim other.1 [
   | inl e ↦ absurd (cc)

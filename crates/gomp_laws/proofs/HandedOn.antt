@@ -8,7 +8,7 @@ use Rattle.gomp_types.specs.declared.shape.Shape.{Shape}
 use Rattle.gomp_types.specs.declared.event.Event.{Event}
 use Rattle.gomp_types.specs.declared.event.Event.TheVariants.{Enter, Take, Drained, End, HandOn}
 use Rattle.gomp_types.specs.Pieces.{Piece, Tiles, pieces_of}
-use Rattle.gomp_types.specs.Events.{entered, open_share, has_drained, last_piece, shape_at, has_ended, has_iteration, times_taken, turn, holds_piece}
+use Rattle.gomp_types.specs.Events.{shares_entered, open_share, has_drained, last_piece, shape_at, has_ended, has_iteration, times_taken, turn, holds_piece}
 use Rattle.gomp_types.specs.Deals.{schedule}
 use Rattle.gomp_types.specs.Laws.{Always, Happened}
 use Rattle.gomp_shares.specs.Rules.{MayTake, MayHandOn, ShareRule}
@@ -92,9 +92,9 @@ handed_or_held members m i low high shape (Enter share member other ∷ earlier)
     elim (which_branch (member == m) (Some (share, other)) (open_share m earlier) (Some (i, shape)) at) [
       | inl e ↦
           let number : share ≡ i = (share_is share i other shape e.1).0 in
-          let next : share ≡ entered m earlier = rw (← is_equal member m e.0) all.0.number in
-          let of_next : Happened (Take (entered m earlier) m low high) earlier = subst (λ (x : ℕ). Happened (Take x m low high) earlier) (sym number ∙ next) took in
-          absurd (never_took (entered m earlier) m low high earlier (takes_below (schedule members) members m earlier (share_rules members earlier all.1)) of_next)
+          let next : share ≡ shares_entered m earlier = rw (← is_equal member m e.0) all.0.number in
+          let of_next : Happened (Take (shares_entered m earlier) m low high) earlier = subst (λ (x : ℕ). Happened (Take x m low high) earlier) (sym number ∙ next) took in
+          absurd (never_took (shares_entered m earlier) m low high earlier (takes_below (schedule members) members m earlier (share_rules members earlier all.1)) of_next)
       | inr e ↦ handed_or_held_stays members i m shape (low, high) (Enter share member other) earlier (rw e.0 refl) (rw e.0 refl) (handed_or_held members m i low high shape earlier all.1 e.1 ordered took)
     ]
 handed_or_held members m i low high shape (Take share member from to ∷ earlier) all at ordered (inr took) =
@@ -236,7 +236,7 @@ taker_handed members share number shape own h all found ordered tiles at some ta
     let is = one_piece own.0 0 shape.trips handed.0 number (taker.low, taker.high) own (pieces_of members shape) tiles handed.2 at taker.from taker.before (omega arith) some in
     same_handed share taker.who handed.0 number h is handed.1
 
--- and all of its pieces were handed on where all members left
+-- and all of its pieces were handed on if all members left
 over_handed : (members share number : ℕ) (shape : Shape) (own : Piece) (h : List Event) → Always (TeamRule members) h → shape_at share h ≡ Some shape → shape.ordered ≡ true → IsOver members share h → ((k : ℕ) → k < shape.trips → times_taken share k h ≡ 1) →
     slice_get (pieces_of members shape) number ≡ Some own → (x : ℕ) × Happened (HandOn share x number) h
 over_handed members share number shape own h all found ordered over whole at =

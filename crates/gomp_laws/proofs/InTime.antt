@@ -17,8 +17,8 @@ use Rattle.gomp_types.specs.Laws.{Always, Happened}
 use Rattle.gomp_laws.specs.Laws.{HappensUnbroken, HappensInside}
 use Rattle.gomp_types.specs.Least.{lesser, least}
 use Rattle.gomp_model.specs.Past.{Terms, Past}
-use Rattle.gomp_model.specs.Row.{since, row_tests}
-use Rattle.gomp_model.specs.Team.{Record, meant, is_resume, row_at, broken_tests, wait_tests, refusal_of, MayAnswer, after, past_of, events, Caused}
+use Rattle.gomp_model.specs.Row.{begun_past, row_tests}
+use Rattle.gomp_model.specs.Team.{Record, call_meant, is_resume, row_at, broken_tests, wait_tests, refusal_of, MayAnswer, past_after, past_of, events, Caused}
 use Rattle.gomp_laws.proofs.Sound.{IsLast, AreGiven, gives_of, Gives}
 use Rattle.gomp_laws.proofs.CallsKeep.{OwnKeeps, own_keeps, since_keeps}
 use Rattle.gomp_types.proofs.LeastTests.{some_stays, lesser_low}
@@ -52,7 +52,7 @@ given_in_time can m reply (event ∷ events) h own so =
     let before = own_keeps can m (SoFar m) events h (goes_on can m) own.1 so in
     (last_in_time can m reply event (events ++ h) own.0 before, before.2)
 
--- what the tests of a step show of its team, where it is answered, or breaks the team
+-- what the tests of a step show of its team, if it is answered, or breaks the team
 mismatch_last : (one : Refusal) (other : Option Refusal) → number_of one < 35 → (lesser (Some one) other ≡ None) ⊎ (lesser (Some one) other ≡ Some Mismatch) → ⊥
 mismatch_last one other low (inl e) = some_stays one other e
 mismatch_last one other low (inr e) = let above : 35 ≤ number_of one = lesser_low one Mismatch other e in omega arith
@@ -73,17 +73,17 @@ step_goes p step e =
     (wait_tests step.call (p.waits step.member) ++ row_tests (is_resume step.call) (row_at p step) step.member p) e
 
 -- one more step
-answer_in_time : (p : Past) (step : Step) (reply : Reply) → MayAnswer p step reply → Always InTime p.events → Always InTime (after p step reply).events
+answer_in_time : (p : Past) (step : Step) (reply : Reply) → MayAnswer p step reply → Always InTime p.events → Always InTime (past_after p step reply).events
 answer_in_time p step (Refused Mismatch) may all = (step_goes p step (inr may), all)
 answer_in_time p step (Refused _) may all = all
 answer_in_time p step reply may all =
     let go = step_goes p step (inl may.0) in
     let row = row_at p step in
-    let again = is_resume step.call in
-    let s = row_is_sound (meant step.call (p.waits step.member)) in
-    let q = since again row step.member p in
+    let repeated = is_resume step.call in
+    let s = row_is_sound (call_meant step.call (p.waits step.member)) in
+    let q = begun_past repeated row step.member p in
     given_in_time (gives_of row) step.member reply (row.gives step.member q reply) q.events (s.gives_own step.member q reply)
-    (since_keeps row s again step.member p (SoFar step.member) (goes_on (gives_of row) step.member) (go.0, go.1, all))
+    (since_keeps row s repeated step.member p (SoFar step.member) (goes_on (gives_of row) step.member) (go.0, go.1, all))
 
 pub in_time_holds : (terms : Terms) (run : Record) → Caused terms run → Always InTime (events terms run)
 in_time_holds terms [] caused = tt

@@ -13,7 +13,7 @@ use Rattle.gomp_types.specs.declared.reply.Reply.{Reply}
 use Rattle.gomp_types.specs.declared.reply.Reply.TheVariants.{Passed, Wait, Refused}
 use Rattle.gomp_types.specs.declared.event.Event.{Event}
 use Rattle.gomp_types.specs.declared.event.Event.TheVariants.{Arrive, Put, Pass}
-use Rattle.gomp_types.specs.Events.{passed, arrival, clash_of}
+use Rattle.gomp_types.specs.Events.{barriers_passed, arrival, clash_of}
 use Rattle.gomp_types.specs.Laws.{Always}
 use Rattle.gomp_laws.specs.Rules.{TeamRule}
 use Rattle.gomp_types.specs.Seen.{seen_of}
@@ -21,9 +21,9 @@ use Rattle.gomp_types.proofs.Booleans.{is_equal, same_number, and_left, and_righ
 use Rattle.gomp_types.proofs.LeastTests.{AllFail, all_fail, fail_first, fail_later}
 use Rattle.gomp_laws.proofs.WordsToCome.{WordsToCome, PutsNone, still_to_come}
 use Rattle.gomp_model.specs.Past.{Terms, Past}
-use Rattle.gomp_model.specs.Row.{Row, once, since, row_tests, events_after}
+use Rattle.gomp_model.specs.Row.{Row, unless_repeated, begun_past, row_tests, events_after}
 use Rattle.gomp_model.specs.Calls.{stop_row, row_of}
-use Rattle.gomp_model.specs.Team.{Record, meant, is_resume, row_at, broken_tests, member_tests, wait_tests, refusal_of, MayAnswer, wait_after, after, before_all, past_of, events, Caused}
+use Rattle.gomp_model.specs.Team.{Record, call_meant, is_resume, row_at, broken_tests, member_tests, wait_tests, refusal_of, MayAnswer, wait_after, past_after, before_all, past_of, events, Caused}
 use Rattle.gomp_laws.proofs.Sound.{shows, Ready, IsSound, Gives, gives_of, IsLast}
 use Rattle.gomp_laws.proofs.CallsKeep.{step_keeps}
 use Rattle.gomp_laws.proofs.Calls.{row_is_sound}
@@ -43,7 +43,7 @@ has_arrived (Some call) = is_some (row_of call).arrives
 
 -- who waits at no barrier of a team that is not broken has not arrived at its next one
 abbrev pub Fresh : ℕ → Option Call → List Event → Type 0
-Fresh k waiting h = clash_of h ≡ None → has_arrived waiting ≡ false → arrival (passed k h) k h ≡ None
+Fresh k waiting h = clash_of h ≡ None → has_arrived waiting ≡ false → arrival (barriers_passed k h) k h ≡ None
 
 -- the rule holds, what a waiting call relies on does, who has not arrived is known, and words are still to come
 pub record Known (p : Past) : Type 0 where
@@ -55,19 +55,19 @@ pub record Known (p : Past) : Type 0 where
 -- What the tests of a step have shown
 
 pending_meant : (limits : Limits) (m : ℕ) (call : Call) (waiting : Option Call) (h : List Event) → is_resume call ≡ true → Pending limits m waiting h →
-    (row_of (meant call waiting)).stays ≡ true → AllFail ((row_of (meant call waiting)).by_place limits (seen_of m h))
-pending_meant limits m Resume None h again pending stays = absurd (cc)
-pending_meant limits m Resume (Some call) h again pending stays = pending stays
-pending_meant limits m _ waiting h again pending stays = absurd (cc)
+    (row_of (call_meant call waiting)).stays ≡ true → AllFail ((row_of (call_meant call waiting)).by_place limits (seen_of m h))
+pending_meant limits m Resume None h repeated pending stays = absurd (cc)
+pending_meant limits m Resume (Some call) h repeated pending stays = pending stays
+pending_meant limits m _ waiting h repeated pending stays = absurd (cc)
 
-first_meant : (call : Call) (waiting : Option Call) (P : Type 0) → is_resume call ≡ false → AllFail (wait_tests call waiting) → (has_arrived waiting ≡ false → P) → is_some (row_of (meant call waiting)).arrives ≡ true → P
+first_meant : (call : Call) (waiting : Option Call) (P : Type 0) → is_resume call ≡ false → AllFail (wait_tests call waiting) → (has_arrived waiting ≡ false → P) → is_some (row_of (call_meant call waiting)).arrives ≡ true → P
 first_meant Resume waiting P once fail fresh arrives = absurd (cc)
 first_meant Stop waiting P once fail fresh arrives = absurd (cc)
 first_meant _ None P once fail fresh arrives = fresh refl
 first_meant _ (Some other) P once fail fresh arrives = absurd (let shut = fail.0 in cc)
 
 -- a call that is answered while a wait is open repeats it, or stops the team
-repeats_or_stops : (call : Call) (waiting : Option Call) → AllFail (wait_tests call waiting) → is_some (row_of (meant call waiting)).arrives ≡ false → (call ≡ Stop) ⊎ (has_arrived waiting ≡ false)
+repeats_or_stops : (call : Call) (waiting : Option Call) → AllFail (wait_tests call waiting) → is_some (row_of (call_meant call waiting)).arrives ≡ false → (call ≡ Stop) ⊎ (has_arrived waiting ≡ false)
 repeats_or_stops Stop waiting fail silent = inl refl
 repeats_or_stops Resume None fail silent = inr refl
 repeats_or_stops Resume (Some call) fail silent = inr silent
@@ -78,8 +78,8 @@ stays_shown : (stays : Bool) → shows stays true ≡ true → stays ≡ true
 stays_shown true e = refl
 stays_shown false e = absurd (cc)
 
-ready_by : (row : Row) (again : Bool) (m : ℕ) (p : Past) → m < p.terms.members → AllFail (row_tests again row m p) → (again ≡ true → row.stays ≡ true → AllFail (row.by_place p.terms.limits (seen_of m p.events))) →
-    (again ≡ false → is_some row.arrives ≡ true → arrival (passed m p.events) m p.events ≡ None) → WordsToCome p.events → Ready row again m p
+ready_by : (row : Row) (repeated : Bool) (m : ℕ) (p : Past) → m < p.terms.members → AllFail (row_tests repeated row m p) → (repeated ≡ true → row.stays ≡ true → AllFail (row.by_place p.terms.limits (seen_of m p.events))) →
+    (repeated ≡ false → is_some row.arrives ≡ true → arrival (barriers_passed m p.events) m p.events ≡ None) → WordsToCome p.events → Ready row repeated m p
 ready_by row true m p lt fail pending first words =
     record { member = lt; place = λ shown. pending refl (stays_shown row.stays shown); team = λ e. absurd (cc); compared = fail; first = λ e. absurd (cc); words = words }
 ready_by row false m p lt fail pending first words =
@@ -121,34 +121,34 @@ pub unrefused_step_is_ready : (p : Past) (step : Step) → refusal_of p step ≡
 unrefused_step_is_ready p step fine known =
     let all = unrefused_step_passes p step fine in
     ready_by (row_at p step) (is_resume step.call) step.member p (is_member p.terms.members step.member all.member.0) all.row
-    (λ again. pending_meant p.terms.limits step.member step.call (p.waits step.member) p.events again (known.pending step.member))
-    (λ once arrives. first_meant step.call (p.waits step.member) (arrival (passed step.member p.events) step.member p.events ≡ None) once all.wait
+    (λ repeated. pending_meant p.terms.limits step.member step.call (p.waits step.member) p.events repeated (known.pending step.member))
+    (λ once arrives. first_meant step.call (p.waits step.member) (arrival (barriers_passed step.member p.events) step.member p.events ≡ None) once all.wait
     (λ quiet. known.fresh step.member (unbroken_clash (clash_of p.events) all.member.1.1) quiet) arrives)
     known.words
 
 -- The rule
 
-once_again : (events : List Event) → once events true ≡ []
+once_again : (events : List Event) → unless_repeated events true ≡ []
 once_again [] = refl
 once_again (event ∷ events) = refl
 
-once_first : (events : List Event) → once events false ≡ events
+once_first : (events : List Event) → unless_repeated events false ≡ events
 once_first [] = refl
 once_first (event ∷ events) = refl
 
-since_rule : (row : Row) → IsSound row → (again : Bool) (m : ℕ) (p : Past) → Ready row again m p → Always (TeamRule p.terms.members) p.events → Always (TeamRule p.terms.members) (since again row m p).events
+since_rule : (row : Row) → IsSound row → (repeated : Bool) (m : ℕ) (p : Past) → Ready row repeated m p → Always (TeamRule p.terms.members) p.events → Always (TeamRule p.terms.members) (begun_past repeated row m p).events
 since_rule row sound true m p ready all = rw (once_again (row.begins m p)) all
 since_rule row sound false m p ready all = rw (once_first (row.begins m p)) (sound.begins_keep m p ready all)
 
 -- a call that has begun keeps the rule
-pub begun_rule : (p : Past) (step : Step) → refusal_of p step ≡ None → Known p → Always (TeamRule p.terms.members) (since (is_resume step.call) (row_at p step) step.member p).events
-begun_rule p step fine known = since_rule (row_at p step) (row_is_sound (meant step.call (p.waits step.member))) (is_resume step.call) step.member p (unrefused_step_is_ready p step fine known) known.rule
+pub begun_rule : (p : Past) (step : Step) → refusal_of p step ≡ None → Known p → Always (TeamRule p.terms.members) (begun_past (is_resume step.call) (row_at p step) step.member p).events
+begun_rule p step fine known = since_rule (row_at p step) (row_is_sound (call_meant step.call (p.waits step.member))) (is_resume step.call) step.member p (unrefused_step_is_ready p step fine known) known.rule
 
-answer_rule : (p : Past) (step : Step) (reply : Reply) → MayAnswer p step reply → Known p → Always (TeamRule p.terms.members) (after p step reply).events
+answer_rule : (p : Past) (step : Step) (reply : Reply) → MayAnswer p step reply → Known p → Always (TeamRule p.terms.members) (past_after p step reply).events
 answer_rule p step (Refused Mismatch) may known = (tt, known.rule)
 answer_rule p step (Refused _) may known = known.rule
 answer_rule p step reply may known =
-    (row_is_sound (meant step.call (p.waits step.member))).gives_keep (is_resume step.call) step.member p reply (unrefused_step_is_ready p step may.0 known) may.1 (begun_rule p step may.0 known)
+    (row_is_sound (call_meant step.call (p.waits step.member))).gives_keep (is_resume step.call) step.member p reply (unrefused_step_is_ready p step may.0 known) may.1 (begun_rule p step may.0 known)
 
 -- What stays known while a wait is open
 
@@ -156,73 +156,73 @@ pending_same : (limits : Limits) (k : ℕ) (waiting : Option Call) (h now : List
 pending_same limits k None h now same pending = tt
 pending_same limits k (Some call) h now same pending = λ stays. rw same (pending stays)
 
-still_there : (row : Row) → IsSound row → row.stays ≡ true → (again : Bool) (m : ℕ) (p : Past) → events_after again row m p Wait ≡ p.events
-still_there row sound stays again m p = rw ((sound.still stays m (since again row m p)).1, (sound.still stays m p).0) refl
+still_there : (row : Row) → IsSound row → row.stays ≡ true → (repeated : Bool) (m : ℕ) (p : Past) → events_after repeated row m p Wait ≡ p.events
+still_there row sound stays repeated m p = rw ((sound.still stays m (begun_past repeated row m p)).1, (sound.still stays m p).0) refl
 
-shown_first : (row : Row) (again : Bool) → row.stays ≡ true → shows row.stays again ≡ true
-shown_first row again e = rw e refl
+shown_first : (row : Row) (repeated : Bool) → row.stays ≡ true → shows row.stays repeated ≡ true
+shown_first row repeated e = rw e refl
 
-answer_pending : (p : Past) (step : Step) (reply : Reply) → MayAnswer p step reply → Known p → Pending p.terms.limits step.member (wait_after reply step.call (p.waits step.member)) (after p step reply).events
-answer_pending p step (Refused Mismatch) may known = pending_same p.terms.limits step.member (p.waits step.member) p.events (after p step (Refused Mismatch)).events refl (known.pending step.member)
+answer_pending : (p : Past) (step : Step) (reply : Reply) → MayAnswer p step reply → Known p → Pending p.terms.limits step.member (wait_after reply step.call (p.waits step.member)) (past_after p step reply).events
+answer_pending p step (Refused Mismatch) may known = pending_same p.terms.limits step.member (p.waits step.member) p.events (past_after p step (Refused Mismatch)).events refl (known.pending step.member)
 answer_pending p step (Refused _) may known = known.pending step.member
 answer_pending p step Wait may known = λ stays.
     let row = row_at p step in
     subst (λ (h : List Event). AllFail (row.by_place p.terms.limits (seen_of step.member h)))
-    (sym (still_there row (row_is_sound (meant step.call (p.waits step.member))) stays (is_resume step.call) step.member p))
+    (sym (still_there row (row_is_sound (call_meant step.call (p.waits step.member))) stays (is_resume step.call) step.member p))
     ((unrefused_step_is_ready p step may.0 known).place (shown_first row (is_resume step.call) stays))
 answer_pending p step _ may known = tt
 
-pending_after : (p : Past) (step : Step) (reply : Reply) (k : ℕ) → MayAnswer p step reply → Known p → Pending p.terms.limits k ((after p step reply).waits k) (after p step reply).events
+pending_after : (p : Past) (step : Step) (reply : Reply) (k : ℕ) → MayAnswer p step reply → Known p → Pending p.terms.limits k ((past_after p step reply).waits k) (past_after p step reply).events
 pending_after p step reply k may known =
     elim (cases_Bool (step.member == k)) [
-      | inl e ↦ rw e (subst (λ (x : ℕ). Pending p.terms.limits x (wait_after reply step.call (p.waits x)) (after p step reply).events) (is_equal step.member k e) (answer_pending p step reply may known))
-      | inr e ↦ rw e (pending_same p.terms.limits k (p.waits k) p.events (after p step reply).events
-          (seen_other (row_at p step) (row_is_sound (meant step.call (p.waits step.member))) (is_resume step.call) k step.member p reply e) (known.pending k))
+      | inl e ↦ rw e (subst (λ (x : ℕ). Pending p.terms.limits x (wait_after reply step.call (p.waits x)) (past_after p step reply).events) (is_equal step.member k e) (answer_pending p step reply may known))
+      | inr e ↦ rw e (pending_same p.terms.limits k (p.waits k) p.events (past_after p step reply).events
+          (seen_other (row_at p step) (row_is_sound (call_meant step.call (p.waits step.member))) (is_resume step.call) k step.member p reply e) (known.pending k))
     ]
 
 -- Arrivals
 
 -- a member that arrived is not ahead of its number
-none_ahead : (members m g : ℕ) (h : List Event) → Always (TeamRule members) h → passed m h < g → arrival g m h ≡ None
+none_ahead : (members m g : ℕ) (h : List Event) → Always (TeamRule members) h → barriers_passed m h < g → arrival g m h ≡ None
 none_ahead members m g [] all lt = refl
 none_ahead members m g (Arrive barrier member tag ∷ earlier) all lt =
     elim (cases_Bool (barrier == g && member == m)) [
       | inl e ↦ absurd (
           let number = is_equal barrier g (and_left (barrier == g) (member == m) e) in
           let who = is_equal member m (and_right (barrier == g) (member == m) e) in
-          let own : barrier ≡ passed m earlier = rw (← who) all.0.arrives.number in
+          let own : barrier ≡ barriers_passed m earlier = rw (← who) all.0.arrives.number in
           omega arith)
       | inr e ↦ rw e (none_ahead members m g earlier all.1 lt)
     ]
 none_ahead members m g (Pass barrier member ∷ earlier) all lt =
     elim (cases_Bool (member == m)) [
-      | inl e ↦ none_ahead members m g earlier all.1 (let more : passed m earlier + 1 < g = rw e at lt in omega arith)
+      | inl e ↦ none_ahead members m g earlier all.1 (let more : barriers_passed m earlier + 1 < g = rw e at lt in omega arith)
       | inr e ↦ none_ahead members m g earlier all.1 (rw e at lt)
     ]
 none_ahead members m g (_ ∷ earlier) all lt = none_ahead members m g earlier all.1 lt
 
-stays_fresh : (m : ℕ) (h now : List Event) → SameBarriers m h now → arrival (passed m h) m h ≡ None → arrival (passed m now) m now ≡ None
-stays_fresh m h now same none = rw same.number (same.arrivals (passed m h) ∙ none)
+stays_fresh : (m : ℕ) (h now : List Event) → SameBarriers m h now → arrival (barriers_passed m h) m h ≡ None → arrival (barriers_passed m now) m now ≡ None
+stays_fresh m h now same none = rw same.number (same.arrivals (barriers_passed m h) ∙ none)
 
 -- a stop breaks the team
-stop_breaks : (again : Bool) (m : ℕ) (p : Past) (reply : Reply) → stop_row.may_reply m (since again stop_row m p) reply → clash_of (events_after again stop_row m p reply) ≡ None → ⊥
-stop_breaks again m p reply may whole = let broken = (rw may at whole) in cc
+stop_breaks : (repeated : Bool) (m : ℕ) (p : Past) (reply : Reply) → stop_row.may_reply m (begun_past repeated stop_row m p) reply → clash_of (events_after repeated stop_row m p reply) ≡ None → ⊥
+stop_breaks repeated m p reply may whole = let broken = (rw may at whole) in cc
 
-never_stopped : (p : Past) (call : Call) (waiting : Option Call) (m : ℕ) (reply : Reply) → call ≡ Stop → (row_of (meant call waiting)).may_reply m (since (is_resume call) (row_of (meant call waiting)) m p) reply →
-    clash_of (events_after (is_resume call) (row_of (meant call waiting)) m p reply) ≡ None → ⊥
+never_stopped : (p : Past) (call : Call) (waiting : Option Call) (m : ℕ) (reply : Reply) → call ≡ Stop → (row_of (call_meant call waiting)).may_reply m (begun_past (is_resume call) (row_of (call_meant call waiting)) m p) reply →
+    clash_of (events_after (is_resume call) (row_of (call_meant call waiting)) m p reply) ≡ None → ⊥
 never_stopped p call waiting m reply stop =
-    subst (λ (c : Call). (row_of (meant c waiting)).may_reply m (since (is_resume c) (row_of (meant c waiting)) m p) reply → clash_of (events_after (is_resume c) (row_of (meant c waiting)) m p reply) ≡ None → ⊥)
+    subst (λ (c : Call). (row_of (call_meant c waiting)).may_reply m (begun_past (is_resume c) (row_of (call_meant c waiting)) m p) reply → clash_of (events_after (is_resume c) (row_of (call_meant c waiting)) m p reply) ≡ None → ⊥)
     (sym stop) (stop_breaks false m p reply)
 
 -- the events of a step that is not refused are those of its row
-not_there : (p : Past) (step : Step) (reply : Reply) → refusal_of p step ≡ None → (row_at p step).may_reply step.member (since (is_resume step.call) (row_at p step) step.member p) reply → Known p → is_some (row_at p step).arrives ≡ false →
-    clash_of (after p step reply).events ≡ None → arrival (passed step.member (after p step reply).events) step.member (after p step reply).events ≡ None
+not_there : (p : Past) (step : Step) (reply : Reply) → refusal_of p step ≡ None → (row_at p step).may_reply step.member (begun_past (is_resume step.call) (row_at p step) step.member p) reply → Known p → is_some (row_at p step).arrives ≡ false →
+    clash_of (past_after p step reply).events ≡ None → arrival (barriers_passed step.member (past_after p step reply).events) step.member (past_after p step reply).events ≡ None
 not_there p step reply fine may known silent whole =
     let row = row_at p step in
-    let s = row_is_sound (meant step.call (p.waits step.member)) in
+    let s = row_is_sound (call_meant step.call (p.waits step.member)) in
     elim (repeats_or_stops step.call (p.waits step.member) (unrefused_step_passes p step fine).wait silent) [
       | inl stop ↦ absurd (never_stopped p step.call (p.waits step.member) step.member reply stop may whole)
-      | inr quiet ↦ stays_fresh step.member p.events (after p step reply).events (barriers_own row s (is_resume step.call) step.member p reply silent)
+      | inr quiet ↦ stays_fresh step.member p.events (past_after p step reply).events (barriers_own row s (is_resume step.call) step.member p reply silent)
           (known.fresh step.member (was_whole row s (is_resume step.call) step.member p reply whole) quiet)
     ]
 
@@ -230,28 +230,28 @@ passes_one : (same : Bool) → same ≡ true → (n : ℕ) → (if same then n +
 passes_one true e n = refl
 passes_one false e n = absurd (cc)
 
-pass_moves_on : (members m : ℕ) (h : List Event) → Always (TeamRule members) h → arrival (passed m (Pass (passed m h) m ∷ h)) m (Pass (passed m h) m ∷ h) ≡ None
+pass_moves_on : (members m : ℕ) (h : List Event) → Always (TeamRule members) h → arrival (barriers_passed m (Pass (barriers_passed m h) m ∷ h)) m (Pass (barriers_passed m h) m ∷ h) ≡ None
 pass_moves_on members m h all =
-    let next : passed m (Pass (passed m h) m ∷ h) ≡ passed m h + 1 = passes_one (m == m) (same_number m) (passed m h) in
-    subst (λ (g : ℕ). arrival g m h ≡ None) (sym next) (none_ahead members m (passed m h + 1) h all (omega arith))
+    let next : barriers_passed m (Pass (barriers_passed m h) m ∷ h) ≡ barriers_passed m h + 1 = passes_one (m == m) (same_number m) (barriers_passed m h) in
+    subst (λ (g : ℕ). arrival g m h ≡ None) (sym next) (none_ahead members m (barriers_passed m h + 1) h all (omega arith))
 
 passed_there : (p : Past) (step : Step) → refusal_of p step ≡ None → Known p → is_some (row_at p step).arrives ≡ true →
-    arrival (passed step.member (after p step Passed).events) step.member (after p step Passed).events ≡ None
+    arrival (barriers_passed step.member (past_after p step Passed).events) step.member (past_after p step Passed).events ≡ None
 passed_there p step fine known arrives =
-    let q = since (is_resume step.call) (row_at p step) step.member p in
-    let one = (row_is_sound (meant step.call (p.waits step.member))).one_pass arrives step.member q in
+    let q = begun_past (is_resume step.call) (row_at p step) step.member p in
+    let one = (row_is_sound (call_meant step.call (p.waits step.member))).one_pass arrives step.member q in
     rw one (pass_moves_on p.terms.members step.member q.events (begun_rule p step fine known))
 
 -- a call that arrives is answered by no other reply
-never_so : (p : Past) (step : Step) (reply : Reply) {P : Type 0} → is_some (row_at p step).arrives ≡ true → (row_at p step).may_reply step.member (since (is_resume step.call) (row_at p step) step.member p) reply →
+never_so : (p : Past) (step : Step) (reply : Reply) {P : Type 0} → is_some (row_at p step).arrives ≡ true → (row_at p step).may_reply step.member (begun_past (is_resume step.call) (row_at p step) step.member p) reply →
     (reply ≡ Passed → ⊥) → (reply ≡ Wait → ⊥) → P
 never_so p step reply arrives may passes waits =
-    elim ((row_is_sound (meant step.call (p.waits step.member))).tells arrives step.member (since (is_resume step.call) (row_at p step) step.member p) reply may) [
+    elim ((row_is_sound (call_meant step.call (p.waits step.member))).tells arrives step.member (begun_past (is_resume step.call) (row_at p step) step.member p) reply may) [
       | inl e ↦ absurd (passes e)
       | inr e ↦ absurd (waits e)
     ]
 
-answer_fresh : (p : Past) (step : Step) (reply : Reply) → MayAnswer p step reply → Known p → Fresh step.member (wait_after reply step.call (p.waits step.member)) (after p step reply).events
+answer_fresh : (p : Past) (step : Step) (reply : Reply) → MayAnswer p step reply → Known p → Fresh step.member (wait_after reply step.call (p.waits step.member)) (past_after p step reply).events
 answer_fresh p step (Refused Mismatch) may known = λ whole quiet. absurd (cc)
 answer_fresh p step (Refused _) may known = known.fresh step.member
 answer_fresh p step Wait may known = λ whole quiet. not_there p step Wait may.0 may.1 known quiet whole
@@ -266,14 +266,14 @@ answer_fresh p step reply may known = λ whole quiet.
       | inr silent ↦ not_there p step reply may.0 may.1 known silent whole
     ]
 
-fresh_after : (p : Past) (step : Step) (reply : Reply) (k : ℕ) → MayAnswer p step reply → Known p → Fresh k ((after p step reply).waits k) (after p step reply).events
+fresh_after : (p : Past) (step : Step) (reply : Reply) (k : ℕ) → MayAnswer p step reply → Known p → Fresh k ((past_after p step reply).waits k) (past_after p step reply).events
 fresh_after p step reply k may known =
     elim (cases_Bool (step.member == k)) [
-      | inl e ↦ rw e (subst (λ (x : ℕ). Fresh x (wait_after reply step.call (p.waits x)) (after p step reply).events) (is_equal step.member k e) (answer_fresh p step reply may known))
+      | inl e ↦ rw e (subst (λ (x : ℕ). Fresh x (wait_after reply step.call (p.waits x)) (past_after p step reply).events) (is_equal step.member k e) (answer_fresh p step reply may known))
       | inr e ↦
           let row = row_at p step in
-          let s = row_is_sound (meant step.call (p.waits step.member)) in
-          rw e (λ whole quiet. stays_fresh k p.events (after p step reply).events (barriers_other row s (is_resume step.call) k step.member p reply e)
+          let s = row_is_sound (call_meant step.call (p.waits step.member)) in
+          rw e (λ whole quiet. stays_fresh k p.events (past_after p step reply).events (barriers_other row s (is_resume step.call) k step.member p reply e)
           (known.fresh k (was_whole row s (is_resume step.call) step.member p reply whole) quiet))
     ]
 
@@ -283,24 +283,24 @@ puts_none : (can : Gives) (m : ℕ) (reply : Reply) (event : Event) → can.puts
 puts_none can m reply (Put share n payload) none by = absurd (let some = by.1 in cc)
 puts_none can m reply _ none by = tt
 
-words_kept_by_row : (members : ℕ) (row : Row) → IsSound row → (again : Bool) (m : ℕ) (p : Past) (reply : Reply) → row.puts ≡ false → Always (TeamRule members) (events_after again row m p reply) → WordsToCome p.events → WordsToCome (events_after again row m p reply)
-words_kept_by_row members row sound again m p reply none rules words =
-    step_keeps row sound again m p reply (λ now. Always (TeamRule members) now → WordsToCome now)
+words_kept_by_row : (members : ℕ) (row : Row) → IsSound row → (repeated : Bool) (m : ℕ) (p : Past) (reply : Reply) → row.puts ≡ false → Always (TeamRule members) (events_after repeated row m p reply) → WordsToCome p.events → WordsToCome (events_after repeated row m p reply)
+words_kept_by_row members row sound repeated m p reply none rules words =
+    step_keeps row sound repeated m p reply (λ now. Always (TeamRule members) now → WordsToCome now)
     (λ event now by kept rules. still_to_come members event now (puts_none (gives_of row) m reply event none by) rules.0 rules.1 (kept rules.1)) (λ rules. words) rules
 
-answer_words : (p : Past) (step : Step) (reply : Reply) → MayAnswer p step reply → Known p → Always (TeamRule p.terms.members) (after p step reply).events → WordsToCome (after p step reply).events
+answer_words : (p : Past) (step : Step) (reply : Reply) → MayAnswer p step reply → Known p → Always (TeamRule p.terms.members) (past_after p step reply).events → WordsToCome (past_after p step reply).events
 answer_words p step (Refused Mismatch) may known rule = λ k i own at single piece. known.words k i own at single piece
 answer_words p step (Refused _) may known rule = known.words
 answer_words p step reply may known rule =
     let row = row_at p step in
-    let s = row_is_sound (meant step.call (p.waits step.member)) in
+    let s = row_is_sound (call_meant step.call (p.waits step.member)) in
     elim (cases_Bool row.puts) [
       | inl puts ↦ s.words_keep puts (is_resume step.call) step.member p reply (unrefused_step_is_ready p step may.0 known) may.1 known.rule
       | inr none ↦ words_kept_by_row p.terms.members row s (is_resume step.call) step.member p reply none rule known.words
     ]
 
 -- one more step
-pub known_after : (p : Past) (step : Step) (reply : Reply) → MayAnswer p step reply → Known p → Known (after p step reply)
+pub known_after : (p : Past) (step : Step) (reply : Reply) → MayAnswer p step reply → Known p → Known (past_after p step reply)
 known_after p step reply may known =
     let rule = answer_rule p step reply may known in record {
       rule = rule;

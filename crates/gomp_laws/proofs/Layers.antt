@@ -28,12 +28,12 @@ by_layers row m p =
     least_append (row.by_place p.terms.limits (seen_of m p.events)) (row.by_team m p ++ row.compared false m p)
     ∙ ap (lesser (least (row.by_place p.terms.limits (seen_of m p.events)))) (least_append (row.by_team m p) (row.compared false m p))
 
-row_layers : (again : Bool) (row : Row) (m : ℕ) (p : Past) → again ≡ false → least (row_tests again row m p)
-    ≡ lesser (least (row.by_place p.terms.limits (seen_of m p.events))) (lesser (least (row.by_team m p)) (least (row.compared again m p)))
+row_layers : (repeated : Bool) (row : Row) (m : ℕ) (p : Past) → repeated ≡ false → least (row_tests repeated row m p)
+    ≡ lesser (least (row.by_place p.terms.limits (seen_of m p.events))) (lesser (least (row.by_team m p)) (least (row.compared repeated m p)))
 row_layers true row m p made = absurd (cc)
 row_layers false row m p made = by_layers row m p
 
-row_repeated : (again : Bool) (row : Row) (m : ℕ) (p : Past) → again ≡ true → least (row_tests again row m p) ≡ least (row.compared again m p)
+row_repeated : (repeated : Bool) (row : Row) (m : ℕ) (p : Past) → repeated ≡ true → least (row_tests repeated row m p) ≡ least (row.compared repeated m p)
 row_repeated true row m p repeats = refl
 row_repeated false row m p repeats = absurd (cc)
 
@@ -57,7 +57,7 @@ layers_repeated p step repeats =
     ∙ ap (λ (last : Option Refusal). lesser (least (member_tests p.terms.members step.member p.events)) (lesser (least (wait_tests step.call (p.waits step.member))) last))
     (row_repeated (is_resume step.call) (row_at p step) step.member p repeats)
 
--- what one layer answers by its own tests is the call's answer where the tests of the others fail
+-- what one layer answers by its own tests is the call's answer if the tests of the others fail
 lesser_beside_none : (one : Option Refusal) → lesser one None ≡ one
 lesser_beside_none None = refl
 lesser_beside_none (Some one) = refl

@@ -244,17 +244,17 @@ pub loop_next_sound : IsSound loop_next_row
 loop_next_sound = record {
   decided = λ m p a b x y. one_next p.terms.members m (open_share m p.events) a b p.events x y;
   accepts = λ m p refusal x. next_accepts p.terms.members m (open_share m p.events) refusal p.events x;
-  answered = λ again m p ready all. next_some p.terms.members m p.events (open_share m p.events) refl (ready.place refl).0 all;
-  counts = λ again m p first count ready all may. next_counts p.terms.members m p.events (open_share m p.events) first count refl all may;
+  answered = λ repeated m p ready all. next_some p.terms.members m p.events (open_share m p.events) refl (ready.place refl).0 all;
+  counts = λ repeated m p first count ready all may. next_counts p.terms.members m p.events (open_share m p.events) first count refl all may;
   begins_own = λ m p. tt;
   gives_own = λ m p reply. own_given quiet m reply (next_given p.terms.members (open_share m p.events) m p.events reply) (next_events_own p.terms.members (open_share m p.events) m p.events reply);
   begins_keep = λ m p ready all. all;
-  gives_keep = λ again m p reply ready may all. next_keeps p.terms.members m reply p.events (open_share m p.events) refl (ready.place refl).1.0 may all;
+  gives_keep = λ repeated m p reply ready may all. next_keeps p.terms.members m reply p.events (open_share m p.events) refl (ready.place refl).1.0 may all;
   still = λ stays m p. (refl, next_still p.terms.members (open_share m p.events) m p.events);
   tells = λ arrives m p reply may. absurd (cc);
   one_pass = λ arrives m p. absurd (cc);
-  no_memory = λ m p. (refl, refl, λ again. refl);
-  words_keep = λ puts again m p reply ready may all. absurd (cc);
+  no_memory = λ m p. (refl, refl, λ repeated. refl);
+  words_keep = λ puts repeated m p reply ready may all. absurd (cc);
 }
 
 loop_ends : (kind : EndKind) → IsEnd (end_tests kind)

@@ -7,9 +7,9 @@ use Rattle.gomp_types.specs.declared.refusal.Refusal.TheVariants.{NoMemory}
 use Rattle.gomp_types.specs.declared.reply.Reply.{Reply}
 use Rattle.gomp_types.specs.declared.reply.Reply.TheVariants.{Refused}
 use Rattle.gomp_model.specs.Past.{Past}
-use Rattle.gomp_model.specs.Row.{since}
+use Rattle.gomp_model.specs.Row.{begun_past}
 use Rattle.gomp_model.specs.Calls.{row_of}
-use Rattle.gomp_model.specs.Team.{meant, is_resume, row_at, refusal_of, MayRefuse, MayAnswer, OneReply}
+use Rattle.gomp_model.specs.Team.{call_meant, is_resume, row_at, refusal_of, MayRefuse, MayAnswer, OneReply}
 use Rattle.gomp_laws.proofs.Calls.{row_is_sound}
 
 -- a refusal is want of memory, or that of the tests
@@ -36,4 +36,4 @@ one_answer p step (Refused x) (Refused y) may other = one_refusal (refusal_of p 
 one_answer p step (Refused x) b may other = inr (inl (ap Refused (only_memory (refusal_of p step) x (row_of step.call).memory may other.0)))
 one_answer p step a (Refused y) may other = inr (inr (ap Refused (only_memory (refusal_of p step) y (row_of step.call).memory other may.0)))
 one_answer p step a b may other =
-    inl ((row_is_sound (meant step.call (p.waits step.member))).decided step.member (since (is_resume step.call) (row_at p step) step.member p) a b may.1 other.1)
+    inl ((row_is_sound (call_meant step.call (p.waits step.member))).decided step.member (begun_past (is_resume step.call) (row_at p step) step.member p) a b may.1 other.1)

@@ -17,7 +17,7 @@ use Rattle.gomp_types.specs.Deals.{schedule}
 use Rattle.gomp_types.proofs.Booleans.{not_both, not_false}
 use Rattle.gomp_shares.proofs.PartsKeep.{value_in_rest, parts_in_loop}
 use Rattle.gomp_laws.proofs.TeamShares.{share_rules}
-use Rattle.gomp_shares.specs.OrderedParts.{BeginsPart, part_given, part_end_tests, part_ended}
+use Rattle.gomp_shares.specs.OrderedParts.{BeginsPart, part_given, part_end_tests, part_end_events}
 use Rattle.gomp_model.specs.OrderedParts.{ordered_start_row, ordered_end_row}
 use Rattle.gomp_laws.proofs.AtOnce.{at_once_sound}
 use Rattle.gomp_laws.proofs.Sound.{AreGiven, IsSound, quiet}
@@ -80,18 +80,18 @@ pub ordered_start_sound : (value : ℤ) → IsSound (ordered_start_row value)
 ordered_start_sound value = record {
   decided = λ m p a b x y. one_part p.terms.members m (open_share m p.events) a b p.events x y;
   accepts = λ m p refusal x. part_accepts p.terms.members m (open_share m p.events) refusal p.events x;
-  answered = λ again m p ready all. part_some p.terms.members m p.events (open_share m p.events) (ready.place refl).1.1.0;
-  counts = λ again m p first count ready all may. part_counts p.terms.members m (open_share m p.events) first count p.events may;
+  answered = λ repeated m p ready all. part_some p.terms.members m p.events (open_share m p.events) (ready.place refl).1.1.0;
+  counts = λ repeated m p first count ready all may. part_counts p.terms.members m (open_share m p.events) first count p.events may;
   begins_own = λ m p. tt;
   gives_own = λ m p reply. part_own (open_share m p.events) m value reply;
   begins_keep = λ m p ready all. all;
-  gives_keep = λ again m p reply ready may all.
+  gives_keep = λ repeated m p reply ready may all.
       let fail = ready.place refl in part_keeps p.terms.members m value reply p.events (open_share m p.events) refl fail.1.0 fail.1.1.0 fail.1.1.1.0 may all;
   still = λ stays m p. (refl, part_still (open_share m p.events) m value);
   tells = λ arrives m p reply may. absurd (cc);
   one_pass = λ arrives m p. absurd (cc);
-  no_memory = λ m p. (refl, refl, λ again. refl);
-  words_keep = λ puts again m p reply ready may all. absurd (cc);
+  no_memory = λ m p. (refl, refl, λ repeated. refl);
+  words_keep = λ puts repeated m p reply ready may all. absurd (cc);
 }
 
 -- a part that is open may end
@@ -100,7 +100,7 @@ open_part_may_end m h None at there within = absurd (cc)
 open_part_may_end m h (Some share) at there within = record { shape = share.1; inside = at; within = within }
 
 pub ordered_end_sound : IsSound ordered_end_row
-ordered_end_sound = at_once_sound part_end_tests part_ended (record {
+ordered_end_sound = at_once_sound part_end_tests part_end_events (record {
   own = λ m h. (refl, tt);
   keep = λ m p ready all.
       let within = not_false (in_part m p.events) (ready.place refl).0 in

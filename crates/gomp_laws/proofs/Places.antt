@@ -4,7 +4,7 @@ use Rattle.std.specs.Prelude.{◌==◌, is_some}
 use Rattle.gomp_types.specs.declared.reply.Reply.{Reply}
 use Rattle.gomp_types.specs.declared.event.Event.{Event}
 use Rattle.gomp_types.specs.declared.event.Event.TheVariants.{Enter, Take, Drained, End, Part, PartEnd, Arrive, Pass, Break}
-use Rattle.gomp_types.specs.Events.{entered, open_share, has_drained, last_piece, next_part, in_part, passed, arrival, clash_of}
+use Rattle.gomp_types.specs.Events.{shares_entered, open_share, has_drained, last_piece, next_part, in_part, barriers_passed, arrival, clash_of}
 use Rattle.gomp_types.proofs.Booleans.{and_false}
 use Rattle.gomp_types.specs.Seen.{seen_of}
 use Rattle.gomp_model.specs.Past.{Past}
@@ -13,7 +13,7 @@ use Rattle.gomp_laws.proofs.Sound.{IsSound, gives_of, Gives}
 use Rattle.gomp_laws.proofs.CallsKeep.{LastKeeps, step_keeps}
 
 record SamePlace (k : ℕ) (h after : List Event) : Type 0 where
-  number : entered k after ≡ entered k h
+  number : shares_entered k after ≡ shares_entered k h
   share : open_share k after ≡ open_share k h
   drained : has_drained k after ≡ has_drained k h
   piece : last_piece k after ≡ last_piece k h
@@ -34,13 +34,13 @@ place_stays can reply k m h e (Part share n iteration) after by same = rw by (re
 place_stays can reply k m h e (PartEnd share n) after by same = rw by (record { number = same.number; share = same.share; drained = same.drained; piece = same.piece; begun = same.begun; within = rw e same.within })
 place_stays can reply k m h e _ after by same = record { number = same.number; share = same.share; drained = same.drained; piece = same.piece; begun = same.begun; within = same.within }
 
-pub seen_other : (row : Row) → IsSound row → (again : Bool) (k m : ℕ) (p : Past) (reply : Reply) → (m == k) ≡ false → seen_of k (events_after again row m p reply) ≡ seen_of k p.events
-seen_other row sound again k m p reply e =
-    let same = step_keeps row sound again m p reply (SamePlace k p.events) (place_stays (gives_of row) reply k m p.events e) (same_place k p.events) in
+pub seen_other : (row : Row) → IsSound row → (repeated : Bool) (k m : ℕ) (p : Past) (reply : Reply) → (m == k) ≡ false → seen_of k (events_after repeated row m p reply) ≡ seen_of k p.events
+seen_other row sound repeated k m p reply e =
+    let same = step_keeps row sound repeated m p reply (SamePlace k p.events) (place_stays (gives_of row) reply k m p.events e) (same_place k p.events) in
     λ i. record { entered = same.number i; current = same.share i; drained = same.drained i; piece = same.piece i; next_part = same.begun i; in_part = same.within i }
 
 pub record SameBarriers (k : ℕ) (h after : List Event) : Type 0 where
-  pub number : passed k after ≡ passed k h
+  pub number : barriers_passed k after ≡ barriers_passed k h
   pub arrivals : (g : ℕ) → arrival g k after ≡ arrival g k h
 
 same_barriers : (k : ℕ) (h : List Event) → SameBarriers k h h
@@ -52,8 +52,8 @@ barriers_stay can reply k m h e (Arrive barrier n tag) after by same =
 barriers_stay can reply k m h e (Pass barrier n) after by same = rw by.0 (record { number = rw e same.number; arrivals = same.arrivals })
 barriers_stay can reply k m h e _ after by same = record { number = same.number; arrivals = same.arrivals }
 
-pub barriers_other : (row : Row) → IsSound row → (again : Bool) (k m : ℕ) (p : Past) (reply : Reply) → (m == k) ≡ false → SameBarriers k p.events (events_after again row m p reply)
-barriers_other row sound again k m p reply e = step_keeps row sound again m p reply (SameBarriers k p.events) (barriers_stay (gives_of row) reply k m p.events e) (same_barriers k p.events)
+pub barriers_other : (row : Row) → IsSound row → (repeated : Bool) (k m : ℕ) (p : Past) (reply : Reply) → (m == k) ≡ false → SameBarriers k p.events (events_after repeated row m p reply)
+barriers_other row sound repeated k m p reply e = step_keeps row sound repeated m p reply (SameBarriers k p.events) (barriers_stay (gives_of row) reply k m p.events e) (same_barriers k p.events)
 
 never_arrives : (can : Gives) → can.arrives ≡ false → (reply : Reply) (m : ℕ) (h : List Event) → LastKeeps can m reply (SameBarriers m h)
 never_arrives can silent reply m h (Arrive barrier n tag) after by same = absurd (let arrives = by.1 in cc)
@@ -61,13 +61,13 @@ never_arrives can silent reply m h (Pass barrier n) after by same = absurd (let 
 never_arrives can silent reply m h _ after by same = record { number = same.number; arrivals = same.arrivals }
 
 -- and by each of its own that does not arrive
-pub barriers_own : (row : Row) → IsSound row → (again : Bool) (m : ℕ) (p : Past) (reply : Reply) → is_some row.arrives ≡ false → SameBarriers m p.events (events_after again row m p reply)
-barriers_own row sound again m p reply silent = step_keeps row sound again m p reply (SameBarriers m p.events) (never_arrives (gives_of row) silent reply m p.events) (same_barriers m p.events)
+pub barriers_own : (row : Row) → IsSound row → (repeated : Bool) (m : ℕ) (p : Past) (reply : Reply) → is_some row.arrives ≡ false → SameBarriers m p.events (events_after repeated row m p reply)
+barriers_own row sound repeated m p reply silent = step_keeps row sound repeated m p reply (SameBarriers m p.events) (never_arrives (gives_of row) silent reply m p.events) (same_barriers m p.events)
 
 unbroken_before : (can : Gives) (reply : Reply) (m : ℕ) (h : List Event) → LastKeeps can m reply (λ after. clash_of after ≡ None → clash_of h ≡ None)
 unbroken_before can reply m h (Break n place) after by before = λ none. absurd (cc)
 unbroken_before can reply m h _ after by before = before
 
 -- a team that is not broken was not
-pub was_whole : (row : Row) → IsSound row → (again : Bool) (m : ℕ) (p : Past) (reply : Reply) → clash_of (events_after again row m p reply) ≡ None → clash_of p.events ≡ None
-was_whole row sound again m p reply = step_keeps row sound again m p reply (λ after. clash_of after ≡ None → clash_of p.events ≡ None) (unbroken_before (gives_of row) reply m p.events) (λ none. none)
+pub was_whole : (row : Row) → IsSound row → (repeated : Bool) (m : ℕ) (p : Past) (reply : Reply) → clash_of (events_after repeated row m p reply) ≡ None → clash_of p.events ≡ None
+was_whole row sound repeated m p reply = step_keeps row sound repeated m p reply (λ after. clash_of after ≡ None → clash_of p.events ≡ None) (unbroken_before (gives_of row) reply m p.events) (λ none. none)

@@ -183,7 +183,7 @@ rule_hand_on_in_part may = absurd (let apart = may.apart in cc)
 pub rule_hand_on_number : RefusedAfter (ShareRule (schedule 1) 1) (Enter 0 0 (four true) ∷ Take 0 0 0 2 ∷ []) (HandOn 0 0 1)
 rule_hand_on_number may = let same = is_shape _ _ _ may.inside in absurd (let number = rw (← same) at may.number in cc)
 
--- a piece by the count of those that were handed on, where it has another number: there are two of it
+-- a piece by the count of those that were handed on, if it has another number: there are two of it
 pub rule_hand_on_count : RefusedAfter (ShareRule (schedule 0) 0) (Enter 0 0 with_equal_pieces ∷ Take 0 0 0 0 ∷ HandOn 0 0 0 ∷ []) (HandOn 0 0 1)
 rule_hand_on_count may = let same = is_shape _ _ _ may.inside in absurd (let number = rw (← same) at may.number in cc)
 
@@ -355,6 +355,6 @@ team_arrive_miscounted may = absurd (let shares = may.shares in omega arith)
 pub team_pass_alone : RefusedAfter (TeamRule 2) (Arrive 0 0 (at Barrier 0) ∷ []) (Pass 0 0)
 team_pass_alone may = absurd (let met = may.passes.met in cc)
 
--- one who is no member passes, where all have arrived
+-- one who is no member passes, if all have arrived
 pub team_pass_stranger : RefusedAfter (TeamRule 2) (Arrive 0 0 (at Barrier 0) ∷ Arrive 0 1 (at Barrier 0) ∷ []) (Pass 0 2)
 team_pass_stranger may = absurd (let member = may.member in omega arith)

@@ -165,17 +165,17 @@ pub sections_next_sound : IsSound sections_next_row
 sections_next_sound = record {
   decided = λ m p a b x y. one_section p.terms.members m (open_share m p.events) a b p.events x y;
   accepts = λ m p refusal x. section_accepts p.terms.members m (open_share m p.events) refusal p.events x;
-  answered = λ again m p ready all. section_some p.terms.members m p.events (open_share m p.events) (ready.place refl).0;
-  counts = λ again m p first count ready all may. section_counts p.terms.members m (open_share m p.events) first count p.events may;
+  answered = λ repeated m p ready all. section_some p.terms.members m p.events (open_share m p.events) (ready.place refl).0;
+  counts = λ repeated m p first count ready all may. section_counts p.terms.members m (open_share m p.events) first count p.events may;
   begins_own = λ m p. tt;
   gives_own = λ m p reply. own_given quiet m reply (section_next_given (open_share m p.events) m reply) (section_next_own (open_share m p.events) m reply);
   begins_keep = λ m p ready all. all;
-  gives_keep = λ again m p reply ready may all. section_next_keeps p.terms.members m reply p.events (open_share m p.events) refl (ready.place refl).0 may all;
+  gives_keep = λ repeated m p reply ready may all. section_next_keeps p.terms.members m reply p.events (open_share m p.events) refl (ready.place refl).0 may all;
   still = λ stays m p. (refl, section_next_still (open_share m p.events) m);
   tells = λ arrives m p reply may. absurd (cc);
   one_pass = λ arrives m p. absurd (cc);
-  no_memory = λ m p. (refl, refl, λ again. refl);
-  words_keep = λ puts again m p reply ready may all. absurd (cc);
+  no_memory = λ m p. (refl, refl, λ repeated. refl);
+  words_keep = λ puts repeated m p reply ready may all. absurd (cc);
 }
 
 sections_ends : (kind : EndKind) → IsEnd (sections_end_tests kind)

@@ -26,7 +26,7 @@ use Rattle.gomp_laws.proofs.WordsToCome.{WordsToCome, put_and_left}
 use Rattle.gomp_laws.proofs.TeamShares.{share_rules}
 use Rattle.gomp_shares.specs.Singles.{DealsSingle, DealsCopy, single_given, copy_given, is_executor, words_put}
 use Rattle.gomp_model.specs.Past.{Past}
-use Rattle.gomp_model.specs.Row.{once}
+use Rattle.gomp_model.specs.Row.{unless_repeated}
 use Rattle.gomp_model.specs.Singles.{single_start_row, single_copy_start_row, single_copy_end_row}
 use Rattle.gomp_laws.proofs.Sound.{quiet, AreOwn, Ready, IsSound}
 use Rattle.gomp_laws.proofs.Starts.{IsDeal, start_sound}
@@ -216,7 +216,7 @@ is_its_executor m h e =
     let is = not_false (is_executor (seen_of m h)) e in
     (and_left (in_kind is_copy (open_share m h)) (is_some (last_piece m h)) is, and_right (in_kind is_copy (open_share m h)) (is_some (last_piece m h)) is)
 
-end_words : (payload : List ℕ) (again : Bool) (m : ℕ) (p : Past) → Ready (single_copy_end_row payload) again m p → Always (TeamRule p.terms.members) p.events → WordsToCome p.events → WordsToCome (once (words_put payload m p.events) again ++ p.events)
+end_words : (payload : List ℕ) (repeated : Bool) (m : ℕ) (p : Past) → Ready (single_copy_end_row payload) repeated m p → Always (TeamRule p.terms.members) p.events → WordsToCome p.events → WordsToCome (unless_repeated (words_put payload m p.events) repeated ++ p.events)
 end_words payload true m p ready all words = words
 end_words payload false m p ready all words =
     let is = is_its_executor m p.events (ready.place refl).0 in put_words p.terms.members m payload p.events (open_share m p.events) refl is.0 is.1 all words
@@ -225,16 +225,16 @@ pub single_copy_end_sound : (payload : List ℕ) → IsSound (single_copy_end_ro
 single_copy_end_sound payload = record {
   decided = λ m p a b x y. x ∙ sym y;
   accepts = λ m p refusal x. cc;
-  answered = λ again m p ready all. (Finished, refl);
-  counts = λ again m p first count ready all may. absurd (cc);
+  answered = λ repeated m p ready all. (Finished, refl);
+  counts = λ repeated m p first count ready all may. absurd (cc);
   begins_own = λ m p. (refl, ((refl, refl), tt));
   gives_own = λ m p reply. tt;
   begins_keep = λ m p ready all.
       let is = is_its_executor m p.events (ready.place refl).0 in put_keeps p.terms.members m payload p.events (open_share m p.events) refl is.0 is.1 ready.words all;
-  gives_keep = λ again m p reply ready may all. all;
+  gives_keep = λ repeated m p reply ready may all. all;
   still = λ stays m p. absurd (cc);
   tells = λ arrives m p reply may. absurd (cc);
   one_pass = λ arrives m p. absurd (cc);
-  no_memory = λ m p. (refl, refl, λ again. refl);
-  words_keep = λ puts again m p reply ready may all. end_words payload again m p ready all ready.words;
+  no_memory = λ m p. (refl, refl, λ repeated. refl);
+  words_keep = λ puts repeated m p reply ready may all. end_words payload repeated m p ready all ready.words;
 }

@@ -8,7 +8,7 @@ use Rattle.gomp_types.specs.declared.reply.Reply.TheVariants.{Chunk, Passed, Wai
 use Rattle.gomp_types.specs.declared.event.Event.{Event}
 use Rattle.gomp_types.specs.declared.event.Event.TheVariants.{Arrive, Put, Pass, Break}
 use Rattle.gomp_types.specs.Tests.{Test}
-use Rattle.gomp_types.specs.Events.{member_of, passed, arrival}
+use Rattle.gomp_types.specs.Events.{member_of, barriers_passed, arrival}
 use Rattle.gomp_types.specs.Laws.{Always}
 use Rattle.gomp_laws.specs.Rules.{TeamRule}
 use Rattle.gomp_types.specs.Seen.{seen_of}
@@ -16,7 +16,7 @@ use Rattle.gomp_types.proofs.Booleans.{and_left, and_right}
 use Rattle.gomp_types.proofs.LeastTests.{AllFail}
 use Rattle.gomp_laws.proofs.WordsToCome.{WordsToCome}
 use Rattle.gomp_model.specs.Past.{Past}
-use Rattle.gomp_model.specs.Row.{Row, since}
+use Rattle.gomp_model.specs.Row.{Row, begun_past}
 
 -- whether a refusal is want of memory
 abbrev pub is_memory : Refusal → Bool
@@ -58,7 +58,7 @@ only_arrives = record { arrives = true; puts = false }
 abbrev pub gives_of : Row → Gives
 gives_of row = record { arrives = is_some row.arrives; puts = row.puts }
 
--- an event of the member that neither passes a barrier nor breaks the team; it arrives, or puts words, only where its call does
+-- an event of the member that neither passes a barrier nor breaks the team; it arrives, or puts words, only if its call does
 abbrev pub IsOwn : Gives → ℕ → Event → Type 0
 IsOwn can m (Arrive barrier n tag) = (n ≡ m) × (can.arrives ≡ true)
 IsOwn can m (Put share n payload) = (n ≡ m) × (can.puts ≡ true)
@@ -71,7 +71,7 @@ abbrev pub AreOwn : Gives → ℕ → List Event → Type 0
 AreOwn can m [] = Unit {0}
 AreOwn can m (event ∷ events) = IsOwn can m event × AreOwn can m events
 
--- the newest event of a reply may pass a barrier, or break the team, where the reply says so
+-- the newest event of a reply may pass a barrier, or break the team, if the reply says so
 abbrev pub IsLast : Gives → ℕ → Reply → Event → Type 0
 IsLast can m reply (Pass barrier n) = (n ≡ m) × (can.arrives ≡ true) × (is_pass reply ≡ true)
 IsLast can m reply (Break n place) = (n ≡ m) × (breaks reply ≡ true)
@@ -111,18 +111,18 @@ clean_append (test ∷ tests) more one other =
 
 -- whether what the tests on its place have shown holds still
 abbrev pub shows : Bool → Bool → Bool
-shows true again = true
-shows false again = not again
+shows true repeated = true
+shows false repeated = not repeated
 
--- what the tests of a call have shown, where none of them holds
-pub record Ready (row : Row) (again : Bool) (m : ℕ) (p : Past) : Type 0 where
+-- what the tests of a call have shown, if none of them holds
+pub record Ready (row : Row) (repeated : Bool) (m : ℕ) (p : Past) : Type 0 where
   pub member : m < p.terms.members
   -- a call that is repeated is tested by comparison alone, but what its place has shown holds on where it stays
-  pub place : shows row.stays again ≡ true → AllFail (row.by_place p.terms.limits (seen_of m p.events))
-  pub team : again ≡ false → AllFail (row.by_team m p)
-  pub compared : AllFail (row.compared again m p)
+  pub place : shows row.stays repeated ≡ true → AllFail (row.by_place p.terms.limits (seen_of m p.events))
+  pub team : repeated ≡ false → AllFail (row.by_team m p)
+  pub compared : AllFail (row.compared repeated m p)
   -- a call that arrives has not arrived there before
-  pub first : again ≡ false → is_some row.arrives ≡ true → arrival (passed m p.events) m p.events ≡ None
+  pub first : repeated ≡ false → is_some row.arrives ≡ true → arrival (barriers_passed m p.events) m p.events ≡ None
   -- the words of a single are still to be put while its executor is in it
   pub words : WordsToCome p.events
 
@@ -133,24 +133,24 @@ pub record IsSound (row : Row) : Type 0 where
   -- that is no refusal
   pub accepts : (m : ℕ) (p : Past) (refusal : Refusal) → row.may_reply m p (Refused refusal) → ⊥
   -- and there is one
-  pub answered : (again : Bool) (m : ℕ) (p : Past) → Ready row again m p → Always (TeamRule p.terms.members) p.events → (reply : Reply) × row.may_reply m (since again row m p) reply
+  pub answered : (repeated : Bool) (m : ℕ) (p : Past) → Ready row repeated m p → Always (TeamRule p.terms.members) p.events → (reply : Reply) × row.may_reply m (begun_past repeated row m p) reply
   -- a chunk has an iteration
-  pub counts : (again : Bool) (m : ℕ) (p : Past) (first : ℤ) (count : ℕ) → Ready row again m p → Always (TeamRule p.terms.members) p.events → row.may_reply m (since again row m p) (Chunk first count) → 0 < count
+  pub counts : (repeated : Bool) (m : ℕ) (p : Past) (first : ℤ) (count : ℕ) → Ready row repeated m p → Always (TeamRule p.terms.members) p.events → row.may_reply m (begun_past repeated row m p) (Chunk first count) → 0 < count
   -- the events are its member's
   pub begins_own : (m : ℕ) (p : Past) → AreOwn (gives_of row) m (row.begins m p)
   pub gives_own : (m : ℕ) (p : Past) (reply : Reply) → AreGiven (gives_of row) m reply (row.gives m p reply)
   -- and keep the rule
   pub begins_keep : (m : ℕ) (p : Past) → Ready row false m p → Always (TeamRule p.terms.members) p.events → Always (TeamRule p.terms.members) (row.begins m p ++ p.events)
-  pub gives_keep : (again : Bool) (m : ℕ) (p : Past) (reply : Reply) → Ready row again m p → row.may_reply m (since again row m p) reply → Always (TeamRule p.terms.members) (since again row m p).events →
-      Always (TeamRule p.terms.members) (row.gives m (since again row m p) reply ++ (since again row m p).events)
+  pub gives_keep : (repeated : Bool) (m : ℕ) (p : Past) (reply : Reply) → Ready row repeated m p → row.may_reply m (begun_past repeated row m p) reply → Always (TeamRule p.terms.members) (begun_past repeated row m p).events →
+      Always (TeamRule p.terms.members) (row.gives m (begun_past repeated row m p) reply ++ (begun_past repeated row m p).events)
   -- a call that stays in its place changes nothing while it waits
   pub still : row.stays ≡ true → (m : ℕ) (p : Past) → (row.begins m p ≡ []) × (row.gives m p Wait ≡ [])
   -- a call that arrives passes the barrier, or waits
   pub tells : is_some row.arrives ≡ true → (m : ℕ) (p : Past) (reply : Reply) → row.may_reply m p reply → (reply ≡ Passed) ⊎ (reply ≡ Wait)
-  pub one_pass : is_some row.arrives ≡ true → (m : ℕ) (p : Past) → row.gives m p Passed ≡ Pass (passed m p.events) m ∷ []
+  pub one_pass : is_some row.arrives ≡ true → (m : ℕ) (p : Past) → row.gives m p Passed ≡ Pass (barriers_passed m p.events) m ∷ []
   -- no test is for want of memory
   pub no_memory : (m : ℕ) (p : Past) →
-      (memoryless (row.by_place p.terms.limits (seen_of m p.events)) ≡ true) × (memoryless (row.by_team m p) ≡ true) × ((again : Bool) → memoryless (row.compared again m p) ≡ true)
+      (memoryless (row.by_place p.terms.limits (seen_of m p.events)) ≡ true) × (memoryless (row.by_team m p) ≡ true) × ((repeated : Bool) → memoryless (row.compared repeated m p) ≡ true)
   -- a call that puts words is the executor's
-  pub words_keep : row.puts ≡ true → (again : Bool) (m : ℕ) (p : Past) (reply : Reply) → Ready row again m p → row.may_reply m (since again row m p) reply → Always (TeamRule p.terms.members) p.events →
-      WordsToCome (row.gives m (since again row m p) reply ++ (since again row m p).events)
+  pub words_keep : row.puts ≡ true → (repeated : Bool) (m : ℕ) (p : Past) (reply : Reply) → Ready row repeated m p → row.may_reply m (begun_past repeated row m p) reply → Always (TeamRule p.terms.members) p.events →
+      WordsToCome (row.gives m (begun_past repeated row m p) reply ++ (begun_past repeated row m p).events)

@@ -15,34 +15,34 @@ use Rattle.gomp_types.specs.Deals.{schedule}
 use Rattle.gomp_types.specs.Laws.{Always}
 use Rattle.gomp_laws.specs.Rules.{TeamRule}
 use Rattle.gomp_shares.specs.Rules.{MayEnter}
-use Rattle.gomp_types.specs.Events.{entered, has_room, open_share, holds_piece, in_part, shape_at}
+use Rattle.gomp_types.specs.Events.{shares_entered, has_room, open_share, holds_piece, in_part, shape_at}
 use Rattle.gomp_types.proofs.Booleans.{not_both, none_of, same_number}
 use Rattle.gomp_types.proofs.Compared.{same_shapes}
 use Rattle.gomp_types.proofs.Dealing.{schedule_deals, shape_tiles}
 use Rattle.gomp_types.proofs.LeastTests.{AllFail, fail_first}
 use Rattle.gomp_shares.specs.Starts.{Deals, Starts, behind, entry_and}
 use Rattle.gomp_model.specs.Past.{Past}
-use Rattle.gomp_model.specs.Starts.{start}
+use Rattle.gomp_model.specs.Starts.{start_row}
 use Rattle.gomp_laws.proofs.Sound.{AreOwn, own_append, own_given, memoryless, clean_append, Ready, IsSound, quiet}
 use Rattle.gomp_laws.proofs.CallsKeep.{regroup_rules}
 
 -- a start that waits found no room, and every other one found some
 waits_or_not : (deals : Deals) (members m : ℕ) (shape : Shape) (reply : Reply) (h : List Event) → Starts deals members m shape reply h →
-    ((reply ≡ Wait) × (has_room members (entered m h) h ≡ false)) ⊎ ((has_room members (entered m h) h ≡ true) × deals members m (Some (entered m h, shape)) reply h)
+    ((reply ≡ Wait) × (has_room members (shares_entered m h) h ≡ false)) ⊎ ((has_room members (shares_entered m h) h ≡ true) × deals members m (Some (shares_entered m h, shape)) reply h)
 waits_or_not deals members m shape Wait h (inl x) = inl (refl, x)
 waits_or_not deals members m shape Wait h (inr x) = inr x
 waits_or_not deals members m shape _ h x = inr x
 
 one_start : (deals : Deals) (members m : ℕ) (shape : Shape) (a b : Reply) (h : List Event) →
-    (deals members m (Some (entered m h, shape)) a h → deals members m (Some (entered m h, shape)) b h → a ≡ b) → Starts deals members m shape a h → Starts deals members m shape b h → a ≡ b
+    (deals members m (Some (shares_entered m h, shape)) a h → deals members m (Some (shares_entered m h, shape)) b h → a ≡ b) → Starts deals members m shape a h → Starts deals members m shape b h → a ≡ b
 one_start deals members m shape a b h one x y =
     elim (waits_or_not deals members m shape a h x) [
       | inl p ↦ elim (waits_or_not deals members m shape b h y) [
         | inl q ↦ p.0 ∙ sym q.0
-        | inr q ↦ absurd (not_both (has_room members (entered m h) h) q.0 p.1)
+        | inr q ↦ absurd (not_both (has_room members (shares_entered m h) h) q.0 p.1)
       ]
       | inr p ↦ elim (waits_or_not deals members m shape b h y) [
-        | inl q ↦ absurd (not_both (has_room members (entered m h) h) p.0 q.1)
+        | inl q ↦ absurd (not_both (has_room members (shares_entered m h) h) p.0 q.1)
         | inr q ↦ one p.1 q.1
       ]
     ]
@@ -69,28 +69,28 @@ behind_own : (m : ℕ) (first : Event) (events : List Event) → AreOwn quiet m 
 behind_own m first [] own one = tt
 behind_own m first (event ∷ events) own one = own_append quiet m (event ∷ events) (first ∷ []) own one
 
-entry_own : (Given : ℕ → Shape → ℕ → Reply → List Event) (shape : Shape) (m : ℕ) (h : List Event) (reply : Reply) → AreOwn quiet m (Given (entered m h) shape m reply) → AreOwn quiet m (entry_and Given shape m h reply)
-entry_own Given shape m h reply own = behind_own m (Enter (entered m h) m shape) (Given (entered m h) shape m reply) own (refl, tt)
+entry_own : (Given : ℕ → Shape → ℕ → Reply → List Event) (shape : Shape) (m : ℕ) (h : List Event) (reply : Reply) → AreOwn quiet m (Given (shares_entered m h) shape m reply) → AreOwn quiet m (entry_and Given shape m h reply)
+entry_own Given shape m h reply own = behind_own m (Enter (shares_entered m h) m shape) (Given (shares_entered m h) shape m reply) own (refl, tt)
 
 -- the entry and what comes after it keep the rule
 behind_keeps : (members : ℕ) (first : Event) (events h : List Event) → Always (TeamRule members) h → Always (TeamRule members) (events ++ (first ∷ h)) → Always (TeamRule members) (behind first events ++ h)
 behind_keeps members first [] h all kept = all
 behind_keeps members first (event ∷ events) h all kept = regroup_rules members (event ∷ events) (first ∷ []) h kept
 
-room_starts : (deals : Deals) (members m : ℕ) (shape : Shape) (reply : Reply) (h : List Event) → has_room members (entered m h) h ≡ true → deals members m (Some (entered m h, shape)) reply h → Starts deals members m shape reply h
+room_starts : (deals : Deals) (members m : ℕ) (shape : Shape) (reply : Reply) (h : List Event) → has_room members (shares_entered m h) h ≡ true → deals members m (Some (shares_entered m h, shape)) reply h → Starts deals members m shape reply h
 room_starts deals members m shape Wait h room may = inr (room, may)
 room_starts deals members m shape _ h room may = (room, may)
 
 start_some : (own : List Test) (shape : Shape) (deals : Deals) (Given : ℕ → Shape → ℕ → Reply → List Event) → IsDeal own shape deals Given → (members m : ℕ) (h : List Event) → m < members → AllFail own → (reply : Reply) × Starts deals members m shape reply h
 start_some own shape deals Given is members m h lt fail =
-    elim (cases_Bool (has_room members (entered m h) h)) [
-      | inl room ↦ let found = is.some members m (entered m h) h lt fail in (found.0, room_starts deals members m shape found.0 h room found.1)
+    elim (cases_Bool (has_room members (shares_entered m h) h)) [
+      | inl room ↦ let found = is.some members m (shares_entered m h) h lt fail in (found.0, room_starts deals members m shape found.0 h room found.1)
       | inr full ↦ (Wait, inl full)
     ]
 
-enter_keeps : (memory : Bool) (own : List Test) (shape : Shape) (deals : Deals) (Given : ℕ → Shape → ℕ → Reply → List Event) → IsDeal own shape deals Given → (again : Bool) (m : ℕ) (p : Past) → Ready (start memory own shape deals Given) again m p →
-    has_room p.terms.members (entered m p.events) p.events ≡ true → MayEnter (schedule p.terms.members) p.terms.members (entered m p.events) m shape p.events
-enter_keeps memory own shape deals Given is again m p ready room =
+enter_keeps : (memory : Bool) (own : List Test) (shape : Shape) (deals : Deals) (Given : ℕ → Shape → ℕ → Reply → List Event) → IsDeal own shape deals Given → (repeated : Bool) (m : ℕ) (p : Past) → Ready (start_row memory own shape deals Given) repeated m p →
+    has_room p.terms.members (shares_entered m p.events) p.events ≡ true → MayEnter (schedule p.terms.members) p.terms.members (shares_entered m p.events) m shape p.events
+enter_keeps memory own shape deals Given is repeated m p ready room =
     let member = ready.member in
     let fail = ready.place refl in record {
       member = member;
@@ -98,38 +98,38 @@ enter_keeps memory own shape deals Given is again m p ready room =
       outside = none_of (open_share m p.events) fail.0;
       dealt = schedule_deals p.terms.members shape (omega arith) is.chunked;
       tiles = shape_tiles p.terms.members shape (omega arith) is.chunked;
-      moves = is.moves (fail_first own ((nat_le p.terms.limits.shares (entered m p.events), TooManyShares) ∷ []) fail.1);
+      moves = is.moves (fail_first own ((nat_le p.terms.limits.shares (shares_entered m p.events), TooManyShares) ∷ []) fail.1);
       ordered = is.ordered;
-      same = same_shapes shape (shape_at (entered m p.events) p.events) ready.compared.0;
+      same = same_shapes shape (shape_at (shares_entered m p.events) p.events) ready.compared.0;
       room = room;
     }
 
-start_keeps : (memory : Bool) (own : List Test) (shape : Shape) (deals : Deals) (Given : ℕ → Shape → ℕ → Reply → List Event) → IsDeal own shape deals Given → (again : Bool) (m : ℕ) (p : Past) (reply : Reply) → Ready (start memory own shape deals Given) again m p →
+start_keeps : (memory : Bool) (own : List Test) (shape : Shape) (deals : Deals) (Given : ℕ → Shape → ℕ → Reply → List Event) → IsDeal own shape deals Given → (repeated : Bool) (m : ℕ) (p : Past) (reply : Reply) → Ready (start_row memory own shape deals Given) repeated m p →
     Starts deals p.terms.members m shape reply p.events → Always (TeamRule p.terms.members) p.events → Always (TeamRule p.terms.members) (entry_and Given shape m p.events reply ++ p.events)
-start_keeps memory own shape deals Given is again m p reply ready may all =
+start_keeps memory own shape deals Given is repeated m p reply ready may all =
     elim (waits_or_not deals p.terms.members m shape reply p.events may) [
-      | inl wait ↦ subst (λ (events : List Event). Always (TeamRule p.terms.members) (behind (Enter (entered m p.events) m shape) events ++ p.events))
-          (sym (ap (Given (entered m p.events) shape m) wait.0 ∙ is.still (entered m p.events) m)) all
+      | inl wait ↦ subst (λ (events : List Event). Always (TeamRule p.terms.members) (behind (Enter (shares_entered m p.events) m shape) events ++ p.events))
+          (sym (ap (Given (shares_entered m p.events) shape m) wait.0 ∙ is.still (shares_entered m p.events) m)) all
       | inr may ↦
           let h = p.events in
-          let fail = fail_first own ((nat_le p.terms.limits.shares (entered m h), TooManyShares) ∷ []) (ready.place refl).1 in
-          behind_keeps p.terms.members (Enter (entered m h) m shape) (Given (entered m h) shape m reply) h all
-          (is.keeps p.terms.members m (entered m h) reply h fail may.1 (rw (same_number m) refl) (rw (same_number m) refl) (rw (same_number m) refl) (enter_keeps memory own shape deals Given is again m p ready may.0, all))
+          let fail = fail_first own ((nat_le p.terms.limits.shares (shares_entered m h), TooManyShares) ∷ []) (ready.place refl).1 in
+          behind_keeps p.terms.members (Enter (shares_entered m h) m shape) (Given (shares_entered m h) shape m reply) h all
+          (is.keeps p.terms.members m (shares_entered m h) reply h fail may.1 (rw (same_number m) refl) (rw (same_number m) refl) (rw (same_number m) refl) (enter_keeps memory own shape deals Given is repeated m p ready may.0, all))
     ]
 
-pub start_sound : (memory : Bool) (own : List Test) (shape : Shape) (deals : Deals) (Given : ℕ → Shape → ℕ → Reply → List Event) → IsDeal own shape deals Given → IsSound (start memory own shape deals Given)
+pub start_sound : (memory : Bool) (own : List Test) (shape : Shape) (deals : Deals) (Given : ℕ → Shape → ℕ → Reply → List Event) → IsDeal own shape deals Given → IsSound (start_row memory own shape deals Given)
 start_sound memory own shape deals Given is = record {
-  decided = λ m p a b x y. one_start deals p.terms.members m shape a b p.events (is.one p.terms.members m (Some (entered m p.events, shape)) a b p.events) x y;
-  accepts = λ m p refusal x. is.accepts p.terms.members m (Some (entered m p.events, shape)) refusal p.events x.1;
-  answered = λ again m p ready all. start_some own shape deals Given is p.terms.members m p.events ready.member (fail_first own ((nat_le p.terms.limits.shares (entered m p.events), TooManyShares) ∷ []) (ready.place refl).1);
-  counts = λ again m p first count ready all may. is.counts p.terms.members m (entered m p.events) first count p.events ready.member may.1;
+  decided = λ m p a b x y. one_start deals p.terms.members m shape a b p.events (is.one p.terms.members m (Some (shares_entered m p.events, shape)) a b p.events) x y;
+  accepts = λ m p refusal x. is.accepts p.terms.members m (Some (shares_entered m p.events, shape)) refusal p.events x.1;
+  answered = λ repeated m p ready all. start_some own shape deals Given is p.terms.members m p.events ready.member (fail_first own ((nat_le p.terms.limits.shares (shares_entered m p.events), TooManyShares) ∷ []) (ready.place refl).1);
+  counts = λ repeated m p first count ready all may. is.counts p.terms.members m (shares_entered m p.events) first count p.events ready.member may.1;
   begins_own = λ m p. tt;
-  gives_own = λ m p reply. own_given quiet m reply (entry_and Given shape m p.events reply) (entry_own Given shape m p.events reply (is.given_own (entered m p.events) m reply));
+  gives_own = λ m p reply. own_given quiet m reply (entry_and Given shape m p.events reply) (entry_own Given shape m p.events reply (is.given_own (shares_entered m p.events) m reply));
   begins_keep = λ m p ready all. all;
-  gives_keep = λ again m p reply ready may all. start_keeps memory own shape deals Given is again m p reply ready may all;
-  still = λ stays m p. (refl, ap (behind (Enter (entered m p.events) m shape)) (is.still (entered m p.events) m));
+  gives_keep = λ repeated m p reply ready may all. start_keeps memory own shape deals Given is repeated m p reply ready may all;
+  still = λ stays m p. (refl, ap (behind (Enter (shares_entered m p.events) m shape)) (is.still (shares_entered m p.events) m));
   tells = λ arrives m p reply may. absurd (cc);
   one_pass = λ arrives m p. absurd (cc);
-  no_memory = λ m p. (clean_append own ((nat_le p.terms.limits.shares (entered m p.events), TooManyShares) ∷ []) is.no_memory refl, refl, λ again. refl);
-  words_keep = λ puts again m p reply ready may all. absurd (cc);
+  no_memory = λ m p. (clean_append own ((nat_le p.terms.limits.shares (shares_entered m p.events), TooManyShares) ∷ []) is.no_memory refl, refl, λ repeated. refl);
+  words_keep = λ puts repeated m p reply ready may all. absurd (cc);
 }

@@ -6,7 +6,7 @@ use Rattle.gomp_types.specs.declared.shape.Shape.{Shape}
 use Rattle.gomp_types.specs.declared.event.Tag.{Tag}
 use Rattle.gomp_types.specs.declared.event.Event.{Event}
 use Rattle.gomp_types.specs.declared.event.Event.TheVariants.{Enter, End, Arrive, Pass}
-use Rattle.gomp_types.specs.Events.{entered, arrival}
+use Rattle.gomp_types.specs.Events.{shares_entered, arrival}
 use Rattle.gomp_types.specs.Deals.{schedule}
 use Rattle.gomp_types.specs.Laws.{Always, Happened}
 use Rattle.gomp_shares.specs.Rules.{ShareRule}
@@ -81,15 +81,15 @@ arrives_outside members (Arrive barrier m tag) earlier rule all = λ share shape
 arrives_outside members _ earlier rule all = tt
 
 -- a member has entered each share whose number is below its count
-was_entered : (members share m : ℕ) (h : List Event) → Always (TeamRule members) h → share < entered m h → (shape : Shape) × Happened (Enter share m shape) h
+was_entered : (members share m : ℕ) (h : List Event) → Always (TeamRule members) h → share < shares_entered m h → (shape : Shape) × Happened (Enter share m shape) h
 was_entered members share m [] all lt = absurd (omega arith)
 was_entered members share m (Enter i member shape ∷ earlier) all lt =
     elim (cases_Bool (member == m)) [
       | inl e ↦
           let who = is_equal member m e in
-          let number : i ≡ entered m earlier = rw (← who) all.0.number in
-          let more : share < entered m earlier + 1 = rw e at lt in
-          elim (cases_lt share (entered m earlier)) [
+          let number : i ≡ shares_entered m earlier = rw (← who) all.0.number in
+          let more : share < shares_entered m earlier + 1 = rw e at lt in
+          elim (cases_lt share (shares_entered m earlier)) [
             | inl below ↦ let before = was_entered members share m earlier all.1 below in (before.0, inr before.1)
             | inr past ↦ (shape, inl (let same : i ≡ share = omega (arith, number) in rw (who, same) refl))
           ]
@@ -103,7 +103,7 @@ arrived_left members barrier m tag [] all stands share lt = absurd stands
 arrived_left members barrier m tag (Arrive g member other ∷ earlier) all (inl e) share lt =
     let who : member ≡ m = cc in
     let what : other ≡ tag = cc in
-    let count : tag.shares ≡ entered m earlier = rw (← who, ← what) all.0.shares in
+    let count : tag.shares ≡ shares_entered m earlier = rw (← who, ← what) all.0.shares in
     let own = was_entered members share m earlier all.1 (omega (arith, count)) in
     inr (left_before (schedule members) members m earlier (share_rules members earlier all.1) (rw (← who) all.0.outside) share own.0 own.1)
 arrived_left members barrier m tag (_ ∷ earlier) all (inl e) share lt = absurd (cc)
@@ -117,7 +117,7 @@ closes_shares members (Pass barrier m) earlier rule all = λ tag stands share lt
     arrived_left members barrier x own.0 earlier all own.1 share (rw same lt)
 closes_shares members _ earlier rule all = tt
 
--- the headline, from the rule of the team, where nothing follows a break or the region's end
+-- the headline, from the rule of the team, if nothing follows a break or the region's end
 pub team_keeps : (members : ℕ) (h : List Event) → Always (TeamRule members) h → Always InTime h → Headline members h
 team_keeps members h all in_time =
     let shares = shares_keep (schedule members) members h (share_rules members h all) in

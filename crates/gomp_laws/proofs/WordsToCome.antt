@@ -88,7 +88,7 @@ one_executor members m k i one other (End share member ∷ earlier) all at there
     ]
 one_executor members m k i one other (_ ∷ earlier) all at there first second mine its = one_executor members m k i one other earlier all.1 at there first second mine its
 
--- where words were put, the piece was taken
+-- if words were put, the piece was taken
 put_took : (members share n : ℕ) (words : List ℕ) (h : List Event) → Always (TeamRule members) h → Happened (Put share n words) h → (low high : ℕ) × Happened (Take share n low high) h
 put_took members share n words [] all put = absurd put
 put_took members share n words (Put i member payload ∷ earlier) all (inl e) =

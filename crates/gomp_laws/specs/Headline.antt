@@ -12,19 +12,20 @@ use Rattle.gomp_shares.specs.Laws.{TakenOnce, TakesItsOwn, WholeWhereOver, SameS
 use Rattle.gomp_laws.specs.Laws.{LeavesHandedOn, HandedOnWhereOver, PutsOnce, GetsWhatWasPut, LeavesWithWords, ArrivesOnce, ArrivesOutside, HappensUnbroken, HappensInside, TellsShares, ClosesShares}
 use Rattle.gomp_types.specs.Arrivals.{SameArrivals, PassesAfterAll}
 
+-- the headline: all that is promised of the events of a team of this size
 pub record Headline (members : ℕ) (h : List Event) : Type 0 where
-  -- no iteration, section or single is taken twice
+  -- no iteration, section or single is taken twice; each take is the next piece that is its member's to take
   pub taken_once : TakenOnce (schedule members) h
   -- a member takes of a static loop only its own pieces
   pub owned : Always (TakesItsOwn members) h
-  -- a loop or sections construct that all members end had every iteration or section taken
+  -- each iteration of a share that all members left was taken exactly once, so a single had one executor
   pub whole : WholeWhereOver members h
   -- ordered parts of a loop run in the order of its iterations, one after another
   pub ordered : OrderedLaws members h
-  -- a member leaves such a loop only where each piece that it took was handed on, and one that all members left had all of them handed on
+  -- a member leaves an ordered loop only if each piece that it took was handed on; one that all members left had all its pieces handed on
   pub none_held : Always (LeavesHandedOn members) h
   pub all_handed_on : HandedOnWhereOver members h
-  -- the executor of a single puts its words once, what others are given are these, and no member leaves without
+  -- the executor of a single puts its words once; a member is given those words; it leaves the single only after it put or got them
   pub puts : Always PutsOnce h
   pub gets : Always GetsWhatWasPut h
   pub served : Always LeavesWithWords h
@@ -34,12 +35,12 @@ pub record Headline (members : ℕ) (h : List Event) : Type 0 where
   -- a member arrives at a barrier once, outside of every share, and only members of the team do
   pub arrive_once : Always (ArrivesOnce members) h
   pub arrive_outside : Always ArrivesOutside h
-  -- shares and barriers in one order
+  -- an arrival tells how many shares its member has entered, so all members meet shares and barriers in one order
   pub one_order : Always TellsShares h
   -- a broken team does nothing more, nor does a member that has passed the region's end
   pub unbroken : Always HappensUnbroken h
   pub in_region : Always HappensInside h
   -- no member passes a barrier before all arrived
   pub passes : Always (PassesAfterAll members) h
-  -- nor before all have left the shares that it entered before it
+  -- and none before all members have left the shares that it entered before that barrier
   pub closes : Always (ClosesShares members) h

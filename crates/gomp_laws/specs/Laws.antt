@@ -7,7 +7,7 @@ use Rattle.gomp_types.specs.declared.event.Event.{Event}
 use Rattle.gomp_types.specs.declared.event.Event.TheVariants.{Enter, Take, End, HandOn, Put, Got, Arrive, Pass, Break}
 use Rattle.gomp_types.specs.Shapes.{is_copy}
 use Rattle.gomp_types.specs.Pieces.{pieces_of}
-use Rattle.gomp_types.specs.Events.{member_of, entered, has_left_region}
+use Rattle.gomp_types.specs.Events.{member_of, shares_entered, has_left_region}
 use Rattle.gomp_types.specs.Laws.{Happened}
 use Rattle.gomp_shares.specs.Laws.{IsOver}
 
@@ -22,7 +22,7 @@ abbrev pub ArrivesOutside : Event → List Event → Type 0
 ArrivesOutside (Arrive barrier m tag) earlier = (share : ℕ) (shape : Shape) → Happened (Enter share m shape) earlier → Happened (End share m) earlier
 ArrivesOutside _ earlier = Unit {0}
 
--- Closed: where a member passes a barrier, every share that it entered before it arrived there is over; so, since an over share is whole, all of it was taken.
+-- Closed: if a member passes a barrier, every share that it entered before it arrived there is over; so, since an over share is whole, all of it was taken.
 abbrev pub ClosesShares : ℕ → Event → List Event → Type 0
 ClosesShares members (Pass barrier m) earlier =
     (tag : Tag) → Happened (Arrive barrier m tag) earlier → (share : ℕ) → share < tag.shares → IsOver members share earlier
@@ -38,10 +38,10 @@ HappensInside event earlier = has_left_region (member_of event) earlier ≡ fals
 
 -- an arrival tells how many shares its member has entered: so the members meet shares and barriers in one order
 abbrev pub TellsShares : Event → List Event → Type 0
-TellsShares (Arrive barrier m tag) earlier = tag.shares ≡ entered m earlier
+TellsShares (Arrive barrier m tag) earlier = tag.shares ≡ shares_entered m earlier
 TellsShares _ earlier = Unit {0}
 
--- a member leaves an ordered loop only where each piece that it took was handed on
+-- a member leaves an ordered loop only if each piece that it took was handed on
 abbrev pub LeavesHandedOn : ℕ → Event → List Event → Type 0
 LeavesHandedOn members (End share m) earlier =
     (shape : Shape) (low high : ℕ) → Happened (Enter share m shape) earlier → shape.ordered ≡ true → Happened (Take share m low high) earlier →

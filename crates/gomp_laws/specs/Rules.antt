@@ -5,7 +5,7 @@ use Rattle.gomp_types.specs.declared.event.Tag.{Tag}
 use Rattle.gomp_types.specs.declared.event.Event.{Event}
 use Rattle.gomp_types.specs.declared.event.Event.TheVariants.{Take, Drained, End, Put, Got, Arrive, Pass}
 use Rattle.gomp_types.specs.Shapes.{is_copy}
-use Rattle.gomp_types.specs.Events.{entered, open_share, last_piece, holds_piece, payload_at, has_piece, has_words, arrival}
+use Rattle.gomp_types.specs.Events.{shares_entered, open_share, last_piece, holds_piece, payload_at, has_piece, has_words, arrival}
 use Rattle.gomp_types.specs.Deals.{schedule}
 use Rattle.gomp_types.specs.Arrivals.{MayArrive, MayPass}
 use Rattle.gomp_shares.specs.Rules.{HasNone, MayTake, ShareRule}
@@ -25,17 +25,17 @@ pub record MayGet (share m : ℕ) (payload : List ℕ) (earlier : List Event) : 
   pub other : has_piece share m earlier ≡ false
   pub words : payload_at share earlier ≡ Some payload
 
--- in a team a member takes a piece of an ordered loop only where it has handed on the one before
+-- in a team a member takes a piece of an ordered loop only if it has handed on the one before
 pub record MayTakeIn (members share m low high : ℕ) (earlier : List Event) : Type 0 where
   pub takes : MayTake (schedule members) share m low high earlier
   pub handed_on : takes.shape.ordered ≡ true → holds_piece m earlier ≡ false
 
--- and it is told that nothing is left of such a loop only where it has handed on its last piece
+-- and it is told that nothing is left of such a loop only if it has handed on its last piece
 pub record HasNoneIn (members share m : ℕ) (earlier : List Event) : Type 0 where
   pub done : HasNone (schedule members) share m earlier
   pub handed_on : done.shape.ordered ≡ true → holds_piece m earlier ≡ false
 
--- it leaves a share where nothing is left for it, a single with words only where it has them, and an ordered loop only where it has handed its last piece on
+-- it leaves a share if nothing is left for it, a single with words only if it has them, and an ordered loop only if it has handed its last piece on
 pub record MayLeave (members share m : ℕ) (earlier : List Event) : Type 0 where
   pub done : HasNone (schedule members) share m earlier
   pub words : is_copy done.shape.kind ≡ true → has_words share m earlier ≡ true
@@ -47,7 +47,7 @@ pub record MayArriveIn (members barrier m : ℕ) (tag : Tag) (earlier : List Eve
   pub member : m < members
   pub outside : open_share m earlier ≡ None
   pub once : arrival barrier m earlier ≡ None
-  pub shares : tag.shares ≡ entered m earlier
+  pub shares : tag.shares ≡ shares_entered m earlier
 
 -- and a member of it passes
 pub record MayPassIn (members barrier m : ℕ) (earlier : List Event) : Type 0 where

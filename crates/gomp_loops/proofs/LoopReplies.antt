@@ -17,12 +17,12 @@ use Rattle.gomp_types.specs.Seen.{seen_of}
 use Rattle.gomp_types.specs.Iterations.{loop_tests}
 use Rattle.gomp_types.specs.Pieces.{Piece, shape_of}
 use Rattle.gomp_types.specs.Values.{IsShape, value_at, iteration_at}
-use Rattle.gomp_types.specs.Events.{entered, open_share, open_number, share_number, turn, has_room}
+use Rattle.gomp_types.specs.Events.{shares_entered, open_share, open_number, share_number, turn, has_room}
 use Rattle.gomp_types.specs.Ordered.{has_turn, last_number, must_wait}
 use Rattle.gomp_types.proofs.Booleans.{same_number}
 use Rattle.gomp_types.proofs.LeastTests.{all_fail, first_is_least}
 use Rattle.gomp_types.proofs.TestRows.{front_holds}
-use Rattle.gomp_shares.specs.Calls.{CanClaim, MayOpen, Claims, claimed, own_turn, piece_handed}
+use Rattle.gomp_shares.specs.Calls.{CanClaim, MayOpen, Claims, events_claimed, own_turn, piece_handed}
 use Rattle.gomp_shares.specs.declared.Opening.TheVariants.{Entered}
 use Rattle.gomp_shares.proofs.Admitted.{begin_compared, answers_let}
 use Rattle.gomp_shares.specs.Starts.{start_tests, share_tests, compared_share, AnswersBegin}
@@ -85,9 +85,9 @@ pub next_admitted : (members m : ℕ) (reply : Reply) (h : List Event) → least
 next_admitted members m reply h none given =
     answers_let (next_tests (seen_of m h)) (λ given. DealsNext members m (open_share m h) given h) reply none (next_never_refuses members m (open_share m h) h) given
 
--- and so is a start, where there is room
-pub begin_reply : (members m : ℕ) (shape : Shape) (answer : Option Piece) (h : List Event) → least (compared_share shape m h) ≡ None → has_room members (entered m h) h ≡ true →
-    DealsOut members m (Some (entered m h, shape)) (reply_of shape answer) h → AnswersBegin shape DealsOut members m (reply_of shape answer) h
+-- and so is a start, if there is room
+pub begin_reply : (members m : ℕ) (shape : Shape) (answer : Option Piece) (h : List Event) → least (compared_share shape m h) ≡ None → has_room members (shares_entered m h) h ≡ true →
+    DealsOut members m (Some (shares_entered m h, shape)) (reply_of shape answer) h → AnswersBegin shape DealsOut members m (reply_of shape answer) h
 begin_reply members m shape None h none room dealt = (none, (room, dealt))
 begin_reply members m shape (Some piece) h none room dealt = (none, (room, dealt))
 
@@ -190,7 +190,7 @@ next_deals members m i shape answer h there claims =
 
 -- and it gives what the shares give
 pub next_adds : (members m i : ℕ) (shape : Shape) (answer : Option Piece) (h : List Event) → ValuesTell → open_share m h ≡ Some (i, shape) → Claims members m answer (handed_on members (i, shape) m h ++ h) →
-    loop_next_taken members m (reply_of shape answer) h ≡ claimed m answer (handed_on members (i, shape) m h ++ h)
+    loop_next_taken members m (reply_of shape answer) h ≡ events_claimed m answer (handed_on members (i, shape) m h ++ h)
 next_adds members m i shape None h tell there claims =
     let same : open_number m (handed_on members (i, shape) m h ++ h) ≡ i = ap share_number (handed_there members m i shape h there) in
     rw (same, there) refl
@@ -210,18 +210,18 @@ start_deals : (members m i : ℕ) (shape : Shape) (answer : Option Piece) (h : L
 start_deals members m i shape None h claims = piece_deals members m i shape None (Enter i m shape ∷ h) (open_entered m i shape h) claims
 start_deals members m i shape (Some piece) h claims = piece_deals members m i shape (Some piece) (Enter i m shape ∷ h) (open_entered m i shape h) claims
 
-pub begin_deals : (members m : ℕ) (shape : Shape) (answer : Option Piece) (h : List Event) → MayOpen members m shape Entered h → Claims members m answer (Enter (entered m h) m shape ∷ h) →
+pub begin_deals : (members m : ℕ) (shape : Shape) (answer : Option Piece) (h : List Event) → MayOpen members m shape Entered h → Claims members m answer (Enter (shares_entered m h) m shape ∷ h) →
     AnswersBegin shape DealsOut members m (reply_of shape answer) h
 begin_deals members m shape answer h may claims =
-    begin_reply members m shape answer h (begin_compared shape m h false may.0) may.1 (start_deals members m (entered m h) shape answer h claims)
+    begin_reply members m shape answer h (begin_compared shape m h false may.0) may.1 (start_deals members m (shares_entered m h) shape answer h claims)
 
-pub begin_adds : (members m : ℕ) (shape : Shape) (answer : Option Piece) (h : List Event) → ValuesTell → Claims members m answer (Enter (entered m h) m shape ∷ h) →
-    loop_begun shape m (reply_of shape answer) h ≡ claimed m answer (Enter (entered m h) m shape ∷ h)
+pub begin_adds : (members m : ℕ) (shape : Shape) (answer : Option Piece) (h : List Event) → ValuesTell → Claims members m answer (Enter (shares_entered m h) m shape ∷ h) →
+    loop_begun shape m (reply_of shape answer) h ≡ events_claimed m answer (Enter (shares_entered m h) m shape ∷ h)
 begin_adds members m shape None h tell claims = rw (same_number m) refl
 begin_adds members m shape (Some piece) h tell claims =
-    let there = open_entered m (entered m h) shape h in
-    let valid = claim_valid members m (entered m h) shape (Some piece) (Enter (entered m h) m shape ∷ h) there claims in
-    let within = claim_within members m (entered m h) shape (Some piece) (Enter (entered m h) m shape ∷ h) there claims piece refl in
+    let there = open_entered m (shares_entered m h) shape h in
+    let valid = claim_valid members m (shares_entered m h) shape (Some piece) (Enter (shares_entered m h) m shape ∷ h) there claims in
+    let within = claim_within members m (shares_entered m h) shape (Some piece) (Enter (shares_entered m h) m shape ∷ h) there claims piece refl in
     let some = within.0 in
     let back : piece.0 + (piece.1 - piece.0) ≡ piece.1 = omega arith in
     rw (same_number m, tell shape piece.0 valid.moves, back) refl

@@ -6,11 +6,11 @@ ghost use Rattle.gomp_types.specs.Least.{least};
 ghost use Rattle.gomp_shares.specs.Calls.{CanOpen};
 ghost use Rattle.gomp_shares.specs.Serves.{Leaves, Serves};
 ghost use Rattle.gomp_shares.specs.Starts.{AnswersBegin, left_at_once};
-ghost use Rattle.gomp_shares.specs.Loops.{AnswersLoopStart, DealsOut, TakesNext, loop_begun, loop_started, AnswersLoopNext, loop_next_taken, AnswersLoopEnd, end_tests, next_tests};
+ghost use Rattle.gomp_shares.specs.Loops.{AnswersLoopStart, DealsOut, AnswersTake, loop_begun, loop_started, AnswersLoopNext, loop_next_taken, AnswersLoopEnd, end_tests, next_tests};
 
-use crate::own::{admit_start, piece_reply};
+use crate::admission::{admit_start, piece_reply};
+use gomp_shares::admission::next_refusal;
 use gomp_shares::ends::end_construct;
-use gomp_shares::own::next_refusal;
 use gomp_shares::{Construct, Opening, Shares};
 use gomp_types::{EndKind, Limits, LoopDesc, Refusal, Reply, Shape};
 
@@ -21,8 +21,8 @@ use gomp_types::{EndKind, Limits, LoopDesc, Refusal, Reply, Shape};
 /// The loop's schedule is the one that counts: one that is still left to the control variables
 /// counts as dynamic.
 ///
-/// `Wait` if some member has not left the share eight before, and nothing is entered: the layer
-/// above calls again on `Resume`. Refused with `InsideShare`, `ZeroStep`, `BadChunk`, `LoopTooLong`,
+/// `Wait` if some member has not left the share eight before, and nothing is entered: the caller
+/// asks again. Refused with `InsideShare`, `ZeroStep`, `BadChunk`, `LoopTooLong`,
 /// `TooManyShares`, or with `Mismatch` if the team's share of this number is of another shape.
 pub fn loop_start<S: Shares>(shares: &mut S, member: u16, limits: &Limits, desc: &LoopDesc) -> Reply
     requires member { member < S.members shares.old }
@@ -59,7 +59,7 @@ pub fn begin_loop<S: Shares>(shares: &mut S, member: u16, shape: &Shape) -> Repl
 /// the loop, and not ask again. Of an ordered loop the member's piece is handed on first.
 ///
 /// `Wait` if the loop is ordered and some piece before the member's was not handed on, and nothing
-/// is handed on or taken: the layer above calls again on `Resume`. Refused with `OutsideShare` if
+/// is handed on or taken: the caller asks again. Refused with `OutsideShare` if
 /// the member is in no loop, though it may be in sections, with `InOrdered` if it is in an ordered
 /// part, or with `Drained`.
 pub fn loop_next<S: Shares>(shares: &mut S, member: u16) -> Reply
@@ -76,7 +76,7 @@ pub fn loop_next<S: Shares>(shares: &mut S, member: u16) -> Reply
 }
 
 /// Answers the next chunk of the member's loop, which its own tests let it ask for
-/// (`gomp_shares::own::next_refusal`).
+/// (`gomp_shares::admission::next_refusal`).
 ///
 /// `Wait` as [`loop_next`] has it.
 pub fn take_next<S: Shares>(shares: &mut S, member: u16) -> Reply
@@ -84,7 +84,7 @@ pub fn take_next<S: Shares>(shares: &mut S, member: u16) -> Reply
     requires place { least (next_tests (S.seen shares.old member)) ≡ None }
     ensures members { S.members shares.new ≡ S.members shares.old }
     ensures serves { Serves S.stands shares.old shares.new result
-        (TakesNext (S.members shares.old) member)
+        (AnswersTake (S.members shares.old) member)
         (loop_next_taken (S.members shares.old) member) }
 {
     let Some((_, shape)) = shares.look(member).current else {
@@ -96,11 +96,11 @@ pub fn take_next<S: Shares>(shares: &mut S, member: u16) -> Reply
     piece_reply(&shape, shares.claim(member))
 }
 
-/// Leaves the member's loop, at the end of which a barrier stands: this crate's part of that call.
+/// Leaves the member's loop, at the end of which a barrier stands. The member has still to arrive
+/// there, so the answer is not a reply yet.
 ///
-/// The layer above asks for its refusal (`gomp_shares::own::end_refusal`) first, then compares the
-/// arrival with those of the other members, since a `Mismatch` there leaves the member in its loop,
-/// and calls this last; then the member arrives. So the answer is not a reply yet.
+/// A caller that compares the arrival with those of other members does so before, since a `Mismatch`
+/// leaves the member in its loop.
 ///
 /// Refused with `OutsideShare` if the member is in no loop, though it may be in sections, with
 /// `InOrdered`, `EndDiffers` or `NotDrained`.

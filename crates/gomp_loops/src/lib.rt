@@ -1,24 +1,26 @@
 //! The calls of a member on the loops of its team.
 //!
-//! A loop is one work-share. Each call that libgomp has makes the tests of its own (specs/Loops.antt of
-//! gomp_shares), so it has no premise but a member of the team, and answers what is defined there if
-//! none of them holds. [`begin_loop`] and [`take_next`] do what these tests let, and ask that the tests
-//! show it. Whether the team is broken, the member has left the region or has a wait open, and how it
-//! arrives at a barrier, is tested by the layer above.
+//! A loop is one work-share. Each call that libgomp has makes the tests of its own
+//! (specs/Loops.antt of gomp_shares), so it has no premise but a member of the team, and answers
+//! what is defined there if none of them holds. [`begin_loop`] and [`take_next`] perform a call
+//! without these tests, and ask their caller to have made them: gomp_parts makes the tests of all
+//! layers first, and calls only these two and `leave` of the shares. Whether the team is broken,
+//! the member has left the region or has a wait open, and how it arrives at a barrier, is tested by
+//! gomp_core and gomp_parts.
 //!
-//! The pieces of an ordered loop are handed on in their order: a member that asks for its next chunk
-//! waits until every piece before its own was handed on, and hands its own on first. The ordered parts
-//! themselves are in `gomp_ordered`.
+//! The pieces of an ordered loop are handed on in their order: a member that asks for its next
+//! chunk waits until every piece before its own was handed on, and hands its own on first. The
+//! ordered parts themselves are in `gomp_ordered`.
 //!
-//! [`own`] has what does not ask the shares: a member's own tests, and the reply that a piece gives.
-//! The tests of a next chunk and of an end are those of `gomp_shares::own`, which sections have
-//! in common; a call here on a member in sections finds it outside of every loop.
+//! [`admission`] has what does not ask the shares: a member's own tests, and the reply that a piece
+//! gives. The tests of a next chunk and of an end are those of `gomp_shares::admission`, which
+//! sections have in common; a call here on a member in sections finds it outside of every loop.
 //!
 //! OpenMP API 5.2, section 11.5. The calls have the form of libgomp's `GOMP_loop_*_start`, `_next`,
 //! `GOMP_loop_end` and `GOMP_loop_end_nowait` (libgomp manual, the ABI chapter).
 #![tactic(auto)]
 
+pub mod admission;
 pub mod calls;
-pub mod own;
 
 pub use calls::{begin_loop, loop_end, loop_end_nowait, loop_next, loop_start, take_next};

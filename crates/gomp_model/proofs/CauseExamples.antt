@@ -1,4 +1,4 @@
--- To each call, the answers of other calls, and want of memory where it asks for none: none of them has a cause.
+-- To each call, the answers of other calls, and want of memory if it asks for none: none of them has a cause.
 use Rattle.std.proofs.Common.{◌≡◌, true, false, List, [], ◌∷◌, Some, None, refl, rules, inl, inr}
 use Rattle.std.proofs.lemmas.Bool.{cases_Bool}
 use Rattle.std.specs.Prelude.{pos, take, map, ◌++◌, ◌≢◌}
@@ -6,7 +6,7 @@ use Rattle.gomp_types.specs.declared.call.Step.{Step}
 use Rattle.gomp_types.specs.declared.event.Event.{Event}
 use Rattle.gomp_types.specs.declared.event.Event.TheVariants.{Enter, Take, Put}
 use Rattle.gomp_types.specs.Singles.{single_shape}
-use Rattle.gomp_types.specs.Events.{entered, open_share, shape_at, has_left_region, clash_of}
+use Rattle.gomp_types.specs.Events.{shares_entered, open_share, shape_at, has_left_region, clash_of}
 use Rattle.gomp_types.specs.Compare.{shape_differs}
 use Rattle.gomp_types.specs.EventLists.{eight_entered, four}
 use Rattle.gomp_shares.specs.Loops.{DealsOut}
@@ -29,17 +29,17 @@ pub wrong_at_loop_start : AreWrong 2 [] (asks 0 one_nowait)
     (Chunk (pos 1) 1 ∷ Chunk (pos 0) 0 ∷ Chunk (pos 0) 2 ∷ NoChunk ∷ Section 0 ∷ Section 1 ∷ Executor true ∷ Executor false ∷ Copied [] ∷ Finished ∷ Passed ∷ Wait ∷ Stopped ∷ [])
 wrong_at_loop_start = search rules
 
--- a start where another took them all
+-- a start if another took them all
 pub wrong_at_started_loop : AreWrong 2 (take 1 loop_alone) (asks 1 one_nowait)
     (Chunk (pos 1) 0 ∷ Chunk (pos 0) 1 ∷ Section 0 ∷ Section 1 ∷ Executor true ∷ Executor false ∷ Copied [] ∷ Finished ∷ Passed ∷ Wait ∷ Stopped ∷ [])
 wrong_at_started_loop = search rules
 
--- the next iterations where there are some; among them those of another, too few, too many, and too late
+-- the next iterations if there are some; among them those of another, too few, too many, and too late
 pub wrong_at_loop_next : AreWrong 2 (take 2 loop_of_two) (asks 0 LoopNext)
     (Chunk (pos 0) 1 ∷ Chunk (pos 6) 2 ∷ Chunk (pos 6) 4 ∷ Chunk (pos 7) 3 ∷ NoChunk ∷ Section 0 ∷ Section 1 ∷ Executor true ∷ Executor false ∷ Copied [] ∷ Finished ∷ Passed ∷ Wait ∷ Stopped ∷ [])
 wrong_at_loop_next = search rules
 
--- the next iterations where there are none
+-- the next iterations if there are none
 pub wrong_at_last_next : AreWrong 2 (take 4 loop_of_two) (asks 0 LoopNext)
     (Chunk (pos 0) 1 ∷ Section 0 ∷ Section 1 ∷ Executor true ∷ Executor false ∷ Copied [] ∷ Finished ∷ Passed ∷ Wait ∷ Stopped ∷ [])
 wrong_at_last_next = search rules
@@ -69,12 +69,12 @@ pub wrong_at_no_sections : AreWrong 1 [] (asks 0 (SectionsStart 0 Nowait))
     (Chunk (pos 0) 1 ∷ NoChunk ∷ Section 1 ∷ Executor true ∷ Executor false ∷ Copied [] ∷ Finished ∷ Passed ∷ Wait ∷ Stopped ∷ [])
 wrong_at_no_sections = search rules
 
--- the next section where there is one
+-- the next section if there is one
 pub wrong_at_sections_next : AreWrong 2 (take 2 sections_of_two) (asks 0 SectionsNext)
     (Section 2 ∷ Section 4 ∷ Chunk (pos 0) 1 ∷ NoChunk ∷ Section 0 ∷ Section 1 ∷ Executor true ∷ Executor false ∷ Copied [] ∷ Finished ∷ Passed ∷ Wait ∷ Stopped ∷ [])
 wrong_at_sections_next = search rules
 
--- and where there is none
+-- and if there is none
 pub wrong_at_last_section : AreWrong 2 (take 3 sections_of_two) (asks 0 SectionsNext)
     (Section 3 ∷ Section 4 ∷ Chunk (pos 0) 1 ∷ NoChunk ∷ Section 1 ∷ Executor true ∷ Executor false ∷ Copied [] ∷ Finished ∷ Passed ∷ Wait ∷ Stopped ∷ [])
 wrong_at_last_section = search rules
@@ -174,12 +174,12 @@ pub wrong_at_resume : AreWrong 1 [] (asks 0 Resume)
     (Chunk (pos 0) 1 ∷ NoChunk ∷ Section 0 ∷ Section 1 ∷ Executor true ∷ Executor false ∷ Copied [] ∷ Finished ∷ Passed ∷ Wait ∷ Stopped ∷ [])
 wrong_at_resume = search rules
 
--- one where the barrier is met
+-- one if the barrier is met
 pub wrong_at_met_resume : AreWrong 2 (take 8 loop_of_two) (asks 0 Resume)
     (Chunk (pos 0) 1 ∷ NoChunk ∷ Section 0 ∷ Section 1 ∷ Executor true ∷ Executor false ∷ Copied [] ∷ Finished ∷ Wait ∷ Stopped ∷ [])
 wrong_at_met_resume = search rules
 
--- and one where it is not
+-- and one if it is not
 pub wrong_at_waiting_resume : AreWrong 2 (take 7 loop_of_two) (asks 0 Resume)
     (Chunk (pos 0) 1 ∷ NoChunk ∷ Section 0 ∷ Section 1 ∷ Executor true ∷ Executor false ∷ Copied [] ∷ Finished ∷ Passed ∷ Stopped ∷ [])
 wrong_at_waiting_resume = search rules
@@ -215,7 +215,7 @@ wrong_at_ninth_copy = search rules
 pub memory_at_next : IsWrong 2 (take 2 loop_of_two) (asks 0 LoopNext) (Refused NoMemory)
 memory_at_next may = absurd (cc)
 
--- at a loop's end, where the barrier is met
+-- at a loop's end, if the barrier is met
 pub memory_at_last_end : IsWrong 2 (take 7 loop_of_two) (asks 1 LoopEnd) (Refused NoMemory)
 memory_at_last_end may = absurd (cc)
 
@@ -291,7 +291,7 @@ memory_at_copy_inside may = absurd (cc)
 pub memory_of_another_construct : IsWrong 2 (take 1 loop_alone) (asks 1 SingleCopyStart) (Refused NoMemory)
 memory_of_another_construct may = absurd (cc)
 
--- Refusals where no test holds, and others than that whose test does
+-- Refusals if no test holds, and others than that whose test does
 
 -- all refusals but want of memory, and but one with a cause or a word
 abbrev all_refusals : List Reply
@@ -392,25 +392,25 @@ pub broken_otherwise : AreWrong 2 ((asks 1 Stop, Stopped) ∷ []) (asks 0 Barrie
     ∷ Refused (Broken (record { member = 1; place = AtBarrier 0 })) ∷ Refused Ended ∷ Passed ∷ Wait ∷ [])
 broken_otherwise = search rules
 
--- After events that need be no team's, where one part of a cause alone refuses
+-- After events that need be no team's, if one part of a cause alone refuses
 
--- a single is executed where there is no room
+-- a single is executed if there is no room
 pub executor_without_room : IsWrongAfter 2 eight_entered 0 SingleStart (Executor true)
 executor_without_room = search rules
 
--- another member's single is passed by where there is none
+-- another member's single is passed by if there is none
 pub no_executor_without_room : IsWrongAfter 2 (Take 8 1 0 1 ∷ eight_entered) 0 SingleStart (Executor false)
 no_executor_without_room = search rules
 
--- a single with words is executed where there is none
+-- a single with words is executed if there is none
 pub copy_without_room : IsWrongAfter 2 eight_entered 0 SingleCopyStart (Executor true)
 copy_without_room = search rules
 
--- words are given where there is none
+-- words are given if there is none
 pub words_without_room : IsWrongAfter 2 (Take 8 1 0 1 ∷ Put 8 1 (7 ∷ []) ∷ eight_entered) 0 SingleCopyStart (Copied (7 ∷ []))
 words_without_room = search rules
 
--- words are given where the piece is left
+-- words are given if the piece is left
 pub words_of_an_untaken : IsWrongAfter 2 (Put 0 1 (7 ∷ []) ∷ []) 0 SingleCopyStart (Copied (7 ∷ []))
 words_of_an_untaken = search rules
 
@@ -418,7 +418,7 @@ words_of_an_untaken = search rules
 pub words_of_no_executor : IsWrongAfter 2 (Enter 0 0 (single_shape true) ∷ []) 0 (SingleCopyEnd []) Finished
 words_of_no_executor = search rules
 
--- a loop starts where there is no room
+-- a loop starts if there is no room
 pub chunk_without_room : IsWrongAfter 2 eight_entered 0 one_nowait (Chunk (pos 0) 1)
 chunk_without_room = search rules
 
@@ -430,7 +430,7 @@ no_chunk_without_room = search rules
 pub section_without_room : IsWrongAfter 2 eight_entered 0 three_sections (Section 1)
 section_without_room = search rules
 
--- an answer where a test holds
+-- an answer if a test holds
 pub single_inside : IsWrongAfter 1 (Enter 0 0 (four false) ∷ []) 0 SingleStart (Executor true)
 single_inside = search rules
 
@@ -438,7 +438,7 @@ single_inside = search rules
 pub other_refusal : IsWrongAfter 1 (Enter 0 0 (four false) ∷ []) 0 SingleStart (Refused NotInside)
 other_refusal = search rules
 
--- a refusal where no test holds
+-- a refusal if no test holds
 pub no_refusal : IsWrongAfter 1 [] 0 SingleStart (Refused InsideShare)
 no_refusal = search rules
 
@@ -458,7 +458,7 @@ resume_of_nothing reply never = never
 pub resumed_alone : MayReplyAfter true 1 [] 0 Barrier Passed → ⊥
 resumed_alone met = absurd (cc)
 
--- outside of every share, where the tests refuse before: no iterations
+-- outside of every share, if the tests refuse before: no iterations
 pub none_in_no_loop : MayReplyAfter false 1 [] 0 LoopNext NoChunk → ⊥
 none_in_no_loop never = never
 
@@ -533,7 +533,7 @@ pub some_reply_tells : (p : Past) (step : Step) → (some : SomeReply p step) �
 some_reply_tells p step some = (some.1, some.2)
 
 -- a limit above the standard one refuses no share later than that does
-pub limit_is_capped : (h : List Event) → has_left_region 0 h ≡ false → clash_of h ≡ None → open_share 0 h ≡ None → entered 0 h ≡ 131064 →
+pub limit_is_capped : (h : List Event) → has_left_region 0 h ≡ false → clash_of h ≡ None → open_share 0 h ≡ None → shares_entered 0 h ≡ 131064 →
     refusal_of (record (before_all (record { members = 1; limits = record { shares = 131065; tasks = 0; events = 0 }; cancellation = false })) { events = h }) (asks 0 SingleStart) ≡ Some TooManyShares
 limit_is_capped h stays whole outside many =
     elim (cases_Bool (shape_differs (single_shape false) (shape_at 131064 h))) [

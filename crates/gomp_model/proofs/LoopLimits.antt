@@ -3,8 +3,8 @@ use Rattle.std.proofs.Common.{◌≡◌, refl}
 use Rattle.std.specs.Prelude.{pos, negsuc, Ok, Err}
 use Rattle.gomp_types.specs.declared.loop_desc.Sched.TheVariants.{Guided, Runtime}
 use Rattle.gomp_types.specs.declared.refusal.Refusal.TheVariants.{ZeroStep, BadChunk, LoopTooLong}
-use Rattle.gomp_types.specs.Limits.{capped}
-use Rattle.gomp_types.specs.Pieces.{resolved}
+use Rattle.gomp_types.specs.Limits.{capped_limits}
+use Rattle.gomp_types.specs.Pieces.{resolved_loop}
 use Rattle.gomp_model.specs.Examples.{over_all_values, down_all_values, up_to, trips_of}
 
 -- The loop over all values of an i64
@@ -53,7 +53,7 @@ bad_chunk_comes_before_length = refl
 
 -- a limit above the standard one counts as that
 pub limits_above_the_standard_are_capped :
-    capped (record { shares = 131065; tasks = 1048577; events = 16777217 })
+    capped_limits (record { shares = 131065; tasks = 1048577; events = 16777217 })
     ≡ record { shares = 131064; tasks = 1048576; events = 16777216 }
 limits_above_the_standard_are_capped = refl
 
@@ -61,17 +61,17 @@ limits_above_the_standard_are_capped = refl
 
 -- a runtime loop without a chunk gets their schedule and chunk
 pub runtime_loop_gets_its_schedule :
-    resolved Guided (pos 7) (record (over_all_values (pos 1)) { sched = Runtime })
+    resolved_loop Guided (pos 7) (record (over_all_values (pos 1)) { sched = Runtime })
     ≡ record (over_all_values (pos 1)) { sched = Guided; chunk = pos 7 }
 runtime_loop_gets_its_schedule = refl
 
 -- a loop of another schedule keeps its own
 pub other_loop_keeps_its_schedule :
-    resolved Guided (pos 7) (over_all_values (pos 1)) ≡ over_all_values (pos 1)
+    resolved_loop Guided (pos 7) (over_all_values (pos 1)) ≡ over_all_values (pos 1)
 other_loop_keeps_its_schedule = refl
 
 -- and a runtime loop with a chunk, which is refused, is left as it is
 pub runtime_loop_with_chunk_is_kept :
-    resolved Guided (pos 7) (record (over_all_values (pos 1)) { sched = Runtime; chunk = pos 5 })
+    resolved_loop Guided (pos 7) (record (over_all_values (pos 1)) { sched = Runtime; chunk = pos 5 })
     ≡ record (over_all_values (pos 1)) { sched = Runtime; chunk = pos 5 }
 runtime_loop_with_chunk_is_kept = refl

@@ -12,9 +12,9 @@ use Rattle.gomp_types.specs.declared.event.Arrival.TheVariants.{Barrier, ShareEn
 use Rattle.gomp_types.specs.declared.event.Event.TheVariants.{Enter, Take, Drained, End, HandOn, Part, PartEnd, Put, Got, Arrive, Pass, Break}
 use Rattle.gomp_types.specs.Sections.{sections_shape}
 use Rattle.gomp_types.specs.Singles.{single_shape}
-use Rattle.gomp_model.specs.Team.{record_after, meant, events}
-use Rattle.gomp_types.specs.Limits.{shown}
-use Rattle.gomp_model.specs.Examples.{recorded, team_of, past_after, asks, one_nowait, loop_of_two, loop_alone, empty_loops, ninth_share, differing_loop, stopped_team}
+use Rattle.gomp_model.specs.Team.{record_after, call_meant, events}
+use Rattle.gomp_types.specs.Limits.{shown_number}
+use Rattle.gomp_model.specs.Examples.{run_recorded, team_of, past_after_run, asks, one_nowait, loop_of_two, loop_alone, empty_loops, ninth_share, differing_loop, stopped_team}
 use Rattle.gomp_model.specs.ShareExamples.{sections_of_two, no_sections, single_of_two, ordered_of_two, handed_of_two, differing_copy, differing_sections}
 use Rattle.gomp_model.specs.RegionExamples.{region_of_two, later_barrier, later_share, differing_at_resume, copied_at_once}
 use Rattle.gomp_types.specs.EventLists.{newest_first, at}
@@ -22,19 +22,19 @@ use Rattle.gomp_types.specs.EventLists.{newest_first, at}
 -- What a member waits for
 
 -- a resume means the call that waits, if one does; no other call does
-pub resume_means : (meant Resume (Some LoopEnd) ≡ LoopEnd) × (meant Resume None ≡ Resume) × (meant Stop (Some LoopEnd) ≡ Stop)
+pub resume_means : (call_meant Resume (Some LoopEnd) ≡ LoopEnd) × (call_meant Resume None ≡ Resume) × (call_meant Stop (Some LoopEnd) ≡ Stop)
 resume_means = (refl, refl, refl)
 
 -- a member waits for the call that was answered with a wait, and the other member for none
-pub waits_for_end : ((past_after 2 (take 7 loop_of_two)).waits 0 ≡ Some LoopEnd) × ((past_after 2 (take 7 loop_of_two)).waits 1 ≡ None)
+pub waits_for_end : ((past_after_run 2 (take 7 loop_of_two)).waits 0 ≡ Some LoopEnd) × ((past_after_run 2 (take 7 loop_of_two)).waits 1 ≡ None)
 waits_for_end = (refl, refl)
 
 -- it waits while others pass, until its resume is answered
-pub waits_until_resumed : ((past_after 2 (take 8 loop_of_two)).waits 0 ≡ Some LoopEnd) × ((past_after 2 loop_of_two).waits 0 ≡ None)
+pub waits_until_resumed : ((past_after_run 2 (take 8 loop_of_two)).waits 0 ≡ Some LoopEnd) × ((past_after_run 2 loop_of_two).waits 0 ≡ None)
 waits_until_resumed = (refl, refl)
 
 -- it waits for its first call, though its resume has to wait again, and a call between them is refused
-pub waits_again : (past_after 2 (take 28 ninth_share)).waits 0 ≡ Some one_nowait
+pub waits_again : (past_after_run 2 (take 28 ninth_share)).waits 0 ≡ Some one_nowait
 waits_again = refl
 
 -- a record has the steps with their replies, the newest first, and what was before
@@ -49,7 +49,7 @@ pub record_of_one :
 record_of_one = (refl, refl)
 
 -- a number that is too large is shown as the largest
-pub shown_at_most : (shown 18446744073709551615 ≡ 18446744073709551615) × (shown 18446744073709551616 ≡ 18446744073709551615) × (shown 7 ≡ 7)
+pub shown_at_most : (shown_number 18446744073709551615 ≡ 18446744073709551615) × (shown_number 18446744073709551616 ≡ 18446744073709551615) × (shown_number 7 ≡ 7)
 shown_at_most = (refl, refl, refl)
 
 -- Which events a run gives
@@ -59,7 +59,7 @@ abbrev loop_shape : Shape
 loop_shape = record { start = pos 0; incr = pos 1; trips = 10; kind = Dynamic; chunk = 3; ordered = false; end_kind = WaitEnd }
 
 -- a loop with its barrier
-pub loop_events : events (team_of 2) (recorded loop_of_two []) ≡ newest_first
+pub loop_events : events (team_of 2) (run_recorded loop_of_two []) ≡ newest_first
     (Enter 0 0 loop_shape ∷ Take 0 0 0 3 ∷ Enter 0 1 loop_shape ∷ Take 0 1 3 6 ∷ Take 0 0 6 9 ∷ Take 0 1 9 10 ∷ Drained 0 0 ∷ Drained 0 1
     ∷ End 0 0 ∷ Arrive 0 0 (at ShareEnd 1) ∷ End 0 1 ∷ Arrive 0 1 (at ShareEnd 1) ∷ Pass 0 1 ∷ Pass 0 0 ∷ [])
     []
@@ -70,7 +70,7 @@ abbrev nowait_shape : Shape
 nowait_shape = record { start = pos 0; incr = pos 1; trips = 1; kind = Dynamic; chunk = 1; ordered = false; end_kind = Nowait }
 
 -- two loops without a barrier, the second of which the member stops in
-pub nowait_events : events (team_of 1) (recorded (loop_alone ++ take 1 loop_alone ++ (asks 0 Stop, Stopped) ∷ []) []) ≡ newest_first
+pub nowait_events : events (team_of 1) (run_recorded (loop_alone ++ take 1 loop_alone ++ (asks 0 Stop, Stopped) ∷ []) []) ≡ newest_first
     (Enter 0 0 nowait_shape ∷ Take 0 0 0 1 ∷ Drained 0 0 ∷ End 0 0 ∷ Enter 1 0 nowait_shape ∷ Take 1 0 0 1 ∷ Break 0 AtStop ∷ [])
     []
 nowait_events = refl
@@ -80,30 +80,30 @@ abbrev empty_shape : ℕ → Shape
 empty_shape start = record { start = pos start; incr = pos 1; trips = 0; kind = Dynamic; chunk = 3; ordered = false; end_kind = Nowait }
 
 -- two of them
-pub empty_events : events (team_of 1) (recorded empty_loops []) ≡ newest_first
+pub empty_events : events (team_of 1) (run_recorded empty_loops []) ≡ newest_first
     (Enter 0 0 (empty_shape 5) ∷ Drained 0 0 ∷ End 0 0 ∷ Enter 1 0 (empty_shape 10) ∷ Drained 1 0 ∷ End 1 0 ∷ [])
     []
 empty_events = refl
 
 -- sections
-pub section_events : events (team_of 2) (recorded sections_of_two []) ≡ newest_first
+pub section_events : events (team_of 2) (run_recorded sections_of_two []) ≡ newest_first
     (Enter 0 0 (sections_shape 3 WaitEnd) ∷ Take 0 0 0 1 ∷ Enter 0 1 (sections_shape 3 WaitEnd) ∷ Take 0 1 1 2 ∷ Take 0 0 2 3 ∷ Drained 0 0 ∷ Drained 0 1
     ∷ End 0 0 ∷ Arrive 0 0 (at ShareEnd 1) ∷ End 0 1 ∷ Arrive 0 1 (at ShareEnd 1) ∷ Pass 0 1 ∷ Pass 0 0 ∷ [])
     []
 section_events = refl
 
 -- and a construct without any
-pub no_section_events : events (team_of 1) (recorded no_sections []) ≡ newest_first (Enter 0 0 (sections_shape 0 Nowait) ∷ Drained 0 0 ∷ End 0 0 ∷ []) []
+pub no_section_events : events (team_of 1) (run_recorded no_sections []) ≡ newest_first (Enter 0 0 (sections_shape 0 Nowait) ∷ Drained 0 0 ∷ End 0 0 ∷ []) []
 no_section_events = refl
 
 -- a single without words
-pub single_events : events (team_of 2) (recorded single_of_two []) ≡ newest_first
+pub single_events : events (team_of 2) (run_recorded single_of_two []) ≡ newest_first
     (Enter 0 0 (single_shape false) ∷ Take 0 0 0 1 ∷ End 0 0 ∷ Enter 0 1 (single_shape false) ∷ Drained 0 1 ∷ End 0 1 ∷ [])
     []
 single_events = refl
 
 -- singles with words, and a barrier
-pub copy_events : events (team_of 2) (recorded copied_at_once []) ≡ newest_first
+pub copy_events : events (team_of 2) (run_recorded copied_at_once []) ≡ newest_first
     (Enter 0 0 (single_shape true) ∷ Take 0 0 0 1 ∷ Put 0 0 (11 ∷ []) ∷ End 0 0
     ∷ Enter 0 1 (single_shape true) ∷ Drained 0 1 ∷ Got 0 1 (11 ∷ []) ∷ End 0 1
     ∷ Enter 1 1 (single_shape true) ∷ Take 1 1 0 1 ∷ Put 1 1 [] ∷ End 1 1
@@ -117,20 +117,20 @@ abbrev ordered_shape : Shape
 ordered_shape = record { start = pos 0; incr = pos 1; trips = 2; kind = Dynamic; chunk = 1; ordered = true; end_kind = Nowait }
 
 -- an ordered loop with parts
-pub ordered_events : events (team_of 2) (recorded ordered_of_two []) ≡ newest_first
+pub ordered_events : events (team_of 2) (run_recorded ordered_of_two []) ≡ newest_first
     (Enter 0 0 ordered_shape ∷ Take 0 0 0 1 ∷ Enter 0 1 ordered_shape ∷ Take 0 1 1 2 ∷ Part 0 0 0 ∷ PartEnd 0 0 ∷ HandOn 0 0 0 ∷ Drained 0 0
     ∷ Part 0 1 1 ∷ PartEnd 0 1 ∷ HandOn 0 1 1 ∷ Drained 0 1 ∷ End 0 0 ∷ End 0 1 ∷ [])
     []
 ordered_events = refl
 
 -- and without
-pub handed_events : events (team_of 2) (recorded handed_of_two []) ≡ newest_first
+pub handed_events : events (team_of 2) (run_recorded handed_of_two []) ≡ newest_first
     (Enter 0 0 ordered_shape ∷ Take 0 0 0 1 ∷ Enter 0 1 ordered_shape ∷ Take 0 1 1 2 ∷ HandOn 0 0 0 ∷ Drained 0 0 ∷ HandOn 0 1 1 ∷ Drained 0 1 ∷ [])
     []
 handed_events = refl
 
 -- a region to its end; the calls after it give none
-pub region_events : events (team_of 2) (recorded region_of_two []) ≡ newest_first
+pub region_events : events (team_of 2) (run_recorded region_of_two []) ≡ newest_first
     (Enter 0 0 (sections_shape 1 WaitEnd) ∷ Take 0 0 0 1 ∷ Enter 0 1 (sections_shape 1 WaitEnd) ∷ Drained 0 1 ∷ Drained 0 0
     ∷ End 0 0 ∷ Arrive 0 0 (at ShareEnd 1) ∷ End 0 1 ∷ Arrive 0 1 (at ShareEnd 1) ∷ Pass 0 1 ∷ Pass 0 0
     ∷ Arrive 1 0 (at RegionEnd 1) ∷ Arrive 1 1 (at RegionEnd 1) ∷ Pass 1 1 ∷ Pass 1 0 ∷ [])
@@ -138,29 +138,29 @@ pub region_events : events (team_of 2) (recorded region_of_two []) ≡ newest_fi
 region_events = refl
 
 -- a team breaks at a loop
-pub loop_break : take 1 (events (team_of 2) (recorded differing_loop [])) ≡ Break 1 (Share 0) ∷ []
+pub loop_break : take 1 (events (team_of 2) (run_recorded differing_loop [])) ≡ Break 1 (Share 0) ∷ []
 loop_break = refl
 
 -- at sections
-pub sections_break : take 1 (events (team_of 2) (recorded later_share [])) ≡ Break 1 (Share 1) ∷ []
+pub sections_break : take 1 (events (team_of 2) (run_recorded later_share [])) ≡ Break 1 (Share 1) ∷ []
 sections_break = refl
 
 -- at a single, and at a loop in place of sections
-pub single_break : (take 1 (events (team_of 2) (recorded differing_copy [])) ≡ Break 1 (Share 0) ∷ []) × (take 1 (events (team_of 2) (recorded differing_sections [])) ≡ Break 1 (Share 0) ∷ [])
+pub single_break : (take 1 (events (team_of 2) (run_recorded differing_copy [])) ≡ Break 1 (Share 0) ∷ []) × (take 1 (events (team_of 2) (run_recorded differing_sections [])) ≡ Break 1 (Share 0) ∷ [])
 single_break = (refl, refl)
 
 -- at a single with words
-pub copy_break : take 1 (events (team_of 1) (recorded ((asks 0 SingleStart, Wait) ∷ (asks 0 SingleCopyStart, Refused Mismatch) ∷ []) [])) ≡ Break 0 (Share 0) ∷ []
+pub copy_break : take 1 (events (team_of 1) (run_recorded ((asks 0 SingleStart, Wait) ∷ (asks 0 SingleCopyStart, Refused Mismatch) ∷ []) [])) ≡ Break 0 (Share 0) ∷ []
 copy_break = refl
 
 -- at a resume
-pub resume_break : take 1 (events (team_of 2) (recorded differing_at_resume [])) ≡ Break 0 (Share 8) ∷ []
+pub resume_break : take 1 (events (team_of 2) (run_recorded differing_at_resume [])) ≡ Break 0 (Share 8) ∷ []
 resume_break = refl
 
 -- at a barrier
-pub barrier_break : take 1 (events (team_of 2) (recorded later_barrier [])) ≡ Break 1 (AtBarrier 1) ∷ []
+pub barrier_break : take 1 (events (team_of 2) (run_recorded later_barrier [])) ≡ Break 1 (AtBarrier 1) ∷ []
 barrier_break = refl
 
 -- by a stop; the calls after that give no event
-pub stop_break : events (team_of 2) (recorded stopped_team []) ≡ newest_first (Arrive 0 0 (at Barrier 0) ∷ Break 1 AtStop ∷ []) []
+pub stop_break : events (team_of 2) (run_recorded stopped_team []) ≡ newest_first (Arrive 0 0 (at Barrier 0) ∷ Break 1 AtStop ∷ []) []
 stop_break = refl

@@ -15,19 +15,19 @@ use Rattle.gomp_types.specs.declared.event.Arrival.{Arrival}
 use Rattle.gomp_types.specs.declared.event.Arrival.TheVariants.{Barrier as BarrierArrival, ShareEnd, RegionEnd as RegionEndArrival}
 use Rattle.gomp_types.specs.declared.event.Event.{Event}
 use Rattle.gomp_types.specs.declared.event.Event.TheVariants.{Enter, Take, Drained, End, HandOn, Part, PartEnd, Put, Got, Arrive, Pass, Break}
-use Rattle.gomp_types.specs.Events.{entered, passed}
+use Rattle.gomp_types.specs.Events.{shares_entered, barriers_passed}
 use Rattle.gomp_types.specs.Least.{least}
 use Rattle.gomp_types.specs.Sections.{sections_shape}
 use Rattle.gomp_types.specs.Singles.{single_shape}
 use Rattle.gomp_types.specs.Tests.{Test}
 use Rattle.gomp_types.specs.EventLists.{even_four, four, at}
-use Rattle.gomp_model.specs.Row.{Row, plain, at_once, once, since, row_tests, refusal_gives, events_after}
+use Rattle.gomp_model.specs.Row.{Row, plain_row, at_once, unless_repeated, begun_past, row_tests, refusal_gives, events_after}
 use Rattle.gomp_model.specs.Calls.{row_of}
 use Rattle.gomp_model.specs.Loops.{loop_next_row}
 use Rattle.gomp_model.specs.Past.{Past}
 use Rattle.gomp_model.specs.Arrivals.{barrier_row}
 use Rattle.gomp_model.specs.OrderedParts.{ordered_start_row}
-use Rattle.gomp_model.specs.Examples.{MayReplyAfter, past_with, past_after, ten_by_three, up_to, stopped_waiting}
+use Rattle.gomp_model.specs.Examples.{MayReplyAfter, past_with, past_after_run, ten_by_three, up_to, stopped_waiting}
 use Rattle.gomp_model.specs.ShareExamples.{three_sections}
 
 -- Flags
@@ -71,7 +71,7 @@ memory_of_others = refl
 pub stays_while_waiting : flags (λ row. row.stays) (starts ++ nexts) ≡ true ∷ true ∷ true ∷ true ∷ true ∷ true ∷ true ∷ []
 stays_while_waiting = refl
 
--- where it waits at a barrier it has left its share, and no other call waits
+-- if it waits at a barrier it has left its share, and no other call waits
 pub moves_or_waits_never : flags (λ row. row.stays) (ends ++ arrivals ++ others) ≡ false ∷ false ∷ false ∷ false ∷ false ∷ false ∷ false ∷ false ∷ false ∷ false ∷ []
 moves_or_waits_never = refl
 
@@ -115,11 +115,11 @@ pub places_of_arrivals : breaks arrivals ≡ Break 0 (AtBarrier 1) ∷ Break 0 (
 places_of_arrivals = refl
 
 -- a number of a share that is too large is shown as the largest
-pub place_of_late_share : (h : List Event) → entered 0 h ≡ 18446744073709551616 → (row_of SingleStart).place 0 h ≡ Share 18446744073709551615
+pub place_of_late_share : (h : List Event) → shares_entered 0 h ≡ 18446744073709551616 → (row_of SingleStart).place 0 h ≡ Share 18446744073709551615
 place_of_late_share h many = rw many refl
 
 -- and so is one of a barrier
-pub place_of_late_barrier : (h : List Event) → passed 0 h ≡ 18446744073709551616 → (row_of Barrier).place 0 h ≡ AtBarrier 18446744073709551615
+pub place_of_late_barrier : (h : List Event) → barriers_passed 0 h ≡ 18446744073709551616 → (row_of Barrier).place 0 h ≡ AtBarrier 18446744073709551615
 place_of_late_barrier h many = rw many refl
 
 -- Events that a call gives whatever it is answered
@@ -231,7 +231,7 @@ pub given_by_number :
     × (last_given 4 2 (Enter 0 2 even_four ∷ Take 0 2 2 3 ∷ []) ≡ Drained 0 2 ∷ [])
 given_by_number = (refl, refl, refl, refl, refl)
 
--- The second member, where the first is elsewhere
+-- The second member, if the first is elsewhere
 
 -- it is in an ordered loop alone
 abbrev second_inside : Past
@@ -266,10 +266,10 @@ pass_of_the_first = refl
 
 -- a row with a test of each list, all of which hold
 abbrev tested : Row
-tested = record plain {
+tested = record plain_row {
   by_place = λ limits seen. (true, NotDrained) ∷ [];
   by_team = λ m p. (true, Waiting) ∷ [];
-  compared = λ again m p. (again, TooManyShares) ∷ (true, Mismatch) ∷ [];
+  compared = λ repeated m p. (repeated, TooManyShares) ∷ (true, Mismatch) ∷ [];
 }
 
 -- a call makes them all
@@ -284,9 +284,9 @@ refusal_of_a_call = refl
 pub tests_of_a_resume : row_tests true tested 0 (past_with 1 []) ≡ (true, TooManyShares) ∷ (true, Mismatch) ∷ []
 tests_of_a_resume = refl
 
--- a test on the place, which holds where these are the limits and the shares entered
+-- a test on the place, which holds if these are the limits and the shares entered
 abbrev tested_place : Row
-tested_place = record plain { by_place = λ limits seen. (limits.shares == 131064 && seen.entered == 1, InsideShare) ∷ [] }
+tested_place = record plain_row { by_place = λ limits seen. (limits.shares == 131064 && seen.entered == 1, InsideShare) ∷ [] }
 
 -- the tests on the place are by the team's limits, and by what the events say of the member that asks
 pub tests_by_place :
@@ -294,7 +294,7 @@ pub tests_by_place :
     × (row_tests false tested_place 0 (past_with 2 (Enter 0 1 (four false) ∷ [])) ≡ (false, InsideShare) ∷ [])
 tests_by_place = (refl, refl)
 
--- the tests of these calls by the team, where another has started a single, waits at the region's end, and the team is broken
+-- the tests of these calls by the team, if another has started a single, waits at the region's end, and the team is broken
 abbrev by_team_tests : List Call → List Test
 by_team_tests [] = []
 by_team_tests (call ∷ calls) =
@@ -306,8 +306,8 @@ none_by_team = refl
 
 -- what these calls find to differ there, made or repeated
 abbrev differences : Bool → List Call → List (Option Refusal)
-differences again calls =
-    map (λ call. least ((row_of call).compared again 0 (past_with 2 (Enter 0 1 (four true) ∷ Arrive 0 1 (at RegionEndArrival 1) ∷ [])))) calls
+differences repeated calls =
+    map (λ call. least ((row_of call).compared repeated 0 (past_with 2 (Enter 0 1 (four true) ∷ Arrive 0 1 (at RegionEndArrival 1) ∷ [])))) calls
 
 -- a start that differs does so at a resume too
 pub starts_that_differ : (differences false starts ≡ Some Mismatch ∷ Some Mismatch ∷ Some Mismatch ∷ Some Mismatch ∷ []) × (differences true starts ≡ differences false starts)
@@ -327,17 +327,17 @@ others_that_differ = (refl, refl, refl, refl)
 
 -- a call that is made gives its events, one that is repeated none
 pub events_once :
-    (once (Pass 0 0 ∷ End 0 0 ∷ []) false ≡ Pass 0 0 ∷ End 0 0 ∷ []) × (once (Pass 0 0 ∷ End 0 0 ∷ []) true ≡ []) × (once [] false ≡ []) × (once [] true ≡ [])
+    (unless_repeated (Pass 0 0 ∷ End 0 0 ∷ []) false ≡ Pass 0 0 ∷ End 0 0 ∷ []) × (unless_repeated (Pass 0 0 ∷ End 0 0 ∷ []) true ≡ []) × (unless_repeated [] false ≡ []) × (unless_repeated [] true ≡ [])
 events_once = (refl, refl, refl, refl)
 
 -- once a call has begun its events are there, before all others, and nothing else is new
 pub since_begun :
-    ((since false (row_of LoopEnd) 0 (past_with 2 (Enter 0 0 (four false) ∷ []))) ≡ record (past_with 2 []) { events = Arrive 0 0 (at ShareEnd 1) ∷ End 0 0 ∷ Enter 0 0 (four false) ∷ [] })
-    × (since true (row_of LoopEnd) 0 (past_with 2 (Enter 0 0 (four false) ∷ [])) ≡ past_with 2 (Enter 0 0 (four false) ∷ []))
+    ((begun_past false (row_of LoopEnd) 0 (past_with 2 (Enter 0 0 (four false) ∷ []))) ≡ record (past_with 2 []) { events = Arrive 0 0 (at ShareEnd 1) ∷ End 0 0 ∷ Enter 0 0 (four false) ∷ [] })
+    × (begun_past true (row_of LoopEnd) 0 (past_with 2 (Enter 0 0 (four false) ∷ [])) ≡ past_with 2 (Enter 0 0 (four false) ∷ []))
 since_begun = (refl, refl)
 
 -- the waits are not
-pub since_keeps_waits : (since false (row_of Barrier) 1 (past_after 2 stopped_waiting)).waits ≡ (past_after 2 stopped_waiting).waits
+pub since_keeps_waits : (begun_past false (row_of Barrier) 1 (past_after_run 2 stopped_waiting)).waits ≡ (past_after_run 2 stopped_waiting).waits
 since_keeps_waits = refl
 
 -- a mismatch breaks the team, by this member and there; no other refusal changes anything
@@ -347,7 +347,7 @@ events_of_refusals = (refl, refl)
 
 -- the events of a call that arrives, is refused, and is repeated
 abbrev after_end : Bool → Reply → List Event
-after_end again reply = events_after again (row_of LoopEnd) 0 (past_with 2 (Enter 0 0 (four false) ∷ [])) reply
+after_end repeated reply = events_after repeated (row_of LoopEnd) 0 (past_with 2 (Enter 0 0 (four false) ∷ [])) reply
 
 -- a call that waits has begun
 pub events_of_a_waiting_end : after_end false Wait ≡ Arrive 0 0 (at ShareEnd 1) ∷ End 0 0 ∷ Enter 0 0 (four false) ∷ []
@@ -367,7 +367,7 @@ events_of_a_refusal = (refl, refl)
 
 -- a row that ends a share, and gives all that it finds
 abbrev echoing : Row
-echoing = record plain { begins = λ m p. End (entered m p.events) m ∷ []; gives = λ m p reply. p.events }
+echoing = record plain_row { begins = λ m p. End (shares_entered m p.events) m ∷ []; gives = λ m p reply. p.events }
 
 -- what a reply gives is found after what the call has begun with, and stands before it
 pub events_in_order :
@@ -399,12 +399,12 @@ no_share_started = refl
 
 -- what a row leaves as it is: no test, no event, and done at once
 pub plain_says_nothing :
-    (row_tests false plain 0 (past_with 1 []) ≡ []) × (row_tests true plain 0 (past_with 1 []) ≡ []) × (plain.memory ≡ false) × (plain.stays ≡ false)
-    × (plain.arrives ≡ None) × (plain.puts ≡ false) × (plain.begins 0 (past_with 1 []) ≡ []) × (plain.gives 0 (past_with 1 []) Finished ≡ [])
+    (row_tests false plain_row 0 (past_with 1 []) ≡ []) × (row_tests true plain_row 0 (past_with 1 []) ≡ []) × (plain_row.memory ≡ false) × (plain_row.stays ≡ false)
+    × (plain_row.arrives ≡ None) × (plain_row.puts ≡ false) × (plain_row.begins 0 (past_with 1 []) ≡ []) × (plain_row.gives 0 (past_with 1 []) Finished ≡ [])
 plain_says_nothing = (refl, refl, refl, refl, refl, refl, refl, refl)
 
 -- and nothing but done
-pub plain_is_done : (plain.may_reply 0 (past_with 1 []) Finished) × (plain.may_reply 0 (past_with 1 []) Wait → ⊥) × (plain.may_reply 0 (past_with 1 []) (Refused NoMemory) → ⊥)
+pub plain_is_done : (plain_row.may_reply 0 (past_with 1 []) Finished) × (plain_row.may_reply 0 (past_with 1 []) Wait → ⊥) × (plain_row.may_reply 0 (past_with 1 []) (Refused NoMemory) → ⊥)
 plain_is_done = (refl, (λ e. absurd (cc)), (λ e. absurd (cc)))
 
 -- a call that is done at once has its tests, gives its events, and is done

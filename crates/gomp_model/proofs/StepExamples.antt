@@ -10,8 +10,8 @@ use Rattle.gomp_types.specs.declared.event.Arrival.TheVariants.{Barrier as Barri
 use Rattle.gomp_types.specs.declared.event.Event.TheVariants.{Enter, End, Arrive, Pass, Break}
 use Rattle.gomp_types.specs.Singles.{single_shape}
 use Rattle.gomp_types.specs.EventLists.{four, at}
-use Rattle.gomp_model.specs.Team.{MayAnswer, MayRefuse, OneReply, is_resume, row_at, broken_tests, member_tests, wait_tests, tests_of, refusal_of, wait_after, after, before_all, past_of}
-use Rattle.gomp_model.specs.Examples.{IsWrong, past_with, past_after, team_of, asks, one_nowait, one_share, loop_by, loop_of_two, stopped_waiting, stopped_team}
+use Rattle.gomp_model.specs.Team.{MayAnswer, MayRefuse, OneReply, is_resume, row_at, broken_tests, member_tests, wait_tests, tests_of, refusal_of, wait_after, past_after, before_all, past_of}
+use Rattle.gomp_model.specs.Examples.{IsWrong, past_with, past_after_run, team_of, asks, one_nowait, one_share, loop_by, loop_of_two, stopped_waiting, stopped_team}
 use Rattle.gomp_model.specs.ShareExamples.{three_sections, ordered_of_two}
 
 -- Tests of every step
@@ -47,12 +47,12 @@ tests_of_a_step = refl
 
 -- a resume's: those of every step, and those that its call makes again
 pub tests_of_resumes :
-    (tests_of (past_after 2 (take 7 loop_of_two)) (asks 0 Resume) ≡ (false, BadMember) ∷ (false, Ended) ∷ [])
-    × (tests_of (past_after 2 (take 7 loop_of_two)) (asks 1 Resume) ≡ (false, BadMember) ∷ (false, Ended) ∷ (true, NotInside) ∷ [])
+    (tests_of (past_after_run 2 (take 7 loop_of_two)) (asks 0 Resume) ≡ (false, BadMember) ∷ (false, Ended) ∷ [])
+    × (tests_of (past_after_run 2 (take 7 loop_of_two)) (asks 1 Resume) ≡ (false, BadMember) ∷ (false, Ended) ∷ (true, NotInside) ∷ [])
 tests_of_resumes = (refl, refl)
 
 -- a stop's: those of every step
-pub tests_of_a_stop : tests_of (past_after 2 (take 7 loop_of_two)) (asks 0 Stop) ≡ (false, BadMember) ∷ (false, Ended) ∷ []
+pub tests_of_a_stop : tests_of (past_after_run 2 (take 7 loop_of_two)) (asks 0 Stop) ≡ (false, BadMember) ∷ (false, Ended) ∷ []
 tests_of_a_stop = refl
 
 -- Which refusal
@@ -87,7 +87,7 @@ pub no_mismatch_at_barriers :
 no_mismatch_at_barriers = refl
 
 -- a member that waits for its turn in a loop is refused for its wait, and not for the loop
-pub waits_inside : refusal_of (past_after 2 (take 3 ordered_of_two)) (asks 1 Barrier) ≡ Some Waiting
+pub waits_inside : refusal_of (past_after_run 2 (take 3 ordered_of_two)) (asks 1 Barrier) ≡ Some Waiting
 waits_inside = refl
 
 -- what stands first in the order of the numbers, among all steps
@@ -98,11 +98,11 @@ stranger_to_broken = refl
 
 -- Want of memory
 
--- it may be answered where no test holds and the call asks for some
+-- it may be answered if no test holds and the call asks for some
 pub memory_may_want : MayRefuse None NoMemory true
 memory_may_want = (refl, refl)
 
--- not where it asks for none
+-- not if it asks for none
 pub memory_unasked : MayRefuse None NoMemory false → ⊥
 memory_unasked may = absurd (let asked = may.1 in cc)
 
@@ -136,9 +136,9 @@ resumes_alone = refl
 
 -- a resume has the row of the call that waits, another call its own
 pub row_of_resumes :
-    ((row_at (past_after 2 (take 7 loop_of_two)) (asks 0 Resume)).arrives ≡ Some ShareEnd)
-    × ((row_at (past_after 2 (take 7 loop_of_two)) (asks 0 Barrier)).arrives ≡ Some BarrierArrival)
-    × ((row_at (past_after 2 (take 7 loop_of_two)) (asks 1 Resume)).arrives ≡ None)
+    ((row_at (past_after_run 2 (take 7 loop_of_two)) (asks 0 Resume)).arrives ≡ Some ShareEnd)
+    × ((row_at (past_after_run 2 (take 7 loop_of_two)) (asks 0 Barrier)).arrives ≡ Some BarrierArrival)
+    × ((row_at (past_after_run 2 (take 7 loop_of_two)) (asks 1 Resume)).arrives ≡ None)
 row_of_resumes = (refl, refl, refl)
 
 -- a refusal leaves the wait that is open, and opens none
@@ -157,11 +157,11 @@ waits_after_replies = (refl, refl, refl, refl, refl, refl)
 
 -- a wait is that of the member that asked; the others have theirs
 pub waits_of_members :
-    map (λ m. (after (past_after 2 (take 7 loop_of_two)) (asks 1 LoopEnd) Wait).waits m) (0 ∷ 1 ∷ 2 ∷ []) ≡ Some LoopEnd ∷ Some LoopEnd ∷ None ∷ []
+    map (λ m. (past_after (past_after_run 2 (take 7 loop_of_two)) (asks 1 LoopEnd) Wait).waits m) (0 ∷ 1 ∷ 2 ∷ []) ≡ Some LoopEnd ∷ Some LoopEnd ∷ None ∷ []
 waits_of_members = refl
 
 -- one that stops its team waits no longer, one that is refused does
-pub waits_of_stopped : ((past_after 2 stopped_waiting).waits 0 ≡ None) × ((past_after 2 stopped_team).waits 0 ≡ Some Barrier)
+pub waits_of_stopped : ((past_after_run 2 stopped_waiting).waits 0 ≡ None) × ((past_after_run 2 stopped_team).waits 0 ≡ Some Barrier)
 waits_of_stopped = (refl, refl)
 
 -- The past
@@ -173,7 +173,7 @@ pub new_team :
 new_team = refl
 
 -- a step leaves the terms
-pub terms_stay : ((past_after 2 loop_of_two).terms ≡ team_of 2) × ((past_after 2 stopped_team).terms ≡ team_of 2)
+pub terms_stay : ((past_after_run 2 loop_of_two).terms ≡ team_of 2) × ((past_after_run 2 stopped_team).terms ≡ team_of 2)
 terms_stay = (refl, refl)
 
 -- the newest step is the last

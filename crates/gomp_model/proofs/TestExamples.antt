@@ -6,7 +6,7 @@ use Rattle.gomp_types.specs.declared.loop_desc.EndKind.TheVariants.{Wait as Wait
 use Rattle.gomp_types.specs.declared.refusal.Refusal.TheVariants.{ZeroStep, BadChunk, LoopTooLong, NotDrained, NotOrdered, NoMemory}
 use Rattle.gomp_types.specs.declared.reply.Reply.TheVariants.{Chunk, NoChunk, Section, Executor, Finished, Passed, Wait, Stopped, Refused}
 use Rattle.gomp_model.specs.Team.{MayAnswer, past_of}
-use Rattle.gomp_model.specs.Examples.{Run, IsWrong, recorded, asks, dynamic_loop, loop_by, one_share, one_nowait, loop_alone, empty_loops, refused_ends}
+use Rattle.gomp_model.specs.Examples.{Run, IsWrong, run_recorded, asks, dynamic_loop, loop_by, one_share, one_nowait, loop_alone, empty_loops, refused_ends}
 use Rattle.gomp_model.specs.ShareExamples.{three_sections, no_sections, ordered_by, ordered_of_two, ordered_alone}
 use Rattle.gomp_model.specs.RegionExamples.{differing_at_resume, differing_ninth, early_arrivals, early_sections_end}
 
@@ -62,50 +62,50 @@ loop_too_long may = absurd (cc)
 pub sections_too_many : IsWrong 1 [] (asks 0 (SectionsStart 65537 Nowait)) (Refused NoMemory)
 sections_too_many may = absurd (cc)
 
--- a loop is refused for its chunk where its step is refused before
+-- a loop is refused for its chunk if its step is refused before
 pub chunk_named_first : IsWrong 1 [] (asks 0 (loop_by (pos 0) (pos 4) (negsuc 0))) (Refused BadChunk)
 chunk_named_first = search rules
 
--- or for its length where its chunk is
+-- or for its length if its chunk is
 pub length_named_first : IsWrong 1 [] (asks 0 (loop_by (pos 1) (pos 549755813889) (negsuc 0))) (Refused LoopTooLong)
 length_named_first = search rules
 
--- or for its step where the member is in another
+-- or for its step if the member is in another
 pub step_named_first : IsWrong 1 (take 1 loop_alone) (asks 0 (loop_by (pos 0) (pos 4) (pos 1))) (Refused ZeroStep)
 step_named_first = search rules
 
--- a loop where another met sections
+-- a loop if another met sections
 pub loop_otherwise : IsWrong 2 ((asks 0 (SectionsStart 1 Nowait), Section 1) ∷ []) (asks 1 one_nowait) (NoChunk)
 loop_otherwise = search rules
 
--- sections where another met a loop
+-- sections if another met a loop
 pub sections_otherwise : IsWrong 2 (take 1 loop_alone) (asks 1 (SectionsStart 1 Nowait)) (Section 0)
 sections_otherwise = search rules
 
--- a single where another met a loop
+-- a single if another met a loop
 pub single_otherwise : IsWrong 2 (take 1 loop_alone) (asks 1 SingleStart) (Executor false)
 single_otherwise = search rules
 
--- a single with words where another met a loop
+-- a single with words if another met a loop
 pub copy_otherwise : IsWrong 2 (take 1 loop_alone) (asks 1 SingleCopyStart) (Wait)
 copy_otherwise = search rules
 
 -- Second shares of a member that may start one
 
 -- a loop
-pub second_loop : MayAnswer (past_of one_share (recorded loop_alone [])) (asks 0 one_nowait) (Chunk (pos 0) 1) → ⊥
+pub second_loop : MayAnswer (past_of one_share (run_recorded loop_alone [])) (asks 0 one_nowait) (Chunk (pos 0) 1) → ⊥
 second_loop = search rules
 
 -- sections
-pub second_sections : MayAnswer (past_of one_share (recorded loop_alone [])) (asks 0 three_sections) (Section 1) → ⊥
+pub second_sections : MayAnswer (past_of one_share (run_recorded loop_alone [])) (asks 0 three_sections) (Section 1) → ⊥
 second_sections = search rules
 
 -- a single
-pub second_single : MayAnswer (past_of one_share (recorded loop_alone [])) (asks 0 SingleStart) (Executor true) → ⊥
+pub second_single : MayAnswer (past_of one_share (run_recorded loop_alone [])) (asks 0 SingleStart) (Executor true) → ⊥
 second_single = search rules
 
 -- and a single with words
-pub second_copy : MayAnswer (past_of one_share (recorded loop_alone [])) (asks 0 SingleCopyStart) (Executor true) → ⊥
+pub second_copy : MayAnswer (past_of one_share (run_recorded loop_alone [])) (asks 0 SingleCopyStart) (Executor true) → ⊥
 second_copy = search rules
 
 -- Resumes of a start that differs from what another has started since
@@ -182,7 +182,7 @@ end_too_early = search rules
 pub nowait_end_too_early : IsWrong 1 (take 1 loop_alone) (asks 0 LoopEndNowait) (Finished)
 nowait_end_too_early = search rules
 
--- a loop ends where another waits at a barrier
+-- a loop ends if another waits at a barrier
 pub end_otherwise : IsWrong 2 (take 7 early_arrivals) (asks 1 LoopEnd) (Passed)
 end_otherwise = search rules
 
@@ -214,7 +214,7 @@ sections_end_too_early = search rules
 pub sections_nowait_too_early : IsWrong 1 ((asks 0 (SectionsStart 1 Nowait), Section 1) ∷ []) (asks 0 SectionsEndNowait) (Finished)
 sections_nowait_too_early = search rules
 
--- sections end where another waits at a barrier
+-- sections end if another waits at a barrier
 pub sections_end_otherwise : IsWrong 2 (take 4 early_sections_end) (asks 1 SectionsEnd) (Passed)
 sections_end_otherwise = search rules
 
@@ -252,10 +252,10 @@ barrier_inside = search rules
 pub region_end_inside : IsWrong 1 (take 1 loop_alone) (asks 0 RegionEnd) (Passed)
 region_end_inside = search rules
 
--- a barrier where another ends the region
+-- a barrier if another ends the region
 pub barrier_otherwise : IsWrong 2 ((asks 0 RegionEnd, Wait) ∷ []) (asks 1 Barrier) (Passed)
 barrier_otherwise = search rules
 
--- and the region's end where another is at a barrier
+-- and the region's end if another is at a barrier
 pub region_end_otherwise : IsWrong 2 ((asks 0 Barrier, Wait) ∷ []) (asks 1 RegionEnd) (Passed)
 region_end_otherwise = search rules

@@ -8,7 +8,7 @@ use Rattle.gomp_types.specs.declared.refusal.Place.TheVariants.{Share}
 use Rattle.gomp_types.specs.declared.refusal.Refusal.TheVariants.{TooManyShares, Broken, Ended, NotDrained, Drained, NoMemory, Mismatch, Waiting, InsideShare}
 use Rattle.gomp_types.specs.declared.reply.Reply.TheVariants.{Chunk, NoChunk, Passed, Wait, Stopped, Refused}
 use Rattle.gomp_model.specs.Team.{MayAnswer, past_of, before_all}
-use Rattle.gomp_model.specs.Examples.{loop_with, owned_pieces, shrinking_pieces, one_share, whole_region, recorded, IsWrong, asks, dynamic_loop, one_nowait, loop_of_two, refused_ends, loop_alone, eight_ahead, differing_loop, differing_barrier, stopped_team, stopped_waiting, stopped_inside}
+use Rattle.gomp_model.specs.Examples.{loop_with, owned_pieces, shrinking_pieces, one_share, whole_region, run_recorded, IsWrong, asks, dynamic_loop, one_nowait, loop_of_two, refused_ends, loop_alone, eight_ahead, differing_loop, differing_barrier, stopped_team, stopped_waiting, stopped_inside}
 
 -- Pieces
 
@@ -83,7 +83,7 @@ share_refused_below_its_limit_is_wrong = search rules
 
 -- and one that is one too high
 pub share_opened_above_its_limit_is_wrong :
-    MayAnswer (past_of one_share (recorded loop_alone [])) (asks 0 one_nowait) (Chunk (pos 0) 1) → ⊥
+    MayAnswer (past_of one_share (run_recorded loop_alone [])) (asks 0 one_nowait) (Chunk (pos 0) 1) → ⊥
 share_opened_above_its_limit_is_wrong = search rules
 
 -- Regions and shares
@@ -137,7 +137,7 @@ pub other_kind_of_end_let_in_is_wrong :
     IsWrong 2 (take 1 loop_of_two) (asks 1 (dynamic_loop (pos 3) (pos 0) (pos 10) Nowait)) (Chunk (pos 3) 3)
 other_kind_of_end_let_in_is_wrong = search rules
 
--- the end of the region where another member waits at a barrier
+-- the end of the region if another member waits at a barrier
 pub other_barrier_let_in_is_wrong : IsWrong 2 (take 1 differing_barrier) (asks 1 RegionEnd) Passed
 other_barrier_let_in_is_wrong = search rules
 

@@ -10,11 +10,11 @@ use Rattle.gomp_types.specs.declared.event.Event.{Event}
 use Rattle.gomp_types.specs.declared.event.Event.TheVariants.{Arrive, Pass}
 use Rattle.gomp_types.specs.Tests.{Test}
 use Rattle.gomp_types.specs.Compare.{tag_differs, tag_with}
-use Rattle.gomp_types.specs.Events.{entered, passed, tag_at, barrier_met}
+use Rattle.gomp_types.specs.Events.{shares_entered, barriers_passed, tag_at, barrier_met}
 use Rattle.gomp_shares.specs.Starts.{leaves}
-use Rattle.gomp_model.specs.Row.{Row, plain}
+use Rattle.gomp_model.specs.Row.{Row, plain_row}
 
--- the answer at a wait: passed where its goal is met, else wait
+-- the answer at a wait: passed if its goal is met, else wait
 abbrev pub Awaits : Bool → Reply → Type 0
 Awaits met Passed = met ≡ true
 Awaits met Wait = met ≡ false
@@ -23,20 +23,20 @@ Awaits met _ = ⊥
 -- an arrival is compared once with those of the other members at the same barrier
 abbrev pub compared_arrival : Arrival → Bool → ℕ → List Event → List Test
 compared_arrival kind true m h = []
-compared_arrival kind false m h = (tag_differs (tag_with kind (entered m h)) (tag_at (passed m h) h), Mismatch) ∷ []
+compared_arrival kind false m h = (tag_differs (tag_with kind (shares_entered m h)) (tag_at (barriers_passed m h) h), Mismatch) ∷ []
 
 -- the member's next barrier is passed
 abbrev pub passes : ℕ → List Event → Reply → List Event
-passes m h Passed = Pass (passed m h) m ∷ []
+passes m h Passed = Pass (barriers_passed m h) m ∷ []
 passes m h _ = []
 
 -- a call that arrives at a barrier, and passes it once all have arrived
-abbrev pub arrival : Arrival → Row
-arrival kind = record plain {
-  compared = λ again m p. compared_arrival kind again m p.events;
+abbrev pub arrival_row : Arrival → Row
+arrival_row kind = record plain_row {
+  compared = λ repeated m p. compared_arrival kind repeated m p.events;
   arrives = Some kind;
-  begins = λ m p. Arrive (passed m p.events) m (tag_with kind (entered m p.events)) ∷ [];
-  may_reply = λ m p reply. Awaits (barrier_met p.terms.members (passed m p.events) p.events) reply;
+  begins = λ m p. Arrive (barriers_passed m p.events) m (tag_with kind (shares_entered m p.events)) ∷ [];
+  may_reply = λ m p reply. Awaits (barrier_met p.terms.members (barriers_passed m p.events) p.events) reply;
   gives = λ m p reply. passes m p.events reply;
 }
 
@@ -51,8 +51,10 @@ ending tests row = record row {
 abbrev pub outside_tests : Seen → List Test
 outside_tests seen = (is_some seen.current, InsideShare) ∷ []
 
+-- a barrier; it may find no memory
 abbrev pub barrier_row : Row
-barrier_row = record (arrival BarrierArrival) { by_place = λ limits seen. outside_tests seen; memory = true }
+barrier_row = record (arrival_row BarrierArrival) { by_place = λ limits seen. outside_tests seen; memory = true }
 
+-- the region's end
 abbrev pub region_end_row : Row
-region_end_row = record (arrival RegionEndArrival) { by_place = λ limits seen. outside_tests seen }
+region_end_row = record (arrival_row RegionEndArrival) { by_place = λ limits seen. outside_tests seen }

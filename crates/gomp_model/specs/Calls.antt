@@ -8,7 +8,7 @@ use Rattle.gomp_types.specs.declared.reply.Reply.{Reply}
 use Rattle.gomp_types.specs.declared.reply.Reply.TheVariants.{Stopped}
 use Rattle.gomp_types.specs.declared.event.Event.{Event}
 use Rattle.gomp_types.specs.declared.event.Event.TheVariants.{Break}
-use Rattle.gomp_model.specs.Row.{Row, plain}
+use Rattle.gomp_model.specs.Row.{Row, plain_row}
 use Rattle.gomp_model.specs.Loops.{loop_start_row, loop_next_row, loop_end_row, loop_end_nowait_row}
 use Rattle.gomp_model.specs.Sections.{sections_start_row, sections_next_row, sections_end_row, sections_end_nowait_row}
 use Rattle.gomp_model.specs.Singles.{single_start_row, single_copy_start_row, single_copy_end_row}
@@ -17,16 +17,18 @@ use Rattle.gomp_model.specs.Arrivals.{barrier_row, region_end_row}
 
 -- a resume with no wait open is refused, and so has no other answer
 abbrev pub resume_row : Row
-resume_row = record plain { compared = λ again m p. (true, NotInside) ∷ []; may_reply = λ m p reply. ⊥ }
+resume_row = record plain_row { compared = λ repeated m p. (true, NotInside) ∷ []; may_reply = λ m p reply. ⊥ }
 
 -- a member that stops the team breaks it
 abbrev pub stop_given : ℕ → Reply → List Event
 stop_given m Stopped = Break m AtStop ∷ []
 stop_given m _ = []
 
+-- a stop is answered so, and nothing else
 abbrev pub stop_row : Row
-stop_row = record plain { may_reply = λ m p reply. reply ≡ Stopped; gives = λ m p reply. stop_given m reply }
+stop_row = record plain_row { may_reply = λ m p reply. reply ≡ Stopped; gives = λ m p reply. stop_given m reply }
 
+-- the row of a call
 abbrev pub row_of : Call → Row
 row_of (LoopStart loop) = loop_start_row loop
 row_of LoopNext = loop_next_row

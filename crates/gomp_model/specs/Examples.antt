@@ -20,7 +20,7 @@ use Rattle.gomp_types.specs.Least.{Answers}
 use Rattle.gomp_types.specs.EventLists.{newest_first}
 use Rattle.gomp_types.specs.declared.event.Event.{Event}
 use Rattle.gomp_model.specs.Past.{Terms, Past}
-use Rattle.gomp_model.specs.Row.{since, row_tests}
+use Rattle.gomp_model.specs.Row.{begun_past, row_tests}
 use Rattle.gomp_model.specs.Calls.{row_of}
 use Rattle.gomp_model.specs.Team.{Record, MayAnswer, Caused, before_all, past_of}
 
@@ -28,9 +28,10 @@ use Rattle.gomp_model.specs.Team.{Record, MayAnswer, Caused, before_all, past_of
 abbrev pub Run : Type 0
 Run = List (Step × Reply)
 
-abbrev pub recorded : Run → Record → Record
-recorded [] before = before
-recorded (pair ∷ pairs) before = recorded pairs (pair ∷ before)
+-- the record of the run, after what was before
+abbrev pub run_recorded : Run → Record → Record
+run_recorded [] before = before
+run_recorded (pair ∷ pairs) before = run_recorded pairs (pair ∷ before)
 
 -- a team of this size, with the standard limits
 abbrev pub team_of : ℕ → Terms
@@ -41,19 +42,20 @@ team_of members = record {
 }
 
 -- what is known after the run
-abbrev pub past_after : ℕ → Run → Past
-past_after members run = past_of (team_of members) (recorded run [])
+abbrev pub past_after_run : ℕ → Run → Past
+past_after_run members run = past_of (team_of members) (run_recorded run [])
 
 -- each reply of the run has its cause
 abbrev pub IsRunOf : Terms → Run → Type 0
-IsRunOf terms run = Caused terms (recorded run [])
+IsRunOf terms run = Caused terms (run_recorded run [])
 
+-- each reply of the run has its cause, in a team of this size with the standard limits
 abbrev pub IsRun : ℕ → Run → Type 0
 IsRun members run = IsRunOf (team_of members) run
 
 -- this answer has no cause after the run
 abbrev pub IsWrong : ℕ → Run → Step → Reply → Type 0
-IsWrong members run step reply = MayAnswer (past_after members run) step reply → ⊥
+IsWrong members run step reply = MayAnswer (past_after_run members run) step reply → ⊥
 
 -- none of these answers has
 abbrev pub AreWrong : ℕ → Run → Step → List Reply → Type 0
@@ -70,8 +72,8 @@ past_with members happened = record (before_all (team_of members)) { events = ne
 
 -- a call is answered so, made or repeated, after these events
 abbrev pub MayReplyAfter : Bool → ℕ → List Event → ℕ → Call → Reply → Type 0
-MayReplyAfter again members happened m call reply =
-    (row_of call).may_reply m (since again (row_of call) m (past_with members happened)) reply
+MayReplyAfter repeated members happened m call reply =
+    (row_of call).may_reply m (begun_past repeated (row_of call) m (past_with members happened)) reply
 
 -- a call by itself, apart from the tests on the team and on an open wait
 abbrev pub IsReplyAfter : ℕ → List Event → ℕ → Call → Reply → Type 0
@@ -82,6 +84,7 @@ IsReplyAfter members happened m call reply =
 abbrev pub IsWrongAfter : ℕ → List Event → ℕ → Call → Reply → Type 0
 IsWrongAfter members happened m call reply = IsReplyAfter members happened m call reply → ⊥
 
+-- the step in which a member makes this call
 abbrev pub asks : ℕ → Call → Step
 asks m call = record { member = m; call = call }
 
@@ -190,10 +193,11 @@ whole_region =
     ∷ (asks 0 Barrier, Refused Ended)
     ∷ []
 
--- the loop of all values of an i64, upwards and downwards
+-- the loop of all values of an i64, upwards
 abbrev pub over_all_values : ℤ → LoopDesc
 over_all_values incr = record { start = negsuc 9223372036854775807; end = pos 9223372036854775807; incr = incr; sched = Dynamic; chunk = pos 0; ordered = false; end_kind = WaitEnd }
 
+-- and downwards
 abbrev pub down_all_values : ℤ → LoopDesc
 down_all_values incr = record { start = pos 9223372036854775807; end = negsuc 9223372036854775807; incr = incr; sched = Dynamic; chunk = pos 0; ordered = false; end_kind = WaitEnd }
 
@@ -210,6 +214,7 @@ abbrev pub by_threes : ℤ → Call
 by_threes end =
     LoopStart (record { start = pos 0; end = end; incr = pos 3; sched = Dynamic; chunk = pos 1; ordered = false; end_kind = Nowait })
 
+-- so neither member breaks the team
 abbrev pub other_end_values : Run
 other_end_values = (asks 0 (by_threes (pos 10)), Chunk (pos 0) 1) ∷ (asks 1 (by_threes (pos 12)), Chunk (pos 3) 1) ∷ []
 
@@ -222,7 +227,7 @@ differing_loop =
     ∷ (asks 1 RegionEnd, Refused (Broken (record { member = 1; place = Share 0 })))
     ∷ []
 
--- and so does one that ends the region where another waits at a barrier
+-- and so does one that ends the region if another waits at a barrier
 abbrev pub differing_barrier : Run
 differing_barrier =
     (asks 0 Barrier, Wait)
@@ -243,6 +248,7 @@ stopped_team =
 abbrev pub stopped_waiting : Run
 stopped_waiting = (asks 0 Barrier, Wait) ∷ (asks 0 Stop, Stopped) ∷ []
 
+-- a member may stop its team from within a share
 abbrev pub stopped_inside : Run
 stopped_inside = (asks 0 one_nowait, Chunk (pos 0) 1) ∷ (asks 0 Stop, Stopped) ∷ []
 

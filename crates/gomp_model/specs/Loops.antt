@@ -8,23 +8,27 @@ use Rattle.gomp_types.specs.Pieces.{shape_of}
 use Rattle.gomp_types.specs.Events.{open_share}
 use Rattle.gomp_shares.specs.Loops.{DealsOut, DealsNext, piece_given, next_given, next_tests, end_tests}
 use Rattle.gomp_shares.specs.Starts.{leaves}
-use Rattle.gomp_model.specs.Row.{Row, plain, at_once}
-use Rattle.gomp_model.specs.Starts.{start}
-use Rattle.gomp_model.specs.Arrivals.{arrival, ending}
+use Rattle.gomp_model.specs.Row.{Row, plain_row, at_once}
+use Rattle.gomp_model.specs.Starts.{start_row}
+use Rattle.gomp_model.specs.Arrivals.{arrival_row, ending}
 
+-- the start of a loop
 abbrev pub loop_start_row : LoopDesc → Row
-loop_start_row loop = start true (loop_tests loop) (shape_of loop) DealsOut piece_given
+loop_start_row loop = start_row true (loop_tests loop) (shape_of loop) DealsOut piece_given
 
+-- the next piece; of an ordered loop a member may wait for the turn first
 abbrev pub loop_next_row : Row
-loop_next_row = record plain {
+loop_next_row = record plain_row {
   by_place = λ limits seen. next_tests seen;
   stays = true;
   may_reply = λ m p reply. DealsNext p.terms.members m (open_share m p.events) reply p.events;
   gives = λ m p reply. next_given p.terms.members (open_share m p.events) m p.events reply;
 }
 
+-- a loop's end with a barrier
 abbrev pub loop_end_row : Row
-loop_end_row = ending (end_tests Wait) (arrival ShareEnd)
+loop_end_row = ending (end_tests Wait) (arrival_row ShareEnd)
 
+-- a loop's end without one
 abbrev pub loop_end_nowait_row : Row
 loop_end_nowait_row = at_once (end_tests Nowait) leaves

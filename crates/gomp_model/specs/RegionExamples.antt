@@ -9,10 +9,11 @@ use Rattle.gomp_types.specs.declared.reply.Reply.TheVariants.{Chunk, NoChunk, Se
 use Rattle.gomp_model.specs.Examples.{Run, asks, dynamic_loop, one_nowait, eight_ahead, loop_by}
 use Rattle.gomp_model.specs.ShareExamples.{ordered_by}
 
--- a member goes through a single, and through eight
+-- a member goes through a single
 abbrev pub one_single : ℕ → Bool → Run
 one_single m executes = (asks m SingleStart, Executor executes) ∷ []
 
+-- and through eight
 abbrev pub eight_singles : ℕ → Bool → Run
 eight_singles m executes =
     one_single m executes ++ one_single m executes ++ one_single m executes ++ one_single m executes
@@ -68,7 +69,7 @@ differing_at_resume =
     ∷ (asks 0 Resume, Refused (Broken (record { member = 0; place = Share 8 })))
     ∷ []
 
--- and so do the other starts, where the share was opened with a single
+-- and so do the other starts, if the share was opened with a single
 abbrev pub differing_ninth : Call → Run
 differing_ninth call =
     eight_singles 0 true

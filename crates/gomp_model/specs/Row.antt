@@ -13,17 +13,18 @@ use Rattle.gomp_types.specs.declared.event.Arrival.{Arrival}
 use Rattle.gomp_types.specs.declared.event.Event.{Event}
 use Rattle.gomp_types.specs.declared.event.Event.TheVariants.{Break}
 use Rattle.gomp_types.specs.Tests.{Test}
-use Rattle.gomp_types.specs.Limits.{shown}
-use Rattle.gomp_types.specs.Events.{passed}
+use Rattle.gomp_types.specs.Limits.{shown_number}
+use Rattle.gomp_types.specs.Events.{barriers_passed}
 use Rattle.gomp_types.specs.Seen.{seen_of}
 use Rattle.gomp_model.specs.Past.{Past}
 
+-- a call's row, with one field for each thing that a step asks of it
 pub record Row : Type 1 where
   -- its tests that the member's place among the shares decides
   pub by_place : Limits → Seen → List Test
   -- those that the team decides beside them; no call has one before there are tasks, names and cancellation
   pub by_team : ℕ → Past → List Test
-  -- those that compare its construct with other members'; a resume makes them too, where the flag is true
+  -- those that compare its construct with other members'; the flag says that a resume repeats the call
   pub compared : Bool → ℕ → Past → List Test
   -- whether it may find no memory
   pub memory : Bool
@@ -35,7 +36,7 @@ pub record Row : Type 1 where
   pub arrives : Option Arrival
   -- whether it puts words for the other members
   pub puts : Bool
-  -- the events that it gives whatever it is answered, the newest first
+  -- the events that it gives before its reply, unless it is refused, the newest first
   pub begins : ℕ → Past → List Event
   -- what it may be answered after these
   pub may_reply : ℕ → Past → Reply → Type 0
@@ -45,11 +46,11 @@ pub record Row : Type 1 where
   pub place : ℕ → List Event → Place
 
 -- a call with no tests, which is done at once: what a row leaves as it is
-abbrev pub plain : Row
-plain = record {
+abbrev pub plain_row : Row
+plain_row = record {
   by_place = λ limits seen. [];
   by_team = λ m p. [];
-  compared = λ again m p. [];
+  compared = λ repeated m p. [];
   memory = false;
   starts = None;
   stays = false;
@@ -58,22 +59,22 @@ plain = record {
   begins = λ m p. [];
   may_reply = λ m p reply. reply ≡ Finished;
   gives = λ m p reply. [];
-  place = λ m h. AtBarrier (shown (passed m h));
+  place = λ m h. AtBarrier (shown_number (barriers_passed m h));
 }
 
 -- a call that is done at once, with these tests, and gives these events
 abbrev pub at_once : (Seen → List Test) → (ℕ → List Event → List Event) → Row
-at_once tests events = record plain { by_place = λ limits seen. tests seen; begins = λ m p. events m p.events }
+at_once tests events = record plain_row { by_place = λ limits seen. tests seen; begins = λ m p. events m p.events }
 
 -- these events, unless the call is repeated
-abbrev pub once : List Event → Bool → List Event
-once [] again = []
-once (event ∷ events) true = []
-once (event ∷ events) false = event ∷ events
+abbrev pub unless_repeated : List Event → Bool → List Event
+unless_repeated [] repeated = []
+unless_repeated (event ∷ events) true = []
+unless_repeated (event ∷ events) false = event ∷ events
 
 -- the past once the call has begun
-abbrev pub since : Bool → Row → ℕ → Past → Past
-since again row m p = record p { events = once (row.begins m p) again ++ p.events }
+abbrev pub begun_past : Bool → Row → ℕ → Past → Past
+begun_past repeated row m p = record p { events = unless_repeated (row.begins m p) repeated ++ p.events }
 
 -- the tests of a call
 abbrev pub row_tests : Bool → Row → ℕ → Past → List Test
@@ -87,5 +88,5 @@ refusal_gives _ m place = []
 
 -- the events after the call and its reply
 abbrev pub events_after : Bool → Row → ℕ → Past → Reply → List Event
-events_after again row m p (Refused refusal) = refusal_gives refusal m (row.place m p.events) ++ p.events
-events_after again row m p reply = row.gives m (since again row m p) reply ++ (since again row m p).events
+events_after repeated row m p (Refused refusal) = refusal_gives refusal m (row.place m p.events) ++ p.events
+events_after repeated row m p reply = row.gives m (begun_past repeated row m p) reply ++ (begun_past repeated row m p).events

@@ -70,7 +70,7 @@ misplaced_calls =
     ∷ (asks 0 (SingleCopyEnd (7 ∷ [])), Refused NotInside)
     ∷ []
 
--- a member that meets a single with words where another met one without breaks the team
+-- a member that meets a single with words if another met one without breaks the team
 abbrev pub differing_single : Run
 differing_single =
     (asks 0 SingleStart, Executor true)
@@ -78,11 +78,11 @@ differing_single =
     ∷ (asks 0 SingleStart, Refused (Broken (record { member = 1; place = Share 0 })))
     ∷ []
 
--- so does one that meets a single without words where another met one with them
+-- so does one that meets a single without words if another met one with them
 abbrev pub differing_copy : Run
 differing_copy = (asks 0 SingleCopyStart, Executor true) ∷ (asks 1 SingleStart, Refused Mismatch) ∷ []
 
--- and one that meets a loop where another met sections, alike in all but that
+-- and one that meets a loop if another met sections, alike in all but that
 abbrev pub differing_sections : Run
 differing_sections =
     (asks 0 (SectionsStart 2 Nowait), Section 1) ∷ (asks 1 (dynamic_loop (pos 1) (pos 1) (pos 3) Nowait), Refused Mismatch) ∷ []
@@ -114,7 +114,7 @@ ordered_of_two =
     ∷ (asks 1 LoopEndNowait, Finished)
     ∷ []
 
--- and so it does where it asks for its next piece, whether any has a part or not
+-- and so it does if it asks for its next piece, whether any has a part or not
 abbrev pub handed_of_two : Run
 handed_of_two =
     (asks 0 two_ordered, Chunk (pos 0) 1)

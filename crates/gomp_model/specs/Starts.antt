@@ -5,20 +5,20 @@ use Rattle.gomp_types.specs.declared.reply.Reply.{Reply}
 use Rattle.gomp_types.specs.declared.shape.Shape.{Shape}
 use Rattle.gomp_types.specs.declared.event.Event.{Event}
 use Rattle.gomp_types.specs.Tests.{Test}
-use Rattle.gomp_types.specs.Limits.{shown}
-use Rattle.gomp_types.specs.Events.{entered}
+use Rattle.gomp_types.specs.Limits.{shown_number}
+use Rattle.gomp_types.specs.Events.{shares_entered}
 use Rattle.gomp_shares.specs.Starts.{Deals, Starts, start_tests, compared_share, entry_and}
-use Rattle.gomp_model.specs.Row.{Row, plain}
+use Rattle.gomp_model.specs.Row.{Row, plain_row}
 
 -- whether it asks for memory, its construct's own tests, its shape, how its share answers, and what that gives
-abbrev pub start : Bool → List Test → Shape → Deals → (ℕ → Shape → ℕ → Reply → List Event) → Row
-start memory own shape deals Given = record plain {
+abbrev pub start_row : Bool → List Test → Shape → Deals → (ℕ → Shape → ℕ → Reply → List Event) → Row
+start_row memory own shape deals Given = record plain_row {
   by_place = start_tests own;
-  compared = λ again m p. compared_share shape m p.events;
+  compared = λ repeated m p. compared_share shape m p.events;
   memory = memory;
   starts = Some shape;
   stays = true;
   may_reply = λ m p reply. Starts deals p.terms.members m shape reply p.events;
   gives = λ m p reply. entry_and Given shape m p.events reply;
-  place = λ m h. Share (shown (entered m h));
+  place = λ m h. Share (shown_number (shares_entered m h));
 }

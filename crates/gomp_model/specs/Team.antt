@@ -10,11 +10,11 @@ use Rattle.gomp_types.specs.declared.refusal.Refusal.{Refusal}
 use Rattle.gomp_types.specs.declared.refusal.Refusal.TheVariants.{BadMember, Ended, Broken, Waiting, NoMemory}
 use Rattle.gomp_types.specs.declared.event.Event.{Event}
 use Rattle.gomp_types.specs.Tests.{Test}
-use Rattle.gomp_types.specs.Limits.{capped}
+use Rattle.gomp_types.specs.Limits.{capped_limits}
 use Rattle.gomp_types.specs.Least.{least}
 use Rattle.gomp_types.specs.Events.{has_left_region, clash_of}
 use Rattle.gomp_model.specs.Past.{Terms, Past}
-use Rattle.gomp_model.specs.Row.{Row, since, row_tests, events_after}
+use Rattle.gomp_model.specs.Row.{Row, begun_past, row_tests, events_after}
 use Rattle.gomp_model.specs.Calls.{row_of}
 
 -- what was asked and answered, the newest pair first
@@ -27,22 +27,23 @@ record_after [] replies before = before
 record_after (step ∷ steps) [] before = before
 record_after (step ∷ steps) (reply ∷ replies) before = record_after steps replies ((step, reply) ∷ before)
 
--- the call that a step makes, or repeats where it is a resume
-abbrev pub meant : Call → Option Call → Call
-meant Resume (Some call) = call
-meant call waiting = call
+-- the call that a step makes, or repeats if it is a resume
+abbrev pub call_meant : Call → Option Call → Call
+call_meant Resume (Some call) = call
+call_meant call waiting = call
 
+-- whether a call asks again what waits
 abbrev pub is_resume : Call → Bool
 is_resume Resume = true
 is_resume _ = false
 
 -- the row of the call that a step makes or repeats
 abbrev pub row_at : Past → Step → Row
-row_at p step = row_of (meant step.call (p.waits step.member))
+row_at p step = row_of (call_meant step.call (p.waits step.member))
 
 -- Tests
 
--- a broken team answers nothing
+-- a broken team refuses every call
 abbrev pub broken_tests : Option Clash → List Test
 broken_tests None = []
 broken_tests (Some clash) = (true, Broken clash) ∷ []
@@ -57,6 +58,7 @@ wait_tests Resume waiting = []
 wait_tests Stop waiting = []
 wait_tests _ waiting = (is_some waiting, Waiting) ∷ []
 
+-- all that a step is tested for: the member, its open wait, and its call
 abbrev pub tests_of : Past → Step → List Test
 tests_of p step =
     member_tests p.terms.members step.member p.events
@@ -68,7 +70,7 @@ refusal_of p step = least (tests_of p step)
 
 -- Replies
 
--- a refusal is that of the tests; where none holds, a call that asks for memory may find none, but not where it is repeated
+-- a refusal is the one of the tests; if no test holds, a call that asks for memory may find none, a resume may not
 abbrev pub MayRefuse : Option Refusal → Refusal → Bool → Type 0
 MayRefuse first NoMemory asks = (first ≡ None) × IsTrue asks
 MayRefuse first refusal asks = first ≡ Some refusal
@@ -78,30 +80,31 @@ abbrev pub MayAnswer : Past → Step → Reply → Type 0
 MayAnswer p step (Refused refusal) = MayRefuse (refusal_of p step) refusal (row_of step.call).memory
 MayAnswer p step reply =
     (refusal_of p step ≡ None)
-    × (row_at p step).may_reply step.member (since (is_resume step.call) (row_at p step) step.member p) reply
+    × (row_at p step).may_reply step.member (begun_past (is_resume step.call) (row_at p step) step.member p) reply
 
 -- What a step leaves
 
 -- a refusal leaves a member's wait, Wait opens one, every other reply closes it
 abbrev pub wait_after : Reply → Call → Option Call → Option Call
 wait_after (Refused refusal) call waiting = waiting
-wait_after Wait call waiting = Some (meant call waiting)
+wait_after Wait call waiting = Some (call_meant call waiting)
 wait_after _ call waiting = None
 
-abbrev pub after : Past → Step → Reply → Past
-after p step reply = record p {
+-- the past after a step and its reply: the row's events, and the member's wait
+abbrev pub past_after : Past → Step → Reply → Past
+past_after p step reply = record p {
   events = events_after (is_resume step.call) (row_at p step) step.member p reply;
   waits = λ m. if step.member == m then wait_after reply step.call (p.waits m) else p.waits m;
 }
 
 -- a new team: no limit of it is above the standard one
 abbrev pub before_all : Terms → Past
-before_all terms = record { terms = record terms { limits = capped terms.limits }; events = []; waits = λ m. None }
+before_all terms = record { terms = record terms { limits = capped_limits terms.limits }; events = []; waits = λ m. None }
 
 -- what is known of a record, the newest step first
 abbrev pub past_of : Terms → Record → Past
 past_of terms [] = before_all terms
-past_of terms (pair ∷ earlier) = after (past_of terms earlier) pair.0 pair.1
+past_of terms (pair ∷ earlier) = past_after (past_of terms earlier) pair.0 pair.1
 
 -- all that happened, the newest first
 abbrev pub events : Terms → Record → List Event

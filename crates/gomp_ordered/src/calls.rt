@@ -5,15 +5,15 @@ ghost use Rattle.gomp_types.specs.Least.{least};
 ghost use Rattle.gomp_shares.specs.Serves.{IsDone, Serves};
 ghost use Rattle.gomp_shares.specs.OrderedParts.{AnswersPart, BeginsOwnPart, part_started, part_tests, AnswersPartEnd, part_end_tests, part_ended_at_once};
 
-use crate::own::start_refusal;
+use crate::admission::start_refusal;
 use gomp_shares::Shares;
 use gomp_types::{Refusal, Reply};
 
 /// Begins the ordered part of the iteration with this value.
 ///
-/// `Wait` if some piece before the member's was not handed on, and nothing is begun: the layer above
-/// calls again on `Resume`. Refused with `OutsideShare` if the member is in no loop, `InOrdered` if it
-/// is in an ordered part, `NotOrdered` if its loop has no `ordered` clause, and `OrderedBackwards` if no
+/// `Wait` if some piece before the member's was not handed on, and nothing is begun: the caller
+/// asks again. Refused with `OutsideShare` if the member is in no loop, `InOrdered` if it is in an
+/// ordered part, `NotOrdered` if its loop has no `ordered` clause, and `OrderedBackwards` if no
 /// iteration of its last piece has this value, or its part is not after the last one.
 pub fn ordered_start<S: Shares>(shares: &mut S, member: u16, value: i64) -> Reply
     requires member { member < S.members shares.old }
@@ -27,8 +27,8 @@ pub fn ordered_start<S: Shares>(shares: &mut S, member: u16, value: i64) -> Repl
     }
 }
 
-/// Begins the ordered part of the iteration with this value, which the member's own tests let it begin
-/// ([`start_refusal`]).
+/// Begins the ordered part of the iteration with this value, which the member's own tests let it
+/// begin ([`start_refusal`]).
 ///
 /// `Wait` as [`ordered_start`] has it.
 pub fn begin_part<S: Shares>(shares: &mut S, member: u16, value: i64) -> Reply

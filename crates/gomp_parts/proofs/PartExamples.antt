@@ -8,7 +8,7 @@ use Rattle.gomp_types.specs.declared.event.Event.TheVariants.{Enter, End, Pass}
 use Rattle.gomp_types.specs.Limits.{standard}
 use Rattle.gomp_types.specs.Singles.{single_shape}
 use Rattle.gomp_model.specs.Past.{Terms, Past}
-use Rattle.gomp_model.specs.Row.{Row, plain}
+use Rattle.gomp_model.specs.Row.{Row, plain_row}
 use Rattle.gomp_model.specs.Loops.{loop_end_nowait_row}
 use Rattle.gomp_model.specs.Arrivals.{barrier_row}
 use Rattle.gomp_model.specs.Calls.{resume_row}
@@ -28,13 +28,13 @@ words_at_a_place = (refl, refl, refl, refl)
 
 -- a row whose comparison has this test
 abbrev compared_by : Bool → Row
-compared_by found = record plain { compared = λ again m p. (found, InsideShare) ∷ [] }
+compared_by found = record plain_row { compared = λ repeated m p. (found, InsideShare) ∷ [] }
 
--- a refusal by the member's place comes first where no later test has a lesser number
-pub place_comes_first : ComesFirst plain (Some EndDiffers) × ComesFirst (compared_by true) None × (ComesFirst (compared_by true) (Some EndDiffers) → ⊥)
+-- a refusal by the member's place comes first if no later test has a lesser number
+pub place_comes_first : ComesFirst plain_row (Some EndDiffers) × ComesFirst (compared_by true) None × (ComesFirst (compared_by true) (Some EndDiffers) → ⊥)
 place_comes_first = (λ m p. refl, tt, λ first. absurd (let other = first 0 (before_all two_members) in cc))
 
--- what its place has shown of a call is lost where the call is repeated and its member has left
+-- what its place has shown of a call is lost if the call is repeated and its member has left
 pub shown_in_place : (in_place true false ≡ true) × (in_place true true ≡ true) × (in_place false false ≡ true) × (in_place false true ≡ false)
 shown_in_place = (refl, refl, refl, refl)
 

@@ -99,9 +99,9 @@ compared_then row m p limits seen found other bounds at is none team same =
     both_none : (place team compared : Option Refusal) → place ≡ None → team ≡ None → lesser place (lesser team compared) ≡ compared
     both_none place team compared one two = rw (one, two) refl
 
--- what the comparison answers is the call's answer: where it is repeated no other test is made, and else its place has let it
-pub compared_last : (again : Bool) (row : Row) (m : ℕ) (p : Past) (limits : Limits) (seen : Seen) (found other : Option Refusal) → p.terms.limits ≡ limits → seen ≡ seen_of m p.events → ByPlace row limits seen found →
-    (again ≡ false → found ≡ None) → other ≡ least (row.compared again m p) → other ≡ least (row_tests again row m p)
+-- what the comparison answers is the call's answer: if it is repeated no other test is made, and else its place has let it
+pub compared_last : (repeated : Bool) (row : Row) (m : ℕ) (p : Past) (limits : Limits) (seen : Seen) (found other : Option Refusal) → p.terms.limits ≡ limits → seen ≡ seen_of m p.events → ByPlace row limits seen found →
+    (repeated ≡ false → found ≡ None) → other ≡ least (row.compared repeated m p) → other ≡ least (row_tests repeated row m p)
 compared_last true row m p limits seen found other bounds at place fine same = same
 compared_last false row m p limits seen found other bounds at place fine same = compared_then row m p limits seen found other bounds at place.place (fine refl) (place.team m p) same
 

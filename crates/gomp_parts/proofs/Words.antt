@@ -78,8 +78,8 @@ pub needs_share : (seen : Seen) → least (put_tests seen) ≡ None → seen.cur
 needs_share seen none outside = not_held (not (is_executor seen)) NotInside none (rw outside refl)
 
 -- two numbers with one place are a multiple of eight apart
-places_apart : (i j : ℕ) → j < i → i % OPEN_SHARES ≡ j % OPEN_SHARES → (k : ℕ) × (i ≡ OPEN_SHARES * suc k + j)
-places_apart i j lt same = (i / 8 - j / 8 - 1, let a = div-add-mod i OPEN_SHARES in let b = div-add-mod j OPEN_SHARES in omega arith)
+eights_apart : (i j : ℕ) → j < i → i % OPEN_SHARES ≡ j % OPEN_SHARES → (k : ℕ) × (i ≡ OPEN_SHARES * suc k + j)
+eights_apart i j lt same = (i / 8 - j / 8 - 1, let a = div-add-mod i OPEN_SHARES in let b = div-add-mod j OPEN_SHARES in omega arith)
 
 not_some : {A : Type 0} (x : Option A) → ((y : A) → x ≡ Some y → ⊥) → x ≡ None
 not_some None never = refl
@@ -94,9 +94,9 @@ none_at : (members : ℕ) (places : List (Option Kept)) (i j : ℕ) (shape : Sha
     shape_at i h ≡ Some shape → is_over members i h ≡ false → is_over members j h ≡ false → j ≢ i → i % OPEN_SHARES ≡ j % OPEN_SHARES → payload_at j h ≡ None
 none_at members places i j shape h before st at open_ still other same =
     not_some (payload_at j h) (λ words is. elim (cases_lt j i) [
-      | inl below ↦ let far = places_apart i j below same in not_both (is_over members j h) (before i j far.0 shape at far.1) still
+      | inl below ↦ let far = eights_apart i j below same in not_both (is_over members j h) (before i j far.0 shape at far.1) still
       | inr past ↦
-          let far = places_apart j i (omega arith) (sym same) in
+          let far = eights_apart j i (omega arith) (sym same) in
           let was = some_of (shape_at j h) (st.entered j words is) in
           not_both (is_over members i h) (before j i far.0 was.0 was.1 far.1) open_
     ])

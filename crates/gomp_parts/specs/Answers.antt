@@ -15,8 +15,8 @@ use Rattle.gomp_types.specs.Seen.{seen_of}
 use Rattle.gomp_shares.specs.Calls.{MayOpenAs}
 use Rattle.gomp_shares.specs.Starts.{leaves}
 use Rattle.gomp_model.specs.Past.{Past}
-use Rattle.gomp_model.specs.Row.{Row, once, since}
-use Rattle.gomp_model.specs.Arrivals.{arrival, ending}
+use Rattle.gomp_model.specs.Row.{Row, unless_repeated, begun_past}
+use Rattle.gomp_model.specs.Arrivals.{arrival_row, ending}
 use Rattle.gomp_types.specs.declared.event.Arrival.TheVariants.{ShareEnd}
 use Rattle.gomp_barrier.specs.Stands.{BarriersView, Stands as BarriersStand}
 use Rattle.gomp_parts.specs.declared.payloads.Put.{Put}
@@ -46,19 +46,19 @@ pub record Admits (row : Row) (limits : Limits) (seen : Seen) (found : Result (O
   -- a call whose member leaves its place before it waits starts no share
   pub leaving : row.stays ≡ false → row.starts ≡ None
 
--- whether what its place has shown of a call holds: where it is made, and where it is repeated if its member has stayed there
+-- whether what its place has shown of a call holds: it does if the call is made, and if it is repeated by a member that has stayed there
 abbrev pub in_place : Bool → Bool → Bool
-in_place true again = true
-in_place false again = not again
+in_place true repeated = true
+in_place false repeated = not repeated
 
 -- Answers
 
 -- none of the tests of a call with this row holds, in a past of a team of so many members; one that is repeated is one that may wait
-pub record IsReady (row : Row) (members : ℕ) (again : Bool) (m : ℕ) (p : Past) : Type 0 where
+pub record IsReady (row : Row) (members : ℕ) (repeated : Bool) (m : ℕ) (p : Past) : Type 0 where
   pub members_are : p.terms.members ≡ members
-  pub place : in_place row.stays again ≡ true → least (row.by_place p.terms.limits (seen_of m p.events)) ≡ None
-  pub compared : least (row.compared again m p) ≡ None
-  pub waits : again ≡ true → (q : Past) × row.may_reply m q Wait
+  pub place : in_place row.stays repeated ≡ true → least (row.by_place p.terms.limits (seen_of m p.events)) ≡ None
+  pub compared : least (row.compared repeated m p) ≡ None
+  pub waits : repeated ≡ true → (q : Past) × row.may_reply m q Wait
 
 -- no test that the place of a member which sees this decides holds, by some limits
 abbrev pub IsPlaced : Row → Seen → Type 0
@@ -66,19 +66,19 @@ IsPlaced row seen = (limits : Limits) × (least (row.by_place limits seen) ≡ N
 
 -- what a reply that is no refusal may be
 abbrev pub MayReply : Row → Bool → ℕ → Past → Reply → Type 0
-MayReply row again m p reply = row.may_reply m (since again row m p) reply
+MayReply row repeated m p reply = row.may_reply m (begun_past repeated row m p) reply
 
 -- the events after the call and such a reply
 abbrev pub given_after : Row → Bool → ℕ → Past → Reply → List Event
-given_after row again m p reply = row.gives m (since again row m p) reply ++ (since again row m p).events
+given_after row repeated m p reply = row.gives m (begun_past repeated row m p) reply ++ (begun_past repeated row m p).events
 
 -- the row of a loop's end with a barrier, and of that of sections, but for their tests
 abbrev pub end_of_a_share : Row
-end_of_a_share = ending (λ seen. []) (arrival ShareEnd)
+end_of_a_share = ending (λ seen. []) (arrival_row ShareEnd)
 
 -- the events after a member has left its share, unless its call is repeated
 abbrev pub left_once : Bool → ℕ → List Event → List Event
-left_once again m h = once (leaves m h) again ++ h
+left_once repeated m h = unless_repeated (leaves m h) repeated ++ h
 
 -- by whom and where the team is broken after a reply that is no refusal: a member that stops it breaks it
 abbrev pub broken_after : Option Clash → ℕ → Reply → Option Clash
@@ -111,20 +111,20 @@ EachPast stand members P = (p : Past) → p.terms.members ≡ members → stand 
 
 -- the parts stand for some past in which a call with this row is ready
 abbrev pub SomeReady : {S : Type 0} → (S → List Event → Type 0) → (S → ℕ) → S → BarriersView → List (Option Put) → Row → Bool → ℕ → Type 0
-SomeReady stands members shares barriers payloads row again m =
-    (p : Past) × PartsStand stands (members shares) shares barriers payloads p.events × IsReady row (members shares) again m p
+SomeReady stands members shares barriers payloads row repeated m =
+    (p : Past) × PartsStand stands (members shares) shares barriers payloads p.events × IsReady row (members shares) repeated m p
 
 -- of each such past this holds
 abbrev pub EachReady : {S : Type 0} → (S → List Event → Type 0) → (S → ℕ) → S → BarriersView → List (Option Put) → Row → Bool → ℕ → (Past → Type 0) → Type 0
-EachReady stands members shares barriers payloads row again m P =
-    (p : Past) → PartsStand stands (members shares) shares barriers payloads p.events → IsReady row (members shares) again m p → P p
+EachReady stands members shares barriers payloads row repeated m P =
+    (p : Past) → PartsStand stands (members shares) shares barriers payloads p.events → IsReady row (members shares) repeated m p → P p
 
 -- and after the reply to it the parts stand for this past with what the reply gives
 abbrev pub StandAfter : {S : Type 0} → (S → List Event → Type 0) → ℕ → S → BarriersView → List (Option Put) → Row → Bool → ℕ → Reply → Past → Type 0
-StandAfter stands members shares barriers payloads row again m reply p = PartsStand stands members shares barriers payloads (given_after row again m p reply)
+StandAfter stands members shares barriers payloads row repeated m reply p = PartsStand stands members shares barriers payloads (given_after row repeated m p reply)
 
 -- what the shares promise of their reply to such a call, whether it is repeated or not: a wait changes nothing, the reply is one that the row has, and they stand for what it gives
 pub record SharesServe {S : Type 0} (stands : S → List Event → Type 0) (members : ℕ) (before after : S) (payloads : List (Option Put)) (row : Row) (m : ℕ) (reply : Reply) : Type 0 where
   pub waits : reply ≡ Wait → after ≡ before
-  pub answer : (again : Bool) (p : Past) → IsReady row members again m p → WordsStand stands members before payloads p.events → MayReply row again m p reply
-  pub stands_for : (again : Bool) (p : Past) → IsReady row members again m p → stands before p.events → stands after (given_after row again m p reply)
+  pub answer : (repeated : Bool) (p : Past) → IsReady row members repeated m p → WordsStand stands members before payloads p.events → MayReply row repeated m p reply
+  pub stands_for : (repeated : Bool) (p : Past) → IsReady row members repeated m p → stands before p.events → stands after (given_after row repeated m p reply)

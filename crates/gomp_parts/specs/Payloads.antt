@@ -5,7 +5,7 @@ use Rattle.gomp_types.specs.declared.event.Event.{Event}
 use Rattle.gomp_types.specs.Events.{shape_at, is_over, payload_at}
 use Rattle.gomp_parts.specs.declared.payloads.Put.{Put}
 
--- the words of share i, where they lie at its place
+-- the words of share i, if they lie at its place
 abbrev pub there : ℕ → Option (Option Put) → Option (List ℕ)
 there i None = None
 there i (Some None) = None

@@ -1,4 +1,4 @@
-//! What a member is answered where no test of its call holds.
+//! What a member is answered if no test of its call holds.
 
 ghost use Rattle.std.specs.Prelude.{◌≡◌, ◌<◌, ◌++◌, true, None};
 ghost use Rattle.gomp_types.specs.declared.call.Call.TheVariants.{Stop};
@@ -17,10 +17,10 @@ use gomp_barrier::Barriers;
 use gomp_shares::Shares;
 use gomp_types::{Arrival, Call, Payload, Reply, Shape};
 
-/// Answers a call, which starts a share of this shape if it starts one (`starts`), or goes on with one
-/// that waits (`again`).
+/// Answers a call, which starts a share of this shape if it starts one (`starts`), or goes on with
+/// one that waits (`repeated`).
 ///
-/// No test of the call holds. Where a call that waits is asked about again and waits on, nothing
+/// No test of the call holds. If a call that waits is asked about again and waits on, nothing
 /// changes.
 pub fn answer<S: Shares>(
     shares: &mut S,
@@ -29,29 +29,30 @@ pub fn answer<S: Shares>(
     member: u16,
     call: &Call,
     starts: &Option<Shape>,
-    again: bool,
+    repeated: bool,
 ) -> Reply
     requires member { member < S.members shares.old }
     requires starts { StartsShare (row_of call.now) (S.seen shares.old member) starts.now }
     requires team { barrier_members barriers.old ≡ S.members shares.old }
     requires ready { SomeReady S.stands S.members shares.old barriers.old payloads.old
-        (row_of call.now) again member }
+        (row_of call.now) repeated member }
     ensures members { S.members shares.new ≡ S.members shares.old }
     ensures barriers { barrier_members barriers.new ≡ barrier_members barriers.old }
-    ensures again { again ≡ true → result ≡ Wait →
+    ensures repeated { repeated ≡ true → result ≡ Wait →
         ArePartsKept shares.old barriers.old payloads.old shares.new barriers.new payloads.new }
     ensures stops { result ≡ Stopped → call.now ≡ Stop }
     ensures answer { EachReady S.stands S.members shares.old barriers.old payloads.old
-        (row_of call.now) again member (λ p. MayReply (row_of call.now) again member p result) }
+        (row_of call.now) repeated member
+        (λ p. MayReply (row_of call.now) repeated member p result) }
     ensures stands { EachReady S.stands S.members shares.old barriers.old payloads.old
-        (row_of call.now) again member (StandAfter S.stands (S.members shares.old)
-        shares.new barriers.new payloads.new (row_of call.now) again member result) }
+        (row_of call.now) repeated member (StandAfter S.stands (S.members shares.old)
+        shares.new barriers.new payloads.new (row_of call.now) repeated member result) }
 {
     match call {
-        Call::LoopEnd => end_reply(shares, barriers, member, again),
-        Call::SectionsEnd => end_reply(shares, barriers, member, again),
-        Call::Barrier => arrival_reply(shares, barriers, member, Arrival::Barrier, again),
-        Call::RegionEnd => arrival_reply(shares, barriers, member, Arrival::RegionEnd, again),
+        Call::LoopEnd => end_reply(shares, barriers, member, repeated),
+        Call::SectionsEnd => end_reply(shares, barriers, member, repeated),
+        Call::Barrier => arrival_reply(shares, barriers, member, Arrival::Barrier, repeated),
+        Call::RegionEnd => arrival_reply(shares, barriers, member, Arrival::RegionEnd, repeated),
         Call::SingleCopyEnd(words) => {
             put_words(shares, payloads, member, words);
             Reply::Finished

@@ -7,7 +7,8 @@ ghost use Rattle.gomp_types.specs.declared.limits.TheConstants.{OPEN_SHARES};
 ghost use Rattle.gomp_parts.specs.Payloads.{there};
 ghost use Rattle.gomp_parts.specs.declared.payloads.Put.{Put};
 
-use gomp_types::{OPEN_SHARES, Payload};
+use gomp_shares::Places;
+use gomp_types::Payload;
 use std::marker::Model;
 
 /// The words that were put in a share.
@@ -19,11 +20,10 @@ pub struct Put {
     pub words: Payload,
 }
 
-/// The words of a team's singles: those of share `i` lie at place `i % 8`, until share `i + 8` has
-/// some, by when every member has left share `i`. It takes no memory.
+/// The words of a team's singles. It takes no memory.
 #[derive(Drop)]
 pub struct Payloads {
-    places: [Option<Put>; OPEN_SHARES as usize],
+    places: Places<Put>,
 }
 
 impl Model for Payloads {
@@ -41,15 +41,15 @@ impl Payloads {
         ensures { result ≡ replicate OPEN_SHARES None }
     {
         Payloads {
-            places: [None, None, None, None, None, None, None, None],
+            places: Places::new(),
         }
     }
 
-    /// The words put in this share; None where none were, or where they lie here no more.
+    /// The words put in this share; None if none were, or if they lie here no more.
     pub fn at(&self, share: u64) -> Option<&Payload>
         ensures { option_copied result ≡ there share (slice_get self.now (share % OPEN_SHARES)) }
     {
-        match &self.places[(share % OPEN_SHARES) as usize] {
+        match self.places.at(share) {
             Some(put) if put.share == share => Some(&put.words),
             _ => None,
         }
@@ -60,6 +60,6 @@ impl Payloads {
         ensures { self.new ≡ slice_set self.old (share % OPEN_SHARES)
             (Some (record { share = share; words = words })) }
     {
-        self.places[(share % OPEN_SHARES) as usize] = Some(Put { share, words });
+        self.places.put(share, Put { share, words });
     }
 }

@@ -6,7 +6,7 @@ ghost use Rattle.std.specs.Result.{result_err, result_map_both};
 ghost use Rattle.gomp_types.specs.Tests.{outcome};
 ghost use Rattle.gomp_types.specs.declared.limits.Limits.{Limits};
 ghost use Rattle.gomp_types.specs.Least.{lesser, least};
-ghost use Rattle.gomp_types.specs.Limits.{shown};
+ghost use Rattle.gomp_types.specs.Limits.{shown_number};
 ghost use Rattle.gomp_shares.specs.Calls.{EachStands};
 ghost use Rattle.gomp_shares.specs.Starts.{compared_share};
 ghost use Rattle.gomp_shares.specs.OrderedParts.{part_tests, part_end_tests};
@@ -20,7 +20,7 @@ ghost use Rattle.gomp_parts.specs.Answers.{BothStand, StartsShare, Admits};
 ghost use Rattle.gomp_types.specs.declared.refusal.Place.TheVariants.{Share};
 
 use gomp_barrier::Barriers;
-use gomp_shares::own::{end_refusal, next_refusal};
+use gomp_shares::admission::{end_refusal, next_refusal};
 use gomp_shares::{Construct, Shares};
 use gomp_types::{Arrival, Call, EndKind, Limits, Place, Refusal, Seen, Shape, Tag};
 
@@ -46,40 +46,41 @@ pub fn unless_refused(
     }
 }
 
-/// The shape of the share that the call starts, if it starts one, unless one of its own tests refuses
-/// it: those on the member's place among the shares, and the comparison with other members' calls. A
-/// call that is repeated (`again`) is only compared: its place was tested when it was made.
+/// The shape of the share that the call starts, if it starts one, unless one of its own tests
+/// refuses it: those on the member's place among the shares, and the comparison with other members'
+/// calls. A call that is repeated (`repeated`) is only compared: its place was tested when it was
+/// made.
 pub fn admit_call<S: Shares>(
     shares: &mut S,
     barriers: &Barriers,
     limits: &Limits,
     member: u16,
     call: &Call,
-    again: bool,
+    repeated: bool,
 ) -> Result<Option<Shape>, Refusal>
     requires member { member < S.members shares.old }
     requires team { barrier_members barriers.now ≡ S.members shares.old }
-    requires place { again ≡ true → (row_of call.now).stays ≡ true →
+    requires place { repeated ≡ true → (row_of call.now).stays ≡ true →
         least ((row_of call.now).by_place limits.now (S.seen shares.old member)) ≡ None }
     ensures kept { shares.new ≡ shares.old }
     ensures least { (p : Past) → p.terms.limits ≡ limits.now →
         BothStand S.stands shares.old barriers.now p.events →
-        result_err result ≡ least (row_tests again (row_of call.now) member p) }
+        result_err result ≡ least (row_tests repeated (row_of call.now) member p) }
     ensures starts { IfOk result (StartsShare (row_of call.now) (S.seen shares.old member)) }
 {
     let starts = match admit_place(shares, limits, member, call) {
         Ok(starts) => starts,
         // A member that waits at a barrier may have left its place.
-        Err(_) if again => None,
+        Err(_) if repeated => None,
         Err(refusal) => return Err(refusal),
     };
-    match compared_refusal(shares, barriers, member, call, &starts, again) {
+    match compared_refusal(shares, barriers, member, call, &starts, repeated) {
         Some(refusal) => Err(refusal),
         None => Ok(starts),
     }
 }
 
-/// The shape of the share that the call starts, if it starts one, where the member may make it from
+/// The shape of the share that the call starts, if it starts one, if the member may make it from
 /// its place among the shares.
 fn admit_place<S: Shares>(
     shares: &S,
@@ -92,13 +93,17 @@ fn admit_place<S: Shares>(
 {
     let seen = shares.look(member);
     match call {
-        Call::LoopStart(desc) => share_started(gomp_loops::own::admit_start(&seen, limits, desc)),
+        Call::LoopStart(desc) => share_started(gomp_loops::admission::admit_start(
+            &seen, limits, desc,
+        )),
         Call::SectionsStart { count, end_kind } => {
-            share_started(gomp_sections::own::admit_start(&seen, limits, *count, *end_kind))
+            share_started(gomp_sections::admission::admit_start(&seen, limits, *count, *end_kind))
         }
-        Call::SingleStart => share_started(gomp_sections::own::admit_single(&seen, limits, false)),
+        Call::SingleStart => share_started(gomp_sections::admission::admit_single(
+            &seen, limits, false,
+        )),
         Call::SingleCopyStart => {
-            share_started(gomp_sections::own::admit_single(&seen, limits, true))
+            share_started(gomp_sections::admission::admit_single(&seen, limits, true))
         }
         Call::LoopNext => none_started(next_refusal(&seen, Construct::Loop)),
         Call::LoopEnd => none_started(end_refusal(&seen, Construct::Loop, EndKind::Wait)),
@@ -108,7 +113,7 @@ fn admit_place<S: Shares>(
         Call::SectionsEndNowait => {
             none_started(end_refusal(&seen, Construct::Sections, EndKind::Nowait))
         }
-        Call::SingleCopyEnd(_) => none_started(gomp_sections::own::copy_end_refusal(&seen)),
+        Call::SingleCopyEnd(_) => none_started(gomp_sections::admission::copy_end_refusal(&seen)),
         Call::OrderedStart(value) => none_started(part_refusal(&seen, *value)),
         Call::OrderedEnd => none_started(part_end_refusal(&seen)),
         Call::Barrier | Call::RegionEnd => none_started(barrier_refusal(&seen)),
@@ -142,7 +147,7 @@ fn part_refusal(seen: &Seen, value: i64) -> Option<Refusal>
     requires shape { HasShape seen.now }
     ensures { result ≡ least (part_tests value seen.now) }
 {
-    gomp_ordered::own::start_refusal(seen, value)
+    gomp_ordered::admission::start_refusal(seen, value)
 }
 
 /// Why the member may not end an ordered part: `NotInside`.
@@ -167,8 +172,8 @@ fn barrier_refusal(seen: &Seen) -> Option<Refusal>
     }
 }
 
-/// Why the call, which starts a share of this shape if it starts one, is refused where it is compared
-/// with other members': `Mismatch` where its construct is another, and for a resume with no wait open
+/// Why the call, which starts a share of this shape if it starts one, is refused when it is compared
+/// with other members': `Mismatch` if its construct is another, and for a resume with no wait open
 /// `NotInside`.
 fn compared_refusal<S: Shares>(
     shares: &mut S,
@@ -176,14 +181,14 @@ fn compared_refusal<S: Shares>(
     member: u16,
     call: &Call,
     starts: &Option<Shape>,
-    again: bool,
+    repeated: bool,
 ) -> Option<Refusal>
     requires member { member < S.members shares.old }
     requires team { barrier_members barriers.now ≡ S.members shares.old }
     requires starts { starts.now ≡ (row_of call.now).starts }
     ensures kept { shares.new ≡ shares.old }
     ensures compared { (p : Past) → BothStand S.stands shares.old barriers.now p.events →
-        result ≡ least ((row_of call.now).compared again member p) }
+        result ≡ least ((row_of call.now).compared repeated member p) }
 {
     match call {
         Call::LoopStart(_)
@@ -194,10 +199,10 @@ fn compared_refusal<S: Shares>(
             share_refusal(shares, member, shape)
         }
         Call::LoopEnd | Call::SectionsEnd => {
-            arrival_refusal(shares, barriers, member, Arrival::ShareEnd, again)
+            arrival_refusal(shares, barriers, member, Arrival::ShareEnd, repeated)
         }
-        Call::Barrier => arrival_refusal(shares, barriers, member, Arrival::Barrier, again),
-        Call::RegionEnd => arrival_refusal(shares, barriers, member, Arrival::RegionEnd, again),
+        Call::Barrier => arrival_refusal(shares, barriers, member, Arrival::Barrier, repeated),
+        Call::RegionEnd => arrival_refusal(shares, barriers, member, Arrival::RegionEnd, repeated),
         Call::Resume => Some(Refusal::NotInside),
         Call::LoopNext
         | Call::LoopEndNowait
@@ -210,7 +215,7 @@ fn compared_refusal<S: Shares>(
     }
 }
 
-/// Why the member may not start a construct of this shape next: `Mismatch` where the team's share is
+/// Why the member may not start a construct of this shape next: `Mismatch` if the team's share is
 /// of another one.
 fn share_refusal<S: Shares>(shares: &mut S, member: u16, shape: &Shape) -> Option<Refusal>
     requires member { member < S.members shares.old }
@@ -225,21 +230,21 @@ fn share_refusal<S: Shares>(shares: &mut S, member: u16, shape: &Shape) -> Optio
     }
 }
 
-/// Why the member may not arrive so at its next barrier: `Mismatch` where others arrived there
-/// otherwise. A member that has arrived (`again`) is not compared any more.
+/// Why the member may not arrive so at its next barrier: `Mismatch` if others arrived there
+/// otherwise. A member that has arrived (`repeated`) is not compared any more.
 fn arrival_refusal<S: Shares>(
     shares: &S,
     barriers: &Barriers,
     member: u16,
     kind: Arrival,
-    again: bool,
+    repeated: bool,
 ) -> Option<Refusal>
     requires member { member < S.members shares.now }
     requires team { barrier_members barriers.now ≡ S.members shares.now }
     ensures compared { EachStands (BothStand S.stands shares.now barriers.now)
-        (λ h. result ≡ least (compared_arrival kind again member h)) }
+        (λ h. result ≡ least (compared_arrival kind repeated member h)) }
 {
-    if again {
+    if repeated {
         return None;
     }
     let own = Tag {
@@ -269,9 +274,10 @@ pub fn place_of<S: Shares>(shares: &S, barriers: &Barriers, member: u16, call: &
     }
 }
 
-/// The place of this share. A place shows a number up to the largest `u64`, and so this one as it is.
+/// The place of this share. A place shows a number up to the largest `u64`, and so this one as it
+/// is.
 fn at_share(number: u64) -> Place
-    ensures { result ≡ Share (shown number) }
+    ensures { result ≡ Share (shown_number number) }
 {
     Place::Share(number)
 }

@@ -1,6 +1,7 @@
 //! `ompteam`: reads a text of steps of an OpenMP team, and prints the reply to each.
 //!
-//! [`run_process`] does everything; `main` only hands it the process's words, input, output and standard error.
+//! [`run_process`] does everything; `main` only hands it the process's words, input, output and
+//! standard error.
 #![tactic(auto)]
 
 use gomp_serve::run_process;

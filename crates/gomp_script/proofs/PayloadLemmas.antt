@@ -2,7 +2,7 @@
 use Rattle.std.proofs.Common.{◌≡◌, ℕ, ◌+◌, ◌-◌, ◌<◌, zero, suc, List, [], ◌∷◌, ◌++◌, Result, Ok, Err, take, drop, refl, ap, sym, append_assoc, arith}
 use Rattle.std.proofs.lemmas.List.{append-nil}
 use Rattle.gomp_script.specs.declared.parse.Why.{Why}
-use Rattle.gomp_script.specs.StepText.{payload_of, payload_word, payload_words, finished, ◌>>=◌}
+use Rattle.gomp_script.specs.StepText.{payload_of, payload_word, payload_words, no_more_words, ◌>>=◌}
 
 -- these words, and those that are read later
 abbrev pub with_words : List ℕ → Result (List ℕ) Why → Result (List ℕ) Why
@@ -29,12 +29,12 @@ kept_first payload number (Err why) done = refl
 pub word_kept : (payload : List ℕ) (i number : ℕ) (word : List ℕ) (words : List (List ℕ)) → i < 8 → payload_word word ≡ Ok number → with_words payload (payload_of (8 - i) (word ∷ words)) ≡ with_words (payload ++ number ∷ []) (payload_of (8 - (i + 1)) words)
 word_kept payload i number word words less read =
     let here : 8 - i ≡ suc (8 - (i + 1)) = omega (arith, less) in
-    rw (here, read) (kept_first payload number (payload_words (take (8 - (i + 1)) words)) (finished (drop (8 - (i + 1)) words)))
+    rw (here, read) (kept_first payload number (payload_words (take (8 - (i + 1)) words)) (no_more_words (drop (8 - (i + 1)) words)))
 
 -- the eighth word was the last
-pub words_done : (payload : List ℕ) (words : List (List ℕ)) (done : Unit {0}) → finished words ≡ Ok done → with_words payload (payload_of 0 words) ≡ Ok payload
+pub words_done : (payload : List ℕ) (words : List (List ℕ)) (done : Unit {0}) → no_more_words words ≡ Ok done → with_words payload (payload_of 0 words) ≡ Ok payload
 words_done payload words done none = rw none (ap Ok (append-nil payload))
 
 -- a word too many
-pub ninth_word : (payload : List ℕ) (words : List (List ℕ)) (why : Why) → finished words ≡ Err why → with_words payload (payload_of 0 words) ≡ Err why
+pub ninth_word : (payload : List ℕ) (words : List (List ℕ)) (why : Why) → no_more_words words ≡ Err why → with_words payload (payload_of 0 words) ≡ Err why
 ninth_word payload words why fault = rw fault refl

@@ -4,7 +4,7 @@ use Rattle.gomp_types.specs.declared.call.Call.TheVariants.{Barrier}
 use Rattle.gomp_script.specs.declared.parse.BadLine.{BadLine}
 use Rattle.gomp_script.specs.declared.parse.Why.TheVariants.{NotAscii, FirstLine, UnknownWord, MissingWord, BadNumber, ExtraWord}
 use Rattle.gomp_script.specs.declared.parse.ParseError.TheVariants.{Memory, Bad}
-use Rattle.gomp_script.specs.StepText.{steps_of, steps_from, text_from, bad_line, lines_left, kept, Gives, HasStep, TeamHasStep, refused_by, plain_step, loop_step, sections_step, copy_end_step, ordered_step, team_of}
+use Rattle.gomp_script.specs.StepText.{steps_of, steps_from, text_from, bad_line, lines_left, steps_kept, Gives, HasStep, TeamHasStep, refused_by, plain_step, loop_step, sections_step, copy_end_step, ordered_step, team_of}
 use Rattle.gomp_script.specs.Examples.{IsBad, next_step, second_line}
 
 -- a text of two steps
@@ -102,7 +102,7 @@ pub lines_of_nothing : (lines_left None ≡ []) × (lines_left (Some []) ≡ [] 
 lines_of_nothing = (refl, refl)
 
 -- a line that says nothing adds no step, and a step comes last
-pub kept_last : (kept (next_step ∷ []) None ≡ next_step ∷ []) × (kept [] (Some next_step) ≡ next_step ∷ [])
+pub kept_last : (steps_kept (next_step ∷ []) None ≡ next_step ∷ []) × (steps_kept [] (Some next_step) ≡ next_step ∷ [])
 kept_last = (refl, refl)
 
 -- What a function gives that may find no memory: what it may give, and what not
@@ -116,7 +116,7 @@ bad_in (Err bad) = bad
 pub given_as_read : Gives {X = ℕ} {Y = ℕ} (λ n. n) (Ok 4) (Ok 4)
 given_as_read = refl
 
--- want of memory too, where memory is taken
+-- want of memory too, if memory is taken
 pub memory_told : Gives {X = ℕ} {Y = ℕ} (λ n. n) (Err Memory) (Ok 4)
 memory_told = tt
 
@@ -128,7 +128,7 @@ other_value = λ same. absurd (cc)
 pub value_for_bad : Gives {X = ℕ} {Y = ℕ} (λ n. n) (Ok 4) (Err (second_line MissingWord)) → ⊥
 value_for_bad = λ same. absurd (cc)
 
--- no bad line is told where there is none
+-- no bad line is told if there is none
 pub fault_of_good : Gives {X = ℕ} {Y = ℕ} (λ n. n) (Err (Bad (second_line MissingWord))) (Ok 4) → ⊥
 fault_of_good = λ same. absurd (cc)
 
@@ -156,11 +156,11 @@ bad_line_in_text = λ never. never
 pub step_in_lines : HasStep (Ok (next_step ∷ []))
 step_in_lines = λ same. absurd (cc)
 
--- where no step stands
+-- if no step stands
 pub no_step_in_lines : HasStep (Ok []) → ⊥
 no_step_in_lines = λ some. some refl
 
--- and where a line is bad
+-- and if a line is bad
 pub bad_line_in_lines : HasStep (Err (second_line MissingWord)) → ⊥
 bad_line_in_lines = λ never. never
 

@@ -6,7 +6,7 @@ use Rattle.gomp_script.specs.declared.parse.BadLine.{BadLine}
 use Rattle.gomp_script.specs.declared.parse.ParseError.{ParseError}
 use Rattle.gomp_script.specs.declared.parse.ParseError.TheVariants.{Memory, Bad}
 use Rattle.gomp_text.specs.Words.{lines_of}
-use Rattle.gomp_script.specs.StepText.{lines_left, with_front, step_line, kept, with_team, Fails, HasStep, TeamHasStep, refused_by}
+use Rattle.gomp_script.specs.StepText.{lines_left, with_front, step_line, steps_kept, with_team, Fails, HasStep, TeamHasStep, refused_by}
 
 -- how much is left
 abbrev pub left : Option (List ℕ) → ℕ
@@ -27,7 +27,7 @@ front_moved_behind steps step (Ok later) = ap (λ (all : List Step). Ok all) (sy
 front_moved_behind steps step (Err bad) = refl
 
 -- a line that is no fault is kept
-pub line_kept : (steps : List Step) (number : ℕ) (said : Option Step) (later : Result (List Step) BadLine) → with_fronts steps (step_line number (Ok said) later) ≡ with_fronts (kept steps said) later
+pub line_kept : (steps : List Step) (number : ℕ) (said : Option Step) (later : Result (List Step) BadLine) → with_fronts steps (step_line number (Ok said) later) ≡ with_fronts (steps_kept steps said) later
 line_kept steps number None later = refl
 line_kept steps number (Some step) later = front_moved_behind steps step later
 
@@ -40,7 +40,7 @@ pub gives_team : (count : ℕ) (error : ParseError) (read : Result (List Step) B
 gives_team count Memory read given = tt
 gives_team count (Bad bad) read given = ap (with_team count) given
 
--- where the steps behind the team's line take memory, the text has a step
+-- if the steps behind the team's line take memory, the text has a step
 pub team_has_step : (count : ℕ) (read : Result (List Step) BadLine) → HasStep read → TeamHasStep (with_team count read)
 team_has_step count (Ok steps) some = some
 team_has_step count (Err bad) some = some
@@ -56,7 +56,7 @@ fault_behind steps number None later some = absurd (cc)
 fault_behind steps number (Some step) (Ok later) some = tt
 fault_behind steps number (Some step) (Err bad) some = refl
 
--- and where none of them is bad, there is that step
+-- and if none of them is bad, there is that step
 pub has_refused_step : (steps : List Step) (number : ℕ) (said : Option Step) (later : Result (List Step) BadLine) → IsSome said → refused_by later ≡ Memory → HasStep (with_fronts steps (step_line number (Ok said) later))
 has_refused_step steps number None later some memory = absurd (cc)
 has_refused_step steps number (Some step) (Ok later) some memory = not_none steps step later

@@ -10,7 +10,7 @@ use Rattle.gomp_types.specs.declared.loop_desc.Sched.TheVariants.{Static, Dynami
 use Rattle.gomp_types.specs.declared.loop_desc.EndKind.{EndKind}
 use Rattle.gomp_types.specs.declared.loop_desc.EndKind.TheVariants.{Wait, Nowait}
 use Rattle.gomp_types.specs.declared.payload.TheConstants.{MAX_WORDS}
-use Rattle.gomp_types.specs.Limits.{shown}
+use Rattle.gomp_types.specs.Limits.{shown_number}
 use Rattle.gomp_script.specs.declared.parse.Why.{Why}
 use Rattle.gomp_script.specs.declared.parse.Why.TheVariants.{NotAscii, FirstLine, UnknownWord, MissingWord, BadNumber, ExtraWord}
 use Rattle.gomp_script.specs.declared.parse.BadLine.{BadLine}
@@ -26,37 +26,37 @@ abbrev pub ◌>>=◌ : {A B : Type 0} → Result A Why → (A → Result B Why) 
 (Err why) >>= go = Err why
 
 -- what is wanted is there
-abbrev pub wanted : {A : Type 0} → Why → Option A → Result A Why
-wanted why None = Err why
-wanted why (Some value) = Ok value
+abbrev pub or_why : {A : Type 0} → Why → Option A → Result A Why
+or_why why None = Err why
+or_why why (Some value) = Ok value
 
 -- the next word, and those after it
-abbrev pub next : List (List ℕ) → Result (List ℕ × List (List ℕ)) Why
-next [] = Err MissingWord
-next (word ∷ words) = Ok (word, words)
+abbrev pub next_word : List (List ℕ) → Result (List ℕ × List (List ℕ)) Why
+next_word [] = Err MissingWord
+next_word (word ∷ words) = Ok (word, words)
 
 -- the next word of a line and what follows it are taken, or it is said why there is none
-abbrev pub TakesNext : List ℕ → Result (Bor (List ℕ) × Bor (List ℕ)) Why → Type 0
-TakesNext line taken = MatchResult taken (λ parts. next (words_of line) ≡ Ok (parts.0.now, words_of parts.1.now)) (λ why. next (words_of line) ≡ Err why)
+abbrev pub TakesWord : List ℕ → Result (Bor (List ℕ) × Bor (List ℕ)) Why → Type 0
+TakesWord line taken = MatchResult taken (λ parts. next_word (words_of line) ≡ Ok (parts.0.now, words_of parts.1.now)) (λ why. next_word (words_of line) ≡ Err why)
 
 -- no word is left
-abbrev pub finished : List (List ℕ) → Result (Unit {0}) Why
-finished [] = Ok tt
-finished (word ∷ words) = Err ExtraWord
+abbrev pub no_more_words : List (List ℕ) → Result (Unit {0}) Why
+no_more_words [] = Ok tt
+no_more_words (word ∷ words) = Err ExtraWord
 
 -- Numbers
 
 -- the number of a member, a u16
 abbrev pub member_of : List ℕ → Result ℕ Why
-member_of word = wanted BadNumber (unsigned 65535 word)
+member_of word = or_why BadNumber (unsigned 65535 word)
 
 -- a count, a u32
 abbrev pub count_of : List ℕ → Result ℕ Why
-count_of word = wanted BadNumber (unsigned 4294967295 word)
+count_of word = or_why BadNumber (unsigned 4294967295 word)
 
 -- a number of a loop, an i64
 abbrev pub number_of : List ℕ → Result ℤ Why
-number_of word = wanted BadNumber (signed word)
+number_of word = or_why BadNumber (signed word)
 
 -- The words of a list
 
@@ -96,12 +96,12 @@ call_of word =
 
 -- Steps
 
--- `MEMBER CALL`, where the call stands alone
+-- `MEMBER CALL`, if the call stands alone
 unfoldable pub plain_step : List ℕ → List ℕ → List (List ℕ) → Result Step Why
 plain_step member call words = do
-  made ← wanted UnknownWord (call_of call)
+  made ← or_why UnknownWord (call_of call)
   number ← member_of member
-  done ← finished words
+  done ← no_more_words words
   Ok (record { member = number; call = made })
 
 -- the end of a loop's line: nothing, or the one word `ordered`
@@ -113,14 +113,14 @@ ordered_of (word ∷ other ∷ words) = Err ExtraWord
 -- `MEMBER loop KIND CHUNK START END INCR ENDKIND [ordered]`
 unfoldable pub loop_step : List ℕ → List (List ℕ) → Result Step Why
 loop_step member words = do
-  kind ← next words
-  sched ← wanted UnknownWord (sched_of kind.0)
-  chunk ← next kind.1
-  start ← next chunk.1
-  end ← next start.1
-  incr ← next end.1
-  ending ← next incr.1
-  end_kind ← wanted UnknownWord (end_of ending.0)
+  kind ← next_word words
+  sched ← or_why UnknownWord (sched_of kind.0)
+  chunk ← next_word kind.1
+  start ← next_word chunk.1
+  end ← next_word start.1
+  incr ← next_word end.1
+  ending ← next_word incr.1
+  end_kind ← or_why UnknownWord (end_of ending.0)
   number ← member_of member
   size ← number_of chunk.0
   first ← number_of start.0
@@ -132,17 +132,17 @@ loop_step member words = do
 -- `MEMBER sections COUNT ENDKIND`
 unfoldable pub sections_step : List ℕ → List (List ℕ) → Result Step Why
 sections_step member words = do
-  count ← next words
-  ending ← next count.1
-  end_kind ← wanted UnknownWord (end_of ending.0)
+  count ← next_word words
+  ending ← next_word count.1
+  end_kind ← or_why UnknownWord (end_of ending.0)
   number ← member_of member
   sections ← count_of count.0
-  done ← finished ending.1
+  done ← no_more_words ending.1
   Ok (record { member = number; call = SectionsStart sections end_kind })
 
 -- a word of a payload, a u64
 abbrev pub payload_word : List ℕ → Result ℕ Why
-payload_word word = wanted BadNumber (unsigned 18446744073709551615 word)
+payload_word word = or_why BadNumber (unsigned 18446744073709551615 word)
 
 abbrev pub payload_words : List (List ℕ) → Result (List ℕ) Why
 payload_words [] = Ok []
@@ -155,7 +155,7 @@ payload_words (word ∷ words) = do
 abbrev pub payload_of : ℕ → List (List ℕ) → Result (List ℕ) Why
 payload_of most words = do
   payload ← payload_words (take most words)
-  done ← finished (drop most words)
+  done ← no_more_words (drop most words)
   Ok payload
 
 -- `MEMBER single_copy_end [W]..`
@@ -168,10 +168,10 @@ copy_end_step member words = do
 -- `MEMBER ordered VALUE`
 unfoldable pub ordered_step : List ℕ → List (List ℕ) → Result Step Why
 ordered_step member words = do
-  value ← next words
+  value ← next_word words
   number ← member_of member
   iteration ← number_of value.0
-  done ← finished value.1
+  done ← no_more_words value.1
   Ok (record { member = number; call = OrderedStart iteration })
 
 -- the step of a member, by the word of its call and those that follow
@@ -191,11 +191,11 @@ step_of (member ∷ call ∷ words) = call_step member call words
 -- `team N`
 unfoldable pub team_of : List (List ℕ) → Result ℕ Why
 team_of words = do
-  first ← next words
-  named ← wanted FirstLine (if same_word first.0 (codes "team") then Some (tt {0}) else None)
-  count ← next first.1
+  first ← next_word words
+  named ← or_why FirstLine (if same_word first.0 (codes "team") then Some (tt {0}) else None)
+  count ← next_word first.1
   number ← count_of count.0
-  done ← finished count.1
+  done ← no_more_words count.1
   Ok number
 
 -- Lines: an empty one and a comment say nothing; bytes that are not ASCII are a fault in those too
@@ -209,7 +209,7 @@ abbrev pub some_if_ok : {A : Type 0} → Result A Why → Result (Option A) Why
 some_if_ok (Ok value) = Ok (Some value)
 some_if_ok (Err why) = Err why
 
--- these words, or none where they are a comment
+-- these words, or none if they are a comment
 abbrev pub without_comment : List (List ℕ) → List (List ℕ)
 without_comment [] = []
 without_comment (word ∷ words) = if begins_comment word then [] else word ∷ words
@@ -218,7 +218,7 @@ without_comment (word ∷ words) = if begins_comment word then [] else word ∷ 
 abbrev pub line_words : List ℕ → Result (List (List ℕ)) Why
 line_words line = if is_ascii line then Ok (without_comment (words_of line)) else Err NotAscii
 
--- the first word of a line and the rest of the line after it; nothing where the line has no word or is a comment; or why it is bad
+-- the first word of a line and the rest of the line after it; nothing if the line has no word or is a comment; or why it is bad
 abbrev pub IsFirstOfLine : List ℕ → Result (Option (Bor (List ℕ) × Bor (List ℕ))) Why → Type 0
 IsFirstOfLine line read = MatchResult read (λ found. line_words line ≡ Ok (option_map_or (λ parts. parts.0.now ∷ words_of parts.1.now) found [])) (λ why. line_words line ≡ Err why)
 
@@ -250,7 +250,7 @@ step_line number (Ok (Some step)) later = with_front step later
 -- the steps of the lines from this one on; lines are numbered from 1, up to the largest number
 abbrev pub steps_from : ℕ → List (List ℕ) → Result (List Step) BadLine
 steps_from number [] = Ok []
-steps_from number (line ∷ lines) = step_line number (read_line step_of line) (steps_from (shown (number + 1)) lines)
+steps_from number (line ∷ lines) = step_line number (read_line step_of line) (steps_from (shown_number (number + 1)) lines)
 
 abbrev pub team_line : ℕ → Result (Option ℕ) Why → Result (ℕ × List Step) BadLine → Result (List Step) BadLine → Result (ℕ × List Step) BadLine
 team_line number (Err why) later steps = bad_line number why
@@ -260,7 +260,7 @@ team_line number (Ok (Some count)) later steps = with_team count steps
 -- a text without a line that counts has no first line
 abbrev pub text_from : ℕ → List (List ℕ) → Result (ℕ × List Step) BadLine
 text_from number [] = bad_line 1 FirstLine
-text_from number (line ∷ lines) = team_line number (read_line team_of line) (text_from (shown (number + 1)) lines) (steps_from (shown (number + 1)) lines)
+text_from number (line ∷ lines) = team_line number (read_line team_of line) (text_from (shown_number (number + 1)) lines) (steps_from (shown_number (number + 1)) lines)
 
 -- the size of the team and its steps, or the first bad line
 abbrev pub steps_of : List ℕ → Result (ℕ × List Step) BadLine
@@ -302,6 +302,6 @@ abbrev pub steps_left : ℕ → Option (List ℕ) → Result (List Step) BadLine
 steps_left number text = steps_from number (lines_left text)
 
 -- the steps so far, with what a line said
-abbrev pub kept : List Step → Option Step → List Step
-kept steps None = steps
-kept steps (Some step) = steps ++ step ∷ []
+abbrev pub steps_kept : List Step → Option Step → List Step
+steps_kept steps None = steps
+steps_kept steps (Some step) = steps ++ step ∷ []

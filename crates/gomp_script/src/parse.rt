@@ -3,7 +3,7 @@
 ghost use Rattle.std.specs.Prelude.{◌≡◌, ◌≤◌, ◌∷◌, option_copied, vec_len, vec_capacity, OnOk, OnErr, IsSome, IsErrOf};
 ghost use Rattle.gomp_text.specs.Words.{words_of};
 ghost use Rattle.gomp_script.specs.declared.parse.ParseError.TheVariants.{Memory};
-ghost use Rattle.gomp_script.specs.StepText.{IsFirstOfLine, call_step, step_of, team_of, read_line, steps_left, steps_of, kept, begins_comment, Gives, HasStep, TeamHasStep, refused_by};
+ghost use Rattle.gomp_script.specs.StepText.{IsFirstOfLine, call_step, step_of, team_of, read_line, steps_left, steps_of, steps_kept, begins_comment, Gives, HasStep, TeamHasStep, refused_by};
 
 mod loops;
 mod ordered;
@@ -12,7 +12,7 @@ mod plain;
 mod sections;
 mod words;
 
-use gomp_text::{cut, is_ascii, is_word, next_word};
+use gomp_text::{cut_at, is_ascii, is_word, next_word};
 use gomp_types::Step;
 use loops::loop_step;
 use ordered::ordered_step;
@@ -87,7 +87,7 @@ pub fn parse_steps(alloc: Global, text: &[u8]) -> Result<(u32, Vec<Step>), Parse
     let mut rest = Some(text);
     let mut number: u64 = 1;
     while let Some(lines) = rest {
-        let (line, after) = cut(lines, b'\n');
+        let (line, after) = cut_at(lines, b'\n');
         let team = match read_team(line) {
             Ok(team) => team,
             Err(why) => return Err(ParseError::Bad(BadLine { line: number, why })),
@@ -109,7 +109,7 @@ pub fn parse_steps(alloc: Global, text: &[u8]) -> Result<(u32, Vec<Step>), Parse
 
 /// The steps of these lines, of which the first has this number.
 ///
-/// Where memory is refused, the lines that are left are read without keeping their steps: a bad one
+/// If memory is refused, the lines that are left are read without keeping their steps: a bad one
 /// comes before want of memory.
 fn parse_lines(alloc: Global, lines: Option<&[u8]>, first: u64) -> Result<Vec<Step>, ParseError>
     ensures steps { Gives (λ steps. steps.items) result
@@ -121,7 +121,7 @@ fn parse_lines(alloc: Global, lines: Option<&[u8]>, first: u64) -> Result<Vec<St
     let mut rest = lines;
     let mut number = first;
     while let Some(lines) = rest {
-        let (line, after) = cut(lines, b'\n');
+        let (line, after) = cut_at(lines, b'\n');
         let step = match read_step(line) {
             Ok(step) => step,
             Err(why) => return Err(ParseError::Bad(BadLine { line: number, why })),
@@ -142,7 +142,7 @@ fn first_fault(lines: Option<&[u8]>, first: u64) -> ParseError
     let mut rest = lines;
     let mut number = first;
     while let Some(lines) = rest {
-        let (line, after) = cut(lines, b'\n');
+        let (line, after) = cut_at(lines, b'\n');
         if let Err(why) = read_step(line) {
             return ParseError::Bad(BadLine { line: number, why });
         }
@@ -154,7 +154,7 @@ fn first_fault(lines: Option<&[u8]>, first: u64) -> ParseError
 
 /// Keeps the step of a line, if it has one. Only a step takes memory, and only if the list is full.
 fn keep(steps: &mut Vec<Step>, step: Option<Step>) -> Result<(), AllocError>
-    ensures kept { OnOk result (steps.new.items ≡ kept steps.old.items step) }
+    ensures kept { OnOk result (steps.new.items ≡ steps_kept steps.old.items step) }
     ensures step { OnErr result (IsSome step) }
     ensures full { OnErr result (vec_capacity steps.old ≤ vec_len steps.old) }
 {

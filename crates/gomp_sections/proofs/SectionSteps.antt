@@ -16,11 +16,11 @@ use Rattle.gomp_types.specs.declared.event.Event.TheVariants.{Enter}
 use Rattle.gomp_types.specs.Pieces.{Piece, dynamic_piece, dynamic_pieces}
 use Rattle.gomp_types.specs.Shapes.{is_sections}
 use Rattle.gomp_types.specs.Deals.{schedule, next_for}
-use Rattle.gomp_types.specs.Events.{entered, open_share, in_kind}
+use Rattle.gomp_types.specs.Events.{shares_entered, open_share, in_kind}
 use Rattle.gomp_types.specs.Least.{least}
 use Rattle.gomp_types.specs.Seen.{seen_of}
 use Rattle.gomp_shares.specs.declared.Opening.TheVariants.{Entered}
-use Rattle.gomp_shares.specs.Calls.{MayOpen, CanClaim, Claims, claimed, taken_of}
+use Rattle.gomp_shares.specs.Calls.{MayOpen, CanClaim, Claims, events_claimed, taken_of}
 use Rattle.gomp_shares.specs.Starts.{AnswersBegin}
 use Rattle.gomp_shares.proofs.Admitted.{PartInLoop, answers_let, begin_compared, in_no_part, in_some_share}
 use Rattle.gomp_shares.specs.Sections.{AnswersSectionsNext, DealsSections, TakesSection, section_next_given, section_next_tests, sections_begun, section_next_taken}
@@ -81,7 +81,7 @@ pub section_next_dealt : (members m : ℕ) (answer : Option Piece) (h : List Eve
 section_next_dealt members m answer h claims none = rw claims.there (section_dealt members m claims.share answer h claims.least (next_is_section members m answer h claims none))
 
 -- its taking is what the shares add
-pub section_next_adds : (members m : ℕ) (answer : Option Piece) (h : List Event) → Claims members m answer h → IsSection answer → section_next_taken m (Section (section_of answer)) h ≡ claimed m answer h
+pub section_next_adds : (members m : ℕ) (answer : Option Piece) (h : List Event) → Claims members m answer h → IsSection answer → section_next_taken m (Section (section_of answer)) h ≡ events_claimed m answer h
 section_next_adds members m None h claims one = rw claims.there refl
 section_next_adds members m (Some piece) h claims one = rw (claims.there, one) refl
 
@@ -109,21 +109,21 @@ first_least members m i shape answer h kind claims =
     let here = claim_entered members m i shape answer h claims in
     claims.least ∙ ap (λ (p : ℕ × Shape). next_for (schedule members) p.1 p.0 m (Enter i m shape ∷ h)) here
 
-pub sections_dealt : (members m : ℕ) (shape : Shape) (answer : Option Piece) (h : List Event) → shape.kind ≡ kinds.Sections → MayOpen members m shape Entered h → Claims members m answer (Enter (entered m h) m shape ∷ h) →
+pub sections_dealt : (members m : ℕ) (shape : Shape) (answer : Option Piece) (h : List Event) → shape.kind ≡ kinds.Sections → MayOpen members m shape Entered h → Claims members m answer (Enter (shares_entered m h) m shape ∷ h) →
     AnswersBegin shape DealsSections members m (Section (section_of answer)) h
 sections_dealt members m shape answer h kind may claims = (
   begin_compared shape m h false may.0,
-  (may.1, section_dealt members m (entered m h, shape) answer h (first_least members m (entered m h) shape answer h kind claims) (first_section members m (entered m h) shape answer h kind claims)),
+  (may.1, section_dealt members m (shares_entered m h, shape) answer h (first_least members m (shares_entered m h) shape answer h kind claims) (first_section members m (shares_entered m h) shape answer h kind claims)),
 )
 
 -- the first one's taking, after the entry, is what the shares add
-first_adds : (m : ℕ) (shape : Shape) (answer : Option Piece) (h : List Event) → IsSection answer → sections_begun shape m (Section (section_of answer)) h ≡ claimed m answer (Enter (entered m h) m shape ∷ h)
+first_adds : (m : ℕ) (shape : Shape) (answer : Option Piece) (h : List Event) → IsSection answer → sections_begun shape m (Section (section_of answer)) h ≡ events_claimed m answer (Enter (shares_entered m h) m shape ∷ h)
 first_adds m shape None h one = rw (same_number m) refl
 first_adds m shape (Some piece) h one = rw (same_number m, one) refl
 
-pub sections_add : (members m : ℕ) (shape : Shape) (answer : Option Piece) (h : List Event) → shape.kind ≡ kinds.Sections → Claims members m answer (Enter (entered m h) m shape ∷ h) →
-    sections_begun shape m (Section (section_of answer)) h ≡ claimed m answer (Enter (entered m h) m shape ∷ h)
-sections_add members m shape answer h kind claims = first_adds m shape answer h (first_section members m (entered m h) shape answer h kind claims)
+pub sections_add : (members m : ℕ) (shape : Shape) (answer : Option Piece) (h : List Event) → shape.kind ≡ kinds.Sections → Claims members m answer (Enter (shares_entered m h) m shape ∷ h) →
+    sections_begun shape m (Section (section_of answer)) h ≡ events_claimed m answer (Enter (shares_entered m h) m shape ∷ h)
+sections_add members m shape answer h kind claims = first_adds m shape answer h (first_section members m (shares_entered m h) shape answer h kind claims)
 
 -- a section number is neither a refusal nor a wait, and a refused next gives nothing
 pub section_refusal_given : (m : ℕ) (refusal : Refusal) (share : Option (ℕ × Shape)) → section_next_given share m (Refused refusal) ≡ []

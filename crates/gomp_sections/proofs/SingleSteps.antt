@@ -13,10 +13,10 @@ use Rattle.gomp_types.specs.Pieces.{Piece, whole_piece}
 use Rattle.gomp_types.specs.Singles.{single_shape}
 use Rattle.gomp_types.specs.Deals.{schedule, next_for}
 use Rattle.gomp_types.specs.Shapes.{is_copy, is_single}
-use Rattle.gomp_types.specs.Events.{entered, open_share, in_kind, has_drained, last_piece}
+use Rattle.gomp_types.specs.Events.{shares_entered, open_share, in_kind, has_drained, last_piece}
 use Rattle.gomp_types.specs.Least.{least}
 use Rattle.gomp_types.specs.Seen.{seen_of}
-use Rattle.gomp_shares.specs.Calls.{Claims, CanLeave, claimed, left, is_done, taken_of, was_taken}
+use Rattle.gomp_shares.specs.Calls.{Claims, CanLeave, events_claimed, events_left, is_done, taken_of, was_taken}
 use Rattle.gomp_shares.specs.Singles.{DealsSingle, single_started, copy_started, is_executor, put_tests}
 use Rattle.gomp_types.proofs.Booleans.{same_number, not_false, and_left, and_right}
 use Rattle.gomp_types.proofs.LeastTests.{all_fail}
@@ -41,7 +41,7 @@ single_is : (members m i : ℕ) (copies : Bool) (piece : Piece) (h : List Event)
 single_is members m i true piece h claims = the_piece (taken_of i h) piece (single_least members m i true (Some piece) h claims)
 single_is members m i false piece h claims = the_piece (taken_of i h) piece (single_least members m i false (Some piece) h claims)
 
--- none is given only where some member took it
+-- none is given only if some member took it
 taken_where_none : (n : ℕ) → slice_get (whole_piece 1) n ≡ None → nat_lt 0 n ≡ true
 taken_where_none zero e = absurd (cc)
 taken_where_none (suc n) e = grind (arith, nat_tests)
@@ -54,7 +54,7 @@ not_given members m i None h claims none untaken =
 
 -- Leaving
 
-pub may_leave : (members m i : ℕ) (copies : Bool) (answer : Option Piece) (seen : Seen) (h : List Event) → seen ≡ seen_of m (claimed m answer (Enter i m (single_shape copies) ∷ h)) → m < members → CanLeave members m seen
+pub may_leave : (members m i : ℕ) (copies : Bool) (answer : Option Piece) (seen : Seen) (h : List Event) → seen ≡ seen_of m (events_claimed m answer (Enter i m (single_shape copies) ∷ h)) → m < members → CanLeave members m seen
 may_leave members m i copies answer seen h e lt = record {
   member = lt;
   inside = rw e (inside answer);
@@ -62,15 +62,15 @@ may_leave members m i copies answer seen h e lt = record {
   apart = rw e (apart answer);
 }
   where
-    inside : (answer : Option Piece) → is_some (seen_of m (claimed m answer (Enter i m (single_shape copies) ∷ h))).current ≡ true
+    inside : (answer : Option Piece) → is_some (seen_of m (events_claimed m answer (Enter i m (single_shape copies) ∷ h))).current ≡ true
     inside None = rw (same_number m) refl
     inside (Some piece) = rw (same_number m) refl
 
-    apart : (answer : Option Piece) → (seen_of m (claimed m answer (Enter i m (single_shape copies) ∷ h))).in_part ≡ false
+    apart : (answer : Option Piece) → (seen_of m (events_claimed m answer (Enter i m (single_shape copies) ∷ h))).in_part ≡ false
     apart None = rw (same_number m) refl
     apart (Some piece) = rw (same_number m) refl
 
-    done : (copies : Bool) (answer : Option Piece) → is_done (seen_of m (claimed m answer (Enter i m (single_shape copies) ∷ h))) ≡ true
+    done : (copies : Bool) (answer : Option Piece) → is_done (seen_of m (events_claimed m answer (Enter i m (single_shape copies) ∷ h))) ≡ true
     done copies None = rw (same_number m) refl
     done true (Some piece) = rw (same_number m) refl
     done false (Some piece) = rw (same_number m) refl
@@ -81,10 +81,10 @@ pub single_dealt : (members m i : ℕ) (answer : Option Piece) (h : List Event) 
 single_dealt members m i None h claims = single_least members m i false None h claims
 single_dealt members m i (Some piece) h claims = single_least members m i false (Some piece) h claims ∙ ap (λ (p : Piece). Some p) (single_is members m i false piece h claims)
 
-pub single_adds : (members m : ℕ) (answer : Option Piece) (h : List Event) → Claims members m answer (Enter (entered m h) m (single_shape false) ∷ h) →
-    single_started m (Executor (is_some answer)) h ≡ left m (claimed m answer (Enter (entered m h) m (single_shape false) ∷ h))
+pub single_adds : (members m : ℕ) (answer : Option Piece) (h : List Event) → Claims members m answer (Enter (shares_entered m h) m (single_shape false) ∷ h) →
+    single_started m (Executor (is_some answer)) h ≡ events_left m (events_claimed m answer (Enter (shares_entered m h) m (single_shape false) ∷ h))
 single_adds members m None h claims = rw (same_number m) refl
-single_adds members m (Some piece) h claims = rw (single_is members m (entered m h) false piece h claims, same_number m) refl
+single_adds members m (Some piece) h claims = rw (single_is members m (shares_entered m h) false piece h claims, same_number m) refl
 
 -- With words for the others
 
@@ -97,14 +97,14 @@ pub copy_dealt : (members m i : ℕ) (answer : Option Piece) (h : List Event) �
 copy_dealt members m i None h some claims = absurd (cc)
 copy_dealt members m i (Some piece) h some claims = single_least members m i true (Some piece) h claims ∙ ap (λ (p : Piece). Some p) (single_is members m i true piece h claims)
 
-pub executor_adds : (members m : ℕ) (answer : Option Piece) (h : List Event) → true ≡ is_some answer → Claims members m answer (Enter (entered m h) m (single_shape true) ∷ h) →
-    copy_started m (Executor true) h ≡ claimed m answer (Enter (entered m h) m (single_shape true) ∷ h)
+pub executor_adds : (members m : ℕ) (answer : Option Piece) (h : List Event) → true ≡ is_some answer → Claims members m answer (Enter (shares_entered m h) m (single_shape true) ∷ h) →
+    copy_started m (Executor true) h ≡ events_claimed m answer (Enter (shares_entered m h) m (single_shape true) ∷ h)
 executor_adds members m None h some claims = absurd (cc)
-executor_adds members m (Some piece) h some claims = rw (single_is members m (entered m h) true piece h claims, same_number m) refl
+executor_adds members m (Some piece) h some claims = rw (single_is members m (shares_entered m h) true piece h claims, same_number m) refl
 
 -- who is given none is given the words, and has left it
 pub copy_adds : (m : ℕ) (words : List ℕ) (answer : Option Piece) (h : List Event) → false ≡ is_some answer →
-    copy_started m (Copied words) h ≡ left m (Got (entered m h) m words ∷ claimed m answer (Enter (entered m h) m (single_shape true) ∷ h))
+    copy_started m (Copied words) h ≡ events_left m (Got (shares_entered m h) m words ∷ events_claimed m answer (Enter (shares_entered m h) m (single_shape true) ∷ h))
 copy_adds m words None h e = rw (same_number m) refl
 copy_adds m words (Some piece) h e = absurd (cc)
 

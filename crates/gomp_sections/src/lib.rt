@@ -1,24 +1,24 @@
 //! The calls of a member on the sections and `single` constructs of its team.
 //!
-//! Each construct is one work-share: sections are its pieces, one each, and a `single` has one piece,
-//! whose taker executes it. Each call that libgomp has makes the tests of its own (specs/Sections.antt
-//! and specs/Singles.antt of gomp_shares) and asks for a member of the team alone; those named `begin_..`
-//! and `take_section` do what these tests let, and ask that the tests show it. If no test holds, a call
-//! answers what is defined there, but for three calls:
-//! `single_copy_start` does so if the words that it is handed are those that were put, and the two
-//! ends that have a part above them (`sections_end`, whose arrival is compared there, and
-//! `single_copy_end`, whose words are kept there) answer that the member has left.
+//! Each construct is one work-share: sections are its pieces, one each, and a `single` has one
+//! piece, whose taker executes it. Each call that libgomp has makes the tests of its own
+//! (specs/Sections.antt and specs/Singles.antt of gomp_shares) and asks for a member of the team
+//! alone; those named `begin_..` and `take_section` perform a call without these tests, and ask
+//! their caller (gomp_parts) to have made them. If no test holds, a call answers what is defined
+//! there, but for three calls: `single_copy_start` does so if the words that it is handed are those
+//! that were put, and the two ends of which the caller does a part (`sections_end`, whose arrival
+//! it compares, and `single_copy_end`, whose words it keeps) answer that the member has left.
 //!
-//! Whether the team is broken, the member has left the region or has a wait open, and how it arrives
-//! at a barrier, is tested by the layer above, which also keeps the words of a `single` with
-//! `copyprivate`.
+//! Whether the team is broken, the member has left the region or has a wait open, and how it
+//! arrives at a barrier, is tested by gomp_core and gomp_parts, which also keeps the words of a
+//! `single` with `copyprivate`.
 //!
 //! OpenMP API 5.2, sections 11.1, 11.3 and 5.7.2. The calls have the form of libgomp's
 //! `GOMP_sections_*`, `GOMP_single_start`, `GOMP_single_copy_start` and `GOMP_single_copy_end`
 //! (libgomp manual, the ABI chapter).
 #![tactic(auto)]
 
-pub mod own;
+pub mod admission;
 pub mod sections;
 pub mod single;
 

@@ -14,9 +14,9 @@ ghost use Rattle.gomp_shares.specs.Starts.{AnswersBegin, left_at_once};
 ghost use Rattle.gomp_shares.specs.Sections.{AnswersSectionsStart, DealsSections, TakesSection, sections_begun, sections_started, AnswersSectionsNext, section_next_taken, section_next_tests, AnswersSectionsEnd, sections_end_tests};
 ghost use Rattle.gomp_sections.specs.Answers.{section_of};
 
-use crate::own::admit_start;
+use crate::admission::admit_start;
+use gomp_shares::admission::next_refusal;
 use gomp_shares::ends::end_construct;
-use gomp_shares::own::next_refusal;
 use gomp_shares::{Construct, Opening, Shares};
 use gomp_types::{EndKind, Limits, Refusal, Reply, Shape};
 
@@ -24,8 +24,8 @@ use gomp_types::{EndKind, Limits, Refusal, Reply, Shape};
 /// first section that nobody took, numbered from 1, or 0 if none is left; the member is in the
 /// construct all the same, and may end it.
 ///
-/// `Wait` if some member has not left the share eight before, and nothing is entered: the layer
-/// above calls again on `Resume`. Refused with `InsideShare`, `BadSections`, `TooManyShares`, or with
+/// `Wait` if some member has not left the share eight before, and nothing is entered: the caller
+/// asks again. Refused with `InsideShare`, `BadSections`, `TooManyShares`, or with
 /// `Mismatch` if the team's share of this number is of another shape.
 pub fn sections_start<S: Shares>(
     shares: &mut S,
@@ -82,7 +82,7 @@ pub fn sections_next<S: Shares>(shares: &mut S, member: u16) -> Reply
 }
 
 /// Answers the next section of the member's construct, which its own tests let it ask for
-/// (`gomp_shares::own::next_refusal`).
+/// (`gomp_shares::admission::next_refusal`).
 pub fn take_section<S: Shares>(shares: &mut S, member: u16) -> Reply
     requires member { member < S.members shares.old }
     requires known { (h : List Event) × S.stands shares.old h }
@@ -94,9 +94,8 @@ pub fn take_section<S: Shares>(shares: &mut S, member: u16) -> Reply
     Reply::Section(section_number(shares.claim(member)))
 }
 
-/// Leaves the member's sections, at the end of which a barrier stands: this crate's part of that
-/// call, as for a loop. The layer above asks for its refusal first, compares
-/// the arrival with those of the other members, and calls this last; then the member arrives.
+/// Leaves the member's sections, at the end of which a barrier stands. The member has still to
+/// arrive there, so the answer is not a reply yet.
 ///
 /// Refused with `OutsideShare`, `EndDiffers` or `NotDrained`.
 pub fn sections_end<S: Shares>(shares: &mut S, member: u16) -> Result<(), Refusal>

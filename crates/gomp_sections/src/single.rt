@@ -13,12 +13,12 @@ ghost use Rattle.gomp_shares.specs.Serves.{Leaves, Serves};
 ghost use Rattle.gomp_shares.specs.Starts.{AnswersBegin, compared_share, share_tests};
 ghost use Rattle.gomp_shares.specs.Singles.{AnswersSingle, ByWords, DealsCopy, DealsSingle, single_started, AnswersCopy, copy_started, put_tests};
 
-use crate::own::copy_end_refusal;
-use gomp_shares::own::outside_refusal;
+use crate::admission::copy_end_refusal;
+use gomp_shares::admission::outside_refusal;
 use gomp_shares::{Opening, Shares};
 use gomp_types::{Limits, Payload, Refusal, Reply, single_shape};
 
-/// The member goes through a `single`: it enters its next share, executes it where nobody else does,
+/// The member goes through a `single`: it enters its next share, executes it if nobody else does,
 /// and has left it. The body has no end call, and a barrier at its end is a call of its own.
 ///
 /// `Wait` if some member has not left the share eight before, and nothing is entered. Refused with
@@ -37,7 +37,7 @@ pub fn single_start<S: Shares>(shares: &mut S, member: u16, limits: &Limits) -> 
 }
 
 /// The member goes through a `single`, which its own tests let it start
-/// (`gomp_shares::own::outside_refusal`).
+/// (`gomp_shares::admission::outside_refusal`).
 ///
 /// `Wait` and `Mismatch` as [`single_start`] has them.
 pub fn begin_single<S: Shares>(shares: &mut S, member: u16) -> Reply
@@ -59,14 +59,15 @@ pub fn begin_single<S: Shares>(shares: &mut S, member: u16) -> Reply
     }
 }
 
-/// The member comes to a `single` with words for the others: it executes it where nobody else does,
+/// The member comes to a `single` with words for the others: it executes it if nobody else does,
 /// and is in it until [`single_copy_end`]; else it is given the words that the executor put, and has
 /// then left it.
 ///
 /// `put` is what the executor of the member's next share put, None while nobody has; whether the call
 /// is refused does not depend on it. `Wait` if some member has not left the share eight before, or
-/// another member executes and has put no words; nothing is entered then. Refused with `InsideShare`,
-/// `TooManyShares`, or with `Mismatch` if the team's share of this number is another construct.
+/// another member executes and has put no words; nothing is entered then. Refused with
+/// `InsideShare`, `TooManyShares`, or with `Mismatch` if the team's share of this number is another
+/// construct.
 pub fn single_copy_start<S: Shares>(
     shares: &mut S,
     member: u16,
@@ -89,7 +90,7 @@ pub fn single_copy_start<S: Shares>(
 }
 
 /// The member comes to a `single` with words for the others, which its own tests let it start
-/// (`gomp_shares::own::outside_refusal`).
+/// (`gomp_shares::admission::outside_refusal`).
 ///
 /// `put`, `Wait` and `Mismatch` as [`single_copy_start`] has them.
 pub fn begin_copy<S: Shares>(shares: &mut S, member: u16, put: Option<&Payload>) -> Reply
@@ -128,8 +129,7 @@ pub fn begin_copy<S: Shares>(shares: &mut S, member: u16, put: Option<&Payload>)
     }
 }
 
-/// The executor of a `single` leaves it: this crate's part of putting its words, which the layer above
-/// then keeps.
+/// The executor of a `single` leaves it; the caller keeps the words that it puts.
 ///
 /// Refused with `NotInside` if the member does not execute a `single` with words.
 pub fn single_copy_end<S: Shares>(shares: &mut S, member: u16) -> Result<(), Refusal>

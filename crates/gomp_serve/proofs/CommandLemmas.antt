@@ -60,7 +60,7 @@ reported_ends error [] settings remaining before after status (inl memory) repor
 reported_ends error [] settings remaining before after status (inr none) reported = absurd none
 reported_ends error (fault ∷ others) settings remaining before after status among reported = record { kind = kind_of error; fault = among; reported = reported }
 
--- where memory is refused and nothing is written, the program may end so on any words
+-- if memory is refused and nothing is written, the program may end so on any words
 pub memory_ends : (faults : Kinds) (settings : List Text) (remaining before after : Option (List ℕ)) → after ≡ before → Ends faults settings remaining before after (record { code = 3; notes = notes.NoMemory })
 memory_ends [] settings remaining before after same = stepped_memory settings (read_settings settings) remaining before after same
 memory_ends (fault ∷ others) settings remaining before after same = record { kind = kinds.OutOfMemory; fault = inl refl; reported = (refl, same) }

@@ -21,11 +21,11 @@ fault_is_not_memory is = absurd (cc)
 
 -- How the program ends
 
--- an answer ends with its number, and nothing is noted where no word is ignored
+-- an answer ends with its number, and nothing is noted if no word is ignored
 pub status_of_an_answer : (status : Status) → IsStatus (ending.Answered 2) [] status → status ≡ record { code = 2; notes = notes.Nothing }
 status_of_an_answer status is = is
 
--- where one is, it is named
+-- if one is, it is named
 pub status_with_ignored : (status : Status) → IsStatus (ending.Answered 2) (BadEnv (codes "FOO") ∷ []) status → (status.code ≡ 2) × Names (BadEnv (codes "FOO") ∷ []) status.notes
 status_with_ignored status is = (is.0, is.1)
 
@@ -56,11 +56,11 @@ pub ends_without_words : (text : String Global) (code : ℕ) →
     × (HasNoWords io_kinds.OutOfMemory (notes.Command text) code → ⊥) × (HasNoWords io_kinds.InvalidData notes.NoMemory code → code ≡ 3) × (HasNoWords io_kinds.InvalidData notes.Nothing 0 → ⊥)
 ends_without_words text code = (λ is. (is.1, is.2), λ is. is.0 refl, λ is. is, λ is. is)
 
--- where a word has no `=`, nothing is written
+-- if a word has no `=`, nothing is written
 pub fault_of_a_word_writes_nothing : (status : Status) → EndsWithRead (codes "FOO" ∷ []) None None (Some []) (Some (35 ∷ 97 ∷ 10 ∷ [])) status → ⊥
 fault_of_a_word_writes_nothing status ends = absurd (let same = ends.1 in cc)
 
--- help ends with 0, and only where it is asked for
+-- help ends with 0, and only if it is asked for
 pub help_ends_well : (before after : Option (List ℕ)) (code : ℕ) →
     (IsErrorReport kinds.DisplayHelp before after notes.Nothing code → code ≡ 0) × (IsErrorReport kinds.MissingSubcommand before after notes.Nothing code → ⊥)
 help_ends_well before after code = (λ told. told.1, λ told. elim told.0 [ inl e ↦ absurd (cc) | inr e ↦ absurd (cc) ])

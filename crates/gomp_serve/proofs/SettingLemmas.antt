@@ -21,7 +21,7 @@ unpaired_without (w ∷ words) word first = elim (cases_Bool (has_equals w)) [
   | inr none ↦ rw none refl
 ]
 
--- where a word has no `=`, nothing is read of the words
+-- if a word has no `=`, nothing is read of the words
 pub unread_without : (words : List Text) (word : Text) → first_without words ≡ Some word → read_settings words ≡ None
 unread_without words word first = ap (option_map read_env) (unpaired_without words word first)
 

@@ -57,7 +57,7 @@ settings_in (Some found) = option_map_or (λ row. row.values) (find (λ row. byt
 abbrev pub HasSettings : List Text → ArgMatches → Type 0
 HasSettings settings matches = settings_in (subcommand_rows_of matches) ≡ settings
 
--- the settings that are given, where there are any
+-- the settings that are given, if there are any
 abbrev pub values_given : Option (Bor (List (Bor Text))) → List Text
 values_given given = option_map_or (λ words. map (λ word. word.now) words.now) given []
 
@@ -80,7 +80,7 @@ abbrev pub Names : List Refusal → Notes → Type 0
 Names ignored (notes.Ignored words) = words.items ≡ ignored
 Names ignored _ = ⊥
 
--- the status in which a text of steps ends that was served so, where these words were ignored: they are named beside whatever was answered
+-- the status in which a text of steps ends that was served so, if these words were ignored: they are named beside whatever was answered
 abbrev pub IsStatus : Ending → List Refusal → Status → Type 0
 IsStatus (ending.Answered code) [] status = status ≡ record { code = code; notes = notes.Nothing }
 IsStatus (ending.Answered code) (word ∷ words) status = (status.code ≡ code) × Names (word ∷ words) status.notes
@@ -89,7 +89,7 @@ IsStatus ending.InputFault ignored status = status ≡ record { code = 1; notes 
 IsStatus ending.TooLong ignored status = status ≡ record { code = 1; notes = notes.InputFault }
 IsStatus ending.OutputFault ignored status = status ≡ record { code = 1; notes = notes.OutputFault }
 
--- the program ends as a text of steps does that was served by these variables, where these words were ignored
+-- the program ends as a text of steps does that was served by these variables, if these words were ignored
 pub record EndsServedBy (icv : Variables) (ignored : List Refusal) (remaining before after : Option (List ℕ)) (status : Status) : Type 0 where
   pub ending : Ending
   pub serves : Serves icv remaining before after ending
@@ -105,7 +105,7 @@ IsFault word (notes.Command text) code = (Some (string_bytes text) ≡ option_ma
 IsFault word notes.NoMemory code = code ≡ 3
 IsFault word _ code = ⊥
 
--- what is noted where a word of the command line is not UTF-8
+-- what is noted if a word of the command line is not UTF-8
 abbrev pub not_utf8_text : List ℕ
 not_utf8_text = codes "error: a word of the command line is not UTF-8\n"
 
@@ -115,7 +115,7 @@ HasNoWords kind (notes.Command text) code = (kind ≢ io_kinds.OutOfMemory) × (
 HasNoWords kind notes.NoMemory code = code ≡ 3
 HasNoWords kind _ code = ⊥
 
--- the program ends so where these settings were read as these variables and ignored words, or a word of them has no `=`: the first of those is named
+-- the program ends so if these settings were read as these variables and ignored words, or a word of them has no `=`: the first of those is named
 abbrev pub EndsWithRead : List Text → Option (Variables × List Refusal) → Option (List ℕ) → Option (List ℕ) → Option (List ℕ) → Status → Type 0
 EndsWithRead settings None remaining before after status = IsFault (first_without settings) status.notes status.code × (after ≡ before)
 EndsWithRead settings (Some read) remaining before after status = EndsServedBy read.0 read.1 remaining before after status

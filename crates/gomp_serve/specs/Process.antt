@@ -22,7 +22,7 @@ texts_of words = map string_bytes (into_iter_items words)
 abbrev pub EndsOn : List Text → Option (List ℕ) → Option (List ℕ) → Option (List ℕ) → Status → Type 0
 EndsOn words remaining before after status = Ends (faults_of words) (settings_of words) remaining before after status
 
--- the program ends so where its words could not be had, and writes nothing
+-- the program ends so if its words could not be had, and writes nothing
 abbrev pub EndsWithout : Error → Option (List ℕ) → Option (List ℕ) → Status → Type 0
 EndsWithout error before after status = HasNoWords (error_kind error) status.notes status.code × (after ≡ before)
 

@@ -19,11 +19,11 @@ is_equals b = b == 61
 abbrev pub has_equals : Text → Bool
 has_equals word = nat_lt (position_or_len is_equals word) (length word)
 
--- the first word that has no `=`; nothing where each has one
+-- the first word that has no `=`; nothing if each has one
 abbrev pub first_without : List Text → Option Text
 first_without words = find (λ word. not (has_equals word)) words
 
--- what stands before the first `=` of a word, and what behind it; nothing where it has none
+-- what stands before the first `=` of a word, and what behind it; nothing if it has none
 abbrev pub pair_of : Text → Option (Text × Text)
 pair_of word =
     if has_equals word then Some (before_first is_equals word, after_first is_equals word)
@@ -34,7 +34,7 @@ with_pair None pairs = None
 with_pair (Some pair) None = None
 with_pair (Some pair) (Some pairs) = Some (pair ∷ pairs)
 
--- the name and the value of each word; nothing where a word has no `=`
+-- the name and the value of each word; nothing if a word has no `=`
 abbrev pub pairs_of : List Text → Option (List (Text × Text))
 pairs_of [] = Some []
 pairs_of (word ∷ words) = with_pair (pair_of word) (pairs_of words)
@@ -47,7 +47,7 @@ ArePairsOf words pairs = pairs_of (map (λ word. word.now) words) ≡ Some (map 
 abbrev pub read_settings : List Text → Option (Variables × List Refusal)
 read_settings words = option_map read_env (pairs_of words)
 
--- words are not read as settings: memory was refused where each has an `=`, or this is the first that has none
+-- words are not read as settings: memory was refused if each has an `=`, or this is the first that has none
 abbrev pub IsSettingsError : List Text → SettingsError → Type 0
 IsSettingsError words NoMemory = first_without words ≡ None
 IsSettingsError words (NoEquals word) = (first_without words ≡ Some word.now) × (read_settings words ≡ None)

@@ -20,7 +20,7 @@ use std::io::{self, Read, Write};
 ///
 /// The words behind `steps` are settings `NAME=VALUE`, which stand for words of the environment
 /// (OpenMP API 5.2, chapter 21). One without `=` is a fault, and nothing is read or written then. Those
-/// that set nothing are ignored, and in the notes where the text was answered. [`Status`] says which
+/// that set nothing are ignored, and in the notes if the text was answered. [`Status`] says which
 /// status each end has.
 pub fn serve<S: AsStr, R: Read + Drop, W: Write>(
     alloc: Global,
@@ -33,10 +33,10 @@ pub fn serve<S: AsStr, R: Read + Drop, W: Write>(
     ensures steps { (name : List ℕ) → map S.text words.now ≡ name ∷ codes "steps" ∷ [] →
         EndsOnSteps [] (R.remaining reader) (W.contents writer.old) (W.contents writer.new) result }
     ensures settings { (name : List ℕ) (settings : List (List ℕ)) →
-        map S.text words.now ≡ name ∷ codes "steps" ∷ settings → ArePlain settings →
-        EndsOnSteps settings (R.remaining reader) (W.contents writer.old) (W.contents writer.new) result }
+        map S.text words.now ≡ name ∷ codes "steps" ∷ settings → ArePlain settings → EndsOnSteps
+        settings (R.remaining reader) (W.contents writer.old) (W.contents writer.new) result }
 {
-    match accepted(alloc, words) {
+    match matches_of(alloc, words) {
         Ok(matches) => match settings(&matches) {
             Some(settings) => steps(alloc, settings, reader, writer),
             None => steps(alloc, &[], reader, writer),
@@ -62,7 +62,7 @@ fn steps<R: Read + Drop, W: Write>(
     }
 }
 
-/// The end where this word has no `=`.
+/// The end if this word has no `=`.
 fn no_equals(alloc: Global, word: &str) -> Status
     ensures { IsFault (Some word.now) result.notes result.code }
 {
@@ -75,15 +75,15 @@ fn no_equals(alloc: Global, word: &str) -> Status
     }
 }
 
-/// What the words say where they are those of `ompteam steps`, or why they are refused.
-fn accepted<'a, S: AsStr>(alloc: Global, words: &'a [S]) -> Result<ArgMatches<'a>, Error>
+/// What the words say if they are those of `ompteam steps`, or why they are refused.
+fn matches_of<'a, S: AsStr>(alloc: Global, words: &'a [S]) -> Result<ArgMatches<'a>, Error>
     ensures faults { FailsBy (faults_of (map S.text words.now)) result }
     ensures settings { IfOk result (HasSettings (settings_of (map S.text words.now))) }
 {
     ompteam(alloc)?.try_get_matches_from(words)
 }
 
-/// The settings among the words, where there are any.
+/// The settings among the words, if there are any.
 fn settings<'m, 'a>(matches: &'m ArgMatches<'a>) -> Option<&'m [&'a str]>
     ensures { values_given result ≡ settings_in (subcommand_rows_of matches.now) }
 {
@@ -118,7 +118,7 @@ fn settings_arg<'a>(alloc: Global) -> Arg<'a>
         .num_args(..)
 }
 
-/// The end where the words of the command line cannot be had.
+/// The end if the words of the command line cannot be had.
 pub fn status_without_words(alloc: Global, error: &io::Error) -> Status
     ensures notes { HasNoWords (error_kind error.now) result.notes result.code }
     ensures number { result.code ≤ 3 }
@@ -135,7 +135,7 @@ pub fn status_without_words(alloc: Global, error: &io::Error) -> Status
     }
 }
 
-/// The end where the text of steps was served, and these words were ignored before.
+/// The end if the text of steps was served, and these words were ignored before.
 fn status_of_ending(ending: Ending, ignored: Vec<Refusal>) -> Status
     ensures { IsStatus ending ignored.items result }
 {
@@ -157,7 +157,7 @@ fn status_of_ending(ending: Ending, ignored: Vec<Refusal>) -> Status
     }
 }
 
-/// The end where memory was refused outside of the steps.
+/// The end if memory was refused outside of the steps.
 pub(crate) fn no_memory() -> Status
     ensures { result ≡ record { code = 3; notes = NoMemory } }
 {
@@ -167,7 +167,7 @@ pub(crate) fn no_memory() -> Status
     }
 }
 
-/// The end where the output could not be written whole.
+/// The end if the output could not be written whole.
 fn output_fault() -> Status
     ensures { result ≡ record { code = 1; notes = OutputFault } }
 {
@@ -177,7 +177,7 @@ fn output_fault() -> Status
     }
 }
 
-/// The end where the words are no command: it writes help and the version, and notes a fault.
+/// The end if the words are no command: it writes help and the version, and notes a fault.
 fn report_error<W: Write>(alloc: Global, error: &Error, writer: &mut W) -> Status
     ensures { ReportsError (kind_of error.now)
         (W.contents writer.old) (W.contents writer.new) result }

@@ -1,4 +1,4 @@
--- A member that enters a share, which it opens where nobody else has, keeps the plain shares in step with the events.
+-- A member that enters a share, which it opens if nobody else has, keeps the plain shares in step with the events.
 use Rattle.std.proofs.Common.{◌≡◌, ◌≢◌, ℕ, ◌+◌, ◌%◌, ◌<◌, ◌≤◌, nat_lt, List, ◌∷◌, length, slice_get, slice_set, Some, None, inl, inr, refl, ap, ◌∙◌, sym, subst, arith}
 use Rattle.std.specs.Prelude.{Option}
 use Rattle.std.proofs.lemmas.Bool.Decides.{nat_tests, eqb_tells}
@@ -7,8 +7,8 @@ use Rattle.gomp_types.specs.declared.limits.TheConstants.{OPEN_SHARES}
 use Rattle.gomp_types.specs.declared.shape.Shape.{Shape}
 use Rattle.gomp_types.specs.declared.event.Event.{Event}
 use Rattle.gomp_types.specs.declared.event.Event.TheVariants.{Enter}
-use Rattle.gomp_types.specs.Events.{entered, turn, shape_at}
-use Rattle.gomp_types.specs.Limits.{shown}
+use Rattle.gomp_types.specs.Events.{shares_entered, turn, shape_at}
+use Rattle.gomp_types.specs.Limits.{shown_number}
 use Rattle.gomp_chunks.specs.Spots.{CursorView}
 use Rattle.gomp_types.proofs.Booleans.{same_number, share_is}
 use Rattle.gomp_types.proofs.Lists.{slice_get-set, slice_get-set_same, slice_get-set_other}
@@ -25,12 +25,12 @@ use Rattle.gomp_share_plain.proofs.Places.{places_differ, seat_entered}
 
 -- the seat of the member that enters
 own_enters : (members m : ℕ) (seat : Seat) (opened more : ℕ) (shape : Shape) (h : List Event) → SeatStands members m seat opened h → ended_of seat ≡ seat.seen.entered → seat.seen.entered + 1 ≤ more → more ≤ seat.seen.entered + OPEN_SHARES →
-    shape_at seat.seen.entered (Enter (entered m h) m shape ∷ h) ≡ Some shape →
-    SeatStands members m (seat_in_share seat.seen.entered shape) more (Enter (entered m h) m shape ∷ h)
+    shape_at seat.seen.entered (Enter (shares_entered m h) m shape ∷ h) ≡ Some shape →
+    SeatStands members m (seat_in_share seat.seen.entered shape) more (Enter (shares_entered m h) m shape ∷ h)
 own_enters members m seat opened more shape h s even known near there = record {
   seen = rw (same_number m, seat_entered members m seat opened h s) refl;
   ended = λ i. s.ended i ∙ ap (nat_lt i) even;
-  inside = λ share is. let one = share_is seat.seen.entered share.0 shape share.1 is in (ap (λ (n : ℕ). n + 1) one.0, subst (λ n. shape_at n (Enter (entered m h) m shape ∷ h) ≡ Some shape) one.0 there ∙ ap Some one.1);
+  inside = λ share is. let one = share_is seat.seen.entered share.0 shape share.1 is in (ap (λ (n : ℕ). n + 1) one.0, subst (λ n. shape_at n (Enter (shares_entered m h) m shape ∷ h) ≡ Some shape) one.0 there ∙ ap Some one.1);
   apart = λ e. refl;
   number = λ share piece there e. absurd (cc);
   taken = λ share is. let one = (share_is seat.seen.entered share.0 shape share.1 is).0 in let none = s.fresh share.0 (omega arith) in omega arith;
@@ -54,15 +54,15 @@ entered_again i m shape h here = record {
 pub entering_stands : (members : ℕ) (seats : List Seat) (opened : ℕ) (places : List (Option OpenShare)) (h : List Event) (m : ℕ) (seat : Seat) (shape : Shape) →
     StandsFor members seats opened places h → slice_get seats m ≡ Some seat → CanOpen members m shape (seen_of m h) → MayOpen members m shape Entered h → seat.seen.entered < opened →
     shape_at seat.seen.entered h ≡ Some shape →
-    StandsFor members (slice_set seats m (seat_in_share seat.seen.entered shape)) opened places (Enter (entered m h) m shape ∷ h)
+    StandsFor members (slice_set seats m (seat_in_share seat.seen.entered shape)) opened places (Enter (shares_entered m h) m shape ∷ h)
 entering_stands members seats opened places h m seat shape st at can may before same =
     let s : SeatStands members m seat opened h = st.seat m seat at in
     let even : ended_of seat ≡ seat.seen.entered = (seat_outside members m seat opened h s can.outside).1 in
-    let number : seat.seen.entered ≡ entered m h = seat_entered members m seat opened h s in
-    let here : shape_at (entered m h) h ≡ Some shape = ap (λ n. shape_at n h) (sym number) ∙ same in
+    let number : seat.seen.entered ≡ shares_entered m h = seat_entered members m seat opened h s in
+    let here : shape_at (shares_entered m h) h ≡ Some shape = ap (λ n. shape_at n h) (sym number) ∙ same in
     let near = s.near in
-    seat_steps members seats opened places h (Enter (entered m h) m shape) (seat_in_share seat.seen.entered shape) st
-    (entered_again (entered m h) m shape h here)
+    seat_steps members seats opened places h (Enter (shares_entered m h) m shape) (seat_in_share seat.seen.entered shape) st
+    (entered_again (shares_entered m h) m shape h here)
     (own_enters members m seat opened opened shape h s even (omega arith) (omega arith) (grind (arith, nat_tests, number)))
     (enter_rule members m shape h can may)
 
@@ -70,15 +70,15 @@ entering_stands members seats opened places h m seat shape st at can may before 
 pub opening_stands : (members : ℕ) (seats : List Seat) (count : ℕ) (places : List (Option OpenShare)) (h : List Event) (m : ℕ) (seat : Seat) (shape : Shape) (cursor : CursorView) → cursor.plan ≡ record { members = members; shape = shape } →
     StandsFor members seats count places h → slice_get seats m ≡ Some seat → CanOpen members m shape (seen_of m h) → MayOpen members m shape Entered h → seat.seen.entered ≡ count →
     ((k : ℕ) (other : Seat) → slice_get seats k ≡ Some other → count < ended_of other + OPEN_SHARES) →
-    StandsFor members (slice_set seats m (seat_in_share count shape)) (count + 1) (slice_set places (count % OPEN_SHARES) (Some (record { shape = shape; taken = 0; turn = 0; cursor = cursor }))) (Enter (entered m h) m shape ∷ h)
+    StandsFor members (slice_set seats m (seat_in_share count shape)) (count + 1) (slice_set places (count % OPEN_SHARES) (Some (record { shape = shape; taken = 0; turn = 0; cursor = cursor }))) (Enter (shares_entered m h) m shape ∷ h)
 opening_stands members seats count places h m seat shape cursor plan st at can may now room =
     let s : SeatStands members m seat count h = st.seat m seat at in
-    let number : seat.seen.entered ≡ entered m h = seat_entered members m seat count h s in
-    let here : entered m h ≡ count = sym number ∙ now in
+    let number : seat.seen.entered ≡ shares_entered m h = seat_entered members m seat count h s in
+    let here : shares_entered m h ≡ count = sym number ∙ now in
     let even : ended_of seat ≡ seat.seen.entered = (seat_outside members m seat count h s can.outside).1 in
     let none = st.beyond count (omega arith) in
     let within : (count % OPEN_SHARES) < length places = rw st.eight (omega arith) in
-    let away : (i : ℕ) → i ≢ count → shape_at i (Enter (entered m h) m shape ∷ h) ≡ shape_at i h = λ i differ. rw (here, number_is_another i count differ) refl in
+    let away : (i : ℕ) → i ≢ count → shape_at i (Enter (shares_entered m h) m shape ∷ h) ≡ shape_at i h = λ i differ. rw (here, number_is_another i count differ) refl in
     record {
       size = length-set seats m _ ∙ st.size;
       team = st.team;
@@ -87,7 +87,7 @@ opening_stands members seats count places h m seat shape cursor plan st at can m
         | inl e ↦ let r = room m seat at in
             rw (e.0, e.1, ← now) (own_enters members m seat count (seat.seen.entered + 1) shape h s even (omega arith) (omega arith) (grind (arith, nat_tests, number)))
         | inr e ↦ let r = room k other e.1 in
-            seat_near members k other count (count + 1) (Enter (entered m h) m shape ∷ h) h (other_seat (Enter (entered m h) m shape) k h e.0 (λ j old is.
+            seat_near members k other count (count + 1) (Enter (shares_entered m h) m shape ∷ h) h (other_seat (Enter (shares_entered m h) m shape) k h e.0 (λ j old is.
             away j (λ same. absurd (let n : Some old ≡ None = sym is ∙ ap (λ n. shape_at n h) same ∙ none.0 in cc)) ∙ is))
             (st.seat k other e.1) (omega arith) (omega arith)
       ];
@@ -96,12 +96,12 @@ opening_stands members seats count places h m seat shape cursor plan st at can m
           share = record { shape = shape; taken = 0; turn = 0; cursor = cursor };
           there = rw e.1 (slice_get-set_same places (count % OPEN_SHARES) _ within);
           shape = grind (arith, nat_tests, here, e.1);
-          taken_is = let zero_taken = none.1 (λ k. 0) 0 in ap (λ n. shown (taken_of n h)) e.1 ∙ ap shown zero_taken;
+          taken_is = let zero_taken = none.1 (λ k. 0) 0 in ap (λ n. shown_number (taken_of n h)) e.1 ∙ ap shown_number zero_taken;
           turn_is = ap (λ n. turn n h) e.1 ∙ none.2;
           cursor_is = plan;
           valid = can.valid;
         }
-        | inr e ↦ place_same members i (slice_get places (i % OPEN_SHARES)) _ (Enter (entered m h) m shape ∷ h) h (st.place i (omega (arith, e.1)) (omega arith))
+        | inr e ↦ place_same members i (slice_get places (i % OPEN_SHARES)) _ (Enter (shares_entered m h) m shape ∷ h) h (st.place i (omega (arith, e.1)) (omega arith))
             (slice_get-set_other places (count % OPEN_SHARES) (i % OPEN_SHARES) _ (places_differ i count (omega (arith, e.1)) (omega arith))) (away i e.1) refl refl
       ];
       beyond = λ i past. let b = st.beyond i (omega arith) in (away i (λ same. omega arith) ∙ b.0, b.1, b.2);

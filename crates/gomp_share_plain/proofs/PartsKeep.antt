@@ -10,7 +10,7 @@ use Rattle.gomp_types.specs.declared.event.Event.TheVariants.{HandOn, Part, Part
 use Rattle.gomp_types.specs.Pieces.{Piece, Tiles, pieces_of}
 use Rattle.gomp_types.specs.Events.{open_share, open_number, last_piece, turn, is_inside, shape_at}
 use Rattle.gomp_types.specs.Values.{IsShape}
-use Rattle.gomp_types.specs.Limits.{shown}
+use Rattle.gomp_types.specs.Limits.{shown_number}
 use Rattle.gomp_types.proofs.Booleans.{same_number}
 use Rattle.gomp_types.proofs.Lists.{slice_get-set_same, slice_get-set_other}
 use Rattle.gomp_shares.specs.Calls.{CanBeginPart, CanEndPart, CanHandOn, own_turn, number_in, taken_of}
@@ -40,7 +40,7 @@ place_is_tiled members seats count places h m seat share st at within found lt t
     let valid = here_valid members (ended_of seat) (slice_get places (ended_of seat % OPEN_SHARES)) share h (own_place members seats count places h m seat st at within) found in
     tile members share.shape (omega arith) valid
 
--- a member has the turn where its piece has its number
+-- a member has the turn if its piece has its number
 pub next_tells : (members : ℕ) (seats : List Seat) (count : ℕ) (places : List (Option OpenShare)) (h : List Event) (m : ℕ) (seat : Seat) (share : OpenShare) →
     StandsFor members seats count places h → slice_get seats m ≡ Some seat → is_inside m h ≡ true → slice_get places (ended_of seat % OPEN_SHARES) ≡ Some (Some share) → m < members → PiecesTile →
     own_turn members m h ≡ (is_some seat.seen.piece && seat.number == share.turn)
@@ -137,7 +137,7 @@ hand_on_stands members seats count places h m seat share st at found can next is
     let now = own_place members seats count places h m seat st at within in
     let same = here_is members (ended_of seat) (slice_get places (ended_of seat % OPEN_SHARES)) share h now found in
     let before : turn (ended_of seat) h ≡ share.turn = rw (← same) now.turn_is in
-    let taken : shown (taken_of (ended_of seat) h) ≡ share.taken = rw (← same) now.taken_is in
+    let taken : shown_number (taken_of (ended_of seat) h) ≡ share.taken = rw (← same) now.taken_is in
     record {
       size = st.size;
       team = st.team;
@@ -148,7 +148,7 @@ hand_on_stands members seats count places h m seat share st at found can next is
           share = record share { turn = seat.number + 1 };
           there = rw e.1 (slice_get-set_same places (ended_of seat % OPEN_SHARES) _ room);
           shape = ap (λ n. shape_at n h) e.1 ∙ shape_here members (ended_of seat) (slice_get places (ended_of seat % OPEN_SHARES)) share h now found;
-          taken_is = ap (λ n. shown (taken_of n h)) e.1 ∙ taken;
+          taken_is = ap (λ n. shown_number (taken_of n h)) e.1 ∙ taken;
           turn_is = subst (λ (n : ℕ). turn n (HandOn (open_number m h) m (number_in members (open_share m h) m h) ∷ h) ≡ seat.number + 1) (sym e.1)
               (rw here (turn_here (ended_of seat) m (number_in members (open_share m h) m h) h ∙ ap (λ (n : ℕ). n + 1) (before ∙ sym is)));
           cursor_is = rw (← same) now.cursor_is;

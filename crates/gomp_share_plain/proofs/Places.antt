@@ -6,10 +6,10 @@ use Rattle.gomp_types.specs.declared.limits.TheConstants.{OPEN_SHARES}
 use Rattle.gomp_types.specs.declared.shape.Shape.{Shape}
 use Rattle.gomp_types.specs.declared.event.Event.{Event}
 use Rattle.gomp_types.specs.Shapes.{same_shape}
-use Rattle.gomp_types.specs.Events.{entered, open_share, shape_at, is_inside}
+use Rattle.gomp_types.specs.Events.{shares_entered, open_share, shape_at, is_inside}
 use Rattle.gomp_types.specs.Compare.{shape_differs}
 use Rattle.gomp_types.specs.Values.{IsShape}
-use Rattle.gomp_types.specs.Limits.{shown}
+use Rattle.gomp_types.specs.Limits.{shown_number}
 use Rattle.gomp_types.specs.declared.seen.Seen.{Seen}
 use Rattle.gomp_types.proofs.Compared.{same_shape_is}
 use Rattle.gomp_shares.specs.Calls.{taken_of, was_taken}
@@ -69,7 +69,7 @@ own_share members seats count places h m seat share st at within found =
 -- The next share of a member
 
 -- the seat has its number
-pub seat_entered : (members m : ℕ) (seat : Seat) (opened : ℕ) (h : List Event) → SeatStands members m seat opened h → seat.seen.entered ≡ entered m h
+pub seat_entered : (members m : ℕ) (seat : Seat) (opened : ℕ) (h : List Event) → SeatStands members m seat opened h → seat.seen.entered ≡ shares_entered m h
 seat_entered members m seat opened h s = ap (λ (seen : Seen). seen.entered) s.seen
 
 -- a member starts no share beyond the next
@@ -77,30 +77,30 @@ pub next_number_is_count : (members : ℕ) (seats : List Seat) (count : ℕ) (pl
     StandsFor members seats count places h → slice_get seats m ≡ Some seat → count ≤ seat.seen.entered → seat.seen.entered ≡ count
 next_number_is_count members seats count places h m seat st at past = let k = (st.seat m seat at).known in omega arith
 
--- the place of the member's next share, where another has opened it
+-- the place of the member's next share, if another has opened it
 pub next_place : (members : ℕ) (seats : List Seat) (count : ℕ) (places : List (Option OpenShare)) (h : List Event) (m : ℕ) (seat : Seat) →
     StandsFor members seats count places h → slice_get seats m ≡ Some seat → seat.seen.entered < count → PlaceStands members seat.seen.entered (slice_get places (seat.seen.entered % OPEN_SHARES)) h
 next_place members seats count places h m seat st at before =
     let s : SeatStands members m seat count h = st.seat m seat at in
     st.place seat.seen.entered before (let r = s.near in let few = ended_few members m seat count h s in omega arith)
 
-above_none : (n k : ℕ) → shown n ≡ k → nat_lt 0 k ≡ nat_lt 0 n
+above_none : (n k : ℕ) → shown_number n ≡ k → nat_lt 0 k ≡ nat_lt 0 n
 above_none n k e = grind (arith, nat_tests, e)
 
--- whether a piece of the member's next share was taken: the place tells it, where the share is open
+-- whether a piece of the member's next share was taken: the place tells it, if the share is open
 pub next_taken : (members : ℕ) (seats : List Seat) (count : ℕ) (places : List (Option OpenShare)) (h : List Event) (m : ℕ) (seat : Seat) (share : OpenShare) →
     StandsFor members seats count places h → slice_get seats m ≡ Some seat → seat.seen.entered < count → slice_get places (seat.seen.entered % OPEN_SHARES) ≡ Some (Some share) →
-    nat_lt 0 share.taken ≡ was_taken (entered m h) h
+    nat_lt 0 share.taken ≡ was_taken (shares_entered m h) h
 next_taken members seats count places h m seat share st at before found =
     let s : SeatStands members m seat count h = st.seat m seat at in
     let p = next_place members seats count places h m seat st at before in
     let same = here_is members seat.seen.entered (slice_get places (seat.seen.entered % OPEN_SHARES)) share h p found in
-    let taken : shown (taken_of seat.seen.entered h) ≡ share.taken = rw (← same) p.taken_is in
+    let taken : shown_number (taken_of seat.seen.entered h) ≡ share.taken = rw (← same) p.taken_is in
     rw (← seat_entered members m seat count h s) (above_none (taken_of seat.seen.entered h) share.taken taken)
 
 -- of a share that nobody opened none was
 pub next_new : (members : ℕ) (seats : List Seat) (count : ℕ) (places : List (Option OpenShare)) (h : List Event) (m : ℕ) (seat : Seat) →
-    StandsFor members seats count places h → slice_get seats m ≡ Some seat → count ≤ seat.seen.entered → was_taken (entered m h) h ≡ false
+    StandsFor members seats count places h → slice_get seats m ≡ Some seat → count ≤ seat.seen.entered → was_taken (shares_entered m h) h ≡ false
 next_new members seats count places h m seat st at past =
     let s : SeatStands members m seat count h = st.seat m seat at in
     let none : taken_of seat.seen.entered h ≡ 0 = (st.beyond seat.seen.entered past).1 (λ k. 0) 0 in
@@ -109,7 +109,7 @@ next_new members seats count places h m seat st at past =
 -- whether the member's next share is of another shape: its place tells it
 pub next_differs : (members : ℕ) (seats : List Seat) (count : ℕ) (places : List (Option OpenShare)) (h : List Event) (m : ℕ) (seat : Seat) (share : OpenShare) (shape : Shape) →
     StandsFor members seats count places h → slice_get seats m ≡ Some seat → seat.seen.entered < count → slice_get places (seat.seen.entered % OPEN_SHARES) ≡ Some (Some share) →
-    not (same_shape share.shape shape) ≡ shape_differs shape (shape_at (entered m h) h)
+    not (same_shape share.shape shape) ≡ shape_differs shape (shape_at (shares_entered m h) h)
 next_differs members seats count places h m seat share shape st at before found =
     let s : SeatStands members m seat count h = st.seat m seat at in
     let p = next_place members seats count places h m seat st at before in
@@ -117,7 +117,7 @@ next_differs members seats count places h m seat share shape st at before found 
     let there : shape_at seat.seen.entered h ≡ Some share.shape = rw (← same) p.shape in
     rw (← seat_entered members m seat count h s, there) refl
 
--- where it is not, it is of the shape that the member comes with
+-- if it is not, it is of the shape that the member comes with
 pub next_same : (members : ℕ) (seats : List Seat) (count : ℕ) (places : List (Option OpenShare)) (h : List Event) (m : ℕ) (seat : Seat) (share : OpenShare) (shape : Shape) →
     StandsFor members seats count places h → slice_get seats m ≡ Some seat → seat.seen.entered < count → slice_get places (seat.seen.entered % OPEN_SHARES) ≡ Some (Some share) →
     same_shape share.shape shape ≡ true → shape_at seat.seen.entered h ≡ Some shape
@@ -126,7 +126,7 @@ next_same members seats count places h m seat share shape st at before found sam
 
 -- and one that nobody opened differs from none
 pub new_differs : (members : ℕ) (seats : List Seat) (count : ℕ) (places : List (Option OpenShare)) (h : List Event) (m : ℕ) (seat : Seat) (shape : Shape) →
-    StandsFor members seats count places h → slice_get seats m ≡ Some seat → count ≤ seat.seen.entered → shape_differs shape (shape_at (entered m h) h) ≡ false
+    StandsFor members seats count places h → slice_get seats m ≡ Some seat → count ≤ seat.seen.entered → shape_differs shape (shape_at (shares_entered m h) h) ≡ false
 new_differs members seats count places h m seat shape st at past =
     let s : SeatStands members m seat count h = st.seat m seat at in
     rw (← seat_entered members m seat count h s, (st.beyond seat.seen.entered past).0) refl

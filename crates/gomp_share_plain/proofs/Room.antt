@@ -12,7 +12,7 @@ use Rattle.gomp_share_plain.specs.declared.seat.Seat.{Seat}
 use Rattle.gomp_share_plain.specs.declared.open_share.OpenShare.{OpenShare}
 use Rattle.gomp_share_plain.specs.Plain.{StandsFor, new_seat, ended_of}
 
--- where each seat is near enough, there is room
+-- if each seat is near enough, there is room
 pub room_by : (members : ℕ) (seats : List Seat) (count : ℕ) (places : List (Option OpenShare)) (h : List Event) (number : ℕ) →
     StandsFor members seats count places h → ((k : ℕ) (other : Seat) → slice_get seats k ≡ Some other → number < ended_of other + OPEN_SHARES) → has_room members number h ≡ true
 room_by members seats count places h number st each =
@@ -25,7 +25,7 @@ room_by members seats count places h number st each =
           (st.seat m _ at).ended (number - OPEN_SHARES) ∙ grind (arith, nat_tests, high)))
     ]
 
--- and where there is room, each is
+-- and if there is room, each is
 pub room_near : (members : ℕ) (seats : List Seat) (count : ℕ) (places : List (Option OpenShare)) (h : List Event) (number : ℕ) →
     StandsFor members seats count places h → has_room members number h ≡ true → (k : ℕ) (other : Seat) → slice_get seats k ≡ Some other → number < ended_of other + OPEN_SHARES
 room_near members seats count places h number st room k other at =
@@ -50,7 +50,7 @@ each_room seats number all k other at = rw (get_or_from_slice_get seats k other 
 pub all_room : (seats : List Seat) (number : ℕ) → ((k : ℕ) (other : Seat) → slice_get seats k ≡ Some other → number < ended_of other + OPEN_SHARES) → All (λ seat. number < ended_of seat + OPEN_SHARES) seats
 all_room seats number each = λ k d lt. each k (get_or seats k d) (slice_get-get_or seats k d lt)
 
--- where not all seats have room, there is none
+-- if not all seats have room, there is none
 pub no_room : (members : ℕ) (seats : List Seat) (count : ℕ) (places : List (Option OpenShare)) (h : List Event) (number : ℕ) →
     StandsFor members seats count places h → (All (λ seat. number < ended_of seat + OPEN_SHARES) seats → ⊥) → has_room members number h ≡ false
 no_room members seats count places h number st not_all =

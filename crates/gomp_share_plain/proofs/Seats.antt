@@ -69,7 +69,7 @@ ended_few members m seat opened h s =
 pub number_is_another : (i n : ℕ) → i ≢ n → (n == i) ≡ false
 number_is_another i n differ = elim (eqb_tells n i) [ inl e ↦ absurd (differ (sym e.1)) | inr e ↦ e.0 ]
 
--- an event of another member says the same of it, where each open share keeps its shape
+-- an event of another member says the same of it, if each open share keeps its shape
 pub other_seat : (event : Event) (k : ℕ) (h : List Event) → k ≢ member_of event → ((i : ℕ) (shape : Shape) → shape_at i h ≡ Some shape → shape_at i (event ∷ h) ≡ Some shape) → SameSeat k (event ∷ h) h
 other_seat (Enter share m shape) k h other kept = record { seen = rw (number_is_another k m other) refl; left = λ i. refl; taken = λ i. refl; shape = kept }
 other_seat (Take share m low high) k h other kept = record { seen = rw (number_is_another k m other) refl; left = λ i. refl; taken = λ i. taken_theirs i share k m low high h other; shape = kept }
@@ -81,7 +81,7 @@ other_seat _ k h other kept = record { seen = refl; left = λ i. refl; taken = �
 
 -- A step of a member
 
--- where an event keeps the rule and changes no place, and its member's seat is as the events say then, so are all shares
+-- if an event keeps the rule and changes no place, and its member's seat is as the events say then, so are all shares
 pub seat_steps : (members : ℕ) (seats : List Seat) (count : ℕ) (places : List (Option OpenShare)) (h : List Event) (event : Event) (now : Seat) →
     StandsFor members seats count places h → SamePlaces (event ∷ h) h → SeatStands members (member_of event) now count (event ∷ h) → ShareRule (schedule members) members event h →
     StandsFor members (slice_set seats (member_of event) now) count places (event ∷ h)

@@ -9,7 +9,7 @@ use Rattle.gomp_types.specs.declared.shape.ShareKind.{ShareKind}
 use Rattle.gomp_types.specs.declared.shape.ShareKind.TheVariants.{StaticChunked, StaticEven, Dynamic, Guided, Sections, Single, SingleCopy}
 use Rattle.gomp_types.specs.declared.event.Event.{Event}
 use Rattle.gomp_types.specs.declared.event.Event.TheVariants.{Take}
-use Rattle.gomp_types.specs.Limits.{shown}
+use Rattle.gomp_types.specs.Limits.{shown_number}
 use Rattle.gomp_types.specs.Values.{IsShape}
 use Rattle.gomp_types.specs.Pieces.{Piece, Tiles, pieces_of, kind_pieces, owner_by}
 use Rattle.gomp_types.specs.Deals.{queues_of, schedule, owned_from, taken_in, next_for}
@@ -57,20 +57,20 @@ queue_few members Sections shape m tiles = let few = tiles_few 0 shape.trips _ t
 queue_few members Single shape m tiles = let few = tiles_few 0 shape.trips _ tiles in omega arith
 queue_few members SingleCopy shape m tiles = let few = tiles_few 0 shape.trips _ tiles in omega arith
 
-slice_get-shown : (xs : List Piece) (n : ℕ) → length xs ≤ 2 ^ 39 → slice_get xs (shown n) ≡ slice_get xs n
+slice_get-shown : (xs : List Piece) (n : ℕ) → length xs ≤ 2 ^ 39 → slice_get xs (shown_number n) ≡ slice_get xs n
 slice_get-shown xs n few = elim (cases_lt n 18446744073709551615) [
-  | inl below ↦ let same : shown n ≡ n = omega arith in rw same refl
+  | inl below ↦ let same : shown_number n ≡ n = omega arith in rw same refl
   | inr past ↦
-      let most : shown n ≡ 18446744073709551615 = omega arith in
+      let most : shown_number n ≡ 18446744073709551615 = omega arith in
       rw most (slice_get_past xs 18446744073709551615 (omega arith) ∙ sym (slice_get_past xs n (omega arith)))
 ]
 
-shown_for : (owner : Option (ℕ → ℕ)) (own all : ℕ) → count_for owner (shown own) (shown all) ≡ shown (count_for owner own all)
+shown_for : (owner : Option (ℕ → ℕ)) (own all : ℕ) → count_for owner (shown_number own) (shown_number all) ≡ shown_number (count_for owner own all)
 shown_for None own all = refl
 shown_for (Some owner) own all = refl
 
 pub next_shown : (members : ℕ) (shape : Shape) (m own all : ℕ) → IsShape shape → Tiles 0 (pieces_of members shape) shape.trips →
-    next_piece (record { members = members; shape = shape }) m (shown own) (shown all) ≡ next_piece (record { members = members; shape = shape }) m own all
+    next_piece (record { members = members; shape = shape }) m (shown_number own) (shown_number all) ≡ next_piece (record { members = members; shape = shape }) m own all
 next_shown members shape m own all is tiles =
     let few = queue_few members shape.kind shape m tiles in
     let most = is.trips in
@@ -79,7 +79,7 @@ next_shown members shape m own all is tiles =
 
 -- What a take adds
 
-pub shown_more : (n : ℕ) → shown (n + 1) ≡ shown (shown n + 1)
+pub shown_more : (n : ℕ) → shown_number (n + 1) ≡ shown_number (shown_number n + 1)
 shown_more n = omega arith
 
 -- it counts for its share and its member, and for no other

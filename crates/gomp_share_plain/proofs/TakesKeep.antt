@@ -10,7 +10,7 @@ use Rattle.gomp_types.specs.declared.event.Event.TheVariants.{Take, Drained}
 use Rattle.gomp_types.specs.Pieces.{Piece, Tiles, pieces_of}
 use Rattle.gomp_types.specs.Events.{open_share, open_number, turn, shape_at, is_inside}
 use Rattle.gomp_types.specs.Values.{IsShape}
-use Rattle.gomp_types.specs.Limits.{shown}
+use Rattle.gomp_types.specs.Limits.{shown_number}
 use Rattle.gomp_chunks.specs.Plans.{PlanView, next_piece, pieces}
 use Rattle.gomp_chunks.specs.Spots.{CursorView}
 use Rattle.gomp_types.proofs.Lists.{slice_get-set, slice_get-set_same, slice_get-set_other}
@@ -49,11 +49,11 @@ claim_answers members seats count places h m seat share answer st at within foun
     let own = seat_inside members m seat count h s within in
     let valid = here_valid members (ended_of seat) (slice_get places (ended_of seat % OPEN_SHARES)) share h p found in
     let plan : share.cursor.plan ≡ record { members = members; shape = share.shape } = rw (← same) p.cursor_is in
-    let all : shown (taken_of (ended_of seat) h) ≡ share.taken = rw (← same) p.taken_is in
+    let all : shown_number (taken_of (ended_of seat) h) ≡ share.taken = rw (← same) p.taken_is in
     let view : PlanView = record { members = members; shape = share.shape } in
     let next : answer ≡ next_piece view m seat.taken share.taken = is ∙ ap (λ (p : PlanView). next_piece p m seat.taken share.taken) plan in
-    let least : answer ≡ next_piece view m (shown (taken_by (ended_of seat) m h)) (shown (taken_of (ended_of seat) h)) =
-    next ∙ sym (ap (λ n. next_piece view m n share.taken) (s.taken (ended_of seat, own.shape) own.current)) ∙ sym (ap (λ n. next_piece view m (shown (taken_by (ended_of seat) m h)) n) all) in
+    let least : answer ≡ next_piece view m (shown_number (taken_by (ended_of seat) m h)) (shown_number (taken_of (ended_of seat) h)) =
+    next ∙ sym (ap (λ n. next_piece view m n share.taken) (s.taken (ended_of seat, own.shape) own.current)) ∙ sym (ap (λ n. next_piece view m (shown_number (taken_by (ended_of seat) m h)) n) all) in
     record {
       share = (ended_of seat, share.shape);
       there = own_share members seats count places h m seat share st at within found;
@@ -65,7 +65,7 @@ claim_answers members seats count places h m seat share answer st at within foun
 -- a member takes a piece
 pub claim_stands : (members : ℕ) (seats : List Seat) (count : ℕ) (places : List (Option OpenShare)) (h : List Event) (m : ℕ) (seat : Seat) (share : OpenShare) (number : ℕ) (piece : Piece) (cursor : CursorView) → cursor.plan ≡ share.cursor.plan → slice_get (pieces share.cursor.plan) number ≡ Some piece →
     StandsFor members seats count places h → slice_get seats m ≡ Some seat → is_inside m h ≡ true → slice_get places (ended_of seat % OPEN_SHARES) ≡ Some (Some share) → CanClaim members m (seen_of m h) → Claims members m (Some piece) h →
-    StandsFor members (slice_set seats m (record seat { seen = record seat.seen { piece = Some piece }; taken = shown (seat.taken + 1); number = number })) count (slice_set places (ended_of seat % OPEN_SHARES) (Some (record share { taken = shown (share.taken + 1); cursor = cursor }))) (Take (open_number m h) m piece.0 piece.1 ∷ h)
+    StandsFor members (slice_set seats m (record seat { seen = record seat.seen { piece = Some piece }; taken = shown_number (seat.taken + 1); number = number })) count (slice_set places (ended_of seat % OPEN_SHARES) (Some (record share { taken = shown_number (share.taken + 1); cursor = cursor }))) (Take (open_number m h) m piece.0 piece.1 ∷ h)
 claim_stands members seats count places h m seat share number piece cursor plan is st at within found can may =
     let s : SeatStands members m seat count h = st.seat m seat at in
     let here : open_number m h ≡ ended_of seat = inside_number members m seat count h s within in
@@ -87,7 +87,7 @@ claim_stands members seats count places h m seat share number piece cursor plan 
           inside = s.inside;
           apart = s.apart;
           number = λ other taken there e. own_number other taken (sym (ap (λ (seen : Seen). seen.current) s.seen) ∙ there) e;
-          taken = λ other is. rw (here ∙ ended_is seat other is) (ap shown (taken_mine other.0 m piece.0 piece.1 h) ∙ shown_more (taken_by other.0 m h) ∙ ap (λ n. shown (n + 1)) (s.taken other is));
+          taken = λ other is. rw (here ∙ ended_is seat other is) (ap shown_number (taken_mine other.0 m piece.0 piece.1 h) ∙ shown_more (taken_by other.0 m h) ∙ ap (λ n. shown_number (n + 1)) (s.taken other is));
           fresh = λ i le. taken_else (λ k. k) m i (open_number m h) m piece.0 piece.1 h (away i (λ equal. omega arith)) ∙ s.fresh i le;
           known = s.known;
           near = s.near;
@@ -96,13 +96,13 @@ claim_stands members seats count places h m seat share number piece cursor plan 
       ];
       place = λ i low high. elim (eqb_tells i (ended_of seat)) [
         | inl e ↦ record {
-          share = record share { taken = shown (share.taken + 1); cursor = cursor };
+          share = record share { taken = shown_number (share.taken + 1); cursor = cursor };
           there = rw e.1 (slice_get-set_same places (ended_of seat % OPEN_SHARES) _ room);
           shape = ap (λ n. shape_at n h) e.1 ∙ shape_here members (ended_of seat) (slice_get places (ended_of seat % OPEN_SHARES)) share h now found;
           taken_is =
-              let before : shown (taken_of (ended_of seat) h) ≡ share.taken = rw (← same) now.taken_is in
-              subst (λ (n : ℕ). shown (taken_of n (Take (open_number m h) m piece.0 piece.1 ∷ h)) ≡ shown (share.taken + 1)) (sym e.1)
-              (rw here (ap shown (taken_here (ended_of seat) m piece.0 piece.1 h) ∙ shown_more (taken_of (ended_of seat) h) ∙ ap (λ (n : ℕ). shown (n + 1)) before));
+              let before : shown_number (taken_of (ended_of seat) h) ≡ share.taken = rw (← same) now.taken_is in
+              subst (λ (n : ℕ). shown_number (taken_of n (Take (open_number m h) m piece.0 piece.1 ∷ h)) ≡ shown_number (share.taken + 1)) (sym e.1)
+              (rw here (ap shown_number (taken_here (ended_of seat) m piece.0 piece.1 h) ∙ shown_more (taken_of (ended_of seat) h) ∙ ap (λ (n : ℕ). shown_number (n + 1)) before));
           turn_is = ap (λ n. turn n h) e.1 ∙ (rw (← same) now.turn_is);
           cursor_is = plan ∙ (rw (← same) now.cursor_is);
           valid = rw (← same) now.valid;

@@ -18,7 +18,7 @@ not_same low high pieces number turn piece (Some q) tiles at there other =
       | inr differs ↦ differs
     ]
 
--- the turn is that of a piece where it is its number
+-- the turn is that of a piece if it is its number
 pub turn_tells : (low high : ℕ) (pieces : List Piece) (number turn : ℕ) (piece : Piece) → Tiles low pieces high → slice_get pieces number ≡ Some piece →
     same_piece (slice_get pieces turn) (Some piece) ≡ (number == turn)
 turn_tells low high pieces number turn piece tiles at =

@@ -6,7 +6,7 @@ use Rattle.gomp_types.specs.Values.{IsShape}
 use Rattle.gomp_types.specs.Pieces.{Piece, pieces_of}
 use Rattle.gomp_types.specs.Events.{has_ended, turn, shape_at}
 use Rattle.gomp_types.specs.Seen.{seen_of}
-use Rattle.gomp_types.specs.Limits.{shown}
+use Rattle.gomp_types.specs.Limits.{shown_number}
 use Rattle.gomp_types.specs.declared.limits.TheConstants.{OPEN_SHARES}
 use Rattle.gomp_types.specs.Deals.{schedule, taken_in}
 use Rattle.gomp_types.specs.Laws.{Always}
@@ -62,7 +62,7 @@ pub record SeatStands (members m : ℕ) (seat : Seat) (opened : ℕ) (h : List E
   -- its piece has this number among the pieces of the share that it is in
   pub number : (share : ℕ × Shape) (piece : Piece) → seat.seen.current ≡ Some share → seat.seen.piece ≡ Some piece → slice_get (pieces_of members share.1) seat.number ≡ Some piece
   -- how many pieces it took of the share that it is in, and none of those that it has not entered
-  pub taken : (share : ℕ × Shape) → seat.seen.current ≡ Some share → shown (taken_by share.0 m h) ≡ seat.taken
+  pub taken : (share : ℕ × Shape) → seat.seen.current ≡ Some share → shown_number (taken_by share.0 m h) ≡ seat.taken
   pub fresh : (i : ℕ) → seat.seen.entered ≤ i → taken_by i m h ≡ 0
   pub known : seat.seen.entered ≤ opened
   pub near : opened ≤ ended_of seat + OPEN_SHARES
@@ -72,7 +72,7 @@ pub record PlaceStands (members i : ℕ) (place : Option (Option OpenShare)) (h 
   pub share : OpenShare
   pub there : place ≡ Some (Some share)
   pub shape : shape_at i h ≡ Some share.shape
-  pub taken_is : shown (taken_of i h) ≡ share.taken
+  pub taken_is : shown_number (taken_of i h) ≡ share.taken
   pub turn_is : turn i h ≡ share.turn
   pub cursor_is : share.cursor.plan ≡ record { members = members; shape = share.shape }
   pub valid : IsShape share.shape

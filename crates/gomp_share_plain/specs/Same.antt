@@ -1,10 +1,10 @@
--- Where later events say of a seat, or of a place, what those before them said, it stands as before. (own)
+-- If later events say of a seat, or of a place, what those before them said, it stands as before. (own)
 use Rattle.std.specs.Prelude.{ℕ, ◌+◌, ◌≤◌, ◌≡◌, List, Option, Some, refl}
 use Rattle.std.proofs.Common.{sym, ap, ◌∙◌, arith}
 use Rattle.gomp_types.specs.declared.shape.Shape.{Shape}
 use Rattle.gomp_types.specs.declared.event.Event.{Event}
 use Rattle.gomp_types.specs.Events.{has_ended, turn, shape_at}
-use Rattle.gomp_types.specs.Limits.{shown}
+use Rattle.gomp_types.specs.Limits.{shown_number}
 use Rattle.gomp_types.specs.declared.limits.TheConstants.{OPEN_SHARES}
 use Rattle.gomp_types.specs.Deals.{taken_in}
 use Rattle.gomp_types.specs.Seen.{seen_of}
@@ -26,7 +26,7 @@ pub record SameSeat (m : ℕ) (after before : List Event) : Type 0 where
   pub taken : (i : ℕ) → taken_by i m after ≡ taken_by i m before
   pub shape : (i : ℕ) (shape : Shape) → shape_at i before ≡ Some shape → shape_at i after ≡ Some shape
 
--- then its seat stands as before, also where more shares were opened, but not too many for it
+-- then its seat stands as before, also if more shares were opened, but not too many for it
 pub seat_near : (members m : ℕ) (seat : Seat) (opened more : ℕ) (after before : List Event) → SameSeat m after before → SeatStands members m seat opened before → opened ≤ more → more ≤ ended_of seat + OPEN_SHARES → SeatStands members m seat more after
 seat_near members m seat opened more after before same s le near = record {
   seen = s.seen ∙ sym same.seen;
@@ -34,7 +34,7 @@ seat_near members m seat opened more after before same s le near = record {
   inside = λ share is. let o = s.inside share is in (o.0, same.shape share.0 share.1 o.1);
   apart = s.apart;
   number = s.number;
-  taken = λ share is. ap shown (same.taken share.0) ∙ s.taken share is;
+  taken = λ share is. ap shown_number (same.taken share.0) ∙ s.taken share is;
   fresh = λ i le. same.taken i ∙ s.fresh i le;
   known = let k = s.known in omega arith;
   near = near;
@@ -58,7 +58,7 @@ place_same members i place now after before p here shape taken handed = record {
   share = p.share;
   there = here ∙ p.there;
   shape = shape ∙ p.shape;
-  taken_is = ap shown taken ∙ p.taken_is;
+  taken_is = ap shown_number taken ∙ p.taken_is;
   turn_is = handed ∙ p.turn_is;
   cursor_is = p.cursor_is;
   valid = p.valid;
@@ -67,6 +67,6 @@ place_same members i place now after before p here shape taken handed = record {
 pub same_place_kept : (members i : ℕ) (place : Option (Option OpenShare)) (after before : List Event) → SamePlaces after before → PlaceStands members i place before → PlaceStands members i place after
 same_place_kept members i place after before same p = place_same members i place place after before p refl (same.shape i) (same.taken (λ k. 0) i 0) (same.turn i)
 
--- and a share is untouched where it was
+-- and a share is untouched if it was
 pub beyond_kept : (i : ℕ) (after before : List Event) → SamePlaces after before → Untouched i before → Untouched i after
 beyond_kept i after before same none = (same.shape i ∙ none.0, λ queue_of q. same.taken queue_of i q ∙ none.1 queue_of q, same.turn i ∙ none.2)

@@ -1,11 +1,10 @@
-//! A share that may be open, and the place where it lies.
+//! A share that may be open.
 
-ghost use Rattle.std.specs.Prelude.{◌≡◌, ◌%◌, ◌==◌, ◌&&◌, is_some, slice_get, Some};
-ghost use Rattle.gomp_types.specs.declared.limits.TheConstants.{OPEN_SHARES};
+ghost use Rattle.std.specs.Prelude.{◌≡◌, ◌==◌, ◌&&◌, is_some};
 
 use crate::seat::Seat;
 use gomp_chunks::Cursor;
-use gomp_types::{OPEN_SHARES, Shape};
+use gomp_types::Shape;
 
 /// A share that some member may still be in.
 #[derive(Clone, Copy, Debug)]
@@ -18,16 +17,6 @@ pub struct OpenShare {
     pub turn: u64,
     /// Its pieces, with the place of the last one of a guided loop that was taken.
     pub cursor: Cursor,
-}
-
-/// The share that lies at the place of this number, if one does.
-pub fn share_at(
-    places: &[Option<OpenShare>; OPEN_SHARES as usize],
-    number: u64,
-) -> Option<OpenShare>
-    ensures there { Some result ≡ slice_get places.now (number % OPEN_SHARES) }
-{
-    places[(number % OPEN_SHARES) as usize]
 }
 
 /// Whether the ordered parts of the member's piece are next in its share.

@@ -5,22 +5,21 @@ ghost use Rattle.std.specs.Prelude.{length};
 ghost use Rattle.gomp_share_plain.specs.Plain.{StandsFor, plain_seen};
 ghost use Rattle.gomp_share_plain.specs.PlainLaws.{plain_aside, plain_agrees, plain_valid};
 
-use crate::open_share::{OpenShare, is_next, share_at};
+use crate::open_share::{OpenShare, is_next};
 use crate::seat::{Seat, ended_shares, has_room};
 use gomp_chunks::{Cursor, Plan};
-use gomp_shares::{Opening, Shares};
-use gomp_types::{OPEN_SHARES, Seen, Shape};
+use gomp_shares::{Opening, Places, Shares};
+use gomp_types::{Seen, Shape};
 use std::alloc::{AllocError, Global};
 use std::marker::Model;
 
-/// The work-shares of a team, for one thread. Share `i` lies at place `i % 8` until share `i + 8`
-/// is opened. After `make` no call takes memory.
+/// The work-shares of a team, for one thread. After `make` no call takes memory.
 #[derive(Debug, Drop)]
 pub struct PlainShares {
     seats: Vec<Seat>,
     /// How many shares were ever opened.
     opened: u64,
-    places: [Option<OpenShare>; OPEN_SHARES as usize],
+    places: Places<OpenShare>,
 }
 
 impl Model for PlainShares {
@@ -59,7 +58,7 @@ impl Shares for PlainShares {
         Ok(PlainShares {
             seats: vec![in alloc; Seat::NEW; count as usize]?,
             opened: 0,
-            places: [None; OPEN_SHARES as usize],
+            places: Places::new(),
         })
     }
 
@@ -72,7 +71,7 @@ impl Shares for PlainShares {
         if next >= self.opened {
             return false;
         }
-        let Some(share) = share_at(&self.places, next) else {
+        let Some(share) = self.places.at(next) else {
             unreachable!()
         };
         !share.shape.is_same(shape)
@@ -83,7 +82,7 @@ impl Shares for PlainShares {
         if number >= self.opened {
             return false;
         }
-        let Some(share) = share_at(&self.places, number) else {
+        let Some(share) = self.places.at(number) else {
             unreachable!()
         };
         share.taken > 0
@@ -92,9 +91,8 @@ impl Shares for PlainShares {
     fn try_open(&mut self, member: u16, shape: &Shape) -> Opening {
         let members = self.seats.len() as u16;
         let number = self.seats[member as usize].seen.entered;
-        let place = (number % OPEN_SHARES) as usize;
         if number < self.opened {
-            let Some(share) = share_at(&self.places, number) else {
+            let Some(share) = self.places.at(number) else {
                 unreachable!()
             };
             if !share.shape.is_same(shape) {
@@ -106,12 +104,13 @@ impl Shares for PlainShares {
         if !has_room(&self.seats, number) {
             return Opening::NotYet;
         }
-        self.places[place] = Some(OpenShare {
+        let new = OpenShare {
             shape: *shape,
             taken: 0,
             turn: 0,
             cursor: Cursor::new(Plan::of(shape, members)),
-        });
+        };
+        self.places.put(number, new);
         self.opened = number + 1;
         self.seats[member as usize] = Seat::in_share(number, shape);
         Opening::Entered
@@ -120,7 +119,7 @@ impl Shares for PlainShares {
     fn claim(&mut self, member: u16) -> Option<(u64, u64)> {
         let seat = &mut self.seats[member as usize];
         let number = ended_shares(seat);
-        let Some(share) = share_at(&self.places, number) else {
+        let Some(share) = self.places.at(number).copied() else {
             unreachable!()
         };
         let mut cursor = share.cursor;
@@ -132,20 +131,21 @@ impl Shares for PlainShares {
         seat.seen.piece = Some(piece);
         seat.taken = seat.taken.saturating_add(1);
         seat.number = piece_number;
-        self.places[(number % OPEN_SHARES) as usize] = Some(OpenShare {
+        let claimed = OpenShare {
             taken: share.taken.saturating_add(1),
             cursor,
             ..share
-        });
+        };
+        self.places.put(number, claimed);
         Some(piece)
     }
 
     fn try_turn(&mut self, member: u16, iteration: u64) -> bool {
         let seat = &self.seats[member as usize];
-        let Some(share) = share_at(&self.places, ended_shares(seat)) else {
+        let Some(share) = self.places.at(ended_shares(seat)) else {
             unreachable!()
         };
-        if !is_next(seat, &share) {
+        if !is_next(seat, share) {
             return false;
         }
         let seat = &mut self.seats[member as usize];
@@ -161,16 +161,17 @@ impl Shares for PlainShares {
     fn hand_on(&mut self, member: u16) -> bool {
         let seat = &self.seats[member as usize];
         let number = ended_shares(seat);
-        let Some(share) = share_at(&self.places, number) else {
+        let Some(share) = self.places.at(number) else {
             unreachable!()
         };
-        if !is_next(seat, &share) {
+        if !is_next(seat, share) {
             return false;
         }
-        self.places[(number % OPEN_SHARES) as usize] = Some(OpenShare {
+        let passed_on = OpenShare {
             turn: seat.number + 1,
-            ..share
-        });
+            ..*share
+        };
+        self.places.put(number, passed_on);
         true
     }
 

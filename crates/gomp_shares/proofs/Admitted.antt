@@ -16,7 +16,7 @@ use Rattle.gomp_types.specs.declared.event.Event.{Event}
 use Rattle.gomp_types.specs.declared.refusal.Refusal.{Refusal}
 use Rattle.gomp_types.specs.declared.refusal.Refusal.TheVariants.{Mismatch}
 use Rattle.gomp_types.specs.Compare.{shape_differs}
-use Rattle.gomp_types.specs.Events.{entered, in_kind, in_part, open_share, shape_at}
+use Rattle.gomp_types.specs.Events.{shares_entered, in_kind, in_part, open_share, shape_at}
 use Rattle.gomp_types.specs.Deals.{schedule}
 use Rattle.gomp_types.specs.Laws.{Always}
 use Rattle.gomp_types.specs.Shapes.{is_loop, is_sections}
@@ -26,10 +26,10 @@ use Rattle.gomp_types.specs.Least.{lesser, least, Answers}
 use Rattle.gomp_types.specs.Seen.{seen_of}
 use Rattle.gomp_types.proofs.Booleans.{not_false}
 use Rattle.gomp_types.proofs.LeastTests.{all_fail, first_is_least, from, least_append}
-use Rattle.gomp_shares.specs.declared.own.Construct.{Construct}
-use Rattle.gomp_shares.specs.declared.own.Construct.TheVariants.{Loop, Sections}
+use Rattle.gomp_shares.specs.declared.admission.Construct.{Construct}
+use Rattle.gomp_shares.specs.declared.admission.Construct.TheVariants.{Loop, Sections}
 use Rattle.gomp_shares.specs.Calls.{CanLeave, CanOpen, most_shares}
-use Rattle.gomp_shares.specs.Own.{end_tests_of}
+use Rattle.gomp_shares.specs.Admission.{end_tests_of}
 use Rattle.gomp_shares.specs.Rules.{ShareRule}
 use Rattle.gomp_shares.specs.Sections.{sections_end_tests}
 use Rattle.gomp_shares.specs.Starts.{Deals, Starts, start_tests, compared_share, AnswersBegin, AnswersStart}
@@ -37,7 +37,7 @@ use Rattle.gomp_shares.proofs.Entered.{row_is}
 use Rattle.gomp_shares.proofs.Laws.{ordered_part_is_in_a_loop}
 use Rattle.gomp_shares.proofs.PartsKeep.{sections_away}
 
--- where no test of the front holds, those behind it decide alone
+-- if no test of the front holds, those behind it decide alone
 pub behind_front : (front tests : List Test) → least front ≡ None → least (front ++ tests) ≡ least tests
 behind_front front tests none = least_append front tests ∙ ap (λ (found : Option _). lesser found (least tests)) none
 
@@ -58,7 +58,7 @@ pub compared_alone : (differs : Bool) → least ((differs, Mismatch) ∷ []) ≡
 compared_alone true = refl
 compared_alone false = refl
 
-pub begin_compared : (shape : Shape) (m : ℕ) (h : List Event) (differs : Bool) → shape_differs shape (shape_at (entered m h) h) ≡ differs → least (compared_share shape m h) ≡ (if differs then Some Mismatch else None)
+pub begin_compared : (shape : Shape) (m : ℕ) (h : List Event) (differs : Bool) → shape_differs shape (shape_at (shares_entered m h) h) ≡ differs → least (compared_share shape m h) ≡ (if differs then Some Mismatch else None)
 begin_compared shape m h differs e = rw e (compared_alone differs)
 
 -- so a start that the member's own tests let through is answered as the comparison and its share have it
@@ -121,7 +121,7 @@ in_no_part m h law away =
       | inr apart ↦ apart
     ]
 
--- where no test of an end holds, the member can leave
+-- if no test of an end holds, the member can leave
 pub end_lets_leave : (construct : Construct) (kind : EndKind) (members m : ℕ) (seen : Seen) (h : List Event) → Always (ShareRule (schedule members) members) h → seen ≡ seen_of m h → m < members →
     least (end_tests_of construct kind seen) ≡ None → CanLeave members m seen
 end_lets_leave Loop kind members m seen h ruled e lt none =
@@ -159,7 +159,7 @@ single_may_open copies members m seen lt out few = record {
   few = few;
 }
 
--- where no test of its start holds, it is one
+-- if no test of its start holds, it is one
 pub single_can_open : (copies : Bool) (limits : Limits) (members m : ℕ) (seen : Seen) → limits.shares ≤ most_shares → m < members → least (start_tests [] limits seen) ≡ None →
     CanOpen members m (single_shape copies) seen
 single_can_open copies limits members m seen few lt none =

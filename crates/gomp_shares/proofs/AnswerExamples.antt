@@ -2,11 +2,11 @@
 use Rattle.std.proofs.Common.{◌≡◌, List, Some, [], ◌∷◌, true, false, refl, arith, inr}
 use Rattle.std.specs.Prelude.{pos}
 use Rattle.gomp_types.specs.declared.refusal.Refusal.TheVariants.{ZeroStep, NotDrained, NotInside}
-use Rattle.gomp_types.specs.declared.reply.Reply.TheVariants.{Chunk, NoChunk, Section, Executor, Finished, Passed, Wait, Refused}
+use Rattle.gomp_types.specs.declared.reply.Reply.TheVariants.{Chunk, NoChunk, Section, Executor, Copied, Finished, Passed, Wait, Refused}
 use Rattle.gomp_types.specs.declared.loop_desc.EndKind.TheVariants.{Wait as WaitEnd}
-use Rattle.gomp_types.specs.declared.event.Event.TheVariants.{Enter, Take, Drained, End, Part, PartEnd, Put}
+use Rattle.gomp_types.specs.declared.event.Event.TheVariants.{Enter, Take, Drained, End, Part, PartEnd, Put, Got}
 use Rattle.gomp_types.specs.declared.event.Event.{Event}
-use Rattle.gomp_shares.specs.Calls.{claimed, left, part_begun}
+use Rattle.gomp_shares.specs.Calls.{events_claimed, events_left, part_begun}
 use Rattle.gomp_types.specs.Limits.{standard}
 use Rattle.gomp_types.specs.Pieces.{shape_of}
 use Rattle.gomp_types.specs.Sections.{sections_shape}
@@ -40,7 +40,7 @@ answers_no_step_else answer = absurd (let none = answer.0 in cc)
 pub answers_at_the_limit : AnswersLoopStart ten (record standard { shares = 0 }) 2 0 (Chunk (pos 0) 3) [] → ⊥
 answers_at_the_limit answer = absurd (let none = answer.0 in cc)
 
--- nor one where the other member is in another
+-- nor one if the other member is in another
 pub answers_beside_another : AnswersLoopStart nine standard 2 1 (Chunk (pos 3) 3) (events_of 2 took_one) → ⊥
 answers_beside_another answer = absurd (let none = answer.0 in cc)
 
@@ -132,6 +132,10 @@ answers_beside_a_copy answer = absurd (let none = answer.0 in cc)
 pub single_start_adds : single_started 0 (Executor true) [] ≡ End 0 0 ∷ Take 0 0 0 1 ∷ Enter 0 0 (single_shape false) ∷ []
 single_start_adds = refl
 
+-- and so does the other
+pub other_single_adds : single_started 1 (Executor false) [] ≡ End 0 1 ∷ Drained 0 1 ∷ Enter 0 1 (single_shape false) ∷ []
+other_single_adds = refl
+
 -- the first member executes one with words
 pub answers_copy_executor : AnswersCopy standard 2 0 (Executor true) []
 answers_copy_executor = (refl, (refl, refl))
@@ -147,6 +151,14 @@ copy_tells_no_other answer = answer.1.1
 -- the executor stays to put its words
 pub copy_start_adds : copy_started 0 (Executor true) [] ≡ Take 0 0 0 1 ∷ Enter 0 0 (single_shape true) ∷ []
 copy_start_adds = refl
+
+-- a member that is given the words has copied them, and leaves
+pub copied_words_add : copy_started 1 (Copied (7 ∷ [])) [] ≡ End 0 1 ∷ Got 0 1 (7 ∷ []) ∷ Drained 0 1 ∷ Enter 0 1 (single_shape true) ∷ []
+copied_words_add = refl
+
+-- one that waits for them has entered nothing
+pub copy_wait_adds : copy_started 1 Wait [] ≡ []
+copy_wait_adds = refl
 
 -- Ordered parts
 
@@ -182,7 +194,7 @@ part_end_never_waits answer = absurd (let done = answer.1 in cc)
 pub finished_part_adds : part_ended_at_once 0 Finished (events_of 2 in_the_part) ≡ PartEnd 0 0 ∷ events_of 2 in_the_part
 finished_part_adds = refl
 
--- and gives nothing where it is refused
+-- and gives nothing if it is refused
 pub refused_part_adds : part_ended_at_once 0 (Refused NotInside) (events_of 2 both_hold) ≡ events_of 2 both_hold
 refused_part_adds = refl
 
@@ -192,11 +204,11 @@ abbrev in_two_shares : List Event
 in_two_shares = Enter 1 1 (shape_of ten) ∷ End 0 1 ∷ Enter 0 1 (shape_of ten) ∷ Enter 0 0 (shape_of ten) ∷ []
 
 -- its piece is one of the second share
-pub second_piece_adds : claimed 1 (Some (0, 3)) in_two_shares ≡ Take 1 1 0 3 ∷ in_two_shares
+pub second_piece_adds : events_claimed 1 (Some (0, 3)) in_two_shares ≡ Take 1 1 0 3 ∷ in_two_shares
 second_piece_adds = refl
 
 -- it leaves the second share
-pub second_leave_adds : left 1 in_two_shares ≡ End 1 1 ∷ in_two_shares
+pub second_leave_adds : events_left 1 in_two_shares ≡ End 1 1 ∷ in_two_shares
 second_leave_adds = refl
 
 -- also by an end with no barrier

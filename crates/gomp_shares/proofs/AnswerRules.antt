@@ -6,7 +6,7 @@ use Rattle.gomp_types.specs.declared.shape.Shape.{Shape}
 use Rattle.gomp_types.specs.declared.event.Event.{Event}
 use Rattle.gomp_types.specs.Pieces.{Piece}
 use Rattle.gomp_types.specs.Shapes.{is_single}
-use Rattle.gomp_types.specs.Events.{entered, open_share, open_number, share_number, has_drained, last_piece, has_iteration, next_part, in_kind, is_inside, shape_at}
+use Rattle.gomp_types.specs.Events.{shares_entered, open_share, open_number, share_number, has_drained, last_piece, has_iteration, next_part, in_kind, is_inside, shape_at}
 use Rattle.gomp_types.specs.Ordered.{is_ordered, is_in_rest}
 use Rattle.gomp_types.specs.Deals.{schedule, next_for}
 use Rattle.gomp_types.specs.Laws.{Always}
@@ -24,7 +24,7 @@ use Rattle.gomp_shares.specs.Calls.{CanOpen, MayOpen, CanClaim, Claims, CanLeave
 -- Entering, taking and leaving
 
 -- a member that opens its next share, and is told that it entered, may enter
-pub enter_rule : (members m : ℕ) (shape : Shape) (h : List Event) → CanOpen members m shape (seen_of m h) → MayOpen members m shape Entered h → MayEnter (schedule members) members (entered m h) m shape h
+pub enter_rule : (members m : ℕ) (shape : Shape) (h : List Event) → CanOpen members m shape (seen_of m h) → MayOpen members m shape Entered h → MayEnter (schedule members) members (shares_entered m h) m shape h
 enter_rule members m shape h can may = let lt = can.member in record {
   member = lt;
   number = refl;
@@ -33,7 +33,7 @@ enter_rule members m shape h can may = let lt = can.member in record {
   tiles = pieces_tile_all members shape (omega arith) can.valid;
   moves = can.valid.moves;
   ordered = can.ordered;
-  same = same_shapes shape (shape_at (entered m h) h) may.0;
+  same = same_shapes shape (shape_at (shares_entered m h) h) may.0;
   room = may.1;
 }
 

@@ -1,5 +1,5 @@
 -- What the calls of the shares ask, answer and add: for each line of a definition what it says, and what it alone refuses.
-use Rattle.std.proofs.Common.{◌≡◌, ℕ, ◌-◌, ◌^◌, true, false, List, [], ◌∷◌, Some, None, Ok, Err, refl, ap, arith, length}
+use Rattle.std.proofs.Common.{◌≡◌, ℕ, ◌-◌, ◌^◌, true, false, List, [], ◌∷◌, Option, Some, None, Ok, Err, refl, ap, arith, length}
 use Rattle.gomp_types.specs.declared.refusal.Refusal.TheVariants.{NoMemory, InsideShare, OutsideShare, InOrdered, EndDiffers, NotDrained, Drained as DrainedRefusal, TooManyShares}
 use Rattle.gomp_types.specs.declared.refusal.Place.{Place}
 use Rattle.gomp_types.specs.declared.loop_desc.EndKind.TheVariants.{Wait as WaitEnd, Nowait}
@@ -13,12 +13,12 @@ use Rattle.gomp_types.specs.Events.{open_share}
 use Rattle.gomp_types.specs.Singles.{single_shape}
 use Rattle.gomp_types.specs.Sections.{sections_shape}
 use Rattle.gomp_shares.specs.declared.Opening.TheVariants.{Entered, NotYet, Differs}
-use Rattle.gomp_shares.specs.declared.own.Construct.TheVariants.{Loop, Sections}
+use Rattle.gomp_shares.specs.declared.admission.Construct.TheVariants.{Loop, Sections}
 use Rattle.gomp_shares.specs.declared.calls.ShareCall.TheVariants.{Open, OpenSections, OpenSingle, Claim, Leave, Begin, EndPart, HandOn}
 use Rattle.gomp_types.specs.Seen.{seen_of}
-use Rattle.gomp_shares.specs.Calls.{taken_of, was_taken, CanOpen, MayOpen, opened, CanClaim, Claims, claimed, is_done, CanLeave, left, CanBeginPart, CanEndPart, CanHandOn, own_turn, number_in, part_begun, part_ended, piece_handed, left_unless_refused, EachStands, IsAside}
+use Rattle.gomp_shares.specs.Calls.{taken_of, was_taken, CanOpen, IsIn, MayOpenAs, MayBeginAs, MayOpen, events_opened, CanClaim, Claims, events_claimed, is_done, CanLeave, events_left, CanBeginPart, CanEndPart, CanHandOn, own_turn, number_in, part_begun, part_ended, piece_handed, left_unless_refused, EachStands, IsAside}
 use Rattle.gomp_shares.specs.Starts.{start_tests}
-use Rattle.gomp_shares.specs.Own.{kinds_of, seen_in, in_part_of, next_tests_of, end_tests_of}
+use Rattle.gomp_shares.specs.Admission.{kinds_of, seen_in, in_part_of, next_tests_of, end_tests_of}
 use Rattle.gomp_shares.specs.Runs.{may_make, is_made}
 use Rattle.gomp_shares.specs.Examples.{asks, ten, nine, ordered_two, ordered_four, no_step, no_chunk, ordered_single, events_of, took_all, told_none, both_hold, in_the_part, handed_on, in_single, left_single, eight_ahead, sees, sees_outside, sees_loop, sees_single}
 use Rattle.gomp_shares.proofs.RunExamples.{ten_fits, two_fit}
@@ -91,25 +91,42 @@ cannot_open_inside can = absurd (let outside = can.outside in cc)
 pub cannot_open_more : CanOpen 2 1 (shape_of ten) (sees_outside (2 ^ 48)) → ⊥
 cannot_open_more can = absurd (let few = can.few in omega arith)
 
+-- what a member sees lets it open a share in whatever team it is
+pub may_open_anywhere : MayOpenAs (sees_outside 0) (shape_of ten)
+may_open_anywhere members m lt = record { member = lt; valid = ten_fits; ordered = λ is. absurd (cc); outside = refl; few = omega arith }
+
+-- and inside a share in none
+pub may_open_nowhere : MayOpenAs (sees_single false None) (shape_of ten) → ⊥
+may_open_nowhere may = cannot_open_inside (may 2 1 (omega arith))
+
+-- how many iterations the share has that a member is in
+abbrev trips_in : Option (ℕ × Shape) → ℕ
+trips_in None = 0
+trips_in (Some share) = share.1.trips
+
+-- a member in a loop is in a share of its shape, and of no other
+pub is_in_its_share : IsIn (shape_of ten) (sees_loop ten false None 0 false) × (IsIn (shape_of nine) (sees_loop ten false None 0 false) → ⊥) × (IsIn (shape_of ten) (sees_outside 0) → ⊥)
+is_in_its_share = ((0, refl), λ is. absurd (let trips : 10 ≡ 9 = ap trips_in is.1 in omega arith), λ is. absurd (let inside = is.1 in cc))
+
 -- Which answer it gets
 
--- where nobody is in the share and there is room
+-- if nobody is in the share and there is room
 pub opens_first : MayOpen 2 0 (shape_of ten) Entered []
 opens_first = (refl, refl)
 
--- where the other is in it
+-- if the other is in it
 pub opens_second : MayOpen 2 1 (shape_of ten) Entered (events_of 2 took_all)
 opens_second = (refl, refl)
 
--- where the other is in another one of this number
+-- if the other is in another one of this number
 pub opens_another : MayOpen 2 1 (shape_of nine) Differs (Enter 0 0 (shape_of ten) ∷ [])
 opens_another = refl
 
--- and where it is eight shares ahead
+-- and if it is eight shares ahead
 pub opens_ninth : MayOpen 2 0 (single_shape false) NotYet (events_of 2 eight_ahead)
 opens_ninth = (refl, refl)
 
--- where there is no room it does not enter
+-- if there is no room it does not enter
 pub ninth_not_entered : MayOpen 2 0 (single_shape false) Entered (events_of 2 eight_ahead) → ⊥
 ninth_not_entered may = absurd (let room = may.1 in cc)
 
@@ -117,7 +134,7 @@ ninth_not_entered may = absurd (let room = may.1 in cc)
 pub ninth_not_another : MayOpen 2 0 (single_shape false) Differs (events_of 2 eight_ahead) → ⊥
 ninth_not_another may = absurd (let differs = may in cc)
 
--- where there is room it does not wait
+-- if there is room it does not wait
 pub first_not_later : MayOpen 2 0 (shape_of ten) NotYet [] → ⊥
 first_not_later may = absurd (let room = may.1 in cc)
 
@@ -125,7 +142,7 @@ first_not_later may = absurd (let room = may.1 in cc)
 pub first_not_another : MayOpen 2 0 (shape_of ten) Differs [] → ⊥
 first_not_another may = absurd (let differs = may in cc)
 
--- where the share differs it does not enter
+-- if the share differs it does not enter
 pub another_not_entered : MayOpen 2 1 (shape_of nine) Entered (Enter 0 0 (shape_of ten) ∷ []) → ⊥
 another_not_entered may = absurd (let differs = may.0 in cc)
 
@@ -134,15 +151,15 @@ pub another_not_later : MayOpen 2 0 (shape_of ten) NotYet (Enter 8 1 (single_sha
 another_not_later may = absurd (let differs = may.0 in cc)
 
 -- the share has the number of those that the member has entered
-pub entered_adds : opened 0 (shape_of ten) Entered (events_of 2 left_single) ≡ Enter 1 0 (shape_of ten) ∷ events_of 2 left_single
+pub entered_adds : events_opened 0 (shape_of ten) Entered (events_of 2 left_single) ≡ Enter 1 0 (shape_of ten) ∷ events_of 2 left_single
 entered_adds = refl
 
 -- a member that has to wait adds nothing
-pub not_yet_adds : opened 0 (shape_of ten) NotYet (events_of 2 left_single) ≡ events_of 2 left_single
+pub not_yet_adds : events_opened 0 (shape_of ten) NotYet (events_of 2 left_single) ≡ events_of 2 left_single
 not_yet_adds = refl
 
 -- nor does one whose construct differs
-pub differs_adds : opened 0 (shape_of ten) Differs (events_of 2 left_single) ≡ events_of 2 left_single
+pub differs_adds : events_opened 0 (shape_of ten) Differs (events_of 2 left_single) ≡ events_of 2 left_single
 differs_adds = refl
 
 -- Who may ask for a piece
@@ -178,11 +195,11 @@ pub none_outside : Claims 2 1 None (Enter 0 0 (shape_of ten) ∷ []) → ⊥
 none_outside claims = absurd (let there = claims.there in cc)
 
 -- it is the piece of the share that it is in
-pub piece_adds : claimed 0 (Some (3, 6)) (Enter 1 0 (shape_of ten) ∷ events_of 2 left_single) ≡ Take 1 0 3 6 ∷ Enter 1 0 (shape_of ten) ∷ events_of 2 left_single
+pub piece_adds : events_claimed 0 (Some (3, 6)) (Enter 1 0 (shape_of ten) ∷ events_of 2 left_single) ≡ Take 1 0 3 6 ∷ Enter 1 0 (shape_of ten) ∷ events_of 2 left_single
 piece_adds = refl
 
 -- none is told of the share that it is in
-pub none_adds : claimed 0 None (Enter 1 0 (shape_of ten) ∷ events_of 2 left_single) ≡ Drained 1 0 ∷ Enter 1 0 (shape_of ten) ∷ events_of 2 left_single
+pub none_adds : events_claimed 0 None (Enter 1 0 (shape_of ten) ∷ events_of 2 left_single) ≡ Drained 1 0 ∷ Enter 1 0 (shape_of ten) ∷ events_of 2 left_single
 none_adds = refl
 
 -- Who may leave
@@ -228,7 +245,7 @@ pub cannot_leave_in_a_part : CanLeave 2 1 (sees_loop ordered_two true None 1 tru
 cannot_leave_in_a_part can = absurd (let apart = can.apart in cc)
 
 -- it leaves the share that it is in
-pub leave_adds : left 0 (Enter 1 0 (shape_of ten) ∷ events_of 2 left_single) ≡ End 1 0 ∷ Enter 1 0 (shape_of ten) ∷ events_of 2 left_single
+pub leave_adds : events_left 0 (Enter 1 0 (shape_of ten) ∷ events_of 2 left_single) ≡ End 1 0 ∷ Enter 1 0 (shape_of ten) ∷ events_of 2 left_single
 leave_adds = refl
 
 -- a member that is not refused has left
@@ -264,6 +281,14 @@ cannot_begin_again can = absurd (let rest = can.rest in cc)
 -- nor one of another piece
 pub cannot_begin_of_another : CanBeginPart 2 1 2 (sees_loop ordered_four false (Some (0, 2)) 1 false) → ⊥
 cannot_begin_of_another can = absurd (let rest = can.rest in cc)
+
+-- what a member sees lets it begin a part in whatever team it is
+pub may_begin_anywhere : MayBeginAs (sees_loop ordered_four false (Some (0, 2)) 1 false) 1
+may_begin_anywhere members m lt = record { member = lt; ordered = refl; apart = refl; rest = refl }
+
+-- and that of an iteration before in none
+pub may_begin_nowhere : MayBeginAs (sees_loop ordered_four false (Some (0, 2)) 1 false) 0 → ⊥
+may_begin_nowhere may = cannot_begin_again (may 2 1 (omega arith))
 
 -- it ends the part that it is in
 pub may_end_its_part : CanEndPart 2 1 (sees_loop ordered_two false (Some (0, 1)) 1 true)
@@ -411,7 +436,7 @@ makes_no_sections_inside = refl
 pub makes_no_more_sections : may_make (sees_outside (2 ^ 48)) (OpenSections 3 Nowait) ≡ false
 makes_no_more_sections = refl
 
--- nor where there are too many sections
+-- nor if there are too many sections
 pub makes_no_refused_sections : may_make (sees_outside 0) (OpenSections 65537 Nowait) ≡ false
 makes_no_refused_sections = refl
 
@@ -581,7 +606,7 @@ tests_of_a_start_inside = refl
 pub tests_of_the_next : next_tests_of Loop (sees_loop ordered_two false (Some (0, 1)) 1 true) ≡ (false, OutsideShare) ∷ (true, InOrdered) ∷ (false, DrainedRefusal) ∷ []
 tests_of_the_next = refl
 
--- where nothing is left the last one holds
+-- if nothing is left the last one holds
 pub tests_of_the_next_after_none : next_tests_of Loop (sees_loop ten true None 0 false) ≡ (false, OutsideShare) ∷ (false, InOrdered) ∷ (true, DrainedRefusal) ∷ []
 tests_of_the_next_after_none = refl
 

@@ -19,9 +19,9 @@ use Rattle.gomp_shares.specs.declared.calls.ShareStep.{ShareStep}
 use Rattle.gomp_shares.specs.declared.calls.ShareAnswer.{ShareAnswer}
 use Rattle.gomp_shares.specs.Calls.{CanOpen, CanClaim, CanLeave, CanBeginPart, CanHandOn, is_done}
 use Rattle.gomp_types.specs.Seen.{seen_of}
-use Rattle.gomp_shares.specs.Runs.{may_make, is_made, IsAnswer, answered, events_after, AreAnswers}
+use Rattle.gomp_shares.specs.Runs.{may_make, is_made, IsAnswer, events_answered, events_after, AreAnswers}
 
--- a loop is fine where none of its tests holds
+-- a loop is fine if none of its tests holds
 pub outcome_is_ok : {A : Type 0} (first : Option Refusal) (value : A) → is_ok (outcome first value) ≡ is_none first
 outcome_is_ok None value = refl
 outcome_is_ok (Some refusal) value = refl
@@ -33,7 +33,7 @@ is_none_is_none (Some x) e = absurd (cc)
 pub loop_fine : (seen : Seen) (loop : LoopDesc) → may_make seen (Open loop) ≡ true → first_refusal (loop_tests loop) ≡ None
 loop_fine seen loop e = is_none_is_none (first_refusal (loop_tests loop)) (and_right _ (is_none (first_refusal (loop_tests loop))) e)
 
--- where a loop may be opened, its member is outside and has entered few shares
+-- if a loop may be opened, its member is outside and has entered few shares
 pub opens_loop : (seen : Seen) (loop : LoopDesc) → may_make seen (Open loop) ≡ true → (is_none seen.current && nat_lt seen.entered (2 ^ 48)) ≡ true
 opens_loop seen loop e = and_left _ (is_none (first_refusal (loop_tests loop))) e
 
@@ -67,20 +67,20 @@ not_made members step seen h e may = and_false (nat_lt step.member members) (may
 
 -- one more call
 pub events_after_more : (members : ℕ) (steps : List ShareStep) (answers : List ShareAnswer) (step : ShareStep) (answer : ShareAnswer) (h : List Event) → length answers ≡ length steps →
-    events_after members (steps ++ step ∷ []) (answers ++ answer ∷ []) h ≡ answered members step answer (events_after members steps answers h)
+    events_after members (steps ++ step ∷ []) (answers ++ answer ∷ []) h ≡ events_answered members step answer (events_after members steps answers h)
 events_after_more members [] [] step answer h e = refl
 events_after_more members [] (a ∷ answers) step answer h e = absurd (omega arith)
 events_after_more members (s ∷ steps) [] step answer h e = absurd (omega arith)
-events_after_more members (s ∷ steps) (a ∷ answers) step answer h e = events_after_more members steps answers step answer (answered members s a h) (omega arith)
+events_after_more members (s ∷ steps) (a ∷ answers) step answer h e = events_after_more members steps answers step answer (events_answered members s a h) (omega arith)
 
 pub are_answers_more : (members : ℕ) (steps : List ShareStep) (answers : List ShareAnswer) (step : ShareStep) (answer : ShareAnswer) (h : List Event) → length answers ≡ length steps →
     AreAnswers members steps answers h → IsAnswer members step answer (events_after members steps answers h) → AreAnswers members (steps ++ step ∷ []) (answers ++ answer ∷ []) h
 are_answers_more members [] [] step answer h e are is = (is, tt)
 are_answers_more members [] (a ∷ answers) step answer h e are is = absurd (omega arith)
 are_answers_more members (s ∷ steps) [] step answer h e are is = absurd (omega arith)
-are_answers_more members (s ∷ steps) (a ∷ answers) step answer h e are is = (are.0, are_answers_more members steps answers step answer (answered members s a h) (omega arith) are.1 is)
+are_answers_more members (s ∷ steps) (a ∷ answers) step answer h e are is = (are.0, are_answers_more members steps answers step answer (events_answered members s a h) (omega arith) are.1 is)
 
--- What a call asks, where it may be made
+-- What a call asks, if it may be made
 
 not_true : (b : Bool) → not b ≡ true → b ≡ false
 not_true true e = absurd (cc)

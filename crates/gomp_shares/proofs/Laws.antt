@@ -8,7 +8,7 @@ use Rattle.gomp_types.specs.declared.shape.Shape.{Shape}
 use Rattle.gomp_types.specs.Deals.{Queues, FirstOfQueue, schedule, takes_in, next_for}
 use Rattle.gomp_types.specs.Pieces.{Piece}
 use Rattle.gomp_types.specs.Shapes.{is_loop, is_single}
-use Rattle.gomp_types.specs.Events.{entered, open_share, has_drained, last_piece, shape_at, is_over, in_part}
+use Rattle.gomp_types.specs.Events.{shares_entered, open_share, has_drained, last_piece, shape_at, is_over, in_part}
 use Rattle.gomp_types.specs.Laws.{Always}
 use Rattle.gomp_shares.specs.Rules.{ShareRule}
 use Rattle.gomp_shares.specs.Laws.{OrderedLaws, ShareLaws}
@@ -51,7 +51,7 @@ pub share_of_a_member_is_open : (members m i : ℕ) (shape : Shape) (h : List Ev
 share_of_a_member_is_open members = inside_is_open (schedule members) members
 
 -- nor is the share over that a member enters next
-pub next_share_is_open : (members m : ℕ) (h : List Event) → Always (ShareRule (schedule members) members) h → m < members → is_over members (entered m h) h ≡ false
+pub next_share_is_open : (members m : ℕ) (h : List Event) → Always (ShareRule (schedule members) members) h → m < members → is_over members (shares_entered m h) h ≡ false
 next_share_is_open members = next_is_open (schedule members) members
 
 -- of the shares whose numbers differ by a multiple of eight all but the last that was entered are over: so eight places serve them

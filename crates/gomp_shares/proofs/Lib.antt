@@ -14,6 +14,7 @@ pub mod OwnEvents
 pub mod PartsKeep
 pub mod RunExamples
 pub mod Served
+pub mod ServesExamples
 pub mod SharesKeep
 pub mod SinglesKeep
 pub mod SharesOver

@@ -2,14 +2,14 @@
 use Rattle.std.proofs.Common.{◌≡◌, ℕ, List, [], ◌∷◌, refl}
 use Rattle.gomp_types.specs.declared.event.Event.{Event}
 use Rattle.gomp_types.specs.declared.event.Event.TheVariants.{Enter, Take, Drained, End, HandOn, Part, PartEnd}
-use Rattle.gomp_types.specs.Events.{entered, open_share, has_drained, last_piece, next_part, in_part, shape_at, has_ended, turn}
+use Rattle.gomp_types.specs.Events.{shares_entered, open_share, has_drained, last_piece, next_part, in_part, shape_at, has_ended, turn}
 use Rattle.gomp_types.specs.Deals.{taken_in}
 use Rattle.gomp_types.specs.Seen.{seen_of}
 use Rattle.gomp_shares.specs.Only.{shares_only}
 
 -- Where a member is
 
-pub entered_only : (m : ℕ) (h : List Event) → entered m (shares_only h) ≡ entered m h
+pub entered_only : (m : ℕ) (h : List Event) → shares_entered m (shares_only h) ≡ shares_entered m h
 entered_only m [] = refl
 entered_only m (Enter share k shape ∷ h) = rw (entered_only m h) refl
 entered_only m (_ ∷ h) = entered_only m h

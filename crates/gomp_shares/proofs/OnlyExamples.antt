@@ -19,7 +19,7 @@ only_a_single m k words tag place = refl
 pub only_an_ordered_loop : shares_only (events_of 2 parts_over) ≡ events_of 2 parts_over
 only_an_ordered_loop = refl
 
--- where nothing but arrivals happened nothing stays
+-- if nothing but arrivals happened nothing stays
 pub only_arrivals : (tag : Tag) → shares_only (Pass 0 1 ∷ Pass 0 0 ∷ Arrive 0 1 tag ∷ Arrive 0 0 tag ∷ []) ≡ []
 only_arrivals tag = refl
 

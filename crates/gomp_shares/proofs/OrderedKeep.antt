@@ -87,7 +87,7 @@ taken_is_counted i m k low high (event ∷ earlier) (inr stands) le lt =
 counted_again : (i m k low high : ℕ) (earlier : List Event) → low ≤ k → k < high → times_taken i k (Take i m low high ∷ earlier) ≡ times_taken i k earlier + 1
 counted_again i m k low high earlier le lt = rw (same_number i, has_it k low high le lt) refl
 
--- where an iteration was taken at most once, one member took it
+-- if an iteration was taken at most once, one member took it
 one_taker : (i m n k low high : ℕ) (h : List Event) → Happened (Take i m low high) h → Happened (Take i n low high) h → low ≤ k → k < high → times_taken i k h ≤ 1 → m ≡ n
 one_taker i m n k low high [] one other le lt most = absurd one
 one_taker i m n k low high (event ∷ earlier) (inl e) (inl f) le lt most =
@@ -141,8 +141,8 @@ one_turn : (queues : Queues) (members m n i : ℕ) (one other : Shape) (h : List
     Turned members i one m h → Turned members i other n h → m ≡ n
 one_turn queues members m n i one other h all at there mine its =
     let found = (member_is_inside queues members m i one h all at).0 in
-    let again = (member_is_inside queues members n i other h all there).0 in
-    let same : other ≡ one = let t = sym again ∙ found in cc in
+    let repeated = (member_is_inside queues members n i other h all there).0 in
+    let same : other ≡ one = let t = sym repeated ∙ found in cc in
     let piece : slice_get (pieces_of members one) (turn i h) ≡ Some (its.0, its.1) = subst (λ (s : Shape). slice_get (pieces_of members s) (turn i h) ≡ Some (its.0, its.1)) same its.2 in
     let pieces : ◌≡◌ {A = Option Piece} (Some (its.0, its.1)) (Some (mine.0, mine.1)) = sym piece ∙ mine.2 in
     let own = last_piece_was_taken queues members m i mine.0 mine.1 one h all at mine.3 in
@@ -229,7 +229,7 @@ part_before queues members i n j q low high shape h all at piece le stands =
           inr (omega arith, omega arith, omega arith, b.was_taken)
     ]
 
--- where a member's last piece is that of the turn, the parts that have begun lie before the piece, or are its own
+-- if a member's last piece is that of the turn, the parts that have begun lie before the piece, or are its own
 parts_before : (queues : Queues) (members m i n j low high : ℕ) (shape : Shape) (h : List Event) → Always (ShareRule queues members) h → open_share m h ≡ Some (i, shape) → last_piece m h ≡ Some (low, high) →
     slice_get (pieces_of members shape) (turn i h) ≡ Some (low, high) → Happened (Part i n j) h → (j < low) ⊎ (j < next_part m h)
 parts_before queues members m i n j low high shape [] all at piece next stands = absurd stands

@@ -18,7 +18,7 @@ use Rattle.gomp_shares.specs.declared.Opening.TheVariants.{Entered, NotYet, Diff
 use Rattle.gomp_shares.specs.declared.calls.ShareCall.TheVariants.{Open, OpenSections, OpenSingle, Claim, Leave, Begin, EndPart, HandOn}
 use Rattle.gomp_shares.specs.declared.calls.ShareAnswer.TheVariants.{Opened, Claimed, Left, Turned, Ended}
 use Rattle.gomp_shares.specs.Calls.{Claims}
-use Rattle.gomp_shares.specs.Runs.{AreAnswers, answered}
+use Rattle.gomp_shares.specs.Runs.{AreAnswers, events_answered}
 use Rattle.gomp_shares.specs.Examples.{IsRun, IsWrong, NotOpened, NotClaimed, NotTurned, NotLeft, NotEnded, IsMade, events_of, asks, loop_of, ten, nine, static_ten, even_one, guided_ten, ordered_two, inside_ten, took_one, took_all, told_none, left_ten, both_hold, in_the_part, handed_on, parts_over, in_sections, in_single, left_single, in_static, in_even, in_guided, eight_ahead, ninth_share}
 
 -- The shapes of the constructs
@@ -172,7 +172,7 @@ hand_on_turns = (λ opening answer. answer.1, λ piece answer. answer.1, λ answ
 
 -- Other answers of a call
 
--- a member enters where there is room and the constructs are one
+-- a member enters if there is room and the constructs are one
 pub loop_enters : IsWrong 2 [] (asks 0 (Open ten)) (Opened NotYet) × IsWrong 2 [] (asks 0 (Open ten)) (Opened Differs)
 loop_enters = (λ answer. absurd (let room = answer.1.1 in cc), λ answer. absurd (let differs = answer.1 in cc))
 
@@ -224,7 +224,7 @@ is_next members m share answer h there claims =
     let same : claims.share ≡ share = let is = claims.there in cc in
     rw same at claims.least
 
--- where that is a piece, it is no other one, and not none
+-- if that is a piece, it is no other one, and not none
 not_from : (members m : ℕ) (share : ℕ × Shape) (piece next : Piece) (h : List Event) → (piece.0 ≡ next.0 → ⊥) → open_share m h ≡ Some share → next_for (schedule members) share.1 share.0 m h ≡ Some next → Claims members m (Some piece) h → ⊥
 not_from members m share piece next h other there is claims =
     let told = is_next members m share (Some piece) h there claims in
@@ -238,7 +238,7 @@ not_to members m share piece next h other there is claims =
 never_none : (members m : ℕ) (share : ℕ × Shape) (next : Piece) (h : List Event) → open_share m h ≡ Some share → next_for (schedule members) share.1 share.0 m h ≡ Some next → Claims members m None h → ⊥
 never_none members m share next h there is claims = let told = is_next members m share None h there claims in absurd (cc)
 
--- and where there is none, it is no piece
+-- and if there is none, it is no piece
 never_some : (members m : ℕ) (share : ℕ × Shape) (piece : Piece) (h : List Event) → open_share m h ≡ Some share → next_for (schedule members) share.1 share.0 m h ≡ None → Claims members m (Some piece) h → ⊥
 never_some members m share piece h there is claims = let told = is_next members m share (Some piece) h there claims in absurd (cc)
 
@@ -318,7 +318,7 @@ left_too_early answer = absurd (let made = answer.0 in cc)
 pub begun_in_a_part : IsWrong 2 in_the_part (asks 0 (Begin 0)) (Turned true)
 begun_in_a_part answer = absurd (let made = answer.0 in cc)
 
--- a part that is ended where none is open
+-- a part that is ended if none is open
 pub ended_outside : IsWrong 2 both_hold (asks 0 EndPart) Ended
 ended_outside answer = absurd (let made = answer.0 in cc)
 
@@ -329,5 +329,5 @@ handed_on_unordered turned answer = absurd (let made = answer.0 in cc)
 -- What an answer adds
 
 -- an answer of another call adds nothing of this one
-pub turned_adds_nothing : answered 2 (asks 0 Claim) (Turned true) (events_of 2 inside_ten) ≡ events_of 2 inside_ten
+pub turned_adds_nothing : events_answered 2 (asks 0 Claim) (Turned true) (events_of 2 inside_ten) ≡ events_of 2 inside_ten
 turned_adds_nothing = refl

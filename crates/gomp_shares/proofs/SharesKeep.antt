@@ -8,7 +8,7 @@ use Rattle.gomp_types.specs.declared.limits.TheConstants.{OPEN_SHARES}
 use Rattle.gomp_types.specs.declared.event.Event.{Event}
 use Rattle.gomp_types.specs.declared.event.Event.TheVariants.{Enter, Take, Drained, End}
 use Rattle.gomp_types.specs.Pieces.{Piece}
-use Rattle.gomp_types.specs.Events.{entered, open_share, has_drained, has_ended, shape_at, is_over, has_room, has_iteration, times_taken}
+use Rattle.gomp_types.specs.Events.{shares_entered, open_share, has_drained, has_ended, shape_at, is_over, has_room, has_iteration, times_taken}
 use Rattle.gomp_types.specs.Deals.{Queues, IsDealt, taken_in, takes_in, next_in, next_for, times}
 use Rattle.gomp_types.proofs.Always.{always_so}
 use Rattle.gomp_types.specs.Laws.{Always, Happened}
@@ -41,7 +41,7 @@ share_is_dealt queues members i shape (_ ∷ earlier) all at = share_is_dealt qu
 -- What is known of the share that a member is in
 
 abbrev pub Inside : ℕ → ℕ → ℕ → Shape → List Event → Type 0
-Inside members m i shape h = (shape_at i h ≡ Some shape) × (m < members) × (entered m h ≡ i + 1) × (shape.incr ≢ pos 0)
+Inside members m i shape h = (shape_at i h ≡ Some shape) × (m < members) × (shares_entered m h ≡ i + 1) × (shape.incr ≢ pos 0)
 
 pub member_is_inside : (queues : Queues) (members m i : ℕ) (shape : Shape) (h : List Event) → Always (ShareRule queues members) h → open_share m h ≡ Some (i, shape) → Inside members m i shape h
 member_is_inside queues members m i shape [] all at = absurd (cc)
@@ -50,7 +50,7 @@ member_is_inside queues members m i shape (Enter share member other ∷ earlier)
       | inl e ↦
           let p = share_is share i other shape e.1 in
           let who = is_equal member m e.0 in
-          let number : share ≡ entered m earlier = rw (← who) all.0.number in
+          let number : share ≡ shares_entered m earlier = rw (← who) all.0.number in
           rw (e.0, p.0, p.1, same_number i) (refl, (rw who at all.0.member), rw (← p.0) (rw number refl), (rw p.1 at all.0.moves))
       | inr e ↦
           let before = member_is_inside queues members m i shape earlier all.1 e.1 in
@@ -233,7 +233,7 @@ and_no false b c off e = e
 
 -- the shares that a member left are below those that it entered, and below the one that it is in
 pub ended_below : (queues : Queues) (members m i : ℕ) (h : List Event) → Always (ShareRule queues members) h → has_ended i m h ≡ true →
-    (i < entered m h) × ((j : ℕ) (shape : Shape) → open_share m h ≡ Some (j, shape) → i < j)
+    (i < shares_entered m h) × ((j : ℕ) (shape : Shape) → open_share m h ≡ Some (j, shape) → i < j)
 ended_below queues members m i [] all ended = absurd (cc)
 ended_below queues members m i (Enter share member shape ∷ earlier) all ended =
     let before = ended_below queues members m i earlier all.1 ended in
@@ -242,7 +242,7 @@ ended_below queues members m i (Enter share member shape ∷ earlier) all ended 
         omega (arith, before.0),
         λ j other within.
             let p = share_is share j shape other within in
-            let number : share ≡ entered m earlier = rw (← is_equal member m e) all.0.number in
+            let number : share ≡ shares_entered m earlier = rw (← is_equal member m e) all.0.number in
             let low = before.0 in let same = p.0 in omega arith,
       )
       | inr e ↦ rw e before

@@ -7,7 +7,7 @@ use Rattle.gomp_types.specs.declared.shape.Shape.{Shape}
 use Rattle.gomp_types.specs.declared.limits.TheConstants.{OPEN_SHARES}
 use Rattle.gomp_types.specs.declared.event.Event.{Event}
 use Rattle.gomp_types.specs.declared.event.Event.TheVariants.{Enter, End}
-use Rattle.gomp_types.specs.Events.{entered, open_share, shape_at, has_ended, is_over}
+use Rattle.gomp_types.specs.Events.{shares_entered, open_share, shape_at, has_ended, is_over}
 use Rattle.gomp_types.specs.Deals.{Queues}
 use Rattle.gomp_types.specs.Laws.{Always}
 use Rattle.gomp_shares.specs.Rules.{ShareRule}
@@ -28,11 +28,11 @@ inside_is_open queues members m i shape h all at =
     let known = member_is_inside queues members m i shape h all at in
     (known.0, stays_open members i m h known.1 (not_ended queues members m i shape h all at))
 
-pub next_is_open : (queues : Queues) (members m : ℕ) (h : List Event) → Always (ShareRule queues members) h → m < members → is_over members (entered m h) h ≡ false
+pub next_is_open : (queues : Queues) (members m : ℕ) (h : List Event) → Always (ShareRule queues members) h → m < members → is_over members (shares_entered m h) h ≡ false
 next_is_open queues members m h all lt =
-    elim (cases_Bool (has_ended (entered m h) m h)) [
-      | inl ended ↦ absurd (let below = (ended_below queues members m (entered m h) h all ended).0 in omega arith)
-      | inr stays ↦ stays_open members (entered m h) m h lt stays
+    elim (cases_Bool (has_ended (shares_entered m h) m h)) [
+      | inl ended ↦ absurd (let below = (ended_below queues members m (shares_entered m h) h all ended).0 in omega arith)
+      | inr stays ↦ stays_open members (shares_entered m h) m h lt stays
     ]
 
 -- what is over stays so

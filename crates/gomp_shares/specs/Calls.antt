@@ -7,7 +7,7 @@ use Rattle.gomp_types.specs.declared.event.Event.{Event}
 use Rattle.gomp_types.specs.declared.event.Event.TheVariants.{Enter, Take, Drained, End, HandOn, Part, PartEnd}
 use Rattle.gomp_types.specs.Pieces.{Piece}
 use Rattle.gomp_types.specs.Values.{IsShape}
-use Rattle.gomp_types.specs.Events.{entered, open_share, open_number, in_kind, shape_at, has_room}
+use Rattle.gomp_types.specs.Events.{shares_entered, open_share, open_number, in_kind, shape_at, has_room}
 use Rattle.gomp_types.specs.Ordered.{has_turn, last_number, is_ordered, is_in_rest}
 use Rattle.gomp_types.specs.Shapes.{is_loop, is_single}
 use Rattle.gomp_types.specs.Deals.{schedule, next_for, taken_in}
@@ -47,15 +47,15 @@ MayOpenAs seen shape = (members m : ℕ) → m < members → CanOpen members m s
 
 -- when a member that opens its next share gets this answer
 abbrev pub MayOpen : ℕ → ℕ → Shape → Opening → List Event → Type 0
-MayOpen members m shape Entered h = (shape_differs shape (shape_at (entered m h) h) ≡ false) × (has_room members (entered m h) h ≡ true)
-MayOpen members m shape NotYet h = (shape_differs shape (shape_at (entered m h) h) ≡ false) × (has_room members (entered m h) h ≡ false)
-MayOpen members m shape Differs h = shape_differs shape (shape_at (entered m h) h) ≡ true
+MayOpen members m shape Entered h = (shape_differs shape (shape_at (shares_entered m h) h) ≡ false) × (has_room members (shares_entered m h) h ≡ true)
+MayOpen members m shape NotYet h = (shape_differs shape (shape_at (shares_entered m h) h) ≡ false) × (has_room members (shares_entered m h) h ≡ false)
+MayOpen members m shape Differs h = shape_differs shape (shape_at (shares_entered m h) h) ≡ true
 
 -- the events after this answer
-abbrev pub opened : ℕ → Shape → Opening → List Event → List Event
-opened m shape Entered h = Enter (entered m h) m shape ∷ h
-opened m shape NotYet h = h
-opened m shape Differs h = h
+abbrev pub events_opened : ℕ → Shape → Opening → List Event → List Event
+events_opened m shape Entered h = Enter (shares_entered m h) m shape ∷ h
+events_opened m shape NotYet h = h
+events_opened m shape Differs h = h
 
 -- a member that is in a share, and in no ordered part of it, and was not told that nothing is left, may ask for a piece
 pub record CanClaim (members m : ℕ) (seen : Seen) : Type 0 where
@@ -64,7 +64,7 @@ pub record CanClaim (members m : ℕ) (seen : Seen) : Type 0 where
   pub more : seen.drained ≡ false
   pub apart : seen.in_part ≡ false
 
--- it gets the least piece that nobody took of those that are its own to take, none where there is none
+-- it gets the least piece that nobody took of those that are its own to take, none if there is none
 pub record Claims (members m : ℕ) (answer : Option Piece) (h : List Event) : Type 0 where
   pub share : ℕ × Shape
   pub there : open_share m h ≡ Some share
@@ -72,9 +72,10 @@ pub record Claims (members m : ℕ) (answer : Option Piece) (h : List Event) : T
   pub least : answer ≡ next_for (schedule members) share.1 share.0 m h
   pub within : IfSome answer (λ piece. (piece.0 < piece.1) × (piece.1 ≤ share.1.trips))
 
-abbrev pub claimed : ℕ → Option Piece → List Event → List Event
-claimed m (Some piece) h = Take (open_number m h) m piece.0 piece.1 ∷ h
-claimed m None h = Drained (open_number m h) m ∷ h
+-- the events after a claim: the piece was taken, or the member was told that nothing is left
+abbrev pub events_claimed : ℕ → Option Piece → List Event → List Event
+events_claimed m (Some piece) h = Take (open_number m h) m piece.0 piece.1 ∷ h
+events_claimed m None h = Drained (open_number m h) m ∷ h
 
 -- whether nothing is left for a member that sees this of its place: it was told so, or it took the one piece of a single
 abbrev pub is_done : Seen → Bool
@@ -87,8 +88,9 @@ pub record CanLeave (members m : ℕ) (seen : Seen) : Type 0 where
   pub done : is_done seen ≡ true
   pub apart : seen.in_part ≡ false
 
-abbrev pub left : ℕ → List Event → List Event
-left m h = End (open_number m h) m ∷ h
+-- the events after the member has left its share
+abbrev pub events_left : ℕ → List Event → List Event
+events_left m h = End (open_number m h) m ∷ h
 
 -- a member in an ordered loop may begin the part of an iteration of its piece, after those whose parts it has begun
 pub record CanBeginPart (members m iteration : ℕ) (seen : Seen) : Type 0 where
@@ -117,6 +119,7 @@ abbrev pub turn_in : ℕ → Option (ℕ × Shape) → ℕ → List Event → Bo
 turn_in members None m h = false
 turn_in members (Some share) m h = has_turn members share m h
 
+-- whether the turn of the share that the member is in is the member's
 abbrev pub own_turn : ℕ → ℕ → List Event → Bool
 own_turn members m h = turn_in members (open_share m h) m h
 
@@ -130,6 +133,7 @@ abbrev pub part_begun : ℕ → ℕ → Bool → List Event → List Event
 part_begun m iteration true h = Part (open_number m h) m iteration ∷ h
 part_begun m iteration false h = h
 
+-- the events after the member has ended its part
 abbrev pub part_ended : ℕ → List Event → List Event
 part_ended m h = PartEnd (open_number m h) m ∷ h
 
@@ -140,7 +144,7 @@ piece_handed members m false h = h
 
 -- the events after a member has left its share, or was refused
 abbrev pub left_unless_refused : {A : Type 0} → Result A Refusal → ℕ → List Event → List Event
-left_unless_refused (Ok done) m h = left m h
+left_unless_refused (Ok done) m h = events_left m h
 left_unless_refused (Err refusal) m h = h
 
 -- of each list of events that is stood for, this holds

@@ -23,9 +23,11 @@ use Rattle.gomp_shares.specs.Runs.{IsAnswer, AreAnswers, events_after}
 abbrev pub Run : Type 0
 Run = List (ShareStep × ShareAnswer)
 
+-- the calls of a run
 abbrev pub steps_of : Run → List ShareStep
 steps_of run = map (λ pair. pair.0) run
 
+-- the answers of a run
 abbrev pub answers_of : Run → List ShareAnswer
 answers_of run = map (λ pair. pair.1) run
 
@@ -45,15 +47,19 @@ IsWrong members run step answer = IsAnswer members step answer (events_of member
 abbrev pub NotOpened : ℕ → Run → ShareStep → Type 0
 NotOpened members run step = (opening : Opening) → IsWrong members run step (Opened opening)
 
+-- no answer of a claim is one either
 abbrev pub NotClaimed : ℕ → Run → ShareStep → Type 0
 NotClaimed members run step = (piece : Option Piece) → IsWrong members run step (Claimed piece)
 
+-- nor one about the turn
 abbrev pub NotTurned : ℕ → Run → ShareStep → Type 0
 NotTurned members run step = (turned : Bool) → IsWrong members run step (Turned turned)
 
+-- nor that the member has left its share
 abbrev pub NotLeft : ℕ → Run → ShareStep → Type 0
 NotLeft members run step = IsWrong members run step Left
 
+-- nor that the part has ended
 abbrev pub NotEnded : ℕ → Run → ShareStep → Type 0
 NotEnded members run step = IsWrong members run step Ended
 
@@ -61,11 +67,13 @@ NotEnded members run step = IsWrong members run step Ended
 abbrev pub IsMade : ℕ → Run → ShareStep → Type 0
 IsMade members run step = IsWrong members run step NotMade
 
+-- the step in which a member makes this call
 abbrev pub asks : ℕ → ShareCall → ShareStep
 asks m call = record { member = m; call = call }
 
 -- Loops, from 0 in steps of 1
 
+-- a loop of step 1 from 0 on
 abbrev pub loop_of : Bool → Sched → ℤ → ℤ → LoopDesc
 loop_of ordered sched trips chunk = record { start = pos 0; end = trips; incr = pos 1; sched = sched; chunk = chunk; ordered = ordered; end_kind = WaitEnd }
 
@@ -77,20 +85,23 @@ ten = loop_of false Dynamic (pos 10) (pos 3)
 abbrev pub nine : LoopDesc
 nine = loop_of false Dynamic (pos 9) (pos 3)
 
--- ten whose chunks are assigned beforehand, and one without a chunk
+-- ten whose chunks are assigned beforehand
 abbrev pub static_ten : LoopDesc
 static_ten = loop_of false Static (pos 10) (pos 3)
 
+-- one iteration, by the static schedule without a chunk
 abbrev pub even_one : LoopDesc
 even_one = loop_of false Static (pos 1) (pos 0)
 
+-- ten iterations by the guided schedule, in chunks of two or more
 abbrev pub guided_ten : LoopDesc
 guided_ten = loop_of false Guided (pos 10) (pos 2)
 
--- two iterations, and four in chunks of two, with ordered parts
+-- two iterations with ordered parts
 abbrev pub ordered_two : LoopDesc
 ordered_two = loop_of true Dynamic (pos 2) (pos 1)
 
+-- and four in chunks of two
 abbrev pub ordered_four : LoopDesc
 ordered_four = loop_of true Dynamic (pos 4) (pos 2)
 
@@ -215,9 +226,11 @@ left_single =
 abbrev pub in_static : Run
 in_static = (asks 1 (Open static_ten), Opened Entered) ∷ (asks 1 Claim, Claimed (Some (3, 6))) ∷ []
 
+-- member 1 is in the static loop of one iteration, and has none of it
 abbrev pub in_even : Run
 in_even = (asks 1 (Open even_one), Opened Entered) ∷ (asks 1 Claim, Claimed None) ∷ []
 
+-- member 0 has the first piece of the guided loop
 abbrev pub in_guided : Run
 in_guided = (asks 0 (Open guided_ten), Opened Entered) ∷ (asks 0 Claim, Claimed (Some (0, 5))) ∷ []
 
@@ -225,9 +238,11 @@ in_guided = (asks 0 (Open guided_ten), Opened Entered) ∷ (asks 0 Claim, Claime
 abbrev pub single_alone : Run
 single_alone = (asks 0 (OpenSingle false), Opened Entered) ∷ (asks 0 Claim, Claimed (Some (0, 1))) ∷ (asks 0 Leave, Left) ∷ []
 
+-- a member goes through four singles alone
 abbrev pub four_ahead : Run
 four_ahead = single_alone ++ single_alone ++ single_alone ++ single_alone
 
+-- and through eight
 abbrev pub eight_ahead : Run
 eight_ahead = four_ahead ++ four_ahead
 
@@ -244,6 +259,7 @@ ninth_share =
 
 -- What a member sees of its place
 
+-- what a member sees of its place, field by field
 abbrev pub sees : ℕ → Option (ℕ × Shape) → Bool → Option Piece → ℕ → Bool → Seen
 sees entered current drained piece next_part in_part =
     record { entered = entered; current = current; drained = drained; piece = piece; next_part = next_part; in_part = in_part }

@@ -6,7 +6,7 @@ use Rattle.gomp_types.specs.declared.event.Event.{Event}
 use Rattle.gomp_types.specs.declared.event.Event.TheVariants.{Enter, Take, End, HandOn, Part, PartEnd}
 use Rattle.gomp_types.specs.Shapes.{is_static}
 use Rattle.gomp_types.specs.Pieces.{pieces_of}
-use Rattle.gomp_types.specs.Events.{entered, last_piece, turn, open_part, times_taken}
+use Rattle.gomp_types.specs.Events.{shares_entered, last_piece, turn, open_part, times_taken}
 use Rattle.gomp_types.specs.Deals.{Queues, taken_in, takes_in, next_for}
 use Rattle.gomp_types.specs.Laws.{Always, Happened}
 
@@ -28,7 +28,7 @@ abbrev pub TakesWithin : Event → List Event → Type 0
 TakesWithin (Take share m low high) earlier = (shape : Shape) × Happened (Enter share m shape) earlier × (low < high) × (high ≤ shape.trips)
 TakesWithin _ earlier = Unit {0}
 
--- a member leaves a share only where nothing is left there for it
+-- a member leaves a share only if nothing is left there for it
 abbrev pub LeavesNothing : Queues → Event → List Event → Type 0
 LeavesNothing queues (End share m) earlier = (shape : Shape) → Happened (Enter share m shape) earlier → next_for queues shape share m earlier ≡ None
 LeavesNothing queues _ earlier = Unit {0}
@@ -61,7 +61,7 @@ WholeWhereOver members h =
 abbrev pub EntersOneByOne : ℕ → Event → List Event → Type 0
 EntersOneByOne members (Enter share m shape) earlier =
     (m < members)
-    × (share ≡ entered m earlier)
+    × (share ≡ shares_entered m earlier)
     × ((before : ℕ) (other : Shape) → Happened (Enter before m other) earlier → Happened (End before m) earlier)
 EntersOneByOne members _ earlier = Unit {0}
 
@@ -70,7 +70,7 @@ abbrev pub EndsInside : Event → List Event → Type 0
 EndsInside (End share m) earlier = (shape : Shape) × Happened (Enter share m shape) earlier × (Happened (End share m) earlier → ⊥)
 EndsInside _ earlier = Unit {0}
 
--- a share is entered only where the one `OPEN_SHARES` before it is over (own)
+-- a share is entered only if the one `OPEN_SHARES` before it is over (own)
 abbrev pub EntersWithRoom : ℕ → Event → List Event → Type 0
 EntersWithRoom members (Enter share m shape) earlier = (old : ℕ) → share ≡ old + OPEN_SHARES → IsOver members old earlier
 EntersWithRoom members _ earlier = Unit {0}

@@ -4,7 +4,7 @@ pub mod Laws
 pub mod Loops
 pub mod Only
 pub mod OrderedParts
-pub mod Own
+pub mod Admission
 pub mod Rules
 pub mod Runs
 pub mod Sections

@@ -28,7 +28,7 @@ abbrev pub IsChunk : Shape → Option Piece → ℤ → ℕ → Type 0
 IsChunk shape None first count = ⊥
 IsChunk shape (Some piece) first count = (first ≡ value_at shape piece.0) × (piece.0 + count ≡ piece.1)
 
--- the answer to a member that asks for iterations: the least piece that nobody took of those of its share that are its to take, none where there is none
+-- the answer to a member that asks for iterations: the least piece that nobody took of those of its share that are its to take, none if there is none
 abbrev pub DealsOut : ℕ → ℕ → Option (ℕ × Shape) → Reply → List Event → Type 0
 DealsOut members m None reply h = ⊥
 DealsOut members m (Some share) (Chunk first count) h = IsChunk share.1 (next_for (schedule members) share.1 share.0 m h) first count
@@ -73,9 +73,11 @@ end_tests kind seen =
 
 -- The answers, and the events after them
 
+-- the answer to the start of a loop
 abbrev pub AnswersLoopStart : LoopDesc → Limits → ℕ → ℕ → Reply → List Event → Type 0
 AnswersLoopStart loop limits members m reply h = AnswersStart (loop_tests loop) (shape_of loop) DealsOut limits members m reply h
 
+-- the events after it
 abbrev pub loop_started : LoopDesc → ℕ → Reply → List Event → List Event
 loop_started loop m reply h = entry_and piece_given (shape_of loop) m h reply ++ h
 
@@ -83,14 +85,16 @@ loop_started loop m reply h = entry_and piece_given (shape_of loop) m h reply ++
 abbrev pub loop_begun : Shape → ℕ → Reply → List Event → List Event
 loop_begun shape m reply h = entry_and piece_given shape m h reply ++ h
 
+-- the answer to a call for the next piece
 abbrev pub AnswersLoopNext : ℕ → ℕ → Reply → List Event → Type 0
 AnswersLoopNext members m reply h =
     Answers (next_tests (seen_of m h)) (λ given. DealsNext members m (open_share m h) given h) reply
 
 -- the answer to a member that its own tests let ask for the next piece: its share deals so
-abbrev pub TakesNext : ℕ → ℕ → Reply → List Event → Type 0
-TakesNext members m reply h = DealsNext members m (open_share m h) reply h
+abbrev pub AnswersTake : ℕ → ℕ → Reply → List Event → Type 0
+AnswersTake members m reply h = DealsNext members m (open_share m h) reply h
 
+-- the events after it
 abbrev pub loop_next_taken : ℕ → ℕ → Reply → List Event → List Event
 loop_next_taken members m reply h = next_given members (open_share m h) m h reply ++ h
 

@@ -40,11 +40,13 @@ part_tests value seen =
 abbrev pub part_end_tests : Seen → List Test
 part_end_tests seen = (not seen.in_part, NotInside) ∷ []
 
-abbrev pub part_ended : ℕ → List Event → List Event
-part_ended m h = PartEnd (open_number m h) m ∷ []
+-- the event that the end of a part gives
+abbrev pub part_end_events : ℕ → List Event → List Event
+part_end_events m h = PartEnd (open_number m h) m ∷ []
 
 -- The answers, and the events after them
 
+-- the answer to the start of a part
 abbrev pub AnswersPart : ℕ → ℤ → ℕ → Reply → List Event → Type 0
 AnswersPart members value m reply h =
     Answers (part_tests value (seen_of m h)) (λ given. BeginsPart members m (open_share m h) given h) reply
@@ -53,11 +55,14 @@ AnswersPart members value m reply h =
 abbrev pub BeginsOwnPart : ℕ → ℕ → Reply → List Event → Type 0
 BeginsOwnPart members m reply h = BeginsPart members m (open_share m h) reply h
 
+-- the events after it
 abbrev pub part_started : ℤ → ℕ → Reply → List Event → List Event
 part_started value m reply h = part_given (open_share m h) m value reply ++ h
 
+-- the answer to the end of a part
 abbrev pub AnswersPartEnd : ℕ → Reply → List Event → Type 0
 AnswersPartEnd m reply h = Answers (part_end_tests (seen_of m h)) (λ given. given ≡ Finished) reply
 
+-- the events after it
 abbrev pub part_ended_at_once : ℕ → Reply → List Event → List Event
-part_ended_at_once m reply h = done_given (part_ended m h) reply ++ h
+part_ended_at_once m reply h = done_given (part_end_events m h) reply ++ h

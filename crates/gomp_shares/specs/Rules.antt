@@ -4,7 +4,7 @@ use Rattle.gomp_types.specs.declared.shape.Shape.{Shape}
 use Rattle.gomp_types.specs.declared.event.Event.{Event}
 use Rattle.gomp_types.specs.declared.event.Event.TheVariants.{Enter, Take, Drained, End, HandOn, Part, PartEnd}
 use Rattle.gomp_types.specs.Shapes.{is_loop}
-use Rattle.gomp_types.specs.Events.{entered, open_share, last_piece, next_part, in_part, shape_at, has_room}
+use Rattle.gomp_types.specs.Events.{shares_entered, open_share, last_piece, next_part, in_part, shape_at, has_room}
 use Rattle.gomp_types.specs.Pieces.{Tiles, pieces_of}
 use Rattle.gomp_types.specs.Ordered.{has_turn, last_number}
 use Rattle.gomp_types.specs.Deals.{Queues, IsDealt, next_for}
@@ -14,7 +14,7 @@ use Rattle.gomp_types.specs.Deals.{Queues, IsDealt, next_for}
 -- last, with a step that leads on.
 pub record MayEnter (queues : Queues) (members share m : ℕ) (shape : Shape) (earlier : List Event) : Type 0 where
   pub member : m < members
-  pub number : share ≡ entered m earlier
+  pub number : share ≡ shares_entered m earlier
   pub outside : open_share m earlier ≡ None
   pub dealt : IsDealt queues members shape
   pub tiles : Tiles 0 (pieces_of members shape) shape.trips
@@ -47,7 +47,7 @@ pub record MayHandOn (members share m piece : ℕ) (earlier : List Event) : Type
   pub number : piece ≡ last_number members (share, shape) m earlier
   pub next : has_turn members (share, shape) m earlier ≡ true
 
--- a member begins the ordered part of an iteration of its piece, after those whose parts it has begun, where every piece before its own was handed on
+-- a member begins the ordered part of an iteration of its piece, after those whose parts it has begun, if every piece before its own was handed on
 pub record MayPart (members share m iteration : ℕ) (earlier : List Event) : Type 0 where
   pub shape : Shape
   pub inside : open_share m earlier ≡ Some (share, shape)

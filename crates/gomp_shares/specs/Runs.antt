@@ -14,9 +14,9 @@ use Rattle.gomp_shares.specs.declared.calls.ShareStep.{ShareStep}
 use Rattle.gomp_shares.specs.declared.calls.ShareAnswer.{ShareAnswer}
 use Rattle.gomp_shares.specs.declared.calls.ShareAnswer.TheVariants.{Opened, Claimed, Left, Turned, Ended, NotMade}
 use Rattle.gomp_types.specs.Seen.{seen_of}
-use Rattle.gomp_shares.specs.Calls.{most_shares, is_done, MayOpen, opened, Claims, claimed, left, own_turn, part_begun, part_ended, piece_handed}
+use Rattle.gomp_shares.specs.Calls.{most_shares, is_done, MayOpen, events_opened, Claims, events_claimed, events_left, own_turn, part_begun, part_ended, piece_handed}
 
--- whether a member that sees this of its place may open its next share, where these are the tests of the construct by itself
+-- whether a member that sees this of its place may open its next share, if these are the tests of the construct by itself
 abbrev pub may_open : Seen → List Test → Bool
 may_open seen tests = is_none seen.current && nat_lt seen.entered most_shares && is_none (first_refusal tests)
 
@@ -31,7 +31,7 @@ may_make seen (Begin iteration) = is_ordered seen.current && not seen.in_part &&
 may_make seen EndPart = seen.in_part
 may_make seen HandOn = is_ordered seen.current && not seen.in_part
 
--- a call is made exactly where its member is in the team and may make it
+-- a call is made exactly if its member is in the team and may make it
 abbrev pub is_made : ℕ → ShareStep → List Event → Bool
 is_made members step h = nat_lt step.member members && may_make (seen_of step.member h) step.call
 
@@ -47,6 +47,7 @@ Answers members m EndPart Ended h = Unit {0}
 Answers members m HandOn (Turned handed) h = handed ≡ own_turn members m h
 Answers members m _ _ h = ⊥
 
+-- the answer to a step: that of its call if it is made, else that it is not made
 abbrev pub IsAnswer : ℕ → ShareStep → ShareAnswer → List Event → Type 0
 IsAnswer members step NotMade h = is_made members step h ≡ false
 IsAnswer members step answer h = (is_made members step h ≡ true) × Answers members step.member step.call answer h
@@ -54,27 +55,28 @@ IsAnswer members step answer h = (is_made members step h ≡ true) × Answers me
 -- the events after a call and its answer
 abbrev pub answered_call : ℕ → ℕ → ShareAnswer → ShareCall → List Event → List Event
 answered_call members m NotMade call h = h
-answered_call members m (Opened opening) (Open loop) h = opened m (shape_of loop) opening h
-answered_call members m (Opened opening) (OpenSections count end_kind) h = opened m (sections_shape count end_kind) opening h
-answered_call members m (Opened opening) (OpenSingle copies) h = opened m (single_shape copies) opening h
-answered_call members m (Claimed piece) call h = claimed m piece h
-answered_call members m Left call h = left m h
+answered_call members m (Opened opening) (Open loop) h = events_opened m (shape_of loop) opening h
+answered_call members m (Opened opening) (OpenSections count end_kind) h = events_opened m (sections_shape count end_kind) opening h
+answered_call members m (Opened opening) (OpenSingle copies) h = events_opened m (single_shape copies) opening h
+answered_call members m (Claimed piece) call h = events_claimed m piece h
+answered_call members m Left call h = events_left m h
 answered_call members m (Turned begun) (Begin iteration) h = part_begun m iteration begun h
 answered_call members m (Turned handed) HandOn h = piece_handed members m handed h
 answered_call members m Ended call h = part_ended m h
 answered_call members m _ _ h = h
 
-abbrev pub answered : ℕ → ShareStep → ShareAnswer → List Event → List Event
-answered members step answer h = answered_call members step.member answer step.call h
+-- the events after a step and its answer
+abbrev pub events_answered : ℕ → ShareStep → ShareAnswer → List Event → List Event
+events_answered members step answer h = answered_call members step.member answer step.call h
 
 -- the events after these calls and answers, in order
 abbrev pub events_after : ℕ → List ShareStep → List ShareAnswer → List Event → List Event
 events_after members [] answers h = h
 events_after members (step ∷ steps) [] h = h
-events_after members (step ∷ steps) (answer ∷ answers) h = events_after members steps answers (answered members step answer h)
+events_after members (step ∷ steps) (answer ∷ answers) h = events_after members steps answers (events_answered members step answer h)
 
 -- each answer is that of its call, after those before it
 abbrev pub AreAnswers : ℕ → List ShareStep → List ShareAnswer → List Event → Type 0
 AreAnswers members [] answers h = Unit {0}
 AreAnswers members (step ∷ steps) [] h = ⊥
-AreAnswers members (step ∷ steps) (answer ∷ answers) h = IsAnswer members step answer h × AreAnswers members steps answers (answered members step answer h)
+AreAnswers members (step ∷ steps) (answer ∷ answers) h = IsAnswer members step answer h × AreAnswers members steps answers (events_answered members step answer h)

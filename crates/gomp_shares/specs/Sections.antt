@@ -19,7 +19,7 @@ use Rattle.gomp_types.specs.Seen.{seen_of}
 use Rattle.gomp_types.specs.Sections.{sections_shape, sections_tests}
 use Rattle.gomp_shares.specs.Starts.{AnswersStart, entry_and}
 
--- the first section that nobody took, by its number from 1, and 0 where none is left
+-- the first section that nobody took, by its number from 1, and 0 if none is left
 abbrev pub DealsSections : ℕ → ℕ → Option (ℕ × Shape) → Reply → List Event → Type 0
 DealsSections members m None reply h = ⊥
 DealsSections members m (Some share) (Section zero) h = next_for (schedule members) share.1 share.0 m h ≡ None
@@ -48,10 +48,12 @@ sections_end_tests kind seen =
 
 -- The answers, and the events after them
 
+-- the answer to the start of a sections construct
 abbrev pub AnswersSectionsStart : ℕ → EndKind → Limits → ℕ → ℕ → Reply → List Event → Type 0
 AnswersSectionsStart count end_kind limits members m reply h =
     AnswersStart (sections_tests count) (sections_shape count end_kind) DealsSections limits members m reply h
 
+-- the events after it
 abbrev pub sections_started : ℕ → EndKind → ℕ → Reply → List Event → List Event
 sections_started count end_kind m reply h = entry_and section_given (sections_shape count end_kind) m h reply ++ h
 
@@ -59,6 +61,7 @@ sections_started count end_kind m reply h = entry_and section_given (sections_sh
 abbrev pub sections_begun : Shape → ℕ → Reply → List Event → List Event
 sections_begun shape m reply h = entry_and section_given shape m h reply ++ h
 
+-- the answer to a call for the next section
 abbrev pub AnswersSectionsNext : ℕ → ℕ → Reply → List Event → Type 0
 AnswersSectionsNext members m reply h =
     Answers (section_next_tests (seen_of m h)) (λ given. DealsSections members m (open_share m h) given h) reply
@@ -67,6 +70,7 @@ AnswersSectionsNext members m reply h =
 abbrev pub TakesSection : ℕ → ℕ → Reply → List Event → Type 0
 TakesSection members m reply h = DealsSections members m (open_share m h) reply h
 
+-- the events after it
 abbrev pub section_next_taken : ℕ → Reply → List Event → List Event
 section_next_taken m reply h = section_next_given (open_share m h) m reply ++ h
 

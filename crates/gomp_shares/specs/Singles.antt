@@ -10,7 +10,7 @@ use Rattle.gomp_types.specs.declared.event.Event.TheVariants.{Take, Drained, End
 use Rattle.gomp_types.specs.Tests.{Test}
 use Rattle.gomp_types.specs.Shapes.{is_copy}
 use Rattle.gomp_types.specs.Deals.{schedule, next_for}
-use Rattle.gomp_types.specs.Events.{entered, in_kind, open_number, payload_at}
+use Rattle.gomp_types.specs.Events.{shares_entered, in_kind, open_number, payload_at}
 use Rattle.gomp_types.specs.declared.limits.Limits.{Limits}
 use Rattle.gomp_types.specs.Singles.{single_shape}
 use Rattle.gomp_shares.specs.Starts.{AnswersStart, entry_and}
@@ -56,18 +56,22 @@ words_put payload m h = End (open_number m h) m ∷ Put (open_number m h) m payl
 
 -- The answers, and the events after them
 
+-- the answer to the start of a single without words
 abbrev pub AnswersSingle : Limits → ℕ → ℕ → Reply → List Event → Type 0
 AnswersSingle limits members m reply h = AnswersStart [] (single_shape false) DealsSingle limits members m reply h
 
+-- the events after it
 abbrev pub single_started : ℕ → Reply → List Event → List Event
 single_started m reply h = entry_and single_given (single_shape false) m h reply ++ h
 
+-- the answer to the start of a single with words
 abbrev pub AnswersCopy : Limits → ℕ → ℕ → Reply → List Event → Type 0
 AnswersCopy limits members m reply h = AnswersStart [] (single_shape true) DealsCopy limits members m reply h
 
 -- an answer by these words, if they are what was put in the member's next share
 abbrev pub ByWords : Option (List ℕ) → ℕ → (Reply → List Event → Type 0) → Reply → List Event → Type 0
-ByWords words m May reply h = payload_at (entered m h) h ≡ words → May reply h
+ByWords words m May reply h = payload_at (shares_entered m h) h ≡ words → May reply h
 
+-- the events after the start of a single with words
 abbrev pub copy_started : ℕ → Reply → List Event → List Event
 copy_started m reply h = entry_and copy_given (single_shape true) m h reply ++ h

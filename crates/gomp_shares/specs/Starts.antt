@@ -10,7 +10,7 @@ use Rattle.gomp_types.specs.declared.event.Event.{Event}
 use Rattle.gomp_types.specs.declared.event.Event.TheVariants.{Enter, End}
 use Rattle.gomp_types.specs.Tests.{Test}
 use Rattle.gomp_types.specs.Compare.{shape_differs}
-use Rattle.gomp_types.specs.Events.{entered, open_number, has_room, shape_at}
+use Rattle.gomp_types.specs.Events.{shares_entered, open_number, has_room, shape_at}
 use Rattle.gomp_types.specs.Seen.{seen_of}
 use Rattle.gomp_types.specs.Least.{Answers}
 
@@ -21,12 +21,12 @@ Deals = ℕ → ℕ → Option (ℕ × Shape) → Reply → List Event → Type 
 -- a start waits until there is room, and then asks for iterations or sections
 abbrev pub Starts : Deals → ℕ → ℕ → Shape → Reply → List Event → Type 0
 Starts deals members m shape Wait h =
-    (has_room members (entered m h) h ≡ false) ⊎ ((has_room members (entered m h) h ≡ true) × deals members m (Some (entered m h, shape)) Wait h)
-Starts deals members m shape reply h = (has_room members (entered m h) h ≡ true) × deals members m (Some (entered m h, shape)) reply h
+    (has_room members (shares_entered m h) h ≡ false) ⊎ ((has_room members (shares_entered m h) h ≡ true) × deals members m (Some (shares_entered m h, shape)) Wait h)
+Starts deals members m shape reply h = (has_room members (shares_entered m h) h ≡ true) × deals members m (Some (shares_entered m h, shape)) reply h
 
 -- the construct is compared with the team's share of the same number
 abbrev pub compared_share : Shape → ℕ → List Event → List Test
-compared_share shape m h = (shape_differs shape (shape_at (entered m h) h), Mismatch) ∷ []
+compared_share shape m h = (shape_differs shape (shape_at (shares_entered m h) h), Mismatch) ∷ []
 
 -- the tests of a start whose construct has these of its own
 abbrev pub start_tests : List Test → Limits → Seen → List Test
@@ -36,16 +36,16 @@ start_tests own limits seen = (is_some seen.current, InsideShare) ∷ own ++ (na
 abbrev pub share_tests : List Test → Shape → Limits → ℕ → List Event → List Test
 share_tests own shape limits m h = start_tests own limits (seen_of m h) ++ compared_share shape m h
 
--- these events after a first one; none where there are none
+-- these events after a first one; none if there are none
 abbrev pub behind : Event → List Event → List Event
 behind first [] = []
 behind first (event ∷ events) = (event ∷ events) ++ (first ∷ [])
 
 -- a start gives its entry and then what the first piece gives
 abbrev pub entry_and : (ℕ → Shape → ℕ → Reply → List Event) → Shape → ℕ → List Event → Reply → List Event
-entry_and Given shape m h reply = behind (Enter (entered m h) m shape) (Given (entered m h) shape m reply)
+entry_and Given shape m h reply = behind (Enter (shares_entered m h) m shape) (Given (shares_entered m h) shape m reply)
 
--- the events of a call that is done at once; none where it is refused
+-- the events of a call that is done at once; none if it is refused
 abbrev pub done_given : List Event → Reply → List Event
 done_given events Finished = events
 done_given events _ = []

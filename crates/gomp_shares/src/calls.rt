@@ -9,9 +9,9 @@ ghost use Rattle.gomp_shares.specs.Laws.{OrderedLaws, ShareLaws};
 ghost use Rattle.gomp_types.specs.Ordered.{is_ordered, is_in_rest};
 ghost use Rattle.gomp_shares.specs.Calls.{EachStands, is_done};
 ghost use Rattle.gomp_shares.specs.declared.calls.ShareAnswer.TheVariants.{NotMade};
-ghost use Rattle.gomp_shares.specs.Runs.{may_make, IsAnswer, answered, AreAnswers, events_after};
+ghost use Rattle.gomp_shares.specs.Runs.{may_make, IsAnswer, events_answered, AreAnswers, events_after};
 
-use crate::own::is_in_rest;
+use crate::admission::is_in_rest;
 use crate::{Opening, Shares};
 use gomp_types::{EndKind, LoopDesc, MAX_SECTIONS, Seen, sections_shape, single_shape, trips};
 use std::alloc::{AllocError, Global};
@@ -25,8 +25,8 @@ pub enum ShareCall {
     OpenSections { count: u32, end_kind: EndKind },
     /// Enters the next share, for a `single` construct, with words for the others or without.
     OpenSingle { copies: bool },
-    /// Takes a piece: of a loop some iterations, of a sections construct a section, and of a `single`
-    /// the whole.
+    /// Takes a piece: of a loop some iterations, of a sections construct a section, and of a
+    /// `single` the whole.
     Claim,
     /// Leaves the share.
     Leave,
@@ -57,8 +57,8 @@ pub enum ShareAnswer {
     Claimed(Option<(u64, u64)>),
     /// To `Leave`.
     Left,
-    /// To `Begin` and `HandOn`: whether every piece before the member's was handed on, and its own was
-    /// not, and so it did.
+    /// To `Begin` and `HandOn`: whether every piece before the member's was handed on, and its own
+    /// was not, and so it did.
     Turned(bool),
     /// To `EndPart`.
     Ended,
@@ -66,7 +66,7 @@ pub enum ShareAnswer {
     NotMade,
 }
 
-/// Makes one call on the shares of a team of `count` members where it may be made, which `look`
+/// Makes one call on the shares of a team of `count` members if it may be made, which `look`
 /// tells.
 pub fn make_call<S: Shares>(shares: &mut S, count: u16, step: &ShareStep) -> ShareAnswer
     requires team { S.members shares.old ≡ count }
@@ -75,7 +75,7 @@ pub fn make_call<S: Shares>(shares: &mut S, count: u16, step: &ShareStep) -> Sha
     ensures kept { result ≡ NotMade → shares.new ≡ shares.old }
     ensures answer { EachStands (S.stands shares.old) (IsAnswer count step.now result) }
     ensures stands { EachStands (S.stands shares.old) (λ h.
-        S.stands shares.new (answered count step.now result h)) }
+        S.stands shares.new (events_answered count step.now result h)) }
 {
     if step.member >= count {
         return ShareAnswer::NotMade;
@@ -162,12 +162,13 @@ fn is_done(seen: &Seen) -> bool
     seen.drained || shape.kind.is_single() && seen.piece.is_some()
 }
 
-/// Makes these calls, in order, on the shares of a new team of `count` members, 1 to 64, and gives an answer
-/// for each. Calls of members that the team does not have are not made.
+/// Makes these calls, in order, on the shares of a new team of `count` members, 1 to 64, and gives
+/// an answer for each. Calls of members that the team does not have are not made.
 ///
-/// Whatever the body `S` and whatever the calls: no iteration, section or `single` is taken twice, a
-/// share that every member left had each of its own taken, ordered parts of a loop run in the order of
-/// its iterations, all members go through the same shares, and no more than eight are open.
+/// Whatever the body `S` and whatever the calls: no iteration, section or `single` is taken twice,
+/// a share that every member left had each of its own taken, ordered parts of a loop run in the
+/// order of its iterations, all members go through the same shares, and no more than eight are
+/// open.
 pub fn make_calls<S: Shares>(
     alloc: Global,
     count: u16,

@@ -4,19 +4,19 @@
 
 ghost use Rattle.std.specs.Prelude.{◌≡◌, ◌<◌};
 ghost use Rattle.gomp_shares.specs.Calls.{CanLeave};
-ghost use Rattle.gomp_shares.specs.Own.{end_tests_of};
+ghost use Rattle.gomp_shares.specs.Admission.{end_tests_of};
 ghost use Rattle.gomp_shares.specs.Serves.{IsDone, Leaves, Serves};
 ghost use Rattle.gomp_shares.specs.Starts.{left_at_once};
 
 use crate::Shares;
-use crate::own::{Construct, end_refusal};
+use crate::admission::{Construct, end_refusal};
 use gomp_types::{EndKind, Refusal, Reply};
 
 /// Leaves the member's construct by the end call for this end kind.
 ///
-/// Refused with `OutsideShare` if the member is in no such construct, with `InOrdered` if it is in an
-/// ordered part, with `EndDiffers` if the construct has the other end kind, or with `NotDrained` if the
-/// member was not told that nothing is left.
+/// Refused with `OutsideShare` if the member is in no such construct, with `InOrdered` if it is in
+/// an ordered part, with `EndDiffers` if the construct has the other end kind, or with `NotDrained`
+/// if the member was not told that nothing is left.
 pub fn end_construct<S: Shares>(
     shares: &mut S,
     member: u16,
@@ -35,8 +35,8 @@ pub fn end_construct<S: Shares>(
     Ok(())
 }
 
-/// Leaves the share of a member that may leave it, as its own tests show ([`end_refusal`]), and answers
-/// `Finished`: the end of a construct without a barrier.
+/// Leaves the share of a member that may leave it, as its own tests show ([`end_refusal`]), and
+/// answers `Finished`: the end of a construct without a barrier.
 pub fn leave_at_once<S: Shares>(shares: &mut S, member: u16) -> Reply
     requires place { CanLeave (S.members shares.old) member (S.seen shares.old member) }
     ensures members { S.members shares.new ≡ S.members shares.old }

@@ -1,16 +1,18 @@
 //! The work-shares of a team, whatever body they have: the trait that the layers above ask, what its
 //! calls mean, and the laws that follow from their rule alone.
 //!
-//! A share is a loop, a sections construct or a `single`. Each section counts as an iteration, from 0
-//! on, and a `single` as one.
+//! A share is a loop, a sections construct or a `single`. Each section counts as an iteration, from
+//! 0 on, and a `single` as one.
 //!
-//! The meaning of [`Shares`] is stated over the list of events that its calls gave, and names nothing of
-//! how they are kept; `gomp_share_plain` is the body for one thread. OpenMP API 5.2, chapter 11.
+//! The meaning of [`Shares`] is stated over the list of events that its calls gave, and names
+//! nothing of how they are kept; `gomp_share_plain` is the body for one thread. OpenMP API 5.2,
+//! chapter 11.
 #![tactic(auto)]
 
+pub mod admission;
 pub mod calls;
 pub mod ends;
-pub mod own;
+mod places;
 
 ghost use Rattle.std.specs.Prelude.{◌≡◌, ◌<◌, ℕ, List, [], ◌∷◌, IfOk, Some, false};
 ghost use Rattle.gomp_types.specs.declared.event.Event.{Event};
@@ -20,16 +22,17 @@ ghost use Rattle.gomp_types.specs.Deals.{schedule};
 ghost use Rattle.gomp_types.specs.declared.shape.Shape.{Shape};
 ghost use Rattle.gomp_types.specs.Values.{IsShape};
 ghost use Rattle.gomp_types.specs.Limits.{IsTeamSize};
-ghost use Rattle.gomp_types.specs.Events.{entered, open_share, shape_at};
+ghost use Rattle.gomp_types.specs.Events.{shares_entered, open_share, shape_at};
 ghost use Rattle.gomp_types.specs.Compare.{shape_differs};
 ghost use Rattle.gomp_types.specs.Seen.{seen_of};
-ghost use Rattle.gomp_shares.specs.Calls.{was_taken, CanOpen, MayOpen, opened, CanClaim, Claims, claimed, CanLeave, left, CanBeginPart, CanEndPart, CanHandOn, own_turn, part_begun, part_ended, piece_handed, IsAside, EachStands};
+ghost use Rattle.gomp_shares.specs.Calls.{was_taken, CanOpen, MayOpen, events_opened, CanClaim, Claims, events_claimed, CanLeave, events_left, CanBeginPart, CanEndPart, CanHandOn, own_turn, part_begun, part_ended, piece_handed, IsAside, EachStands};
 ghost use Rattle.gomp_types.specs.declared.seen.Seen.{Seen};
 ghost use Rattle.gomp_shares.specs.declared.Opening.TheVariants.{Entered};
 
+pub use admission::Construct;
 pub use calls::{ShareAnswer, ShareCall, ShareStep, make_call, make_calls};
 use gomp_types::{Seen, Shape};
-pub use own::Construct;
+pub use places::Places;
 use std::alloc::{AllocError, Global};
 
 /// The answer to a member that opens its next share.
@@ -47,8 +50,8 @@ pub enum Opening {
 /// the order in which it enters them.
 ///
 /// Every value stands for some list of events, the newest first: each call says what it answers
-/// after such a list, and what list its value then stands for. A call's premise on the member is what
-/// [`look`](Shares::look) shows.
+/// after such a list, and what list its value then stands for. A call's premise on the member is
+/// what [`look`](Shares::look) shows.
 pub trait Shares: Sized {
     /// How many members the team has.
     ghost members: { Self → ℕ };
@@ -77,7 +80,7 @@ pub trait Shares: Sized {
         requires member { member < members self.old }
         ensures known { (h : List Event) × stands self.old h }
         ensures answer { EachStands (stands self.old) (λ h.
-            result ≡ shape_differs shape.now (shape_at (entered member h) h)) }
+            result ≡ shape_differs shape.now (shape_at (shares_entered member h) h)) }
         ensures kept { self.new ≡ self.old };
 
     /// Whether some member took a piece of the share that this member enters next. Nothing changes.
@@ -85,10 +88,10 @@ pub trait Shares: Sized {
         requires member { member < members self.old }
         ensures known { (h : List Event) × stands self.old h }
         ensures answer { EachStands (stands self.old) (λ h.
-            result ≡ was_taken (entered member h) h) }
+            result ≡ was_taken (shares_entered member h) h) }
         ensures kept { self.new ≡ self.old };
 
-    /// Enters the member's next share, which is opened where no other member has. Where it does not,
+    /// Enters the member's next share, which is opened if no other member has. If it does not,
     /// nothing changes.
     ///
     /// `shape` is that of a construct that is not refused (`LoopDesc::shape`, `sections_shape`,
@@ -100,11 +103,11 @@ pub trait Shares: Sized {
         ensures answer { EachStands (stands self.old)
             (MayOpen (members self.old) member shape.now result) }
         ensures stands { EachStands (stands self.old) (λ h.
-            stands self.new (opened member shape.now result h)) }
+            stands self.new (events_opened member shape.now result h)) }
         ensures kept { (result ≡ Entered → ⊥) → self.new ≡ self.old };
 
     /// Takes the next piece of the member's share that is its to take: its first iteration and the
-    /// one after its last. None where nothing is left for the member.
+    /// one after its last. None if nothing is left for the member.
     ///
     /// The member is in a share, in no ordered part, and was not told that nothing is left.
     fn claim(&mut self, member: u16) -> Option<(u64, u64)>
@@ -113,13 +116,13 @@ pub trait Shares: Sized {
         ensures known { (h : List Event) × stands self.old h }
         ensures answer { EachStands (stands self.old) (Claims (members self.old) member result) }
         ensures stands { EachStands (stands self.old) (λ h.
-            stands self.new (claimed member result h)) };
+            stands self.new (events_claimed member result h)) };
 
-    /// Begins the ordered part of this iteration of the member's piece, where every piece before its own
-    /// was handed on, and its own was not: whether it did. Where it did not, nothing changes.
+    /// Begins the ordered part of this iteration of the member's piece, if every piece before its
+    /// own was handed on, and its own was not: whether it did. If it did not, nothing changes.
     ///
-    /// The iteration lies in the member's piece, after those whose parts it has begun; the member is in
-    /// an ordered loop, and in no part of it.
+    /// The iteration lies in the member's piece, after those whose parts it has begun; the member
+    /// is in an ordered loop, and in no part of it.
     fn try_turn(&mut self, member: u16, iteration: u64) -> bool
         requires place { CanBeginPart (members self.old) member iteration (seen self.old member) }
         ensures members { members self.new ≡ members self.old }
@@ -138,8 +141,8 @@ pub trait Shares: Sized {
         ensures stands { EachStands (stands self.old) (λ h.
             stands self.new (part_ended member h)) };
 
-    /// Hands the member's piece of an ordered loop on, where every piece before it was, and it was not:
-    /// whether it did. Where it did not, nothing changes.
+    /// Hands the member's piece of an ordered loop on, if every piece before it was, and it was not:
+    /// whether it did. If it did not, nothing changes.
     ///
     /// The member is in an ordered loop, and in no part of it.
     fn hand_on(&mut self, member: u16) -> bool
@@ -152,15 +155,16 @@ pub trait Shares: Sized {
             stands self.new (piece_handed (members self.old) member result h)) }
         ensures kept { result ≡ false → self.new ≡ self.old };
 
-    /// Leaves the member's share, of which nothing is left for it: it was told so, or it took the one
-    /// piece of a `single`.
+    /// Leaves the member's share, of which nothing is left for it: it was told so, or it took the
+    /// one piece of a `single`.
     ///
     /// The member is in no ordered part.
     fn leave(&mut self, member: u16)
         requires place { CanLeave (members self.old) member (seen self.old member) }
         ensures members { members self.new ≡ members self.old }
         ensures known { (h : List Event) × stands self.old h }
-        ensures stands { EachStands (stands self.old) (λ h. stands self.new (left member h)) };
+        ensures stands { EachStands (stands self.old)
+            (λ h. stands self.new (events_left member h)) };
 
     /// Arrivals, payloads and the like change nothing.
     ghost aside: { (s : Self) (h : List Event) (event : Event) →

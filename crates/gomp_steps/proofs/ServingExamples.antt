@@ -75,11 +75,11 @@ written_has icv remaining before after code served = (served.text, served.output
 pub memory_writes_nothing : (icv : Variables) (remaining : Option (List ℕ)) → Serves icv remaining (Some []) (Some three) ending.NoMemory → ⊥
 memory_writes_nothing icv remaining same = absurd (cc)
 
--- nor where a read failed
+-- nor if a read failed
 pub fault_writes_nothing : (icv : Variables) (remaining : Option (List ℕ)) → Serves icv remaining (Some []) (Some three) ending.InputFault → ⊥
 fault_writes_nothing icv remaining same = absurd (cc)
 
--- nor where the text is too long
+-- nor if the text is too long
 pub too_long_writes_nothing : (icv : Variables) (remaining : Option (List ℕ)) → Serves icv remaining (Some []) (Some three) ending.TooLong → ⊥
 too_long_writes_nothing icv remaining ends = absurd (let same = ends.0 in cc)
 
@@ -87,7 +87,7 @@ too_long_writes_nothing icv remaining ends = absurd (let same = ends.0 in cc)
 pub short_is_not_too_long : (icv : Variables) → Serves icv (Some three) (Some []) (Some []) ending.TooLong → ⊥
 short_is_not_too_long icv ends = absurd (let longer = ends.1 in omega arith)
 
--- and where one is, the output cannot have failed
+-- and if one is, the output cannot have failed
 pub long_is_not_written : (icv : Variables) (long : List ℕ) → length long ≡ 16777217 → Serves icv (Some long) (Some []) (Some three) ending.OutputFault → ⊥
 long_is_not_written icv long size ends = absurd (omega arith)
 

@@ -9,7 +9,7 @@ use Rattle.gomp_steps.specs.Output.{AnswerTo}
 use Rattle.gomp_steps.specs.declared.serve.Ending.{Ending}
 use Rattle.gomp_steps.specs.declared.serve.Ending.TheVariants.{Answered, NoMemory, InputFault, TooLong, OutputFault}
 
--- what was read is all that the reader had, where that is known, and no longer than the limit
+-- what was read is all that the reader had, if that is known, and no longer than the limit
 abbrev pub Whole : ℕ → Option (List ℕ) → List ℕ → Type 0
 Whole limit remaining text = IfSome remaining (λ all. text ≡ all) × (length text ≤ limit)
 
@@ -25,11 +25,11 @@ pub record AnswerWritten (icv : Variables) (remaining before after : Option (Lis
   pub answer : AnswerTo icv (steps_of text) output code
   pub written : Appends before after output
 
--- the reader has more than the limit, where what it has is known
+-- the reader has more than the limit, if what it has is known
 abbrev pub IsLonger : ℕ → Option (List ℕ) → Type 0
 IsLonger limit remaining = IfSome remaining (λ all. limit < length all)
 
--- the reader has no more than the limit, where what it has is known
+-- the reader has no more than the limit, if what it has is known
 abbrev pub IsShort : ℕ → Option (List ℕ) → Type 0
 IsShort limit remaining = IfSome remaining (λ all. length all ≤ limit)
 

@@ -15,7 +15,7 @@ use std::alloc::{AllocError, Global};
 pub struct Answer {
     /// The lines that are written.
     pub text: String,
-    /// 0 where the steps were answered, 1 where a line is bad, 2 where there is no such team.
+    /// 0 if the steps were answered, 1 if a line is bad, 2 if there is no such team.
     pub code: u8,
 }
 

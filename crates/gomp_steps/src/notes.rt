@@ -25,8 +25,8 @@ pub enum Notes {
 /// How the program ends.
 #[derive(Drop)]
 pub struct Status {
-    /// 0 where the text was answered; 1 where a line of it is bad, the command line is refused, or
-    /// input or output failed; 2 where there is no such team; 3 for want of memory.
+    /// 0 if the text was answered; 1 if a line of it is bad, the command line is refused, or
+    /// input or output failed; 2 if there is no such team; 3 for want of memory.
     pub code: u8,
     /// What is noted beside the output.
     pub notes: Notes,

@@ -51,7 +51,7 @@ pub fn serve_steps<R: Read + Drop, W: Write>(
     Ending::Answered(answer.code)
 }
 
-/// All that the reader gives, where that is at most `limit` bytes; or how the program ends.
+/// All that the reader gives, if that is at most `limit` bytes; or how the program ends.
 fn read_text<R: Read + Drop>(alloc: Global, reader: R, limit: u32) -> Result<Vec<u8>, Ending>
     ensures whole { IfOk result (λ text. Whole limit (R.remaining reader) text.items) }
     ensures unread { IfErr result (IsUnread limit (R.remaining reader)) }
@@ -59,7 +59,7 @@ fn read_text<R: Read + Drop>(alloc: Global, reader: R, limit: u32) -> Result<Vec
     let mut bounded = reader.take(limit as u64 + 1);
     let mut text = Vec::new(alloc);
     if let Err(error) = bounded.read_to_end(&mut text) {
-        return Err(unread(&error));
+        return Err(read_fault(&error));
     }
     if text.len() > limit as usize {
         return Err(Ending::TooLong);
@@ -68,7 +68,7 @@ fn read_text<R: Read + Drop>(alloc: Global, reader: R, limit: u32) -> Result<Vec
 }
 
 /// The end after a read that failed.
-fn unread(error: &io::Error) -> Ending
+fn read_fault(error: &io::Error) -> Ending
     ensures { result ≡ unread_as (error_kind error.now) }
 {
     match error.kind() {

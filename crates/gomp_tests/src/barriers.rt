@@ -3,7 +3,7 @@
 ghost use Rattle.std.specs.Prelude.{◌≡◌, ◌<◌};
 ghost use Rattle.gomp_barrier.specs.Stands.{members_of};
 
-use crate::checks::{holds, same};
+use crate::checks::same;
 use gomp_barrier::{AtBarrier, Barriers};
 use gomp_types::{Arrival, Tag};
 use std::alloc::Global;
@@ -33,79 +33,45 @@ fn answer(barriers: &mut Barriers, member: u16, act: Act) -> bool
 }
 
 /// A new team of two goes through these lines.
-fn walk(rt: &impl Abort, alloc: Global, lines: &[Line]) -> Result<(), Fail> {
+fn walk(rt: &impl Abort, alloc: Global, name: &str, lines: &[Line]) -> Result<(), Fail> {
     let mut barriers = Barriers::make(alloc, 2)?;
     for (number, line) in lines.iter().enumerate() {
         let member = line.0.min(1);
+        let (barrier, tag, arrived, left) = line.3;
+        let seen = AtBarrier {
+            number: barrier,
+            tag,
+            arrived,
+            left,
+        };
         let found = answer(&mut barriers, member, line.1);
-        same(rt, &found, &line.2, "answer at line", number as u64);
-        same(
-            rt,
-            &barriers.look(member),
-            &seen(line),
-            "view after line",
-            number as u64,
-        );
+        let found = (found, barriers.look(member));
+        same(rt, &found, &(line.2, seen), name, number as u64);
     }
     Ok(())
 }
 
-/// What the member of a line sees after it.
-fn seen(line: &Line) -> AtBarrier {
-    let (number, tag, arrived, left) = line.3;
-    AtBarrier {
-        number,
-        tag,
-        arrived,
-        left,
-    }
-}
-
 /// A team of so many meets at a barrier: nobody passes before all have arrived, and then all do.
-fn meet(rt: &impl Abort, alloc: Global, count: u16, tag: Tag) -> Result<(), Fail>
+fn meet(rt: &impl Abort, alloc: Global, count: u16) -> Result<(), Fail>
     requires some { 0 < count }
 {
     let mut barriers = Barriers::make(alloc, count)?;
     for member in 0..count {
-        holds(
-            rt,
-            answer(&mut barriers, member, Act::Arrive(tag)),
-            "arrival of",
-            member as u64,
-        );
-        let last = member == count - 1;
+        let arrived = answer(&mut barriers, member, Act::Arrive(BARRIER));
+        let passed = answer(&mut barriers, 0, Act::Turn);
+        let expected = (true, member == count - 1);
         same(
             rt,
-            &answer(&mut barriers, 0, Act::Turn),
-            &last,
-            "turn after",
+            &(arrived, passed),
+            &expected,
+            "arrival of",
             member as u64,
         );
     }
     for member in 1..count {
-        holds(
-            rt,
-            answer(&mut barriers, member, Act::Turn),
-            "turn of",
-            member as u64,
-        );
+        let passed = answer(&mut barriers, member, Act::Turn);
+        same(rt, &passed, &true, "turn of", member as u64);
     }
-    Ok(())
-}
-
-#[test]
-fn teams_of_every_size(rt: HostRuntime) -> Result<(), Fail> {
-    let tag = Tag {
-        kind: Arrival::Barrier,
-        shares: 0,
-    };
-    // No team is larger than 64, but barriers are made for as many as are asked for.
-    for count in 1..67 {
-        meet(&rt, rt.alloc(), count, tag)?;
-    }
-    Barriers::make(rt.alloc(), 255)?;
-    Barriers::make(rt.alloc(), 256)?;
-    Barriers::make(rt.alloc(), 65_535)?;
     Ok(())
 }
 
@@ -150,7 +116,16 @@ const ENDS: &[Line] = &[
 ];
 
 #[test]
-fn barriers_of_two_members(rt: HostRuntime) -> Result<(), Fail> {
-    walk(&rt, rt.alloc(), BARRIERS)?;
-    walk(&rt, rt.alloc(), ENDS)
+fn barriers_open(rt: HostRuntime) -> Result<(), Fail> {
+    let alloc = rt.alloc();
+    walk(&rt, alloc, "a barrier opens: line", BARRIERS)?;
+    walk(&rt, alloc, "the region's end: line", ENDS)?;
+    // No team is larger than 64, but barriers are made for as many as are asked for.
+    for count in 1..67 {
+        meet(&rt, alloc, count)?;
+    }
+    for count in &[255, 256, 65_535] {
+        Barriers::make(alloc, *count)?;
+    }
+    Ok(())
 }

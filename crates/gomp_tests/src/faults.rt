@@ -1,6 +1,7 @@
 //! Streams that fail: the process `ompteam` over readers and writers that fail at each read and each write in turn.
 
-use crate::checks::same_slices;
+use crate::checks::same;
+use Fault::{Note, Output, Reading};
 use gomp_serve::run_process;
 use std::alloc::Global;
 use std::io::{self, ErrorKind, Read, Write};
@@ -64,8 +65,8 @@ impl Write for FailingWriter {
 
 /// A run of the process: its words, and how many reads and writes go well.
 #[derive(Clone, Copy)]
-struct Run<'a> {
-    words: &'a [&'a str],
+struct Run {
+    words: &'static [&'static str],
     reads: usize,
     kind: ErrorKind,
     writes: usize,
@@ -76,36 +77,143 @@ struct Run<'a> {
 /// What has to follow: the number with which the process ends, which is none where a note cannot be written, and what
 /// its output and standard error get.
 #[derive(Clone, Copy)]
-struct Outcome<'a> {
+struct Outcome {
     code: Option<u8>,
-    output: &'a [u8],
-    errors: &'a [u8],
+    output: &'static [u8],
+    errors: &'static [u8],
 }
 
 const TEXT: &[u8] = b"team 1\n0 loop dynamic 1 0 0 1 nowait\n0 end_nowait\n";
 
 const OUTPUT: &[u8] = b"none\nok\n";
 
+const NOTE: &[u8] = b"ignored FOO\n";
+
+const STEPS: &[&str] = &["ompteam", "steps"];
+
+const WITH_AN_IGNORED_WORD: &[&str] = &["ompteam", "steps", "FOO=1"];
+
 /// A run in which every read and write goes well.
-fn faultless<'a>(words: &'a [&'a str]) -> Run<'a> {
-    Run {
-        words,
-        reads: usize::MAX,
-        kind: ErrorKind::TimedOut,
-        writes: usize::MAX,
-        error_writes: usize::MAX,
-        recovers: false,
-    }
+const FAULTLESS: Run = Run {
+    words: STEPS,
+    reads: usize::MAX,
+    kind: ErrorKind::TimedOut,
+    writes: usize::MAX,
+    error_writes: usize::MAX,
+    recovers: false,
+};
+
+/// Runs in which as many reads and writes go well as there are bytes, and no more are made; and runs without words.
+const GOOD_RUNS: &[(Run, Outcome)] = &[
+    (
+        Run {
+            reads: TEXT.len() + 1,
+            writes: OUTPUT.len(),
+            error_writes: 0,
+            ..FAULTLESS
+        },
+        Outcome {
+            code: Some(0),
+            output: OUTPUT,
+            errors: b"",
+        },
+    ),
+    (
+        Run {
+            words: WITH_AN_IGNORED_WORD,
+            reads: TEXT.len() + 1,
+            writes: OUTPUT.len(),
+            error_writes: NOTE.len(),
+            ..FAULTLESS
+        },
+        Outcome {
+            code: Some(0),
+            output: OUTPUT,
+            errors: NOTE,
+        },
+    ),
+    (
+        Run {
+            words: &[],
+            reads: TEXT.len() + 1,
+            kind: ErrorKind::OutOfMemory,
+            writes: 0,
+            error_writes: 10,
+            ..FAULTLESS
+        },
+        Outcome {
+            code: Some(3),
+            output: b"",
+            errors: b"no memory\n",
+        },
+    ),
+    (
+        Run {
+            words: &[],
+            reads: TEXT.len() + 1,
+            kind: ErrorKind::InvalidData,
+            writes: 0,
+            error_writes: 47,
+            ..FAULTLESS
+        },
+        Outcome {
+            code: Some(1),
+            output: b"",
+            errors: b"error: a word of the command line is not UTF-8\n",
+        },
+    ),
+];
+
+/// What fails in a run: a read, in this way, and the number and the message that follow; a write of the output; or a
+/// write of the note on an ignored word.
+#[derive(Clone, Copy)]
+enum Fault {
+    Reading(ErrorKind, u8, &'static [u8]),
+    Output,
+    Note,
 }
+
+const LATE: Fault = Reading(ErrorKind::TimedOut, 1, b"input fault\n");
+
+const NO_MEMORY: Fault = Reading(ErrorKind::OutOfMemory, 3, b"no memory\n");
+
+// A name, the words of a run, what fails in it, and before how many good reads or writes it does so at most. The text
+// is read a byte a time, and of the last read the reader says that nothing is left. Bytes are written one a time.
+type FaultRow = (&'static str, &'static [&'static str], Fault, usize);
+
+const FAULTS: &[FaultRow] = &[
+    ("write", STEPS, Output, OUTPUT.len()),
+    (
+        "write with a note",
+        WITH_AN_IGNORED_WORD,
+        Output,
+        OUTPUT.len(),
+    ),
+    ("write of a note", WITH_AN_IGNORED_WORD, Note, NOTE.len()),
+    ("read", STEPS, LATE, TEXT.len() + 1),
+    ("read without memory", STEPS, NO_MEMORY, TEXT.len() + 1),
+    (
+        "read with a note",
+        WITH_AN_IGNORED_WORD,
+        LATE,
+        TEXT.len() + 1,
+    ),
+    (
+        "read with a note without memory",
+        WITH_AN_IGNORED_WORD,
+        NO_MEMORY,
+        TEXT.len() + 1,
+    ),
+];
 
 /// The words of a process, or the error that stands in their place where there are none.
 fn given(alloc: Global, run: &Run) -> Result<io::Result<std::env::Args>, Fail> {
+    if run.words.is_empty() {
+        return Ok(Err(io::Error::from(run.kind)));
+    }
     let mut words = Vec::new(alloc);
     for word in run.words {
         words.push(String::from_str(alloc, word)?)?;
-    }
-    if words.is_empty() {
-        return Ok(Err(io::Error::from(run.kind)));
     }
     Ok(Ok(words.into_iter()))
 }
@@ -119,13 +227,14 @@ fn writer_of(alloc: Global, writes: usize, recovers: bool) -> FailingWriter {
     }
 }
 
-/// That a process ended with this number, or without one.
-fn has_code(rt: &impl Abort, found: Option<ExitCode>, expected: Option<u8>) {
-    assert!(rt; found == expected.map(|code| ExitCode::from(code)));
-}
-
 /// That a run has this outcome.
-fn has_outcome(rt: &impl Abort, alloc: Global, run: &Run, outcome: &Outcome) -> Result<(), Fail> {
+fn has_outcome(
+    rt: &impl Abort,
+    alloc: Global,
+    (run, outcome): &(Run, Outcome),
+    name: &str,
+    case: u64,
+) -> Result<(), Fail> {
     let reader = FailingReader {
         text: TEXT,
         reads: run.reads,
@@ -135,86 +244,61 @@ fn has_outcome(rt: &impl Abort, alloc: Global, run: &Run, outcome: &Outcome) -> 
     let mut errors = writer_of(alloc, run.error_writes, run.recovers);
     let words = given(alloc, run)?;
     let code = run_process(alloc, words, reader, &mut writer, &mut errors).ok();
-    has_code(rt, code, outcome.code);
-    same_slices(rt, writer.written.as_slice(), outcome.output, "output", 0);
-    same_slices(rt, errors.written.as_slice(), outcome.errors, "errors", 0);
+    let expected = outcome.code.map(|code| ExitCode::from(code));
+    same(rt, &code, &expected, name, case);
+    let found = (writer.written.as_slice(), errors.written.as_slice());
+    same(rt, &found, &(outcome.output, outcome.errors), name, case);
     Ok(())
 }
 
-const STEPS: &[&str] = &["ompteam", "steps"];
-
-const WITH_AN_IGNORED_WORD: &[&str] = &["ompteam", "steps", "FOO=1"];
-
-/// The process says this of a read that fails so, after this many reads.
-fn read_fails(
-    rt: &impl Abort,
-    alloc: Global,
-    words: &[&str],
-    reads: usize,
-    fault: (ErrorKind, u8, &[u8]),
-) -> Result<(), Fail> {
-    let run = Run {
-        reads,
-        kind: fault.0,
-        ..faultless(&*words)
-    };
-    let outcome = Outcome {
-        code: Some(fault.1),
-        output: b"",
-        errors: fault.2,
-    };
-    has_outcome(rt, alloc, &run, &outcome)
-}
-
-/// The text is read a byte a time, and each read fails in turn; of the last one the reader says that nothing is left.
-fn each_read_fails(rt: &impl Abort, alloc: Global, words: &[&str]) -> Result<(), Fail> {
-    for reads in 0..=TEXT.len() {
-        let fault = (ErrorKind::TimedOut, 1, b"input fault\n".as_slice());
-        read_fails(rt, alloc, &*words, reads, fault)?;
-        let fault = (ErrorKind::OutOfMemory, 3, b"no memory\n".as_slice());
-        read_fails(rt, alloc, &*words, reads, fault)?;
-    }
-    Ok(())
-}
-
-/// The output is written a byte a time, and each write fails in turn.
-fn each_write_fails(
-    rt: &impl Abort,
-    alloc: Global,
-    words: &[&str],
+/// A run in which this fails after so many good reads or writes, and what has to follow.
+fn faulty(
+    words: &'static [&'static str],
+    fault: Fault,
+    good: usize,
     recovers: bool,
-) -> Result<(), Fail> {
-    for writes in 0..OUTPUT.len() {
-        let run = Run {
-            writes,
-            recovers,
-            ..faultless(&*words)
-        };
-        let outcome = Outcome {
-            code: Some(1),
-            output: &OUTPUT[..writes],
-            errors: b"output fault\n",
-        };
-        has_outcome(rt, alloc, &run, &outcome)?;
+) -> (Run, Outcome) {
+    let mut run = Run {
+        words,
+        recovers,
+        ..FAULTLESS
+    };
+    let mut outcome = Outcome {
+        code: None,
+        output: OUTPUT,
+        errors: b"output fault\n",
+    };
+    match fault {
+        Reading(kind, code, errors) => {
+            run.kind = kind;
+            run.reads = good;
+            outcome = Outcome {
+                code: Some(code),
+                output: b"",
+                errors,
+            };
+        }
+        Output => {
+            run.writes = good;
+            outcome.code = Some(1);
+            outcome.output = OUTPUT.get(..good).unwrap_or(OUTPUT);
+        }
+        Note => {
+            run.error_writes = good;
+            outcome.errors = NOTE.get(..good).unwrap_or(NOTE);
+        }
     }
-    Ok(())
+    (run, outcome)
 }
 
-/// The note on an ignored word is written a byte a time, and each write fails in turn.
-fn each_write_of_a_note_fails(rt: &impl Abort, alloc: Global, recovers: bool) -> Result<(), Fail> {
-    let note = b"ignored FOO\n".as_slice();
-    for error_writes in 0..note.len() {
-        let run = Run {
-            error_writes,
-            recovers,
-            ..faultless(WITH_AN_IGNORED_WORD)
-        };
-        let outcome = Outcome {
-            code: None,
-            output: OUTPUT,
-            errors: &note[..error_writes],
-        };
-        has_outcome(rt, alloc, &run, &outcome)?;
+/// That what fails in a row leads to its outcome, after however many good reads or writes: it fails from then on, or
+/// only then.
+fn have_outcomes(rt: &impl Abort, alloc: Global, row: &FaultRow) -> Result<(), Fail> {
+    for good in 0..row.3 {
+        for recovers in [false, true] {
+            let run = faulty(row.1, row.2, good, recovers);
+            has_outcome(rt, alloc, &run, row.0, good as u64)?;
+        }
     }
     Ok(())
 }
@@ -222,50 +306,11 @@ fn each_write_of_a_note_fails(rt: &impl Abort, alloc: Global, recovers: bool) ->
 /// As many reads and writes go well as there are bytes, and nothing fails; and then each fails in turn.
 #[test]
 fn streams_that_fail(rt: HostRuntime) -> Result<(), Fail> {
-    let alloc = rt.alloc();
-    for (words, kind, code, output, errors) in [
-        (STEPS, ErrorKind::TimedOut, 0, OUTPUT, b"".as_slice()),
-        (
-            WITH_AN_IGNORED_WORD,
-            ErrorKind::TimedOut,
-            0,
-            OUTPUT,
-            b"ignored FOO\n".as_slice(),
-        ),
-        (
-            &[],
-            ErrorKind::OutOfMemory,
-            3,
-            b"".as_slice(),
-            b"no memory\n".as_slice(),
-        ),
-        (
-            &[],
-            ErrorKind::InvalidData,
-            1,
-            b"".as_slice(),
-            b"error: a word of the command line is not UTF-8\n".as_slice(),
-        ),
-    ] {
-        let run = Run {
-            reads: TEXT.len() + 1,
-            kind,
-            writes: output.len(),
-            error_writes: errors.len(),
-            ..faultless(&*words)
-        };
-        let outcome = Outcome {
-            code: Some(code),
-            output,
-            errors,
-        };
-        has_outcome(&rt, alloc, &run, &outcome)?;
+    for (number, run) in GOOD_RUNS.iter().enumerate() {
+        has_outcome(&rt, rt.alloc(), run, "run", number as u64)?;
     }
-    for recovers in [false, true] {
-        each_write_fails(&rt, alloc, STEPS, recovers)?;
-        each_write_fails(&rt, alloc, WITH_AN_IGNORED_WORD, recovers)?;
-        each_write_of_a_note_fails(&rt, alloc, recovers)?;
+    for row in FAULTS {
+        have_outcomes(&rt, rt.alloc(), row)?;
     }
-    each_read_fails(&rt, alloc, STEPS)?;
-    each_read_fails(&rt, alloc, WITH_AN_IGNORED_WORD)
+    Ok(())
 }

@@ -1,7 +1,7 @@
 //! A name of any length is made where memory is ample, and is the text that it was made of: a contract
 //! allows want of memory, and cannot say that it is not feigned.
 
-use crate::checks::same;
+use crate::checks::{SIZES, same};
 use gomp_types::Name;
 use std::alloc::Global;
 use std::process::Abort;
@@ -20,27 +20,10 @@ fn text_of(alloc: Global, size: usize) -> Result<String, Fail> {
 fn is_made(rt: &impl Abort, alloc: Global, size: usize) -> Result<(), Fail> {
     let text = text_of(alloc, size)?;
     let name = Name::new(alloc, text.as_str())?;
-    same(
-        rt,
-        &name.as_str().len(),
-        &size,
-        "length of a name of",
-        size as u64,
-    );
-    same(
-        rt,
-        &name.as_str(),
-        &text.as_str(),
-        "text of a name of",
-        size as u64,
-    );
-    same(
-        rt,
-        &name.to_string(alloc)?,
-        &text,
-        "printed name of",
-        size as u64,
-    );
+    let printed = name.to_string(alloc)?;
+    let found = (name.as_str().len(), name.as_str(), printed.as_str());
+    let expected = (size, text.as_str(), text.as_str());
+    same(rt, &found, &expected, "a name of", size as u64);
     Ok(())
 }
 
@@ -49,8 +32,8 @@ fn names_of_every_size(rt: HostRuntime) -> Result<(), Fail> {
     for size in 0..301 {
         is_made(&rt, rt.alloc(), size)?;
     }
-    for size in [65_535, 65_536, 100_000] {
-        is_made(&rt, rt.alloc(), size)?;
+    for size in SIZES {
+        is_made(&rt, rt.alloc(), *size)?;
     }
     Ok(())
 }

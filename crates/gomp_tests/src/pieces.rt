@@ -2,7 +2,7 @@
 
 ghost use Rattle.std.specs.Prelude.{◌≡◌, ◌<◌, IfOk};
 
-use crate::checks::same;
+use crate::checks::{LOOP, same};
 use Construct::{Loop, Sections, Single};
 use gomp_chunks::{Cursor, Plan};
 use gomp_types::{EndKind, LoopDesc, Refusal, Sched, sections_shape, single_shape};
@@ -31,25 +31,21 @@ fn plan_of(construct: Construct, members: u16) -> Result<Plan, Refusal>
         return Err(Refusal::BadTeam);
     }
     match construct {
-        Loop(sched, trips, chunk) => plan_of_loop(&loop_of(sched, trips, chunk), members),
+        Loop(sched, end, chunk) => {
+            let desc = LoopDesc {
+                end,
+                sched,
+                chunk,
+                ..LOOP
+            };
+            plan_of_loop(&desc, members)
+        }
         Sections(count) => Ok(Plan::of(&sections_shape(count, EndKind::Wait)?, members)),
         Single { copies } => Ok(Plan::of(&single_shape(copies), members)),
     }
 }
 
-/// A loop from 0 in steps of 1.
-fn loop_of(sched: Sched, trips: i64, chunk: i64) -> LoopDesc {
-    LoopDesc {
-        start: 0,
-        end: trips,
-        incr: 1,
-        sched,
-        chunk,
-        ordered: false,
-        end_kind: EndKind::Wait,
-    }
-}
-
+/// The plan of a loop.
 fn plan_of_loop(desc: &LoopDesc, members: u16) -> Result<Plan, Refusal>
     requires { 0 < members }
     ensures { IfOk result (λ plan. plan.members ≡ members) }
@@ -200,22 +196,15 @@ const PIECES: &[PieceRow] = &[
 /// That a work-share has so many pieces, and this piece with this owner.
 fn has_piece(rt: &impl Abort, row: &PieceRow, case: u64) -> Result<(), Refusal> {
     let plan = plan_of(row.0, row.1)?;
-    same(rt, &plan.chunks(), &row.2, "pieces of row", case);
-    same(rt, &plan.chunk(row.3), &row.4, "piece of row", case);
-    same(rt, &plan.owner(row.3), &row.5, "owner of row", case);
+    let found = (plan.chunks(), plan.chunk(row.3), plan.owner(row.3));
+    same(
+        rt,
+        &found,
+        &(row.2, row.4, row.5),
+        "pieces, piece and owner of row",
+        case,
+    );
     Ok(())
-}
-
-fn have_pieces(rt: &impl Abort, rows: &[PieceRow]) -> Result<(), Refusal> {
-    for (case, row) in rows.iter().enumerate() {
-        has_piece(rt, row, case as u64)?;
-    }
-    Ok(())
-}
-
-#[test]
-fn each_piece_and_its_owner(rt: HostRuntime) -> Result<(), Fail> {
-    Ok(have_pieces(&rt, PIECES)?)
 }
 
 // A work-share of a team of two, a member, its takes and those of all; the number of its next piece.
@@ -251,34 +240,13 @@ fn has_next_piece(rt: &impl Abort, row: &NextRow, case: u64) -> Result<(), Refus
     let plan = plan_of(row.0, 2)?;
     let member = row.1;
     assert!(rt; member < 2);
-    same(
-        rt,
-        &plan.next_number(member, row.2, row.3),
-        &row.4,
-        "next piece of row",
-        case,
-    );
+    let found = plan.next_number(member, row.2, row.3);
+    same(rt, &found, &row.4, "next piece of row", case);
     follows(rt, plan, &[0, 1, 2, 3, 4, 5, 2, 0, u64::MAX, 1]);
     Ok(())
 }
 
-fn have_next_pieces(rt: &impl Abort, rows: &[NextRow]) -> Result<(), Refusal> {
-    for (case, row) in rows.iter().enumerate() {
-        has_next_piece(rt, row, case as u64)?;
-    }
-    Ok(())
-}
-
-/// That cursors of loops of 20 iterations, of these schedules and chunks, follow their plans.
-fn follow_loops(rt: &impl Abort, loops: &[(Sched, i64)]) -> Result<(), Refusal> {
-    for (sched, chunk) in loops {
-        let plan = plan_of(Loop(*sched, 20, *chunk), 4)?;
-        follows(rt, plan, &[0, 1, 2, 3, 4, 5, 6, 7, 8, 19, 20]);
-        follows(rt, plan, &[3, 3, 1, 6, 0, 100, 2, u64::MAX, 5]);
-    }
-    Ok(())
-}
-
+/// Loops of 20 iterations: their schedules and chunks.
 const LOOPS: &[(Sched, i64)] = &[
     (Sched::Static, 0),
     (Sched::Static, 2),
@@ -288,8 +256,24 @@ const LOOPS: &[(Sched, i64)] = &[
     (Sched::Guided, 2),
 ];
 
+/// That cursors of a loop of 20 iterations follow its plan.
+fn follow_loop(rt: &impl Abort, sched: Sched, chunk: i64) -> Result<(), Refusal> {
+    let plan = plan_of(Loop(sched, 20, chunk), 4)?;
+    follows(rt, plan, &[0, 1, 2, 3, 4, 5, 6, 7, 8, 19, 20]);
+    follows(rt, plan, &[3, 3, 1, 6, 0, 100, 2, u64::MAX, 5]);
+    Ok(())
+}
+
 #[test]
-fn the_next_piece_of_each_member(rt: HostRuntime) -> Result<(), Fail> {
-    have_next_pieces(&rt, NEXT_PIECES)?;
-    Ok(follow_loops(&rt, LOOPS)?)
+fn pieces_and_their_owners(rt: HostRuntime) -> Result<(), Fail> {
+    for (case, row) in PIECES.iter().enumerate() {
+        has_piece(&rt, row, case as u64)?;
+    }
+    for (case, row) in NEXT_PIECES.iter().enumerate() {
+        has_next_piece(&rt, row, case as u64)?;
+    }
+    for (sched, chunk) in LOOPS {
+        follow_loop(&rt, *sched, *chunk)?;
+    }
+    Ok(())
 }

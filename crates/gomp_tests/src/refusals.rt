@@ -1,7 +1,7 @@
 //! Refusals, with the members and the places of a break, are printed at every size of their numbers: a
 //! contract says what is printed where nothing fails, and cannot say that printing does not fail by itself.
 
-use crate::checks::same;
+use crate::checks::{same, text_of};
 use gomp_script::print_refusal;
 use gomp_types::{Clash, Name, Place, Refusal};
 use std::alloc::Global;
@@ -104,74 +104,56 @@ fn prints<D: Display>(
     Ok(())
 }
 
-/// That a member at a place prints so, in a cause and in a refusal.
-fn prints_clash(rt: &impl Abort, alloc: Global, clash: Clash, cause: &str) -> Result<(), Fail> {
-    prints(rt, alloc, &clash, cause)?;
-    let refusal = format!(in alloc; "E3 Broken {cause}")?;
-    prints(rt, alloc, &Refusal::Broken(clash), refusal.as_str())
-}
-
-/// That a place prints so, and each of these members at it.
-fn prints_place(
-    rt: &impl Abort,
-    alloc: Global,
-    place: Place,
-    text: &str,
-    members: &[(u16, &str)],
-) -> Result<(), Fail> {
+/// That a place prints so, and each member at it, in a cause and in a refusal.
+fn prints_place(rt: &impl Abort, alloc: Global, place: Place, text: &str) -> Result<(), Fail> {
     prints(rt, alloc, &place, text)?;
-    for (member, digits) in members {
+    for (member, digits) in MEMBERS {
         let member = *member;
+        let clash = Clash { member, place };
+        let refusal = format!(in alloc; "E3 Broken {digits} {text}")?;
+        prints(rt, alloc, &Refusal::Broken(clash), refusal.as_str())?;
         let cause = format!(in alloc; "{digits} {text}")?;
-        prints_clash(rt, alloc, Clash { member, place }, cause.as_str())?;
+        prints(rt, alloc, &clash, cause.as_str())?;
     }
     Ok(())
 }
 
-#[test]
-fn causes_print(rt: HostRuntime) -> Result<(), Fail> {
-    for (place, text) in PLACES {
-        prints_place(&rt, rt.alloc(), *place, *text, MEMBERS)?;
-    }
-    Ok(())
-}
-
-/// That each of these refusals prints so, and has its line.
-fn print_refusals(
+/// That a refusal prints so, and has its line.
+fn prints_refusal(
     rt: &impl Abort,
     alloc: Global,
-    refusals: &[(Refusal, &str)],
+    refusal: &Refusal,
+    expected: &str,
 ) -> Result<(), Fail> {
-    for (refusal, expected) in refusals {
-        prints(rt, alloc, refusal, *expected)?;
-        let line = format!(in alloc; "refused {expected}\n")?;
-        same(rt, &print_refusal(alloc, refusal)?, &line, *expected, 0);
-    }
+    prints(rt, alloc, refusal, expected)?;
+    let line = format!(in alloc; "refused {expected}\n")?;
+    same(rt, &print_refusal(alloc, refusal)?, &line, expected, 0);
     Ok(())
+}
+
+/// That a member of this number prints, and a refusal of a name of so many letters.
+fn prints_size(rt: &impl Abort, alloc: Global, size: u16) -> Result<(), Fail> {
+    let clash = Clash {
+        member: size,
+        place: Place::Stopped,
+    };
+    let cause = format!(in alloc; "{size} stopped")?;
+    prints(rt, alloc, &clash, cause.as_str())?;
+    let name = text_of(alloc, "", "n", size as usize, "")?;
+    let refusal = Refusal::BadEnv(Name::new(alloc, name.as_str())?);
+    prints(rt, alloc, &refusal, "E41 BadEnv")
 }
 
 #[test]
 fn refusals_print(rt: HostRuntime) -> Result<(), Fail> {
-    print_refusals(&rt, rt.alloc(), &REFUSALS)
-}
-
-#[test]
-fn members_print(rt: HostRuntime) -> Result<(), Fail> {
-    for member in 0..65 {
-        let place = Place::Stopped;
-        let cause = format!(in rt.alloc(); "{member} stopped")?;
-        prints(&rt, rt.alloc(), &Clash { member, place }, cause.as_str())?;
+    for (place, text) in PLACES {
+        prints_place(&rt, rt.alloc(), *place, *text)?;
     }
-    Ok(())
-}
-
-#[test]
-fn refusals_of_names_print(rt: HostRuntime) -> Result<(), Fail> {
-    let mut name = String::new(rt.alloc());
-    for _ in 0..301 {
-        let refusal = Refusal::BadEnv(Name::new(rt.alloc(), name.as_str())?);
-        prints(&rt, rt.alloc(), &refusal, "E41 BadEnv")?;
-        name.push('n')?;
+    for (refusal, expected) in &REFUSALS {
+        prints_refusal(&rt, rt.alloc(), refusal, *expected)?;
+    }
+    for size in 0..301 {
+        prints_size(&rt, rt.alloc(), size)?;
     }
     Ok(())
 }

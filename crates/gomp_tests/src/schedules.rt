@@ -1,7 +1,7 @@
 //! Static, guided and runtime loops of a team called as a library: whoever asks when, each piece goes
 //! where its schedule says.
 
-use crate::checks::same;
+use crate::checks::{LOOP, same};
 use gomp_core::Team;
 use gomp_icv::Icv;
 use gomp_share_plain::PlainShares;
@@ -14,23 +14,6 @@ use std::test::Fail;
 const ORDERS: u32 = 100;
 
 const TURNS: u32 = 400;
-
-fn of(sched: Sched, chunk: i64, end: i64) -> LoopDesc {
-    LoopDesc {
-        start: 0,
-        end,
-        incr: 1,
-        sched,
-        chunk,
-        ordered: false,
-        end_kind: EndKind::Nowait,
-    }
-}
-
-/// The next number of a sequence that looks like chance, and is the same in each run.
-fn drawn(seed: u32) -> u32 {
-    seed.wrapping_mul(1_664_525).wrapping_add(1_013_904_223)
-}
 
 /// How far a member is with the loop.
 #[derive(Clone, Copy)]
@@ -52,28 +35,6 @@ const NEW: Progress = Progress {
 struct Queue<'a> {
     pieces: &'a [(i64, u64)],
     taken: usize,
-}
-
-/// A member asks for its next piece, and gets that of its queue, or none at its end.
-fn asks(
-    rt: &impl Abort,
-    team: &mut Team<PlainShares>,
-    member: u16,
-    call: Call,
-    queue: Queue,
-    order: u32,
-) {
-    let expected = match queue.pieces.get(queue.taken) {
-        Some((first, count)) => chunk(*first, *count),
-        None => Reply::NoChunk,
-    };
-    same(
-        rt,
-        &team.step(member, call),
-        &expected,
-        "a piece in order",
-        order as u64,
-    );
 }
 
 /// The queue of a member: one queue is that of all members.
@@ -109,96 +70,105 @@ fn takes_turn(
     } else {
         Call::LoopStart(desc)
     };
-    asks(rt, team, member, call, queue, order);
+    let expected = match queue.pieces.get(queue.taken) {
+        Some((first, count)) => Reply::Chunk {
+            first: *first,
+            count: *count,
+        },
+        None => Reply::NoChunk,
+    };
+    let found = team.step(member, call);
+    same(rt, &found, &expected, "a piece in order", order as u64);
     progress.started = true;
     progress.over = queue.taken >= queue.pieces.len();
     progress.taken = queue.taken.saturating_add(1);
 }
 
-/// That members who ask in this order get the pieces of their queues in order, and then none. One queue is that of all
-/// members, at most four; of more, each member has its own.
-fn deals_in_order(
-    rt: &impl Abort,
-    alloc: Global,
-    members: u16,
-    desc: LoopDesc,
-    queues: &[&[(i64, u64)]],
-    order: u32,
-) -> Result<(), Fail> {
-    let mut team: Team<PlainShares> = Team::new(alloc, members, Icv::initial())?;
-    let mut each = vec![in alloc; NEW; members as usize]?;
+// A number of members, a schedule, a chunk and the number of iterations; and the queues of pieces: one is that of all
+// members, at most four; of more, each member has its own.
+type Row = (u16, Sched, i64, i64, &'static [&'static [(i64, u64)]]);
+
+const ROWS: &[Row] = &[
+    // static pieces go to their owners
+    (
+        4,
+        Sched::Static,
+        0,
+        10,
+        &[&[(0, 3)], &[(3, 3)], &[(6, 2)], &[(8, 2)]],
+    ),
+    (4, Sched::Static, 0, 2, &[&[(0, 1)], &[(1, 1)], &[], &[]]),
+    (
+        2,
+        Sched::Static,
+        3,
+        10,
+        &[&[(0, 3), (6, 3)], &[(3, 3), (9, 1)]],
+    ),
+    (2, Sched::Static, 1, 0, &[&[], &[]]),
+    // guided pieces shrink
+    (
+        4,
+        Sched::Guided,
+        2,
+        20,
+        &[&[(0, 5), (5, 4), (9, 3), (12, 2), (14, 2), (16, 2), (18, 2)]],
+    ),
+    (3, Sched::Guided, 2, 0, &[&[]]),
+    // a runtime loop is dynamic where nothing sets it
+    (2, Sched::Runtime, 0, 3, &[&[(0, 1), (1, 1), (2, 1)]]),
+];
+
+/// That members who ask in this order get the pieces of their queues in order, and then none.
+fn deals_in_order(rt: &impl Abort, alloc: Global, row: &Row, order: u32) -> Result<(), Fail> {
+    let desc = LoopDesc {
+        end: row.3,
+        sched: row.1,
+        chunk: row.2,
+        end_kind: EndKind::Nowait,
+        ..LOOP
+    };
+    let mut team: Team<PlainShares> = Team::new(alloc, row.0, Icv::initial())?;
+    let mut each = vec![in alloc; NEW; row.0 as usize]?;
     let mut all: usize = 0;
     let mut seed = order;
     for _ in 0..TURNS {
-        seed = drawn(seed);
+        // the next number of a sequence that looks like chance, and is the same in each run
+        seed = seed.wrapping_mul(1_664_525).wrapping_add(1_013_904_223);
         let member = (seed >> 16 & 3) as u16;
         let Some(progress) = each.get_mut(member as usize) else {
             continue;
         };
-        let queue = queue_of(queues, member as usize, progress.taken, all);
+        let queue = queue_of(row.4, member as usize, progress.taken, all);
         let (Some(queue), false) = (queue, progress.over) else {
             continue;
         };
         takes_turn(rt, &mut team, member, progress, desc, queue, order);
         all = all.saturating_add(1);
     }
-    are_over(rt, each.as_slice());
+    are_over(rt, each.as_slice(), order);
     Ok(())
 }
 
-fn are_over(rt: &impl Abort, each: &[Progress]) {
+fn are_over(rt: &impl Abort, each: &[Progress], order: u32) {
     for progress in each {
-        assert!(rt; progress.over);
+        same(
+            rt,
+            &progress.over,
+            &true,
+            "all is taken in order",
+            order as u64,
+        );
     }
 }
 
 /// That members who ask in many orders get the pieces of their queues.
-fn deals(
-    rt: &impl Abort,
-    alloc: Global,
-    members: u16,
-    desc: LoopDesc,
-    queues: &[&[(i64, u64)]],
-) -> Result<(), Fail> {
-    for order in 0..ORDERS {
-        deals_in_order(rt, alloc, members, desc, queues, order)?;
-    }
-    Ok(())
-}
-
-fn chunk(first: i64, count: u64) -> Reply {
-    Reply::Chunk { first, count }
-}
-
 #[test]
 fn every_order_of_asking(rt: HostRuntime) -> Result<(), Fail> {
-    let guided = [(0, 5), (5, 4), (9, 3), (12, 2), (14, 2), (16, 2), (18, 2)];
-    let rows: [(u16, LoopDesc, &[&[(i64, u64)]]); 7] = [
-        // static pieces go to their owners
-        (
-            4,
-            of(Sched::Static, 0, 10),
-            &[&[(0, 3)], &[(3, 3)], &[(6, 2)], &[(8, 2)]],
-        ),
-        (
-            4,
-            of(Sched::Static, 0, 2),
-            &[&[(0, 1)], &[(1, 1)], &[], &[]],
-        ),
-        (
-            2,
-            of(Sched::Static, 3, 10),
-            &[&[(0, 3), (6, 3)], &[(3, 3), (9, 1)]],
-        ),
-        (2, of(Sched::Static, 1, 0), &[&[], &[]]),
-        // guided pieces shrink
-        (4, of(Sched::Guided, 2, 20), &[&guided]),
-        (3, of(Sched::Guided, 2, 0), &[&[]]),
-        // a runtime loop is dynamic where nothing sets it
-        (2, of(Sched::Runtime, 0, 3), &[&[(0, 1), (1, 1), (2, 1)]]),
-    ];
-    for (members, desc, queues) in rows {
-        deals(&rt, rt.alloc(), members, desc, queues)?;
+    for row in ROWS {
+        for order in 0..ORDERS {
+            deals_in_order(&rt, rt.alloc(), row, order)?;
+        }
     }
     Ok(())
 }

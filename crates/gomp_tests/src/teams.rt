@@ -1,27 +1,22 @@
 //! Teams of `gomp_core` called as a library: a team with a lower limit, and teams at the places where a caller may
 //! keep them.
 
-use crate::checks::same;
+use crate::checks::{LOOP, same};
 use gomp_core::Team;
 use gomp_icv::Icv;
 use gomp_share_plain::PlainShares;
-use gomp_types::{Call, EndKind, Limits, LoopDesc, Refusal, Reply, Sched};
+use gomp_types::{Call, EndKind, Limits, LoopDesc, Refusal, Reply};
 use std::alloc::Global;
 use std::sync::Mutex;
 use std::test::Fail;
 
 /// A loop of one iteration, without a barrier.
-fn short_loop() -> Call {
-    Call::LoopStart(LoopDesc {
-        start: 0,
-        end: 1,
-        incr: 1,
-        sched: Sched::Dynamic,
-        chunk: 1,
-        ordered: false,
-        end_kind: EndKind::Nowait,
-    })
-}
+const SHORT_LOOP: LoopDesc = LoopDesc {
+    end: 1,
+    chunk: 1,
+    end_kind: EndKind::Nowait,
+    ..LOOP
+};
 
 /// What a member alone is answered that starts one share more than the team's limit, with what came before.
 fn one_share_too_many(alloc: Global) -> Result<[Reply; 4], Fail> {
@@ -32,10 +27,10 @@ fn one_share_too_many(alloc: Global) -> Result<[Reply; 4], Fail> {
     };
     let mut team: Team<PlainShares> = Team::with_limits(alloc, 1, Icv::initial(), limits)?;
     Ok([
-        team.step(0, short_loop()),
+        team.step(0, Call::LoopStart(SHORT_LOOP)),
         team.step(0, Call::LoopNext),
         team.step(0, Call::LoopEndNowait),
-        team.step(0, short_loop()),
+        team.step(0, Call::LoopStart(SHORT_LOOP)),
     ])
 }
 
@@ -48,32 +43,12 @@ struct Pool {
 
 impl Pool {
     fn step(&mut self, index: usize, member: u16, call: Call) -> Option<Reply> {
-        if let Some(team) = self.listed.get_mut(index) {
-            return Some(team.step(member, call));
-        }
-        match &mut self.boxed {
-            Some(team) => Some(team.step(member, call)),
-            None => None,
-        }
+        let team = match self.listed.get_mut(index) {
+            Some(team) => team,
+            None => self.boxed.as_deref_mut()?,
+        };
+        Some(team.step(member, call))
     }
-}
-
-#[test]
-fn limits(rt: HostRuntime) -> Result<(), Fail> {
-    let expected = [
-        Reply::Chunk { first: 0, count: 1 },
-        Reply::NoChunk,
-        Reply::Finished,
-        Reply::Refused(Refusal::TooManyShares),
-    ];
-    same(
-        &rt,
-        &one_share_too_many(rt.alloc())?,
-        &expected,
-        "replies",
-        4,
-    );
-    Ok(())
 }
 
 fn pool_of(alloc: Global) -> Result<Pool, Fail> {
@@ -86,36 +61,24 @@ fn pool_of(alloc: Global) -> Result<Pool, Fail> {
 }
 
 #[test]
-fn places(rt: HostRuntime) -> Result<(), Fail> {
+fn limits_and_places(rt: HostRuntime) -> Result<(), Fail> {
+    let expected = [
+        Reply::Chunk { first: 0, count: 1 },
+        Reply::NoChunk,
+        Reply::Finished,
+        Reply::Refused(Refusal::TooManyShares),
+    ];
+    let replies = one_share_too_many(rt.alloc())?;
+    same(&rt, &replies, &expected, "replies at a limit", 4);
     let mut pool = pool_of(rt.alloc())?;
-    same(
-        &rt,
-        &pool.step(0, 0, Call::Barrier),
-        &Some(Reply::Passed),
-        "listed",
-        1,
-    );
-    same(
-        &rt,
-        &pool.step(1, 0, Call::Barrier),
-        &Some(Reply::Wait),
-        "boxed",
-        2,
-    );
-    Ok(())
-}
-
-#[test]
-fn locked_team(rt: HostRuntime) -> Result<(), Fail> {
+    let listed = pool.step(0, 0, Call::Barrier);
+    same(&rt, &listed, &Some(Reply::Passed), "listed", 1);
+    let boxed = pool.step(1, 0, Call::Barrier);
+    same(&rt, &boxed, &Some(Reply::Wait), "boxed", 2);
     let team: Team<PlainShares> = Team::new(rt.alloc(), 1, Icv::initial())?;
     let locked = Mutex::new(team);
     let mut guard = locked.lock(&rt);
-    same(
-        &rt,
-        &guard.step(0, Call::RegionEnd),
-        &Reply::Passed,
-        "locked",
-        1,
-    );
+    let reply = guard.step(0, Call::RegionEnd);
+    same(&rt, &reply, &Reply::Passed, "locked", 1);
     Ok(())
 }

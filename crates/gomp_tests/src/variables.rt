@@ -1,24 +1,11 @@
 //! The control variables and the words of the environment, called as a library.
 
-use crate::checks::{each_is, same, same_slices};
+use crate::checks::{SIZES, same, text_of};
 use gomp_icv::{Icv, child_icv, read_env, team_size};
-use gomp_types::{Name, Refusal, Sched};
+use gomp_types::{Refusal, Sched};
 use std::alloc::Global;
 use std::process::Abort;
 use std::test::Fail;
-
-/// How many words there are, or how many letters a word has.
-const SIZES: [usize; 9] = [0, 1, 255, 256, 1_000, 1_001, 65_535, 65_536, 100_000];
-
-/// A letter so many times, and then this end.
-fn letters(alloc: Global, letter: char, count: usize, end: &str) -> Result<String, Fail> {
-    let mut text = String::new(alloc);
-    for _i in 0..count {
-        text.push(letter)?;
-    }
-    text.push_str(end)?;
-    Ok(text)
-}
 
 /// Words that set each variable, some of which are ignored.
 const WORDS: &[(&str, &str)] = &[
@@ -55,65 +42,47 @@ const TEAM_SIZES: &[SizeRow] = &[
     (Some(100), true, u32::MAX, 1),
 ];
 
-/// That the variables have what the words set.
-fn has_values(rt: &impl Abort, icv: &Icv) {
-    same(rt, &icv.dynamic(), &true, "dynamic", 0);
-    same_slices(
-        rt,
-        icv.nthreads().as_slice(),
-        [4, 2].as_slice(),
-        "nthreads",
-        0,
-    );
-    same(rt, &icv.sched(), &Sched::Guided, "schedule", 0);
-    same(rt, &icv.chunk(), &7, "chunk", 0);
-    same(rt, &icv.max_active_levels(), &5, "levels", 0);
-    same(rt, &icv.thread_limit(), &8, "thread limit", 0);
-    same(rt, &icv.cancellation(), &true, "cancellation", 0);
-    same(rt, &icv.active(), &0, "active levels", 0);
+/// The name of an ignored word.
+fn name_of(refusal: &Refusal) -> &str {
+    match refusal {
+        Refusal::BadEnv(name) => name.as_str(),
+        _ => "no ignored word",
+    }
 }
 
 /// That these words are ignored, in order, and no other.
-fn are_ignored(
-    rt: &impl Abort,
-    alloc: Global,
-    ignored: &[Refusal],
-    names: &[&str],
-) -> Result<(), Fail> {
-    same(rt, &ignored.len(), &names.len(), "ignored words", 0);
-    for (refusal, name) in ignored.iter().zip(names.iter()) {
-        let expected = Refusal::BadEnv(Name::new(alloc, *name)?);
-        same(rt, refusal, &expected, *name, 0);
+fn are_ignored(rt: &impl Abort, ignored: &[Refusal], names: &[&str], name: &str, case: u64) {
+    same(rt, &ignored.len(), &names.len(), name, case);
+    for (refusal, expected) in ignored.iter().zip(names.iter()) {
+        same(rt, &name_of(refusal), expected, name, case);
     }
-    Ok(())
 }
 
-/// That teams have these sizes.
-fn have_sizes(rt: &impl Abort, icv: &Icv, rows: &[SizeRow]) {
-    for (requested, if_clause, busy, size) in rows {
-        let found = team_size(icv, *requested, *if_clause, *busy);
-        same(rt, &found, size, "busy threads", *busy as u64);
-    }
+/// That the variables have what the words set.
+fn has_values(rt: &impl Abort, icv: &Icv) {
+    let nthreads = icv.nthreads().as_slice();
+    same(rt, &nthreads, &[4, 2].as_slice(), "nthreads", 0);
+    let flags = (icv.dynamic(), icv.cancellation());
+    same(rt, &flags, &(true, true), "dynamic and cancellation", 0);
+    let schedule = (icv.sched(), icv.chunk());
+    same(rt, &schedule, &(Sched::Guided, 7), "schedule and chunk", 0);
+    let limits = (icv.thread_limit(), icv.max_active_levels(), icv.active());
+    same(
+        rt,
+        &limits,
+        &(8, 5, 0),
+        "thread limit, levels, active ones",
+        0,
+    );
 }
 
 /// That the variables of a region inside of a team of four, and of one alone in there, are right.
 fn has_inner_values(rt: &impl Abort, icv: &Icv) {
     let inner = child_icv(&icv.copied(), 4);
-    same_slices(
-        rt,
-        inner.nthreads().as_slice(),
-        [2].as_slice(),
-        "inner nthreads",
-        0,
-    );
-    same(rt, &inner.active(), &1, "inner active levels", 4);
-    same(
-        rt,
-        &child_icv(&inner, 1).active(),
-        &1,
-        "inner active levels",
-        1,
-    );
+    let nthreads = inner.nthreads().as_slice();
+    same(rt, &nthreads, &[2].as_slice(), "inner nthreads", 0);
+    let active = (inner.active(), child_icv(&inner, 1).active());
+    same(rt, &active, &(1, 1), "inner active levels", 4);
 }
 
 /// Each variable is set by a word of its own, and read by its call.
@@ -121,132 +90,133 @@ fn has_inner_values(rt: &impl Abort, icv: &Icv) {
 fn each_variable(rt: HostRuntime) -> Result<(), Fail> {
     let (icv, ignored) = read_env(rt.alloc(), WORDS)?;
     has_values(&rt, &icv);
-    have_sizes(&rt, &icv, TEAM_SIZES);
-    has_inner_values(&rt, &icv);
-    are_ignored(&rt, rt.alloc(), ignored.as_slice(), IGNORED)
-}
-
-/// A word so many times, and then another.
-fn repeated(
-    alloc: Global,
-    word: (&'static str, &'static str),
-    count: usize,
-    last: (&'static str, &'static str),
-) -> Result<Vec<(&'static str, &'static str)>, Fail> {
-    let mut words = Vec::new(alloc);
-    for _i in 0..count {
-        words.push(word)?;
+    for (requested, if_clause, busy, size) in TEAM_SIZES {
+        let found = team_size(&icv, *requested, *if_clause, *busy);
+        same(&rt, &found, size, "busy threads", *busy as u64);
     }
-    words.push(last)?;
-    Ok(words)
+    has_inner_values(&rt, &icv);
+    are_ignored(&rt, ignored.as_slice(), IGNORED, "ignored words", 0);
+    Ok(())
 }
 
-/// Of so many good words the last counts.
-fn good_words(rt: &impl Abort, alloc: Global, count: usize) -> Result<(), Fail> {
-    let last = ("OMP_NUM_THREADS", "4,2");
-    let words = repeated(alloc, ("OMP_NUM_THREADS", "3"), count, last)?;
-    let (icv, ignored) = read_env(alloc, words.as_slice())?;
-    let nthreads = icv.nthreads();
-    same_slices(
-        rt,
-        nthreads.as_slice(),
-        [4, 2].as_slice(),
+/// A word: its name and its value.
+type Word = (&'static str, &'static str);
+
+/// The sizes of teams, whether their number may be adjusted, and the limit of threads: what a program begins with.
+const INITIAL: (&[u32], bool, u32) = (&[4], false, 64);
+
+// A name, a word that is repeated, the words behind it, the variables, and whether the word is ignored.
+type ListRow = (
+    &'static str,
+    Word,
+    &'static [Word],
+    (&'static [u32], bool, u32),
+    bool,
+);
+
+/// Of many good words the last counts. Many bad words are all ignored and named, and a good one behind them counts.
+/// Words without a name and a value are ignored too.
+const LISTS: &[ListRow] = &[
+    (
         "good words",
+        ("OMP_NUM_THREADS", "3"),
+        &[("OMP_NUM_THREADS", "4,2")],
+        (&[4, 2], false, 64),
+        false,
+    ),
+    (
+        "bad words",
+        ("OMP_DYNAMIC", "yes"),
+        &[("OMP_DYNAMIC", "true")],
+        (&[4], true, 64),
+        true,
+    ),
+    ("unnamed words", ("", ""), &[], INITIAL, true),
+];
+
+/// That these words give these variables, and these of them are ignored.
+fn reads(
+    rt: &impl Abort,
+    alloc: Global,
+    words: &[(&str, &str)],
+    expected: (&[u32], bool, u32),
+    names: &[&str],
+    name: &str,
+    case: u64,
+) -> Result<(), Fail> {
+    let (icv, ignored) = read_env(alloc, words)?;
+    let found = (icv.nthreads().as_slice(), icv.dynamic(), icv.thread_limit());
+    same(rt, &found, &expected, name, case);
+    are_ignored(rt, ignored.as_slice(), names, name, case);
+    Ok(())
+}
+
+/// That the words of a row are read, the first so many times.
+fn reads_list(rt: &impl Abort, alloc: Global, row: &ListRow, count: usize) -> Result<(), Fail> {
+    let mut words = vec![in alloc; row.1; count]?;
+    words.extend_from_slice(row.2)?;
+    let ignored = if row.4 { count } else { 0 };
+    let names = vec![in alloc; row.1.0; ignored]?;
+    reads(
+        rt,
+        alloc,
+        words.as_slice(),
+        row.3,
+        names.as_slice(),
+        row.0,
         count as u64,
-    );
-    same(rt, &ignored.len(), &0, "good words", count as u64);
-    Ok(())
+    )
 }
 
-/// So many bad words are all ignored and named, and a good one behind them counts.
-fn bad_words(rt: &impl Abort, alloc: Global, count: usize) -> Result<(), Fail> {
-    let last = ("OMP_DYNAMIC", "true");
-    let words = repeated(alloc, ("OMP_DYNAMIC", "yes"), count, last)?;
-    let (icv, ignored) = read_env(alloc, words.as_slice())?;
-    same(rt, &icv.dynamic(), &true, "bad words", count as u64);
-    same(rt, &ignored.len(), &count, "bad words", count as u64);
-    let expected = Refusal::BadEnv(Name::new(alloc, "OMP_DYNAMIC")?);
-    each_is(rt, ignored.as_slice(), &expected, "bad words", count as u64);
-    Ok(())
+// A name; a word, by the letter and the end of its name, and those of its value; the variables, and whether it is ignored.
+type LongRow = (&'static str, Word, Word, (&'static [u32], bool, u32), bool);
+
+/// A number with many zeros in front, and a value with many blanks, are read whole. A word whose name has many letters,
+/// and whose value is as long, is ignored and named, and so is one with a bad value of many letters.
+const LONG_WORDS: &[LongRow] = &[
+    (
+        "zeros",
+        ("", "OMP_THREAD_LIMIT"),
+        ("0", "3"),
+        (&[4], false, 3),
+        false,
+    ),
+    (
+        "blanks",
+        ("", "OMP_DYNAMIC"),
+        (" ", "true"),
+        (&[4], true, 64),
+        false,
+    ),
+    ("letters of a name", ("X", "OMP"), ("0", "3"), INITIAL, true),
+    ("letters", ("", "OMP_SCHEDULE"), ("x", "y"), INITIAL, true),
+];
+
+/// That a word of so many letters is read.
+fn reads_long(rt: &impl Abort, alloc: Global, row: &LongRow, count: usize) -> Result<(), Fail> {
+    let name = text_of(alloc, "", row.1.0, count, row.1.1)?;
+    let value = text_of(alloc, "", row.2.0, count, row.2.1)?;
+    let word = [(name.as_str(), value.as_str())];
+    let names = [name.as_str()];
+    let ignored = if row.4 { names.as_slice() } else { &[] };
+    reads(rt, alloc, &word, row.3, ignored, row.0, count as u64)
 }
 
-/// However many words there are, each counts, or is ignored and named.
+/// However many words there are, each counts, or is ignored and named; and however long one is, it is read whole.
 #[test]
 fn words_of_every_size(rt: HostRuntime) -> Result<(), Fail> {
-    for count in SIZES {
-        good_words(&rt, rt.alloc(), count)?;
-        bad_words(&rt, rt.alloc(), count)?;
+    for row in LISTS {
+        for count in 0..301 {
+            reads_list(&rt, rt.alloc(), row, count)?;
+        }
+        for count in SIZES {
+            reads_list(&rt, rt.alloc(), row, *count)?;
+        }
     }
-    Ok(())
-}
-
-/// That so many words without a name and a value are all ignored.
-fn unnamed_words(rt: &impl Abort, alloc: Global, count: usize) -> Result<(), Fail> {
-    let words = repeated(alloc, ("", ""), count, ("OMP_DYNAMIC", "true"))?;
-    let (_, ignored) = read_env(alloc, words.as_slice().get(..count).unwrap_or(&[]))?;
-    same(rt, &ignored.len(), &count, "unnamed words", count as u64);
-    Ok(())
-}
-
-/// However few words are ignored, each of them is named, also one without a name and a value.
-#[test]
-fn ignored_words_of_small_numbers(rt: HostRuntime) -> Result<(), Fail> {
-    for count in 0..301 {
-        unnamed_words(&rt, rt.alloc(), count)?;
-    }
-    Ok(())
-}
-
-/// A number with so many zeros in front is read whole.
-fn long_number(rt: &impl Abort, alloc: Global, count: usize) -> Result<(), Fail> {
-    let zeros = letters(alloc, '0', count, "3")?;
-    let (icv, ignored) = read_env(alloc, &[("OMP_THREAD_LIMIT", zeros.as_str())])?;
-    same(rt, &icv.thread_limit(), &3, "zeros", count as u64);
-    same(rt, &ignored.len(), &0, "zeros", count as u64);
-    Ok(())
-}
-
-/// A value with so many blanks in front is read whole.
-fn long_value(rt: &impl Abort, alloc: Global, count: usize) -> Result<(), Fail> {
-    let blanks = letters(alloc, ' ', count, "true")?;
-    let (icv, ignored) = read_env(alloc, &[("OMP_DYNAMIC", blanks.as_str())])?;
-    same(rt, &icv.dynamic(), &true, "blanks", count as u64);
-    same(rt, &ignored.len(), &0, "blanks", count as u64);
-    Ok(())
-}
-
-/// A word whose name has so many letters, and whose value is as long, is ignored and named.
-fn long_name(rt: &impl Abort, alloc: Global, count: usize) -> Result<(), Fail> {
-    let zeros = letters(alloc, '0', count, "3")?;
-    let name = letters(alloc, 'X', count, "OMP")?;
-    let (_, ignored) = read_env(alloc, &[(name.as_str(), zeros.as_str())])?;
-    let expected = [Refusal::BadEnv(Name::new(alloc, name.as_str())?)];
-    same_slices(
-        rt,
-        ignored.as_slice(),
-        expected.as_slice(),
-        "letters of a name",
-        count as u64,
-    );
-    Ok(())
-}
-
-/// A bad value of so many letters is ignored.
-fn long_bad_value(rt: &impl Abort, alloc: Global, count: usize) -> Result<(), Fail> {
-    let bad = letters(alloc, 'x', count, "y")?;
-    let (_, ignored) = read_env(alloc, &[("OMP_SCHEDULE", bad.as_str())])?;
-    same(rt, &ignored.len(), &1, "letters", count as u64);
-    Ok(())
-}
-
-/// However long a name or a value is, it is read whole.
-#[test]
-fn words_of_every_length(rt: HostRuntime) -> Result<(), Fail> {
-    for count in SIZES {
-        long_number(&rt, rt.alloc(), count)?;
-        long_value(&rt, rt.alloc(), count)?;
-        long_name(&rt, rt.alloc(), count)?;
-        long_bad_value(&rt, rt.alloc(), count)?;
+    for row in LONG_WORDS {
+        for count in SIZES {
+            reads_long(&rt, rt.alloc(), row, *count)?;
+        }
     }
     Ok(())
 }

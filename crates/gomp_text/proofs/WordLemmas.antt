@@ -4,21 +4,21 @@ use Rattle.std.specs.Prelude.{◌==◌, ◌≢◌, nat_lt, All, IsTrue, ◌↔�
 use Rattle.std.specs.List.{slice_split, onto_first}
 use Rattle.std.proofs.lemmas.Bool.{cases_Bool, eq-eqb, ne_eqb}
 use Rattle.std.proofs.lemmas.Bool.Decides.{nat_tests}
-use Rattle.gomp_text.specs.Words.{words_of, filled, is_ascii, cut, past_spaces, parts_left, same_word}
+use Rattle.gomp_text.specs.Words.{words_of, without_empty, is_ascii, cut_at, past_spaces, parts_left, same_word}
 
 -- Cutting
 
-pub cut_none : (separator : ℕ) (text : List ℕ) → ((k : ℕ) → k < length text → get_or text k 0 ≢ separator) → cut separator text ≡ (text, None)
+pub cut_none : (separator : ℕ) (text : List ℕ) → ((k : ℕ) → k < length text → get_or text k 0 ≢ separator) → cut_at separator text ≡ (text, None)
 cut_none separator [] all = refl
 cut_none separator (b ∷ text) all =
     let rest = cut_none separator text (λ k lt. all (suc k) (omega arith)) in
     rw (ne_eqb b separator (all 0 (omega arith)), rest) refl
 
-pub cut_at : (separator : ℕ) (text : List ℕ) (i : ℕ) → i < length text → get_or text i 0 ≡ separator → ((k : ℕ) → k < i → get_or text k 0 ≢ separator) → cut separator text ≡ (take i text, Some (drop (suc i) text))
-cut_at separator [] i inside here before = absurd (omega arith)
-cut_at separator (b ∷ text) zero inside here before = rw (eq-eqb b separator here) refl
-cut_at separator (b ∷ text) (suc i) inside here before =
-    let rest = cut_at separator text i (omega arith) here (λ k lt. before (suc k) (omega arith)) in
+pub cut_found : (separator : ℕ) (text : List ℕ) (i : ℕ) → i < length text → get_or text i 0 ≡ separator → ((k : ℕ) → k < i → get_or text k 0 ≢ separator) → cut_at separator text ≡ (take i text, Some (drop (suc i) text))
+cut_found separator [] i inside here before = absurd (omega arith)
+cut_found separator (b ∷ text) zero inside here before = rw (eq-eqb b separator here) refl
+cut_found separator (b ∷ text) (suc i) inside here before =
+    let rest = cut_found separator text i (omega arith) here (λ k lt. before (suc k) (omega arith)) in
     rw (ne_eqb b separator (before 0 (omega arith)), rest) refl
 
 -- ASCII
@@ -49,11 +49,11 @@ by_test false line all = sym (ascii_not line (λ every. let never : false ≡ tr
 onto_first_part : (separator b : ℕ) (found : List ℕ × Option (List ℕ)) → onto_first b (found.0 ∷ parts_left separator found.1) ≡ (b ∷ found.0) ∷ parts_left separator found.1
 onto_first_part separator b found = refl
 
-pub parts_cut : (separator : ℕ) (text : List ℕ) → slice_split (λ b. b == separator) text ≡ (cut separator text).0 ∷ parts_left separator (cut separator text).1
+pub parts_cut : (separator : ℕ) (text : List ℕ) → slice_split (λ b. b == separator) text ≡ (cut_at separator text).0 ∷ parts_left separator (cut_at separator text).1
 parts_cut separator [] = refl
 parts_cut separator (b ∷ text) = elim (cases_Bool (b == separator)) [
   | inl here ↦ rw here refl
-  | inr other ↦ rw (other, parts_cut separator text) (onto_first_part separator b (cut separator text))
+  | inr other ↦ rw (other, parts_cut separator text) (onto_first_part separator b (cut_at separator text))
 ]
 
 past_no_space : (b : ℕ) (line : List ℕ) → (b == 32) ≡ false → past_spaces (b ∷ line) ≡ b ∷ line
@@ -79,18 +79,18 @@ has_first_word (b ∷ line) some = elim (cases_Bool (b == 32)) [
   | inr other ↦ rw other other
 ]
 
-cut_begun : (b : ℕ) (line : List ℕ) → (b == 32) ≡ false → cut 32 (b ∷ line) ≡ (b ∷ (cut 32 line).0, (cut 32 line).1)
+cut_begun : (b : ℕ) (line : List ℕ) → (b == 32) ≡ false → cut_at 32 (b ∷ line) ≡ (b ∷ (cut_at 32 line).0, (cut_at 32 line).1)
 cut_begun b line other = rw other refl
 
-words_begun : (line : List ℕ) → Begins line → words_of line ≡ (cut 32 line).0 ∷ filled (parts_left 32 (cut 32 line).1)
+words_begun : (line : List ℕ) → Begins line → words_of line ≡ (cut_at 32 line).0 ∷ without_empty (parts_left 32 (cut_at 32 line).1)
 words_begun [] begun = absurd begun
-words_begun (b ∷ line) begun = ap filled (parts_cut 32 (b ∷ line)) ∙ rw (cut_begun b line begun) refl
+words_begun (b ∷ line) begun = ap without_empty (parts_cut 32 (b ∷ line)) ∙ rw (cut_begun b line begun) refl
 
-pub words_first : (line rest : List ℕ) → Begins line → (cut 32 line).1 ≡ Some rest → words_of line ≡ (cut 32 line).0 ∷ words_of rest
-words_first line rest begun after = words_begun line begun ∙ ap (λ (found : Option (List ℕ)). (cut 32 line).0 ∷ filled (parts_left 32 found)) after
+pub words_first : (line rest : List ℕ) → Begins line → (cut_at 32 line).1 ≡ Some rest → words_of line ≡ (cut_at 32 line).0 ∷ words_of rest
+words_first line rest begun after = words_begun line begun ∙ ap (λ (found : Option (List ℕ)). (cut_at 32 line).0 ∷ without_empty (parts_left 32 found)) after
 
-pub words_last : (line : List ℕ) → Begins line → (cut 32 line).1 ≡ None → words_of line ≡ (cut 32 line).0 ∷ words_of []
-words_last line begun after = words_begun line begun ∙ ap (λ (found : Option (List ℕ)). (cut 32 line).0 ∷ filled (parts_left 32 found)) after
+pub words_last : (line : List ℕ) → Begins line → (cut_at 32 line).1 ≡ None → words_of line ≡ (cut_at 32 line).0 ∷ words_of []
+words_last line begun after = words_begun line begun ∙ ap (λ (found : Option (List ℕ)). (cut_at 32 line).0 ∷ without_empty (parts_left 32 found)) after
 
 -- Same words
 

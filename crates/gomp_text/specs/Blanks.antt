@@ -17,9 +17,9 @@ before_blanks [] = []
 before_blanks (b ∷ bytes) = if is_blank b && length (before_blanks bytes) == 0 then [] else b ∷ before_blanks bytes
 
 -- without the blanks before and behind
-abbrev pub trimmed : List ℕ → List ℕ
-trimmed bytes = before_blanks (past_blanks bytes)
+abbrev pub without_blanks : List ℕ → List ℕ
+without_blanks bytes = before_blanks (past_blanks bytes)
 
 -- each ASCII letter as its small one
-abbrev pub lowered : List ℕ → List ℕ
-lowered word = map to_ascii_lowercase word
+abbrev pub in_small_letters : List ℕ → List ℕ
+in_small_letters word = map to_ascii_lowercase word

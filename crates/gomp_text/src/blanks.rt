@@ -2,12 +2,12 @@
 
 ghost use Rattle.std.specs.Prelude.{◌≡◌};
 ghost use Rattle.gomp_text.specs.Words.{same_word};
-ghost use Rattle.gomp_text.specs.Blanks.{is_blank, past_blanks, before_blanks, trimmed, lowered};
+ghost use Rattle.gomp_text.specs.Blanks.{is_blank, past_blanks, before_blanks, without_blanks, in_small_letters};
 
 /// The text without the blanks, which are space and tab, before and behind. Those between other
 /// bytes stay.
-pub fn trimmed(text: &[u8]) -> &[u8]
-    ensures { result.now ≡ trimmed text.now }
+pub fn without_blanks(text: &[u8]) -> &[u8]
+    ensures { result.now ≡ without_blanks text.now }
 {
     before_blanks(past_blanks(text))
 }
@@ -45,7 +45,7 @@ fn is_blank(byte: u8) -> bool
 
 /// Whether a word is this one; `A` to `Z` and `a` to `z` count as the same letters.
 pub fn is_word_in_any_case(word: &[u8], name: &[u8]) -> bool
-    ensures { result ≡ same_word (lowered word.now) (lowered name.now) }
+    ensures { result ≡ same_word (in_small_letters word.now) (in_small_letters name.now) }
 {
     word.eq_ignore_ascii_case(name)
 }

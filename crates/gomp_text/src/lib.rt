@@ -8,6 +8,6 @@ mod blanks;
 mod numbers;
 mod words;
 
-pub use blanks::{is_word_in_any_case, trimmed};
+pub use blanks::{is_word_in_any_case, without_blanks};
 pub use numbers::{signed, unsigned};
-pub use words::{cut, is_ascii, is_word, next_word};
+pub use words::{cut_at, is_ascii, is_word, next_word};

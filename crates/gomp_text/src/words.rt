@@ -1,13 +1,13 @@
 //! The lines and words of a text.
 
 ghost use Rattle.std.specs.Prelude.{◌≡◌, ◌<◌, length, IfSome, option_copied};
-ghost use Rattle.gomp_text.specs.Words.{HasParts, IsFirstWord, is_ascii, cut, past_spaces, left, same_word};
+ghost use Rattle.gomp_text.specs.Words.{HasParts, IsFirstWord, is_ascii, cut_at, past_spaces, rest_of_cut, same_word};
 
 /// The bytes before the first `separator`, which is any byte, and those after it. None in the place
 /// of those if no separator stands in the text.
-pub fn cut(text: &[u8], separator: u8) -> (&[u8], Option<&[u8]>)
-    ensures before { result.0.now ≡ (cut separator text.now).0 }
-    ensures after { option_copied result.1 ≡ (cut separator text.now).1 }
+pub fn cut_at(text: &[u8], separator: u8) -> (&[u8], Option<&[u8]>)
+    ensures before { result.0.now ≡ (cut_at separator text.now).0 }
+    ensures after { option_copied result.1 ≡ (cut_at separator text.now).1 }
     ensures parts { HasParts separator text.now result.0.now (option_copied result.1) }
     ensures shorter { IfSome result.1 (λ rest. length rest.now < length text.now) }
 {
@@ -31,13 +31,14 @@ fn past_spaces(mut text: &[u8]) -> &[u8]
 /// line is empty, or has spaces alone.
 pub fn next_word(line: &[u8]) -> Option<(&[u8], &[u8])>
     ensures words { IsFirstWord line.now result }
-    ensures rest { IfSome result (λ found. found.1.now ≡ left (cut 32 (past_spaces line.now)).1) }
+    ensures rest { IfSome result
+        (λ found. found.1.now ≡ rest_of_cut (cut_at 32 (past_spaces line.now)).1) }
 {
     let line = past_spaces(line);
     if line.is_empty() {
         return None;
     }
-    let (word, after) = cut(line, b' ');
+    let (word, after) = cut_at(line, b' ');
     match after {
         Some(rest) => Some((word, rest)),
         None => Some((word, b"")),

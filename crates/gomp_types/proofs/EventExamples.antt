@@ -10,7 +10,7 @@ use Rattle.gomp_types.specs.Singles.{single_shape}
 use Rattle.gomp_types.specs.Shapes.{is_loop}
 use Rattle.gomp_types.specs.Pieces.{Piece}
 use Rattle.gomp_types.specs.Values.{value_at, iteration_of}
-use Rattle.gomp_types.specs.Events.{every_member, member_of, entered, open_share, is_inside, open_number, has_drained, last_piece, in_kind, shape_at, has_ended, is_over, has_room, has_iteration, times_taken, turn, holds_piece, next_part, in_part, open_part, payload_at, has_piece, has_words, passed, arrival, tag_at, barrier_met, has_left_region, clash_of}
+use Rattle.gomp_types.specs.Events.{every_member, member_of, shares_entered, open_share, is_inside, open_number, has_drained, last_piece, in_kind, shape_at, has_ended, is_over, has_room, has_iteration, times_taken, turn, holds_piece, next_part, in_part, open_part, payload_at, has_piece, has_words, barriers_passed, arrival, tag_at, barrier_met, has_left_region, clash_of}
 use Rattle.gomp_types.specs.Ordered.{same_piece, has_turn, number_of_piece, last_number, is_ordered, must_wait, is_in_rest, comes_next}
 use Rattle.gomp_types.specs.EventLists.{newest_first, four, wider, at}
 
@@ -25,7 +25,7 @@ abbrev entries : List Event
 entries = Enter 0 0 (four false) ∷ Enter 0 1 (four false) ∷ End 0 0 ∷ Enter 1 0 wider ∷ []
 
 -- how many shares each member has entered
-pub entries_are_counted : (entered 0 (after entries) ≡ 2) × (entered 1 (after entries) ≡ 1) × (entered 2 (after entries) ≡ 0)
+pub entries_are_counted : (shares_entered 0 (after entries) ≡ 2) × (shares_entered 1 (after entries) ≡ 1) × (shares_entered 2 (after entries) ≡ 0)
 entries_are_counted = (refl, refl, refl)
 
 -- which share each is in
@@ -142,7 +142,7 @@ open_part_of_a_loop = (refl, refl, refl)
 abbrev three_pieces : List Piece
 three_pieces = (0, 2) ∷ (2, 3) ∷ (3, 6) ∷ []
 
--- two pieces are one where both ends are
+-- two pieces are one if both ends are
 pub pieces_that_are_one :
     (same_piece (Some (0, 2)) (Some (0, 2)) ≡ true) × (same_piece (Some (0, 2)) (Some (0, 3)) ≡ false) × (same_piece (Some (0, 2)) (Some (1, 2)) ≡ false)
     × (same_piece None (Some (0, 2)) ≡ false) × (same_piece (Some (0, 2)) None ≡ false) × (same_piece None None ≡ false)
@@ -207,7 +207,7 @@ abbrev some_arrivals : List Event
 some_arrivals = Arrive 0 0 (at Barrier 0) ∷ Arrive 0 1 (at Barrier 0) ∷ Pass 0 0 ∷ Arrive 1 0 (at ShareEnd 1) ∷ []
 
 -- how many barriers each has passed
-pub passes_are_counted : (passed 0 (after some_arrivals) ≡ 1) × (passed 1 (after some_arrivals) ≡ 0)
+pub passes_are_counted : (barriers_passed 0 (after some_arrivals) ≡ 1) × (barriers_passed 1 (after some_arrivals) ≡ 0)
 passes_are_counted = (refl, refl)
 
 -- with which tag each has arrived
@@ -219,11 +219,11 @@ tags_of_members = (refl, refl, refl, refl)
 pub tags_of_barriers : (tag_at 0 (after some_arrivals) ≡ Some (at Barrier 0)) × (tag_at 1 (after some_arrivals) ≡ Some (at ShareEnd 1)) × (tag_at 2 (after some_arrivals) ≡ None)
 tags_of_barriers = (refl, refl, refl)
 
--- where all have
+-- if all have
 pub barriers_that_are_met : (barrier_met 2 0 (after some_arrivals) ≡ true) × (barrier_met 3 0 (after some_arrivals) ≡ false) × (barrier_met 2 1 (after some_arrivals) ≡ false)
 barriers_that_are_met = (refl, refl, refl)
 
--- a member leaves the region where it passes its end, and not where another does, or at another barrier
+-- a member leaves the region if it passes its end, and not if another does, or at another barrier
 pub region_that_is_left :
     (has_left_region 0 (after (Arrive 0 0 (at RegionEnd 0) ∷ Pass 0 0 ∷ Arrive 1 0 (at Barrier 0) ∷ [])) ≡ true) × (has_left_region 0 (after (Arrive 0 0 (at RegionEnd 0) ∷ [])) ≡ false)
     × (has_left_region 0 (after (Arrive 0 0 (at Barrier 0) ∷ Pass 0 0 ∷ Arrive 1 0 (at RegionEnd 0) ∷ [])) ≡ false)
@@ -232,7 +232,7 @@ pub region_that_is_left :
     × (has_left_region 0 (after (Arrive 0 0 (at RegionEnd 0) ∷ Arrive 0 1 (at RegionEnd 0) ∷ Pass 0 0 ∷ Pass 0 1 ∷ [])) ≡ true)
 region_that_is_left = (refl, refl, refl, refl, refl, refl, refl)
 
--- nor where another member arrived there at the region's end, and it did not
+-- nor if another member arrived there at the region's end, and it did not
 pub region_of_another :
     (has_left_region 0 (after (Arrive 0 0 (at Barrier 0) ∷ Arrive 0 1 (at RegionEnd 0) ∷ Pass 0 0 ∷ [])) ≡ false)
     × (has_left_region 1 (after (Arrive 0 0 (at Barrier 0) ∷ Arrive 0 1 (at RegionEnd 0) ∷ Pass 0 1 ∷ Arrive 0 2 (at Barrier 0) ∷ [])) ≡ true)

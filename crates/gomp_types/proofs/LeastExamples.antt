@@ -15,12 +15,12 @@ use Rattle.gomp_types.specs.EventLists.{four, wider, at}
 
 -- The least refusal
 
--- of two refusals the one of the lesser number, whichever stands first, and the only one where there is one
+-- of two refusals the one of the lesser number, whichever stands first, and the only one if there is one
 pub lesser_of_refusals :
     map (λ other. lesser (Some InsideShare) other) (None ∷ Some Waiting ∷ Some InsideShare ∷ Some NotDrained ∷ []) ≡ Some InsideShare ∷ Some Waiting ∷ Some InsideShare ∷ Some InsideShare ∷ []
 lesser_of_refusals = refl
 
--- the other where there is no first
+-- the other if there is no first
 pub lesser_with_none : map (λ other. lesser None other) (None ∷ Some NotDrained ∷ []) ≡ None ∷ Some NotDrained ∷ []
 lesser_with_none = refl
 
@@ -50,7 +50,7 @@ least_between = refl
 pub least_that_holds : least ((true, Mismatch) ∷ (false, InsideShare) ∷ (true, TooManyShares) ∷ []) ≡ Some TooManyShares
 least_that_holds = refl
 
--- the first test that holds is another where the tests stand in another order
+-- the first test that holds is another if the tests stand in another order
 pub least_is_not_first : first_refusal ((true, NotDrained) ∷ (true, InsideShare) ∷ []) ≡ Some NotDrained
 least_is_not_first = refl
 
@@ -80,11 +80,11 @@ answers_least = refl
 pub answers_no_other : Answers two_hold to_pass (Refused NotDrained) → ⊥
 answers_no_other e = absurd (cc)
 
--- nor anything else where a test holds
+-- nor anything else if a test holds
 pub answers_no_reply : Answers two_hold to_pass Passed → ⊥
 answers_no_reply both = absurd (let fine = both.0 in cc)
 
--- where none holds, what may be given
+-- if none holds, what may be given
 pub answers_reply : Answers none_hold to_pass Passed
 answers_reply = (refl, refl)
 
@@ -102,7 +102,7 @@ answers_no_memory e = absurd (cc)
 
 -- Constructs that differ
 
--- a share that the team has not started differs from none; one that it has differs where its shape does
+-- a share that the team has not started differs from none; one that it has differs if its shape does
 pub shapes_that_differ :
     map (shape_differs (four false)) (None ∷ Some (four false) ∷ Some (four true) ∷ Some wider ∷ Some (single_shape false) ∷ []) ≡ false ∷ false ∷ true ∷ true ∷ true ∷ []
 shapes_that_differ = refl

@@ -1,4 +1,4 @@
--- The least refusal of tests: where it is none no test holds, that of two lists is the lesser of theirs, and of tests in the order of their numbers it is the first.
+-- The least refusal of tests: if it is none no test holds, that of two lists is the lesser of theirs, and of tests in the order of their numbers it is the first.
 use Rattle.std.proofs.Common.{◌≡◌, ◌≤◌, ℕ, Bool, true, false, List, [], ◌∷◌, ◌++◌, Option, Some, None, refl, ap, sym, ◌∙◌, arith, inl, inr}
 use Rattle.std.specs.Prelude.{nat_le, ◌&&◌}
 use Rattle.std.proofs.lemmas.Bool.Decides.{nat_tests}

@@ -1,4 +1,4 @@
--- The number of a piece among pieces that tile, and that of a member's last piece where the turn is the member's.
+-- The number of a piece among pieces that tile, and that of a member's last piece if the turn is the member's.
 use Rattle.std.proofs.Common.{◌≡◌, ℕ, ◌+◌, ◌<◌, ◌≤◌, true, false, List, [], ◌∷◌, Option, Some, None, refl, arith, suc, zero, slice_get, inl, inr}
 use Rattle.std.specs.Prelude.{◌==◌}
 use Rattle.std.proofs.lemmas.Bool.{cases_Bool}
@@ -49,7 +49,7 @@ begins_later one other lt =
       | inr differs ↦ differs
     ]
 
--- where the pieces tile, the number of a piece is its place in the list
+-- if the pieces tile, the number of a piece is its place in the list
 pub number_at : (low high : ℕ) (pieces : List Piece) (n : ℕ) (piece : Piece) → Tiles low pieces high → slice_get pieces n ≡ Some piece → number_of_piece pieces (Some piece) ≡ n
 number_at low high [] n piece tiles at = absurd (cc)
 number_at low high (first ∷ pieces) zero piece tiles at =
@@ -60,7 +60,7 @@ number_at low high (first ∷ pieces) (suc n) piece tiles at =
     let begin = tiles.0 in let some = tiles.1 in
     rw (begins_later first piece (omega arith), number_at first.1 high pieces n piece tiles.2 at) (omega arith)
 
--- so where the turn is a member's, its last piece has the number of the turn
+-- so if the turn is a member's, its last piece has the number of the turn
 pub last_is_turn : (members m i high : ℕ) (shape : Shape) (h : List Event) → Tiles 0 (pieces_of members shape) high → has_turn members (i, shape) m h ≡ true → last_number members (i, shape) m h ≡ turn i h
 last_is_turn members m i high shape h tiles next =
     let own = same_is (slice_get (pieces_of members shape) (turn i h)) (last_piece m h) next in

@@ -12,13 +12,13 @@ use Rattle.gomp_types.specs.declared.shape.ShareKind.TheVariants as kind
 use Rattle.gomp_types.specs.declared.event.Arrival.TheVariants.{Barrier, ShareEnd, RegionEnd}
 use Rattle.gomp_types.specs.declared.event.Event.{Event}
 use Rattle.gomp_types.specs.declared.event.Event.TheVariants.{Take}
-use Rattle.gomp_types.specs.Limits.{standard, capped}
+use Rattle.gomp_types.specs.Limits.{standard, capped_limits}
 use Rattle.gomp_types.specs.Tests.{first_refusal, outcome}
 use Rattle.gomp_types.specs.Shapes.{is_loop, is_static, is_sections, is_single, is_copy, same_kind, same_end, same_bool, same_shape, same_arrival, same_tag}
 use Rattle.gomp_types.specs.Iterations.{trip_count, iteration_value, lies_before_end, is_bad_chunk, loop_tests}
 use Rattle.gomp_types.specs.Sections.{sections_shape, sections_tests}
 use Rattle.gomp_types.specs.Singles.{single_shape, with_word}
-use Rattle.gomp_types.specs.Pieces.{resolved, resolved_chunk, kind_of, shape_of, pieces_of, Tiles}
+use Rattle.gomp_types.specs.Pieces.{resolved_loop, resolved_chunk, kind_of, shape_of, pieces_of, Tiles}
 use Rattle.gomp_types.specs.Values.{IsShape}
 use Rattle.gomp_types.specs.Deals.{schedule, next_for, taken_in, takes_in, times}
 use Rattle.gomp_types.specs.EventLists.{newest_first, four, at}
@@ -102,7 +102,7 @@ pub iterations_of_loops :
     ≡ 3 ∷ 4 ∷ 3 ∷ 4 ∷ 0 ∷ 0 ∷ 0 ∷ []
 iterations_of_loops = refl
 
--- a chunk is bad where it is negative, too large, or given with a schedule of the control variables
+-- a chunk is bad if it is negative, too large, or given with a schedule of the control variables
 pub chunks_that_are_bad :
     map is_bad_chunk
     (loop_from (pos 0) (pos 9) (pos 3) Static (negsuc 0) ∷ loop_from (pos 0) (pos 9) (pos 3) Static (pos 0) ∷ loop_from (pos 0) (pos 9) (pos 3) Static (pos 549755813888)
@@ -130,11 +130,11 @@ pub kinds_of_loops :
     × (map (λ sched. kind_of sched (pos 2)) (Static ∷ Dynamic ∷ Guided ∷ Runtime ∷ []) ≡ kind.StaticChunked ∷ kind.Dynamic ∷ kind.Guided ∷ kind.Dynamic ∷ [])
 kinds_of_loops = (refl, refl)
 
--- a loop takes the schedule of the control variables where it leaves that to them and has no chunk
+-- a loop takes the schedule of the control variables if it leaves that to them and has no chunk
 pub loops_that_are_resolved :
-    (resolved Guided (pos 4) (loop_from (pos 0) (pos 9) (pos 3) Runtime (pos 0)) ≡ loop_from (pos 0) (pos 9) (pos 3) Guided (pos 4))
-    × (resolved Guided (pos 4) (loop_from (pos 0) (pos 9) (pos 3) Runtime (pos 2)) ≡ loop_from (pos 0) (pos 9) (pos 3) Runtime (pos 2))
-    × (resolved Guided (pos 4) (loop_from (pos 0) (pos 9) (pos 3) Static (pos 0)) ≡ loop_from (pos 0) (pos 9) (pos 3) Static (pos 0))
+    (resolved_loop Guided (pos 4) (loop_from (pos 0) (pos 9) (pos 3) Runtime (pos 0)) ≡ loop_from (pos 0) (pos 9) (pos 3) Guided (pos 4))
+    × (resolved_loop Guided (pos 4) (loop_from (pos 0) (pos 9) (pos 3) Runtime (pos 2)) ≡ loop_from (pos 0) (pos 9) (pos 3) Runtime (pos 2))
+    × (resolved_loop Guided (pos 4) (loop_from (pos 0) (pos 9) (pos 3) Static (pos 0)) ≡ loop_from (pos 0) (pos 9) (pos 3) Static (pos 0))
 loops_that_are_resolved = (refl, refl, refl)
 
 -- the chunk that counts
@@ -268,7 +268,7 @@ shape_of_no_value is = absurd (let last = is.fits 3 (omega arith) in omega arith
 
 -- Tests and limits
 
--- the first of two tests that hold, and no refusal where none does
+-- the first of two tests that hold, and no refusal if none does
 pub first_test_that_holds :
     (first_refusal ((false, ZeroStep) ∷ (true, BadChunk) ∷ (true, LoopTooLong) ∷ []) ≡ Some BadChunk) × (first_refusal ((false, ZeroStep) ∷ (false, BadChunk) ∷ []) ≡ None)
     × (first_refusal [] ≡ None) × (outcome {A = ℕ} None 7 ≡ Ok 7) × (outcome {A = ℕ} (Some BadChunk) 7 ≡ Err BadChunk)
@@ -280,6 +280,6 @@ limits_of_a_team = refl
 
 -- each limit counts up to the standard one
 pub limits_that_count :
-    (capped (record { shares = 131065; tasks = 1048577; events = 16777217 }) ≡ standard)
-    × (capped (record { shares = 3; tasks = 1048575; events = 16777215 }) ≡ record { shares = 3; tasks = 1048575; events = 16777215 })
+    (capped_limits (record { shares = 131065; tasks = 1048577; events = 16777217 }) ≡ standard)
+    × (capped_limits (record { shares = 3; tasks = 1048575; events = 16777215 }) ≡ record { shares = 3; tasks = 1048575; events = 16777215 })
 limits_that_count = (refl, refl)

@@ -3,17 +3,17 @@ use Rattle.std.specs.Prelude.{ℕ, ◌<◌, ◌≡◌, true, List, Some}
 use Rattle.gomp_types.specs.declared.event.Tag.{Tag}
 use Rattle.gomp_types.specs.declared.event.Event.{Event}
 use Rattle.gomp_types.specs.declared.event.Event.TheVariants.{Arrive, Pass}
-use Rattle.gomp_types.specs.Events.{passed, tag_at, barrier_met}
+use Rattle.gomp_types.specs.Events.{barriers_passed, tag_at, barrier_met}
 use Rattle.gomp_types.specs.Laws.{Always, Happened}
 
 -- a member arrives at its next barrier, with the tag of all that arrived there before
 pub record MayArrive (barrier m : ℕ) (tag : Tag) (earlier : List Event) : Type 0 where
-  pub number : barrier ≡ passed m earlier
+  pub number : barrier ≡ barriers_passed m earlier
   pub same : (other : Tag) → tag_at barrier earlier ≡ Some other → other ≡ tag
 
--- a member passes its next barrier where every member has arrived
+-- a member passes its next barrier if every member has arrived
 pub record MayPass (members barrier m : ℕ) (earlier : List Event) : Type 0 where
-  pub number : barrier ≡ passed m earlier
+  pub number : barrier ≡ barriers_passed m earlier
   pub met : barrier_met members barrier earlier ≡ true
 
 -- the rule of the arrivals alone
@@ -24,8 +24,8 @@ ArrivalRule members _ earlier = Unit {0}
 
 -- a member arrives at and passes its barriers one by one, by their numbers
 abbrev pub BarriersOneByOne : Event → List Event → Type 0
-BarriersOneByOne (Arrive barrier m tag) earlier = barrier ≡ passed m earlier
-BarriersOneByOne (Pass barrier m) earlier = barrier ≡ passed m earlier
+BarriersOneByOne (Arrive barrier m tag) earlier = barrier ≡ barriers_passed m earlier
+BarriersOneByOne (Pass barrier m) earlier = barrier ≡ barriers_passed m earlier
 BarriersOneByOne _ earlier = Unit {0}
 
 -- Same arrivals (OpenMP API 5.2, section 15.3: every member meets the same barriers in the same order).
@@ -35,7 +35,7 @@ pub record SameArrivals (h : List Event) : Type 0 where
   -- and all members arrive at a barrier with one tag
   pub tags : (barrier m n : ℕ) (one other : Tag) → Happened (Arrive barrier m one) h → Happened (Arrive barrier n other) h → one ≡ other
 
--- Barrier law (OpenMP API 5.2, section 15.3.1): a member passes a barrier only where every member has arrived.
+-- Barrier law (OpenMP API 5.2, section 15.3.1): a member passes a barrier only if every member has arrived.
 abbrev pub PassesAfterAll : ℕ → Event → List Event → Type 0
 PassesAfterAll members (Pass barrier m) earlier = (x : ℕ) → x < members → (tag : Tag) × Happened (Arrive barrier x tag) earlier
 PassesAfterAll members _ earlier = Unit {0}

@@ -33,6 +33,7 @@ static_four = record { start = pos 0; incr = pos 1; trips = 4; kind = StaticChun
 abbrev pub even_four : Shape
 even_four = record { start = pos 0; incr = pos 1; trips = 4; kind = StaticEven; chunk = 0; ordered = false; end_kind = WaitEnd }
 
+-- the tag of an arrival of this kind, by a member that has entered so many shares
 abbrev pub at : Arrival → ℕ → Tag
 at kind shares = record { kind = kind; shares = shares }
 

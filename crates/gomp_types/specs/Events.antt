@@ -34,10 +34,10 @@ member_of (Break m place) = m
 -- Work-shares (OpenMP API 5.2, chapter 11)
 
 -- how many shares the member has entered
-abbrev pub entered : ℕ → List Event → ℕ
-entered m [] = 0
-entered m (Enter share member shape ∷ earlier) = if member == m then entered m earlier + 1 else entered m earlier
-entered m (_ ∷ earlier) = entered m earlier
+abbrev pub shares_entered : ℕ → List Event → ℕ
+shares_entered m [] = 0
+shares_entered m (Enter share member shape ∷ earlier) = if member == m then shares_entered m earlier + 1 else shares_entered m earlier
+shares_entered m (_ ∷ earlier) = shares_entered m earlier
 
 -- the share that the member is in, by number and shape: it has entered it and not left it
 abbrev pub open_share : ℕ → List Event → Option (ℕ × Shape)
@@ -50,23 +50,23 @@ open_share m (_ ∷ earlier) = open_share m earlier
 abbrev pub is_inside : ℕ → List Event → Bool
 is_inside m h = is_some (open_share m h)
 
--- the number of a share, if there is one
+-- the number of a share; 0 if there is none
 abbrev pub share_number : Option (ℕ × Shape) → ℕ
 share_number None = 0
 share_number (Some share) = share.0
 
--- the number of the share that the member is in
+-- the number of the share that the member is in; 0 if it is in none
 abbrev pub open_number : ℕ → List Event → ℕ
 open_number m h = share_number (open_share m h)
 
--- whether the member was told that nothing is left for it of the share that it entered last
+-- whether nothing is left for the member of the share that it entered last, and it was answered so
 abbrev pub has_drained : ℕ → List Event → Bool
 has_drained m [] = false
 has_drained m (Enter share member shape ∷ earlier) = if member == m then false else has_drained m earlier
 has_drained m (Drained share member ∷ earlier) = if member == m then true else has_drained m earlier
 has_drained m (_ ∷ earlier) = has_drained m earlier
 
--- the piece that the member took last of the share that it entered last; none once it was told that nothing is left
+-- the piece that the member took last of the share that it entered last; none once it was answered that nothing is left
 abbrev pub last_piece : ℕ → List Event → Option (ℕ × ℕ)
 last_piece m [] = None
 last_piece m (Enter share member shape ∷ earlier) = if member == m then None else last_piece m earlier
@@ -172,10 +172,10 @@ has_words share m (_ ∷ earlier) = has_words share m earlier
 -- Barriers (OpenMP API 5.2, section 15.3)
 
 -- how many barriers the member has passed; so it is the number of the next one
-abbrev pub passed : ℕ → List Event → ℕ
-passed m [] = 0
-passed m (Pass barrier member ∷ earlier) = if member == m then passed m earlier + 1 else passed m earlier
-passed m (_ ∷ earlier) = passed m earlier
+abbrev pub barriers_passed : ℕ → List Event → ℕ
+barriers_passed m [] = 0
+barriers_passed m (Pass barrier member ∷ earlier) = if member == m then barriers_passed m earlier + 1 else barriers_passed m earlier
+barriers_passed m (_ ∷ earlier) = barriers_passed m earlier
 
 -- with which tag the member arrived at the barrier
 abbrev pub arrival : ℕ → ℕ → List Event → Option Tag
@@ -198,6 +198,7 @@ abbrev pub is_region_end : Arrival → Bool
 is_region_end RegionEnd = true
 is_region_end _ = false
 
+-- whether the tag is one of the region's end; without a tag it is not
 abbrev pub was_region_end : Option Tag → Bool
 was_region_end None = false
 was_region_end (Some tag) = is_region_end tag.kind

@@ -7,7 +7,7 @@ use Rattle.gomp_types.specs.declared.refusal.Clash.{Clash}
 use Rattle.gomp_types.specs.declared.refusal.Refusal.{Refusal}
 use Rattle.gomp_types.specs.declared.refusal.Refusal.TheVariants.{BadMember, Ended, Broken, Waiting, InsideShare, OutsideShare, InOrdered, ZeroStep, BadChunk, LoopTooLong, BadSections, EndDiffers, NotDrained, Drained, NotOrdered, OrderedBackwards, NotInside, TooManyShares, Mismatch, NoMemory, BadTeam, BadEnv}
 
--- the number of a refusal, by which a call's tests are ordered
+-- the number of a refusal: of several that hold the least is the answer
 abbrev pub number_of : Refusal → ℕ
 number_of BadMember = 1
 number_of Ended = 2

@@ -34,14 +34,14 @@ pub enum Call {
     /// no end call, and a barrier at its end is a call of its own (libgomp manual, the ABI of
     /// `single`; OpenMP API 5.2, section 11.1).
     SingleStart,
-    /// Begins a `single` construct with a `copyprivate` clause: one member is told to execute it, the
-    /// others wait for the words that it puts (OpenMP API 5.2, section 5.7.2).
+    /// Begins a `single` construct with a `copyprivate` clause: one member is told to execute it,
+    /// the others wait for the words that it puts (OpenMP API 5.2, section 5.7.2).
     SingleCopyStart,
     /// The executor's end of such a construct: every other member is given these words.
     SingleCopyEnd(Payload),
     /// Begins the ordered part of the iteration with this value, in the member's ordered loop, once
-    /// every earlier piece is handed on (libgomp manual, the ABI of `ordered`; OpenMP API 5.2, section
-    /// 15.10.2).
+    /// every earlier piece is handed on (libgomp manual, the ABI of `ordered`; OpenMP API 5.2,
+    /// section 15.10.2).
     OrderedStart(i64),
     /// Ends the member's ordered part.
     OrderedEnd,

@@ -55,8 +55,8 @@ pub enum Event {
         share: u64,
         member: u16,
     },
-    /// The member handed on its last piece of an ordered loop: its ordered parts are done. `piece` is the
-    /// number of that piece among the pieces of the loop, from 0.
+    /// The member handed on its last piece of an ordered loop: its ordered parts are done. `piece`
+    /// is the number of that piece among the pieces of the loop, from 0.
     HandOn {
         share: u64,
         member: u16,

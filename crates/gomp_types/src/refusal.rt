@@ -1,6 +1,6 @@
 //! Why a call is refused.
 //!
-//! A call tests its reasons in the order of their numbers and answers the first that holds.
+//! Of the tests of a call that hold, the refusal with the least number is the answer.
 
 ghost use Rattle.std.specs.Prelude.{◌≡◌, ◌∷◌, ◌++◌, Some};
 ghost use Rattle.gomp_types.specs.RefusalTexts.{number_of, name_of, text_of, clash_text, place_text};

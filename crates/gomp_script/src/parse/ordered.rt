@@ -1,5 +1,5 @@
-//! Ordered loops: the word `ordered` at the end of a loop's line, and the step that begins an ordered
-//! part, `MEMBER ordered VALUE`.
+//! Ordered loops: the word `ordered` at the end of a loop's line, and the step that begins an
+//! ordered part, `MEMBER ordered VALUE`.
 
 ghost use Rattle.std.specs.Prelude.{◌≡◌};
 ghost use Rattle.gomp_text.specs.Words.{words_of};

@@ -17,8 +17,8 @@ fn payload_word(word: &[u8]) -> Result<u64, Why>
     unsigned(word, u64::MAX).ok_or(Why::BadNumber)
 }
 
-/// The payload of all words of the rest of a line. What follows the most that it may have is a word too
-/// many.
+/// The payload of all words of the rest of a line. What follows the most that it may have is a word
+/// too many.
 fn payload_of(words: &[u8]) -> Result<Payload, Why>
     ensures { result ≡ payload_of MAX_WORDS (words_of words.now) }
 {

@@ -2,7 +2,7 @@
 
 ghost use Rattle.std.specs.Prelude.{◌≡◌};
 ghost use Rattle.gomp_text.specs.Words.{words_of};
-ghost use Rattle.gomp_script.specs.StepText.{TakesNext, finished, end_of, member_of, count_of, number_of};
+ghost use Rattle.gomp_script.specs.StepText.{TakesWord, no_more_words, end_of, member_of, count_of, number_of};
 
 use crate::parse::Why;
 use gomp_text::{is_word, next_word, signed, unsigned};
@@ -10,14 +10,14 @@ use gomp_types::EndKind;
 
 /// The next word of a line, and what follows it.
 pub(crate) fn take_word(line: &[u8]) -> Result<(&[u8], &[u8]), Why>
-    ensures { TakesNext line.now result }
+    ensures { TakesWord line.now result }
 {
     next_word(line).ok_or(Why::MissingWord)
 }
 
 /// That the line ends here.
 pub(crate) fn finish(line: &[u8]) -> Result<(), Why>
-    ensures { result ≡ finished (words_of line.now) }
+    ensures { result ≡ no_more_words (words_of line.now) }
 {
     match next_word(line) {
         Some(_) => Err(Why::ExtraWord),

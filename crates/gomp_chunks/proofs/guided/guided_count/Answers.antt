@@ -4,10 +4,10 @@ use Rattle.gomp_chunks.proofs.guided.guided_count.Goals as goal
 
 pub returns-clause-count : goal.returns-clause-count
 returns-clause-count c =
-    let spot = c.forward.ensures.spot in
+    let spot = c.spot_ahead.ensures.spot in
     let number = spot.number in
     let few = few_pieces c.args.shape.now.trips c.args.members c.args.shape.now.chunk in
-    elim c.forward.ensures.there [
+    elim c.spot_ahead.ensures.there [
       | inl all ↦ omega arith
-      | inr past ↦ spot_counts c.args.members c.args.shape.now c.forward.result spot past
+      | inr past ↦ spot_counts c.args.members c.args.shape.now c.spot_ahead.result spot past
     ]

@@ -44,7 +44,7 @@ loop-step-preserved g c =
       stands = rw (c.push_reserved.ensures.items, more) (rw inv.icv at (c.step.ensures.stands before inv.stands));
     }
 
--- Where no step is left
+-- If no step is left
 
 steps_done : (g : Over) (c : goal.After-drop-step-iterator g) → c.loop-step.yielded ≡ c.args.steps.items
 steps_done g c =
@@ -53,8 +53,8 @@ steps_done g c =
     let none = c.in-None.ensures.steps in
     all_done c.loop-step.yielded c.loop-step.step-iterator.rest.items c.args.steps.items inv.all (sym size.0 ∙ none.0)
 
-pub returns-in-None-clause-each : goal.returns-in-None-clause-each
-returns-in-None-clause-each g c = let inv = c.loop-step.invariant in let ok = c.loop-step.replies.ok in let same = ap length (steps_done g c) in let each = inv.each in omega arith
+pub returns-in-None-clause-one_reply_each : goal.returns-in-None-clause-one_reply_each
+returns-in-None-clause-one_reply_each g c = let inv = c.loop-step.invariant in let ok = c.loop-step.replies.ok in let same = ap length (steps_done g c) in let each = inv.each in omega arith
 
 pub returns-in-None-clause-terms : goal.returns-in-None-clause-terms
 returns-in-None-clause-terms g c = terms_are c.loop-step.team c.args.count c.args.icv c.loop-step.invariant.members c.loop-step.invariant.icv c.loop-step.invariant.limits

@@ -1,5 +1,5 @@
 use Rattle.std.proofs.Common.{◌<◌, ◌∙◌, sym}
-use Rattle.gomp_types.specs.Events.{entered}
+use Rattle.gomp_types.specs.Events.{shares_entered}
 use Rattle.gomp_shares.proofs.Entered.{may_claim}
 use Rattle.gomp_types.proofs.Laws.{value_tells_its_iteration}
 use Rattle.gomp_loops.proofs.LoopReplies.{begin_deals, begin_adds, piece_never_refuses, piece_never_waits}
@@ -11,7 +11,7 @@ claim-requires g c =
     let now = c.in-Entered.ensures.stands h st in
     let lt : c.args.member < g.S.Shares.members c.try_open.new.self = rw c.try_open.ensures.members c.requires.place.member in
     let e = g.met.S.Shares.agrees c.try_open.new.self _ c.args.member now lt in
-    record { place = may_claim _ c.args.member (entered c.args.member h) c.args.shape.now _ h e lt }
+    record { place = may_claim _ c.args.member (shares_entered c.args.member h) c.args.shape.now _ h e lt }
 
 pub returns-in-Entered-clause-serves : goal.returns-in-Entered-clause-serves
 returns-in-Entered-clause-serves g c = record {

@@ -1,6 +1,6 @@
 use Rattle.std.proofs.Common.{◌∙◌, sym, refl}
 use Rattle.gomp_types.specs.Events.{open_share}
-use Rattle.gomp_shares.specs.Loops.{AnswersLoopNext, TakesNext, loop_next_taken, next_tests}
+use Rattle.gomp_shares.specs.Loops.{AnswersLoopNext, AnswersTake, loop_next_taken, next_tests}
 use Rattle.gomp_shares.proofs.Admitted.{no_test_holds}
 use Rattle.gomp_shares.proofs.Served.{serves_above, serves_refused}
 use Rattle.gomp_loops.proofs.LoopReplies.{next_admitted, next_is, next_refusal_given}
@@ -19,7 +19,7 @@ returns-in-Some-clause-serves g c =
 
 pub returns-in-None-clause-serves : goal.returns-in-None-clause-serves
 returns-in-None-clause-serves g c =
-    serves_above g.S.Shares.stands c.args.shares.now c.take_next.new.shares c.take_next.result (TakesNext (g.S.Shares.members c.args.shares.now) c.args.member) (AnswersLoopNext (g.S.Shares.members c.args.shares.now) c.args.member)
+    serves_above g.S.Shares.stands c.args.shares.now c.take_next.new.shares c.take_next.result (AnswersTake (g.S.Shares.members c.args.shares.now) c.args.member) (AnswersLoopNext (g.S.Shares.members c.args.shares.now) c.args.member)
     (loop_next_taken (g.S.Shares.members c.args.shares.now) c.args.member) (loop_next_taken (g.S.Shares.members c.args.shares.now) c.args.member)
     (λ h st taken.
     let e = c.look.ensures.value ∙ g.met.S.Shares.agrees c.args.shares.now h c.args.member st c.requires.member in

@@ -2,7 +2,7 @@ use Rattle.std.proofs.Common.{◌≡◌, ◌++◌, refl, ap, false, inl, inr}
 use Rattle.std.specs.Prelude.{not}
 use Rattle.gomp_types.specs.declared.call.Call.TheVariants.{LoopEnd, SectionsEnd, Barrier, RegionEnd}
 use Rattle.gomp_types.specs.declared.loop_desc.EndKind.TheVariants.{Wait as WaitEnd}
-use Rattle.gomp_shares.specs.declared.own.Construct.TheVariants.{Loop, Sections}
+use Rattle.gomp_shares.specs.declared.admission.Construct.TheVariants.{Loop, Sections}
 use Rattle.gomp_shares.proofs.Admitted.{end_lets_leave}
 use Rattle.gomp_shares.specs.Singles.{words_put}
 use Rattle.gomp_types.specs.declared.reply.Reply.TheVariants.{Wait}
@@ -57,7 +57,7 @@ pub put_words-requires-clause-place : goal.put_words-requires-clause-place
 put_words-requires-clause-place g c =
     let (p, parts, ready) = c.requires.ready in
     let own = rw c.in-SingleCopyEnd.is at ready in
-    rw (g.met.S.Shares.agrees c.args.shares.now p.events c.args.member parts.0 c.requires.member) (own.place (ap not (words_made c.in-SingleCopyEnd.words (g.S.Shares.members c.args.shares.now) c.args.again c.args.member p own)))
+    rw (g.met.S.Shares.agrees c.args.shares.now p.events c.args.member parts.0 c.requires.member) (own.place (ap not (words_made c.in-SingleCopyEnd.words (g.S.Shares.members c.args.shares.now) c.args.repeated c.args.member p own)))
 
 pub share_reply-requires-clause-place : goal.share_reply-requires-clause-place
 share_reply-requires-clause-place g c =
@@ -93,7 +93,7 @@ share_reply-requires-clause-place g c =
         ]
       ]
     ] in
-    (p.terms.limits, rw (g.met.S.Shares.agrees c.args.shares.now p.events c.args.member parts.0 c.requires.member) (ready_in_place (row_of c.args.call.now) (g.S.Shares.members c.args.shares.now) c.args.again c.args.member p ready never))
+    (p.terms.limits, rw (g.met.S.Shares.agrees c.args.shares.now p.events c.args.member parts.0 c.requires.member) (ready_in_place (row_of c.args.call.now) (g.S.Shares.members c.args.shares.now) c.args.repeated c.args.member p ready never))
 
 pub share_reply-requires-clause-known : goal.share_reply-requires-clause-known
 share_reply-requires-clause-known g c = let (p, parts, ready) = c.requires.ready in (p.events, (parts.0, parts.2))
@@ -101,7 +101,7 @@ share_reply-requires-clause-known g c = let (p, parts, ready) = c.requires.ready
 pub unreachable-requires : goal.unreachable-requires
 unreachable-requires g c =
     let (p, parts, ready) = c.requires.ready in
-    not_resume c.args.call.now (g.S.Shares.members c.args.shares.now) c.args.again c.args.member p ready c.in-Resume.is
+    not_resume c.args.call.now (g.S.Shares.members c.args.shares.now) c.args.repeated c.args.member p ready c.in-Resume.is
 
 pub returns-in-LoopEnd-clause-members : goal.returns-in-LoopEnd-clause-members
 returns-in-LoopEnd-clause-members g c = c.end_reply.ensures.members
@@ -109,8 +109,8 @@ returns-in-LoopEnd-clause-members g c = c.end_reply.ensures.members
 pub returns-in-LoopEnd-clause-barriers : goal.returns-in-LoopEnd-clause-barriers
 returns-in-LoopEnd-clause-barriers g c = c.end_reply.ensures.barriers
 
-pub returns-in-LoopEnd-clause-again : goal.returns-in-LoopEnd-clause-again
-returns-in-LoopEnd-clause-again g c = λ again wait. let kept = c.end_reply.ensures.again again wait in (kept.0, kept.1, refl)
+pub returns-in-LoopEnd-clause-repeated : goal.returns-in-LoopEnd-clause-repeated
+returns-in-LoopEnd-clause-repeated g c = λ repeated wait. let kept = c.end_reply.ensures.repeated repeated wait in (kept.0, kept.1, refl)
 
 pub returns-in-LoopEnd-clause-stops : goal.returns-in-LoopEnd-clause-stops
 returns-in-LoopEnd-clause-stops g c = λ stopped. absurd (c.end_reply.ensures.stops stopped)
@@ -123,7 +123,7 @@ returns-in-LoopEnd-clause-stands g c = λ p parts ready.
     let members = g.S.Shares.members c.args.shares.now in
     let both = c.end_reply.ensures.stands p ready.members_are (parts.0, parts.1) in
     let may = c.end_reply.ensures.answer p ready.members_are (parts.0, parts.1) in
-    rw c.in-LoopEnd.is (both.0, both.1, silent_stands (PayloadsStand members c.args.payloads.now) (words_aside members c.args.payloads.now) LoopEnd c.args.again c.args.member p c.end_reply.result refl may parts.2)
+    rw c.in-LoopEnd.is (both.0, both.1, silent_stands (PayloadsStand members c.args.payloads.now) (words_aside members c.args.payloads.now) LoopEnd c.args.repeated c.args.member p c.end_reply.result refl may parts.2)
 
 pub returns-in-SectionsEnd-clause-members : goal.returns-in-SectionsEnd-clause-members
 returns-in-SectionsEnd-clause-members g c = c.end_reply-in-SectionsEnd.ensures.members
@@ -131,8 +131,8 @@ returns-in-SectionsEnd-clause-members g c = c.end_reply-in-SectionsEnd.ensures.m
 pub returns-in-SectionsEnd-clause-barriers : goal.returns-in-SectionsEnd-clause-barriers
 returns-in-SectionsEnd-clause-barriers g c = c.end_reply-in-SectionsEnd.ensures.barriers
 
-pub returns-in-SectionsEnd-clause-again : goal.returns-in-SectionsEnd-clause-again
-returns-in-SectionsEnd-clause-again g c = λ again wait. let kept = c.end_reply-in-SectionsEnd.ensures.again again wait in (kept.0, kept.1, refl)
+pub returns-in-SectionsEnd-clause-repeated : goal.returns-in-SectionsEnd-clause-repeated
+returns-in-SectionsEnd-clause-repeated g c = λ repeated wait. let kept = c.end_reply-in-SectionsEnd.ensures.repeated repeated wait in (kept.0, kept.1, refl)
 
 pub returns-in-SectionsEnd-clause-stops : goal.returns-in-SectionsEnd-clause-stops
 returns-in-SectionsEnd-clause-stops g c = λ stopped. absurd (c.end_reply-in-SectionsEnd.ensures.stops stopped)
@@ -145,7 +145,7 @@ returns-in-SectionsEnd-clause-stands g c = λ p parts ready.
     let members = g.S.Shares.members c.args.shares.now in
     let both = c.end_reply-in-SectionsEnd.ensures.stands p ready.members_are (parts.0, parts.1) in
     let may = c.end_reply-in-SectionsEnd.ensures.answer p ready.members_are (parts.0, parts.1) in
-    rw c.in-SectionsEnd.is (both.0, both.1, silent_stands (PayloadsStand members c.args.payloads.now) (words_aside members c.args.payloads.now) SectionsEnd c.args.again c.args.member p c.end_reply-in-SectionsEnd.result refl may parts.2)
+    rw c.in-SectionsEnd.is (both.0, both.1, silent_stands (PayloadsStand members c.args.payloads.now) (words_aside members c.args.payloads.now) SectionsEnd c.args.repeated c.args.member p c.end_reply-in-SectionsEnd.result refl may parts.2)
 
 pub returns-in-Barrier-clause-members : goal.returns-in-Barrier-clause-members
 returns-in-Barrier-clause-members g c = refl
@@ -153,8 +153,8 @@ returns-in-Barrier-clause-members g c = refl
 pub returns-in-Barrier-clause-barriers : goal.returns-in-Barrier-clause-barriers
 returns-in-Barrier-clause-barriers g c = c.arrival_reply.ensures.barriers
 
-pub returns-in-Barrier-clause-again : goal.returns-in-Barrier-clause-again
-returns-in-Barrier-clause-again g c = λ again wait. (refl, c.arrival_reply.ensures.again again wait, refl)
+pub returns-in-Barrier-clause-repeated : goal.returns-in-Barrier-clause-repeated
+returns-in-Barrier-clause-repeated g c = λ repeated wait. (refl, c.arrival_reply.ensures.repeated repeated wait, refl)
 
 pub returns-in-Barrier-clause-stops : goal.returns-in-Barrier-clause-stops
 returns-in-Barrier-clause-stops g c = λ stopped. absurd (c.arrival_reply.ensures.stops stopped)
@@ -167,7 +167,7 @@ returns-in-Barrier-clause-stands g c = λ p parts ready.
     let members = g.S.Shares.members c.args.shares.now in
     let both = c.arrival_reply.ensures.stands p ready.members_are (parts.0, parts.1) in
     let may = c.arrival_reply.ensures.answer p ready.members_are (parts.0, parts.1) in
-    rw c.in-Barrier.is (both.0, both.1, silent_stands (PayloadsStand members c.args.payloads.now) (words_aside members c.args.payloads.now) Barrier c.args.again c.args.member p c.arrival_reply.result refl may parts.2)
+    rw c.in-Barrier.is (both.0, both.1, silent_stands (PayloadsStand members c.args.payloads.now) (words_aside members c.args.payloads.now) Barrier c.args.repeated c.args.member p c.arrival_reply.result refl may parts.2)
 
 pub returns-in-RegionEnd-clause-members : goal.returns-in-RegionEnd-clause-members
 returns-in-RegionEnd-clause-members g c = refl
@@ -175,8 +175,8 @@ returns-in-RegionEnd-clause-members g c = refl
 pub returns-in-RegionEnd-clause-barriers : goal.returns-in-RegionEnd-clause-barriers
 returns-in-RegionEnd-clause-barriers g c = c.arrival_reply-in-RegionEnd.ensures.barriers
 
-pub returns-in-RegionEnd-clause-again : goal.returns-in-RegionEnd-clause-again
-returns-in-RegionEnd-clause-again g c = λ again wait. (refl, c.arrival_reply-in-RegionEnd.ensures.again again wait, refl)
+pub returns-in-RegionEnd-clause-repeated : goal.returns-in-RegionEnd-clause-repeated
+returns-in-RegionEnd-clause-repeated g c = λ repeated wait. (refl, c.arrival_reply-in-RegionEnd.ensures.repeated repeated wait, refl)
 
 pub returns-in-RegionEnd-clause-stops : goal.returns-in-RegionEnd-clause-stops
 returns-in-RegionEnd-clause-stops g c = λ stopped. absurd (c.arrival_reply-in-RegionEnd.ensures.stops stopped)
@@ -189,7 +189,7 @@ returns-in-RegionEnd-clause-stands g c = λ p parts ready.
     let members = g.S.Shares.members c.args.shares.now in
     let both = c.arrival_reply-in-RegionEnd.ensures.stands p ready.members_are (parts.0, parts.1) in
     let may = c.arrival_reply-in-RegionEnd.ensures.answer p ready.members_are (parts.0, parts.1) in
-    rw c.in-RegionEnd.is (both.0, both.1, silent_stands (PayloadsStand members c.args.payloads.now) (words_aside members c.args.payloads.now) RegionEnd c.args.again c.args.member p c.arrival_reply-in-RegionEnd.result refl may parts.2)
+    rw c.in-RegionEnd.is (both.0, both.1, silent_stands (PayloadsStand members c.args.payloads.now) (words_aside members c.args.payloads.now) RegionEnd c.args.repeated c.args.member p c.arrival_reply-in-RegionEnd.result refl may parts.2)
 
 pub returns-in-SingleCopyEnd-clause-members : goal.returns-in-SingleCopyEnd-clause-members
 returns-in-SingleCopyEnd-clause-members g c = c.put_words.ensures.members
@@ -197,8 +197,8 @@ returns-in-SingleCopyEnd-clause-members g c = c.put_words.ensures.members
 pub returns-in-SingleCopyEnd-clause-barriers : goal.returns-in-SingleCopyEnd-clause-barriers
 returns-in-SingleCopyEnd-clause-barriers g c = refl
 
-pub returns-in-SingleCopyEnd-clause-again : goal.returns-in-SingleCopyEnd-clause-again
-returns-in-SingleCopyEnd-clause-again g c = λ again wait. absurd (cc)
+pub returns-in-SingleCopyEnd-clause-repeated : goal.returns-in-SingleCopyEnd-clause-repeated
+returns-in-SingleCopyEnd-clause-repeated g c = λ repeated wait. absurd (cc)
 
 pub returns-in-SingleCopyEnd-clause-stops : goal.returns-in-SingleCopyEnd-clause-stops
 returns-in-SingleCopyEnd-clause-stops g c = λ stopped. absurd (cc)
@@ -214,9 +214,9 @@ returns-in-SingleCopyEnd-clause-stands g c = λ p parts ready.
     let both = c.put_words.ensures.stands p.events (parts.0, parts.2) in
     let aside : BarriersStand c.args.barriers.now (words_put words c.args.member p.events ++ p.events) = events_aside_keep_barriers c.args.barriers.now _ _ tt (events_aside_keep_barriers c.args.barriers.now _ _ tt parts.1) in
     rw c.in-SingleCopyEnd.is (
-      words_after (g.S.Shares.stands c.put_words.new.shares) words members c.args.again c.args.member p own both.0,
-      words_after (BarriersStand c.args.barriers.now) words members c.args.again c.args.member p own aside,
-      words_after (PayloadsStand members c.put_words.new.payloads) words members c.args.again c.args.member p own both.1,
+      words_after (g.S.Shares.stands c.put_words.new.shares) words members c.args.repeated c.args.member p own both.0,
+      words_after (BarriersStand c.args.barriers.now) words members c.args.repeated c.args.member p own aside,
+      words_after (PayloadsStand members c.put_words.new.payloads) words members c.args.repeated c.args.member p own both.1,
     )
 
 pub returns-in-LoopStart-clause-members : goal.returns-in-LoopStart-clause-members
@@ -225,20 +225,20 @@ returns-in-LoopStart-clause-members g c = c.share_reply.ensures.members
 pub returns-in-LoopStart-clause-barriers : goal.returns-in-LoopStart-clause-barriers
 returns-in-LoopStart-clause-barriers g c = refl
 
-pub returns-in-LoopStart-clause-again : goal.returns-in-LoopStart-clause-again
-returns-in-LoopStart-clause-again g c = λ again wait. (c.share_reply.ensures.serves.waits wait, refl, refl)
+pub returns-in-LoopStart-clause-repeated : goal.returns-in-LoopStart-clause-repeated
+returns-in-LoopStart-clause-repeated g c = λ repeated wait. (c.share_reply.ensures.serves.waits wait, refl, refl)
 
 pub returns-in-LoopStart-clause-stops : goal.returns-in-LoopStart-clause-stops
 returns-in-LoopStart-clause-stops g c = c.share_reply.ensures.stops
 
 pub returns-in-LoopStart-clause-answer : goal.returns-in-LoopStart-clause-answer
-returns-in-LoopStart-clause-answer g c = λ p parts ready. c.share_reply.ensures.serves.answer c.args.again p ready (parts.0, parts.2)
+returns-in-LoopStart-clause-answer g c = λ p parts ready. c.share_reply.ensures.serves.answer c.args.repeated p ready (parts.0, parts.2)
 
 pub returns-in-LoopStart-clause-stands : goal.returns-in-LoopStart-clause-stands
 returns-in-LoopStart-clause-stands g c = λ p parts ready.
     let members = g.S.Shares.members c.args.shares.now in
-    let may = c.share_reply.ensures.serves.answer c.args.again p ready (parts.0, parts.2) in (
-      c.share_reply.ensures.serves.stands_for c.args.again p ready parts.0,
-      aloof_stands (BarriersStand c.args.barriers.now) (events_aside_keep_barriers _) c.args.call.now c.args.again c.args.member p c.share_reply.result c.share_reply.ensures.apart.0 may parts.1,
-      silent_stands (PayloadsStand members c.args.payloads.now) (words_aside members c.args.payloads.now) c.args.call.now c.args.again c.args.member p c.share_reply.result c.share_reply.ensures.apart.1 may parts.2,
+    let may = c.share_reply.ensures.serves.answer c.args.repeated p ready (parts.0, parts.2) in (
+      c.share_reply.ensures.serves.stands_for c.args.repeated p ready parts.0,
+      aloof_stands (BarriersStand c.args.barriers.now) (events_aside_keep_barriers _) c.args.call.now c.args.repeated c.args.member p c.share_reply.result c.share_reply.ensures.apart.0 may parts.1,
+      silent_stands (PayloadsStand members c.args.payloads.now) (words_aside members c.args.payloads.now) c.args.call.now c.args.repeated c.args.member p c.share_reply.result c.share_reply.ensures.apart.1 may parts.2,
     )

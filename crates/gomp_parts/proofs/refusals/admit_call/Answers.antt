@@ -8,19 +8,19 @@ use Rattle.gomp_parts.proofs.refusals.admit_call.Goals.{in-Ok, in-Err}
 pub returns-in-Err-2-clause-least : goal.returns-in-Err-2-clause-least
 returns-in-Err-2-clause-least g c = λ p bounds both.
     let at = g.met.S.Shares.agrees c.args.shares.now p.events c.args.member both.0 c.requires.member in
-    rw c.if-again.false (refused_there (row_of c.args.call.now) c.args.member p c.args.limits.now (g.S.Shares.seen c.args.shares.now c.args.member) (result_err c.admit_place.result) c.in-Err.field-0 bounds at
+    rw c.if-repeated.false (refused_there (row_of c.args.call.now) c.args.member p c.args.limits.now (g.S.Shares.seen c.args.shares.now c.args.member) (result_err c.admit_place.result) c.in-Err.field-0 bounds at
     c.admit_place.ensures.place.place c.admit_place.ensures.place.first (ap result_err c.in-Err.is))
 
 pub returns-in-Some-clause-least : goal.returns-in-Some-clause-least
 returns-in-Some-clause-least g c = λ p bounds both.
     let at = g.met.S.Shares.agrees c.args.shares.now p.events c.args.member both.0 c.requires.member in
-    let fine : c.args.again ≡ false → result_err c.admit_place.result ≡ None = λ made. elim c.match-admit_place.branch [ in-Ok w ↦ ap result_err w.in-Ok.is | in-Err w ↦ absurd (let both = sym w.if-again.true ∙ made in cc) ] in
-    sym c.in-Some.is ∙ compared_last c.args.again (row_of c.args.call.now) c.args.member p c.args.limits.now (g.S.Shares.seen c.args.shares.now c.args.member) (result_err c.admit_place.result) c.compared_refusal.result bounds at
+    let fine : c.args.repeated ≡ false → result_err c.admit_place.result ≡ None = λ made. elim c.match-admit_place.branch [ in-Ok w ↦ ap result_err w.in-Ok.is | in-Err w ↦ absurd (let both = sym w.if-repeated.true ∙ made in cc) ] in
+    sym c.in-Some.is ∙ compared_last c.args.repeated (row_of c.args.call.now) c.args.member p c.args.limits.now (g.S.Shares.seen c.args.shares.now c.args.member) (result_err c.admit_place.result) c.compared_refusal.result bounds at
     c.admit_place.ensures.place fine (c.compared_refusal.ensures.compared p both)
 
 pub returns-in-None-clause-least : goal.returns-in-None-clause-least
 returns-in-None-clause-least g c = λ p bounds both.
     let at = g.met.S.Shares.agrees c.args.shares.now p.events c.args.member both.0 c.requires.member in
-    let fine : c.args.again ≡ false → result_err c.admit_place.result ≡ None = λ made. elim c.match-admit_place.branch [ in-Ok w ↦ ap result_err w.in-Ok.is | in-Err w ↦ absurd (let both = sym w.if-again.true ∙ made in cc) ] in
-    sym c.in-None.is ∙ compared_last c.args.again (row_of c.args.call.now) c.args.member p c.args.limits.now (g.S.Shares.seen c.args.shares.now c.args.member) (result_err c.admit_place.result) c.compared_refusal.result bounds at
+    let fine : c.args.repeated ≡ false → result_err c.admit_place.result ≡ None = λ made. elim c.match-admit_place.branch [ in-Ok w ↦ ap result_err w.in-Ok.is | in-Err w ↦ absurd (let both = sym w.if-repeated.true ∙ made in cc) ] in
+    sym c.in-None.is ∙ compared_last c.args.repeated (row_of c.args.call.now) c.args.member p c.args.limits.now (g.S.Shares.seen c.args.shares.now c.args.member) (result_err c.admit_place.result) c.compared_refusal.result bounds at
     c.admit_place.ensures.place fine (c.compared_refusal.ensures.compared p both)

@@ -10,7 +10,7 @@ use Rattle.gomp_shares.specs.Loops.{DealsOut, DealsNext, end_tests, next_given, 
 use Rattle.gomp_shares.specs.Sections.{DealsSections, section_given, sections_end_tests}
 use Rattle.gomp_shares.specs.Singles.{DealsSingle, DealsCopy, copy_given, single_given}
 use Rattle.gomp_shares.specs.OrderedParts.{BeginsPart}
-use Rattle.gomp_shares.specs.declared.own.Construct.TheVariants.{Loop, Sections}
+use Rattle.gomp_shares.specs.declared.admission.Construct.TheVariants.{Loop, Sections}
 use Rattle.gomp_shares.proofs.Admitted.{end_lets_leave}
 use Rattle.gomp_parts.proofs.Refused.{start_has_a_share, start_has_its_share, opens_own}
 use Rattle.gomp_parts.proofs.Answered.{begin_may, done_serves, start_serves, next_stops, section_stops, part_stops}
@@ -70,8 +70,8 @@ pub returns-in-SingleCopyStart-clause-serves : goal.returns-in-SingleCopyStart-c
 returns-in-SingleCopyStart-clause-serves g c =
     rw c.in-SingleCopyStart.is (record {
       waits = c.copy_reply.ensures.waits;
-      answer = λ again p ready words. begin_may true [] (single_shape true) DealsCopy copy_given (g.S.Shares.members c.args.shares.now) again c.args.member p c.copy_reply.result ready (c.copy_reply.ensures.answer p.events words);
-      stands_for = λ again p ready st. c.copy_reply.ensures.stands p.events st;
+      answer = λ repeated p ready words. begin_may true [] (single_shape true) DealsCopy copy_given (g.S.Shares.members c.args.shares.now) repeated c.args.member p c.copy_reply.result ready (c.copy_reply.ensures.answer p.events words);
+      stands_for = λ repeated p ready st. c.copy_reply.ensures.stands p.events st;
     })
 
 -- Nexts
@@ -85,8 +85,8 @@ returns-in-LoopNext-clause-serves g c =
     let serves = c.take_next.ensures.serves in
     rw c.in-LoopNext.is (record {
       waits = serves.waits;
-      answer = λ again p ready words. subst (λ (n : ℕ). DealsNext n m (open_share m p.events) c.take_next.result p.events) (sym ready.members_are) (serves.answer p.events words.0);
-      stands_for = λ again p ready st. subst (λ (n : ℕ). g.S.Shares.stands c.take_next.new.shares (next_given n (open_share m p.events) m p.events c.take_next.result ++ p.events)) (sym ready.members_are) (serves.stands_for p.events st);
+      answer = λ repeated p ready words. subst (λ (n : ℕ). DealsNext n m (open_share m p.events) c.take_next.result p.events) (sym ready.members_are) (serves.answer p.events words.0);
+      stands_for = λ repeated p ready st. subst (λ (n : ℕ). g.S.Shares.stands c.take_next.new.shares (next_given n (open_share m p.events) m p.events c.take_next.result ++ p.events)) (sym ready.members_are) (serves.stands_for p.events st);
     })
 
 pub returns-in-LoopNext-clause-stops : goal.returns-in-LoopNext-clause-stops
@@ -106,8 +106,8 @@ returns-in-SectionsNext-clause-serves g c =
     let serves = c.take_section.ensures.serves in
     rw c.in-SectionsNext.is (record {
       waits = serves.waits;
-      answer = λ again p ready words. subst (λ (n : ℕ). DealsSections n m (open_share m p.events) c.take_section.result p.events) (sym ready.members_are) (serves.answer p.events words.0);
-      stands_for = λ again p ready st. serves.stands_for p.events st;
+      answer = λ repeated p ready words. subst (λ (n : ℕ). DealsSections n m (open_share m p.events) c.take_section.result p.events) (sym ready.members_are) (serves.answer p.events words.0);
+      stands_for = λ repeated p ready st. serves.stands_for p.events st;
     })
 
 pub returns-in-SectionsNext-clause-stops : goal.returns-in-SectionsNext-clause-stops
@@ -147,7 +147,7 @@ returns-in-OrderedStart-clause-serves g c =
     let serves = c.begin_part.ensures.serves in
     rw c.in-OrderedStart.is (record {
       waits = serves.waits;
-      answer = λ again p ready words. subst (λ (n : ℕ). BeginsPart n m (open_share m p.events) c.begin_part.result p.events) (sym ready.members_are) (serves.answer p.events words.0);
+      answer = λ repeated p ready words. subst (λ (n : ℕ). BeginsPart n m (open_share m p.events) c.begin_part.result p.events) (sym ready.members_are) (serves.answer p.events words.0);
       stands_for = search rules;
     })
 

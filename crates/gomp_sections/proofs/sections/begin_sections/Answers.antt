@@ -1,5 +1,5 @@
 use Rattle.std.proofs.Common.{◌<◌}
-use Rattle.gomp_types.specs.Events.{entered}
+use Rattle.gomp_types.specs.Events.{shares_entered}
 use Rattle.gomp_shares.proofs.Entered.{may_claim}
 use Rattle.gomp_sections.proofs.SectionSteps.{sections_dealt, sections_add}
 use Rattle.gomp_sections.proofs.sections.begin_sections.Goals as goal
@@ -10,7 +10,7 @@ claim-requires g c =
     let now = c.in-Entered.ensures.stands h st in
     let lt : c.args.member < g.S.Shares.members c.try_open.new.self = rw c.try_open.ensures.members c.requires.place.member in
     let e = g.met.S.Shares.agrees c.try_open.new.self _ c.args.member now lt in
-    record { place = may_claim _ c.args.member (entered c.args.member h) c.args.shape.now _ h e lt }
+    record { place = may_claim _ c.args.member (shares_entered c.args.member h) c.args.shape.now _ h e lt }
 
 pub returns-in-Entered-clause-serves : goal.returns-in-Entered-clause-serves
 returns-in-Entered-clause-serves g c = record {

@@ -1,6 +1,6 @@
 use Rattle.std.proofs.Common.{◌≡◌, ◌<◌, true, false, List, None, refl, ◌∙◌, sym}
 use Rattle.std.specs.Prelude.{is_some}
-use Rattle.gomp_types.specs.Events.{entered}
+use Rattle.gomp_types.specs.Events.{shares_entered}
 use Rattle.gomp_types.specs.Singles.{single_shape}
 use Rattle.gomp_types.specs.declared.event.Event.{Event}
 use Rattle.gomp_types.specs.declared.event.Event.TheVariants.{Got}
@@ -39,7 +39,7 @@ claim-requires g c =
     let same = unchanged g (goal.at.claim-requires g c).In-Entered in
     let lt : c.args.member < g.S.Shares.members c.try_open.new.self = rw (c.try_open.ensures.members, same) c.requires.place.member in
     let e = g.met.S.Shares.agrees c.try_open.new.self _ c.args.member now lt in
-    record { place = may_claim _ c.args.member (entered c.args.member h) c.single_shape-shape.result _ h e lt }
+    record { place = may_claim _ c.args.member (shares_entered c.args.member h) c.single_shape-shape.result _ h e lt }
 
 pub leave-requires : goal.leave-requires
 leave-requires g c =
@@ -48,7 +48,7 @@ leave-requires g c =
     let now = rw c.single_shape-shape.ensures.shape at (c.claim.ensures.stands _ (c.in-Entered.ensures.stands h st)) in
     let lt : c.args.member < g.S.Shares.members c.claim.new.self = rw (c.claim.ensures.members, c.try_open.ensures.members, same) c.requires.place.member in
     let e = g.met.S.Shares.agrees c.claim.new.self _ c.args.member now lt in
-    record { place = may_leave _ c.args.member (entered c.args.member h) true c.claim.result _ h e lt }
+    record { place = may_leave _ c.args.member (shares_entered c.args.member h) true c.claim.result _ h e lt }
 
 pub returns-then-is_some-clause-serves : goal.returns-then-is_some-clause-serves
 returns-then-is_some-clause-serves g c = record {
@@ -57,7 +57,7 @@ returns-then-is_some-clause-serves g c = record {
       let at = (goal.at.returns-then-is_some-clause-serves g c).In-Entered in
       let may = rw (c.single_shape-shape.ensures.shape, unchanged g at) at (c.in-Entered.ensures.answer h (opens g at h st)) in
       let claims = rw (c.single_shape-shape.ensures.shape, c.try_open.ensures.members, unchanged g at) at (c.claim.ensures.answer _ (c.in-Entered.ensures.stands h (opens g at h st))) in
-      (passes g at h st, (may.1, copy_dealt (g.S.Shares.members c.args.shares.now) c.args.member (entered c.args.member h) c.claim.result h (sym c.if-is_some.true ∙ c.is_some.ensures) claims));
+      (passes g at h st, (may.1, copy_dealt (g.S.Shares.members c.args.shares.now) c.args.member (shares_entered c.args.member h) c.claim.result h (sym c.if-is_some.true ∙ c.is_some.ensures) claims));
   stands_for = λ h st.
       let at = (goal.at.returns-then-is_some-clause-serves g c).In-Entered in
       let now = c.in-Entered.ensures.stands h (opens g at h st) in
@@ -75,13 +75,13 @@ returns-in-Some-clause-serves g c = record {
       let at = (goal.at.returns-in-Some-clause-serves g c).In-Entered in
       let may = rw (c.single_shape-shape.ensures.shape, unchanged g at) at (c.in-Entered.ensures.answer h (opens g at h st)) in
       let claims = rw (c.single_shape-shape.ensures.shape, c.try_open.ensures.members, unchanged g at) at (c.claim.ensures.answer _ (c.in-Entered.ensures.stands h (opens g at h st))) in
-      let gone = single_least (g.S.Shares.members c.args.shares.now) c.args.member (entered c.args.member h) true c.claim.result h claims ∙ given_no_piece c.claim.result (sym c.if-is_some.false ∙ c.is_some.ensures) in
+      let gone = single_least (g.S.Shares.members c.args.shares.now) c.args.member (shares_entered c.args.member h) true c.claim.result h claims ∙ given_no_piece c.claim.result (sym c.if-is_some.false ∙ c.is_some.ensures) in
       (passes g at h st, (may.1, (gone, rw c.copied.ensures (rw c.in-Some.is at put))));
   stands_for = λ h st.
       let at = (goal.at.returns-in-Some-clause-serves g c).In-Entered in
       let now = rw c.single_shape-shape.ensures.shape at (c.claim.ensures.stands _ (c.in-Entered.ensures.stands h (opens g at h st))) in
       let adds = copy_adds c.args.member c.copied.result c.claim.result h (sym c.if-is_some.false ∙ c.is_some.ensures) in
-      rw adds (c.leave.ensures.stands _ (g.met.S.Shares.aside c.claim.new.self _ (Got (entered c.args.member h) c.args.member c.copied.result) tt now));
+      rw adds (c.leave.ensures.stands _ (g.met.S.Shares.aside c.claim.new.self _ (Got (shares_entered c.args.member h) c.args.member c.copied.result) tt now));
   kept = λ refusal is. absurd (cc);
   waits = λ is. absurd (cc);
 }
@@ -95,6 +95,6 @@ unreachable-requires-in-None g c =
     let asked : is_some c.args.put ≡ false = rw c.in-None.is refl in
     elim c.else-is_none.branch [
       | else-is_none-via-then-is_none+else-next_is_taken w ↦
-          not_given _ c.args.member (entered c.args.member h) c.claim.result h claims (sym c.if-is_some.false ∙ c.is_some.ensures) (sym w.if-next_is_taken.false ∙ w.next_is_taken.ensures.answer h (rw c.next_differs.ensures.kept st))
+          not_given _ c.args.member (shares_entered c.args.member h) c.claim.result h claims (sym c.if-is_some.false ∙ c.is_some.ensures) (sym w.if-next_is_taken.false ∙ w.next_is_taken.ensures.answer h (rw c.next_differs.ensures.kept st))
       | else-is_none-via-else-is_none w ↦ none_and_some (is_some c.args.put) c.is_none.result c.is_none.ensures w.if-is_none.false asked
     ]

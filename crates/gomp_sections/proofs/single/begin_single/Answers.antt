@@ -1,5 +1,5 @@
 use Rattle.std.proofs.Common.{◌<◌, false}
-use Rattle.gomp_types.specs.Events.{entered}
+use Rattle.gomp_types.specs.Events.{shares_entered}
 use Rattle.gomp_types.specs.Singles.{single_shape}
 use Rattle.gomp_shares.proofs.Admitted.{begin_compared}
 use Rattle.gomp_shares.proofs.Entered.{may_claim}
@@ -12,7 +12,7 @@ claim-requires g c =
     let now = c.in-Entered.ensures.stands h st in
     let lt : c.args.member < g.S.Shares.members c.try_open.new.self = rw c.try_open.ensures.members c.requires.place.member in
     let e = g.met.S.Shares.agrees c.try_open.new.self _ c.args.member now lt in
-    record { place = may_claim _ c.args.member (entered c.args.member h) c.single_shape.result _ h e lt }
+    record { place = may_claim _ c.args.member (shares_entered c.args.member h) c.single_shape.result _ h e lt }
 
 pub leave-requires : goal.leave-requires
 leave-requires g c =
@@ -20,7 +20,7 @@ leave-requires g c =
     let now = rw c.single_shape.ensures.shape at (c.claim.ensures.stands _ (c.in-Entered.ensures.stands h st)) in
     let lt : c.args.member < g.S.Shares.members c.claim.new.self = rw (c.claim.ensures.members, c.try_open.ensures.members) c.requires.place.member in
     let e = g.met.S.Shares.agrees c.claim.new.self _ c.args.member now lt in
-    record { place = may_leave _ c.args.member (entered c.args.member h) false c.claim.result _ h e lt }
+    record { place = may_leave _ c.args.member (shares_entered c.args.member h) false c.claim.result _ h e lt }
 
 pub returns-in-Entered-clause-serves : goal.returns-in-Entered-clause-serves
 returns-in-Entered-clause-serves g c = record {
@@ -29,7 +29,7 @@ returns-in-Entered-clause-serves g c = record {
       let may = rw c.single_shape.ensures.shape at (c.in-Entered.ensures.answer h st) in
       let now = c.in-Entered.ensures.stands h st in
       let claims = rw (c.single_shape.ensures.shape, c.try_open.ensures.members) at (c.claim.ensures.answer _ now) in
-      (begin_compared (single_shape false) c.args.member h false may.0, (may.1, rw c.is_some-executes.ensures (single_dealt (g.S.Shares.members c.args.shares.now) c.args.member (entered c.args.member h) c.claim.result h claims)));
+      (begin_compared (single_shape false) c.args.member h false may.0, (may.1, rw c.is_some-executes.ensures (single_dealt (g.S.Shares.members c.args.shares.now) c.args.member (shares_entered c.args.member h) c.claim.result h claims)));
   stands_for = λ h st.
       let now = c.in-Entered.ensures.stands h st in
       let claims = rw c.single_shape.ensures.shape at (c.claim.ensures.answer _ now) in

@@ -1,7 +1,7 @@
 use Rattle.std.proofs.Common.{ap, ◌∙◌, sym, refl}
 use Rattle.gomp_types.specs.Seen.{seen_of}
 use Rattle.gomp_types.specs.Tests.{outcome}
-use Rattle.gomp_shares.specs.Own.{end_tests_of}
+use Rattle.gomp_shares.specs.Admission.{end_tests_of}
 use Rattle.gomp_shares.proofs.Admitted.{end_lets_leave, end_tests_rise, least_seen}
 use Rattle.gomp_shares.proofs.ends.end_construct.Goals as goal
 

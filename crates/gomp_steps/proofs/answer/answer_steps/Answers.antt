@@ -15,7 +15,7 @@ returns-in-Ok-run c =
     let fine : is_size c.team_size.result ≡ true = is_size_of c.team_size.result size in
     rw (read, same, fine) (record {
       replies = c.in-Ok-run.replies.items;
-      each = let each = c.in-Ok-run.ensures.each in let ok = c.in-Ok-run.replies.ok in omega arith;
+      each = let each = c.in-Ok-run.ensures.one_reply_each in let ok = c.in-Ok-run.replies.ok in omega arith;
       caused = c.in-Ok-run.ensures.caused;
       memory = c.in-Ok-run.ensures.memory;
       text_is = c.in_ok-print_replies-in-Ok-run.ensures.lines ∙ ap (flat_map reply_line) c.as_slice.ensures.value;

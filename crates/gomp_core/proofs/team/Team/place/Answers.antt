@@ -2,7 +2,7 @@ use Rattle.std.proofs.Common.{◌∙◌, ◌<◌, length, refl, ap, sym}
 use Rattle.std.proofs.lemmas.Option.{slice_get_read}
 use Rattle.gomp_types.specs.declared.call.Call.{Call}
 use Rattle.gomp_model.specs.Calls.{row_of}
-use Rattle.gomp_model.specs.Team.{meant}
+use Rattle.gomp_model.specs.Team.{call_meant}
 use Rattle.gomp_core.specs.Stands.{TeamView, past}
 use Rattle.gomp_core.proofs.Stepping.{same_stands}
 use Rattle.gomp_core.proofs.team.Team.place.Goals as goal
@@ -14,5 +14,5 @@ returns g c = λ before st0.
     let lt : c.args.member < length c.self.inside.waiting.items = rw (← c.self.view_is) at c.requires.member in
     let at = slice_get_read c.self.inside.waiting.items _ c.args.member _ refl lt c.index-waiting.ensures in
     let p = past team before in
-    let is = c.meant.ensures ∙ ap (meant c.args.call.now) (sym (st.wait c.args.member _ at)) in
+    let is = c.call_meant.ensures ∙ ap (call_meant c.args.call.now) (sym (st.wait c.args.member _ at)) in
     rw (← c.self.view_is) (c.place_of.ensures p (st.shares_are, st.barriers_are) ∙ ap (λ (call : Call). (row_of call).place c.args.member p.events) is)

@@ -4,5 +4,5 @@ use Rattle.gomp_core.proofs.team.Team.step.Goals as goal
 
 pub returns-clause-keeps : goal.returns-clause-keeps
 returns-clause-keeps g c =
-    let kept = c.resolved_step.ensures.keeps in
-    record { members = kept.members; icv = kept.icv; limits = kept.limits; refused = kept.refused; broken = kept.broken; waits = λ same resume. kept.waits same (c.resolved-call.ensures ∙ ap (resolved_call c.self.inside.icv) resume) }
+    let kept = c.perform.ensures.keeps in
+    record { members = kept.members; icv = kept.icv; limits = kept.limits; refused = kept.refused; broken = kept.broken; waits = λ same resume. kept.waits same (c.resolved_call-call.ensures ∙ ap (resolved_call c.self.inside.icv) resume) }

@@ -1,7 +1,7 @@
 use Rattle.std.proofs.Common.{◌≡◌, ◌-◌, ◌∙◌, Err, sym, rules, arith}
 use Rattle.std.proofs.lemmas.Grind.{common_steps}
 use Rattle.gomp_text.specs.Words.{words_of}
-use Rattle.gomp_script.specs.StepText.{payload_word, finished}
+use Rattle.gomp_script.specs.StepText.{payload_word, no_more_words}
 use Rattle.gomp_script.proofs.PayloadLemmas.{words_end, word_fault, word_kept, words_done, ninth_word}
 use Rattle.gomp_script.proofs.parse.payload.payload_of.Goals as goal
 
@@ -22,7 +22,7 @@ loop-i-preserved c = record { count = grind (arith, common_steps); read = grind 
 pub returns-in_err-finish : goal.returns-in_err-finish
 returns-in_err-finish c =
     let why = c.in_err-finish.field-0.0 in
-    let fault : finished (words_of c.loop-i.rest.now) ≡ Err why = sym c.finish.ensures ∙ c.in_err-finish.was in
+    let fault : no_more_words (words_of c.loop-i.rest.now) ≡ Err why = sym c.finish.ensures ∙ c.in_err-finish.was in
     let given : c.from_residual-in_err-finish.result ≡ Err why = search rules in
     let none : 8 - c.loop-i._i ≡ 0 = omega (arith, c.loop-i-test.false) in
     given ∙ sym (ninth_word c.loop-i.payload (words_of c.loop-i.rest.now) why fault) ∙ (rw none at c.loop-i.invariant.read)

@@ -1,16 +1,14 @@
 use Rattle.std.proofs.Common.{refl}
 use Rattle.std.proofs.lemmas.List.{length-set}
-use Rattle.std.proofs.lemmas.Option.{slice_get_read}
 use Rattle.gomp_shares.specs.Calls.{CanLeave}
 use Rattle.gomp_shares.proofs.AnswerRules.{leave_rule}
 use Rattle.gomp_share_plain.proofs.LeavesKeep.{leave_stands}
-use Rattle.gomp_share_plain.proofs.Views.{known_of_a_place, known_by}
+use Rattle.gomp_share_plain.proofs.Views.{own_seat, known_by}
 use Rattle.gomp_share_plain.proofs.plain.PlainSharesShares.leave.Goals as goal
 
 pub returns-clause-stands : goal.returns-clause-stands
 returns-clause-stands c = λ h st0.
-    let (can, st) = known_of_a_place _ _ c.args.member h (λ n seen. CanLeave n c.args.member seen) c.self.view_is c.requires.place c.requires.place.member st0 in
-    let at = slice_get_read c.self.inside.seats.items _ c.args.member c.index_mut.result.now refl can.member c.index_mut.ensures.value in
+    let (can, st, at) = own_seat _ _ c.args.member c.index_mut.result.now h (λ n seen. CanLeave n c.args.member seen) c.self.view_is c.requires.place c.requires.place.member st0 c.index_mut.ensures.value in
     let none = leave_rule _ c.args.member h st.rule can in
     rw (length-set c.self.inside.seats.items c.args.member _) (leave_stands _ _ _ _ h c.args.member c.index_mut.result.now st at can.inside none)
 
