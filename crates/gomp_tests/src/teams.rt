@@ -43,10 +43,10 @@ struct Pool {
 
 impl Pool {
     fn step(&mut self, index: usize, member: u16, call: Call) -> Option<Reply> {
-        let team = match self.listed.get_mut(index) {
-            Some(team) => team,
-            None => self.boxed.as_deref_mut()?,
-        };
+        if let Some(team) = self.listed.get_mut(index) {
+            return Some(team.step(member, call));
+        }
+        let team = self.boxed.as_deref_mut()?;
         Some(team.step(member, call))
     }
 }

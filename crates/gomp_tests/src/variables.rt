@@ -197,9 +197,17 @@ fn reads_long(rt: &impl Abort, alloc: Global, row: &LongRow, count: usize) -> Re
     let name = text_of(alloc, "", row.1.0, count, row.1.1)?;
     let value = text_of(alloc, "", row.2.0, count, row.2.1)?;
     let word = [(name.as_str(), value.as_str())];
-    let names = [name.as_str()];
-    let ignored = if row.4 { names.as_slice() } else { &[] };
-    reads(rt, alloc, &word, row.3, ignored, row.0, count as u64)
+    let ignored = if row.4 { 1 } else { 0 };
+    let names = vec![in alloc; name.as_str(); ignored]?;
+    reads(
+        rt,
+        alloc,
+        &word,
+        row.3,
+        names.as_slice(),
+        row.0,
+        count as u64,
+    )
 }
 
 /// However many words there are, each counts, or is ignored and named; and however long one is, it is read whole.
