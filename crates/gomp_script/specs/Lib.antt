@@ -1,3 +1,4 @@
 pub mod StepText
+pub mod LiveText
 pub mod Printing
 pub mod Examples

@@ -4,8 +4,10 @@
 //! first bad line and its first fault; [`print_replies`] is the table of replies, byte for byte.
 #![tactic(auto)]
 
+mod live;
 mod parse;
 mod print;
 
+pub use live::{LiveLine, parse_live_line};
 pub use parse::{BadLine, ParseError, Why, parse_steps};
 pub use print::{print_bad_line, print_refusal, print_replies, print_reply};

@@ -188,7 +188,7 @@ fn read_step(line: &[u8]) -> Result<Option<Step>, Why>
 
 /// The first word of a line, and the rest of the line after it. None if the line has no word, or
 /// is a comment.
-fn first_word(line: &[u8]) -> Result<Option<(&[u8], &[u8])>, Why>
+pub(crate) fn first_word(line: &[u8]) -> Result<Option<(&[u8], &[u8])>, Why>
     ensures { IsFirstOfLine line.now result }
 {
     if !is_ascii(line) {
@@ -212,7 +212,7 @@ fn begins_comment(word: &[u8]) -> bool
 
 /// `team N`, by its first word and what follows it.
 #[tactic(auto, unfolding(crate::specs::StepText::team_of))]
-fn team_words(first: &[u8], rest: &[u8]) -> Result<u32, Why>
+pub(crate) fn team_words(first: &[u8], rest: &[u8]) -> Result<u32, Why>
     ensures { result ≡ team_of (first.now ∷ words_of rest.now) }
 {
     if !is_word(first, b"team") {
@@ -225,7 +225,7 @@ fn team_words(first: &[u8], rest: &[u8]) -> Result<u32, Why>
 }
 
 /// `MEMBER CALL`, by its first word and what follows it.
-fn step_words(member: &[u8], rest: &[u8]) -> Result<Step, Why>
+pub(crate) fn step_words(member: &[u8], rest: &[u8]) -> Result<Step, Why>
     ensures { result ≡ step_of (member.now ∷ words_of rest.now) }
 {
     let (call, rest) = take_word(rest)?;

@@ -1,3 +1,3 @@
-mod AnswerLemmas
+pub mod AnswerLemmas
 mod ServeLemmas
 pub mod ServingExamples

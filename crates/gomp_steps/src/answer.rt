@@ -49,7 +49,7 @@ pub fn answer_steps(alloc: Global, icv: Icv, text: &[u8]) -> Result<Answer, Allo
 
 /// The number of members as a `u16`: one above the largest `u16` becomes that, since no team may have
 /// either.
-fn team_size(count: u32) -> u16
+pub fn team_size(count: u32) -> u16
     ensures { result ≡ min count 65535 }
 {
     u16::try_from(count).unwrap_or(u16::MAX)

@@ -4,6 +4,6 @@
 //! [`notes::finish`] writes what is noted beside the output.
 #![tactic(auto)]
 
-mod answer;
+pub mod answer;
 pub mod notes;
 pub mod serve;

@@ -68,7 +68,7 @@ fn read_text<R: Read + Drop>(alloc: Global, reader: R, limit: u32) -> Result<Vec
 }
 
 /// The end after a read that failed.
-fn read_fault(error: &io::Error) -> Ending
+pub fn read_fault(error: &io::Error) -> Ending
     ensures { result ≡ unread_as (error_kind error.now) }
 {
     match error.kind() {

@@ -1,0 +1,3 @@
+pub mod TalkLemmas
+pub mod InputLemmas
+pub mod ServeLemmas

@@ -1,0 +1,89 @@
+-- A talk as it is served, and how it ends.
+use Rattle.std.proofs.Common.{◌≡◌, ◌≢◌, ◌++◌, ◌∷◌, ◌∙◌, ℕ, List, [], Bool, false, true, Option, Some, None, Result, Ok, Err, refl, sym, subst}
+use Rattle.std.specs.Prelude.{IfSome, OnOk}
+use Rattle.std.specs.Result.{is_err}
+use Rattle.std.specs.Io.BufRead.{take_through, DropsThrough}
+use Rattle.std.specs.Io.KnownBytes.{Appends, IsAtEnd}
+use Rattle.gomp_types.specs.declared.event.Event.{Event}
+use Rattle.gomp_icv.specs.Variables.{Variables}
+use Rattle.gomp_text.specs.Words.{cut_at}
+use Rattle.gomp_live.specs.Talk.{Made, Talked}
+use Rattle.gomp_live.specs.Stands.{TalkView, TalkStands}
+use Rattle.gomp_live.specs.Serving.{LinesAnswered, SomeAnswered}
+use Rattle.gomp_live.proofs.InputLemmas.{InputLeft, input_begins, input_ended, input_stays, input_goes_on, appends_nothing, appends_more}
+
+-- a result that is no error leads to what it should
+pub on_no_error : {X E P : Type 0} (result : Result X E) → false ≡ is_err result → OnOk result P → P
+on_no_error (Ok x) fine given = given
+on_no_error (Err e) fine given = absurd (cc)
+
+-- the lines so far were answered, and nothing else was written: of the input this is left, and this is what the writer holds
+pub record GoesOn {S : Type 0} (stands : S → List Event → Type 0) (members : S → ℕ) (icv : Variables) (input left before after : Option (List ℕ)) (talk : TalkView S) : Type 0 where
+  pub lines : List (List ℕ)
+  pub said : List ℕ
+  pub icv_is : talk.icv ≡ icv
+  pub stands_for : TalkStands stands members talk lines said
+  pub read : IfSome input (InputLeft left lines)
+  pub written : Appends before after said
+
+pub talk_begins :
+    {S : Type 0} (stands : S → List Event → Type 0) (members : S → ℕ) (icv : Variables) (input before : Option (List ℕ)) (talk : TalkView S)
+    → talk.icv ≡ icv → TalkStands stands members talk [] [] → GoesOn stands members icv input input before before talk
+talk_begins stands members icv input before talk icv_is is = record {
+  lines = [];
+  said = [];
+  icv_is = icv_is;
+  stands_for = is;
+  read = input_begins input;
+  written = appends_nothing before;
+}
+
+-- what was talked, by the variables that the talk began with
+talked_so : {S : Type 0} {stands : S → List Event → Type 0} {members : S → ℕ} {icv : Variables} {input left before after : Option (List ℕ)} {talk : TalkView S} (now : GoesOn stands members icv input left before after talk) → Talked icv now.lines now.said now.stands_for.made
+talked_so now =
+    subst (λ (v : Variables). Talked v now.lines now.said now.stands_for.made) now.icv_is now.stands_for.talked
+
+pub talk_ends :
+    {S : Type 0} {stands : S → List Event → Type 0} {members : S → ℕ} {icv : Variables} {input left before after : Option (List ℕ)} {talk : TalkView S}
+    → GoesOn stands members icv input left before after talk → IsAtEnd left → LinesAnswered icv input before after []
+talk_ends {input = input} {left = left} now end = record {
+  lines = now.lines;
+  said = now.said;
+  made = now.stands_for.made;
+  read = input_ended input left now.lines now.read end;
+  talked = talked_so now;
+  written = now.written;
+}
+
+pub talk_breaks :
+    {S : Type 0} {stands : S → List Event → Type 0} {members : S → ℕ} {icv : Variables} {input left before after : Option (List ℕ)} {talk : TalkView S}
+    → GoesOn stands members icv input left before after talk → SomeAnswered icv input before after
+talk_breaks {input = input} {left = left} now =
+    let stays = input_stays input left now.lines now.read in (
+      stays.0,
+      record {
+        lines = now.lines;
+        said = now.said;
+        made = now.stands_for.made;
+        read = stays.1;
+        talked = talked_so now;
+        written = now.written;
+      },
+    )
+
+pub line_served :
+    {S : Type 0} {stands : S → List Event → Type 0} {members : S → ℕ} {icv : Variables} {input left next before between after : Option (List ℕ)} {talk then : TalkView S} (text answer : List ℕ)
+    → (now : GoesOn stands members icv input left before between talk) → text ≢ []
+    → IfSome left (λ xs. text ≡ take_through 10 xs) → DropsThrough left next 10
+    → then.icv ≡ talk.icv
+    → TalkStands stands members then ((cut_at 10 text).0 ∷ now.lines) (now.said ++ answer)
+    → Appends between after answer
+    → GoesOn stands members icv input next before after then
+line_served {input = input} {left = left} {next = next} {before = before} {between = between} {after = after} text answer now some taken drops kept is more = record {
+  lines = (cut_at 10 text).0 ∷ now.lines;
+  said = now.said ++ answer;
+  icv_is = kept ∙ now.icv_is;
+  stands_for = is;
+  read = input_goes_on input left next now.lines text some now.read taken drops;
+  written = appends_more before between after now.said answer now.written more;
+}

@@ -1,0 +1,39 @@
+use Rattle.std.proofs.Common.{rules, ◌≡◌, ◌≢◌, List, [], ℕ, length, refl, ap, arith}
+use Rattle.std.specs.Prelude.{IfSome, string_bytes}
+use Rattle.std.specs.Io.BufRead.{take_through}
+use Rattle.std.specs.Io.KnownBytes.{Appends}
+use Rattle.gomp_live.specs.Serving.{ServesLive, SomeAnswered}
+use Rattle.gomp_live.proofs.ServeLemmas.{on_no_error, talk_begins, talk_ends, talk_breaks, line_served}
+use Rattle.gomp_live.proofs.serve.serve_live.Goals as goal
+
+pub loop-init : goal.loop-init
+loop-init g c = talk_begins g.S.Shares.stands g.S.Shares.members c.args.icv (g.R.Read.remaining c.args.reader) (g.W.Write.contents c.args.writer.now) c.new-talk.result c.new-talk.ensures.icv c.new-talk.ensures.stands
+
+pub returns-in-Ok-eq0 : goal.returns-in-Ok-eq0
+returns-in-Ok-eq0 g c = (talk_ends c.loop.invariant (c.in-Ok-eq0.ensures.end c.in-Ok-eq0.field-0-test), refl)
+
+pub returns-in-Err : goal.returns-in-Err
+returns-in-Err g c =
+    let broken = talk_breaks c.loop.invariant in
+    search rules
+
+pub returns-in_default : goal.returns-in_default
+returns-in_default g c = talk_breaks c.loop.invariant
+
+pub loop-preserved : goal.loop-preserved
+loop-preserved g c =
+    let text = c.read_until.new.buf.items in
+    let taken : IfSome (g.R.Read.remaining c.loop.reader) (λ xs. text ≡ take_through 10 xs) = rw c.clear.ensures.items at c.in-Ok.ensures.bytes in
+    let some : text ≢ [] = λ none.
+    let size = ap length none in
+    let read = c.in-Ok.ensures.ok in
+    let ok = c.read_until.new.buf.ok in
+    let empty = c.clear.ensures.len in
+    let test = c.in-Ok.field-0-test in
+    absurd (omega arith) in
+    line_served text (string_bytes c.in-Ok-answer.answer) c.loop.invariant some taken c.in-Ok.ensures.rest c.in-Ok-answer.ensures.icv
+    (rw (c.cut_at.ensures.before, c.as_slice.ensures.value) at (c.in-Ok-answer.ensures.answer c.loop.invariant.lines c.loop.invariant.said c.loop.invariant.stands_for))
+    (rw c.as_str.ensures.value at (on_no_error c.write_answer.result c.if-is_err.ensures.value c.write_answer.ensures))
+
+pub returns : goal.returns
+returns g c = talk_breaks c.loop.invariant

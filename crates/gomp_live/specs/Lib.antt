@@ -1,0 +1,4 @@
+pub mod Talk
+pub mod Stands
+pub mod Input
+pub mod Serving

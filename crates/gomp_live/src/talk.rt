@@ -1,0 +1,111 @@
+//! A talk with teams, line by line.
+
+ghost use Rattle.std.specs.Prelude.{◌≡◌, ◌++◌, ◌∷◌, List, [], ℕ, Option, Some, IfOk, string_bytes};
+ghost use Rattle.gomp_icv.specs.Variables.{Variables};
+ghost use Rattle.gomp_steps.specs.Output.{is_size};
+ghost use Rattle.gomp_live.specs.Talk.{Made, StepAnswered, TeamAnswered};
+ghost use Rattle.gomp_live.specs.Stands.{TalkStands, TeamStands, TeamIs};
+
+use gomp_core::Team;
+use gomp_icv::Icv;
+use gomp_script::{BadLine, LiveLine, parse_live_line, print_bad_line, print_refusal, print_reply};
+use gomp_shares::Shares;
+use gomp_steps::answer::team_size;
+use gomp_types::{Refusal, Step};
+use std::alloc::{AllocError, Global};
+use std::marker::Model;
+
+/// What a talk has come to: the number of its next line, and the team that stands.
+///
+/// Every team has the same control variables, and its work-shares are kept by `S`.
+#[derive(Drop)]
+pub struct Talk<S: Shares> {
+    icv: Icv,
+    number: u64,
+    team: Option<Team<S>>,
+}
+
+impl<S: Shares> Model for Talk<S> {
+    ghost use Rattle.gomp_live.specs.Stands.{TalkView};
+
+    ghost Value = { TalkView S };
+
+    ghost view = { λ t. record { icv = t.icv; number = t.number; team = t.team } };
+}
+
+impl<S: Shares + Drop> Talk<S> {
+    /// A talk of which no line was said yet, so that no team stands.
+    pub fn new(icv: Icv) -> Talk<S>
+        ensures icv { result.icv ≡ icv }
+        ensures stands { TalkStands S.stands S.members result [] [] }
+    {
+        Talk {
+            icv,
+            number: 1,
+            team: None,
+        }
+    }
+
+    /// The answer to the next line, which has no line feed: the one that the lines before it leave.
+    /// A line that is skipped has an empty one.
+    ///
+    /// The error is want of memory outside of a step; the talk should end with it.
+    pub fn answer(&mut self, alloc: Global, line: &[u8]) -> Result<String, AllocError>
+        ensures icv { self.new.icv ≡ self.old.icv }
+        ensures answer { (lines : List (List ℕ)) (said : List ℕ) →
+            TalkStands S.stands S.members self.old lines said → IfOk result
+            (λ answer. TalkStands S.stands S.members self.new (line.now ∷ lines)
+            (said ++ string_bytes answer)) }
+    {
+        let number = self.number;
+        self.number = number.saturating_add(1);
+        match parse_live_line(line, self.team.is_some()) {
+            Ok(Some(LiveLine::NewTeam(count))) => {
+                begin_team(alloc, self.icv.copied(), &mut self.team, count)
+            }
+            Ok(Some(LiveLine::NextStep(step))) => match &mut self.team {
+                Some(team) => step_team(alloc, team, step),
+                None => unreachable!(),
+            },
+            Ok(None) => Ok(String::new(alloc)),
+            Err(why) => print_bad_line(alloc, &BadLine { line: number, why }),
+        }
+    }
+}
+
+/// Puts a new team of this size in the place of the one that stands; a size that no team may have
+/// leaves that. Says which.
+fn begin_team<S: Shares + Drop>(
+    alloc: Global,
+    icv: Icv,
+    team: &mut Option<Team<S>>,
+    count: u32,
+) -> Result<String, AllocError>
+    ensures { IfOk result (λ answer. (made : Option Made) →
+        TeamIs S.stands S.members icv team.old made →
+        (after : Option Made) × TeamAnswered (is_size count) count made (string_bytes answer) after
+        × TeamIs S.stands S.members icv team.new after) }
+{
+    match Team::new(alloc, team_size(count), icv) {
+        Ok(new_team) => {
+            let answer = String::from_str(alloc, "ok\n")?;
+            *team = Some(new_team);
+            Ok(answer)
+        }
+        Err(Refusal::BadTeam) => print_refusal(alloc, &Refusal::BadTeam),
+        Err(_) => Err(AllocError),
+    }
+}
+
+/// The line of the reply to a step.
+fn step_team<S: Shares>(alloc: Global, team: &mut Team<S>, step: Step) -> Result<String, AllocError>
+    ensures { IfOk result (λ answer. (icv : Variables) (made : Made) →
+        TeamStands S.stands S.members icv team.old made →
+        (after : Option Made) × StepAnswered icv made step (string_bytes answer) after
+        × TeamIs S.stands S.members icv (Some team.new) after) }
+{
+    let reply = team.step(step.member, step.call);
+    let mut answer = String::new(alloc);
+    print_reply(&reply, &mut answer)?;
+    Ok(answer)
+}

@@ -1,0 +1,45 @@
+//! From a line of a talk to the team that it begins, or the step that it makes.
+
+ghost use Rattle.std.specs.Prelude.{◌≡◌, ◌∷◌};
+ghost use Rattle.gomp_text.specs.Words.{words_of};
+ghost use Rattle.gomp_script.specs.LiveText.{live_of, read_live_line};
+
+use crate::parse::{Why, first_word, step_words, team_words};
+use gomp_text::is_word;
+use gomp_types::Step;
+
+/// What a line asks for.
+#[derive(Debug, Drop, PartialEq, Eq)]
+pub enum LiveLine {
+    /// `team N`: a new team of this size, 0 to 2^32 - 1; whether a team may have it is not asked here.
+    NewTeam(u32),
+    /// `MEMBER CALL`: a step of the team that stands.
+    NextStep(Step),
+}
+
+/// What a line asks for, if it asks for anything, where a team stands or none does. Before the first
+/// team a line that is not `team N` is bad, as the first line of a text is.
+pub fn parse_live_line(line: &[u8], has_team: bool) -> Result<Option<LiveLine>, Why>
+    ensures { result ≡ read_live_line has_team line.now }
+{
+    let Some((word, rest)) = first_word(line)? else {
+        return Ok(None);
+    };
+    let asked = live_words(word, rest, has_team)?;
+    Ok(Some(asked))
+}
+
+/// The same of a line's first word and what follows it.
+fn live_words(word: &[u8], rest: &[u8], has_team: bool) -> Result<LiveLine, Why>
+    ensures { result ≡ live_of has_team (word.now ∷ words_of rest.now) }
+{
+    if is_word(word, b"team") {
+        let count = team_words(word, rest)?;
+        return Ok(LiveLine::NewTeam(count));
+    }
+    if !has_team {
+        return Err(Why::FirstLine);
+    }
+    let step = step_words(word, rest)?;
+    Ok(LiveLine::NextStep(step))
+}
