@@ -1,3 +1,5 @@
-pub mod TalkLemmas
-pub mod InputLemmas
-pub mod ServeLemmas
+mod TalkLemmas
+mod InputLemmas
+mod ServeLemmas
+pub mod TalkExamples
+pub mod Laws

@@ -1,10 +1,14 @@
--- When a talk stands for lines and what was said to them. (own)
-use Rattle.std.specs.Prelude.{ℕ, ◌≡◌, List, Option, Some, None, ⊤}
+-- When a talk stands for lines and what was said to them, and what an answer makes of it. (own)
+use Rattle.std.specs.Prelude.{ℕ, ◌≡◌, ◌++◌, List, ◌∷◌, Option, Some, None, Result, ⊤, IfOk, string_bytes}
+use Rattle.std.specs.declared.string.String.{String}
+use Rattle.std.specs.declared.alloc.Global.{Global}
+use Rattle.gomp_types.specs.declared.call.Step.{Step}
 use Rattle.gomp_types.specs.declared.event.Event.{Event}
 use Rattle.gomp_types.specs.Limits.{standard}
 use Rattle.gomp_icv.specs.Variables.{Variables}
 use Rattle.gomp_core.specs.Stands.{TeamView, Stands, members_of}
-use Rattle.gomp_live.specs.Talk.{Made, Talked, next_number}
+use Rattle.gomp_steps.specs.Output.{is_size}
+use Rattle.gomp_live.specs.Talk.{Made, TeamAnswered, StepAnswered, Talked, next_number}
 
 -- what a talk keeps
 pub record TalkView (S : Type 0) : Type 0 where
@@ -33,3 +37,23 @@ pub record TalkStands {S : Type 0} (stands : S → List Event → Type 0) (membe
   pub talked : Talked talk.icv lines said made
   pub number_is : talk.number ≡ next_number lines
   pub team_is : TeamIs stands members talk.icv talk.team made
+
+-- Answers, and what they leave; of an error nothing is said, since the talk ends with it
+
+-- a talk that stood for some lines stands for this one behind them, with this answer to it
+abbrev pub AnswersLine : {S E : Type 0} → (S → List Event → Type 0) → (S → ℕ) → List ℕ → TalkView S → TalkView S → Result (String Global) E → Type 0
+AnswersLine stands members line talk after result =
+    (lines : List (List ℕ)) (said : List ℕ) → TalkStands stands members talk lines said
+    → IfOk result (λ answer. TalkStands stands members after (line ∷ lines) (said ++ string_bytes answer))
+
+-- a new team of this size stands, if one may have it
+abbrev pub BeginsTeam : {S E : Type 0} → (S → List Event → Type 0) → (S → ℕ) → Variables → ℕ → Option (TeamView S) → Option (TeamView S) → Result (String Global) E → Type 0
+BeginsTeam stands members icv count team after result =
+    IfOk result (λ answer. (made : Option Made) → TeamIs stands members icv team made
+    → (then : Option Made) × TeamAnswered (is_size count) count made (string_bytes answer) then × TeamIs stands members icv after then)
+
+-- the team made this step
+abbrev pub MakesStep : {S E : Type 0} → (S → List Event → Type 0) → (S → ℕ) → Step → TeamView S → TeamView S → Result (String Global) E → Type 0
+MakesStep stands members step team after result =
+    IfOk result (λ answer. (icv : Variables) (made : Made) → TeamStands stands members icv team made
+    → (then : Option Made) × StepAnswered icv made step (string_bytes answer) then × TeamIs stands members icv (Some after) then)

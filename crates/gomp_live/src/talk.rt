@@ -1,10 +1,7 @@
 //! A talk with teams, line by line.
 
-ghost use Rattle.std.specs.Prelude.{◌≡◌, ◌++◌, ◌∷◌, List, [], ℕ, Option, Some, IfOk, string_bytes};
-ghost use Rattle.gomp_icv.specs.Variables.{Variables};
-ghost use Rattle.gomp_steps.specs.Output.{is_size};
-ghost use Rattle.gomp_live.specs.Talk.{Made, StepAnswered, TeamAnswered};
-ghost use Rattle.gomp_live.specs.Stands.{TalkStands, TeamStands, TeamIs};
+ghost use Rattle.std.specs.Prelude.{◌≡◌, []};
+ghost use Rattle.gomp_live.specs.Stands.{TalkStands, AnswersLine, BeginsTeam, MakesStep};
 
 use gomp_core::Team;
 use gomp_icv::Icv;
@@ -52,10 +49,7 @@ impl<S: Shares + Drop> Talk<S> {
     /// The error is want of memory outside of a step; the talk should end with it.
     pub fn answer(&mut self, alloc: Global, line: &[u8]) -> Result<String, AllocError>
         ensures icv { self.new.icv ≡ self.old.icv }
-        ensures answer { (lines : List (List ℕ)) (said : List ℕ) →
-            TalkStands S.stands S.members self.old lines said → IfOk result
-            (λ answer. TalkStands S.stands S.members self.new (line.now ∷ lines)
-            (said ++ string_bytes answer)) }
+        ensures answer { AnswersLine S.stands S.members line.now self.old self.new result }
     {
         let number = self.number;
         self.number = number.saturating_add(1);
@@ -81,10 +75,7 @@ fn begin_team<S: Shares + Drop>(
     team: &mut Option<Team<S>>,
     count: u32,
 ) -> Result<String, AllocError>
-    ensures { IfOk result (λ answer. (made : Option Made) →
-        TeamIs S.stands S.members icv team.old made →
-        (after : Option Made) × TeamAnswered (is_size count) count made (string_bytes answer) after
-        × TeamIs S.stands S.members icv team.new after) }
+    ensures { BeginsTeam S.stands S.members icv count team.old team.new result }
 {
     match Team::new(alloc, team_size(count), icv) {
         Ok(new_team) => {
@@ -99,10 +90,7 @@ fn begin_team<S: Shares + Drop>(
 
 /// The line of the reply to a step.
 fn step_team<S: Shares>(alloc: Global, team: &mut Team<S>, step: Step) -> Result<String, AllocError>
-    ensures { IfOk result (λ answer. (icv : Variables) (made : Made) →
-        TeamStands S.stands S.members icv team.old made →
-        (after : Option Made) × StepAnswered icv made step (string_bytes answer) after
-        × TeamIs S.stands S.members icv (Some team.new) after) }
+    ensures { MakesStep S.stands S.members step team.old team.new result }
 {
     let reply = team.step(step.member, step.call);
     let mut answer = String::new(alloc);

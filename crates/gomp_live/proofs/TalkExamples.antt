@@ -1,0 +1,86 @@
+-- A talk, line by line: for each line of a definition an answer that it alone refuses.
+use Rattle.std.proofs.Common.{◌≡◌, ◌≢◌, ◌∙◌, ℕ, true, false, List, [], ◌∷◌, ◌++◌, Option, Some, None, refl, ap}
+use Rattle.std.specs.Prelude.{IfSome, map, codes}
+use Rattle.std.specs.Io.KnownBytes.{Appends}
+use Rattle.gomp_types.specs.declared.call.Step.{Step}
+use Rattle.gomp_types.specs.declared.reply.Reply.{Reply}
+use Rattle.gomp_types.specs.declared.reply.Reply.TheVariants.{Refused}
+use Rattle.gomp_types.specs.declared.refusal.Refusal.TheVariants.{BadTeam, NoMemory}
+use Rattle.gomp_model.specs.Team.{MayAnswer, past_of}
+use Rattle.gomp_icv.specs.Variables.{Variables}
+use Rattle.gomp_core.specs.Stands.{standard_terms}
+use Rattle.gomp_core.specs.Resolved.{resolved_step}
+use Rattle.gomp_script.specs.declared.parse.Why.TheVariants.{FirstLine}
+use Rattle.gomp_script.specs.Printing.{reply_line, bad_line_text, refusal_line}
+use Rattle.gomp_live.specs.Talk.{Made, TeamAnswered, StepAnswered, NextStepAnswered, Answers, next_number, Talked}
+use Rattle.gomp_live.specs.Input.{input_lines, in_order}
+use Rattle.gomp_live.specs.Serving.{LinesAnswered, ServesLive}
+use Rattle.gomp_steps.specs.declared.serve.Ending.TheVariants as ending
+
+-- Answers
+
+-- of a size that may be a new team stands, of which nothing was asked
+pub new_team_stands : (stood : Option Made) (answer : List ℕ) (stands : Option Made) → TeamAnswered true 2 stood answer stands → (answer ≡ codes "ok\n") × (stands ≡ Some (record { size = 2; run = [] }))
+new_team_stands stood answer stands answered = answered
+
+-- of another the team that stood is left
+pub old_team_stays : (stood : Option Made) (answer : List ℕ) (stands : Option Made) → TeamAnswered false 65 stood answer stands → (answer ≡ refusal_line BadTeam) × (stands ≡ stood)
+old_team_stays stood answer stands answered = answered
+
+-- no step is answered before the first team
+pub no_step_without_a_team : (icv : Variables) (step : Step) (answer : List ℕ) (stands : Option Made) → NextStepAnswered icv None step answer stands → ⊥
+no_step_without_a_team icv step answer stands answered = answered
+
+-- its line is bad then, and is told by its number
+pub first_line_is_no_step : (icv : Variables) (answer : List ℕ) (stands : Option Made) → Answers icv 3 None (codes "0 barrier") answer stands → (answer ≡ bad_line_text (record { line = 3; why = FirstLine })) × (stands ≡ None)
+first_line_is_no_step icv answer stands answered = answered
+
+-- a comment has no answer
+pub comment_is_skipped : (icv : Variables) (stood : Option Made) (answer : List ℕ) (stands : Option Made) → Answers icv 3 None (codes "# 1") answer stands → (answer ≡ []) × (stands ≡ None)
+comment_is_skipped icv stood answer stands answered = answered
+
+-- what the answer to a step is
+pub step_answered_has : (icv : Variables) (made : Made) (step : Step) (answer : List ℕ) (stands : Option Made) → NextStepAnswered icv (Some made) step answer stands →
+    (reply : Reply) × MayAnswer (past_of (standard_terms made.size icv) made.run) (resolved_step icv step) reply × (reply ≢ Refused NoMemory)
+    × (answer ≡ reply_line reply) × (stands ≡ Some (record made { run = (resolved_step icv step, reply) ∷ made.run }))
+step_answered_has icv made step answer stands answered = (answered.reply, answered.caused, answered.memory, answered.answer_is, answered.stands_is)
+
+-- Talks
+
+pub numbers_of_lines : (next_number [] ≡ 1) × (next_number ([] ∷ [] ∷ []) ≡ 3)
+numbers_of_lines = (refl, refl)
+
+-- before the first line no team stands, and nothing was said
+pub silent_before_the_first_line : (icv : Variables) (said : List ℕ) (stands : Option Made) → Talked icv [] said stands → (said ≡ []) × (stands ≡ None)
+silent_before_the_first_line icv said stands talked = talked
+
+-- the answer to the newest line stands behind what was said before, with the team that stood then
+pub newest_line_answered : (icv : Variables) (said : List ℕ) (stands : Option Made) → Talked icv (codes "0 barrier" ∷ []) said stands → (said ≡ bad_line_text (record { line = 1; why = FirstLine })) × (stands ≡ None)
+newest_line_answered icv said stands talked =
+    let none = talked.3.1 in
+    let answered = rw none at talked.4 in
+    (talked.5 ∙ ap (λ (before : List ℕ). before ++ talked.2) talked.3.0 ∙ answered.0, answered.1)
+
+-- Inputs
+
+pub lines_of_inputs : map input_lines ([] ∷ codes "a\nb" ∷ codes "a\n" ∷ codes "\n\n" ∷ []) ≡ [] ∷ (codes "a" ∷ codes "b" ∷ []) ∷ (codes "a" ∷ []) ∷ ([] ∷ [] ∷ []) ∷ []
+lines_of_inputs = refl
+
+pub lines_in_order : in_order (codes "b" ∷ codes "a" ∷ []) (codes "c" ∷ []) ≡ codes "a" ∷ codes "b" ∷ codes "c" ∷ []
+lines_in_order = refl
+
+-- what was answered of an input has
+pub lines_answered_have : (icv : Variables) (remaining before after : Option (List ℕ)) (left : List (List ℕ)) → LinesAnswered icv remaining before after left →
+    (lines : List (List ℕ)) × (said : List ℕ) × (made : Option Made) × IfSome remaining (λ input. input_lines input ≡ in_order lines left) × Talked icv lines said made × Appends before after said
+lines_answered_have icv remaining before after left answered = (answered.lines, answered.said, answered.made, answered.read, answered.talked, answered.written)
+
+-- at the end of the input no line of it is left, and the status is 0
+pub input_answered_whole : (icv : Variables) (remaining before after : Option (List ℕ)) (code : ℕ) → ServesLive icv remaining before after (ending.Answered code) → LinesAnswered icv remaining before after [] × (code ≡ 0)
+input_answered_whole icv remaining before after code served = served
+
+-- a fault may leave lines of it
+pub lines_left_at_a_fault : (icv : Variables) (remaining before after : Option (List ℕ)) →
+    (ServesLive icv remaining before after ending.InputFault → (left : List (List ℕ)) × LinesAnswered icv remaining before after left)
+    × (ServesLive icv remaining before after ending.NoMemory → (left : List (List ℕ)) × LinesAnswered icv remaining before after left)
+    × (ServesLive icv remaining before after ending.TooLong → (left : List (List ℕ)) × LinesAnswered icv remaining before after left)
+lines_left_at_a_fault icv remaining before after = (λ served. served, λ served. served, λ served. served)
