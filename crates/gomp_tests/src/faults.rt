@@ -10,10 +10,10 @@ use std::test::Fail;
 
 /// A reader that gives a byte a read, and fails once as many reads are done as it may do.
 #[derive(Drop)]
-struct FailingReader<'a> {
-    text: &'a [u8],
-    reads: usize,
-    kind: ErrorKind,
+pub(crate) struct FailingReader<'a> {
+    pub(crate) text: &'a [u8],
+    pub(crate) reads: usize,
+    pub(crate) kind: ErrorKind,
 }
 
 impl Read for FailingReader<'_> {
@@ -36,8 +36,8 @@ impl Read for FailingReader<'_> {
 /// A writer that takes a byte a write, and fails once as many writes are done as it may do: from then on, or
 /// only then.
 #[derive(Drop)]
-struct FailingWriter {
-    written: Vec<u8>,
+pub(crate) struct FailingWriter {
+    pub(crate) written: Vec<u8>,
     writes: usize,
     recovers: bool,
 }
@@ -219,7 +219,7 @@ fn given(alloc: Global, run: &Run) -> Result<io::Result<std::env::Args>, Fail> {
 }
 
 /// An empty writer of this many good writes.
-fn writer_of(alloc: Global, writes: usize, recovers: bool) -> FailingWriter {
+pub(crate) fn writer_of(alloc: Global, writes: usize, recovers: bool) -> FailingWriter {
     FailingWriter {
         written: Vec::new(alloc),
         writes,

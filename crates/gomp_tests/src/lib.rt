@@ -22,6 +22,8 @@ mod shares;
 #[cfg(test)]
 mod sizes;
 #[cfg(test)]
+mod talks;
+#[cfg(test)]
 mod teams;
 #[cfg(test)]
 mod texts;
