@@ -1,4 +1,2 @@
-pub mod CommandLine
-pub mod Examples
+pub mod Ends
 pub mod Process
-pub mod Settings

@@ -11,7 +11,8 @@ use Rattle.std.specs.declared.io.Error.{Error}
 use Rattle.std.specs.declared.process.ExitCode.{ExitCode}
 use Rattle.clap.specs.Words.{Text}
 use Rattle.gomp_steps.specs.Notes.{notes_text}
-use Rattle.gomp_serve.specs.CommandLine.{Ends, HasNoWords, faults_of, settings_of}
+use Rattle.gomp_command.specs.CommandLine.{asked_of, faults_of}
+use Rattle.gomp_serve.specs.Ends.{Ends, HasNoWords}
 use Rattle.gomp_steps.specs.declared.notes.Status.{Status}
 
 -- the texts of the words that a process was given
@@ -20,7 +21,7 @@ texts_of words = map string_bytes (into_iter_items words)
 
 -- the program ends so on these words
 abbrev pub EndsOn : List Text → Option (List ℕ) → Option (List ℕ) → Option (List ℕ) → Status → Type 0
-EndsOn words remaining before after status = Ends (faults_of words) (settings_of words) remaining before after status
+EndsOn words remaining before after status = Ends (faults_of words) (asked_of words) remaining before after status
 
 -- the program ends so if its words could not be had, and writes nothing
 abbrev pub EndsWithout : Error → Option (List ℕ) → Option (List ℕ) → Status → Type 0

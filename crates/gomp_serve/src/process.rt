@@ -4,7 +4,8 @@ ghost use Rattle.std.specs.Prelude.{◌≤◌, IfOk, IfErr};
 ghost use Rattle.std.specs.Process.{exit_status};
 ghost use Rattle.gomp_serve.specs.Process.{EndsAs, EndsOn, EndsWithout, texts_of};
 
-use crate::command::{no_memory, serve, status_without_words};
+use crate::serve::serve;
+use crate::status::{no_memory, status_without_words};
 use gomp_steps::notes::{Status, finish};
 use std::alloc::Global;
 use std::env::Args;

@@ -6,8 +6,8 @@ use Rattle.std.specs.Option.{option_map}
 use Rattle.gomp_types.specs.declared.refusal.Refusal.{Refusal}
 use Rattle.gomp_icv.specs.Variables.{Variables}
 use Rattle.gomp_icv.specs.EnvWords.{read_env}
-use Rattle.gomp_serve.specs.declared.settings.SettingsError.{SettingsError}
-use Rattle.gomp_serve.specs.declared.settings.SettingsError.TheVariants.{NoMemory, NoEquals}
+use Rattle.gomp_command.specs.declared.settings.SettingsError.{SettingsError}
+use Rattle.gomp_command.specs.declared.settings.SettingsError.TheVariants.{NoMemory, NoEquals}
 
 abbrev pub Text : Type 0
 Text = List ℕ

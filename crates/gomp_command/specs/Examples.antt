@@ -1,6 +1,6 @@
 -- Worked command lines. (own)
 use Rattle.std.specs.Prelude.{List, [], ◌∷◌, codes}
-use Rattle.gomp_serve.specs.Settings.{Text}
+use Rattle.gomp_command.specs.Settings.{Text}
 
 -- two settings, of which the second is that of no variable
 abbrev pub with_settings : List Text

@@ -3,7 +3,7 @@
 
 ghost use Rattle.std.specs.Prelude.{◌≡◌, IfOk, IsTrue, None, Some, map};
 ghost use Rattle.std.specs.Option.{option_map};
-ghost use Rattle.gomp_serve.specs.Settings.{first_without, has_equals, pair_of, ArePairsOf, Gives};
+ghost use Rattle.gomp_command.specs.Settings.{first_without, has_equals, pair_of, ArePairsOf, Gives};
 
 use gomp_icv::{Icv, read_env};
 use gomp_types::Refusal;
@@ -19,7 +19,7 @@ pub enum SettingsError<'a> {
 }
 
 impl From<AllocError> for SettingsError<'_> {
-    ghost use Rattle.gomp_serve.specs.declared.settings.SettingsError.TheVariants.{NoMemory};
+    ghost use Rattle.gomp_command.specs.declared.settings.SettingsError.TheVariants.{NoMemory};
 
     ghost from_gives = { λ _ e. e ≡ NoMemory };
 

@@ -1,0 +1,4 @@
+pub mod CommandExamples
+mod CommandLemmas
+mod PlainSettings
+mod SettingLemmas

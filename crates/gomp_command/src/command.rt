@@ -1,0 +1,92 @@
+//! The words of the command line, as clap reads them.
+
+ghost use Rattle.std.specs.Prelude.{◌≡◌, false, Some, IfOk, map};
+ghost use Rattle.clap.specs.Words.{FailsBy, app_of, rule_of};
+ghost use Rattle.gomp_command.specs.CommandLine.{AskFor, HasRequest, asked_by, asked_of, faults_of, ompteam, service_of, settings_rule};
+
+use clap::{Arg, ArgMatches, Command, Error};
+use std::alloc::{AllocError, Global};
+use std::convert::AsStr;
+
+/// What the program does with its standard input.
+#[derive(Clone, Copy)]
+pub enum Service {
+    /// `ompteam steps`: a text is read whole, and each of its steps is answered.
+    Steps,
+    /// `ompteam live`: each line is answered before the next is read.
+    Live,
+}
+
+/// What the words of a command line ask for.
+#[derive(Clone, Copy)]
+pub struct Request<'m, 'a> {
+    /// What is to be done.
+    pub service: Service,
+    /// The words `NAME=VALUE` behind it, in their order.
+    pub settings: &'m [&'a str],
+}
+
+/// What the words say if they are those of `ompteam`, of which the first is the program's name, or why they are refused.
+pub fn read_words<'a, S: AsStr>(alloc: Global, words: &'a [S]) -> Result<ArgMatches<'a>, Error>
+    ensures faults { FailsBy (faults_of (map S.text words.now)) result }
+    ensures asked { IfOk result (AskFor (asked_of (map S.text words.now))) }
+    ensures found { IfOk result HasRequest }
+{
+    ompteam(alloc)?.try_get_matches_from(words)
+}
+
+/// What words ask for that were read.
+pub fn request_of<'m, 'a>(matches: &'m ArgMatches<'a>) -> Request<'m, 'a>
+    requires { HasRequest matches.now }
+    ensures { AskFor (Some (asked_by result)) matches.now }
+{
+    match matches.subcommand() {
+        Some((name, found)) => Request {
+            service: service_of(name),
+            settings: found.get_strs(SETTINGS).unwrap_or(&[]),
+        },
+        None => unreachable!(),
+    }
+}
+
+/// The service that this word names.
+fn service_of(name: &str) -> Service
+    ensures { result ≡ service_of name.now }
+{
+    if name == "live" {
+        Service::Live
+    } else {
+        Service::Steps
+    }
+}
+
+/// What the help calls a setting.
+const SETTINGS: &str = "NAME=VALUE";
+
+/// The command, as its words are read and as its help shows it.
+fn ompteam<'a>(alloc: Global) -> Result<Command<'a>, AllocError>
+    ensures { IfOk result (λ command. app_of command ≡ ompteam) }
+{
+    let steps = Command::new(alloc, "steps")
+        .about("Run the text of steps on standard input and print each reply")
+        .arg(settings_arg(alloc))?;
+    let live = Command::new(alloc, "live")
+        .about("Answer each line on standard input at once")
+        .arg(settings_arg(alloc))?;
+    Command::new(alloc, "ompteam")
+        .version("0.1.0")
+        .about("An OpenMP team, step by step")
+        .subcommand_required(true)
+        .subcommand(steps)?
+        .subcommand(live)
+}
+
+/// The argument that takes the settings, any number of them.
+fn settings_arg<'a>(alloc: Global) -> Arg<'a>
+    ensures rule { rule_of result ≡ settings_rule }
+    ensures local { result.global ≡ false }
+{
+    Arg::new(alloc, SETTINGS)
+        .help("Set a control variable, as this word does in the environment")
+        .num_args(..)
+}

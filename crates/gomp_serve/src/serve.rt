@@ -1,0 +1,88 @@
+//! What the words of the command line ask for, done.
+
+ghost use Rattle.std.specs.Prelude.{◌≡◌, ℕ, List, [], ◌∷◌, codes, map};
+ghost use Rattle.gomp_command.specs.CommandLine.{ArePlain, asked_of, faults_of};
+ghost use Rattle.gomp_serve.specs.Ends.{Ends, EndsOnLive, EndsOnSteps, EndsServing, ServesBy};
+
+use crate::status::{no_equals, no_memory, report_error, status_of_ending};
+use gomp_command::command::{Service, read_words, request_of};
+use gomp_command::settings::{SettingsError, read_settings};
+use gomp_icv::Icv;
+use gomp_live::serve::serve_live;
+use gomp_share_plain::PlainShares;
+use gomp_steps::notes::Status;
+use gomp_steps::serve::{Ending, serve_steps};
+use std::alloc::Global;
+use std::convert::AsStr;
+use std::io::{BufReader, Read, Write};
+
+/// Does what the words of the command line say, of which the first is the program's name.
+///
+/// The words behind `steps` or `live` are settings `NAME=VALUE`, which stand for words of the environment
+/// (OpenMP API 5.2, chapter 21). One without `=` is a fault, and nothing is read or written then. Those
+/// that set nothing are ignored, and in the notes if the input was answered. [`Status`] says which
+/// status each end has.
+pub fn serve<S: AsStr, R: Read + Drop, W: Write>(
+    alloc: Global,
+    words: &[S],
+    reader: R,
+    writer: &mut W,
+) -> Status
+    ensures ends { Ends (faults_of (map S.text words.now)) (asked_of (map S.text words.now))
+        (R.remaining reader) (W.contents writer.old) (W.contents writer.new) result }
+    ensures steps { (name : List ℕ) (settings : List (List ℕ)) →
+        map S.text words.now ≡ name ∷ codes "steps" ∷ settings → ArePlain settings → EndsOnSteps
+        settings (R.remaining reader) (W.contents writer.old) (W.contents writer.new) result }
+    ensures live { (name : List ℕ) (settings : List (List ℕ)) →
+        map S.text words.now ≡ name ∷ codes "live" ∷ settings → ArePlain settings → EndsOnLive
+        settings (R.remaining reader) (W.contents writer.old) (W.contents writer.new) result }
+{
+    match read_words(alloc, words) {
+        Ok(matches) => {
+            let asked = request_of(&matches);
+            serve_with_settings(alloc, asked.service, asked.settings, reader, writer)
+        }
+        Err(error) => report_error(alloc, &error, writer),
+    }
+}
+
+/// Does what the word of a service and these settings say.
+fn serve_with_settings<R: Read + Drop, W: Write>(
+    alloc: Global,
+    service: Service,
+    settings: &[&str],
+    reader: R,
+    writer: &mut W,
+) -> Status
+    ensures { EndsServing
+        (record { service = service; settings = map (λ word. word.now) settings.now })
+        (R.remaining reader) (W.contents writer.old) (W.contents writer.new) result }
+{
+    match read_settings(alloc, settings) {
+        Ok((icv, ignored)) => {
+            status_of_ending(serve_input(alloc, service, icv, reader, writer), ignored)
+        }
+        Err(SettingsError::NoMemory) => no_memory(),
+        Err(SettingsError::NoEquals(word)) => no_equals(alloc, word),
+    }
+}
+
+/// Serves the input by these control variables.
+fn serve_input<R: Read + Drop, W: Write>(
+    alloc: Global,
+    service: Service,
+    icv: Icv,
+    reader: R,
+    writer: &mut W,
+) -> Ending
+    ensures { ServesBy service icv
+        (R.remaining reader) (W.contents writer.old) (W.contents writer.new) result }
+{
+    match service {
+        Service::Steps => serve_steps(alloc, icv, reader, writer),
+        Service::Live => match BufReader::new(alloc, reader) {
+            Ok(reader) => serve_live::<PlainShares, _, _>(alloc, icv, reader, writer),
+            Err(_) => Ending::NoMemory,
+        },
+    }
+}
