@@ -1,5 +1,5 @@
 -- What is known of a talk at any time, whatever lines were said: the page to read first.
-use Rattle.std.proofs.Common.{◌≡◌, ℕ, Bool, true, false, List, [], ◌∷◌, Option, Some, None, Result, Ok, Err, sym, subst}
+use Rattle.std.proofs.Common.{◌≡◌, ℕ, Bool, true, false, List, [], ◌∷◌, Option, Some, None, Result, Ok, Err, refl, sym, subst}
 use Rattle.std.specs.Prelude.{IfSome, is_some}
 use Rattle.gomp_model.specs.Team.{Caused, events}
 use Rattle.gomp_icv.specs.Variables.{Variables}
@@ -12,6 +12,8 @@ use Rattle.gomp_script.specs.declared.parse.Why.{Why}
 use Rattle.gomp_script.specs.LiveText.{read_live_line}
 use Rattle.gomp_steps.specs.Output.{is_size}
 use Rattle.gomp_live.specs.Talk.{Made, TeamAnswered, LineAnswered, next_number, Talked}
+use Rattle.gomp_live.specs.Serving.{SomeAnswered}
+use Rattle.gomp_live.proofs.InputLemmas.{appends_nothing, input_begins, input_stays}
 
 -- the replies to the steps of a team have their causes
 abbrev HasCauses : Variables → Option Made → Type 0
@@ -37,3 +39,18 @@ pub headline_of_a_talk :
     (icv : Variables) → (lines : List (List ℕ)) → (said : List ℕ) → (made : Made) → Talked icv lines said (Some made)
     → Headline made.size (events (standard_terms made.size icv) made.run)
 headline_of_a_talk icv lines said made talked = headline_holds (standard_terms made.size icv) made.run (talk_has_causes icv lines said (Some made) talked)
+
+-- before the first line is read nothing was answered
+pub none_is_answered : (icv : Variables) (remaining before after : Option (List ℕ)) → after ≡ before → SomeAnswered icv remaining before after
+none_is_answered icv remaining before after same =
+    let coming = input_stays remaining remaining [] (input_begins remaining) in (
+      coming.0,
+      record {
+        lines = [];
+        said = [];
+        made = None;
+        read = coming.1;
+        talked = (refl, refl);
+        written = rw same (appends_nothing before);
+      },
+    )

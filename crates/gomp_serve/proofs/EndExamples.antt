@@ -6,18 +6,12 @@ use Rattle.std.specs.declared.string.String.{String}
 use Rattle.std.specs.declared.alloc.Global.{Global}
 use Rattle.clap.specs.declared.error.kind.ErrorKind.TheVariants as kinds
 use Rattle.gomp_types.specs.declared.refusal.Refusal.TheVariants.{BadEnv}
+use Rattle.gomp_icv.specs.Variables.{Variables}
 use Rattle.gomp_steps.specs.declared.serve.Ending.TheVariants as ending
 use Rattle.gomp_steps.specs.declared.notes.Notes.TheVariants as notes
 use Rattle.gomp_steps.specs.declared.notes.Status.{Status}
-use Rattle.gomp_serve.specs.Settings.{IsSettingsError}
-use Rattle.gomp_serve.specs.CommandLine.{Names, IsStatus, IsFault, HasNoWords, EndsWithRead, IsErrorReport}
-use Rattle.gomp_serve.specs.declared.settings.SettingsError.TheVariants as settings
-
--- Settings
-
--- a word without `=` is no want of memory
-pub fault_is_not_memory : IsSettingsError (codes "A=1" ∷ codes "FOO" ∷ []) settings.NoMemory → ⊥
-fault_is_not_memory is = absurd (cc)
+use Rattle.gomp_command.specs.declared.command.Service.TheVariants.{Live, Steps}
+use Rattle.gomp_serve.specs.Ends.{Names, IsStatus, IsFault, HasNoWords, EndsWithRead, IsErrorReport, ServesBy}
 
 -- How the program ends
 
@@ -57,7 +51,7 @@ pub ends_without_words : (text : String Global) (code : ℕ) →
 ends_without_words text code = (λ is. (is.1, is.2), λ is. is.0 refl, λ is. is, λ is. is)
 
 -- if a word has no `=`, nothing is written
-pub fault_of_a_word_writes_nothing : (status : Status) → EndsWithRead (codes "FOO" ∷ []) None None (Some []) (Some (35 ∷ 97 ∷ 10 ∷ [])) status → ⊥
+pub fault_of_a_word_writes_nothing : (status : Status) → EndsWithRead (record { service = Steps; settings = codes "FOO" ∷ [] }) None None (Some []) (Some (35 ∷ 97 ∷ 10 ∷ [])) status → ⊥
 fault_of_a_word_writes_nothing status ends = absurd (let same = ends.1 in cc)
 
 -- help ends with 0, and only if it is asked for
@@ -70,3 +64,7 @@ pub refused_words_end : (before after : Option (List ℕ)) (text : String Global
     (IsErrorReport kinds.MissingSubcommand before after (notes.Command text) code → (code ≡ 1) × (after ≡ before)) × (IsErrorReport kinds.DisplayHelp before after (notes.Command text) code → ⊥)
     × (IsErrorReport kinds.OutOfMemory before after notes.NoMemory code → (code ≡ 3) × (after ≡ before)) × (IsErrorReport kinds.MissingSubcommand before after notes.InputFault code → ⊥)
 refused_words_end before after text code = (λ told. (told.2, told.3), λ told. told.0 (inl refl), λ told. told, λ told. told)
+
+-- lines that were answered one by one end with 0 alone
+pub live_ends_well : (icv : Variables) (remaining before after : Option (List ℕ)) → ServesBy Live icv remaining before after (ending.Answered 1) → ⊥
+live_ends_well icv remaining before after serves = absurd (let end = serves.1 in cc)

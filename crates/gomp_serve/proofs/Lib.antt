@@ -1,6 +1,3 @@
-pub mod CommandExamples
-mod CommandLemmas
 pub mod EndExamples
+mod EndLemmas
 mod NumberLemmas
-mod PlainSettings
-mod SettingLemmas

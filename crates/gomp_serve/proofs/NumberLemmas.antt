@@ -8,10 +8,12 @@ use Rattle.gomp_types.specs.declared.refusal.Refusal.{Refusal}
 use Rattle.gomp_icv.specs.Variables.{Variables}
 use Rattle.gomp_script.specs.declared.parse.BadLine.{BadLine}
 use Rattle.gomp_script.specs.StepText.{steps_of}
-use Rattle.gomp_serve.specs.CommandLine.{Ends, EndsWithRead, IsFault, IsStatus, IsErrorReport}
-use Rattle.gomp_serve.specs.Settings.{first_without, read_settings}
+use Rattle.gomp_command.specs.CommandLine.{Asked}
+use Rattle.gomp_command.specs.Settings.{first_without, read_settings}
+use Rattle.gomp_command.specs.declared.command.Service.{Service}
+use Rattle.gomp_command.specs.declared.command.Service.TheVariants.{Steps, Live}
+use Rattle.gomp_serve.specs.Ends.{Ends, EndsWithRead, IsFault, IsStatus, IsErrorReport, ServesBy}
 use Rattle.gomp_steps.specs.Output.{AnswerTo, Runs, is_size}
-use Rattle.gomp_steps.specs.Serving.{Serves}
 use Rattle.gomp_steps.specs.declared.notes.Notes.{Notes}
 use Rattle.gomp_steps.specs.declared.notes.Notes.TheVariants as notes
 use Rattle.gomp_steps.specs.declared.notes.Status.{Status}
@@ -26,17 +28,21 @@ answer_number : (icv : Variables) (read : Result (ℕ × List Step) BadLine) (te
 answer_number icv (Ok found) text code answer = runs_number icv (is_size found.0) found.0 found.1 text code answer
 answer_number icv (Err bad) text code answer = let is = answer.1 in omega (arith, is)
 
-status_number : (icv : Variables) (how : Ending) (ignored : List Refusal) (remaining before after : Option (List ℕ)) (status : Status) → Serves icv remaining before after how → IsStatus how ignored status → status.code ≤ 3
-status_number icv (ending.Answered code) [] remaining before after status serves is =
-    let small = answer_number icv (steps_of serves.text) serves.output code serves.answer in
+served_number : (service : Service) (icv : Variables) (remaining before after : Option (List ℕ)) (code : ℕ) → ServesBy service icv remaining before after (ending.Answered code) → code ≤ 3
+served_number Steps icv remaining before after code serves = answer_number icv (steps_of serves.text) serves.output code serves.answer
+served_number Live icv remaining before after code serves = let none = serves.1 in omega (arith, none)
+
+status_number : (service : Service) (icv : Variables) (how : Ending) (ignored : List Refusal) (remaining before after : Option (List ℕ)) (status : Status) → ServesBy service icv remaining before after how → IsStatus how ignored status → status.code ≤ 3
+status_number service icv (ending.Answered code) [] remaining before after status serves is =
+    let small = served_number service icv remaining before after code serves in
     let same : status.code ≡ code = ap (λ (s : Status). s.code) is in omega (arith, small, same)
-status_number icv (ending.Answered code) (word ∷ words) remaining before after status serves is =
-    let small = answer_number icv (steps_of serves.text) serves.output code serves.answer in
+status_number service icv (ending.Answered code) (word ∷ words) remaining before after status serves is =
+    let small = served_number service icv remaining before after code serves in
     let same = is.0 in omega (arith, small, same)
-status_number icv ending.NoMemory ignored remaining before after status serves is = let same : status.code ≡ 3 = ap (λ (s : Status). s.code) is in omega (arith, same)
-status_number icv ending.InputFault ignored remaining before after status serves is = let same : status.code ≡ 1 = ap (λ (s : Status). s.code) is in omega (arith, same)
-status_number icv ending.TooLong ignored remaining before after status serves is = let same : status.code ≡ 1 = ap (λ (s : Status). s.code) is in omega (arith, same)
-status_number icv ending.OutputFault ignored remaining before after status serves is = let same : status.code ≡ 1 = ap (λ (s : Status). s.code) is in omega (arith, same)
+status_number service icv ending.NoMemory ignored remaining before after status serves is = let same : status.code ≡ 3 = ap (λ (s : Status). s.code) is in omega (arith, same)
+status_number service icv ending.InputFault ignored remaining before after status serves is = let same : status.code ≡ 1 = ap (λ (s : Status). s.code) is in omega (arith, same)
+status_number service icv ending.TooLong ignored remaining before after status serves is = let same : status.code ≡ 1 = ap (λ (s : Status). s.code) is in omega (arith, same)
+status_number service icv ending.OutputFault ignored remaining before after status serves is = let same : status.code ≡ 1 = ap (λ (s : Status). s.code) is in omega (arith, same)
 
 fault_number : (word : Option Text) (notes : Notes) (code : ℕ) → IsFault word notes code → code ≤ 3
 fault_number word notes.Nothing code is = absurd is
@@ -54,10 +60,11 @@ reported_number kind before after (notes.Ignored words) code is = absurd is
 reported_number kind before after notes.InputFault code is = absurd is
 reported_number kind before after notes.OutputFault code is = let same = is.1 in omega (arith, same)
 
-read_number : (settings : List Text) (read : Option (Variables × List Refusal)) (remaining before after : Option (List ℕ)) (status : Status) → EndsWithRead settings read remaining before after status → status.code ≤ 3
-read_number settings None remaining before after status ends = fault_number (first_without settings) status.notes status.code ends.0
-read_number settings (Some read) remaining before after status ends = status_number read.0 ends.ending read.1 remaining before after status ends.serves ends.status_is
+read_number : (asked : Asked) (read : Option (Variables × List Refusal)) (remaining before after : Option (List ℕ)) (status : Status) → EndsWithRead asked read remaining before after status → status.code ≤ 3
+read_number asked None remaining before after status ends = fault_number (first_without asked.settings) status.notes status.code ends.0
+read_number asked (Some read) remaining before after status ends = status_number asked.service read.0 ends.ending read.1 remaining before after status ends.serves ends.status_is
 
-pub words_number : (faults : Kinds) (settings : List Text) (remaining before after : Option (List ℕ)) (status : Status) → Ends faults settings remaining before after status → status.code ≤ 3
-words_number [] settings remaining before after status ends = read_number settings (read_settings settings) remaining before after status ends
-words_number (fault ∷ others) settings remaining before after status ends = reported_number ends.kind before after status.notes status.code ends.reported
+pub words_number : (faults : Kinds) (asked : Option Asked) (remaining before after : Option (List ℕ)) (status : Status) → Ends faults asked remaining before after status → status.code ≤ 3
+words_number [] None remaining before after status ends = absurd ends
+words_number [] (Some asked) remaining before after status ends = read_number asked (read_settings asked.settings) remaining before after status ends
+words_number (fault ∷ others) asked remaining before after status ends = reported_number ends.kind before after status.notes status.code ends.reported

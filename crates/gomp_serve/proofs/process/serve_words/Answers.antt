@@ -3,15 +3,16 @@ use Rattle.std.specs.Prelude.{string_bytes}
 use Rattle.std.specs.Vec.Iter.{into_iter_items, into_iter_len}
 use Rattle.std.proofs.lemmas.Iterator.{items_from_collect}
 use Rattle.std.proofs.lemmas.Iterator.Adapters.{YieldsList-from_vec}
-use Rattle.gomp_serve.specs.CommandLine.{faults_of, settings_of}
+use Rattle.gomp_command.specs.CommandLine.{asked_of, faults_of}
+use Rattle.gomp_command.proofs.AskedLemmas.{words_ask}
 use Rattle.gomp_serve.specs.Process.{texts_of}
-use Rattle.gomp_serve.proofs.CommandLemmas.{memory_ends}
+use Rattle.gomp_serve.proofs.EndLemmas.{memory_ends}
 use Rattle.gomp_serve.proofs.NumberLemmas.{words_number}
 use Rattle.gomp_serve.proofs.process.serve_words.Goals as goal
 
 pub returns-in-Err-clause-ends : goal.returns-in-Err-clause-ends
 returns-in-Err-clause-ends g c =
-    rw c.no_memory.ensures (memory_ends (faults_of (texts_of c.args.words)) (settings_of (texts_of c.args.words)) (g.R.Read.remaining c.args.reader) _ _ refl)
+    rw c.no_memory.ensures (memory_ends (faults_of (texts_of c.args.words)) (asked_of (texts_of c.args.words)) (g.R.Read.remaining c.args.reader) _ _ (words_ask (texts_of c.args.words)) refl)
 
 pub returns-clause-ends : goal.returns-clause-ends
 returns-clause-ends g c =
@@ -23,4 +24,4 @@ returns-clause-ends g c =
 pub returns-clause-number : goal.returns-clause-number
 returns-clause-number g c =
     let words = map string_bytes c.as_slice.result.now in
-    words_number (faults_of words) (settings_of words) (g.R.Read.remaining c.args.reader) (g.W.Write.contents c.args.writer.now) (g.W.Write.contents c.serve.new.writer) c.serve.result c.serve.ensures.ends
+    words_number (faults_of words) (asked_of words) (g.R.Read.remaining c.args.reader) (g.W.Write.contents c.args.writer.now) (g.W.Write.contents c.serve.new.writer) c.serve.result c.serve.ensures.ends

@@ -1,5 +1,5 @@
 use Rattle.std.proofs.Common.{rules}
-use Rattle.gomp_serve.proofs.command.steps.Goals as goal
+use Rattle.gomp_serve.proofs.serve.serve_with_settings.Goals as goal
 
 pub returns-in-Ok : goal.returns-in-Ok
 returns-in-Ok g c = search rules

@@ -1,5 +1,5 @@
 use Rattle.std.proofs.Common.{rules}
-use Rattle.gomp_serve.proofs.command.report_error.Goals as goal
+use Rattle.gomp_serve.proofs.status.report_error.Goals as goal
 
 pub returns : goal.returns
 returns g c = search rules

@@ -1,5 +1,5 @@
 use Rattle.std.proofs.Common.{rules}
-use Rattle.gomp_serve.proofs.command.status_of_ending.Goals as goal
+use Rattle.gomp_serve.proofs.status.status_of_ending.Goals as goal
 
 pub returns-in-Answered : goal.returns-in-Answered
 returns-in-Answered c = search rules

@@ -1,5 +1,5 @@
 use Rattle.std.proofs.Common.{rules}
-use Rattle.gomp_serve.proofs.command.status_without_words.Goals as goal
+use Rattle.gomp_serve.proofs.status.status_without_words.Goals as goal
 
 pub returns-in-OutOfMemory-clause-notes : goal.returns-in-OutOfMemory-clause-notes
 returns-in-OutOfMemory-clause-notes c = search rules
