@@ -32,7 +32,7 @@ pub fn serve_live<S: Shares + Drop, R: BufRead + Drop, W: Write>(
         text.clear();
         match reader.read_until(b'\n', &mut text) {
             Ok(0) => return Ending::Answered(0),
-            Ok(_) => {}
+            Ok(_) => (),
             Err(error) => return read_fault(&error),
         }
         let (line, _) = cut_at(text.as_slice(), b'\n');
