@@ -71,7 +71,7 @@ fn ompteam<'a>(alloc: Global) -> Result<Command<'a>, AllocError>
         .about("Run the text of steps on standard input and print each reply")
         .arg(settings_arg(alloc))?;
     let live = Command::new(alloc, "live")
-        .about("Answer each line on standard input at once")
+        .about("Answer each line of standard input before the next is read")
         .arg(settings_arg(alloc))?;
     Command::new(alloc, "ompteam")
         .version("0.1.0")

@@ -1,4 +1,4 @@
-//! `ompteam`: reads a text of steps of an OpenMP team, and prints the reply to each.
+//! `ompteam`: answers the steps of an OpenMP team, a text whole or line by line.
 //!
 //! [`run_process`] does everything; `main` only hands it the process's words, input, output and
 //! standard error.

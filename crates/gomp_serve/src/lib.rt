@@ -1,8 +1,9 @@
-//! What `ompteam` does with its words: it reads the command line, and has a text of steps served.
+//! What `ompteam` does with its words: it has a text of steps served, or lines one by one.
 //!
 //! [`run_process`] does everything, from the words of the command line to the number with which the process ends:
-//! [`serve::serve`] reads the words and has the text served, and what is noted beside the output is written. The program only
-//! hands the process's words, input, output and standard error on. gomp_steps serves the text and writes the notes.
+//! [`serve::serve`] has the words read and the input served, and what is noted beside the output is written. The program only
+//! hands the process's words, input, output and standard error on. gomp_command reads the words, gomp_steps serves a text and
+//! writes the notes, gomp_live serves line by line.
 #![tactic(auto)]
 
 mod process;
