@@ -1,4 +1,4 @@
 pub mod CommandExamples
-mod CommandLemmas
-mod PlainSettings
+pub mod CommandLemmas
+pub mod PlainSettings
 mod SettingLemmas

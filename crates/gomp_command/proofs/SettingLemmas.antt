@@ -7,7 +7,7 @@ use Rattle.std.proofs.lemmas.Bool.{cases_Bool, eqb-false, eqb-true, ltb-true}
 use Rattle.std.proofs.lemmas.Bool.Decides.{nat_tests}
 use Rattle.std.proofs.lemmas.List.Sums.{fails_before_first, passes_at_first}
 use Rattle.gomp_icv.specs.EnvWords.{read_env}
-use Rattle.gomp_serve.specs.Settings.{Text, first_without, has_equals, is_equals, pairs_of, read_settings}
+use Rattle.gomp_command.specs.Settings.{Text, first_without, has_equals, is_equals, pairs_of, read_settings}
 
 -- these pairs, and those that are cut later
 abbrev pub with_fronts : List (Text × Text) → Option (List (Text × Text)) → Option (List (Text × Text))

@@ -1,5 +1,6 @@
 -- The words of the command line: why they are refused, or what they ask for. (own)
-use Rattle.std.specs.Prelude.{◌≡◌, ◌≢◌, ℕ, true, if◌then◌else◌, List, [], ◌∷◌, Option, Some, None, codes, find, is_some, map}
+use Rattle.std.specs.Prelude.{◌≡◌, ◌≢◌, true, if◌then◌else◌, List, [], ◌∷◌, Option, Some, codes, find, is_some, map}
+use Rattle.std.specs.Borrow.{Bor}
 use Rattle.std.specs.Option.{option_map, option_map_or}
 use Rattle.std.specs.Str.{bytes_eq}
 use Rattle.clap.specs.Lexer.{usize_max}
@@ -69,6 +70,10 @@ AskFor asked matches = asked_in (subcommand_rows_of matches) ≡ asked
 -- words that were read ask for something
 abbrev pub HasRequest : ArgMatches → Type 0
 HasRequest matches = is_some (subcommand_rows_of matches) ≡ true
+
+-- the settings that are given, if there are any
+abbrev pub values_given : Option (Bor (List (Bor Text))) → List Text
+values_given given = option_map_or (λ words. map (λ word. word.now) words.now) given []
 
 -- what a request says
 abbrev pub asked_by : Request → Asked

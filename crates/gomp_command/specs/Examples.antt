@@ -6,7 +6,15 @@ use Rattle.gomp_command.specs.Settings.{Text}
 abbrev pub with_settings : List Text
 with_settings = codes "ompteam" ∷ codes "steps" ∷ codes "OMP_SCHEDULE=guided,7" ∷ codes "FOO=1" ∷ []
 
--- another command than `steps`
+-- the other service
+abbrev pub with_live : List Text
+with_live = codes "ompteam" ∷ codes "live" ∷ codes "OMP_SCHEDULE=guided,7" ∷ []
+
+-- the program's name alone
+abbrev pub without_command : List Text
+without_command = codes "ompteam" ∷ []
+
+-- another command than `steps` and `live`
 abbrev pub with_another_command : List Text
 with_another_command = codes "ompteam" ∷ codes "run" ∷ []
 

@@ -2,7 +2,7 @@
 
 ghost use Rattle.std.specs.Prelude.{◌≡◌, false, Some, IfOk, map};
 ghost use Rattle.clap.specs.Words.{FailsBy, app_of, rule_of};
-ghost use Rattle.gomp_command.specs.CommandLine.{AskFor, HasRequest, asked_by, asked_of, faults_of, ompteam, service_of, settings_rule};
+ghost use Rattle.gomp_command.specs.CommandLine.{AskFor, HasRequest, asked_by, asked_of, faults_of, ompteam, service_of, settings_rule, values_given};
 
 use clap::{Arg, ArgMatches, Command, Error};
 use std::alloc::{AllocError, Global};
@@ -26,6 +26,23 @@ pub struct Request<'m, 'a> {
     pub settings: &'m [&'a str],
 }
 
+impl<'m, 'a> Request<'m, 'a> {
+    /// What the word of a service asks for, with these settings if there are any.
+    fn new(name: &str, settings: Option<&'m [&'a str]>) -> Self
+        ensures { asked_by result
+            ≡ record { service = service_of name.now; settings = values_given settings.entry } }
+    {
+        let settings = match settings {
+            Some(settings) => settings,
+            None => &[],
+        };
+        Request {
+            service: service_of(name),
+            settings,
+        }
+    }
+}
+
 /// What the words say if they are those of `ompteam`, of which the first is the program's name, or why they are refused.
 pub fn read_words<'a, S: AsStr>(alloc: Global, words: &'a [S]) -> Result<ArgMatches<'a>, Error>
     ensures faults { FailsBy (faults_of (map S.text words.now)) result }
@@ -41,10 +58,7 @@ pub fn request_of<'m, 'a>(matches: &'m ArgMatches<'a>) -> Request<'m, 'a>
     ensures { AskFor (Some (asked_by result)) matches.now }
 {
     match matches.subcommand() {
-        Some((name, found)) => Request {
-            service: service_of(name),
-            settings: found.get_strs(SETTINGS).unwrap_or(&[]),
-        },
+        Some((name, found)) => Request::new(name, found.get_strs(SETTINGS)),
         None => unreachable!(),
     }
 }

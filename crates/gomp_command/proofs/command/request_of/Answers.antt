@@ -1,5 +1,6 @@
-use Rattle.gomp_serve.proofs.CommandLemmas.{settings_given}
-use Rattle.gomp_serve.proofs.command.settings.Goals as goal
+use Rattle.gomp_command.specs.CommandLine.{asked_by}
+use Rattle.gomp_command.proofs.CommandLemmas.{request_asked}
+use Rattle.gomp_command.proofs.command.request_of.Goals as goal
 
 pub returns : goal.returns
-returns c = settings_given c.in_ok-steps.steps.now c.args.matches.now c.get_strs.result c.in_ok-steps.ensures.rows c.get_strs.ensures
+returns c = request_asked c.args.matches.now c.in-Some.found.now c.in-Some.name.now c.get_strs.result (asked_by c.new.result) c.in-Some.ensures.name c.in-Some.ensures.rows c.get_strs.ensures c.new.ensures

@@ -2,9 +2,9 @@ use Rattle.std.proofs.Common.{◌≡◌, ◌∙◌, Some, ap, refl}
 use Rattle.clap.specs.Lexer.{usize_max}
 use Rattle.clap.specs.Words.{new_rule, rule_of}
 use Rattle.clap.specs.declared.builder.arg.Arg.{Arg}
-use Rattle.gomp_serve.specs.CommandLine.{settings_name}
-use Rattle.gomp_serve.proofs.CommandLemmas.{rule_with_range, some_that}
-use Rattle.gomp_serve.proofs.command.settings_arg.Goals as goal
+use Rattle.gomp_command.specs.CommandLine.{settings_name}
+use Rattle.gomp_command.proofs.CommandLemmas.{rule_with_range, some_that}
+use Rattle.gomp_command.proofs.command.settings_arg.Goals as goal
 
 pub returns-clause-rule : goal.returns-clause-rule
 returns-clause-rule c =

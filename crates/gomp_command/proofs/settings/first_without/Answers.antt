@@ -3,9 +3,9 @@ use Rattle.std.specs.Prelude.{find}
 use Rattle.std.specs.Option.{option_map}
 use Rattle.std.proofs.lemmas.Iterator.{YieldsList-from_slice}
 use Rattle.std.proofs.lemmas.Iterator.Search.{find_from_yields_List}
-use Rattle.gomp_serve.specs.Settings.{Text, has_equals}
-use Rattle.gomp_serve.proofs.SettingLemmas.{first_seen}
-use Rattle.gomp_serve.proofs.settings.first_without.Goals as goal
+use Rattle.gomp_command.specs.Settings.{Text, has_equals}
+use Rattle.gomp_command.proofs.SettingLemmas.{first_seen}
+use Rattle.gomp_command.proofs.settings.first_without.Goals as goal
 
 pub returns : goal.returns
 returns c =

@@ -1,7 +1,7 @@
 use Rattle.std.proofs.Common.{rules, ◌≡◌, Some, map}
-use Rattle.gomp_serve.specs.Settings.{first_without}
-use Rattle.gomp_serve.proofs.SettingLemmas.{unread_without}
-use Rattle.gomp_serve.proofs.settings.read_settings.Goals as goal
+use Rattle.gomp_command.specs.Settings.{first_without}
+use Rattle.gomp_command.proofs.SettingLemmas.{unread_without}
+use Rattle.gomp_command.proofs.settings.read_settings.Goals as goal
 
 pub returns-in-Some : goal.returns-in-Some
 returns-in-Some c =

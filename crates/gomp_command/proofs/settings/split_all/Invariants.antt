@@ -1,8 +1,8 @@
 use Rattle.std.proofs.Common.{◌≡◌, drop, None}
 use Rattle.std.specs.Prelude.{map}
-use Rattle.gomp_serve.specs.Settings.{first_without, pairs_of}
-use Rattle.gomp_serve.proofs.SettingLemmas.{with_fronts}
-use Rattle.gomp_serve.proofs.settings.split_all.Given as goal
+use Rattle.gomp_command.specs.Settings.{first_without, pairs_of}
+use Rattle.gomp_command.proofs.SettingLemmas.{with_fronts}
+use Rattle.gomp_command.proofs.settings.split_all.Given as goal
 
 -- the words so far are cut, and those that are left will be; each of those has an `=`
 abbrev pub invariant-loop-word : goal.invariant-loop-word
