@@ -150,6 +150,14 @@ found_without_fault app held words required none =
 subcommand_without_fault : (words : List Text) → faults_of words ≡ [] → is_some (subcommand_of ompteam words) ≡ true
 subcommand_without_fault words none = found_without_fault (built ompteam) nothing_held (argument_words ompteam words) refl none
 
+asks_if_found : (found : Option (Text × List Row)) → is_some found ≡ true → is_some (asked_in found) ≡ true
+asks_if_found None none = none
+asks_if_found (Some found) some = refl
+
+-- words that are served ask for something
+pub words_ask : (words : List Text) → faults_of words ≡ [] → is_some (asked_of words) ≡ true
+words_ask words none = asks_if_found (subcommand_of ompteam words) (subcommand_without_fault words none)
+
 -- words that were read ask for something
 pub has_request : (app : App) (words : List Text) (result : Result ArgMatches Error) → app ≡ ompteam → (is_simple_and_free app ≡ true → FailsBy (fault_of app words) result) → IfOk result (HasMatchesOf app words) → IfOk result HasRequest
 has_request app words (Ok matches) same fails has =

@@ -1,6 +1,6 @@
 -- How the program ends: the ends that its parts share.
-use Rattle.std.proofs.Common.{◌≡◌, ℕ, List, [], ◌∷◌, Option, Some, None, refl, inl, inr}
-use Rattle.std.specs.Prelude.{IsSome}
+use Rattle.std.proofs.Common.{◌≡◌, ◌<◌, ◌^◌, ℕ, List, [], ◌∷◌, Option, Some, None, length, true, refl, sym, inl, inr}
+use Rattle.std.specs.Prelude.{is_some}
 use Rattle.clap.specs.Words.{HasKind, Kinds, Text, kind_of}
 use Rattle.clap.specs.declared.error.Error.{Error}
 use Rattle.clap.specs.declared.error.kind.ErrorKind.{ErrorKind}
@@ -12,7 +12,8 @@ use Rattle.gomp_steps.specs.declared.notes.Notes.{Notes}
 use Rattle.gomp_steps.specs.declared.notes.Notes.TheVariants as notes
 use Rattle.gomp_steps.specs.declared.notes.Status.{Status}
 use Rattle.gomp_live.proofs.Laws.{none_is_answered}
-use Rattle.gomp_command.specs.CommandLine.{Asked}
+use Rattle.gomp_command.specs.CommandLine.{ArePlain, Asked, asked_of, faults_of, word_of}
+use Rattle.gomp_command.proofs.PlainSettings.{plain_has_no_fault, plain_length, plain_settings}
 use Rattle.gomp_command.specs.Settings.{read_settings}
 use Rattle.gomp_command.specs.declared.command.Service.{Service}
 use Rattle.gomp_command.specs.declared.command.Service.TheVariants.{Steps, Live}
@@ -34,11 +35,11 @@ unread_for_memory asked (Some read) remaining before after same = record {
   status_is = refl;
 }
 
-serves_for_memory : (asked : Asked) (remaining before after : Option (List ℕ)) → after ≡ before → EndsServing asked remaining before after (record { code = 3; notes = notes.NoMemory })
+pub serves_for_memory : (asked : Asked) (remaining before after : Option (List ℕ)) → after ≡ before → EndsServing asked remaining before after (record { code = 3; notes = notes.NoMemory })
 serves_for_memory asked remaining before after same = unread_for_memory asked (read_settings asked.settings) remaining before after same
 
 -- if memory is refused and nothing is written, the program may end so on any words
-pub memory_ends : (faults : Kinds) (asked : Option Asked) (remaining before after : Option (List ℕ)) → (faults ≡ [] → IsSome asked) → after ≡ before → Ends faults asked remaining before after (record { code = 3; notes = notes.NoMemory })
+pub memory_ends : (faults : Kinds) (asked : Option Asked) (remaining before after : Option (List ℕ)) → (faults ≡ [] → is_some asked ≡ true) → after ≡ before → Ends faults asked remaining before after (record { code = 3; notes = notes.NoMemory })
 memory_ends [] None remaining before after some same = absurd (let asks = some refl in cc)
 memory_ends [] (Some asked) remaining before after some same = serves_for_memory asked remaining before after same
 memory_ends (fault ∷ others) asked remaining before after some same = record { kind = kinds.OutOfMemory; fault = inl refl; reported = (refl, same) }
@@ -59,7 +60,7 @@ reported_memory kind asked remaining before after notes.InputFault code memory r
 reported_memory kind asked remaining before after notes.OutputFault code memory reported = absurd (no_asking kind memory reported.0)
 
 -- the end after an error, by the faults of the words
-pub reported_ends : (error : Error) (faults : Kinds) (asked : Option Asked) (remaining before after : Option (List ℕ)) (status : Status) → (faults ≡ [] → IsSome asked) → HasKind faults error → IsErrorReport (kind_of error) before after status.notes status.code → Ends faults asked remaining before after status
+pub reported_ends : (error : Error) (faults : Kinds) (asked : Option Asked) (remaining before after : Option (List ℕ)) (status : Status) → (faults ≡ [] → is_some asked ≡ true) → HasKind faults error → IsErrorReport (kind_of error) before after status.notes status.code → Ends faults asked remaining before after status
 reported_ends error [] None remaining before after status some among reported = absurd (let asks = some refl in cc)
 reported_ends error [] (Some asked) remaining before after status some (inl memory) reported = reported_memory (kind_of error) asked remaining before after status.notes status.code memory reported
 reported_ends error [] (Some asked) remaining before after status some (inr none) reported = absurd none
@@ -68,5 +69,11 @@ reported_ends error (fault ∷ others) asked remaining before after status some 
 -- The words of a service
 
 -- a request that was read is what the words ask for
-pub request_serves : (faults : Kinds) (asked : Option Asked) (given : Asked) (remaining before after : Option (List ℕ)) (status : Status) → faults ≡ [] → asked ≡ Some given → EndsServing given remaining before after status → Ends faults asked remaining before after status
-request_serves faults asked given remaining before after status fine is ends = rw (fine, is) ends
+pub request_serves : (faults : Kinds) (asked found : Option Asked) (given : Asked) (remaining before after : Option (List ℕ)) (status : Status) → faults ≡ [] → found ≡ asked → found ≡ Some given → EndsServing given remaining before after status → Ends faults asked remaining before after status
+request_serves faults asked found given remaining before after status fine same is ends = rw (fine, sym same, is) ends
+
+-- on the word of a service and plain settings the program ends as that service does
+pub plain_words_serve : (service : Service) (name : Text) (settings words : List Text) (remaining before after : Option (List ℕ)) (status : Status) → words ≡ name ∷ word_of service ∷ settings → ArePlain settings → length words < 2 ^ 64 → Ends (faults_of words) (asked_of words) remaining before after status → EndsServing (record { service = service; settings = settings }) remaining before after status
+plain_words_serve service name settings words remaining before after status is plain few ends =
+    let size = plain_length service name settings words is few in
+    rw (is, plain_has_no_fault service name settings plain size, plain_settings service name settings plain) at ends

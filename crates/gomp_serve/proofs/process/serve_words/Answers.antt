@@ -4,7 +4,7 @@ use Rattle.std.specs.Vec.Iter.{into_iter_items, into_iter_len}
 use Rattle.std.proofs.lemmas.Iterator.{items_from_collect}
 use Rattle.std.proofs.lemmas.Iterator.Adapters.{YieldsList-from_vec}
 use Rattle.gomp_command.specs.CommandLine.{asked_of, faults_of}
-use Rattle.gomp_command.proofs.AskedLemmas.{words_ask}
+use Rattle.gomp_command.proofs.CommandLemmas.{words_ask}
 use Rattle.gomp_serve.specs.Process.{texts_of}
 use Rattle.gomp_serve.proofs.EndLemmas.{memory_ends}
 use Rattle.gomp_serve.proofs.NumberLemmas.{words_number}
