@@ -1,0 +1,10 @@
+#include <omp.h>
+static void work(int member) {
+  if (member == 0)
+    return;
+  #pragma omp barrier
+}
+int main(void) {
+  #pragma omp parallel
+  work(omp_get_thread_num());
+}
