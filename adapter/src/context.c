@@ -55,11 +55,12 @@ struct context *context_enter(void *address)
     struct context *context = context_at(address);
     if (context->team == NULL) {
         context->team = team_take(1);
+        team_join(context->team, 0);
         region_watch_thread_end();
     } else if (context == &alone) {
         const struct member *member = &context->team->members[0];
         if (member->shares >= SHARES_OF_ONE && !member->inside)
-            team_renew(context->team, 1);
+            team_renew(context->team);
     }
     return context;
 }

@@ -7,13 +7,34 @@
 #include <link.h>
 #include <stdint.h>
 
-// Adds the place of the call that returns to this address. An offset of a program that is not relocatable is its address.
-void place_add(void *address, struct text *text)
+// The binary of an address, and the offset in it of the call that returns there. In a program that is not relocatable the
+// offset is the address.
+static bool find(void *address, const char **name, unsigned long *offset)
 {
     Dl_info binary;
     if (address == NULL || dladdr(address, &binary) == 0)
-        return;
+        return false;
     const ElfW(Ehdr) *header = binary.dli_fbase;
-    uintptr_t base = header->e_type == ET_DYN ? (uintptr_t)binary.dli_fbase : 0;
-    text_add(text, " at %s+0x%lx", binary.dli_fname, (unsigned long)((uintptr_t)address - 1 - base));
+    *name = binary.dli_fname;
+    *offset = (uintptr_t)address - 1 - (header->e_type == ET_DYN ? (uintptr_t)binary.dli_fbase : 0);
+    return true;
+}
+
+void place_add(void *address, struct text *text)
+{
+    const char *name;
+    unsigned long offset;
+    if (find(address, &name, &offset))
+        text_add(text, " (%s+0x%lx)", name, offset);
+}
+
+// Adds the command that prints the line of a place.
+void place_add_command(void *address, struct text *text)
+{
+    const char *name;
+    unsigned long offset;
+    if (find(address, &name, &offset))
+        text_add(text, "addr2line -e %s 0x%lx\n", name, offset);
+    else
+        text_add(text, "addr2line -e PROGRAM OFFSET\n");
 }

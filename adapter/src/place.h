@@ -5,5 +5,6 @@
 #include "call.h"
 
 void place_add(void *address, struct text *text);
+void place_add_command(void *address, struct text *text);
 
 #endif

@@ -56,6 +56,7 @@ static void *work(void *argument)
             return NULL;
         struct region *region = context->region;
         context_set(context);
+        team_join(context->team, context->number);
         region->body(region->data);
         context->address = context->outer->address;
         context_call(context, (struct call){.kind = CALL_REGION_END});
@@ -189,6 +190,7 @@ void region_begin(struct context *outer, void (*body)(void *), void *data, unsig
     for (int number = 1; number < size; number++)
         start_worker(&region->crew->workers[number], &region->contexts[number]);
     context_set(&region->contexts[0]);
+    team_join(team, 0);
 }
 
 // Ends the region that the caller began, after all members have come to its end.

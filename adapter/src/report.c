@@ -44,55 +44,73 @@ static const char *meaning_of(const struct meaning *meanings, int number)
     return meanings->text;
 }
 
-// What one member did last, the same for all members of a group.
-static void add_deed(const struct member *member, struct text *text)
+static void add_count(unsigned long count, const char *noun, struct text *text)
 {
-    if (member->last.kind == CALL_NONE) {
-        text_add(text, "no construct met yet in this region");
-        return;
-    }
-    text_add(text, member->wait != WAIT_NOT ? "waits at " : "last met ");
-    call_words(&member->last, &member->share, text);
-    place_add(member->last.address, text);
+    text_add(text, "%lu %s%s", count, noun, count == 1 ? "" : "s");
 }
 
-static void add_names(const struct team *team, const bool *chosen, struct text *text)
+// How far a member has come in its region.
+static void add_way(const struct member *member, struct text *text)
 {
-    const char *between = "";
-    int count = 0;
-    for (int number = 0; number < team->size; number++)
-        count += chosen[number];
-    text_add(text, count > 1 ? "  members " : "  member ");
-    for (int number = 0; number < team->size; number++)
-        if (chosen[number]) {
-            text_add(text, "%s%d", between, number);
-            if (team->members[number].thread != 0)
-                text_add(text, " (thread %d)", (int)team->members[number].thread);
-            between = ", ";
-        }
+    text_add(text, " after ");
+    add_count(member->shares, "work-share", text);
+    text_add(text, " and ");
+    add_count(member->barriers, "barrier", text);
+}
+
+// What a member did last. The members of a group have done the same.
+static void add_deed(const struct member *member, bool is_group, struct text *text)
+{
+    if (member->last.kind == CALL_NONE) {
+        text_add(text, "no construct met yet");
+        return;
+    }
+    text_add(text, member->wait == WAIT_NOT ? "last met " : is_group ? "wait at " : "waits at ");
+    call_words(&member->last, &member->share, text);
+    place_add(member->last.address, text);
+    add_way(member, text);
+}
+
+static bool is_same_deed(const struct member *one, const struct member *other)
+{
+    static struct text deeds[2];
+    deeds[0].length = deeds[1].length = 0;
+    add_deed(one, false, &deeds[0]);
+    add_deed(other, false, &deeds[1]);
+    return strcmp(deeds[0].bytes, deeds[1].bytes) == 0;
+}
+
+static void add_group(const struct team *team, const bool *group, int first, int count, struct text *text)
+{
+    text_add(text, count > 1 ? "  members" : "  member");
+    for (int number = first; number < team->size; number++) {
+        pid_t thread = team->members[number].thread;
+        if (group[number])
+            text_add(text, "%s %d", number > first ? "," : "", number);
+        if (group[number] && thread != 0)
+            text_add(text, " (thread %d)", (int)thread);
+    }
     text_add(text, ": ");
+    add_deed(&team->members[first], count > 1, text);
+    text_add(text, "\n");
 }
 
 // A line for each group of members that did the same last. `left_out` is a member that is told of apart, or -1.
 static void add_members(const struct team *team, int left_out, struct text *text)
 {
-    static struct text deeds[MOST_MEMBERS];
     bool told[MOST_MEMBERS] = {false};
-    for (int number = 0; number < team->size; number++) {
-        deeds[number].length = 0;
-        add_deed(&team->members[number], &deeds[number]);
-        told[number] = number == left_out;
-    }
     for (int first = 0; first < team->size; first++) {
         bool group[MOST_MEMBERS] = {false};
-        for (int number = first; number < team->size && !told[first]; number++)
-            group[number] = !told[number] && strcmp(deeds[number].bytes, deeds[first].bytes) == 0;
-        if (told[first])
+        int count = 0;
+        if (told[first] || first == left_out)
             continue;
-        add_names(team, group, text);
-        text_add(text, "%s\n", deeds[first].bytes);
-        for (int number = first; number < team->size; number++)
-            told[number] = told[number] || group[number];
+        for (int number = first; number < team->size; number++) {
+            bool is_in = number != left_out && !told[number] && is_same_deed(&team->members[first], &team->members[number]);
+            group[number] = is_in;
+            told[number] = told[number] || is_in;
+            count += is_in;
+        }
+        add_group(team, group, first, count, text);
     }
 }
 
@@ -105,7 +123,7 @@ static void add_place_of_mismatch(struct team *team, int number, struct text *te
     engine_send(team->engine, line, (size_t)snprintf(line, sizeof line, "%d barrier\n", number));
     const char *reply = engine_receive(team->engine);
     if (sscanf(reply, "refused E3 Broken %d %15s %lu", &member, kind, &place) == 3)
-        text_add(text, "  the place: %s %lu of the region\n", strcmp(kind, "share") == 0 ? "work-share" : "barrier", place + 1);
+        text_add(text, "  they differ at %s %lu of the region\n", strcmp(kind, "share") == 0 ? "work-share" : "barrier", place + 1);
 }
 
 static void add_refused_call(const struct team *team, int number, const struct call *call, struct text *text)
@@ -114,10 +132,9 @@ static void add_refused_call(const struct team *team, int number, const struct c
     text_add(text, "  member %d of %d (thread %d): met ", number, team->size, (int)member->thread);
     call_words(call, &member->share, text);
     place_add(call->address, text);
-    text_add(text, "\n  it had started %lu work-share%s and passed %lu barrier%s of the region", member->shares,
-             member->shares == 1 ? "" : "s", member->barriers, member->barriers == 1 ? "" : "s");
+    add_way(member, text);
     if (member->inside) {
-        text_add(text, ", and is inside of ");
+        text_add(text, ", inside of ");
         call_words(&member->share, &member->share, text);
         place_add(member->share.address, text);
     }
@@ -141,7 +158,8 @@ _Noreturn void report_refusal(struct team *team, int number, const struct call *
     if (refused == 35)
         add_place_of_mismatch(team, number, &text);
     add_members(team, number, &text);
-    text_add(&text, "  docs/REFUSALS.md, E%d, has an example and how to mend it\n", refused);
+    text_add(&text, "  see E%d in docs/REFUSALS.md; the line of a place: ", refused);
+    place_add_command(call->address, &text);
     end_with(STATUS_REFUSED, &text);
 }
 

@@ -34,7 +34,6 @@ static pthread_mutex_t teams_lock = PTHREAD_MUTEX_INITIALIZER;
 static struct team *idle_teams;
 static _Atomic(struct team *) all_teams;            // one is added at the front, none is taken away
 static atomic_ulong teams_begun, calls;
-static __thread pid_t this_thread;
 
 static void send_lines(struct team *team, const char *lines, size_t length)
 {
@@ -149,16 +148,21 @@ static struct reply wait_for_reply(struct team *team, int number, const struct c
     return member->reply;
 }
 
+// Notes which thread a member is.
+void team_join(struct team *team, int number)
+{
+    pthread_mutex_lock(&team->lock);
+    team->members[number].thread = gettid();
+    pthread_mutex_unlock(&team->lock);
+}
+
 // Makes a member's call and answers its reply, which is not `wait`.
 struct reply team_call(struct team *team, int number, const struct call *call)
 {
     char line[LINE_SIZE];
     size_t length = call_line(call, number, line);
     struct member *member = &team->members[number];
-    if (this_thread == 0)
-        this_thread = gettid();
     pthread_mutex_lock(&team->lock);
-    member->thread = this_thread;
     send_lines(team, line, length);
     struct reply reply = receive(team, number, call);
     member->last = *call;
@@ -244,10 +248,12 @@ void team_give_back(struct team *team)
     pthread_mutex_unlock(&teams_lock);
 }
 
-void team_renew(struct team *team, int size)
+// A new team of the same thread's.
+void team_renew(struct team *team)
 {
     finish(team);
-    begin(team, size);
+    begin(team, 1);
+    team_join(team, 0);
 }
 
 // The teams one after another, from the first one (after NULL); NULL at the end.

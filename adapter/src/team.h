@@ -41,7 +41,8 @@ struct team {
 
 struct team *team_take(int size);
 void team_give_back(struct team *team);
-void team_renew(struct team *team, int size);
+void team_renew(struct team *team);
+void team_join(struct team *team, int number);
 struct reply team_call(struct team *team, int number, const struct call *call);
 struct team *team_after(struct team *team);
 unsigned long calls_made(void);
