@@ -25,7 +25,7 @@ int main(void) {
                     turn++;
                 }
             }
-#pragma omp for collapse(2) schedule(dynamic, 2)
+#pragma omp for collapse(2)
         for (int i = 0; i < 15; i++)
             for (int k = i; k < 15; k++)
                 COUNT(triangle[i][k]);

@@ -34,8 +34,7 @@ int main(void) {
 #pragma omp section
                 section = 2;
 #pragma omp section
-                if (round < 0)
-                    section = 3;
+                usleep(100);
             }
         }
         CHECK(dynamic == 94 && guided == 39 && stat == 59, "%d %d %d", dynamic, guided, stat);

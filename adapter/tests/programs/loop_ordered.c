@@ -23,6 +23,7 @@ static void check(int expected) {
 }
 
 int main(void) {
+    int other = 0;
 #pragma omp parallel
     {
 #pragma omp for schedule(dynamic) ordered
@@ -41,13 +42,15 @@ int main(void) {
         for (int i = 0; i < 70; i++)
             part(i);
         check(70);
-#pragma omp for schedule(static, 2) ordered nowait
+#pragma omp for schedule(dynamic, 2) ordered nowait
+        for (int i = 0; i < 70; i++) {
+#pragma omp ordered
+            CHECK(i == other++, "iteration %d", i);
+        }
+#pragma omp for schedule(static, 2) ordered
         for (int i = 0; i < 70; i++)
             part(i);
-#pragma omp for schedule(static, 2) ordered
-        for (int i = 70; i < 140; i++)
-            part(i);
-        check(140);
+        check(70);
     }
     return told();
 }
