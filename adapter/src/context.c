@@ -1,0 +1,83 @@
+// The context of a thread: which member of which team it is, and its control variables. Outside of every region a thread is a
+// team of one, which has an engine once it meets a construct, and is renewed between constructs before its limit of shares.
+#include "context.h"
+
+#include "memory.h"
+#include "message.h"
+#include "region.h"
+
+#include <pthread.h>
+
+enum { SHARES_OF_ONE = 131000 };            // the engine's limit is 131,064
+
+static __thread struct context alone;       // the context outside of every region
+static __thread struct context *current;
+
+struct context *context_now(void)
+{
+    if (current == NULL) {
+        alone = (struct context){.size = 1, .variables = initial_variables};
+        current = &alone;
+    }
+    return current;
+}
+
+void context_set(struct context *context)
+{
+    current = context;
+}
+
+// A thread's end gives back its team of one.
+void context_end(void)
+{
+    if (alone.team != NULL)
+        team_give_back(alone.team);
+    alone.team = NULL;
+}
+
+// In a child that the program forked: no team of the parent's is its own.
+void context_forget(void)
+{
+    alone.team = NULL;
+}
+
+// The context of the calling thread, which called the library from this address of the program.
+struct context *context_at(void *address)
+{
+    struct context *context = context_now();
+    context->address = address;
+    return context;
+}
+
+// The same with a team.
+struct context *context_enter(void *address)
+{
+    struct context *context = context_at(address);
+    if (context->team == NULL) {
+        context->team = team_take(1);
+        team_join(context->team, 0);
+        region_watch_thread_end();
+    } else if (context == &alone) {
+        const struct member *member = &context->team->members[0];
+        if (member->shares >= SHARES_OF_ONE && !member->inside)
+            team_renew(context->team);
+    }
+    return context;
+}
+
+// Makes a call of this member.
+struct reply context_call(struct context *context, struct call call)
+{
+    call.address = context->address;
+    return team_call(context->team, context->number, &call);
+}
+
+// What GOMP_loop_start and its like may ask for besides: memory, whose size stands where its address is to stand.
+bool context_extras(struct context *context, bool answer, uintptr_t *reductions, void **memory)
+{
+    if (reductions != NULL)
+        end_not_served("a task reduction on a work-share");
+    if (memory != NULL)
+        *memory = memory_of_share(context->team, ++context->memories, (size_t)*memory);
+    return answer;
+}

@@ -1,0 +1,224 @@
+// An engine is a process `ompteam live [NAME=VALUE]..` over two pipes: a line goes in, its reply comes out. The OMP_ words of
+// the environment are handed to it and are its own. It is started apart from the program: not as its child, so that the
+// program's own wait() never meets it; in a process group of its own, so that an interrupt at the terminal reaches the program
+// alone; without LD_PRELOAD. Only the first engine has the program's standard error, so each ignored word is noted once.
+#define _GNU_SOURCE
+#include "engine.h"
+
+#include "message.h"
+#include "variables.h"
+
+#include <errno.h>
+#include <fcntl.h>
+#include <poll.h>
+#include <pthread.h>
+#include <sched.h>
+#include <signal.h>
+#include <spawn.h>
+#include <stdio.h>
+#include <stdlib.h>
+#include <string.h>
+#include <sys/wait.h>
+#include <unistd.h>
+
+enum { STACK_SIZE = 65536, PATIENCE = 20000 };      // bytes; milliseconds that a new team's first reply may take
+
+extern char **environ;
+static pthread_mutex_t engines_lock = PTHREAD_MUTEX_INITIALIZER;
+static struct engine *engines;                      // all of them, the newest first
+
+struct start {
+    const char *path;
+    char **arguments, **environment;
+    int input, output;
+    bool first;
+};
+
+// Runs in a short-lived process that shares the program's memory, as vfork's does. Answers the fault, 0 for none.
+static int start_process(void *argument)
+{
+    struct start *start = argument;
+    posix_spawn_file_actions_t actions;
+    posix_spawnattr_t attributes;
+    sigset_t none, all;
+    pid_t process;
+    sigemptyset(&none);
+    sigfillset(&all);
+    posix_spawn_file_actions_init(&actions);
+    posix_spawn_file_actions_adddup2(&actions, start->input, STDIN_FILENO);
+    posix_spawn_file_actions_adddup2(&actions, start->output, STDOUT_FILENO);
+    if (!start->first)
+        posix_spawn_file_actions_addopen(&actions, STDERR_FILENO, "/dev/null", O_WRONLY, 0);
+    posix_spawnattr_init(&attributes);
+    posix_spawnattr_setflags(&attributes, POSIX_SPAWN_SETPGROUP | POSIX_SPAWN_SETSIGMASK | POSIX_SPAWN_SETSIGDEF);
+    posix_spawnattr_setsigmask(&attributes, &none);
+    posix_spawnattr_setsigdefault(&attributes, &all);
+    return posix_spawn(&process, start->path, &actions, &attributes, start->arguments, start->environment);
+}
+
+// Starts the process as a grandchild. The child between has no exit signal, so no wait() of the program's sees it.
+static int start_apart(struct start *start)
+{
+    char *stack = malloc(STACK_SIZE);
+    if (stack == NULL)
+        return ENOMEM;
+    int status = 0, fault = 0;
+    pid_t child = clone(start_process, stack + STACK_SIZE, CLONE_VM | CLONE_VFORK, start);
+    if (child < 0)
+        fault = errno;
+    else
+        while (waitpid(child, &status, __WCLONE) < 0 && errno == EINTR)
+            ;
+    free(stack);
+    return fault != 0 ? fault : WEXITSTATUS(status);
+}
+
+static bool is_preload(const char *word)
+{
+    return strncmp(word, "LD_PRELOAD=", 11) == 0;
+}
+
+static char **environment_without_preload(void)
+{
+    size_t count = 0, kept = 0;
+    while (environ[count] != NULL)
+        count++;
+    char **words = calloc(count + 1, sizeof *words);
+    for (size_t i = 0; words != NULL && i < count; i++)
+        if (!is_preload(environ[i]))
+            words[kept++] = environ[i];
+    return words;
+}
+
+// A pipe whose ends leave the three standard numbers free and are closed in what the program executes.
+static void open_pipe(int ends[2])
+{
+    int low[2];
+    if (pipe2(low, O_CLOEXEC) != 0)
+        end_by_fault("a pipe to the engine cannot be made: %s", strerror(errno));
+    for (int i = 0; i < 2; i++) {
+        ends[i] = fcntl(low[i], F_DUPFD_CLOEXEC, 3);
+        if (ends[i] < 0)
+            end_by_fault("a pipe to the engine cannot be made: %s", strerror(errno));
+        close(low[i]);
+    }
+}
+
+static void start_engine(struct engine *engine, bool first)
+{
+    struct start start = {.path = getenv("DILLBEAM_ENGINE"), .first = first, .environment = environment_without_preload()};
+    if (start.path == NULL || *start.path == 0)
+        end_by_fault("the word DILLBEAM_ENGINE is not set; run the program by ./dillbeam");
+    start.arguments = calloc(handed_words.count + 3, sizeof *start.arguments);
+    if (start.arguments == NULL || start.environment == NULL)
+        end_by_fault("no memory for an engine");
+    start.arguments[0] = (char *)start.path;
+    start.arguments[1] = "live";
+    memcpy(start.arguments + 2, handed_words.words, handed_words.count * sizeof *handed_words.words);
+    int questions[2], replies[2];
+    open_pipe(questions);
+    open_pipe(replies);
+    start.input = questions[0];
+    start.output = replies[1];
+    int fault = start_apart(&start);
+    if (fault != 0)
+        end_by_fault("the engine %s cannot be started: %s", start.path, strerror(fault));
+    close(replies[1]);
+    *engine = (struct engine){.to = questions[1], .to_reader = questions[0], .from = replies[0], .next = engine->next};
+    free(start.arguments);
+    free(start.environment);
+}
+
+struct engine *engine_start(void)
+{
+    struct engine *engine = calloc(1, sizeof *engine);
+    if (engine == NULL)
+        end_by_fault("no memory for an engine");
+    pthread_mutex_lock(&engines_lock);
+    engine->next = engines;
+    start_engine(engine, engines == NULL);
+    engines = engine;
+    pthread_mutex_unlock(&engines_lock);
+    return engine;
+}
+
+void engine_send(struct engine *engine, const char *lines, size_t length)
+{
+    while (length > 0) {
+        ssize_t written = write(engine->to, lines, length);
+        if (written < 0 && errno != EINTR)
+            end_by_fault("the engine cannot be written to: %s", strerror(errno));
+        if (written > 0) {
+            lines += written;
+            length -= (size_t)written;
+        }
+    }
+}
+
+// Reads more of the replies, behind those that were not taken yet.
+static void fill(struct engine *engine)
+{
+    memmove(engine->replies, engine->replies + engine->taken, engine->filled - engine->taken);
+    engine->filled -= engine->taken;
+    engine->taken = 0;
+    if (engine->filled == sizeof engine->replies)
+        end_by_fault("the engine's reply is no line");
+    ssize_t count;
+    do
+        count = read(engine->from, engine->replies + engine->filled, sizeof engine->replies - engine->filled);
+    while (count < 0 && errno == EINTR);
+    if (count <= 0)
+        end_by_fault("the engine %s ended without an answer", getenv("DILLBEAM_ENGINE"));
+    engine->filled += (size_t)count;
+}
+
+// The next reply, without its line feed. It stands until the next call for this engine.
+const char *engine_receive(struct engine *engine)
+{
+    char *feed;
+    while ((feed = memchr(engine->replies + engine->taken, '\n', engine->filled - engine->taken)) == NULL)
+        fill(engine);
+    const char *line = engine->replies + engine->taken;
+    *feed = 0;
+    engine->taken = (size_t)(feed + 1 - engine->replies);
+    return line;
+}
+
+// Waits for the first reply of a team: a process that says nothing is no engine.
+void engine_await(struct engine *engine)
+{
+    struct pollfd reply = {.fd = engine->from, .events = POLLIN};
+    int ready;
+    do
+        ready = poll(&reply, 1, PATIENCE);
+    while (ready < 0 && errno == EINTR);
+    if (ready == 0)
+        end_by_fault("the engine %s does not answer", getenv("DILLBEAM_ENGINE"));
+}
+
+// At the program's end: closes the engines' inputs, and waits a moment for the first one's notes.
+void engines_finish(void)
+{
+    struct engine *first = NULL;
+    for (struct engine *engine = engines; engine != NULL; engine = engine->next) {
+        close(engine->to);
+        first = engine;
+    }
+    char rest[256];
+    struct pollfd end = {.fd = first != NULL ? first->from : -1, .events = POLLIN};
+    while (first != NULL && poll(&end, 1, 2000) > 0 && read(first->from, rest, sizeof rest) > 0)
+        ;
+    engines = NULL;
+}
+
+// In a child that the program forked: the engines are its parent's.
+void engines_forget(void)
+{
+    pthread_mutex_init(&engines_lock, NULL);
+    for (struct engine *engine = engines; engine != NULL; engine = engine->next) {
+        close(engine->to);
+        close(engine->to_reader);
+        close(engine->from);
+    }
+    engines = NULL;
+}

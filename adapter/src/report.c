@@ -1,0 +1,193 @@
+// The messages about a team: a refused call, a deadlock, a team in which nothing has moved. Each names the members by the
+// adapter's own notes: what each did last, in OpenMP's words, and where in the binary.
+#define _GNU_SOURCE
+#include "report.h"
+
+#include "message.h"
+#include "place.h"
+
+#include <errno.h>
+#include <stdio.h>
+#include <stdlib.h>
+#include <string.h>
+#include <time.h>
+
+struct meaning {
+    int number;
+    const char *text;
+};
+
+// The limits are no faults of the program.
+static const struct meaning limits[] = {
+    {14, "a loop has more than 2^39 iterations"}, {15, "a construct has more than 65,536 sections"},
+    {27, "the team holds more names than there is room for"},
+    {34, "a member may start 131,064 work-shares in one parallel region"},
+    {36, "the room for stored events is used up"}, {37, "memory was refused"}, {0, NULL},
+};
+
+static const struct meaning faults[] = {
+    {2, "the member has passed the end of the parallel region"}, {3, "the team is broken"},
+    {8, "the member is in a work-share, in which this may not be met"},
+    {9, "the member is in no work-share of this kind"}, {10, "the member is in an ordered part"},
+    {12, "the loop's step is 0"}, {13, "the chunk is negative, or above 2^39"},
+    {17, "the construct ends otherwise than it began"}, {18, "the member left before nothing was left to do"},
+    {19, "the member asked again though nothing was left"}, {20, "the loop has no ordered clause"},
+    {21, "an ordered part comes twice in an iteration, or not in the order of the iterations"},
+    {22, "no such part is open"}, {35, "the members of the team did not meet the same constructs in the same order"},
+    {0, NULL},
+};
+
+static const char *meaning_of(const struct meaning *meanings, int number)
+{
+    while (meanings->number != 0 && meanings->number != number)
+        meanings++;
+    return meanings->text;
+}
+
+static void add_count(unsigned long count, const char *noun, struct text *text)
+{
+    text_add(text, "%lu %s%s", count, noun, count == 1 ? "" : "s");
+}
+
+// How far a member has come in its region.
+static void add_way(const struct member *member, struct text *text)
+{
+    text_add(text, " after ");
+    add_count(member->shares, "work-share", text);
+    text_add(text, " and ");
+    add_count(member->barriers, "barrier", text);
+}
+
+// What a member did last. The members of a group have done the same.
+static void add_deed(const struct member *member, bool is_group, struct text *text)
+{
+    if (member->last.kind == CALL_NONE) {
+        text_add(text, "no construct met yet");
+        return;
+    }
+    text_add(text, member->wait == WAIT_NOT ? "last met " : is_group ? "wait at " : "waits at ");
+    call_words(&member->last, &member->share, text);
+    place_add(member->last.address, text);
+    add_way(member, text);
+}
+
+static bool is_same_deed(const struct member *one, const struct member *other)
+{
+    static struct text deeds[2];
+    deeds[0].length = deeds[1].length = 0;
+    add_deed(one, false, &deeds[0]);
+    add_deed(other, false, &deeds[1]);
+    return strcmp(deeds[0].bytes, deeds[1].bytes) == 0;
+}
+
+static void add_group(const struct team *team, const bool *group, int first, int count, struct text *text)
+{
+    text_add(text, count > 1 ? "  members" : "  member");
+    for (int number = first; number < team->size; number++) {
+        pid_t thread = team->members[number].thread;
+        if (group[number])
+            text_add(text, "%s %d", number > first ? "," : "", number);
+        if (group[number] && thread != 0)
+            text_add(text, " (thread %d)", (int)thread);
+    }
+    text_add(text, ": ");
+    add_deed(&team->members[first], count > 1, text);
+    text_add(text, "\n");
+}
+
+// A line for each group of members that did the same last. `left_out` is a member that is told of apart, or -1.
+static void add_members(const struct team *team, int left_out, struct text *text)
+{
+    bool told[MOST_MEMBERS] = {false};
+    for (int first = 0; first < team->size; first++) {
+        bool group[MOST_MEMBERS] = {false};
+        int count = 0;
+        if (told[first] || first == left_out)
+            continue;
+        for (int number = first; number < team->size; number++) {
+            bool is_in = number != left_out && !told[number] && is_same_deed(&team->members[first], &team->members[number]);
+            group[number] = is_in;
+            told[number] = told[number] || is_in;
+            count += is_in;
+        }
+        add_group(team, group, first, count, text);
+    }
+}
+
+// The place of the mismatch: the next step of any member is answered by it. This question is in no record.
+static void add_place_of_mismatch(struct team *team, int number, struct text *text)
+{
+    char line[LINE_SIZE], kind[16];
+    int member;
+    unsigned long place;
+    engine_send(team->engine, line, (size_t)snprintf(line, sizeof line, "%d barrier\n", number));
+    const char *reply = engine_receive(team->engine);
+    if (sscanf(reply, "refused E3 Broken %d %15s %lu", &member, kind, &place) == 3)
+        text_add(text, "  they differ at %s %lu of the region\n", strcmp(kind, "share") == 0 ? "work-share" : "barrier", place + 1);
+}
+
+static void add_refused_call(const struct team *team, int number, const struct call *call, struct text *text)
+{
+    const struct member *member = &team->members[number];
+    text_add(text, "  member %d of %d (thread %d): met ", number, team->size, (int)member->thread);
+    call_words(call, &member->share, text);
+    place_add(call->address, text);
+    add_way(member, text);
+    if (member->inside) {
+        text_add(text, ", inside of ");
+        call_words(&member->share, &member->share, text);
+        place_add(member->share.address, text);
+    }
+    text_add(text, "\n");
+}
+
+// Ends the program with what the refusal of a member's call means. The caller holds the team's lock.
+_Noreturn void report_refusal(struct team *team, int number, const struct call *call, const char *refusal)
+{
+    static struct text text;
+    char name[LINE_SIZE];
+    snprintf(name, sizeof name, "%s", refusal + strlen("refused "));
+    int refused = atoi(name + 1);
+    const char *limit = meaning_of(limits, refused), *fault = meaning_of(faults, refused);
+    claim_end();
+    if (limit != NULL)
+        text_add(&text, "dillbeam: %s: a limit of Dillbeam, not a fault of the program: %s\n", name, limit);
+    else
+        text_add(&text, "dillbeam: %s: %s\n", name, fault != NULL ? fault : "the call was refused");
+    add_refused_call(team, number, call, &text);
+    if (refused == 35)
+        add_place_of_mismatch(team, number, &text);
+    add_members(team, number, &text);
+    text_add(&text, "  see E%d in docs/REFUSALS.md; the line of a place: ", refused);
+    place_add_command(call->address, &text);
+    end_with(STATUS_REFUSED, &text);
+}
+
+// Ends the program: all members of a team wait. The caller holds the team's lock.
+_Noreturn void report_deadlock(struct team *team)
+{
+    static struct text text;
+    claim_end();
+    text_add(&text, "dillbeam: deadlock: all %d members of a team wait, and none can go on\n", team->size);
+    add_members(team, -1, &text);
+    end_with(STATUS_STUCK, &text);
+}
+
+_Noreturn void report_timeout(double seconds)
+{
+    static struct text text;
+    claim_end();
+    text_add(&text, "dillbeam: nothing has moved for %g seconds (--timeout)\n", seconds);
+    for (struct team *team = team_after(NULL); team != NULL; team = team_after(team)) {
+        struct timespec until;
+        clock_gettime(CLOCK_REALTIME, &until);
+        until.tv_sec++;
+        bool locked = pthread_mutex_timedlock(&team->lock, &until) == 0;
+        if (!team->in_use)
+            continue;
+        text_add(&text, "  team %lu, of %d member%s%s:\n", team->number, team->size, team->size == 1 ? "" : "s",
+                 locked ? "" : ", whose engine does not answer");
+        add_members(team, -1, &text);
+    }
+    end_with(STATUS_STUCK, &text);
+}

@@ -1,0 +1,51 @@
+// A team, its engine and its members: see team.c.
+#ifndef DILLBEAM_TEAM_H
+#define DILLBEAM_TEAM_H
+
+#include "call.h"
+#include "engine.h"
+
+#include <pthread.h>
+#include <semaphore.h>
+#include <sys/types.h>
+
+enum { MOST_MEMBERS = 64 };
+
+// What lets a member that waits go on.
+enum wait { WAIT_NOT = 0, WAIT_ARRIVAL = 1, WAIT_LEAVE = 2, WAIT_TURN = 4, WAIT_ANY = 7 };
+
+struct member {
+    pid_t thread;
+    struct call last;                   // its last call, or the one that it waits with
+    struct call share;                  // the start of the work-share that it is, or was last, in
+    bool inside;                        // of that share
+    unsigned long shares, barriers;     // it has started and passed, in this region
+    enum wait wait;
+    struct reply reply;                 // to the call that it waited with
+    sem_t answered;
+};
+
+struct memory;
+
+struct team {
+    pthread_mutex_t lock;               // of all that stands below
+    struct engine *engine;
+    int record, size, waiting;
+    unsigned long number;               // of the team, from 1
+    struct memory *memories;
+    struct team *next;                  // of those that are idle
+    struct team *next_of_all;
+    bool in_use;
+    struct member members[MOST_MEMBERS];
+};
+
+struct team *team_take(int size);
+void team_give_back(struct team *team);
+void team_renew(struct team *team);
+void team_join(struct team *team, int number);
+struct reply team_call(struct team *team, int number, const struct call *call);
+struct team *team_after(struct team *team);
+unsigned long calls_made(void);
+void teams_forget(void);
+
+#endif

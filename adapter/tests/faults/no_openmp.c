@@ -1,0 +1,7 @@
+// A program without OpenMP.
+#include <stdio.h>
+
+int main(void) {
+    puts("no OpenMP here");
+    return 4;
+}

@@ -1,0 +1,16 @@
+// GOMP_task: tasks.
+#include "../check.h"
+
+int main(void) {
+    int count = 0;
+#pragma omp parallel
+    {
+#pragma omp single
+        for (int k = 0; k < 10; k++) {
+#pragma omp task
+            COUNT(count);
+        }
+    }
+    CHECK(count == 10, "%d", count);
+    return told();
+}

@@ -1,0 +1,14 @@
+// GOMP_loop_start: a reduction of tasks in a loop.
+#include "../check.h"
+
+int main(void) {
+    int sum = 0;
+#pragma omp parallel
+    {
+#pragma omp for reduction(task, + : sum) schedule(dynamic)
+        for (int i = 0; i < 20; i++)
+            sum++;
+    }
+    CHECK(sum == 20, "%d", sum);
+    return told();
+}
