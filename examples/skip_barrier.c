@@ -1,3 +1,4 @@
+// E35 Mismatch: a member skips a barrier, and the region's end shows it.
 #include <omp.h>
 static void work(int member) {
   if (member == 0)

@@ -1,4 +1,4 @@
-// GOMP_loop_start: a reduction of tasks in a loop.
+// a task reduction on a work-share: in a loop.
 #include "../check.h"
 
 int main(void) {
