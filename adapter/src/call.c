@@ -1,5 +1,5 @@
-// A call in its two forms: the line that the engine reads (docs/FORMATS.md), and the words of an OpenMP program. And the
-// engine's reply, read and held against what the call may be answered.
+// A call in its two forms: the line that the engine reads (docs/FORMATS.md), and the words of an OpenMP
+// program. And the engine's reply, read and held against what the call may be answered.
 #include "call.h"
 
 #include <stdarg.h>
@@ -36,8 +36,9 @@ static long chunk_sent(const struct loop *loop)
 
 static int loop_line(const struct loop *loop, int member, char line[LINE_SIZE])
 {
-    return snprintf(line, LINE_SIZE, "%d loop %s %ld %ld %ld %ld nowait%s\n", member, schedule_names[loop->schedule],
-                    chunk_sent(loop), loop->start, loop->end, loop->increment, loop->ordered ? " ordered" : "");
+    return snprintf(line, LINE_SIZE, "%d loop %s %ld %ld %ld %ld nowait%s\n", member,
+                    schedule_names[loop->schedule], chunk_sent(loop), loop->start, loop->end, loop->increment,
+                    loop->ordered ? " ordered" : "");
 }
 
 static const char *plain_line(enum call_kind kind)
@@ -59,16 +60,13 @@ static const char *plain_line(enum call_kind kind)
 size_t call_line(const struct call *call, int member, char line[LINE_SIZE])
 {
     switch (call->kind) {
-    case CALL_LOOP:
-        return (size_t)loop_line(&call->loop, member, line);
+    case CALL_LOOP: return (size_t)loop_line(&call->loop, member, line);
     case CALL_SECTIONS:
         return (size_t)snprintf(line, LINE_SIZE, "%d sections %u nowait\n", member, call->sections);
     case CALL_SINGLE_COPY_END:
         return (size_t)snprintf(line, LINE_SIZE, "%d single_copy_end %lu\n", member, call->word);
-    case CALL_ORDERED:
-        return (size_t)snprintf(line, LINE_SIZE, "%d ordered %ld\n", member, call->iteration);
-    default:
-        return (size_t)snprintf(line, LINE_SIZE, "%d %s\n", member, plain_line(call->kind));
+    case CALL_ORDERED: return (size_t)snprintf(line, LINE_SIZE, "%d ordered %ld\n", member, call->iteration);
+    default: return (size_t)snprintf(line, LINE_SIZE, "%d %s\n", member, plain_line(call->kind));
     }
 }
 
@@ -79,8 +77,8 @@ static void loop_words(const struct loop *loop, struct text *text)
         text_add(text, ", %ld", loop->chunk);
     text_add(text, ")%s, ", loop->ordered ? " ordered" : "");
     if (loop->numbering == NUMBERS_TURNED)
-        text_add(text, "%lu to %lu by %ld", (unsigned long)loop->start ^ 1UL << 63, (unsigned long)loop->end ^ 1UL << 63,
-                 loop->increment);
+        text_add(text, "%lu to %lu by %ld", (unsigned long)loop->start ^ 1UL << 63,
+                 (unsigned long)loop->end ^ 1UL << 63, loop->increment);
     else if (loop->numbering == NUMBERS_COUNTED)
         text_add(text, "%ld iterations", loop->end);
     else
@@ -91,9 +89,9 @@ static void loop_words(const struct loop *loop, struct text *text)
 void call_words(const struct call *call, const struct call *share, struct text *text)
 {
     static const char *const before[] = {
-        [CALL_LOOP_NEXT] = "the next chunk of ", [CALL_LOOP_END] = "the end of ", [CALL_SECTIONS_NEXT] = "the next section of ",
-        [CALL_SECTIONS_END] = "the end of ", [CALL_SINGLE_COPY_END] = "the end of ",
-        [CALL_BARRIER_OF_SHARE] = "the barrier at the end of ",
+        [CALL_LOOP_NEXT] = "the next chunk of ",       [CALL_LOOP_END] = "the end of ",
+        [CALL_SECTIONS_NEXT] = "the next section of ", [CALL_SECTIONS_END] = "the end of ",
+        [CALL_SINGLE_COPY_END] = "the end of ",        [CALL_BARRIER_OF_SHARE] = "the barrier at the end of ",
     };
     switch (call->kind) {
     case CALL_NONE: text_add(text, "no construct"); break;
@@ -105,20 +103,22 @@ void call_words(const struct call *call, const struct call *share, struct text *
     case CALL_ORDERED_END: text_add(text, "the end of #pragma omp ordered"); break;
     case CALL_BARRIER: text_add(text, "#pragma omp barrier (or the barrier that ends a construct)"); break;
     case CALL_REGION_END: text_add(text, "the end of the parallel region"); break;
-    default:
-        text_add(text, "%s", before[call->kind]);
-        call_words(share, share, text);
+    default: text_add(text, "%s", before[call->kind]); call_words(share, share, text);
     }
 }
 
 static bool may_be_answered(const struct call *call, enum reply_kind reply)
 {
     switch (call->kind) {
-    case CALL_LOOP: case CALL_LOOP_NEXT: return reply == REPLY_CHUNK || reply == REPLY_NONE;
-    case CALL_SECTIONS: case CALL_SECTIONS_NEXT: return reply == REPLY_SECTION;
+    case CALL_LOOP:
+    case CALL_LOOP_NEXT: return reply == REPLY_CHUNK || reply == REPLY_NONE;
+    case CALL_SECTIONS:
+    case CALL_SECTIONS_NEXT: return reply == REPLY_SECTION;
     case CALL_SINGLE: return reply == REPLY_EXECUTOR;
     case CALL_SINGLE_COPY: return reply == REPLY_EXECUTOR || reply == REPLY_COPIED;
-    case CALL_BARRIER: case CALL_BARRIER_OF_SHARE: case CALL_REGION_END: return reply == REPLY_PASSED;
+    case CALL_BARRIER:
+    case CALL_BARRIER_OF_SHARE:
+    case CALL_REGION_END: return reply == REPLY_PASSED;
     default: return reply == REPLY_OK;
     }
 }

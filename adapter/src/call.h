@@ -8,46 +8,66 @@
 enum { LINE_SIZE = 256, TEXT_SIZE = 32768 };
 
 enum call_kind {
-    CALL_NONE, CALL_LOOP, CALL_LOOP_NEXT, CALL_LOOP_END, CALL_SECTIONS, CALL_SECTIONS_NEXT, CALL_SECTIONS_END,
-    CALL_SINGLE, CALL_SINGLE_COPY, CALL_SINGLE_COPY_END, CALL_ORDERED, CALL_ORDERED_END, CALL_BARRIER,
-    CALL_BARRIER_OF_SHARE, CALL_REGION_END
+    CALL_NONE,
+    CALL_LOOP,
+    CALL_LOOP_NEXT,
+    CALL_LOOP_END,
+    CALL_SECTIONS,
+    CALL_SECTIONS_NEXT,
+    CALL_SECTIONS_END,
+    CALL_SINGLE,
+    CALL_SINGLE_COPY,
+    CALL_SINGLE_COPY_END,
+    CALL_ORDERED,
+    CALL_ORDERED_END,
+    CALL_BARRIER,
+    CALL_BARRIER_OF_SHARE,
+    CALL_REGION_END
 };
 
 // The numbers are those of libgomp, which GOMP_loop_start is given.
 enum schedule { SCHEDULE_RUNTIME, SCHEDULE_STATIC, SCHEDULE_DYNAMIC, SCHEDULE_GUIDED, SCHEDULE_AUTO };
 
-// How the engine's signed numbers stand for a loop's own: as they are; unsigned ones with the top bit turned, which keeps
-// their order; or as the numbers of its iterations, counted from 0.
+// How the engine's signed numbers stand for a loop's own: as they are; unsigned ones with the top bit turned,
+// which keeps their order; or as the numbers of its iterations, counted from 0.
 enum numbering { NUMBERS_SIGNED, NUMBERS_TURNED, NUMBERS_COUNTED };
 
 struct loop {
     enum schedule schedule;
     enum numbering numbering;
     bool ordered;
-    long start, end, increment, chunk;      // the chunk as the program gave it, 0 for none
+    long start, end, increment, chunk; // the chunk as the program gave it, 0 for none
 };
 
 struct call {
     enum call_kind kind;
-    void *address;                          // where in the program it returns to
+    void *address; // where in the program it returns to
     union {
         struct loop loop;
         unsigned sections;
-        long iteration;                     // of an ordered part
-        unsigned long word;                 // what a single hands to the other members
+        long iteration;     // of an ordered part
+        unsigned long word; // what a single hands to the other members
     };
 };
 
 enum reply_kind {
-    REPLY_CHUNK, REPLY_NONE, REPLY_SECTION, REPLY_EXECUTOR, REPLY_COPIED, REPLY_OK, REPLY_PASSED, REPLY_WAIT, REPLY_REFUSED,
+    REPLY_CHUNK,
+    REPLY_NONE,
+    REPLY_SECTION,
+    REPLY_EXECUTOR,
+    REPLY_COPIED,
+    REPLY_OK,
+    REPLY_PASSED,
+    REPLY_WAIT,
+    REPLY_REFUSED,
     REPLY_UNKNOWN
 };
 
 struct reply {
     enum reply_kind kind;
-    long first;                             // of a chunk: the value of its first iteration
-    unsigned long count;                    // of a chunk: iterations; a section's number; yes or no; a copied word
-    char text[LINE_SIZE];                   // the line itself, of a refusal
+    long first;           // of a chunk: the value of its first iteration
+    unsigned long count;  // of a chunk: iterations; a section's number; yes or no; a copied word
+    char text[LINE_SIZE]; // the line itself, of a refusal
 };
 
 // A text that grows up to its room; what is beyond is dropped.

@@ -1,5 +1,6 @@
-// The context of a thread: which member of which team it is, and its control variables. Outside of every region a thread is a
-// team of one, which has an engine once it meets a construct, and is renewed between constructs before its limit of shares.
+// The context of a thread: which member of which team it is, and its control variables. Outside of every
+// region a thread is a team of one, which has an engine once it meets a construct, and is renewed between
+// constructs before its limit of shares.
 #include "context.h"
 
 #include "memory.h"
@@ -8,9 +9,9 @@
 
 #include <pthread.h>
 
-enum { SHARES_OF_ONE = 131000 };            // the engine's limit is 131,064
+enum { SHARES_OF_ONE = 131000 }; // the engine's limit is 131,064
 
-static __thread struct context alone;       // the context outside of every region
+static __thread struct context alone; // the context outside of every region
 static __thread struct context *current;
 
 struct context *context_now(void)
@@ -22,10 +23,7 @@ struct context *context_now(void)
     return current;
 }
 
-void context_set(struct context *context)
-{
-    current = context;
-}
+void context_set(struct context *context) { current = context; }
 
 // A thread's end gives back its team of one.
 void context_end(void)
@@ -36,10 +34,7 @@ void context_end(void)
 }
 
 // In a child that the program forked: no team of the parent's is its own.
-void context_forget(void)
-{
-    alone.team = NULL;
-}
+void context_forget(void) { alone.team = NULL; }
 
 // The context of the calling thread, which called the library from this address of the program.
 struct context *context_at(void *address)
@@ -72,7 +67,8 @@ struct reply context_call(struct context *context, struct call call)
     return team_call(context->team, context->number, &call);
 }
 
-// What GOMP_loop_start and its like may ask for besides: memory, whose size stands where its address is to stand.
+// What GOMP_loop_start and its like may ask for besides: memory, whose size stands where its address is to
+// stand.
 bool context_extras(struct context *context, bool answer, uintptr_t *reductions, void **memory)
 {
     if (reductions != NULL)

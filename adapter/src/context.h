@@ -8,7 +8,8 @@
 #include <stdint.h>
 
 #define EXPORT __attribute__((visibility("default")))
-// Begins each entry of the library, and has to stand in the entry itself: it notes where the program called it.
+// Begins each entry of the library, and has to stand in the entry itself: it notes where the program called
+// it.
 #define ENTER() context_enter(__builtin_return_address(0))
 
 struct region;
@@ -16,22 +17,22 @@ struct region;
 // The loop that a member is in, as the program counts it, and its chunk, as the engine does.
 struct position {
     struct loop loop;
-    long first;                             // of the chunk
-    unsigned long count, ordered;           // its iterations; its ordered parts so far
-    unsigned long base, step, bound;        // of a loop of counted numbers: the program's own
+    long first;                      // of the chunk
+    unsigned long count, ordered;    // its iterations; its ordered parts so far
+    unsigned long base, step, bound; // of a loop of counted numbers: the program's own
 };
 
 // An implicit task: one thread's part in one team.
 struct context {
     struct team *team;
-    struct region *region;                  // NULL outside of every region
+    struct region *region; // NULL outside of every region
     struct context *outer;
     struct variables variables;
     int number, size, level, active_levels;
-    void *address;                          // where the program called the library last
-    struct call combined;                   // a share that the member enters at its first next, or CALL_NONE
-    bool is_untold;                         // the share that it is in is cut by gcc: the engine is not told of it
-    unsigned long memories;                 // shares with memory that it has come to
+    void *address;          // where the program called the library last
+    struct call combined;   // a share that the member enters at its first next, or CALL_NONE
+    bool is_untold;         // the share that it is in is cut by gcc: the engine is not told of it
+    unsigned long memories; // shares with memory that it has come to
     struct position position;
 };
 

@@ -1,7 +1,8 @@
-// An engine is a process `ompteam live [NAME=VALUE]..` over two pipes: a line goes in, its reply comes out. The OMP_ words of
-// the environment are handed to it and are its own. It is started apart from the program: not as its child, so that the
-// program's own wait() never meets it; in a process group of its own, so that an interrupt at the terminal reaches the program
-// alone; without LD_PRELOAD. Only the first engine has the program's standard error, so each ignored word is noted once.
+// An engine is a process `ompteam live [NAME=VALUE]..` over two pipes: a line goes in, its reply comes out.
+// The OMP_ words of the environment are handed to it and are its own. It is started apart from the program:
+// not as its child, so that the program's own wait() never meets it; in a process group of its own, so that
+// an interrupt at the terminal reaches the program alone; without LD_PRELOAD. Only the first engine has the
+// program's standard error, so each ignored word is noted once.
 #define _GNU_SOURCE
 #include "engine.h"
 
@@ -21,11 +22,11 @@
 #include <sys/wait.h>
 #include <unistd.h>
 
-enum { STACK_SIZE = 65536, PATIENCE = 20000 };      // bytes; milliseconds that a new team's first reply may take
+enum { STACK_SIZE = 65536, PATIENCE = 20000 }; // bytes; milliseconds that a new team's first reply may take
 
 extern char **environ;
 static pthread_mutex_t engines_lock = PTHREAD_MUTEX_INITIALIZER;
-static struct engine *engines;                      // all of them, the newest first
+static struct engine *engines; // all of them, the newest first
 
 struct start {
     const char *path;
@@ -34,7 +35,8 @@ struct start {
     bool first;
 };
 
-// Runs in a short-lived process that shares the program's memory, as vfork's does. Answers the fault, 0 for none.
+// Runs in a short-lived process that shares the program's memory, as vfork's does. Answers the fault, 0 for
+// none.
 static int start_process(void *argument)
 {
     struct start *start = argument;
@@ -50,13 +52,15 @@ static int start_process(void *argument)
     if (!start->first)
         posix_spawn_file_actions_addopen(&actions, STDERR_FILENO, "/dev/null", O_WRONLY, 0);
     posix_spawnattr_init(&attributes);
-    posix_spawnattr_setflags(&attributes, POSIX_SPAWN_SETPGROUP | POSIX_SPAWN_SETSIGMASK | POSIX_SPAWN_SETSIGDEF);
+    posix_spawnattr_setflags(&attributes,
+                             POSIX_SPAWN_SETPGROUP | POSIX_SPAWN_SETSIGMASK | POSIX_SPAWN_SETSIGDEF);
     posix_spawnattr_setsigmask(&attributes, &none);
     posix_spawnattr_setsigdefault(&attributes, &all);
     return posix_spawn(&process, start->path, &actions, &attributes, start->arguments, start->environment);
 }
 
-// Starts the process as a grandchild. The child between has no exit signal, so no wait() of the program's sees it.
+// Starts the process as a grandchild. The child between has no exit signal, so no wait() of the program's
+// sees it.
 static int start_apart(struct start *start)
 {
     char *stack = malloc(STACK_SIZE);
@@ -73,10 +77,7 @@ static int start_apart(struct start *start)
     return fault != 0 ? fault : WEXITSTATUS(status);
 }
 
-static bool is_preload(const char *word)
-{
-    return strncmp(word, "LD_PRELOAD=", 11) == 0;
-}
+static bool is_preload(const char *word) { return strncmp(word, "LD_PRELOAD=", 11) == 0; }
 
 static char **environment_without_preload(void)
 {
@@ -106,7 +107,8 @@ static void open_pipe(int ends[2])
 
 static void start_engine(struct engine *engine, bool first)
 {
-    struct start start = {.path = getenv("DILLBEAM_ENGINE"), .first = first, .environment = environment_without_preload()};
+    struct start start = {
+        .path = getenv("DILLBEAM_ENGINE"), .first = first, .environment = environment_without_preload()};
     if (start.path == NULL || *start.path == 0)
         end_by_fault("the word DILLBEAM_ENGINE is not set; run the program by ./dillbeam");
     start.arguments = calloc(handed_words.count + 3, sizeof *start.arguments);
@@ -124,7 +126,8 @@ static void start_engine(struct engine *engine, bool first)
     if (fault != 0)
         end_by_fault("the engine %s cannot be started: %s", start.path, strerror(fault));
     close(replies[1]);
-    *engine = (struct engine){.to = questions[1], .to_reader = questions[0], .from = replies[0], .next = engine->next};
+    *engine = (struct engine){
+        .to = questions[1], .to_reader = questions[0], .from = replies[0], .next = engine->next};
     free(start.arguments);
     free(start.environment);
 }
@@ -204,11 +207,14 @@ void engines_finish(void)
         close(engine->to);
         first = engine;
     }
-    char rest[256];
-    struct pollfd end = {.fd = first != NULL ? first->from : -1, .events = POLLIN};
-    while (first != NULL && poll(&end, 1, 2000) > 0 && read(first->from, rest, sizeof rest) > 0)
-        ;
     engines = NULL;
+    if (first == NULL)
+        return;
+    char rest[256];
+    struct pollfd end = {.fd = first->from, .events = POLLIN};
+    for (int reads = 0; reads < 1000 && poll(&end, 1, 2000) > 0 && read(end.fd, rest, sizeof rest) > 0;
+         reads++)
+        ;
 }
 
 // In a child that the program forked: the engines are its parent's.

@@ -5,9 +5,10 @@
 #include <stddef.h>
 
 struct engine {
-    int to, to_reader, from;        // the pipes' ends; to_reader is held so that writing to a dead engine raises no SIGPIPE
-    size_t taken, filled;           // of `replies`, bytes
-    struct engine *next;            // of all engines
+    int to, to_reader,
+        from; // the pipes' ends; to_reader is held so that writing to a dead engine raises no SIGPIPE
+    size_t taken, filled; // of `replies`, bytes
+    struct engine *next;  // of all engines
     char replies[4096];
 };
 

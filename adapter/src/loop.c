@@ -1,12 +1,12 @@
-// Loops (#pragma omp for). What the end will be is not known at the start, so every loop begins as one with nowait, and
-// GOMP_loop_end is the nowait end and a barrier. A member of a combined parallel loop enters it at its first next: gcc puts a
-// barrier before that where a variable is both firstprivate and lastprivate.
+// Loops (#pragma omp for). What the end will be is not known at the start, so every loop begins as one with
+// nowait, and GOMP_loop_end is the nowait end and a barrier. A member of a combined parallel loop enters it
+// at its first next: gcc puts a barrier before that where a variable is both firstprivate and lastprivate.
 #include "loop.h"
 
 #include "region.h"
 
-// The loop with its schedule as the engine is told: `auto` is static without a chunk; `runtime` is the engine's own, unless
-// the program has called omp_set_schedule.
+// The loop with its schedule as the engine is told: `auto` is static without a chunk; `runtime` is the
+// engine's own, unless the program has called omp_set_schedule.
 struct call loop_call(const struct context *context, struct loop loop)
 {
     if (loop.schedule == SCHEDULE_RUNTIME) {
@@ -48,7 +48,8 @@ bool loop_next(struct context *context)
     return take(context, combined);
 }
 
-// Hands the chunk on as [*first, *bound). The last one ends at the loop's own end, which its last step may go beyond.
+// Hands the chunk on as [*first, *bound). The last one ends at the loop's own end, which its last step may go
+// beyond.
 static bool hand_out(const struct context *context, bool is_some, long *first, long *bound)
 {
     const struct position *position = &context->position;
@@ -73,23 +74,30 @@ static bool next(struct context *context, long *first, long *bound)
 }
 
 #define NUMBERS(SCHEDULE, ORDERED, CHUNK) \
-    (struct loop){.schedule = SCHEDULE, .ordered = ORDERED, .start = from, .end = to, .increment = by, .chunk = CHUNK}
+    (struct loop) \
+    { \
+        .schedule = SCHEDULE, .ordered = ORDERED, .start = from, .end = to, .increment = by, .chunk = CHUNK \
+    }
 #define NEXT(NAME) \
     EXPORT bool GOMP_loop_##NAME##_next(long *first, long *bound) { return next(ENTER(), first, bound); }
 #define CHUNKED(NAME, SCHEDULE, ORDERED) \
     EXPORT bool GOMP_loop_##NAME##_start(long from, long to, long by, long chunk, long *first, long *bound) \
-    { return start(ENTER(), NUMBERS(SCHEDULE, ORDERED, chunk), first, bound); } \
+    { \
+        return start(ENTER(), NUMBERS(SCHEDULE, ORDERED, chunk), first, bound); \
+    } \
     NEXT(NAME)
 #define RUNTIME(NAME, ORDERED) \
     EXPORT bool GOMP_loop_##NAME##_start(long from, long to, long by, long *first, long *bound) \
-    { return start(ENTER(), NUMBERS(SCHEDULE_RUNTIME, ORDERED, 0), first, bound); } \
+    { \
+        return start(ENTER(), NUMBERS(SCHEDULE_RUNTIME, ORDERED, 0), first, bound); \
+    } \
     NEXT(NAME)
 CHUNKED_FAMILIES(CHUNKED)
 RUNTIME_FAMILIES(RUNTIME)
 
 // Without `first` gcc cuts the loop itself, as it does static ones, and asks for the memory alone.
-static bool start_with_extras(struct context *context, struct loop loop, long *first, long *bound, uintptr_t *reductions,
-                              void **memory)
+static bool start_with_extras(struct context *context, struct loop loop, long *first, long *bound,
+                              uintptr_t *reductions, void **memory)
 {
     context->is_untold = first == NULL;
     bool answer = first == NULL || start(context, loop, first, bound);
@@ -97,8 +105,8 @@ static bool start_with_extras(struct context *context, struct loop loop, long *f
 }
 
 #define WITH_EXTRAS(NAME, ORDERED) \
-    EXPORT bool NAME(long from, long to, long by, long schedule, long chunk, long *first, long *bound, uintptr_t *reductions, \
-                     void **memory) \
+    EXPORT bool NAME(long from, long to, long by, long schedule, long chunk, long *first, long *bound, \
+                     uintptr_t *reductions, void **memory) \
     { \
         struct context *context = ENTER(); \
         struct loop loop = NUMBERS((enum schedule)(schedule & SCHEDULE_BITS), ORDERED, chunk); \
@@ -115,10 +123,7 @@ static void end_nowait(struct context *context)
         context_call(context, (struct call){.kind = CALL_LOOP_END});
 }
 
-EXPORT void GOMP_loop_end_nowait(void)
-{
-    end_nowait(ENTER());
-}
+EXPORT void GOMP_loop_end_nowait(void) { end_nowait(ENTER()); }
 
 EXPORT void GOMP_loop_end(void)
 {
@@ -129,15 +134,15 @@ EXPORT void GOMP_loop_end(void)
 
 // The combined forms: #pragma omp parallel for.
 #define PARALLEL(NAME, SCHEDULE, PARAMETER, CHUNK) \
-    EXPORT void GOMP_parallel_loop_##NAME(void (*body)(void *), void *data, unsigned wanted, long from, long to, long by \
-                                          PARAMETER, unsigned flags) \
+    EXPORT void GOMP_parallel_loop_##NAME(void (*body)(void *), void *data, unsigned wanted, long from, \
+                                          long to, long by PARAMETER, unsigned flags) \
     { \
         struct context *outer = context_at(__builtin_return_address(0)); \
         (void)flags; \
         region_run(outer, body, data, wanted, loop_call(outer, NUMBERS(SCHEDULE, false, CHUNK))); \
     } \
-    EXPORT void GOMP_parallel_loop_##NAME##_start(void (*body)(void *), void *data, unsigned wanted, long from, long to, \
-                                                  long by PARAMETER) \
+    EXPORT void GOMP_parallel_loop_##NAME##_start(void (*body)(void *), void *data, unsigned wanted, \
+                                                  long from, long to, long by PARAMETER) \
     { \
         struct context *outer = context_at(__builtin_return_address(0)); \
         region_begin(outer, body, data, wanted, loop_call(outer, NUMBERS(SCHEDULE, false, CHUNK))); \

@@ -1,5 +1,5 @@
-// A message ends the program: one paragraph on standard error, then its status. If several threads fail at once, the first
-// that claims the end prints, and the others stop where they are.
+// A message ends the program: one paragraph on standard error, then its status. If several threads fail at
+// once, the first that claims the end prints, and the others stop where they are.
 #define _GNU_SOURCE
 #include "message.h"
 
@@ -35,8 +35,8 @@ static void *flush(void *unused)
     return unused;
 }
 
-// Flushes what the program has written, in a thread of its own: a thread that sits in getc(stdin) holds a lock that fflush
-// waits for, and that may not keep the program from its end.
+// Flushes what the program has written, in a thread of its own: a thread that sits in getc(stdin) holds a
+// lock that fflush waits for, and that may not keep the program from its end.
 static void flush_for_a_moment(void)
 {
     pthread_t thread;

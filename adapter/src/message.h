@@ -4,7 +4,13 @@
 
 #include "call.h"
 
-enum status { STATUS_NOT_SERVED = 69, STATUS_REFUSED = 70, STATUS_FAULT = 71, STATUS_RECORD = 73, STATUS_STUCK = 75 };
+enum status {
+    STATUS_NOT_SERVED = 69,
+    STATUS_REFUSED = 70,
+    STATUS_FAULT = 71,
+    STATUS_RECORD = 73,
+    STATUS_STUCK = 75
+};
 
 void claim_end(void);
 _Noreturn void end_with(enum status status, const struct text *text);

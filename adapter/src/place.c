@@ -7,8 +7,8 @@
 #include <link.h>
 #include <stdint.h>
 
-// The binary of an address, and the offset in it of the call that returns there. In a program that is not relocatable the
-// offset is the address.
+// The binary of an address, and the offset in it of the call that returns there. In a program that is not
+// relocatable the offset is the address.
 static bool find(void *address, const char **name, unsigned long *offset)
 {
     Dl_info binary;

@@ -1,5 +1,5 @@
-// --record FILE: each team's lines, as its engine is sent them, in FILE.1, FILE.2 and on, in the order in which teams begin.
-// Each line is written at once, so that a text is whole however the program ends.
+// --record FILE: each team's lines, as its engine is sent them, in FILE.1, FILE.2 and on, in the order in
+// which teams begin. Each line is written at once, so that a text is whole however the program ends.
 #define _GNU_SOURCE
 #include "record.h"
 
@@ -14,7 +14,7 @@
 #include <string.h>
 #include <unistd.h>
 
-static char *base;                      // the FILE of --record, once a team has begun; NULL without one
+static char *base; // the FILE of --record, once a team has begun; NULL without one
 static atomic_ulong records;
 
 static _Noreturn void end_unwritten(void)
@@ -26,7 +26,8 @@ static _Noreturn void end_unwritten(void)
     end_with(STATUS_RECORD, &text);
 }
 
-// The first team of a process takes the word away, so that the programs which it runs do not write over its records.
+// The first team of a process takes the word away, so that the programs which it runs do not write over its
+// records.
 __attribute__((constructor)) static void take_word(void)
 {
     const char *word = getenv("DILLBEAM_RECORD");
@@ -96,7 +97,4 @@ void record_close(int record)
 }
 
 // In a child that the program forked: the records are its parent's.
-void records_forget(void)
-{
-    base = NULL;
-}
+void records_forget(void) { base = NULL; }

@@ -1,6 +1,7 @@
-// Parallel regions: the size of a team, its threads, and its begin and end. Each region has a team with an engine of its own, a
-// nested one too. A thread that encounters a region is its member 0 and keeps the threads of the other members for its next
-// region, each for the same member, so that threadprivate variables stay.
+// Parallel regions: the size of a team, its threads, and its begin and end. Each region has a team with an
+// engine of its own, a nested one too. A thread that encounters a region is its member 0 and keeps the
+// threads of the other members for its next region, each for the same member, so that threadprivate variables
+// stay.
 #define _GNU_SOURCE
 #include "region.h"
 
@@ -17,7 +18,7 @@ struct worker {
     pthread_t thread;
     bool is_running;
     sem_t begin;
-    struct context *context;            // the member that it is next, NULL if it has to end
+    struct context *context; // the member that it is next, NULL if it has to end
 };
 
 // The threads of one region, for the members from 1.
@@ -30,12 +31,12 @@ struct region {
     void (*body)(void *);
     void *data;
     struct crew *crew;
-    sem_t left;                         // counts the other members that have left
-    long busy;                          // threads that count for the limit of threads
+    sem_t left; // counts the other members that have left
+    long busy;  // threads that count for the limit of threads
     struct context contexts[];
 };
 
-static __thread struct crew *crews;     // of this thread, that are not at work: one for each depth of regions
+static __thread struct crew *crews; // of this thread, that are not at work: one for each depth of regions
 static atomic_long busy_threads = 1;
 static pthread_key_t thread_end;
 static pthread_once_t thread_end_made = PTHREAD_ONCE_INIT;
@@ -147,7 +148,8 @@ static int take_threads(int wanted)
     return (int)taken + 1;
 }
 
-// How many members a new team has. `wanted` is the num_threads clause's number, 1 for a false `if` clause, 0 for neither.
+// How many members a new team has. `wanted` is the num_threads clause's number, 1 for a false `if` clause, 0
+// for neither.
 static int team_size(const struct context *outer, unsigned wanted)
 {
     unsigned size = wanted > 0 ? wanted : outer->variables.threads;
@@ -158,11 +160,18 @@ static int team_size(const struct context *outer, unsigned wanted)
     return size > 1 ? take_threads((int)size) : 1;
 }
 
-static struct context member_context(const struct region *region, struct context *outer, struct team *team, int number)
+static struct context member_context(const struct region *region, struct context *outer, struct team *team,
+                                     int number)
 {
     struct context context = {
-        .team = team, .region = (struct region *)region, .outer = outer, .variables = outer->variables, .number = number,
-        .size = team->size, .level = outer->level + 1, .active_levels = outer->active_levels + (team->size > 1),
+        .team = team,
+        .region = (struct region *)region,
+        .outer = outer,
+        .variables = outer->variables,
+        .number = number,
+        .size = team->size,
+        .level = outer->level + 1,
+        .active_levels = outer->active_levels + (team->size > 1),
     };
     if (listed_count > 1 && (unsigned)context.level < listed_count)
         context.variables.threads = listed_sizes[context.level];
@@ -170,7 +179,8 @@ static struct context member_context(const struct region *region, struct context
 }
 
 // Begins a region: the caller becomes its member 0.
-void region_begin(struct context *outer, void (*body)(void *), void *data, unsigned wanted, struct call combined)
+void region_begin(struct context *outer, void (*body)(void *), void *data, unsigned wanted,
+                  struct call combined)
 {
     int size = team_size(outer, wanted);
     struct region *region = calloc(1, sizeof *region + (size_t)size * sizeof *region->contexts);
@@ -212,7 +222,8 @@ static void region_end(struct context *context)
     free(region);
 }
 
-void region_run(struct context *outer, void (*body)(void *), void *data, unsigned wanted, struct call combined)
+void region_run(struct context *outer, void (*body)(void *), void *data, unsigned wanted,
+                struct call combined)
 {
     region_begin(outer, body, data, wanted, combined);
     body(data);
@@ -227,7 +238,8 @@ EXPORT void GOMP_parallel(void (*body)(void *), void *data, unsigned wanted, uns
 
 EXPORT void GOMP_parallel_start(void (*body)(void *), void *data, unsigned wanted)
 {
-    region_begin(context_at(__builtin_return_address(0)), body, data, wanted, (struct call){.kind = CALL_NONE});
+    region_begin(context_at(__builtin_return_address(0)), body, data, wanted,
+                 (struct call){.kind = CALL_NONE});
 }
 
 EXPORT void GOMP_parallel_end(void)

@@ -4,8 +4,10 @@
 
 #include "context.h"
 
-void region_run(struct context *outer, void (*body)(void *), void *data, unsigned wanted, struct call combined);
-void region_begin(struct context *outer, void (*body)(void *), void *data, unsigned wanted, struct call combined);
+void region_run(struct context *outer, void (*body)(void *), void *data, unsigned wanted,
+                struct call combined);
+void region_begin(struct context *outer, void (*body)(void *), void *data, unsigned wanted,
+                  struct call combined);
 void region_watch_thread_end(void);
 int region_stop_threads(void);
 

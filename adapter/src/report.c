@@ -1,5 +1,5 @@
-// The messages about a team: a refused call, a deadlock, a team in which nothing has moved. Each names the members by the
-// adapter's own notes: what each did last, in OpenMP's words, and where in the binary.
+// The messages about a team: a refused call, a deadlock, a team in which nothing has moved. Each names the
+// members by the adapter's own notes: what each did last, in OpenMP's words, and where in the binary.
 #define _GNU_SOURCE
 #include "report.h"
 
@@ -19,21 +19,30 @@ struct meaning {
 
 // The limits are no faults of the program.
 static const struct meaning limits[] = {
-    {14, "a loop has more than 2^39 iterations"}, {15, "a construct has more than 65,536 sections"},
+    {14, "a loop has more than 2^39 iterations"},
+    {15, "a construct has more than 65,536 sections"},
     {27, "the team holds more names than there is room for"},
     {34, "a member may start 131,064 work-shares in one parallel region"},
-    {36, "the room for stored events is used up"}, {37, "memory was refused"}, {0, NULL},
+    {36, "the room for stored events is used up"},
+    {37, "memory was refused"},
+    {0, NULL},
 };
 
 static const struct meaning faults[] = {
-    {2, "the member has passed the end of the parallel region"}, {3, "the team is broken"},
+    {2, "the member has passed the end of the parallel region"},
+    {3, "the team is broken"},
     {8, "the member is in a work-share, in which this may not be met"},
-    {9, "the member is in no work-share of this kind"}, {10, "the member is in an ordered part"},
-    {12, "the loop's step is 0"}, {13, "the chunk is negative, or above 2^39"},
-    {17, "the construct ends otherwise than it began"}, {18, "the member left before nothing was left to do"},
-    {19, "the member asked again though nothing was left"}, {20, "the loop has no ordered clause"},
+    {9, "the member is in no work-share of this kind"},
+    {10, "the member is in an ordered part"},
+    {12, "the loop's step is 0"},
+    {13, "the chunk is negative, or above 2^39"},
+    {17, "the construct ends otherwise than it began"},
+    {18, "the member left before nothing was left to do"},
+    {19, "the member asked again though nothing was left"},
+    {20, "the loop has no ordered clause"},
     {21, "an ordered part comes twice in an iteration, or not in the order of the iterations"},
-    {22, "no such part is open"}, {35, "the members of the team did not meet the same constructs in the same order"},
+    {22, "no such part is open"},
+    {35, "the members of the team did not meet the same constructs in the same order"},
     {0, NULL},
 };
 
@@ -95,7 +104,8 @@ static void add_group(const struct team *team, const bool *group, int first, int
     text_add(text, "\n");
 }
 
-// A line for each group of members that did the same last. `left_out` is a member that is told of apart, or -1.
+// A line for each group of members that did the same last. `left_out` is a member that is told of apart, or
+// -1.
 static void add_members(const struct team *team, int left_out, struct text *text)
 {
     bool told[MOST_MEMBERS] = {false};
@@ -105,7 +115,8 @@ static void add_members(const struct team *team, int left_out, struct text *text
         if (told[first] || first == left_out)
             continue;
         for (int number = first; number < team->size; number++) {
-            bool is_in = number != left_out && !told[number] && is_same_deed(&team->members[first], &team->members[number]);
+            bool is_in = number != left_out && !told[number] &&
+                         is_same_deed(&team->members[first], &team->members[number]);
             group[number] = is_in;
             told[number] = told[number] || is_in;
             count += is_in;
@@ -123,7 +134,8 @@ static void add_place_of_mismatch(struct team *team, int number, struct text *te
     engine_send(team->engine, line, (size_t)snprintf(line, sizeof line, "%d barrier\n", number));
     const char *reply = engine_receive(team->engine);
     if (sscanf(reply, "refused E3 Broken %d %15s %lu", &member, kind, &place) == 3)
-        text_add(text, "  they differ at %s %lu of the region\n", strcmp(kind, "share") == 0 ? "work-share" : "barrier", place + 1);
+        text_add(text, "  they differ at %s %lu of the region\n",
+                 strcmp(kind, "share") == 0 ? "work-share" : "barrier", place + 1);
 }
 
 static void add_refused_call(const struct team *team, int number, const struct call *call, struct text *text)
@@ -185,8 +197,8 @@ _Noreturn void report_timeout(double seconds)
         bool locked = pthread_mutex_timedlock(&team->lock, &until) == 0;
         if (!team->in_use)
             continue;
-        text_add(&text, "  team %lu, of %d member%s%s:\n", team->number, team->size, team->size == 1 ? "" : "s",
-                 locked ? "" : ", whose engine does not answer");
+        text_add(&text, "  team %lu, of %d member%s%s:\n", team->number, team->size,
+                 team->size == 1 ? "" : "s", locked ? "" : ", whose engine does not answer");
         add_members(team, -1, &text);
     }
     end_with(STATUS_STUCK, &text);

@@ -1,4 +1,5 @@
-// The omp_ routines that ask for and set control variables (OpenMP API 5.2, chapter 18). They are answered here, by no engine.
+// The omp_ routines that ask for and set control variables (OpenMP API 5.2, chapter 18). They are answered
+// here, by no engine.
 #include "region.h"
 
 #include <omp.h>
@@ -7,7 +8,10 @@
 EXPORT int omp_get_thread_num(void) { return context_now()->number; }
 EXPORT int omp_get_num_threads(void) { return context_now()->size; }
 EXPORT int omp_get_max_threads(void) { return (int)context_now()->variables.threads; }
-EXPORT void omp_set_num_threads(int count) { context_now()->variables.threads = count > 0 ? (unsigned)count : 1; }
+EXPORT void omp_set_num_threads(int count)
+{
+    context_now()->variables.threads = count > 0 ? (unsigned)count : 1;
+}
 EXPORT int omp_get_num_procs(void) { return (int)processors(); }
 EXPORT int omp_get_thread_limit(void) { return (int)thread_limit; }
 EXPORT int omp_in_parallel(void) { return context_now()->active_levels > 0; }
@@ -109,7 +113,11 @@ EXPORT double omp_get_wtick(void)
 EXPORT omp_proc_bind_t omp_get_proc_bind(void) { return omp_proc_bind_false; }
 EXPORT int omp_get_num_places(void) { return 0; }
 EXPORT int omp_get_place_num(void) { return -1; }
-EXPORT int omp_get_place_num_procs(int place) { (void)place; return 0; }
+EXPORT int omp_get_place_num_procs(int place)
+{
+    (void)place;
+    return 0;
+}
 EXPORT void omp_get_place_proc_ids(int place, int *processors) { (void)place, (void)processors; }
 EXPORT int omp_get_partition_num_places(void) { return 0; }
 EXPORT void omp_get_partition_place_nums(int *places) { (void)places; }

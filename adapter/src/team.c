@@ -1,19 +1,22 @@
 // A team: its engine, its lock, and its members that wait.
 //
-// Each call of a member is one line for the engine, under the team's lock. A member whose call is answered `wait` sleeps on a
-// semaphore of its own. It does not ask again by itself: whoever makes a call that can let it pass asks for it, hands it the
-// reply and wakes it. So a member is woken once, with its reply, and by nothing else.
+// Each call of a member is one line for the engine, under the team's lock. A member whose call is answered
+// `wait` sleeps on a semaphore of its own. It does not ask again by itself: whoever makes a call that can let
+// it pass asks for it, hands it the reply and wakes it. So a member is woken once, with its reply, and by
+// nothing else.
 //
 // No wake-up is lost:
 // - `wait` is noted under the lock under which the call was made, so no other call comes between the two.
-// - A call that lets a member pass is one of those that `lets_pass` has, by docs/RULES.md: a barrier is passed once all have
-//   arrived, and the last to arrive is answered `passed` itself; a start waits for eight open shares, until a member leaves
-//   one, and a single's words are put by its executor's end, which is such a leaving too; an ordered part or a next chunk waits
-//   for its turn, which `next` hands on. Each such call asks again for all that wait for it, and again as long as one of those
-//   replies lets others pass, before the lock is given up.
+// - A call that lets a member pass is one of those that `lets_pass` has, by docs/RULES.md: a barrier is
+// passed once all have
+//   arrived, and the last to arrive is answered `passed` itself; a start waits for eight open shares, until a
+//   member leaves one, and a single's words are put by its executor's end, which is such a leaving too; an
+//   ordered part or a next chunk waits for its turn, which `next` hands on. Each such call asks again for all
+//   that wait for it, and again as long as one of those replies lets others pass, before the lock is given
+//   up.
 // - The semaphore counts: a reply that comes before the member sleeps is not lost.
-// Were that list too short, the team would not hang in silence: when all members wait, each asks once more, and only if all
-// are answered `wait` again is a deadlock named.
+// Were that list too short, the team would not hang in silence: when all members wait, each asks once more,
+// and only if all are answered `wait` again is a deadlock named.
 #define _GNU_SOURCE
 #include "team.h"
 
@@ -32,7 +35,7 @@
 
 static pthread_mutex_t teams_lock = PTHREAD_MUTEX_INITIALIZER;
 static struct team *idle_teams;
-static _Atomic(struct team *) all_teams;            // one is added at the front, none is taken away
+static _Atomic(struct team *) all_teams; // one is added at the front, none is taken away
 static atomic_ulong teams_begun, calls;
 
 static void send_lines(struct team *team, const char *lines, size_t length)
@@ -57,8 +60,11 @@ static struct reply receive(struct team *team, int number, const struct call *ca
 static enum wait waits_for(const struct call *call)
 {
     switch (call->kind) {
-    case CALL_BARRIER: case CALL_BARRIER_OF_SHARE: case CALL_REGION_END: return WAIT_ARRIVAL;
-    case CALL_LOOP_NEXT: case CALL_ORDERED: return WAIT_TURN;
+    case CALL_BARRIER:
+    case CALL_BARRIER_OF_SHARE:
+    case CALL_REGION_END: return WAIT_ARRIVAL;
+    case CALL_LOOP_NEXT:
+    case CALL_ORDERED: return WAIT_TURN;
     default: return WAIT_LEAVE;
     }
 }
@@ -67,10 +73,15 @@ static enum wait waits_for(const struct call *call)
 static unsigned lets_pass(const struct call *call)
 {
     switch (call->kind) {
-    case CALL_BARRIER: case CALL_BARRIER_OF_SHARE: case CALL_REGION_END: return WAIT_ARRIVAL;
+    case CALL_BARRIER:
+    case CALL_BARRIER_OF_SHARE:
+    case CALL_REGION_END: return WAIT_ARRIVAL;
     case CALL_LOOP_NEXT: return WAIT_TURN;
-    case CALL_LOOP_END: case CALL_SECTIONS_END: case CALL_SINGLE: case CALL_SINGLE_COPY: case CALL_SINGLE_COPY_END:
-        return WAIT_LEAVE;
+    case CALL_LOOP_END:
+    case CALL_SECTIONS_END:
+    case CALL_SINGLE:
+    case CALL_SINGLE_COPY:
+    case CALL_SINGLE_COPY_END: return WAIT_LEAVE;
     default: return WAIT_NOT;
     }
 }
@@ -79,24 +90,26 @@ static unsigned lets_pass(const struct call *call)
 static void note_reply(struct member *member, const struct call *call, const struct reply *reply)
 {
     switch (call->kind) {
-    case CALL_LOOP: case CALL_SECTIONS: case CALL_SINGLE: case CALL_SINGLE_COPY:
+    case CALL_LOOP:
+    case CALL_SECTIONS:
+    case CALL_SINGLE:
+    case CALL_SINGLE_COPY:
         member->shares++;
         member->share = *call;
         member->inside = call->kind == CALL_LOOP || call->kind == CALL_SECTIONS ||
                          (call->kind == CALL_SINGLE_COPY && reply->kind == REPLY_EXECUTOR);
         break;
-    case CALL_LOOP_END: case CALL_SECTIONS_END: case CALL_SINGLE_COPY_END:
-        member->inside = false;
-        break;
-    case CALL_BARRIER: case CALL_BARRIER_OF_SHARE:
-        member->barriers++;
-        break;
-    default:
-        break;
+    case CALL_LOOP_END:
+    case CALL_SECTIONS_END:
+    case CALL_SINGLE_COPY_END: member->inside = false; break;
+    case CALL_BARRIER:
+    case CALL_BARRIER_OF_SHARE: member->barriers++; break;
+    default: break;
     }
 }
 
-// Asks once more for each member that waits for one of these, in one write. Answers whom the replies let pass in turn.
+// Asks once more for each member that waits for one of these, in one write. Answers whom the replies let pass
+// in turn.
 static unsigned ask_again(struct team *team, unsigned let)
 {
     char lines[MOST_MEMBERS * 16];
@@ -116,7 +129,7 @@ static unsigned ask_again(struct team *team, unsigned let)
         if (reply.kind == REPLY_WAIT)
             continue;
         note_reply(member, &member->last, &reply);
-        if (member->wait != WAIT_ARRIVAL)           // the last to arrive has let all pass
+        if (member->wait != WAIT_ARRIVAL) // the last to arrive has let all pass
             let_in_turn |= lets_pass(&member->last);
         member->reply = reply;
         member->wait = WAIT_NOT;
@@ -262,10 +275,7 @@ struct team *team_after(struct team *team)
     return team == NULL ? atomic_load(&all_teams) : team->next_of_all;
 }
 
-unsigned long calls_made(void)
-{
-    return atomic_load_explicit(&calls, memory_order_relaxed);
-}
+unsigned long calls_made(void) { return atomic_load_explicit(&calls, memory_order_relaxed); }
 
 // In a child that the program forked: the teams are its parent's.
 void teams_forget(void)

@@ -16,24 +16,24 @@ enum wait { WAIT_NOT = 0, WAIT_ARRIVAL = 1, WAIT_LEAVE = 2, WAIT_TURN = 4, WAIT_
 
 struct member {
     pid_t thread;
-    struct call last;                   // its last call, or the one that it waits with
-    struct call share;                  // the start of the work-share that it is, or was last, in
-    bool inside;                        // of that share
-    unsigned long shares, barriers;     // it has started and passed, in this region
+    struct call last;               // its last call, or the one that it waits with
+    struct call share;              // the start of the work-share that it is, or was last, in
+    bool inside;                    // of that share
+    unsigned long shares, barriers; // it has started and passed, in this region
     enum wait wait;
-    struct reply reply;                 // to the call that it waited with
+    struct reply reply; // to the call that it waited with
     sem_t answered;
 };
 
 struct memory;
 
 struct team {
-    pthread_mutex_t lock;               // of all that stands below
+    pthread_mutex_t lock; // of all that stands below
     struct engine *engine;
     int record, size, waiting;
-    unsigned long number;               // of the team, from 1
+    unsigned long number; // of the team, from 1
     struct memory *memories;
-    struct team *next;                  // of those that are idle
+    struct team *next; // of those that are idle
     struct team *next_of_all;
     bool in_use;
     struct member members[MOST_MEMBERS];

@@ -1,5 +1,6 @@
-// The control variables as the program begins. The OMP_ words of the environment are the engine's; what is read of them here is
-// for the omp_ routines and for the sizes of teams alone. A value that docs/FORMATS.md calls bad is ignored here too.
+// The control variables as the program begins. The OMP_ words of the environment are the engine's; what is
+// read of them here is for the omp_ routines and for the sizes of teams alone. A value that docs/FORMATS.md
+// calls bad is ignored here too.
 #define _GNU_SOURCE
 #include "variables.h"
 
@@ -32,12 +33,10 @@ unsigned processors(void)
     return count > 0 ? (unsigned)count : 1;
 }
 
-static const char *skip_blanks(const char *at)
-{
-    return at + strspn(at, " \t");
-}
+static const char *skip_blanks(const char *at) { return at + strspn(at, " \t"); }
 
-// Reads a number of digits alone, with blanks around, up to `most`. Answers what stands behind it, NULL for no such number.
+// Reads a number of digits alone, with blanks around, up to `most`. Answers what stands behind it, NULL for
+// no such number.
 static const char *read_number(const char *at, unsigned long least, unsigned long most, unsigned long *number)
 {
     at = skip_blanks(at);
@@ -96,7 +95,8 @@ static void read_sizes(const char *value)
 static void read_schedule(const char *value)
 {
     static const char *const kinds[] = {NULL, "static", "dynamic", "guided", "auto"};
-    const char *monotonic = read_word(value, "monotonic"), *other = read_word(value, "nonmonotonic"), *rest = NULL;
+    const char *monotonic = read_word(value, "monotonic"), *other = read_word(value, "nonmonotonic"),
+               *rest = NULL;
     if ((monotonic != NULL && *monotonic == ':') || (other != NULL && *other == ':'))
         value = strchr(value, ':') + 1;
     unsigned kind = 0;
