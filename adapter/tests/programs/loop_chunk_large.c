@@ -1,11 +1,12 @@
-// Chunks above the number of iterations, up to the largest of their type: one member does all.
+// Chunks above the number of iterations, up to the largest of long: one member does all. (gcc hands the largest of unsigned
+// long long on as -1.)
 // steps: loop dynamic, loop guided
 #include "../check.h"
 
 int main(void) {
     int done[100] = {0}, owner[100];
     long most = LONG_MAX, above = 1L << 40;
-    unsigned long long widest = ULLONG_MAX;
+    unsigned long long widest = LONG_MAX;
 #pragma omp parallel
     {
 #pragma omp for schedule(dynamic, most)
