@@ -3,9 +3,15 @@
 #include "../check.h"
 
 int main(void) {
+    int count = 0;
 #pragma omp parallel
     {
 #pragma omp cancellation point parallel
+        COUNT(count);
+        if (asked() < 0) {
+#pragma omp cancel parallel
+        }
     }
+    CHECK(count == asked(), "%d", count);
     return told();
 }
