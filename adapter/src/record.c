@@ -26,13 +26,21 @@ static _Noreturn void end_unwritten(void)
     end_with(STATUS_RECORD, &text);
 }
 
-// The first team of a process takes the word away, so that the programs which it runs do not write over its
-// records.
 __attribute__((constructor)) static void take_word(void)
 {
     const char *word = getenv("DILLBEAM_RECORD");
     if (word != NULL && *word != 0)
         base = strdup(word);
+}
+
+// The first team of a process empties the word, so that the programs which the process runs do not write over
+// its records. It writes one byte: unsetenv() would move the words of the environment while other threads read
+// them.
+static void empty_word(void)
+{
+    char *word = getenv("DILLBEAM_RECORD");
+    if (word != NULL)
+        *word = 0;
 }
 
 static void add_word(const char *word, struct text *line)
@@ -67,7 +75,7 @@ int record_open(void)
         return -1;
     unsigned long number = atomic_fetch_add(&records, 1) + 1;
     if (number == 1)
-        unsetenv("DILLBEAM_RECORD");
+        empty_word();
     snprintf(name, sizeof name, "%s.%lu", base, number);
     int record = open(name, O_WRONLY | O_CREAT | O_TRUNC | O_CLOEXEC, 0666);
     if (record < 0)

@@ -36,6 +36,7 @@ int main(void) {
         CHECK(omp_get_thread_num() == me && omp_get_num_threads() == n && omp_get_level() == 1, "behind the inner region");
 #pragma omp barrier
         check_each(done[me], 30, 1, "iteration");
+#pragma omp barrier
 #pragma omp for schedule(guided)
         for (int i = 0; i < 10; i++)
             COUNT(done[0][i]);
