@@ -1,5 +1,5 @@
 // E35 Mismatch: a member meets one barrier more.
-// words: #pragma omp barrier|end of the region|#pragma omp parallel
+// words: #pragma omp barrier|end of the parallel region
 #include "../check.h"
 
 __attribute__((noinline)) static void meet(void) {

@@ -1,5 +1,5 @@
 // E35 Mismatch: a member skips a barrier.
-// words: #pragma omp barrier|end of the region|#pragma omp parallel
+// words: #pragma omp barrier|end of the parallel region
 #include "../check.h"
 
 int main(void) {

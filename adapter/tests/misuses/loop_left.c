@@ -1,5 +1,5 @@
 // E8 InsideShare: a loop is left by longjmp, and then comes a barrier.
-// words: #pragma omp barrier|end of the region|#pragma omp parallel
+// words: #pragma omp barrier|end of the parallel region
 #include "../check.h"
 #include <setjmp.h>
 

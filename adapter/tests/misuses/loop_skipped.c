@@ -1,5 +1,5 @@
 // E35 Mismatch: a member skips a loop; the next construct that differs shows it.
-// words: #pragma omp for|#pragma omp barrier|#pragma omp sections|end of the region|#pragma omp parallel
+// words: #pragma omp for|#pragma omp barrier|#pragma omp sections|end of the parallel region
 #include "../check.h"
 
 __attribute__((noinline)) static void loop(int *done) {

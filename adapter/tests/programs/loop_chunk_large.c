@@ -1,12 +1,10 @@
-// Chunks above the number of iterations, up to the largest of long: one member does all. (gcc hands the largest of unsigned
-// long long on as -1.)
+// Chunks above the number of iterations, up to LONG_MAX: one member does all.
 // steps: loop dynamic, loop guided
 #include "../check.h"
 
 int main(void) {
     int done[100] = {0}, owner[100];
     long most = LONG_MAX, above = 1L << 40;
-    unsigned long long widest = LONG_MAX;
 #pragma omp parallel
     {
 #pragma omp for schedule(dynamic, most)
@@ -23,7 +21,7 @@ int main(void) {
 #pragma omp for schedule(dynamic, most)
         for (int i = 99; i >= 0; i--)
             COUNT(done[i]);
-#pragma omp for schedule(dynamic, widest)
+#pragma omp for schedule(guided, most)
         for (unsigned long long i = ULLONG_MAX - 100; i < ULLONG_MAX; i++)
             COUNT(done[i - (ULLONG_MAX - 100)]);
     }

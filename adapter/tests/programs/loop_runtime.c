@@ -10,7 +10,6 @@
 // environment: OMP_SCHEDULE=nonmonotonic:guided,2
 // environment: OMP_SCHEDULE=monotonic:static,3
 // environment:
-// needs: settings
 // steps: loop runtime 0|loop static 0|loop static 3|loop dynamic 1|loop dynamic 5|loop guided 1|loop guided 4|loop dynamic 2|loop guided 2, next
 #include "../check.h"
 #include <strings.h>

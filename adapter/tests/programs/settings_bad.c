@@ -3,8 +3,7 @@
 // environment: OMP_SCHEDULE=dynamic,-1
 // environment: OMP_SCHEDULE=fast
 // environment: OMP_SCHEDULE=guided,0
-// needs: settings
-// err: OMP_SCHEDULE
+// err: ignored OMP_SCHEDULE
 // steps: loop
 #include "../check.h"
 
