@@ -36,11 +36,18 @@ void context_end(void)
 // In a child that the program forked: no team of the parent's is its own.
 void context_forget(void) { alone.team = NULL; }
 
-// The context of the calling thread, which called the library from this address of the program.
+// The library's own first and last byte, as the linker has them.
+extern const char __ehdr_start[] __attribute__((visibility("hidden")));
+extern const char _end[] __attribute__((visibility("hidden")));
+
+// The context of the calling thread, which called the library from this address of the program. A call that is
+// the last thing that a region does may be a jump: it returns to the library, and the region's function stands
+// for its place.
 struct context *context_at(void *address)
 {
     struct context *context = context_now();
-    context->address = address;
+    bool is_jump = (const char *)address >= __ehdr_start && (const char *)address < _end;
+    context->address = is_jump && context->region != NULL ? region_function(context->region) : address;
     return context;
 }
 
