@@ -123,29 +123,45 @@ static bool may_be_answered(const struct call *call, enum reply_kind reply)
     }
 }
 
+// Whether a line is this word and number, as they are printed: a number that its type does not hold is none.
+static bool is_numbered(const char *line, const char *word, unsigned long number)
+{
+    char printed[64];
+    snprintf(printed, sizeof printed, "%s %lu", word, number);
+    return strcmp(line, printed) == 0;
+}
+
+static bool is_chunk(const char *line, const struct reply *reply)
+{
+    char printed[64];
+    snprintf(printed, sizeof printed, "chunk %ld %lu", reply->first, reply->count);
+    return strcmp(line, printed) == 0;
+}
+
 static struct reply read_reply(const char *line)
 {
+    static const struct {
+        const char *line;
+        enum reply_kind kind;
+        unsigned long count;
+    } plain[] = {
+        {"executor yes", REPLY_EXECUTOR, 1}, {"executor no", REPLY_EXECUTOR, 0}, {"none", REPLY_NONE, 0},
+        {"ok", REPLY_OK, 0},                 {"passed", REPLY_PASSED, 0},        {"wait", REPLY_WAIT, 0},
+    };
     struct reply reply = {.kind = REPLY_UNKNOWN};
-    char rest;
-    if (sscanf(line, "chunk %ld %lu%c", &reply.first, &reply.count, &rest) == 2)
+    if (sscanf(line, "chunk %ld %lu", &reply.first, &reply.count) == 2 && is_chunk(line, &reply))
         reply.kind = REPLY_CHUNK;
-    else if (sscanf(line, "section %lu%c", &reply.count, &rest) == 1)
+    else if (sscanf(line, "section %lu", &reply.count) == 1 && is_numbered(line, "section", reply.count))
         reply.kind = REPLY_SECTION;
-    else if (sscanf(line, "copied %lu%c", &reply.count, &rest) == 1)
+    else if (sscanf(line, "copied %lu", &reply.count) == 1 && is_numbered(line, "copied", reply.count))
         reply.kind = REPLY_COPIED;
-    else if (strcmp(line, "executor yes") == 0 || strcmp(line, "executor no") == 0) {
-        reply.kind = REPLY_EXECUTOR;
-        reply.count = line[9] == 'y';
-    } else if (strcmp(line, "none") == 0)
-        reply.kind = REPLY_NONE;
-    else if (strcmp(line, "ok") == 0)
-        reply.kind = REPLY_OK;
-    else if (strcmp(line, "passed") == 0)
-        reply.kind = REPLY_PASSED;
-    else if (strcmp(line, "wait") == 0)
-        reply.kind = REPLY_WAIT;
     else if (strncmp(line, "refused E", 9) == 0)
         reply.kind = REPLY_REFUSED;
+    for (size_t i = 0; i < sizeof plain / sizeof *plain; i++)
+        if (strcmp(line, plain[i].line) == 0) {
+            reply.kind = plain[i].kind;
+            reply.count = plain[i].count;
+        }
     return reply;
 }
 

@@ -203,8 +203,8 @@ void region_begin(struct context *outer, void (*body)(void *), void *data, unsig
     team_join(team, 0);
 }
 
-// Where the program has the region's function.
-void *region_function(const struct region *region) { return (void *)(uintptr_t)region->body; }
+// An address in the region's function, in the form of one that a call returns to: one byte behind.
+void *region_function(const struct region *region) { return (char *)(uintptr_t)region->body + 1; }
 
 // Ends the region that the caller began, after all members have come to its end.
 static void region_end(struct context *context)

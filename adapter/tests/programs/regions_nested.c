@@ -4,7 +4,7 @@
 #include "../check.h"
 
 int main(void) {
-    int n = asked(), outer[64] = {0}, inner[64][3] = {{0}}, done[64][30] = {{0}}, sections[64][3] = {{0}};
+    int n = asked(), outer[64] = {0}, inner[64][3] = {{0}}, done[64][30] = {{0}}, sections[64][3] = {{0}}, behind[10] = {0};
 #pragma omp parallel
     {
         int me = omp_get_thread_num();
@@ -36,13 +36,12 @@ int main(void) {
         CHECK(omp_get_thread_num() == me && omp_get_num_threads() == n && omp_get_level() == 1, "behind the inner region");
 #pragma omp barrier
         check_each(done[me], 30, 1, "iteration");
-#pragma omp barrier
 #pragma omp for schedule(guided)
         for (int i = 0; i < 10; i++)
-            COUNT(done[0][i]);
+            COUNT(behind[i]);
     }
     check_each(outer, n, 1, "member");
-    check_each(done[0], 10, 1, "iteration behind the inner regions");
+    check_each(behind, 10, 1, "iteration behind the inner regions");
     for (int k = 0; k < n; k++) {
         check_each(inner[k], 3, 1, "inner member");
         check_each(sections[k], 3, 1, "section");

@@ -1,4 +1,4 @@
-// a task reduction on a work-share: in a loop.
+// task reduction: one in a loop; gcc calls GOMP_loop_start with more words, which is served else.
 #include "../check.h"
 
 int main(void) {
