@@ -6,6 +6,8 @@
 #[cfg(test)]
 mod barriers;
 #[cfg(test)]
+mod budget;
+#[cfg(test)]
 mod checks;
 #[cfg(test)]
 mod faults;
