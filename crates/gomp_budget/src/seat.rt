@@ -6,8 +6,7 @@ use std::marker::Model;
 use std::sync::ledger::{Ledger, Share};
 
 /// Threads that a budget gave: 1 to the limit of the budget. Only the budget of the same ledger takes
-/// it back, once and whole; the threads of a seat that is dropped stay given.
-#[derive(Drop)]
+/// it back, once and whole. It cannot be dropped, so whoever has one gives it back or hands it on.
 pub struct Seat<L: Ledger> {
     pub(crate) threads: u32,
     // Of the ledger a part for each thread, and as much of the total.

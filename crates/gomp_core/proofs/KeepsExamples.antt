@@ -1,6 +1,6 @@
 -- What a step leaves of a team as it was: for each line of that what it alone refuses.
-use Rattle.std.proofs.Common.{◌≡◌, ℕ, true, false, [], ◌∷◌, Some, None, refl, arith, ap}
-use Rattle.std.specs.Prelude.{pos, replicate, length}
+use Rattle.std.proofs.Common.{ℕ, true, false, [], ◌∷◌, Some, None, refl, arith, ap}
+use Rattle.std.specs.Prelude.{replicate}
 use Rattle.gomp_types.specs.declared.call.Call.TheVariants.{LoopNext, Barrier, Resume}
 use Rattle.gomp_types.specs.declared.limits.TheConstants.{OPEN_SHARES}
 use Rattle.gomp_types.specs.declared.refusal.Place.TheVariants.{Share}

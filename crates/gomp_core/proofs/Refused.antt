@@ -8,7 +8,7 @@ use Rattle.gomp_types.specs.declared.call.Step.{Step}
 use Rattle.gomp_types.specs.declared.event.Event.{Event}
 use Rattle.gomp_types.specs.declared.refusal.Clash.{Clash}
 use Rattle.gomp_types.specs.declared.refusal.Refusal.{Refusal}
-use Rattle.gomp_types.specs.declared.refusal.Refusal.TheVariants.{BadMember, Ended, Broken, Waiting, InsideShare, OutsideShare, InOrdered, ZeroStep, BadChunk, LoopTooLong, BadSections, EndDiffers, NotDrained, Drained, NotOrdered, OrderedBackwards, NotInside, TooManyShares, Mismatch, NoMemory, BadTeam, BadEnv}
+use Rattle.gomp_types.specs.declared.refusal.Refusal.TheVariants.{BadMember, Ended, Broken, Waiting}
 use Rattle.gomp_types.specs.RefusalTexts.{number_of}
 use Rattle.gomp_types.specs.Events.{has_left_region, clash_of}
 use Rattle.gomp_types.specs.Least.{lesser, least}
@@ -22,27 +22,7 @@ use Rattle.gomp_parts.proofs.Refused.{up_to, beginning, least_up, least_before}
 -- no number is less than that of a bad member
 low_number : (refusal : Refusal) → nat_le 1 (number_of refusal) ≡ true
 low_number BadMember = refl
-low_number Ended = refl
-low_number (Broken clash) = refl
-low_number Waiting = refl
-low_number InsideShare = refl
-low_number OutsideShare = refl
-low_number InOrdered = refl
-low_number ZeroStep = refl
-low_number BadChunk = refl
-low_number LoopTooLong = refl
-low_number BadSections = refl
-low_number EndDiffers = refl
-low_number NotDrained = refl
-low_number Drained = refl
-low_number NotOrdered = refl
-low_number OrderedBackwards = refl
-low_number NotInside = refl
-low_number TooManyShares = refl
-low_number Mismatch = refl
-low_number NoMemory = refl
-low_number BadTeam = refl
-low_number (BadEnv name) = refl
+low_number _ = refl
 
 bad_least : (other : Option Refusal) → lesser (Some BadMember) other ≡ Some BadMember
 bad_least None = refl

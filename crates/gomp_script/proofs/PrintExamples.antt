@@ -3,7 +3,7 @@ use Rattle.std.proofs.Common.{◌≡◌, pos, negsuc, true, false, [], ◌∷◌
 use Rattle.std.specs.Fmt.{digits}
 use Rattle.gomp_types.specs.declared.refusal.Place.TheVariants.{Share}
 use Rattle.gomp_types.specs.declared.refusal.Refusal.TheVariants.{Broken, Mismatch, BadTeam}
-use Rattle.gomp_types.specs.declared.reply.Reply.TheVariants.{Chunk, NoChunk, Section, Executor, Copied, Finished, Passed, Wait, Stopped, Refused}
+use Rattle.gomp_types.specs.declared.reply.Reply.TheVariants.{Chunk, NoChunk, Section, Executor, Copied, Finished, Passed, Wait, Lock, Got, Count, Stopped, Refused}
 use Rattle.gomp_script.specs.declared.parse.Why.TheVariants.{NotAscii, FirstLine, UnknownWord, MissingWord, BadNumber, ExtraWord}
 use Rattle.gomp_script.specs.Printing.{reply_text, reply_line, refusal_line, bad_line_text}
 
@@ -56,6 +56,21 @@ no_words_printed = refl
 pub words_printed : reply_text (Copied (10 ∷ 0 ∷ 18446744073709551615 ∷ [])) ≡ codes "copied 10 0 18446744073709551615"
 unfolding digits
 words_printed = refl
+
+-- the number of a lock, the first and the last
+pub lock_printed : (reply_text (Lock 0) ≡ codes "lock 0") × (reply_text (Lock 4294967294) ≡ codes "lock 4294967294")
+unfolding digits
+lock_printed = (refl, refl)
+
+-- whether a lock was got
+pub got_printed : (reply_text (Got true) ≡ codes "got yes") × (reply_text (Got false) ≡ codes "got no")
+unfolding digits
+got_printed = (refl, refl)
+
+-- how often a nestable lock is set
+pub count_printed : (reply_text (Count 0) ≡ codes "count 0") × (reply_text (Count 65535) ≡ codes "count 65535")
+unfolding digits
+count_printed = (refl, refl)
 
 -- done
 pub finished_printed : reply_text Finished ≡ codes "ok"

@@ -2,7 +2,7 @@
 use Rattle.std.specs.Prelude.{List, ◌++◌, codes, ℕ, Bool, true, false, flat_map}
 use Rattle.std.specs.Fmt.{decimal, signed_decimal}
 use Rattle.gomp_types.specs.declared.reply.Reply.{Reply}
-use Rattle.gomp_types.specs.declared.reply.Reply.TheVariants.{Chunk, NoChunk, Section, Executor, Copied, Finished, Passed, Wait, Stopped, Refused}
+use Rattle.gomp_types.specs.declared.reply.Reply.TheVariants.{Chunk, NoChunk, Section, Executor, Copied, Finished, Passed, Wait, Lock, Got, Count, Stopped, Refused}
 use Rattle.gomp_types.specs.declared.refusal.Refusal.{Refusal}
 use Rattle.gomp_script.specs.declared.parse.Why.{Why}
 use Rattle.gomp_script.specs.declared.parse.Why.TheVariants.{NotAscii, FirstLine, UnknownWord, MissingWord, BadNumber, ExtraWord}
@@ -15,6 +15,10 @@ refused_text refusal = codes "refused " ++ text_of refusal
 abbrev pub executor_text : Bool → List ℕ
 executor_text true = codes "executor yes"
 executor_text false = codes "executor no"
+
+abbrev pub got_text : Bool → List ℕ
+got_text true = codes "got yes"
+got_text false = codes "got no"
 
 -- a word of a payload, after a space
 abbrev pub word_text : ℕ → List ℕ
@@ -30,6 +34,9 @@ reply_text (Copied payload) = codes "copied" ++ flat_map word_text payload
 reply_text Finished = codes "ok"
 reply_text Passed = codes "passed"
 reply_text Wait = codes "wait"
+reply_text (Lock number) = codes "lock " ++ decimal number
+reply_text (Got free) = got_text free
+reply_text (Count count) = codes "count " ++ decimal count
 reply_text Stopped = codes "stopped"
 reply_text (Refused refusal) = refused_text refusal
 

@@ -26,6 +26,10 @@ impl fmt::Display for Printed<'_> {
             Reply::Finished => write!(f, "ok"),
             Reply::Passed => write!(f, "passed"),
             Reply::Wait => write!(f, "wait"),
+            Reply::Lock(number) => write!(f, "lock {number}"),
+            Reply::Got(true) => write!(f, "got yes"),
+            Reply::Got(false) => write!(f, "got no"),
+            Reply::Count(count) => write!(f, "count {count}"),
             Reply::Stopped => write!(f, "stopped"),
             Reply::Refused(refusal) => write!(f, "refused {refusal}"),
         }

@@ -8,7 +8,7 @@ use Rattle.std.specs.Result.{result_err}
 use Rattle.gomp_types.specs.declared.limits.Limits.{Limits}
 use Rattle.gomp_types.specs.declared.loop_desc.EndKind.{EndKind}
 use Rattle.gomp_types.specs.declared.reply.Reply.{Reply}
-use Rattle.gomp_types.specs.declared.reply.Reply.TheVariants.{Chunk, NoChunk, Section, Executor, Copied, Finished, Passed, Wait, Stopped, Refused}
+use Rattle.gomp_types.specs.declared.reply.Reply.TheVariants.{Refused}
 use Rattle.gomp_types.specs.declared.seen.Seen.{Seen}
 use Rattle.gomp_types.specs.declared.shape.Shape.{Shape}
 use Rattle.gomp_types.specs.declared.shape.ShareKind.{ShareKind}
@@ -43,15 +43,7 @@ behind_front front tests none = least_append front tests ∙ ap (λ (found : Opt
 
 pub answers_behind : (front tests : List Test) (may : Reply → Type 0) (reply : Reply) → least front ≡ None → Answers tests may reply → Answers (front ++ tests) may reply
 answers_behind front tests may (Refused refusal) none e = behind_front front tests none ∙ e
-answers_behind front tests may (Chunk first count) none given = (behind_front front tests none ∙ given.0, given.1)
-answers_behind front tests may NoChunk none given = (behind_front front tests none ∙ given.0, given.1)
-answers_behind front tests may (Section number) none given = (behind_front front tests none ∙ given.0, given.1)
-answers_behind front tests may (Executor executes) none given = (behind_front front tests none ∙ given.0, given.1)
-answers_behind front tests may (Copied payload) none given = (behind_front front tests none ∙ given.0, given.1)
-answers_behind front tests may Finished none given = (behind_front front tests none ∙ given.0, given.1)
-answers_behind front tests may Passed none given = (behind_front front tests none ∙ given.0, given.1)
-answers_behind front tests may Wait none given = (behind_front front tests none ∙ given.0, given.1)
-answers_behind front tests may Stopped none given = (behind_front front tests none ∙ given.0, given.1)
+answers_behind front tests may _ none given = (behind_front front tests none ∙ given.0, given.1)
 
 -- what the comparison alone finds
 pub compared_alone : (differs : Bool) → least ((differs, Mismatch) ∷ []) ≡ (if differs then Some Mismatch else None)
@@ -70,15 +62,7 @@ start_admitted own shape deals limits members m reply h none begun =
 -- a call that its member's tests let through is answered as it may be, which is no refusal
 pub answers_let : (tests : List Test) (may : Reply → Type 0) (reply : Reply) → least tests ≡ None → ((refusal : Refusal) → may (Refused refusal) → ⊥) → may reply → Answers tests may reply
 answers_let tests may (Refused refusal) none never given = absurd (never refusal given)
-answers_let tests may (Chunk first count) none never given = (none, given)
-answers_let tests may NoChunk none never given = (none, given)
-answers_let tests may (Section number) none never given = (none, given)
-answers_let tests may (Executor executes) none never given = (none, given)
-answers_let tests may (Copied payload) none never given = (none, given)
-answers_let tests may Finished none never given = (none, given)
-answers_let tests may Passed none never given = (none, given)
-answers_let tests may Wait none never given = (none, given)
-answers_let tests may Stopped none never given = (none, given)
+answers_let tests may _ none never given = (none, given)
 
 -- the refusal of an outcome
 pub outcome_err : {A : Type 0} (first : Option Refusal) (value : A) → result_err (outcome first value) ≡ first

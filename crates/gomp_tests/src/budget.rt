@@ -1,9 +1,10 @@
 //! The thread budget of a runtime, called as a library.
 
-ghost use Rattle.std.specs.Prelude.{◌≡◌};
+ghost use Rattle.std.specs.Prelude.{◌≡◌, ◌+◌};
+ghost use Rattle.std.specs.Option.{option_map_or};
 
 use crate::checks::same;
-use gomp_budget::Budget;
+use gomp_budget::{Budget, Seat};
 use std::marker::Brand;
 use std::sync::ledger::{Blank, Ledger};
 
@@ -17,13 +18,23 @@ fn gifts_of_four<L: Ledger>(blank: Blank) -> (u32, u32, u32, u32)
 {
     let mut budget = Budget::<L>::new(4, blank);
     let (first, seat) = budget.reserve(3);
-    let (second, _kept) = budget.reserve(3);
-    match seat {
-        Some(seat) => budget.give_back(seat),
-        None => unreachable!(),
+    let (second, other) = budget.reserve(3);
+    give_back(&mut budget, seat);
+    let (third, last) = budget.reserve(9);
+    let free = budget.free();
+    give_back(&mut budget, other);
+    give_back(&mut budget, last);
+    (first, second, third, free)
+}
+
+/// Gives a seat back, if there is one.
+fn give_back<L: Ledger>(budget: &mut Budget<L>, seat: Option<Seat<L>>)
+    ensures free { budget.new.free ≡ budget.old.free + option_map_or (λ threads. threads) seat 0 }
+    ensures limit { budget.new.limit ≡ budget.old.limit }
+{
+    if let Some(seat) = seat {
+        budget.give_back(seat);
     }
-    let (third, _last) = budget.reserve(9);
-    (first, second, third, budget.free())
 }
 
 #[test]

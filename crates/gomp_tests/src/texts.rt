@@ -323,6 +323,20 @@ fn prints_number(rt: &impl Abort, alloc: Global, number: u64, written: &str) -> 
     print_so(rt, alloc, &replies, expected.as_str(), number)
 }
 
+/// That the replies on locks are printed, with the least numbers and the largest.
+fn prints_locks(rt: &impl Abort, alloc: Global) -> Result<(), Fail> {
+    let replies = [
+        Reply::Lock(0),
+        Reply::Lock(u32::MAX),
+        Reply::Got(true),
+        Reply::Got(false),
+        Reply::Count(0),
+        Reply::Count(u32::MAX),
+    ];
+    let expected = "lock 0\nlock 4294967295\ngot yes\ngot no\ncount 0\ncount 4294967295\n";
+    print_so(rt, alloc, &replies, expected, 0)
+}
+
 /// That bad lines of this number are printed, with each fault.
 fn prints_faults(rt: &impl Abort, alloc: Global, line: u64, written: &str) -> Result<(), Fail> {
     for (why, fault) in FAULTS {
@@ -371,6 +385,7 @@ fn prints_payload(rt: &impl Abort, alloc: Global, words: usize) -> Result<(), Fa
 /// Replies of every number, and numbers of every size, are printed.
 #[test]
 fn replies_and_faults_print(rt: HostRuntime) -> Result<(), Fail> {
+    prints_locks(&rt, rt.alloc())?;
     for count in SIZES {
         prints_sections(&rt, rt.alloc(), *count)?;
     }

@@ -5,7 +5,7 @@ use Rattle.std.proofs.Common.{◌≡◌, ℕ, List, refl}
 use Rattle.std.specs.Prelude.{codes}
 use Rattle.std.specs.Fmt.{digits}
 use Rattle.gomp_types.specs.declared.refusal.Place.TheVariants.{Share, Barrier, Stopped}
-use Rattle.gomp_types.specs.declared.refusal.Refusal.TheVariants.{BadMember, Ended, Broken, Waiting, InsideShare, OutsideShare, InOrdered, ZeroStep, BadChunk, LoopTooLong, BadSections, EndDiffers, NotDrained, Drained, NotOrdered, OrderedBackwards, NotInside, TooManyShares, Mismatch, NoMemory, BadTeam, BadEnv}
+use Rattle.gomp_types.specs.declared.refusal.Refusal.TheVariants.{BadMember, Ended, Broken, Waiting, InsideShare, OutsideShare, InOrdered, HoldsCritical, ZeroStep, BadChunk, LoopTooLong, BadSections, EndDiffers, NotDrained, Drained, NotOrdered, OrderedBackwards, NotInside, NameTooLong, AlreadyHeld, NotHolder, NoLock, CountTooLarge, TooManyShares, Mismatch, NoMemory, BadTeam, BadEnv}
 use Rattle.gomp_types.specs.RefusalTexts.{Prints, text_of, clash_text, place_text}
 
 -- the member's number is not below the team's size
@@ -37,6 +37,11 @@ outside_share_prints = (refl, refl, refl)
 pub in_ordered_prints : Prints InOrdered 10 (codes "InOrdered") (codes "E10 InOrdered")
 unfolding digits
 in_ordered_prints = (refl, refl, refl)
+
+-- the member's task holds a critical name
+pub holds_critical_prints : Prints HoldsCritical 11 (codes "HoldsCritical") (codes "E11 HoldsCritical")
+unfolding digits
+holds_critical_prints = (refl, refl, refl)
 
 -- the loop's step is 0
 pub zero_step_prints : Prints ZeroStep 12 (codes "ZeroStep") (codes "E12 ZeroStep")
@@ -87,6 +92,31 @@ ordered_backwards_prints = (refl, refl, refl)
 pub not_inside_prints : Prints NotInside 22 (codes "NotInside") (codes "E22 NotInside")
 unfolding digits
 not_inside_prints = (refl, refl, refl)
+
+-- the critical name is too long
+pub name_too_long_prints : Prints NameTooLong 29 (codes "NameTooLong") (codes "E29 NameTooLong")
+unfolding digits
+name_too_long_prints = (refl, refl, refl)
+
+-- the name or the lock is held
+pub already_held_prints : Prints AlreadyHeld 30 (codes "AlreadyHeld") (codes "E30 AlreadyHeld")
+unfolding digits
+already_held_prints = (refl, refl, refl)
+
+-- the task does not hold it
+pub not_holder_prints : Prints NotHolder 31 (codes "NotHolder") (codes "E31 NotHolder")
+unfolding digits
+not_holder_prints = (refl, refl, refl)
+
+-- there is no such lock
+pub no_lock_prints : Prints NoLock 32 (codes "NoLock") (codes "E32 NoLock")
+unfolding digits
+no_lock_prints = (refl, refl, refl)
+
+-- a count is at its limit
+pub count_too_large_prints : Prints CountTooLarge 33 (codes "CountTooLarge") (codes "E33 CountTooLarge")
+unfolding digits
+count_too_large_prints = (refl, refl, refl)
 
 -- the member has started as many shares as the limit
 pub too_many_shares_prints : Prints TooManyShares 34 (codes "TooManyShares") (codes "E34 TooManyShares")

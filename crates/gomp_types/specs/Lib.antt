@@ -8,6 +8,7 @@ pub mod Laws
 pub mod Least
 pub mod Limits
 pub mod Ordered
+pub mod Owners
 pub mod Pieces
 pub mod RefusalTexts
 pub mod Sections

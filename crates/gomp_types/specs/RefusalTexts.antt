@@ -5,7 +5,7 @@ use Rattle.gomp_types.specs.declared.refusal.Place.{Place}
 use Rattle.gomp_types.specs.declared.refusal.Place.TheVariants.{Share, Barrier, Stopped}
 use Rattle.gomp_types.specs.declared.refusal.Clash.{Clash}
 use Rattle.gomp_types.specs.declared.refusal.Refusal.{Refusal}
-use Rattle.gomp_types.specs.declared.refusal.Refusal.TheVariants.{BadMember, Ended, Broken, Waiting, InsideShare, OutsideShare, InOrdered, ZeroStep, BadChunk, LoopTooLong, BadSections, EndDiffers, NotDrained, Drained, NotOrdered, OrderedBackwards, NotInside, TooManyShares, Mismatch, NoMemory, BadTeam, BadEnv}
+use Rattle.gomp_types.specs.declared.refusal.Refusal.TheVariants.{BadMember, Ended, Broken, Waiting, InsideShare, OutsideShare, InOrdered, HoldsCritical, ZeroStep, BadChunk, LoopTooLong, BadSections, EndDiffers, NotDrained, Drained, NotOrdered, OrderedBackwards, NotInside, NameTooLong, AlreadyHeld, NotHolder, NoLock, CountTooLarge, TooManyShares, Mismatch, NoMemory, BadTeam, BadEnv}
 
 -- the number of a refusal: of several that hold the least is the answer
 abbrev pub number_of : Refusal → ℕ
@@ -16,6 +16,7 @@ number_of Waiting = 4
 number_of InsideShare = 8
 number_of OutsideShare = 9
 number_of InOrdered = 10
+number_of HoldsCritical = 11
 number_of ZeroStep = 12
 number_of BadChunk = 13
 number_of LoopTooLong = 14
@@ -26,6 +27,11 @@ number_of Drained = 19
 number_of NotOrdered = 20
 number_of OrderedBackwards = 21
 number_of NotInside = 22
+number_of NameTooLong = 29
+number_of AlreadyHeld = 30
+number_of NotHolder = 31
+number_of NoLock = 32
+number_of CountTooLarge = 33
 number_of TooManyShares = 34
 number_of Mismatch = 35
 number_of NoMemory = 37
@@ -41,6 +47,7 @@ name_of Waiting = codes "Waiting"
 name_of InsideShare = codes "InsideShare"
 name_of OutsideShare = codes "OutsideShare"
 name_of InOrdered = codes "InOrdered"
+name_of HoldsCritical = codes "HoldsCritical"
 name_of ZeroStep = codes "ZeroStep"
 name_of BadChunk = codes "BadChunk"
 name_of LoopTooLong = codes "LoopTooLong"
@@ -51,6 +58,11 @@ name_of Drained = codes "Drained"
 name_of NotOrdered = codes "NotOrdered"
 name_of OrderedBackwards = codes "OrderedBackwards"
 name_of NotInside = codes "NotInside"
+name_of NameTooLong = codes "NameTooLong"
+name_of AlreadyHeld = codes "AlreadyHeld"
+name_of NotHolder = codes "NotHolder"
+name_of NoLock = codes "NoLock"
+name_of CountTooLarge = codes "CountTooLarge"
 name_of TooManyShares = codes "TooManyShares"
 name_of Mismatch = codes "Mismatch"
 name_of NoMemory = codes "NoMemory"

@@ -6,8 +6,10 @@
 #![tactic(auto)]
 
 pub mod call;
+pub mod critical_name;
 pub mod event;
 pub mod limits;
+pub mod lock;
 pub mod loop_desc;
 pub mod name;
 pub mod payload;
@@ -17,12 +19,15 @@ pub mod sections;
 pub mod seen;
 pub mod shape;
 pub mod single;
+pub mod task;
 
 pub use call::{Call, Step};
+pub use critical_name::{CriticalName, MAX_NAME};
 pub use event::{Arrival, Event, Tag};
 pub use limits::{
     Limits, MAX_CHUNK, MAX_MEMBERS, MAX_SECTIONS, MAX_TRIPS, OPEN_SHARES, is_team_size,
 };
+pub use lock::{Held, LockKind, MAX_COUNT, MAX_LOCKS};
 pub use loop_desc::{EndKind, LoopDesc, Sched, trips};
 pub use name::Name;
 pub use payload::{MAX_WORDS, Payload};
@@ -32,3 +37,4 @@ pub use sections::sections_shape;
 pub use seen::Seen;
 pub use shape::{Shape, ShareKind};
 pub use single::single_shape;
+pub use task::{Owner, Task};

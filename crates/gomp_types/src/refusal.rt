@@ -47,6 +47,8 @@ pub enum Refusal {
     OutsideShare,
     /// E10: the member is in an ordered part.
     InOrdered,
+    /// E11: the member's current task holds a critical name.
+    HoldsCritical,
     /// E12: the loop's step is 0.
     ZeroStep,
     /// E13: the chunk is negative, above 2^39, or given with a runtime schedule.
@@ -67,6 +69,17 @@ pub enum Refusal {
     OrderedBackwards,
     /// E22: no such part is open, or `resume` with no wait open.
     NotInside,
+    /// E29: the critical name has more than 32 bytes, or is not ASCII.
+    NameTooLong,
+    /// E30: the member holds this critical name; its task owns this simple lock; the lock to be
+    /// destroyed is set.
+    AlreadyHeld,
+    /// E31: the member's current task does not hold it.
+    NotHolder,
+    /// E32: there is no lock of this number and kind.
+    NoLock,
+    /// E33: the nestable lock is set 65,535 times by its owner, or 2^32 - 1 locks were made.
+    CountTooLarge,
     /// E34: the member has started as many shares as the limit.
     TooManyShares,
     /// E35: the construct differs from the team's.
@@ -92,6 +105,7 @@ impl Refusal {
             Refusal::InsideShare => 8,
             Refusal::OutsideShare => 9,
             Refusal::InOrdered => 10,
+            Refusal::HoldsCritical => 11,
             Refusal::ZeroStep => 12,
             Refusal::BadChunk => 13,
             Refusal::LoopTooLong => 14,
@@ -102,6 +116,11 @@ impl Refusal {
             Refusal::NotOrdered => 20,
             Refusal::OrderedBackwards => 21,
             Refusal::NotInside => 22,
+            Refusal::NameTooLong => 29,
+            Refusal::AlreadyHeld => 30,
+            Refusal::NotHolder => 31,
+            Refusal::NoLock => 32,
+            Refusal::CountTooLarge => 33,
             Refusal::TooManyShares => 34,
             Refusal::Mismatch => 35,
             Refusal::NoMemory => 37,
@@ -122,6 +141,7 @@ impl Refusal {
             Refusal::InsideShare => "InsideShare",
             Refusal::OutsideShare => "OutsideShare",
             Refusal::InOrdered => "InOrdered",
+            Refusal::HoldsCritical => "HoldsCritical",
             Refusal::ZeroStep => "ZeroStep",
             Refusal::BadChunk => "BadChunk",
             Refusal::LoopTooLong => "LoopTooLong",
@@ -132,6 +152,11 @@ impl Refusal {
             Refusal::NotOrdered => "NotOrdered",
             Refusal::OrderedBackwards => "OrderedBackwards",
             Refusal::NotInside => "NotInside",
+            Refusal::NameTooLong => "NameTooLong",
+            Refusal::AlreadyHeld => "AlreadyHeld",
+            Refusal::NotHolder => "NotHolder",
+            Refusal::NoLock => "NoLock",
+            Refusal::CountTooLarge => "CountTooLarge",
             Refusal::TooManyShares => "TooManyShares",
             Refusal::Mismatch => "Mismatch",
             Refusal::NoMemory => "NoMemory",

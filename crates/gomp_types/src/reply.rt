@@ -22,6 +22,13 @@ pub enum Reply {
     Passed,
     /// Not yet: the call stands, and `Resume` asks again.
     Wait,
+    /// The number of the lock that was made: how many were made before it.
+    Lock(u32),
+    /// Whether the simple lock was free, and is set now.
+    Got(bool),
+    /// How often the member's task has set the nestable lock now; 0 if it did not get it, or if the
+    /// lock is free again.
+    Count(u32),
     /// The team is stopped.
     Stopped,
     /// The call changed nothing, save that `Mismatch` broke the team.

@@ -1,0 +1,76 @@
+-- The laws of critical names and locks: the page to read first. They speak of one call by one owner, its reply, and the book
+-- before and after it (BookCalls). OpenMP API 5.2, sections 15.2 and 18.9.
+use Rattle.std.proofs.Common.{◌≡◌, ◌≤◌, ℕ, ◌+◌, ◌<◌, true, false, List, [], Option, Some, None, length}
+use Rattle.std.specs.Prelude.{slice_get, bytes_eq, ◌↔◌}
+use Rattle.std.proofs.lemmas.List.{length_push}
+use Rattle.std.specs.Option.{option_flatten}
+use Rattle.std.specs.Ordering.{nat_cmp}
+use Rattle.std.specs.Cmp.Lexicographic.{slice_cmp}
+use Rattle.std.specs.List.Sorted.{IsStrictlySortedBy}
+use Rattle.std.specs.Map.{lookup, keys_of}
+use Rattle.gomp_types.specs.declared.task.Owner.{Owner}
+use Rattle.gomp_types.specs.declared.lock.LockKind.{LockKind}
+use Rattle.gomp_types.specs.declared.lock.Held.{Held}
+use Rattle.gomp_types.specs.declared.reply.Reply.{Reply}
+use Rattle.gomp_types.specs.declared.reply.Reply.TheVariants.{Lock as LockMade}
+use Rattle.gomp_types.specs.Owners.{same_owner}
+use Rattle.gomp_locks.specs.declared.lock.Lock.{Lock}
+use Rattle.gomp_locks.specs.Book.{BookView, name_owner, owned_by, names_held, open_holds}
+use Rattle.gomp_locks.proofs.BookCalls.{BookCall, CallAnswered, after_call, holds_gained, holds_lost, IsInOrder, make_lock}
+use Rattle.gomp_locks.proofs.CallLemmas.{barred_stays, no_fewer_locks, another_owners_name}
+use Rattle.gomp_locks.proofs.CountLemmas.{some_are_held}
+use Rattle.gomp_locks.proofs.OpenHolds.{holds_move}
+use Rattle.gomp_locks.proofs.OrderLemmas.{new_in_order, call_keeps_order}
+use Rattle.gomp_locks.proofs.OwnerLemmas.{one_that_is_held}
+
+-- What another owner holds
+
+-- a critical name that an owner holds stays its name, whatever another owner calls
+pub held_name_stays : (owner other : Owner) (name : List ℕ) (call : BookCall) (reply : Reply) (book : BookView) → same_owner other owner ≡ false → CallAnswered owner call book reply →
+    name_owner name book ≡ Some other → name_owner name (after_call owner call reply book) ≡ Some other
+held_name_stays = another_owners_name
+
+-- a lock that an owner holds stays as it is, its kind, its owner and its count, whatever another owner calls
+pub held_lock_stays : (owner : Owner) (number : ℕ) (lock : Lock) (held : Held) (call : BookCall) (reply : Reply) (book : BookView) → lock.held ≡ Some held → same_owner held.owner owner ≡ false → CallAnswered owner call book reply →
+    slice_get book.locks number ≡ Some (Some lock) → slice_get (after_call owner call reply book).locks number ≡ Some (Some lock)
+held_lock_stays owner number lock held call reply book is other answered at = barred_stays owner number (Some lock) call reply book (held, is, other) answered at
+
+-- The numbers of locks
+
+-- a lock that was destroyed is not there again, whatever anybody calls
+pub destroyed_lock_stays : (owner : Owner) (number : ℕ) (call : BookCall) (reply : Reply) (book : BookView) → CallAnswered owner call book reply →
+    slice_get book.locks number ≡ Some None → slice_get (after_call owner call reply book).locks number ≡ Some None
+destroyed_lock_stays owner number call reply book answered at = barred_stays owner number None call reply book tt answered at
+
+-- a lock's number is that of the places there are
+pub number_of_made_lock : (owner : Owner) (kind : LockKind) (number : ℕ) (book : BookView) → CallAnswered owner (make_lock kind) book (LockMade number) → number ≡ length book.locks
+number_of_made_lock owner kind number book answered = answered.1
+
+-- with it there is one place more, and no call makes them fewer: so numbers rise
+pub made_lock_is_one_more : (owner : Owner) (kind : LockKind) (number : ℕ) (book : BookView) → length (after_call owner (make_lock kind) (LockMade number) book).locks ≡ length book.locks + 1
+made_lock_is_one_more owner kind number book = length_push book.locks (Some (record { kind = kind; held = None }))
+
+pub numbers_never_fall : (owner : Owner) (call : BookCall) (reply : Reply) (book : BookView) → length book.locks ≤ length (after_call owner call reply book).locks
+numbers_never_fall = no_fewer_locks
+
+-- Open holds: how many names and locks are held, a nestable lock as often as it is set
+
+-- a call adds one hold or ends one, as its reply says, or none: the start of a name and the setting of a lock add one, also one
+-- that is tested and got and one more of a nestable lock; their ends, and each unsetting, end one (holds_gained, holds_lost)
+pub holds_move_by_reply : (owner : Owner) (call : BookCall) (reply : Reply) (book : BookView) → IsInOrder book → CallAnswered owner call book reply →
+    open_holds (after_call owner call reply book) + holds_lost call reply ≡ open_holds book + holds_gained call reply
+holds_move_by_reply = holds_move
+
+-- the book is in order from the first call on
+pub new_book_is_in_order : IsInOrder (record { names = []; locks = [] })
+new_book_is_in_order = new_in_order
+
+pub calls_keep_order : (owner : Owner) (call : BookCall) (reply : Reply) (book : BookView) → IsInOrder book → IsInOrder (after_call owner call reply book)
+calls_keep_order = call_keeps_order
+
+-- How many names an owner holds
+
+-- an owner holds some names exactly if there is a name that it holds
+pub holder_of_names_holds_one : (owner : Owner) (names : List (List ℕ × Option Owner)) → IsStrictlySortedBy (slice_cmp nat_cmp) (keys_of names) →
+    (0 < names_held owner names) ↔ ((name : List ℕ) × (owned_by owner (option_flatten (lookup (bytes_eq name) names)) ≡ true))
+holder_of_names_holds_one owner names sorted = (one_that_is_held owner names sorted, (λ held. some_are_held owner held.0 names sorted held.1))

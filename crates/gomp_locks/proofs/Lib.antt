@@ -1,0 +1,13 @@
+pub mod AnswerExamples
+pub mod BookCalls
+pub mod BookExamples
+pub mod CallLemmas
+pub mod CountLemmas
+pub mod HoldLemmas
+pub mod Laws
+pub mod LockExamples
+pub mod NameLemmas
+pub mod OpenHolds
+pub mod OrderLemmas
+pub mod OwnerLemmas
+pub mod PlaceLemmas

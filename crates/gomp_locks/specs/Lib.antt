@@ -1,0 +1,4 @@
+pub mod Book
+pub mod Counts
+pub mod CriticalNames
+pub mod Locks

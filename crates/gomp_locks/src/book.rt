@@ -1,0 +1,57 @@
+//! The book of names and locks.
+
+ghost use Rattle.std.specs.Prelude.{◌≡◌, ◌<◌, ◌↔◌, [], IsTrue};
+ghost use Rattle.gomp_locks.specs.Book.{names_held};
+
+use crate::critical::place_of;
+use crate::lock::Lock;
+use gomp_types::{CriticalName, Owner};
+use std::alloc::Global;
+use std::collections::BTreeMap;
+use std::marker::Model;
+
+/// Which critical names and locks are held, and by whom. A new one has none.
+#[derive(Drop)]
+pub struct LockBook {
+    /// Each name that was ever started, with its owner while it is held.
+    pub(crate) names: BTreeMap<CriticalName, Option<Owner>>,
+    /// Who holds a name: an owner is there once for each name that it holds. It has room for as many
+    /// as there are names.
+    pub(crate) holders: Vec<Owner>,
+    /// The locks by their numbers.
+    pub(crate) locks: Vec<Option<Lock>>,
+}
+
+impl Model for LockBook {
+    ghost use Rattle.std.specs.Prelude.{◌≤◌, length, vec_capacity};
+    ghost use Rattle.gomp_types.specs.declared.lock.TheConstants.{MAX_LOCKS};
+    ghost use Rattle.gomp_locks.specs.Book.{BookView};
+    ghost use Rattle.gomp_locks.specs.Counts.{AreHolders, AreHeldOnce};
+
+    ghost Value = { BookView };
+
+    ghost view = { λ book. record { names = book.names.entries; locks = book.locks.items } };
+
+    ghost invariant = { λ book. AreHolders book.holders.items book.names.entries (vec_capacity book.holders) × AreHeldOnce book.locks.items × (length book.locks.items ≤ MAX_LOCKS) };
+}
+
+impl LockBook {
+    /// No name was started, and no lock made. It takes no memory.
+    pub fn new(alloc: Global) -> LockBook
+        ensures names { result.names ≡ [] }
+        ensures locks { result.locks ≡ [] }
+    {
+        LockBook {
+            names: BTreeMap::new(alloc),
+            holders: Vec::new(alloc),
+            locks: Vec::new(alloc),
+        }
+    }
+
+    /// Whether this owner holds a critical name.
+    pub fn holds_critical(&self, owner: Owner) -> bool
+        ensures { IsTrue result ↔ (0 < names_held owner self.now.names) }
+    {
+        place_of(&self.holders, owner).is_some()
+    }
+}

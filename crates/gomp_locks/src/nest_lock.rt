@@ -1,0 +1,96 @@
+//! Nestable locks: a task that holds one may set it again, and unsets it as often.
+//!
+//! OpenMP API 5.2, sections 18.9.4 to 18.9.6; libgomp's `omp_set_nest_lock`, `omp_test_nest_lock`
+//! and `omp_unset_nest_lock`.
+
+ghost use Rattle.std.specs.Prelude.{◌≡◌};
+ghost use Rattle.gomp_types.specs.Least.{Answers, least};
+ghost use Rattle.gomp_types.specs.declared.lock.LockKind.TheVariants.{Nest};
+ghost use Rattle.gomp_locks.specs.Book.{lock_at, held_times};
+ghost use Rattle.gomp_locks.specs.Locks.{nest_tests, SetsNest, after_set_nest, TestsNest, after_test_nest, unset_tests, UnsetsNest, after_unset_nest};
+
+use crate::book::LockBook;
+use gomp_types::{Held, LockKind, MAX_COUNT, Owner, Refusal, Reply};
+
+impl LockBook {
+    /// Sets a nestable lock that no other task holds once more, and answers how often this task has
+    /// set it now; if another task holds it, the answer is to wait.
+    ///
+    /// Refused with `NoLock` (E32) if there is no nestable lock of this number, and with
+    /// `CountTooLarge` (E33) if this task has set it 65,535 times.
+    pub fn set_nest(&mut self, owner: Owner, number: u32) -> Reply
+        ensures answer { Answers (nest_tests owner (lock_at Nest number self.old))
+            (SetsNest owner (lock_at Nest number self.old)) result }
+        ensures book { self.new ≡ after_set_nest owner number result self.old }
+    {
+        if let Some(refusal) = self.nest_refusal(owner, number) {
+            return Reply::Refused(refusal);
+        }
+        match self.lock_at(LockKind::Nest, number) {
+            None => unreachable!(),
+            Some(Some(held)) if !held.owner.is_same(&owner) => Reply::Wait,
+            Some(Some(held)) => self.count_nest(owner, number, held.count + 1),
+            Some(None) => self.count_nest(owner, number, 1),
+        }
+    }
+
+    /// Sets a nestable lock once more if no other task holds it, and answers how often this task has
+    /// set it now; 0 if another task holds it.
+    ///
+    /// Refused as [`set_nest`](LockBook::set_nest) is.
+    pub fn test_nest(&mut self, owner: Owner, number: u32) -> Reply
+        ensures answer { Answers (nest_tests owner (lock_at Nest number self.old))
+            (TestsNest owner (lock_at Nest number self.old)) result }
+        ensures book { self.new ≡ after_test_nest owner number result self.old }
+    {
+        match self.set_nest(owner, number) {
+            Reply::Wait => Reply::Count(0),
+            reply => reply,
+        }
+    }
+
+    /// Unsets a nestable lock that this task holds once, and answers how often it is set still.
+    ///
+    /// Refused with `NotHolder` (E31) if this task does not hold it, and with `NoLock` (E32) if
+    /// there is no nestable lock of this number.
+    pub fn unset_nest(&mut self, owner: Owner, number: u32) -> Reply
+        ensures answer { Answers (unset_tests owner (lock_at Nest number self.old))
+            (UnsetsNest owner (lock_at Nest number self.old)) result }
+        ensures book { self.new ≡ after_unset_nest owner number result self.old }
+    {
+        if let Some(refusal) = self.unset_refusal(owner, LockKind::Nest, number) {
+            return Reply::Refused(refusal);
+        }
+        match self.lock_at(LockKind::Nest, number) {
+            Some(Some(held)) => self.count_nest(owner, number, held.count - 1),
+            _ => unreachable!(),
+        }
+    }
+
+    /// With what [`set_nest`](LockBook::set_nest) and [`test_nest`](LockBook::test_nest) are refused.
+    pub fn nest_refusal(&self, owner: Owner, number: u32) -> Option<Refusal>
+        ensures { result ≡ least (nest_tests owner (lock_at Nest number self.now)) }
+    {
+        match self.lock_at(LockKind::Nest, number) {
+            None => Some(Refusal::NoLock),
+            Some(Some(held)) if held.count >= MAX_COUNT && held.owner.is_same(&owner) => {
+                Some(Refusal::CountTooLarge)
+            }
+            Some(_) => None,
+        }
+    }
+
+    /// This task has set the nestable lock so often from now on; nobody holds it if that is 0.
+    fn count_nest(&mut self, owner: Owner, number: u32, count: u32) -> Reply
+        ensures answer { result ≡ Reply.Count count }
+        ensures book { self.new ≡ after_set_nest owner number result self.old }
+    {
+        let held = if count == 0 {
+            None
+        } else {
+            Some(Held { owner, count })
+        };
+        self.hold_lock(LockKind::Nest, number, held);
+        Reply::Count(count)
+    }
+}
