@@ -69,7 +69,7 @@ const MEMBERS: &[(u16, &str)] = &[
 ];
 
 /// The refusals that say no more than their number and name.
-const REFUSALS: [(Refusal, &str); 20] = [
+const REFUSALS: [(Refusal, &str); 26] = [
     (Refusal::BadMember, "E1 BadMember"),
     (Refusal::Ended, "E2 Ended"),
     (Refusal::Waiting, "E4 Waiting"),
