@@ -1,12 +1,13 @@
 -- What the theorems on a team ask of a call's row.
-use Rattle.std.proofs.Common.{◌≡◌, ℕ, Bool, true, false, List, [], ◌∷◌, ◌++◌, None}
+use Rattle.std.proofs.Common.{◌≡◌, ℕ, Bool, true, false, List, [], ◌∷◌, ◌++◌, Option, Some, None}
+use Rattle.gomp_types.specs.declared.key.Key.{Key}
 use Rattle.std.specs.Prelude.{ℤ, ◌⊎◌, ◌<◌, ◌&&◌, not, is_some}
 use Rattle.gomp_types.specs.declared.refusal.Refusal.{Refusal}
 use Rattle.gomp_types.specs.declared.refusal.Refusal.TheVariants.{Mismatch, NoMemory}
 use Rattle.gomp_types.specs.declared.reply.Reply.{Reply}
-use Rattle.gomp_types.specs.declared.reply.Reply.TheVariants.{Chunk, Passed, Wait, Stopped, Refused}
+use Rattle.gomp_types.specs.declared.reply.Reply.TheVariants.{Chunk, Passed, Wait, Count, Stopped, Refused}
 use Rattle.gomp_types.specs.declared.event.Event.{Event}
-use Rattle.gomp_types.specs.declared.event.Event.TheVariants.{Arrive, Put, Pass, Break}
+use Rattle.gomp_types.specs.declared.event.Event.TheVariants.{Arrive, Put, Pass, Hold, Free, Break}
 use Rattle.gomp_types.specs.Tests.{Test}
 use Rattle.gomp_types.specs.Events.{member_of, barriers_passed, arrival}
 use Rattle.gomp_types.specs.Laws.{Always}
@@ -15,8 +16,11 @@ use Rattle.gomp_types.specs.Seen.{seen_of}
 use Rattle.gomp_types.proofs.Booleans.{and_left, and_right}
 use Rattle.gomp_types.proofs.LeastTests.{AllFail}
 use Rattle.gomp_laws.proofs.WordsToCome.{WordsToCome}
+use Rattle.gomp_types.specs.declared.lock.Held.{Held}
+use Rattle.gomp_locks.specs.Locks.{count_for}
+use Rattle.gomp_locks.specs.Holders.{asker, holder, own_part, holds_critical}
 use Rattle.gomp_model.specs.Past.{Past}
-use Rattle.gomp_model.specs.Row.{Row, begun_past}
+use Rattle.gomp_model.specs.Row.{Row, begun_past, given_after}
 
 -- whether a refusal is want of memory
 abbrev pub is_memory : Refusal → Bool
@@ -45,24 +49,31 @@ breaks _ = false
 pub record Gives : Type 0 where
   pub arrives : Bool
   pub puts : Bool
+  pub holds : Option Key
 
--- neither
+-- none of them
 abbrev pub quiet : Gives
-quiet = record { arrives = false; puts = false }
+quiet = record { arrives = false; puts = false; holds = None }
 
 -- an arrival alone
 abbrev pub only_arrives : Gives
-only_arrives = record { arrives = true; puts = false }
+only_arrives = record { arrives = true; puts = false; holds = None }
+
+-- that this key is held or freed, alone
+abbrev pub only_holds : Key → Gives
+only_holds key = record { arrives = false; puts = false; holds = Some key }
 
 -- what a row allows
 abbrev pub gives_of : Row → Gives
-gives_of row = record { arrives = is_some row.arrives; puts = row.puts }
+gives_of row = record { arrives = is_some row.arrives; puts = row.puts; holds = row.holds }
 
--- an event of the member that neither passes a barrier nor breaks the team; it arrives, or puts words, only if its call does
+-- an event of the member that neither passes a barrier, nor holds or frees anything, nor breaks the team; it arrives, or puts words, only if its call does
 abbrev pub IsOwn : Gives → ℕ → Event → Type 0
 IsOwn can m (Arrive barrier n tag) = (n ≡ m) × (can.arrives ≡ true)
 IsOwn can m (Put share n payload) = (n ≡ m) × (can.puts ≡ true)
 IsOwn can m (Pass barrier n) = ⊥
+IsOwn can m (Hold key n task) = ⊥
+IsOwn can m (Free key n task) = ⊥
 IsOwn can m (Break n place) = ⊥
 IsOwn can m event = member_of event ≡ m
 
@@ -71,9 +82,11 @@ abbrev pub AreOwn : Gives → ℕ → List Event → Type 0
 AreOwn can m [] = Unit {0}
 AreOwn can m (event ∷ events) = IsOwn can m event × AreOwn can m events
 
--- the newest event of a reply may pass a barrier, or break the team, if the reply says so
+-- the newest event of a reply may pass a barrier, hold or free what the call is about, or break the team, if the reply says so
 abbrev pub IsLast : Gives → ℕ → Reply → Event → Type 0
 IsLast can m reply (Pass barrier n) = (n ≡ m) × (can.arrives ≡ true) × (is_pass reply ≡ true)
+IsLast can m reply (Hold key n task) = (n ≡ m) × (can.holds ≡ Some key) × (is_wait reply ≡ false)
+IsLast can m reply (Free key n task) = (n ≡ m) × (can.holds ≡ Some key) × (is_wait reply ≡ false)
 IsLast can m reply (Break n place) = (n ≡ m) × (breaks reply ≡ true)
 IsLast can m reply event = IsOwn can m event
 
@@ -84,6 +97,8 @@ AreGiven can m reply (event ∷ events) = IsLast can m reply event × AreOwn can
 
 pub own_last : (can : Gives) (m : ℕ) (reply : Reply) (event : Event) → IsOwn can m event → IsLast can m reply event
 own_last can m reply (Pass barrier n) own = absurd own
+own_last can m reply (Hold key n task) own = absurd own
+own_last can m reply (Free key n task) own = absurd own
 own_last can m reply (Break n place) own = absurd own
 own_last can m reply _ own = own
 
@@ -114,12 +129,18 @@ abbrev pub shows : Bool → Bool → Bool
 shows true repeated = true
 shows false repeated = not repeated
 
+-- what holds on of a call while it waits: its member holds no critical name, unless it waits for a name or a lock; and of that it holds nothing
+abbrev pub Lasts : Row → ℕ → List Event → Type 0
+Lasts row m h = (row.asks_book ≡ false → holds_critical (asker m h) h ≡ false) × ((key : Key) → row.holds ≡ Some key → own_part m (holder key h) ≡ None)
+
 -- what the tests of a call have shown, if none of them holds
 pub record Ready (row : Row) (repeated : Bool) (m : ℕ) (p : Past) : Type 0 where
   pub member : m < p.terms.members
   -- a call that is repeated is tested by comparison alone, but what its place has shown holds on where it stays
   pub place : shows row.stays repeated ≡ true → AllFail (row.by_place p.terms.limits (seen_of m p.events))
   pub team : repeated ≡ false → AllFail (row.by_team m p)
+  pub missing : AllFail (row.missing m p)
+  pub lasting : repeated ≡ true → Lasts row m p.events
   pub compared : AllFail (row.compared repeated m p)
   -- a call that arrives has not arrived there before
   pub first : repeated ≡ false → is_some row.arrives ≡ true → arrival (barriers_passed m p.events) m p.events ≡ None
@@ -148,9 +169,16 @@ pub record IsSound (row : Row) : Type 0 where
   -- a call that arrives passes the barrier, or waits
   pub tells : is_some row.arrives ≡ true → (m : ℕ) (p : Past) (reply : Reply) → row.may_reply m p reply → (reply ≡ Passed) ⊎ (reply ≡ Wait)
   pub one_pass : is_some row.arrives ≡ true → (m : ℕ) (p : Past) → row.gives m p Passed ≡ Pass (barriers_passed m p.events) m ∷ []
+  -- what holds on while it waits
+  pub lasts : (repeated : Bool) (m : ℕ) (p : Past) → Ready row repeated m p → row.may_reply m (begun_past repeated row m p) Wait → Lasts row m p.events
+  -- it waits for a name or a lock only if somebody holds that
+  pub waits_for : (key : Key) (m : ℕ) (p : Past) → row.holds ≡ Some key → row.may_reply m p Wait → (held : Held) × (holder key p.events ≡ Some held)
+  -- a count is how often the task that asks holds the lock then
+  pub tells_count : (key : Key) (repeated : Bool) (m count : ℕ) (p : Past) → row.holds ≡ Some key → Ready row repeated m p → Always (TeamRule p.terms.members) p.events → row.may_reply m (begun_past repeated row m p) (Count count) →
+      count ≡ count_for (asker m p.events) (holder key (given_after row repeated m p (Count count)))
   -- no test is for want of memory
   pub no_memory : (m : ℕ) (p : Past) →
-      (memoryless (row.by_place p.terms.limits (seen_of m p.events)) ≡ true) × (memoryless (row.by_team m p) ≡ true) × ((repeated : Bool) → memoryless (row.compared repeated m p) ≡ true)
+      (memoryless (row.by_place p.terms.limits (seen_of m p.events)) ≡ true) × (memoryless (row.by_team m p) ≡ true) × (memoryless (row.missing m p) ≡ true) × ((repeated : Bool) → memoryless (row.compared repeated m p) ≡ true)
   -- a call that puts words is the executor's
   pub words_keep : row.puts ≡ true → (repeated : Bool) (m : ℕ) (p : Past) (reply : Reply) → Ready row repeated m p → row.may_reply m (begun_past repeated row m p) reply → Always (TeamRule p.terms.members) p.events →
       WordsToCome (row.gives m (begun_past repeated row m p) reply ++ (begun_past repeated row m p).events)

@@ -1,9 +1,10 @@
--- The headline, for every team size and list of member steps. OpenMP API 5.2, chapter 11 and sections 5.7.2, 15.3 and 15.10.2.
+-- The headline, for every team size and list of member steps. OpenMP API 5.2, chapter 11 and sections 5.7.2, 15.2, 15.3, 15.10.2 and 18.9.
 -- No iteration, section or single is taken twice, and of a static loop a member takes only its own pieces. A loop or sections
 -- construct that all members end had every iteration or section taken, and a single that all members left had one executor.
 -- Ordered parts of a loop run in the order of its iterations, and of an ordered loop that all members left every piece was handed on.
 -- The words that a member copies are those that the executor of the single put. All members go through the same constructs in the
--- same order. No member passes a barrier before all arrived, and have left the constructs before it.
+-- same order. No member passes a barrier before all arrived, and have left the constructs before it. A critical name and a lock have
+-- at most one owner at a time, which alone releases it, and no member passes a barrier while it holds a critical name.
 use Rattle.std.specs.Prelude.{ℕ, List}
 use Rattle.gomp_types.specs.declared.event.Event.{Event}
 use Rattle.gomp_types.specs.Deals.{schedule}
@@ -11,6 +12,7 @@ use Rattle.gomp_types.specs.Laws.{Always}
 use Rattle.gomp_shares.specs.Laws.{TakenOnce, TakesItsOwn, WholeWhereOver, SameShares, OrderedLaws}
 use Rattle.gomp_laws.specs.Laws.{LeavesHandedOn, HandedOnWhereOver, PutsOnce, GetsWhatWasPut, LeavesWithWords, ArrivesOnce, ArrivesOutside, HappensUnbroken, HappensInside, TellsShares, ClosesShares}
 use Rattle.gomp_types.specs.Arrivals.{SameArrivals, PassesAfterAll}
+use Rattle.gomp_locks.specs.HoldLaws.{AtEachMoment, OneOwner, HeldOnce, FreesItsOwn, PassesFree}
 
 -- the headline: all that is promised of the events of a team of this size
 pub record Headline (members : ℕ) (h : List Event) : Type 0 where
@@ -44,3 +46,10 @@ pub record Headline (members : ℕ) (h : List Event) : Type 0 where
   pub passes : Always (PassesAfterAll members) h
   -- and none before all members have left the shares that it entered before that barrier
   pub closes : Always (ClosesShares members) h
+  -- at each moment a critical name or a lock has at most one owner, and all but a nestable lock is held at most once
+  pub one_owner : AtEachMoment OneOwner h
+  pub held_once : AtEachMoment HeldOnce h
+  -- each release is by the owner of an open hold
+  pub frees : Always FreesItsOwn h
+  -- no member passes a barrier while it holds a critical name
+  pub passes_free : Always PassesFree h

@@ -1,4 +1,5 @@
 pub mod Headline
 pub mod LawExamples
 pub mod Laws
+pub mod Replies
 pub mod Rules

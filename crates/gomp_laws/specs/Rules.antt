@@ -3,12 +3,16 @@ use Rattle.std.specs.Prelude.{ℕ, ◌<◌, ◌≡◌, true, false, is_some, Lis
 use Rattle.gomp_types.specs.declared.shape.Shape.{Shape}
 use Rattle.gomp_types.specs.declared.event.Tag.{Tag}
 use Rattle.gomp_types.specs.declared.event.Event.{Event}
-use Rattle.gomp_types.specs.declared.event.Event.TheVariants.{Take, Drained, End, Put, Got, Arrive, Pass}
+use Rattle.gomp_types.specs.declared.event.Event.TheVariants.{Take, Drained, End, Put, Got, Arrive, Pass, Hold, Free}
 use Rattle.gomp_types.specs.Shapes.{is_copy}
 use Rattle.gomp_types.specs.Events.{shares_entered, open_share, last_piece, holds_piece, payload_at, has_piece, has_words, arrival}
 use Rattle.gomp_types.specs.Deals.{schedule}
 use Rattle.gomp_types.specs.Arrivals.{MayArrive, MayPass}
+use Rattle.gomp_types.specs.declared.key.Key.{Key}
+use Rattle.gomp_types.specs.declared.task.Task.{Task}
 use Rattle.gomp_shares.specs.Rules.{HasNone, MayTake, ShareRule}
+use Rattle.gomp_locks.specs.Holders.{asker, holds_critical}
+use Rattle.gomp_locks.specs.HoldRules.{MayHold, MayFree}
 
 -- the executor of a single puts its words, once
 pub record MayPut (share m : ℕ) (earlier : List Event) : Type 0 where
@@ -49,9 +53,15 @@ pub record MayArriveIn (members barrier m : ℕ) (tag : Tag) (earlier : List Eve
   pub once : arrival barrier m earlier ≡ None
   pub shares : tag.shares ≡ shares_entered m earlier
 
--- and a member of it passes
+-- and a member of it passes, which holds no critical name
 pub record MayPassIn (members barrier m : ℕ) (earlier : List Event) : Type 0 where
   pub passes : MayPass members barrier m earlier
+  pub member : m < members
+  pub free : holds_critical (asker m earlier) earlier ≡ false
+
+-- a task of a member of it holds what it may hold
+pub record MayHoldIn (members : ℕ) (key : Key) (m : ℕ) (task : Task) (earlier : List Event) : Type 0 where
+  pub holds : MayHold key m task earlier
   pub member : m < members
 
 -- the rule of a team
@@ -61,6 +71,8 @@ TeamRule members (Drained share m) earlier = HasNoneIn members share m earlier
 TeamRule members (End share m) earlier = MayLeave members share m earlier
 TeamRule members (Arrive barrier m tag) earlier = MayArriveIn members barrier m tag earlier
 TeamRule members (Pass barrier m) earlier = MayPassIn members barrier m earlier
+TeamRule members (Hold key m task) earlier = MayHoldIn members key m task earlier
+TeamRule members (Free key m task) earlier = MayFree key m task earlier
 TeamRule members (Put share m payload) earlier = MayPut share m earlier
 TeamRule members (Got share m payload) earlier = MayGet share m payload earlier
 TeamRule members event earlier = ShareRule (schedule members) members event earlier

@@ -49,7 +49,7 @@ no_counting_of_none never = never
 pub no_entering_by_got : EntersCritical None (Got true) → ⊥
 no_entering_by_got never = never
 
-pub no_making_by_count : MakesLock [] (Count 0) → ⊥
+pub no_making_by_count : MakesLock 0 (Count 0) → ⊥
 no_making_by_count never = never
 
 pub no_setting_by_got : SetsLock (lock_at Simple 0 made) (Got true) → ⊥

@@ -1,5 +1,5 @@
 -- The calls of a lock book by one owner: which reply each may give, and the book after it. The laws of a book speak of them.
-use Rattle.std.specs.Prelude.{ℕ, ◌≡◌, nat_lt, if◌then◌else◌, true, List, Option, Some, slice_get}
+use Rattle.std.specs.Prelude.{ℕ, ◌≡◌, nat_lt, if◌then◌else◌, true, length, List, Option, Some, slice_get}
 use Rattle.std.specs.Ordering.{nat_cmp}
 use Rattle.std.specs.Cmp.Lexicographic.{slice_cmp}
 use Rattle.std.specs.List.Sorted.{IsStrictlySortedBy}
@@ -33,7 +33,7 @@ pub data BookCall : Type 0 where
 abbrev pub CallAnswered : Owner → BookCall → BookView → Reply → Type 0
 CallAnswered owner (start_critical name) book reply = AnswersOrLacks (critical_start_tests owner name (name_owner name book)) (EntersCritical (name_owner name book)) reply
 CallAnswered owner (end_critical name) book reply = Answers (critical_end_tests owner name (name_owner name book)) (λ reply. reply ≡ Finished) reply
-CallAnswered owner (make_lock kind) book reply = AnswersOrLacks (init_tests book.locks) (MakesLock book.locks) reply
+CallAnswered owner (make_lock kind) book reply = AnswersOrLacks (init_tests (length book.locks)) (MakesLock (length book.locks)) reply
 CallAnswered owner (destroy_lock number) book reply = Answers (destroy_tests (any_lock_at number book)) (λ reply. reply ≡ Finished) reply
 CallAnswered owner (set_lock number) book reply = Answers (set_tests owner (lock_at Simple number book)) (SetsLock (lock_at Simple number book)) reply
 CallAnswered owner (test_lock number) book reply = Answers (test_tests (lock_at Simple number book)) (TestsLock (lock_at Simple number book)) reply

@@ -1,5 +1,5 @@
 -- Worked examples of the calls on locks, computed. OpenMP API 5.2, section 18.9; libgomp's lock.c.
-use Rattle.std.proofs.Common.{◌≡◌, true, false, [], ◌∷◌, Some, None, refl}
+use Rattle.std.proofs.Common.{length, ◌≡◌, true, false, [], ◌∷◌, Some, None, refl}
 use Rattle.std.specs.Prelude.{map}
 use Rattle.gomp_types.specs.declared.lock.LockKind.TheVariants.{Simple, Nest}
 use Rattle.gomp_types.specs.declared.refusal.Refusal.TheVariants.{AlreadyHeld, NotHolder, NoLock, CountTooLarge}
@@ -34,10 +34,10 @@ pub kinds_found : (lock_at Nest 0 set_thrice ≡ None) × (lock_at Simple 1 set_
 kinds_found = (refl, refl, refl)
 
 -- the next lock has the number 3, though lock 2 was destroyed
-pub next_number : MakesLock set_thrice.locks (LockMade 3)
+pub next_number : MakesLock (length set_thrice.locks) (LockMade 3)
 next_number = refl
 
-pub no_number_again : MakesLock set_thrice.locks (LockMade 2) → ⊥
+pub no_number_again : MakesLock (length set_thrice.locks) (LockMade 2) → ⊥
 no_number_again again = absurd (cc)
 
 -- a lock that is held is not destroyed, one that is none neither

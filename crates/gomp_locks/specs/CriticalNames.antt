@@ -3,7 +3,7 @@ use Rattle.std.specs.Prelude.{ℕ, nat_le, not, ◌&&◌, length, Bool, List, []
 use Rattle.gomp_text.specs.Words.{is_ascii}
 use Rattle.gomp_types.specs.declared.task.Owner.{Owner}
 use Rattle.gomp_types.specs.declared.critical_name.TheConstants.{MAX_NAME}
-use Rattle.gomp_types.specs.declared.refusal.Refusal.TheVariants.{NameTooLong, AlreadyHeld, NotHolder}
+use Rattle.gomp_types.specs.declared.refusal.Refusal.TheVariants.{HoldsCritical, NameTooLong, AlreadyHeld, NotHolder}
 use Rattle.gomp_types.specs.declared.reply.Reply.{Reply}
 use Rattle.gomp_types.specs.declared.reply.Reply.TheVariants.{Finished, Wait}
 use Rattle.gomp_types.specs.Tests.{Test}
@@ -35,3 +35,7 @@ critical_end_tests owner name found = (is_too_long name, NameTooLong) ∷ (not (
 abbrev pub after_critical_end : List ℕ → Reply → BookView → BookView
 after_critical_end name Finished book = with_name name None book
 after_critical_end name _ book = book
+
+-- a task that holds a critical name meets no barrier and no work-share
+abbrev pub critical_tests : Bool → List Test
+critical_tests holds = (holds, HoldsCritical) ∷ []

@@ -16,22 +16,29 @@ use Rattle.gomp_locks.specs.Book.{BookView, with_lock, held_times, held_by}
 
 -- Making and destroying
 
--- at most 2^32 - 1 locks are ever made
-abbrev pub init_tests : List (Option Lock) → List Test
-init_tests locks = (nat_le MAX_LOCKS (length locks), CountTooLarge) ∷ []
+-- at most 2^32 - 1 locks are ever made; so many were made before
+abbrev pub init_tests : ℕ → List Test
+init_tests made = (nat_le MAX_LOCKS made, CountTooLarge) ∷ []
 
 -- a lock's number is that of the locks made before it, so no number is used twice
-abbrev pub MakesLock : List (Option Lock) → Reply → Type 0
-MakesLock locks (LockMade number) = number ≡ length locks
-MakesLock locks _ = ⊥
+abbrev pub MakesLock : ℕ → Reply → Type 0
+MakesLock made (LockMade number) = number ≡ made
+MakesLock made _ = ⊥
 
 abbrev pub after_init : LockKind → Reply → BookView → BookView
 after_init kind (LockMade number) book = record book { locks = book.locks ++ Some (record { kind = kind; held = None }) ∷ [] }
 after_init kind _ book = book
 
+-- a call on a lock is refused if there is no such lock; one that waits is tested for it again
+abbrev pub gone_tests : Option (Option Held) → List Test
+gone_tests found = (not (is_some found), NoLock) ∷ []
+
 -- a lock of either kind is destroyed while nobody holds it
+abbrev pub set_by_any_tests : Option (Option Held) → List Test
+set_by_any_tests found = (is_some (option_flatten found), AlreadyHeld) ∷ []
+
 abbrev pub destroy_tests : Option (Option Held) → List Test
-destroy_tests found = (is_some (option_flatten found), AlreadyHeld) ∷ (not (is_some found), NoLock) ∷ []
+destroy_tests found = set_by_any_tests found ++ gone_tests found
 
 abbrev pub after_destroy : ℕ → Reply → BookView → BookView
 after_destroy number Finished book = record book { locks = slice_set book.locks number None }
@@ -40,8 +47,11 @@ after_destroy number _ book = book
 -- Simple locks
 
 -- the task that holds a lock may not set it again
+abbrev pub set_by_own_tests : Owner → Option (Option Held) → List Test
+set_by_own_tests owner found = (held_by owner (option_flatten found), AlreadyHeld) ∷ []
+
 abbrev pub set_tests : Owner → Option (Option Held) → List Test
-set_tests owner found = (held_by owner (option_flatten found), AlreadyHeld) ∷ (not (is_some found), NoLock) ∷ []
+set_tests owner found = set_by_own_tests owner found ++ gone_tests found
 
 -- a lock that nobody holds is set; else its owner is waited for
 abbrev pub SetsLock : Option (Option Held) → Reply → Type 0
@@ -53,13 +63,9 @@ abbrev pub after_set : Owner → ℕ → Reply → BookView → BookView
 after_set owner number Finished book = with_lock Simple number (held_times owner 1) book
 after_set owner number _ book = book
 
--- a call that waits is refused once there is no such lock
-abbrev pub gone_tests : Option (Option Held) → List Test
-gone_tests found = (not (is_some found), NoLock) ∷ []
-
 -- a test never waits: it tells whether the lock was free, and is set now
 abbrev pub test_tests : Option (Option Held) → List Test
-test_tests found = (not (is_some found), NoLock) ∷ []
+test_tests found = gone_tests found
 
 abbrev pub TestsLock : Option (Option Held) → Reply → Type 0
 TestsLock (Some held) (Got free) = free ≡ not (is_some held)
@@ -70,8 +76,11 @@ after_test owner number (Got true) book = with_lock Simple number (held_times ow
 after_test owner number _ book = book
 
 -- the task that holds a lock unsets it
+abbrev pub set_by_other_tests : Owner → Option (Option Held) → List Test
+set_by_other_tests owner found = (is_some found && not (held_by owner (option_flatten found)), NotHolder) ∷ []
+
 abbrev pub unset_tests : Owner → Option (Option Held) → List Test
-unset_tests owner found = (is_some found && not (held_by owner (option_flatten found)), NotHolder) ∷ (not (is_some found), NoLock) ∷ []
+unset_tests owner found = set_by_other_tests owner found ++ gone_tests found
 
 abbrev pub after_unset : ℕ → Reply → BookView → BookView
 after_unset number Finished book = with_lock Simple number None book
@@ -85,8 +94,11 @@ count_for owner None = 0
 count_for owner (Some held) = if same_owner held.owner owner then held.count else 0
 
 -- a task may set a lock that it holds again, up to 65,535 times
+abbrev pub count_tests : Owner → Option (Option Held) → List Test
+count_tests owner found = (nat_le MAX_COUNT (count_for owner (option_flatten found)), CountTooLarge) ∷ []
+
 abbrev pub nest_tests : Owner → Option (Option Held) → List Test
-nest_tests owner found = (not (is_some found), NoLock) ∷ (nat_le MAX_COUNT (count_for owner (option_flatten found)), CountTooLarge) ∷ []
+nest_tests owner found = count_tests owner found ++ gone_tests found
 
 -- whether another task holds the lock
 abbrev pub held_by_another : Owner → Option Held → Bool

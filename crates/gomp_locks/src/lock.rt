@@ -3,7 +3,7 @@
 //! OpenMP API 5.2, sections 18.9.1 and 18.9.3; libgomp's `omp_init_lock`, `omp_init_nest_lock`,
 //! `omp_destroy_lock` and `omp_destroy_nest_lock`.
 
-ghost use Rattle.std.specs.Prelude.{◌≡◌, IfSome, slice_set};
+ghost use Rattle.std.specs.Prelude.{◌≡◌, IfSome, slice_set, length};
 ghost use Rattle.gomp_types.specs.Least.{Answers, least};
 ghost use Rattle.gomp_types.specs.declared.lock.LockKind.TheVariants.{Simple, Nest};
 ghost use Rattle.gomp_types.specs.declared.reply.Reply.TheVariants.{Finished};
@@ -29,8 +29,8 @@ impl LockBook {
     /// Refused with `CountTooLarge` (E33) if 2^32 - 1 locks were made, and with `NoMemory` (E37) if
     /// its memory is refused.
     pub fn lock_init(&mut self) -> Reply
-        ensures answer { AnswersOrLacks (init_tests self.old.locks)
-            (MakesLock self.old.locks) result }
+        ensures answer { AnswersOrLacks (init_tests (length self.old.locks))
+            (MakesLock (length self.old.locks)) result }
         ensures book { self.new ≡ after_init Simple result self.old }
     {
         self.init(LockKind::Simple)
@@ -39,8 +39,8 @@ impl LockBook {
     /// Makes a nestable lock, which is not set, and answers its number; refused as
     /// [`lock_init`](LockBook::lock_init) is.
     pub fn nest_init(&mut self) -> Reply
-        ensures answer { AnswersOrLacks (init_tests self.old.locks)
-            (MakesLock self.old.locks) result }
+        ensures answer { AnswersOrLacks (init_tests (length self.old.locks))
+            (MakesLock (length self.old.locks)) result }
         ensures book { self.new ≡ after_init Nest result self.old }
     {
         self.init(LockKind::Nest)
@@ -48,8 +48,8 @@ impl LockBook {
 
     /// Makes a lock of this kind.
     fn init(&mut self, kind: LockKind) -> Reply
-        ensures answer { AnswersOrLacks (init_tests self.old.locks)
-            (MakesLock self.old.locks) result }
+        ensures answer { AnswersOrLacks (init_tests (length self.old.locks))
+            (MakesLock (length self.old.locks)) result }
         ensures book { self.new ≡ after_init kind result self.old }
     {
         if let Some(refusal) = self.init_refusal() {
@@ -81,7 +81,7 @@ impl LockBook {
     /// With what [`lock_init`](LockBook::lock_init) and [`nest_init`](LockBook::nest_init) are
     /// refused, want of memory aside.
     pub fn init_refusal(&self) -> Option<Refusal>
-        ensures { result ≡ least (init_tests self.now.locks) }
+        ensures { result ≡ least (init_tests (length self.now.locks)) }
     {
         if self.locks.len() >= MAX_LOCKS as usize {
             return Some(Refusal::CountTooLarge);

@@ -12,7 +12,7 @@ use Rattle.gomp_types.specs.Tests.{Test}
 use Rattle.gomp_types.specs.Compare.{tag_differs, tag_with}
 use Rattle.gomp_types.specs.Events.{shares_entered, barriers_passed, tag_at, barrier_met}
 use Rattle.gomp_shares.specs.Starts.{leaves}
-use Rattle.gomp_model.specs.Row.{Row, plain_row}
+use Rattle.gomp_model.specs.Row.{Row, outside_names}
 
 -- the answer at a wait: passed if its goal is met, else wait
 abbrev pub Awaits : Bool → Reply → Type 0
@@ -32,7 +32,7 @@ passes m h _ = []
 
 -- a call that arrives at a barrier, and passes it once all have arrived
 abbrev pub arrival_row : Arrival → Row
-arrival_row kind = record plain_row {
+arrival_row kind = record outside_names {
   compared = λ repeated m p. compared_arrival kind repeated m p.events;
   arrives = Some kind;
   begins = λ m p. Arrive (barriers_passed m p.events) m (tag_with kind (shares_entered m p.events)) ∷ [];

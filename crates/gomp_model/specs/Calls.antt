@@ -1,7 +1,7 @@
 -- Each call's row: the one list of calls.
 use Rattle.std.specs.Prelude.{ℕ, ◌≡◌, true, List, [], ◌∷◌}
 use Rattle.gomp_types.specs.declared.call.Call.{Call}
-use Rattle.gomp_types.specs.declared.call.Call.TheVariants.{LoopStart, LoopNext, LoopEnd, LoopEndNowait, SectionsStart, SectionsNext, SectionsEnd, SectionsEndNowait, SingleStart, SingleCopyStart, SingleCopyEnd, OrderedStart, OrderedEnd, Barrier, RegionEnd, Resume, Stop}
+use Rattle.gomp_types.specs.declared.call.Call.TheVariants.{LoopStart, LoopNext, LoopEnd, LoopEndNowait, SectionsStart, SectionsNext, SectionsEnd, SectionsEndNowait, SingleStart, SingleCopyStart, SingleCopyEnd, OrderedStart, OrderedEnd, Barrier, RegionEnd, CriticalStart, CriticalEnd, LockInit, NestInit, LockDestroy, Set, Test as TestLock, Unset, SetNest, TestNest, UnsetNest, Resume, Stop}
 use Rattle.gomp_types.specs.declared.refusal.Refusal.TheVariants.{NotInside}
 use Rattle.gomp_types.specs.declared.refusal.Place.TheVariants.{Stopped as AtStop}
 use Rattle.gomp_types.specs.declared.reply.Reply.{Reply}
@@ -14,6 +14,9 @@ use Rattle.gomp_model.specs.Sections.{sections_start_row, sections_next_row, sec
 use Rattle.gomp_model.specs.Singles.{single_start_row, single_copy_start_row, single_copy_end_row}
 use Rattle.gomp_model.specs.OrderedParts.{ordered_start_row, ordered_end_row}
 use Rattle.gomp_model.specs.Arrivals.{barrier_row, region_end_row}
+use Rattle.gomp_types.specs.declared.lock.LockKind.TheVariants.{Simple, Nest}
+use Rattle.gomp_model.specs.CriticalNames.{critical_start_row, critical_end_row}
+use Rattle.gomp_model.specs.Locks.{init_row, destroy_row, set_row, test_row, unset_row, set_nest_row, test_nest_row, unset_nest_row}
 
 -- a resume with no wait open is refused, and so has no other answer
 abbrev pub resume_row : Row
@@ -45,5 +48,16 @@ row_of (OrderedStart value) = ordered_start_row value
 row_of OrderedEnd = ordered_end_row
 row_of Barrier = barrier_row
 row_of RegionEnd = region_end_row
+row_of (CriticalStart name) = critical_start_row name
+row_of (CriticalEnd name) = critical_end_row name
+row_of LockInit = init_row Simple
+row_of NestInit = init_row Nest
+row_of (LockDestroy number) = destroy_row number
+row_of (Set number) = set_row number
+row_of (TestLock number) = test_row number
+row_of (Unset number) = unset_row number
+row_of (SetNest number) = set_nest_row number
+row_of (TestNest number) = test_nest_row number
+row_of (UnsetNest number) = unset_nest_row number
 row_of Stop = stop_row
 row_of Resume = resume_row

@@ -1,6 +1,8 @@
 pub mod Arrivals
 pub mod Calls
+pub mod CriticalNames
 pub mod Examples
+pub mod Locks
 pub mod Loops
 pub mod OrderedParts
 pub mod Past

@@ -1,6 +1,8 @@
 -- All that there is to say of one call, and what each of its fields means to a step. (own)
 use Rattle.std.specs.Prelude.{ℕ, ◌≡◌, Bool, true, false, List, [], ◌∷◌, ◌++◌, Option, None}
+use Rattle.gomp_types.specs.declared.key.Key.{Key}
 use Rattle.gomp_types.specs.declared.limits.Limits.{Limits}
+use Rattle.gomp_types.specs.declared.lock.LockKind.{LockKind}
 use Rattle.gomp_types.specs.declared.seen.Seen.{Seen}
 use Rattle.gomp_types.specs.declared.shape.Shape.{Shape}
 use Rattle.gomp_types.specs.declared.refusal.Place.{Place}
@@ -16,14 +18,18 @@ use Rattle.gomp_types.specs.Tests.{Test}
 use Rattle.gomp_types.specs.Limits.{shown_number}
 use Rattle.gomp_types.specs.Events.{barriers_passed}
 use Rattle.gomp_types.specs.Seen.{seen_of}
+use Rattle.gomp_locks.specs.CriticalNames.{critical_tests}
+use Rattle.gomp_locks.specs.Holders.{asker, holds_critical}
 use Rattle.gomp_model.specs.Past.{Past}
 
 -- a call's row, with one field for each thing that a step asks of it
 pub record Row : Type 1 where
   -- its tests that the member's place among the shares decides
   pub by_place : Limits → Seen → List Test
-  -- those that the team decides beside them; no call has one before there are tasks, names and cancellation
+  -- those that names and locks decide
   pub by_team : ℕ → Past → List Test
+  -- those on whether the lock that it asks for is there, which are made of a repeated call too
+  pub missing : ℕ → Past → List Test
   -- those that compare its construct with other members'; the flag says that a resume repeats the call
   pub compared : Bool → ℕ → Past → List Test
   -- whether it may find no memory
@@ -36,12 +42,18 @@ pub record Row : Type 1 where
   pub arrives : Option Arrival
   -- whether it puts words for the other members
   pub puts : Bool
+  -- whether the book of names and locks answers it, and not the shares and the barriers
+  pub asks_book : Bool
+  -- which critical name or lock it holds or frees, if one
+  pub holds : Option Key
   -- the events that it gives before its reply, unless it is refused, the newest first
   pub begins : ℕ → Past → List Event
   -- what it may be answered after these
   pub may_reply : ℕ → Past → Reply → Type 0
   -- and the events that its reply gives
   pub gives : ℕ → Past → Reply → List Event
+  -- which locks there are after that reply
+  pub locks : Reply → List (Option LockKind) → List (Option LockKind)
   -- where its construct differs
   pub place : ℕ → List Event → Place
 
@@ -50,21 +62,29 @@ abbrev pub plain_row : Row
 plain_row = record {
   by_place = λ limits seen. [];
   by_team = λ m p. [];
+  missing = λ m p. [];
   compared = λ repeated m p. [];
   memory = false;
   starts = None;
   stays = false;
   arrives = None;
   puts = false;
+  asks_book = false;
+  holds = None;
   begins = λ m p. [];
   may_reply = λ m p reply. reply ≡ Finished;
   gives = λ m p reply. [];
+  locks = λ reply locks. locks;
   place = λ m h. AtBarrier (shown_number (barriers_passed m h));
 }
 
--- a call that is done at once, with these tests, and gives these events
+-- a call that no task makes while it holds a critical name
+abbrev pub outside_names : Row
+outside_names = record plain_row { by_team = λ m p. critical_tests (holds_critical (asker m p.events) p.events) }
+
+-- one that is done at once, with these tests, and gives these events
 abbrev pub at_once : (Seen → List Test) → (ℕ → List Event → List Event) → Row
-at_once tests events = record plain_row { by_place = λ limits seen. tests seen; begins = λ m p. events m p.events }
+at_once tests events = record outside_names { by_place = λ limits seen. tests seen; begins = λ m p. events m p.events }
 
 -- these events, unless the call is repeated
 abbrev pub unless_repeated : List Event → Bool → List Event
@@ -76,10 +96,27 @@ unless_repeated (event ∷ events) false = event ∷ events
 abbrev pub begun_past : Bool → Row → ℕ → Past → Past
 begun_past repeated row m p = record p { events = unless_repeated (row.begins m p) repeated ++ p.events }
 
+-- the tests of a call that its member's place decides, and the comparison with other members'; one that is repeated was tested by its place when it was made
+abbrev pub place_tests : Bool → Row → ℕ → Past → List Test
+place_tests true row m p = row.compared true m p
+place_tests false row m p = row.by_place p.terms.limits (seen_of m p.events) ++ row.compared false m p
+
+-- those that names and locks decide; of one that is repeated only whether its lock is there
+abbrev pub book_tests : Bool → Row → ℕ → Past → List Test
+book_tests true row m p = row.missing m p
+book_tests false row m p = row.by_team m p ++ row.missing m p
+
 -- the tests of a call
 abbrev pub row_tests : Bool → Row → ℕ → Past → List Test
-row_tests true row m p = row.compared true m p
-row_tests false row m p = row.by_place p.terms.limits (seen_of m p.events) ++ (row.by_team m p ++ row.compared false m p)
+row_tests repeated row m p = place_tests repeated row m p ++ book_tests repeated row m p
+
+-- what a reply that is no refusal may be
+abbrev pub MayReply : Row → Bool → ℕ → Past → Reply → Type 0
+MayReply row repeated m p reply = row.may_reply m (begun_past repeated row m p) reply
+
+-- the events after the call and such a reply
+abbrev pub given_after : Row → Bool → ℕ → Past → Reply → List Event
+given_after row repeated m p reply = row.gives m (begun_past repeated row m p) reply ++ (begun_past repeated row m p).events
 
 -- a mismatch breaks the team, no other refusal changes anything
 abbrev pub refusal_gives : Refusal → ℕ → Place → List Event
@@ -89,4 +126,9 @@ refusal_gives _ m place = []
 -- the events after the call and its reply
 abbrev pub events_after : Bool → Row → ℕ → Past → Reply → List Event
 events_after repeated row m p (Refused refusal) = refusal_gives refusal m (row.place m p.events) ++ p.events
-events_after repeated row m p reply = row.gives m (begun_past repeated row m p) reply ++ (begun_past repeated row m p).events
+events_after repeated row m p reply = given_after row repeated m p reply
+
+-- which locks there are then; a refusal changes none
+abbrev pub locks_after : Row → Reply → List (Option LockKind) → List (Option LockKind)
+locks_after row (Refused refusal) locks = locks
+locks_after row reply locks = row.locks reply locks

@@ -8,11 +8,11 @@ use Rattle.gomp_types.specs.Tests.{Test}
 use Rattle.gomp_types.specs.Limits.{shown_number}
 use Rattle.gomp_types.specs.Events.{shares_entered}
 use Rattle.gomp_shares.specs.Starts.{Deals, Starts, start_tests, compared_share, entry_and}
-use Rattle.gomp_model.specs.Row.{Row, plain_row}
+use Rattle.gomp_model.specs.Row.{Row, outside_names}
 
 -- whether it asks for memory, its construct's own tests, its shape, how its share answers, and what that gives
 abbrev pub start_row : Bool → List Test → Shape → Deals → (ℕ → Shape → ℕ → Reply → List Event) → Row
-start_row memory own shape deals Given = record plain_row {
+start_row memory own shape deals Given = record outside_names {
   by_place = start_tests own;
   compared = λ repeated m p. compared_share shape m p.events;
   memory = memory;

@@ -14,7 +14,7 @@ use Rattle.gomp_types.specs.Limits.{capped_limits}
 use Rattle.gomp_types.specs.Least.{least}
 use Rattle.gomp_types.specs.Events.{has_left_region, clash_of}
 use Rattle.gomp_model.specs.Past.{Terms, Past}
-use Rattle.gomp_model.specs.Row.{Row, begun_past, row_tests, events_after}
+use Rattle.gomp_model.specs.Row.{Row, begun_past, row_tests, events_after, locks_after}
 use Rattle.gomp_model.specs.Calls.{row_of}
 
 -- what was asked and answered, the newest pair first
@@ -90,16 +90,17 @@ wait_after (Refused refusal) call waiting = waiting
 wait_after Wait call waiting = Some (call_meant call waiting)
 wait_after _ call waiting = None
 
--- the past after a step and its reply: the row's events, and the member's wait
+-- the past after a step and its reply: the row's events, the member's wait, and the row's locks
 abbrev pub past_after : Past → Step → Reply → Past
 past_after p step reply = record p {
   events = events_after (is_resume step.call) (row_at p step) step.member p reply;
   waits = λ m. if step.member == m then wait_after reply step.call (p.waits m) else p.waits m;
+  locks = locks_after (row_at p step) reply p.locks;
 }
 
--- a new team: no limit of it is above the standard one
+-- a new team, of which nothing was asked: no limit of it is above the standard one
 abbrev pub before_all : Terms → Past
-before_all terms = record { terms = record terms { limits = capped_limits terms.limits }; events = []; waits = λ m. None }
+before_all terms = record { terms = record terms { limits = capped_limits terms.limits }; events = []; waits = λ m. None; locks = [] }
 
 -- what is known of a record, the newest step first
 abbrev pub past_of : Terms → Record → Past

@@ -9,7 +9,7 @@ use Rattle.gomp_types.specs.declared.event.Arrival.{Arrival}
 use Rattle.gomp_types.specs.declared.event.Arrival.TheVariants.{RegionEnd}
 use Rattle.gomp_types.specs.declared.event.Tag.{Tag}
 use Rattle.gomp_types.specs.declared.event.Event.{Event}
-use Rattle.gomp_types.specs.declared.event.Event.TheVariants.{Enter, Take, Drained, End, HandOn, Part, PartEnd, Put, Got, Arrive, Pass, Break}
+use Rattle.gomp_types.specs.declared.event.Event.TheVariants.{Enter, Take, Drained, End, HandOn, Part, PartEnd, Put, Got, Arrive, Pass, Hold, Free, Break}
 
 -- whether each member of a team of this size passes the test
 abbrev pub every_member : ℕ → (ℕ → Bool) → Bool
@@ -29,6 +29,8 @@ member_of (Put share m payload) = m
 member_of (Got share m payload) = m
 member_of (Arrive barrier m tag) = m
 member_of (Pass barrier m) = m
+member_of (Hold key m task) = m
+member_of (Free key m task) = m
 member_of (Break m place) = m
 
 -- Work-shares (OpenMP API 5.2, chapter 11)

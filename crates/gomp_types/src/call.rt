@@ -1,5 +1,6 @@
 //! What a member of a team asks.
 
+use crate::critical_name::CriticalName;
 use crate::loop_desc::{EndKind, LoopDesc};
 use crate::payload::Payload;
 
@@ -49,6 +50,37 @@ pub enum Call {
     Barrier,
     /// Ends the parallel region for this member (OpenMP API 5.2, section 10.1).
     RegionEnd,
+    /// Enters the `critical` construct of this name, once no other member holds the name; the empty
+    /// name is that of a `critical` without one (OpenMP API 5.2, section 15.2; libgomp manual, the
+    /// ABI of `critical`).
+    CriticalStart(CriticalName),
+    /// Leaves the `critical` construct of this name, which the member's task holds.
+    CriticalEnd(CriticalName),
+    /// Makes a simple lock, which is not set, and asks for its number (OpenMP API 5.2, section
+    /// 18.9.1).
+    LockInit,
+    /// Makes a nestable lock, which is not set, and asks for its number.
+    NestInit,
+    /// Destroys the lock of this number, of either kind; the number is not used again (OpenMP API
+    /// 5.2, section 18.9.3).
+    LockDestroy(u32),
+    /// Sets the simple lock of this number, once no task holds it (OpenMP API 5.2, section 18.9.4).
+    Set(u32),
+    /// Sets the simple lock of this number if no task holds it, and asks whether it did (OpenMP API
+    /// 5.2, section 18.9.6).
+    Test(u32),
+    /// Unsets the simple lock of this number, which the member's task holds (OpenMP API 5.2, section
+    /// 18.9.5).
+    Unset(u32),
+    /// Sets the nestable lock of this number once more, once no other task holds it, and asks how
+    /// often the task has set it.
+    SetNest(u32),
+    /// Sets the nestable lock of this number once more if no other task holds it, and asks how often
+    /// the task has set it; 0 if another task holds it.
+    TestNest(u32),
+    /// Unsets the nestable lock of this number, which the member's task holds, once, and asks how
+    /// often it is set still.
+    UnsetNest(u32),
     /// Repeats the call whose answer was to wait.
     Resume,
     /// Stops the team, whatever its members are doing: it is broken from then on (own).

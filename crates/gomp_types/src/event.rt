@@ -3,9 +3,11 @@
 ghost use Rattle.std.specs.Prelude.{◌≡◌};
 ghost use Rattle.gomp_types.specs.Shapes.{same_tag};
 
+use crate::key::Key;
 use crate::payload::Payload;
 use crate::refusal::Place;
 use crate::shape::Shape;
+use crate::task::Task;
 
 /// At what kind of barrier a member arrives (OpenMP API 5.2, sections 15.3.1 and 15.3.2).
 #[derive(Clone, Copy, Debug, PartialEq, Eq)]
@@ -95,6 +97,18 @@ pub enum Event {
     Pass {
         barrier: u64,
         member: u16,
+    },
+    /// The member's task holds a critical name or a lock, of a nestable lock once more.
+    Hold {
+        key: Key,
+        member: u16,
+        task: Task,
+    },
+    /// The member's task frees a critical name or a lock, of a nestable lock once.
+    Free {
+        key: Key,
+        member: u16,
+        task: Task,
     },
     /// The member broke the team: its construct differed from the team's there, or it stopped it.
     Break {

@@ -8,6 +8,7 @@
 pub mod call;
 pub mod critical_name;
 pub mod event;
+pub mod key;
 pub mod limits;
 pub mod lock;
 pub mod loop_desc;
@@ -24,6 +25,7 @@ pub mod task;
 pub use call::{Call, Step};
 pub use critical_name::{CriticalName, MAX_NAME};
 pub use event::{Arrival, Event, Tag};
+pub use key::Key;
 pub use limits::{
     Limits, MAX_CHUNK, MAX_MEMBERS, MAX_SECTIONS, MAX_TRIPS, OPEN_SHARES, is_team_size,
 };
