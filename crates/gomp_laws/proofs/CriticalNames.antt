@@ -56,10 +56,10 @@ critical_start_sound name = held_row_sound (Critical name) (critical_start_row n
   given = λ m p reply. held_given (Critical name) m reply p.events;
   keep = λ repeated m p reply ready may all.
       hold_keeps p.terms.members m (Critical name) (is_held reply) p.events ready.member (entry_is_free (holder (Critical name) p.events) reply may) all;
-  apart = λ repeated m p ready implicit may.
+  apart = λ repeated m p ready tasks may.
       elim (cases_Bool repeated) [
         | inl e ↦ (ready.lasting e).1 (Critical name) refl
-        | inr e ↦ apart_by_member m p.events (holder (Critical name) p.events) implicit (ready.team e).1.0
+        | inr e ↦ apart_by_member m p.events (holder (Critical name) p.events) tasks (ready.team e).1.0
       ];
   waits_for = λ m p may. entry_waits (holder (Critical name) p.events) may;
   tells_count = λ repeated m count p ready may. entry_counts_none (holding_owner (holder (Critical name) p.events)) count may;
@@ -80,7 +80,7 @@ critical_end_sound name = held_row_sound (Critical name) (critical_end_row name)
   keep = λ repeated m p reply ready may all.
       let owned = not_false (owned_by (asker m p.events) (holding_owner (holder (Critical name) p.events))) (asked_first (critical_end_row name) repeated m p (λ q waits. cc) ready).1.0 in
       free_keeps p.terms.members m (Critical name) (is_freed reply) p.events (owner_holds (asker m p.events) (holder (Critical name) p.events) owned) all;
-  apart = λ repeated m p ready implicit may. absurd (cc);
+  apart = λ repeated m p ready tasks may. absurd (cc);
   waits_for = λ m p may. absurd (cc);
   tells_count = λ repeated m count p ready may. absurd (cc);
   no_memory = λ m p. (refl, refl);

@@ -1,6 +1,6 @@
 -- What the rows of the calls on names and locks share: who holds what, and what such a row has to show.
 use Rattle.std.proofs.Common.{◌≡◌, ℕ, ◌+◌, ◌-◌, ◌<◌, ◌≤◌, Bool, true, false, List, [], ◌∷◌, ◌++◌, Option, Some, None, refl, ap, sym, ◌∙◌, subst, arith, inl, inr}
-use Rattle.std.specs.Prelude.{ℤ, ◌==◌, ◌&&◌, not, nat_lt, nat_le, is_some, if◌then◌else◌}
+use Rattle.std.specs.Prelude.{ℤ, ◌==◌, ◌&&◌, not, nat_lt, nat_le, is_some, if◌then◌else◌, slice_get}
 use Rattle.std.proofs.lemmas.Bool.{cases_Bool}
 use Rattle.gomp_types.specs.declared.event.Event.{Event}
 use Rattle.gomp_types.specs.declared.event.Event.TheVariants.{Hold, Free}
@@ -21,9 +21,10 @@ use Rattle.gomp_types.proofs.Booleans.{is_equal, same_number, and_false}
 use Rattle.gomp_types.proofs.LeastTests.{AllFail}
 use Rattle.gomp_locks.specs.Book.{same_lock_kind, held_times, held_by, owned_by_member}
 use Rattle.gomp_locks.specs.Locks.{gone_tests, count_for, held_by_another}
-use Rattle.gomp_locks.specs.Holders.{same_key, owner_of, task_number, current_task, asker, held_once_more, held_once_less, holder, holding_owner, own_part, held_if_kind}
+use Rattle.gomp_locks.specs.Holders.{same_key, owner_of, task_number, current_task, asker, held_once_more, held_once_less, holder, holding_owner, own_part, held_if_kind, found_lock, key_of}
 use Rattle.gomp_locks.specs.HoldRules.{can_hold, HoldRule}
 use Rattle.gomp_locks.proofs.OwnerLemmas.{same_name}
+use Rattle.gomp_locks.proofs.HoldsKeep.{holder_is_asker}
 use Rattle.gomp_laws.specs.Rules.{TeamRule}
 use Rattle.gomp_model.specs.Past.{Past}
 use Rattle.gomp_model.specs.Row.{Row, plain_row}
@@ -51,36 +52,9 @@ hold_rule members _ earlier rule all = tt
 pub hold_rules : (members : ℕ) (h : List Event) → Always (TeamRule members) h → Always HoldRule h
 hold_rules members h all = always_so (TeamRule members) HoldRule (hold_rule members) h all
 
--- whoever holds something is an implicit task of this team
-abbrev pub IsImplicit : Option Held → Type 0
-IsImplicit None = Unit {0}
-IsImplicit (Some held) = (held.owner.team ≡ 0) × (held.owner.task ≡ 0)
-
-implicit_more : (m : ℕ) (task : Task) (h : List Event) (held : Option Held) → task ≡ current_task m h → IsImplicit held → IsImplicit (held_once_more (owner_of m task) held)
-implicit_more m task h None current is = (refl, ap task_number current)
-implicit_more m task h (Some held) current is = is
-
-implicit_less : (held : Option Held) → IsImplicit held → IsImplicit (held_once_less held)
-implicit_less None is = tt
-implicit_less (Some held) is = by_count (held.count - 1 == 0)
-  where
-    by_count : (b : Bool) → IsImplicit (if b then None else Some (record { owner = held.owner; count = held.count - 1 }))
-    by_count true = tt
-    by_count false = is
-
-pub holder_is_implicit : (key : Key) (h : List Event) → Always HoldRule h → IsImplicit (holder key h)
-holder_is_implicit key [] all = tt
-holder_is_implicit key (Hold other m task ∷ earlier) all =
-    elim (cases_Bool (same_key other key)) [
-      | inl e ↦ rw e (implicit_more m task earlier (holder key earlier) all.0.current (holder_is_implicit key earlier all.1))
-      | inr e ↦ rw e (holder_is_implicit key earlier all.1)
-    ]
-holder_is_implicit key (Free other m task ∷ earlier) all =
-    elim (cases_Bool (same_key other key)) [
-      | inl e ↦ rw e (implicit_less (holder key earlier) (holder_is_implicit key earlier all.1))
-      | inr e ↦ rw e (holder_is_implicit key earlier all.1)
-    ]
-holder_is_implicit key (_ ∷ earlier) all = holder_is_implicit key earlier all.1
+-- whoever holds something is a task that may ask
+abbrev pub IsOfAsker : List Event → Option Held → Type 0
+IsOfAsker h found = (held : Held) → found ≡ Some held → held.owner ≡ asker held.owner.member h
 
 -- What a member holds
 
@@ -88,14 +62,17 @@ holder_is_implicit key (_ ∷ earlier) all = holder_is_implicit key earlier all.
 other_member : (m : ℕ) (held : Held) → (held.owner.member == m) ≡ false → own_part m (Some held) ≡ None
 other_member m held e = rw e refl
 
-pub apart_by_member : (m : ℕ) (h : List Event) (held : Option Held) → IsImplicit held → owned_by_member (asker m h) (holding_owner held) ≡ false → own_part m held ≡ None
+pub apart_by_member : (m : ℕ) (h : List Event) (found : Option Held) → IsOfAsker h found → owned_by_member (asker m h) (holding_owner found) ≡ false → own_part m found ≡ None
 apart_by_member m h None is differ = refl
-apart_by_member m h (Some held) is differ = other_member m held (rw is.0 at differ)
+apart_by_member m h (Some held) is differ = let team : held.owner.team ≡ 0 = ap (λ (owner : Owner). owner.team) (is held refl) in other_member m held (rw team at differ)
 
 -- or by another task, since each member has one
-pub apart_by_owner : (m : ℕ) (h : List Event) (held : Option Held) → IsImplicit held → held_by (asker m h) held ≡ false → own_part m held ≡ None
+pub apart_by_owner : (m : ℕ) (h : List Event) (found : Option Held) → IsOfAsker h found → held_by (asker m h) found ≡ false → own_part m found ≡ None
 apart_by_owner m h None is differ = refl
-apart_by_owner m h (Some held) is differ = other_member m held (by_member (held.owner.member == m) (rw (is.0, is.1) at differ))
+apart_by_owner m h (Some held) is differ =
+    let team : held.owner.team ≡ 0 = ap (λ (owner : Owner). owner.team) (is held refl) in
+    let task : held.owner.task ≡ 0 = ap (λ (owner : Owner). owner.task) (is held refl) in
+    other_member m held (by_member (held.owner.member == m) (rw (team, task) at differ))
   where
     by_member : (b : Bool) → (b && true) ≡ false → b ≡ false
     by_member true e = e
@@ -135,14 +112,17 @@ found_as_held kind (Some (Some is)) held other at = by_kind (same_lock_kind is k
     by_kind false e = absurd (cc)
 
 -- one that is not gone is found
-pub found_if_there : (kind : LockKind) (entry : Option (Option LockKind)) (held : Option Held) → AllFail (gone_tests (held_if_kind kind entry held)) → held_if_kind kind entry held ≡ Some held
-found_if_there kind None held there = absurd (let gone = there.0 in cc)
-found_if_there kind (Some None) held there = absurd (let gone = there.0 in cc)
-found_if_there kind (Some (Some is)) held there = by_kind (same_lock_kind is kind) there.0
+found_unless_gone : (kind : LockKind) (entry : Option (Option LockKind)) (held : Option Held) → AllFail (gone_tests (held_if_kind kind entry held)) → held_if_kind kind entry held ≡ Some held
+found_unless_gone kind None held there = absurd (let gone = there.0 in cc)
+found_unless_gone kind (Some None) held there = absurd (let gone = there.0 in cc)
+found_unless_gone kind (Some (Some is)) held there = by_kind (same_lock_kind is kind) there.0
   where
     by_kind : (b : Bool) → not (is_some (if b then Some held else None)) ≡ false → ◌≡◌ {A = Option (Option Held)} (if b then Some held else None) (Some held)
     by_kind true e = refl
     by_kind false e = absurd (cc)
+
+pub lock_is_found : (kind : LockKind) (number : ℕ) (p : Past) → AllFail (gone_tests (found_lock kind number p.locks p.events)) → found_lock kind number p.locks p.events ≡ Some (holder (key_of kind number) p.events)
+lock_is_found kind number p there = found_unless_gone kind (slice_get p.locks number) (holder (key_of kind number) p.events) there
 
 -- Events
 
@@ -188,6 +168,10 @@ counted_more owner (Some held) free = by_owner (same_owner held.owner owner) fre
 pub held_counts_more : (m : ℕ) (key : Key) (b : Bool) (h : List Event) → b ≡ true → held_by_another (asker m h) (holder key h) ≡ false → count_for (asker m h) (holder key (held_once b key m h ++ h)) ≡ count_for (asker m h) (holder key h) + 1
 held_counts_more m key true h e free = rw (key_is_itself key) (counted_more (asker m h) (holder key h) free)
 held_counts_more m key false h e free = absurd (cc)
+
+pub unheld_counts_same : (m : ℕ) (key : Key) (b : Bool) (h : List Event) → b ≡ false → count_for (asker m h) (holder key (held_once b key m h ++ h)) ≡ count_for (asker m h) (holder key h)
+unheld_counts_same m key true h e = absurd (cc)
+unheld_counts_same m key false h e = refl
 
 -- and once less
 counted_less : (owner : Owner) (count : ℕ) (held : Option Held) → count + 1 ≡ count_for owner held → count ≡ count_for owner (held_once_less held)
@@ -245,7 +229,7 @@ pub record IsHeldRow (key : Key) (row : Row) : Type 0 where
   pub given : (m : ℕ) (p : Past) (reply : Reply) → AreGiven (only_holds key) m reply (row.gives m p reply)
   pub keep : (repeated : Bool) (m : ℕ) (p : Past) (reply : Reply) → Ready (held_row key row) repeated m p → row.may_reply m p reply → Always (TeamRule p.terms.members) p.events → Always (TeamRule p.terms.members) (row.gives m p reply ++ p.events)
   -- it waits for what another member holds
-  pub apart : (repeated : Bool) (m : ℕ) (p : Past) → Ready (held_row key row) repeated m p → IsImplicit (holder key p.events) → row.may_reply m p Wait → own_part m (holder key p.events) ≡ None
+  pub apart : (repeated : Bool) (m : ℕ) (p : Past) → Ready (held_row key row) repeated m p → IsOfAsker p.events (holder key p.events) → row.may_reply m p Wait → own_part m (holder key p.events) ≡ None
   pub waits_for : (m : ℕ) (p : Past) → row.may_reply m p Wait → (held : Held) × (holder key p.events ≡ Some held)
   pub tells_count : (repeated : Bool) (m count : ℕ) (p : Past) → Ready (held_row key row) repeated m p → row.may_reply m p (Count count) → count ≡ count_for (asker m p.events) (holder key (row.gives m p (Count count) ++ p.events))
   pub no_memory : (m : ℕ) (p : Past) → (memoryless (row.by_team m p) ≡ true) × (memoryless (row.missing m p) ≡ true)
@@ -268,7 +252,7 @@ held_row_sound key row is = record {
   one_pass = λ arrives m p. absurd (cc);
   lasts = λ repeated m p ready all may. (
     λ asks. absurd (cc),
-    λ other at. subst (λ (k : Key). own_part m (holder k p.events) ≡ None) (same_some key other at) (is.apart repeated m p ready (holder_is_implicit key p.events (hold_rules p.terms.members p.events all)) may),
+    λ other same. subst (λ (k : Key). own_part m (holder k p.events) ≡ None) (same_some key other same) (is.apart repeated m p ready (λ held at. holder_is_asker key held p.events (hold_rules p.terms.members p.events all) at) may),
     (p, may),
   );
   waits_for = λ other m p at may. subst (λ (k : Key). (held : Held) × (holder k p.events ≡ Some held)) (same_some key other at) (is.waits_for m p may);
