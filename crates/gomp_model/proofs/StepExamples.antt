@@ -4,7 +4,7 @@ use Rattle.std.specs.Prelude.{pos, take, map}
 use Rattle.gomp_types.specs.declared.call.Call.TheVariants.{LoopNext, LoopEnd, SectionsStart, SingleStart, SingleCopyStart, OrderedStart, Barrier, RegionEnd, Resume, Stop}
 use Rattle.gomp_types.specs.declared.loop_desc.EndKind.TheVariants.{Nowait}
 use Rattle.gomp_types.specs.declared.refusal.Place.TheVariants.{Stopped as AtStop}
-use Rattle.gomp_types.specs.declared.refusal.Refusal.TheVariants.{BadMember, Ended, Broken, Waiting, InsideShare, ZeroStep, BadSections, TooManyShares, NotInside, NoMemory, Mismatch}
+use Rattle.gomp_types.specs.declared.refusal.Refusal.TheVariants.{BadMember, Ended, Broken, Waiting, InsideShare, HoldsCritical, ZeroStep, BadSections, TooManyShares, NotInside, NoMemory, Mismatch}
 use Rattle.gomp_types.specs.declared.reply.Reply.TheVariants.{Chunk, NoChunk, Section, Executor, Finished, Passed, Wait, Stopped, Refused}
 use Rattle.gomp_types.specs.declared.event.Arrival.TheVariants.{Barrier as BarrierArrival, ShareEnd, RegionEnd as RegionEndArrival}
 use Rattle.gomp_types.specs.declared.event.Event.TheVariants.{Enter, End, Arrive, Pass, Break}
@@ -42,7 +42,7 @@ tests_of_waits = (refl, refl)
 -- a step's tests: those of every step, of the open wait, of its call
 pub tests_of_a_step :
     tests_of (past_with 2 (Enter 0 0 (four false) ∷ [])) (asks 0 Barrier)
-    ≡ (false, BadMember) ∷ (false, Ended) ∷ (false, Waiting) ∷ (true, InsideShare) ∷ (false, Mismatch) ∷ []
+    ≡ (false, BadMember) ∷ (false, Ended) ∷ (false, Waiting) ∷ (true, InsideShare) ∷ (false, Mismatch) ∷ (false, HoldsCritical) ∷ []
 tests_of_a_step = refl
 
 -- a resume's: those of every step, and those that its call makes again
@@ -166,10 +166,10 @@ waits_of_stopped = (refl, refl)
 
 -- The past
 
--- a new team has no events and no waits, and no limit above the standard one
+-- a new team has no events, no waits and no locks, and no limit above the standard one
 pub new_team :
     before_all (record { members = 3; limits = record { shares = 131065; tasks = 5; events = 16777217 }; cancellation = true })
-    ≡ record { terms = record { members = 3; limits = record { shares = 131064; tasks = 5; events = 16777216 }; cancellation = true }; events = []; waits = λ m. None }
+    ≡ record { terms = record { members = 3; limits = record { shares = 131064; tasks = 5; events = 16777216 }; cancellation = true }; events = []; waits = λ m. None; locks = [] }
 new_team = refl
 
 -- a step leaves the terms
