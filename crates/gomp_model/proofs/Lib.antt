@@ -6,4 +6,5 @@ pub mod StepExamples
 pub mod TestExamples
 pub mod RunsWithCauses
 pub mod WrongAnswers
+pub mod WrongHoldAnswers
 pub mod WrongShareAnswers
