@@ -13,14 +13,15 @@ use Rattle.gomp_shares.specs.Loops.{DealsOut}
 use Rattle.gomp_locks.specs.Holders.{asker, holds_critical}
 use Rattle.gomp_model.specs.Past.{Past}
 use Rattle.gomp_model.specs.Team.{MayAnswer, OneReply, SomeReply, before_all, refusal_of}
-use Rattle.gomp_types.specs.declared.call.Call.TheVariants.{LoopNext, LoopEnd, LoopEndNowait, SectionsStart, SectionsNext, SectionsEnd, SectionsEndNowait, SingleStart, SingleCopyStart, SingleCopyEnd, OrderedStart, OrderedEnd, Barrier, RegionEnd, Resume, Stop}
+use Rattle.gomp_types.specs.declared.call.Call.TheVariants.{LoopNext, LoopEnd, LoopEndNowait, SectionsStart, SectionsNext, SectionsEnd, SectionsEndNowait, SingleStart, SingleCopyStart, SingleCopyEnd, OrderedStart, OrderedEnd, Barrier, RegionEnd, CriticalStart, CriticalEnd, LockInit, NestInit, LockDestroy, Set, Test as TestLock, Unset, SetNest, TestNest, UnsetNest, Resume, Stop}
 use Rattle.gomp_types.specs.declared.loop_desc.EndKind.TheVariants.{Nowait}
 use Rattle.gomp_types.specs.declared.refusal.Place.TheVariants.{Share, Barrier as AtBarrier, Stopped as AtStop}
 use Rattle.gomp_types.specs.declared.refusal.Refusal.TheVariants.{BadMember, Ended, Broken, Waiting, InsideShare, OutsideShare, NotInside, TooManyShares, Mismatch, NoMemory}
 use Rattle.gomp_types.specs.declared.reply.Reply.{Reply}
-use Rattle.gomp_types.specs.declared.reply.Reply.TheVariants.{Chunk, NoChunk, Section, Executor, Copied, Finished, Passed, Wait, Stopped, Refused}
-use Rattle.gomp_model.specs.Examples.{MayReplyAfter, IsReplyAfter, IsWrongAfter, IsWrong, AreWrong, IsNoRun, lock_answers, all_refusals, asks, one_nowait, loop_of_two, loop_alone, eight_ahead}
+use Rattle.gomp_types.specs.declared.reply.Reply.TheVariants.{Chunk, NoChunk, Section, Executor, Copied, Finished, Passed, Wait, Lock, Got, Count, Stopped, Refused}
+use Rattle.gomp_model.specs.Examples.{MayReplyAfter, IsReplyAfter, IsWrongAfter, IsWrong, AreWrong, IsNoRun, lock_answers, share_answers, all_refusals, asks, one_nowait, loop_of_two, loop_alone, eight_ahead}
 use Rattle.gomp_model.specs.ShareExamples.{three_sections, sections_of_two, no_sections, single_of_two, copy_of_three, ordered_of_two, handed_of_two, ordered_alone}
+use Rattle.gomp_model.specs.HoldExamples.{name_a, long_name, holding, both_made, both_set, names_and_locks, destroyed_while_waiting}
 use Rattle.gomp_model.specs.RegionExamples.{copied_at_once}
 
 -- The answers of other calls
@@ -210,6 +211,80 @@ pub wrong_at_ninth_copy : AreWrong 2 eight_ahead (asks 0 SingleCopyStart)
     (Chunk (pos 0) 1 ∷ NoChunk ∷ Section 0 ∷ Section 1 ∷ Executor true ∷ Executor false ∷ Copied [] ∷ Finished ∷ Passed ∷ Stopped ∷ lock_answers)
 wrong_at_ninth_copy = search rules
 
+-- the start of a critical construct whose name nobody holds
+pub wrong_at_critical : AreWrong 2 [] (asks 0 (CriticalStart name_a)) (Wait ∷ share_answers ++ lock_answers)
+wrong_at_critical = search rules
+
+-- and of one whose name another member holds
+pub wrong_at_waiting_critical : AreWrong 2 (holding 1 name_a) (asks 0 (CriticalStart name_a)) (Finished ∷ share_answers ++ lock_answers)
+wrong_at_waiting_critical = search rules
+
+-- its end
+pub wrong_at_critical_end : AreWrong 2 (holding 0 name_a) (asks 0 (CriticalEnd name_a)) (Wait ∷ share_answers ++ lock_answers)
+wrong_at_critical_end = search rules
+
+-- the making of a simple lock
+pub wrong_at_lock_init : AreWrong 2 [] (asks 0 LockInit) (Finished ∷ Wait ∷ Lock 1 ∷ Got true ∷ Got false ∷ Count 0 ∷ Count 1 ∷ share_answers)
+wrong_at_lock_init = search rules
+
+-- and of a nestable one, after another
+pub wrong_at_nest_init : AreWrong 2 (take 1 both_made) (asks 0 NestInit) (Finished ∷ Wait ∷ Lock 0 ∷ Lock 2 ∷ Got true ∷ Got false ∷ Count 0 ∷ Count 1 ∷ share_answers)
+wrong_at_nest_init = search rules
+
+-- a lock's destruction
+pub wrong_at_lock_destroy : AreWrong 2 both_made (asks 0 (LockDestroy 0)) (Wait ∷ share_answers ++ lock_answers)
+wrong_at_lock_destroy = search rules
+
+-- a simple lock that nobody holds is set
+pub wrong_at_set : AreWrong 2 both_made (asks 0 (Set 0)) (Wait ∷ share_answers ++ lock_answers)
+wrong_at_set = search rules
+
+-- and one that another member holds
+pub wrong_at_waiting_set : AreWrong 2 (both_set 1) (asks 0 (Set 0)) (Finished ∷ share_answers ++ lock_answers)
+wrong_at_waiting_set = search rules
+
+-- a simple lock that nobody holds is tested
+pub wrong_at_test : AreWrong 2 both_made (asks 0 (TestLock 0)) (Finished ∷ Wait ∷ Lock 0 ∷ Got false ∷ Count 0 ∷ Count 1 ∷ share_answers)
+wrong_at_test = search rules
+
+-- and one that another holds, or the member itself
+pub wrong_at_failed_test :
+    AreWrong 2 (both_set 1) (asks 0 (TestLock 0)) (Finished ∷ Wait ∷ Lock 0 ∷ Got true ∷ Count 0 ∷ Count 1 ∷ share_answers)
+    × AreWrong 2 (both_set 0) (asks 0 (TestLock 0)) (Finished ∷ Wait ∷ Lock 0 ∷ Got true ∷ Count 0 ∷ Count 1 ∷ share_answers)
+wrong_at_failed_test = search rules
+
+-- a simple lock is unset
+pub wrong_at_unset : AreWrong 2 (both_set 0) (asks 0 (Unset 0)) (Wait ∷ share_answers ++ lock_answers)
+wrong_at_unset = search rules
+
+-- a nestable lock that nobody holds is set
+pub wrong_at_set_nest : AreWrong 2 both_made (asks 0 (SetNest 1)) (Finished ∷ Wait ∷ Lock 1 ∷ Got true ∷ Got false ∷ Count 0 ∷ Count 2 ∷ share_answers)
+wrong_at_set_nest = search rules
+
+-- one that the member holds
+pub wrong_at_second_set_nest : AreWrong 2 (both_set 0) (asks 0 (SetNest 1)) (Finished ∷ Wait ∷ Lock 1 ∷ Got true ∷ Got false ∷ Count 0 ∷ Count 1 ∷ Count 3 ∷ share_answers)
+wrong_at_second_set_nest = search rules
+
+-- and one that another does
+pub wrong_at_waiting_set_nest : AreWrong 2 (both_set 1) (asks 0 (SetNest 1)) (Finished ∷ Count 2 ∷ share_answers ++ lock_answers)
+wrong_at_waiting_set_nest = search rules
+
+-- a nestable lock that nobody holds is tested
+pub wrong_at_test_nest : AreWrong 2 both_made (asks 0 (TestNest 1)) (Finished ∷ Wait ∷ Lock 1 ∷ Got true ∷ Got false ∷ Count 0 ∷ Count 2 ∷ share_answers)
+wrong_at_test_nest = search rules
+
+-- one that the member holds
+pub wrong_at_second_test_nest : AreWrong 2 (both_set 0) (asks 0 (TestNest 1)) (Finished ∷ Wait ∷ Lock 1 ∷ Got true ∷ Got false ∷ Count 0 ∷ Count 1 ∷ Count 3 ∷ share_answers)
+wrong_at_second_test_nest = search rules
+
+-- and one that another does
+pub wrong_at_failed_test_nest : AreWrong 2 (both_set 1) (asks 0 (TestNest 1)) (Finished ∷ Wait ∷ Lock 1 ∷ Got true ∷ Got false ∷ Count 1 ∷ Count 2 ∷ share_answers)
+wrong_at_failed_test_nest = search rules
+
+-- a nestable lock is unset
+pub wrong_at_unset_nest : AreWrong 2 (both_set 0) (asks 0 (UnsetNest 1)) (Finished ∷ Wait ∷ Lock 1 ∷ Got true ∷ Got false ∷ Count 1 ∷ Count 2 ∷ share_answers)
+wrong_at_unset_nest = search rules
+
 -- Want of memory
 
 -- at the next iterations
@@ -275,6 +350,50 @@ memory_at_barrier_resume may = absurd (cc)
 -- and of nothing
 pub memory_at_idle_resume : IsWrong 1 [] (asks 0 Resume) (Refused NoMemory)
 memory_at_idle_resume may = absurd (cc)
+
+-- at a critical construct's start that is repeated
+pub memory_at_critical_resume : IsWrong 2 (take 6 names_and_locks) (asks 1 Resume) (Refused NoMemory) × IsWrong 2 (take 8 names_and_locks) (asks 1 Resume) (Refused NoMemory)
+memory_at_critical_resume = ((λ may. absurd (cc)), (λ may. absurd (cc)))
+
+-- at its end
+pub memory_at_critical_end : IsWrong 2 (holding 0 name_a) (asks 0 (CriticalEnd name_a)) (Refused NoMemory)
+memory_at_critical_end may = absurd (cc)
+
+-- at a lock's destruction
+pub memory_at_lock_destroy : IsWrong 2 both_made (asks 0 (LockDestroy 0)) (Refused NoMemory)
+memory_at_lock_destroy may = absurd (cc)
+
+-- at a simple lock, free or held by another
+pub memory_at_set : IsWrong 2 both_made (asks 0 (Set 0)) (Refused NoMemory) × IsWrong 2 (both_set 1) (asks 0 (Set 0)) (Refused NoMemory)
+memory_at_set = ((λ may. absurd (cc)), (λ may. absurd (cc)))
+
+pub memory_at_test : IsWrong 2 both_made (asks 0 (TestLock 0)) (Refused NoMemory)
+memory_at_test may = absurd (cc)
+
+pub memory_at_unset : IsWrong 2 (both_set 0) (asks 0 (Unset 0)) (Refused NoMemory)
+memory_at_unset may = absurd (cc)
+
+-- at a nestable lock, free or held by another
+pub memory_at_set_nest : IsWrong 2 both_made (asks 0 (SetNest 1)) (Refused NoMemory) × IsWrong 2 (both_set 1) (asks 0 (SetNest 1)) (Refused NoMemory)
+memory_at_set_nest = ((λ may. absurd (cc)), (λ may. absurd (cc)))
+
+pub memory_at_test_nest : IsWrong 2 both_made (asks 0 (TestNest 1)) (Refused NoMemory)
+memory_at_test_nest may = absurd (cc)
+
+pub memory_at_unset_nest : IsWrong 2 (both_set 0) (asks 0 (UnsetNest 1)) (Refused NoMemory)
+memory_at_unset_nest may = absurd (cc)
+
+-- at a resume of a set
+pub memory_at_set_resume : IsWrong 2 (take 5 destroyed_while_waiting) (asks 1 Resume) (Refused NoMemory)
+memory_at_set_resume may = absurd (cc)
+
+-- beside a test: a name that is too long, and one that the member holds
+pub memory_at_refused_name : IsWrong 1 [] (asks 0 (CriticalStart long_name)) (Refused NoMemory) × IsWrong 1 (holding 0 name_a) (asks 0 (CriticalStart name_a)) (Refused NoMemory)
+memory_at_refused_name = ((λ may. absurd (cc)), (λ may. absurd (cc)))
+
+-- and a barrier while a name is held
+pub memory_with_a_name : IsWrong 1 (holding 0 name_a) (asks 0 Barrier) (Refused NoMemory)
+memory_with_a_name may = absurd (cc)
 
 -- beside a test: a loop inside of another
 pub memory_inside : IsWrong 1 (take 1 loop_alone) (asks 0 one_nowait) (Refused NoMemory)
@@ -373,6 +492,69 @@ refused_at_met_resume = search rules
 -- a start that waits for room
 pub refused_at_ninth : AreWrong 2 eight_ahead (asks 0 SingleStart) all_refusals
 refused_at_ninth = search rules
+
+-- the start of a critical construct, of a name that nobody holds
+pub refused_at_critical : AreWrong 2 [] (asks 0 (CriticalStart name_a)) all_refusals
+refused_at_critical = search rules
+
+-- and of one that another does
+pub refused_at_waiting_critical : AreWrong 2 (holding 1 name_a) (asks 0 (CriticalStart name_a)) all_refusals
+refused_at_waiting_critical = search rules
+
+-- its resume
+pub refused_at_critical_resume : AreWrong 2 (take 6 names_and_locks) (asks 1 Resume) all_refusals
+refused_at_critical_resume = search rules
+
+-- its end
+pub refused_at_critical_end : AreWrong 2 (holding 0 name_a) (asks 0 (CriticalEnd name_a)) all_refusals
+refused_at_critical_end = search rules
+
+-- the making of a lock
+pub refused_at_lock_init : AreWrong 2 both_made (asks 0 LockInit) all_refusals
+refused_at_lock_init = search rules
+
+pub refused_at_nest_init : AreWrong 2 both_made (asks 0 NestInit) all_refusals
+refused_at_nest_init = search rules
+
+-- its destruction
+pub refused_at_lock_destroy : AreWrong 2 both_made (asks 0 (LockDestroy 1)) all_refusals
+refused_at_lock_destroy = search rules
+
+-- a simple lock that nobody holds
+pub refused_at_set : AreWrong 2 both_made (asks 0 (Set 0)) all_refusals
+refused_at_set = search rules
+
+-- and that another does
+pub refused_at_waiting_set : AreWrong 2 (both_set 1) (asks 0 (Set 0)) all_refusals
+refused_at_waiting_set = search rules
+
+-- its resume
+pub refused_at_set_resume : AreWrong 2 (take 3 destroyed_while_waiting) (asks 1 Resume) all_refusals
+refused_at_set_resume = search rules
+
+-- its test, by the member that holds it too
+pub refused_at_test : AreWrong 2 (both_set 0) (asks 0 (TestLock 0)) all_refusals
+refused_at_test = search rules
+
+-- its unset
+pub refused_at_unset : AreWrong 2 (both_set 0) (asks 0 (Unset 0)) all_refusals
+refused_at_unset = search rules
+
+-- a nestable lock that the member holds
+pub refused_at_set_nest : AreWrong 2 (both_set 0) (asks 0 (SetNest 1)) all_refusals
+refused_at_set_nest = search rules
+
+-- and that another does
+pub refused_at_waiting_set_nest : AreWrong 2 (both_set 1) (asks 0 (SetNest 1)) all_refusals
+refused_at_waiting_set_nest = search rules
+
+-- its test
+pub refused_at_test_nest : AreWrong 2 (both_set 1) (asks 0 (TestNest 1)) all_refusals
+refused_at_test_nest = search rules
+
+-- its unset
+pub refused_at_unset_nest : AreWrong 2 (both_set 0) (asks 0 (UnsetNest 1)) all_refusals
+refused_at_unset_nest = search rules
 
 -- a call is refused for a share that it is inside of, and not for another reason, nor answered
 pub refused_otherwise : AreWrong 1 (take 1 loop_alone) (asks 0 SingleStart)
@@ -475,6 +657,19 @@ waiting_part_in_no_loop never = never
 -- and nothing left of no share
 pub none_of_no_share : DealsOut 1 0 None NoChunk [] → ⊥
 none_of_no_share never = never
+
+-- nor a lock that is none, if the tests refuse before: it is not set
+pub no_lock_set : (MayReplyAfter false 1 [] 0 (Set 0) Finished → ⊥) × (MayReplyAfter false 1 [] 0 (Set 0) Wait → ⊥)
+no_lock_set = ((λ never. never), (λ never. never))
+
+-- not tested
+pub no_lock_tested : (MayReplyAfter false 1 [] 0 (TestLock 0) (Got true) → ⊥) × (MayReplyAfter false 1 [] 0 (TestLock 0) (Got false) → ⊥)
+no_lock_tested = ((λ never. never), (λ never. never))
+
+-- nor is a nestable one
+pub no_nest_set : (MayReplyAfter false 1 [] 0 (SetNest 0) (Count 1) → ⊥) × (MayReplyAfter false 1 [] 0 (SetNest 0) Wait → ⊥) × (MayReplyAfter false 1 [] 0 (TestNest 0) (Count 1) → ⊥)
+    × (MayReplyAfter false 1 [] 0 (TestNest 0) (Count 0) → ⊥) × (MayReplyAfter false 1 [] 0 (UnsetNest 0) (Count 0) → ⊥)
+no_nest_set = ((λ never. never), (λ never. never), (λ never. never), (λ never. never), (λ never. never))
 
 -- Runs
 
