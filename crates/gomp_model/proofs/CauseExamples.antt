@@ -22,7 +22,7 @@ use Rattle.gomp_types.specs.declared.reply.Reply.TheVariants.{Chunk, NoChunk, Se
 use Rattle.gomp_model.specs.Examples.{MayReplyAfter, IsReplyAfter, IsWrongAfter, IsWrong, AreWrong, IsNoRun, lock_answers, share_answers, all_refusals, asks, one_nowait, loop_of_two, loop_alone, eight_ahead}
 use Rattle.gomp_model.specs.ShareExamples.{three_sections, sections_of_two, no_sections, single_of_two, copy_of_three, ordered_of_two, handed_of_two, ordered_alone}
 use Rattle.gomp_model.specs.HoldExamples.{name_a, long_name, holding, both_made, both_set, names_and_locks, destroyed_while_waiting}
-use Rattle.gomp_model.specs.RegionExamples.{copied_at_once}
+use Rattle.gomp_model.specs.RegionExamples.{copied_at_once, named_in_a_part}
 
 -- The answers of other calls
 
@@ -387,14 +387,6 @@ memory_at_unset_nest may = absurd (cc)
 pub memory_at_set_resume : IsWrong 2 (take 5 destroyed_while_waiting) (asks 1 Resume) (Refused NoMemory)
 memory_at_set_resume may = absurd (cc)
 
--- beside a test: a name that is too long, and one that the member holds
-pub memory_at_refused_name : IsWrong 1 [] (asks 0 (CriticalStart long_name)) (Refused NoMemory) × IsWrong 1 (holding 0 name_a) (asks 0 (CriticalStart name_a)) (Refused NoMemory)
-memory_at_refused_name = ((λ may. absurd (cc)), (λ may. absurd (cc)))
-
--- and a barrier while a name is held
-pub memory_with_a_name : IsWrong 1 (holding 0 name_a) (asks 0 Barrier) (Refused NoMemory)
-memory_with_a_name may = absurd (cc)
-
 -- beside a test: a loop inside of another
 pub memory_inside : IsWrong 1 (take 1 loop_alone) (asks 0 one_nowait) (Refused NoMemory)
 memory_inside may = absurd (cc)
@@ -407,9 +399,17 @@ memory_at_sections_inside may = absurd (cc)
 pub memory_at_copy_inside : IsWrong 1 (take 1 loop_alone) (asks 0 SingleCopyStart) (Refused NoMemory)
 memory_at_copy_inside may = absurd (cc)
 
--- and another construct than the team's
+-- another construct than the team's
 pub memory_of_another_construct : IsWrong 2 (take 1 loop_alone) (asks 1 SingleCopyStart) (Refused NoMemory)
 memory_of_another_construct may = absurd (cc)
+
+-- a name that is too long, and one that the member holds
+pub memory_at_refused_name : IsWrong 1 [] (asks 0 (CriticalStart long_name)) (Refused NoMemory) × IsWrong 1 (holding 0 name_a) (asks 0 (CriticalStart name_a)) (Refused NoMemory)
+memory_at_refused_name = ((λ may. absurd (cc)), (λ may. absurd (cc)))
+
+-- and a barrier while a name is held
+pub memory_with_a_name : IsWrong 1 (holding 0 name_a) (asks 0 Barrier) (Refused NoMemory)
+memory_with_a_name may = absurd (cc)
 
 -- Refusals if no test holds, and others than that whose test does
 
@@ -716,6 +716,10 @@ alone_waits reply = absurd (let waits = reply.1 in cc)
 -- a part that was not begun is not ended
 pub part_end_outside : IsWrong 1 (take 1 ordered_alone) (asks 0 OrderedEnd) (Finished)
 part_end_outside = search rules
+
+-- nor is one while the member holds a critical name
+pub part_end_with_a_name : IsWrong 1 (take 6 named_in_a_part) (asks 0 OrderedEnd) Finished
+part_end_with_a_name = search rules
 
 -- the reply that there is to each step is another than want of memory
 pub some_reply_tells : (p : Past) (step : Step) → (some : SomeReply p step) → (some.0 ≢ Refused NoMemory) × MayAnswer p step some.0
