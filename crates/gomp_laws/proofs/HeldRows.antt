@@ -3,7 +3,6 @@ use Rattle.std.proofs.Common.{◌≡◌, ℕ, ◌+◌, ◌-◌, ◌<◌, Bool, t
 use Rattle.std.specs.Prelude.{◌==◌, ◌&&◌, not, nat_lt, is_some, if◌then◌else◌, slice_get}
 use Rattle.std.proofs.lemmas.Bool.{cases_Bool}
 use Rattle.gomp_types.specs.declared.event.Event.{Event}
-use Rattle.gomp_types.specs.declared.event.Event.TheVariants.{Hold, Free}
 use Rattle.gomp_types.specs.declared.key.Key.{Key}
 use Rattle.gomp_types.specs.declared.lock.Held.{Held}
 use Rattle.gomp_types.specs.declared.lock.LockKind.{LockKind}
@@ -13,7 +12,6 @@ use Rattle.gomp_types.specs.declared.reply.Reply.TheVariants.{Chunk, Finished, W
 use Rattle.gomp_types.specs.declared.task.Owner.{Owner}
 use Rattle.gomp_types.specs.Laws.{Always}
 use Rattle.gomp_types.specs.Owners.{same_owner}
-use Rattle.gomp_types.proofs.Always.{always_so}
 use Rattle.gomp_types.proofs.Booleans.{is_equal, same_number, and_false}
 use Rattle.gomp_types.proofs.LeastTests.{AllFail}
 use Rattle.gomp_locks.specs.Book.{same_lock_kind, held_times, held_by, owned_by_member}
@@ -26,6 +24,7 @@ use Rattle.gomp_laws.specs.Rules.{TeamRule}
 use Rattle.gomp_model.specs.Past.{Past}
 use Rattle.gomp_model.specs.Row.{Row, plain_row}
 use Rattle.gomp_model.specs.CriticalNames.{is_held, is_freed, held_once, freed_once}
+use Rattle.gomp_laws.proofs.TeamShares.{hold_rules}
 use Rattle.gomp_laws.proofs.Sound.{AreGiven, IsSound, Ready, memoryless, only_holds}
 
 -- Keys and owners
@@ -39,15 +38,6 @@ key_is_itself (NestLock number) = same_number number
 -- so is an owner
 pub owner_is_itself : (owner : Owner) → same_owner owner owner ≡ true
 owner_is_itself owner = rw (same_number owner.team, same_number owner.member, same_number owner.task) refl
-
--- the rule of a team has that of names and locks
-hold_rule : (members : ℕ) (event : Event) (earlier : List Event) → TeamRule members event earlier → Always (TeamRule members) earlier → HoldRule event earlier
-hold_rule members (Hold key m task) earlier rule all = rule.holds
-hold_rule members (Free key m task) earlier rule all = rule
-hold_rule members _ earlier rule all = tt
-
-pub hold_rules : (members : ℕ) (h : List Event) → Always (TeamRule members) h → Always HoldRule h
-hold_rules members h all = always_so (TeamRule members) HoldRule (hold_rule members) h all
 
 -- whoever holds something is a task that may ask
 abbrev pub IsOfAsker : List Event → Option Held → Type 0
