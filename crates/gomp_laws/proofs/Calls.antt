@@ -1,7 +1,7 @@
 -- Every call's row is sound: the second list of calls, in proofs alone.
 use Rattle.std.proofs.Common.{ℕ, List, ◌++◌, refl, sym, ◌∙◌}
 use Rattle.gomp_types.specs.declared.call.Call.{Call}
-use Rattle.gomp_types.specs.declared.call.Call.TheVariants.{LoopStart, LoopNext, LoopEnd, LoopEndNowait, SectionsStart, SectionsNext, SectionsEnd, SectionsEndNowait, SingleStart, SingleCopyStart, SingleCopyEnd, Resume, OrderedStart, OrderedEnd, Barrier, RegionEnd, Stop}
+use Rattle.gomp_types.specs.declared.call.Call.TheVariants.{LoopStart, LoopNext, LoopEnd, LoopEndNowait, SectionsStart, SectionsNext, SectionsEnd, SectionsEndNowait, SingleStart, SingleCopyStart, SingleCopyEnd, Resume, OrderedStart, OrderedEnd, Barrier, RegionEnd, CriticalStart, CriticalEnd, LockInit, NestInit, LockDestroy, Set, Test as TestLock, Unset, SetNest, TestNest, UnsetNest, Stop}
 use Rattle.gomp_types.specs.declared.reply.Reply.{Reply}
 use Rattle.gomp_types.specs.declared.reply.Reply.TheVariants.{Stopped}
 use Rattle.gomp_types.specs.declared.event.Event.{Event}
@@ -28,7 +28,10 @@ resume_sound = record {
   still = λ stays m p. absurd (cc);
   tells = λ arrives m p reply may. absurd (cc);
   one_pass = λ arrives m p. absurd (cc);
-  no_memory = λ m p. (refl, refl, λ repeated. refl);
+  lasts = λ repeated m p ready all may. absurd may;
+  waits_for = λ key m p holds may. absurd (cc);
+  tells_count = λ key repeated m count p holds ready all may. absurd (cc);
+  no_memory = λ m p. (refl, refl, refl, λ repeated. refl);
   words_keep = λ puts repeated m p reply ready may all. absurd (cc);
 }
 
@@ -53,7 +56,10 @@ stop_sound = record {
   still = λ stays m p. absurd (cc);
   tells = λ arrives m p reply may. absurd (cc);
   one_pass = λ arrives m p. absurd (cc);
-  no_memory = λ m p. (refl, refl, λ repeated. refl);
+  lasts = λ repeated m p ready all may. absurd (cc);
+  waits_for = λ key m p holds may. absurd (cc);
+  tells_count = λ key repeated m count p holds ready all may. absurd (cc);
+  no_memory = λ m p. (refl, refl, refl, λ repeated. refl);
   words_keep = λ puts repeated m p reply ready may all. absurd (cc);
 }
 
@@ -73,5 +79,16 @@ row_is_sound (OrderedStart value) = ordered_start_sound value
 row_is_sound OrderedEnd = ordered_end_sound
 row_is_sound Barrier = barrier_sound
 row_is_sound RegionEnd = region_end_sound
+row_is_sound (CriticalStart name) = ?
+row_is_sound (CriticalEnd name) = ?
+row_is_sound LockInit = ?
+row_is_sound NestInit = ?
+row_is_sound (LockDestroy number) = ?
+row_is_sound (Set number) = ?
+row_is_sound (TestLock number) = ?
+row_is_sound (Unset number) = ?
+row_is_sound (SetNest number) = ?
+row_is_sound (TestNest number) = ?
+row_is_sound (UnsetNest number) = ?
 row_is_sound Stop = stop_sound
 row_is_sound Resume = resume_sound
