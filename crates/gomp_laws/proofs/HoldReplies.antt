@@ -1,5 +1,5 @@
 -- The replies to calls on names and locks, of every record whose replies have their causes.
-use Rattle.std.proofs.Common.{◌≡◌, ◌∙◌, ℕ, ◌<◌, ◌≤◌, Bool, true, false, List, [], ◌∷◌, Some, None, refl, sym, ap, arith}
+use Rattle.std.proofs.Common.{◌≡◌, ◌∙◌, ℕ, ◌<◌, List, [], ◌∷◌, Some, refl, sym, ap, arith}
 use Rattle.gomp_types.specs.declared.call.Step.{Step}
 use Rattle.gomp_types.specs.declared.event.Event.{Event}
 use Rattle.gomp_types.specs.declared.event.Event.TheVariants.{Hold, Free}
@@ -8,28 +8,21 @@ use Rattle.gomp_types.specs.declared.lock.Held.{Held}
 use Rattle.gomp_types.specs.declared.reply.Reply.{Reply}
 use Rattle.gomp_types.specs.declared.reply.Reply.TheVariants.{Wait, Count}
 use Rattle.gomp_types.specs.Laws.{Always}
-use Rattle.gomp_types.specs.declared.task.Owner.{Owner}
-use Rattle.gomp_types.specs.Owners.{same_owner}
 use Rattle.gomp_locks.specs.Locks.{count_for}
 use Rattle.gomp_locks.specs.Holders.{asker, holder, own_part}
 use Rattle.gomp_locks.specs.HoldRules.{HoldRule}
 use Rattle.gomp_locks.specs.HoldLaws.{holds_left}
 use Rattle.gomp_locks.proofs.HoldsKeep.{holds_left_is_count, held_at_least_once}
 use Rattle.gomp_model.specs.Past.{Terms, Past}
-use Rattle.gomp_model.specs.Row.{Row, begun_past}
+use Rattle.gomp_model.specs.Row.{begun_past}
 use Rattle.gomp_model.specs.Team.{Record, call_meant, is_resume, row_at, MayAnswer, past_after, past_of, Caused}
 use Rattle.gomp_laws.specs.Replies.{EachReply, WaitsForAnother, TellsHolds, HoldReplies}
-use Rattle.gomp_laws.proofs.Sound.{Gives, gives_of, IsSound}
+use Rattle.gomp_laws.proofs.Sound.{Gives, gives_of}
 use Rattle.gomp_laws.proofs.CallsKeep.{OwnKeeps, since_keeps}
 use Rattle.gomp_laws.proofs.Calls.{row_is_sound}
 use Rattle.gomp_laws.proofs.TeamShares.{hold_rules}
+use Rattle.gomp_laws.proofs.HeldRows.{holder_is_other, owner_is_itself}
 use Rattle.gomp_laws.proofs.Known.{Known, known_of, known_after, unrefused_step_is_ready}
-
-holder_is_other : (m : ℕ) (h : List Event) (held : Held) → own_part m (Some held) ≡ None → same_owner held.owner (asker m h) ≡ false
-holder_is_other m h held none = ?
-
-owner_is_itself : (owner : Owner) → same_owner owner owner ≡ true
-owner_is_itself owner = ?
 
 -- a call that has only begun holds and frees nothing
 holder_stays : (can : Gives) (m : ℕ) (key : Key) (h : List Event) → OwnKeeps can m (λ now. holder key now ≡ holder key h)
