@@ -1,4 +1,4 @@
--- Events that keep the rule of a team keep that of the work-shares.
+-- Events that keep the rule of a team keep that of the work-shares, and that of names and locks.
 use Rattle.std.proofs.Common.{ℕ, List}
 use Rattle.gomp_types.specs.declared.event.Event.{Event}
 use Rattle.gomp_types.specs.declared.event.Event.TheVariants.{Enter, Take, Drained, End, HandOn, Part, PartEnd, Hold, Free}
