@@ -3,7 +3,7 @@
 //! OpenMP API 5.2, section 15.2; libgomp's `GOMP_critical_start`, `GOMP_critical_name_start` and
 //! their ends.
 
-ghost use Rattle.std.specs.Prelude.{◌≡◌, ◌+◌, ◌<◌, ◌≤◌, length, vec_capacity, slice_index_or, IfSome, IfNone, None, Some, IsSome, true, if◌then◌else◌, OnOk, OnErr, bytes_eq};
+ghost use Rattle.std.specs.Prelude.{◌≡◌, [], ◌+◌, ◌<◌, ◌≤◌, length, vec_capacity, slice_index_or, IfSome, IfNone, None, Some, IsSome, true, if◌then◌else◌, OnOk, OnErr, bytes_eq};
 ghost use Rattle.std.specs.Map.{lookup};
 ghost use Rattle.std.specs.BTreeMap.{insert_entry, IsOrdered};
 ghost use Rattle.std.specs.Ordering.{nat_cmp};
@@ -40,13 +40,7 @@ impl LockBook {
         if let Some(refusal) = self.critical_start_refusal(owner, name) {
             return Reply::Refused(refusal);
         }
-        match self.owner_of(name) {
-            Some(_) => Reply::Wait,
-            None => match self.hold_name(owner, name) {
-                Ok(()) => Reply::Finished,
-                Err(_) => Reply::Refused(Refusal::NoMemory),
-            },
-        }
+        self.enter_critical(owner, name)
     }
 
     /// Leaves the `critical` construct of this name, which this task holds.
@@ -61,8 +55,7 @@ impl LockBook {
         if let Some(refusal) = self.critical_end_refusal(owner, name) {
             return Reply::Refused(refusal);
         }
-        self.free_name(owner, name);
-        Reply::Finished
+        self.leave_critical(owner, name)
     }
 
     /// With what [`critical_start`](LockBook::critical_start) is refused, want of memory aside.
@@ -91,6 +84,34 @@ impl LockBook {
             Some(other) if other.is_same(&owner) => None,
             _ => Some(Refusal::NotHolder),
         }
+    }
+
+    /// What [`critical_start`](LockBook::critical_start) does once its tests are made: the name is
+    /// entered if nobody holds it, else the answer is to wait. It makes no test; the only refusal is
+    /// `NoMemory` (E37).
+    pub fn enter_critical(&mut self, owner: Owner, name: &CriticalName) -> Reply
+        ensures answer { AnswersOrLacks [] (EntersCritical (name_owner name.now self.old)) result }
+        ensures memory { result ≡ Refused NoMemory → name_at name.now self.old ≡ None }
+        ensures book { self.new ≡ after_critical_start owner name.now result self.old }
+    {
+        match self.owner_of(name) {
+            Some(_) => Reply::Wait,
+            None => match self.hold_name(owner, name) {
+                Ok(()) => Reply::Finished,
+                Err(_) => Reply::Refused(Refusal::NoMemory),
+            },
+        }
+    }
+
+    /// What [`critical_end`](LockBook::critical_end) does once its tests are made: the name, which
+    /// this task has to hold, is left.
+    pub fn leave_critical(&mut self, owner: Owner, name: &CriticalName) -> Reply
+        requires held { owned_by owner (name_owner name.now self.old) ≡ true }
+        ensures answer { result ≡ Finished }
+        ensures book { self.new ≡ after_critical_end name.now result self.old }
+    {
+        self.free_name(owner, name);
+        Reply::Finished
     }
 
     /// The owner holds this name, which nobody holds, from now on. On want of memory nothing changes.

@@ -3,7 +3,8 @@
 //! OpenMP API 5.2, sections 18.9.1 and 18.9.3; libgomp's `omp_init_lock`, `omp_init_nest_lock`,
 //! `omp_destroy_lock` and `omp_destroy_nest_lock`.
 
-ghost use Rattle.std.specs.Prelude.{◌≡◌, IfSome, slice_set, length};
+ghost use Rattle.std.specs.Prelude.{◌≡◌, ◌<◌, [], IfSome, slice_set, length};
+ghost use Rattle.gomp_types.specs.declared.lock.TheConstants.{MAX_LOCKS};
 ghost use Rattle.gomp_types.specs.Least.{Answers, least};
 ghost use Rattle.gomp_types.specs.declared.lock.LockKind.TheVariants.{Simple, Nest};
 ghost use Rattle.gomp_types.specs.declared.reply.Reply.TheVariants.{Finished};
@@ -33,7 +34,10 @@ impl LockBook {
             (MakesLock (length self.old.locks)) result }
         ensures book { self.new ≡ after_init Simple result self.old }
     {
-        self.init(LockKind::Simple)
+        if let Some(refusal) = self.init_refusal() {
+            return Reply::Refused(refusal);
+        }
+        self.make_lock(LockKind::Simple)
     }
 
     /// Makes a nestable lock, which is not set, and answers its number; refused as
@@ -43,23 +47,10 @@ impl LockBook {
             (MakesLock (length self.old.locks)) result }
         ensures book { self.new ≡ after_init Nest result self.old }
     {
-        self.init(LockKind::Nest)
-    }
-
-    /// Makes a lock of this kind.
-    fn init(&mut self, kind: LockKind) -> Reply
-        ensures answer { AnswersOrLacks (init_tests (length self.old.locks))
-            (MakesLock (length self.old.locks)) result }
-        ensures book { self.new ≡ after_init kind result self.old }
-    {
         if let Some(refusal) = self.init_refusal() {
             return Reply::Refused(refusal);
         }
-        let number = self.locks.len();
-        match self.locks.push(Some(Lock { kind, held: None })) {
-            Ok(()) => Reply::Lock(number as u32),
-            Err(_) => Reply::Refused(Refusal::NoMemory),
-        }
+        self.make_lock(LockKind::Nest)
     }
 
     /// Destroys a lock of either kind; its number is not used again.
@@ -74,8 +65,7 @@ impl LockBook {
         if let Some(refusal) = self.destroy_refusal(number) {
             return Reply::Refused(refusal);
         }
-        self.put_lock(number, None);
-        Reply::Finished
+        self.remove_lock(number)
     }
 
     /// With what [`lock_init`](LockBook::lock_init) and [`nest_init`](LockBook::nest_init) are
@@ -109,6 +99,31 @@ impl LockBook {
             None => Some(Refusal::NoLock),
             Some(_) => None,
         }
+    }
+
+    /// What [`lock_init`](LockBook::lock_init) and [`nest_init`](LockBook::nest_init) do once their
+    /// test is made: a lock of this kind is made, which is not set, and the answer is its number. So
+    /// fewer than 2^32 - 1 locks were made; the only refusal is `NoMemory` (E37).
+    pub fn make_lock(&mut self, kind: LockKind) -> Reply
+        requires room { length self.old.locks < MAX_LOCKS }
+        ensures answer { AnswersOrLacks [] (MakesLock (length self.old.locks)) result }
+        ensures book { self.new ≡ after_init kind result self.old }
+    {
+        let number = self.locks.len();
+        match self.locks.push(Some(Lock { kind, held: None })) {
+            Ok(()) => Reply::Lock(number as u32),
+            Err(_) => Reply::Refused(Refusal::NoMemory),
+        }
+    }
+
+    /// What [`lock_destroy`](LockBook::lock_destroy) does once its tests are made: the lock of this
+    /// number is no more, and the number is not used again.
+    pub fn remove_lock(&mut self, number: u32) -> Reply
+        ensures answer { result ≡ Finished }
+        ensures book { self.new ≡ after_destroy number result self.old }
+    {
+        self.put_lock(number, None);
+        Reply::Finished
     }
 
     /// How the lock of this number is held, whatever its kind; None if there is no such lock.

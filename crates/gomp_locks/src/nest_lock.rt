@@ -3,11 +3,13 @@
 //! OpenMP API 5.2, sections 18.9.4 to 18.9.6; libgomp's `omp_set_nest_lock`, `omp_test_nest_lock`
 //! and `omp_unset_nest_lock`.
 
-ghost use Rattle.std.specs.Prelude.{◌≡◌};
+ghost use Rattle.std.specs.Prelude.{◌≡◌, ◌<◌, true, IsSome};
+ghost use Rattle.std.specs.Option.{option_flatten};
+ghost use Rattle.gomp_types.specs.declared.lock.TheConstants.{MAX_COUNT};
 ghost use Rattle.gomp_types.specs.Least.{Answers, least};
 ghost use Rattle.gomp_types.specs.declared.lock.LockKind.TheVariants.{Nest};
-ghost use Rattle.gomp_locks.specs.Book.{lock_at, held_times};
-ghost use Rattle.gomp_locks.specs.Locks.{nest_tests, SetsNest, after_set_nest, TestsNest, after_test_nest, unset_tests, UnsetsNest, after_unset_nest};
+ghost use Rattle.gomp_locks.specs.Book.{lock_at, held_times, held_by};
+ghost use Rattle.gomp_locks.specs.Locks.{nest_tests, count_for, SetsNest, after_set_nest, TestsNest, after_test_nest, unset_tests, UnsetsNest, after_unset_nest};
 
 use crate::book::LockBook;
 use gomp_types::{Held, LockKind, MAX_COUNT, Owner, Refusal, Reply};
@@ -26,12 +28,7 @@ impl LockBook {
         if let Some(refusal) = self.nest_refusal(owner, number) {
             return Reply::Refused(refusal);
         }
-        match self.lock_at(LockKind::Nest, number) {
-            None => unreachable!(),
-            Some(Some(held)) if !held.owner.is_same(&owner) => Reply::Wait,
-            Some(Some(held)) => self.count_nest(owner, number, held.count + 1),
-            Some(None) => self.count_nest(owner, number, 1),
-        }
+        self.take_nest(owner, number)
     }
 
     /// Sets a nestable lock once more if no other task holds it, and answers how often this task has
@@ -43,10 +40,10 @@ impl LockBook {
             (TestsNest owner (lock_at Nest number self.old)) result }
         ensures book { self.new ≡ after_test_nest owner number result self.old }
     {
-        match self.set_nest(owner, number) {
-            Reply::Wait => Reply::Count(0),
-            reply => reply,
+        if let Some(refusal) = self.nest_refusal(owner, number) {
+            return Reply::Refused(refusal);
         }
+        self.try_nest(owner, number)
     }
 
     /// Unsets a nestable lock that this task holds once, and answers how often it is set still.
@@ -61,10 +58,7 @@ impl LockBook {
         if let Some(refusal) = self.unset_refusal(owner, LockKind::Nest, number) {
             return Reply::Refused(refusal);
         }
-        match self.lock_at(LockKind::Nest, number) {
-            Some(Some(held)) => self.count_nest(owner, number, held.count - 1),
-            _ => unreachable!(),
-        }
+        self.release_nest(owner, number)
     }
 
     /// With what [`set_nest`](LockBook::set_nest) and [`test_nest`](LockBook::test_nest) are refused.
@@ -77,6 +71,50 @@ impl LockBook {
                 Some(Refusal::CountTooLarge)
             }
             Some(_) => None,
+        }
+    }
+
+    /// What [`set_nest`](LockBook::set_nest) does once its tests are made: the nestable lock, which
+    /// has to be there, is set once more if no other task holds it, and the answer is how often this
+    /// task has set it now; else the answer is to wait. So this task has set it less than 65,535 times.
+    pub fn take_nest(&mut self, owner: Owner, number: u32) -> Reply
+        requires there { IsSome (lock_at Nest number self.old) }
+        requires room { count_for owner (option_flatten (lock_at Nest number self.old)) < MAX_COUNT }
+        ensures answer { SetsNest owner (lock_at Nest number self.old) result }
+        ensures book { self.new ≡ after_set_nest owner number result self.old }
+    {
+        match self.lock_at(LockKind::Nest, number) {
+            None => unreachable!(),
+            Some(Some(held)) if !held.owner.is_same(&owner) => Reply::Wait,
+            Some(Some(held)) => self.count_nest(owner, number, held.count + 1),
+            Some(None) => self.count_nest(owner, number, 1),
+        }
+    }
+
+    /// What [`test_nest`](LockBook::test_nest) does once its tests are made: as
+    /// [`take_nest`](LockBook::take_nest), but the answer is 0 if another task holds the lock.
+    pub fn try_nest(&mut self, owner: Owner, number: u32) -> Reply
+        requires there { IsSome (lock_at Nest number self.old) }
+        requires room { count_for owner (option_flatten (lock_at Nest number self.old)) < MAX_COUNT }
+        ensures answer { TestsNest owner (lock_at Nest number self.old) result }
+        ensures book { self.new ≡ after_test_nest owner number result self.old }
+    {
+        match self.take_nest(owner, number) {
+            Reply::Wait => Reply::Count(0),
+            reply => reply,
+        }
+    }
+
+    /// What [`unset_nest`](LockBook::unset_nest) does once its tests are made: the nestable lock,
+    /// which this task has to hold, is unset once, and the answer is how often it is set still.
+    pub fn release_nest(&mut self, owner: Owner, number: u32) -> Reply
+        requires held { held_by owner (option_flatten (lock_at Nest number self.old)) ≡ true }
+        ensures answer { UnsetsNest owner (lock_at Nest number self.old) result }
+        ensures book { self.new ≡ after_unset_nest owner number result self.old }
+    {
+        match self.lock_at(LockKind::Nest, number) {
+            Some(Some(held)) => self.count_nest(owner, number, held.count - 1),
+            _ => unreachable!(),
         }
     }
 

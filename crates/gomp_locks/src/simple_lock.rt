@@ -3,7 +3,7 @@
 //! OpenMP API 5.2, sections 18.9.4 to 18.9.6; libgomp's `omp_set_lock`, `omp_test_lock` and
 //! `omp_unset_lock`.
 
-ghost use Rattle.std.specs.Prelude.{◌≡◌};
+ghost use Rattle.std.specs.Prelude.{◌≡◌, IsSome};
 ghost use Rattle.gomp_types.specs.Least.{Answers, least};
 ghost use Rattle.gomp_types.specs.declared.lock.LockKind.TheVariants.{Simple};
 ghost use Rattle.gomp_types.specs.declared.reply.Reply.TheVariants.{Finished};
@@ -26,14 +26,7 @@ impl LockBook {
         if let Some(refusal) = self.set_refusal(owner, number) {
             return Reply::Refused(refusal);
         }
-        match self.lock_at(LockKind::Simple, number) {
-            None => unreachable!(),
-            Some(Some(_)) => Reply::Wait,
-            Some(None) => {
-                self.hold_lock(LockKind::Simple, number, Some(Held { owner, count: 1 }));
-                Reply::Finished
-            }
-        }
+        self.take_lock(owner, number)
     }
 
     /// Sets a simple lock if nobody holds it, and tells whether it did.
@@ -47,14 +40,7 @@ impl LockBook {
         if let Some(refusal) = self.test_refusal(number) {
             return Reply::Refused(refusal);
         }
-        match self.lock_at(LockKind::Simple, number) {
-            None => unreachable!(),
-            Some(Some(_)) => Reply::Got(false),
-            Some(None) => {
-                self.hold_lock(LockKind::Simple, number, Some(Held { owner, count: 1 }));
-                Reply::Got(true)
-            }
-        }
+        self.try_lock(owner, number)
     }
 
     /// Unsets a simple lock that this task holds.
@@ -69,8 +55,7 @@ impl LockBook {
         if let Some(refusal) = self.unset_refusal(owner, LockKind::Simple, number) {
             return Reply::Refused(refusal);
         }
-        self.hold_lock(LockKind::Simple, number, None);
-        Reply::Finished
+        self.release_lock(number)
     }
 
     /// With what [`set`](LockBook::set) is refused.
@@ -101,5 +86,50 @@ impl LockBook {
             Some(Some(held)) if held.owner.is_same(&owner) => None,
             Some(_) => Some(Refusal::NotHolder),
         }
+    }
+
+    /// What [`set`](LockBook::set) does once its tests are made: the simple lock, which has to be
+    /// there, is set if nobody holds it; else the answer is to wait.
+    pub fn take_lock(&mut self, owner: Owner, number: u32) -> Reply
+        requires there { IsSome (lock_at Simple number self.old) }
+        ensures answer { SetsLock (lock_at Simple number self.old) result }
+        ensures book { self.new ≡ after_set owner number result self.old }
+    {
+        match self.lock_at(LockKind::Simple, number) {
+            None => unreachable!(),
+            Some(Some(_)) => Reply::Wait,
+            Some(None) => {
+                self.hold_lock(LockKind::Simple, number, Some(Held { owner, count: 1 }));
+                Reply::Finished
+            }
+        }
+    }
+
+    /// What [`test`](LockBook::test) does once its test is made: the simple lock, which has to be
+    /// there, is set if nobody holds it, and the answer tells whether it was.
+    pub fn try_lock(&mut self, owner: Owner, number: u32) -> Reply
+        requires there { IsSome (lock_at Simple number self.old) }
+        ensures answer { TestsLock (lock_at Simple number self.old) result }
+        ensures book { self.new ≡ after_test owner number result self.old }
+    {
+        match self.lock_at(LockKind::Simple, number) {
+            None => unreachable!(),
+            Some(Some(_)) => Reply::Got(false),
+            Some(None) => {
+                self.hold_lock(LockKind::Simple, number, Some(Held { owner, count: 1 }));
+                Reply::Got(true)
+            }
+        }
+    }
+
+    /// What [`unset`](LockBook::unset) does once its tests are made: nobody holds the simple lock,
+    /// which has to be there, from now on.
+    pub fn release_lock(&mut self, number: u32) -> Reply
+        requires there { IsSome (lock_at Simple number self.old) }
+        ensures answer { result ≡ Finished }
+        ensures book { self.new ≡ after_unset number result self.old }
+    {
+        self.hold_lock(LockKind::Simple, number, None);
+        Reply::Finished
     }
 }

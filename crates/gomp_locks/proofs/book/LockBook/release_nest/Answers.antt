@@ -1,5 +1,5 @@
 use Rattle.gomp_locks.specs.Counts.{IsHeldOnce}
-use Rattle.gomp_locks.proofs.book.LockBook.unset_nest.Goals as goal
+use Rattle.gomp_locks.proofs.book.LockBook.release_nest.Goals as goal
 
 pub overflow_sub-held : goal.overflow_sub-held
 overflow_sub-held c =
