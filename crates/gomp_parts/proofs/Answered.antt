@@ -28,14 +28,14 @@ use Rattle.gomp_shares.specs.Singles.{words_put}
 use Rattle.gomp_shares.specs.OrderedParts.{BeginsPart}
 use Rattle.gomp_barrier.specs.Calls.{IsAside as BarriersAside, arrived_after}
 use Rattle.gomp_model.specs.Past.{Past}
-use Rattle.gomp_model.specs.Row.{Row, at_once, unless_repeated, begun_past, events_after}
+use Rattle.gomp_model.specs.Row.{Row, at_once, unless_repeated, begun_past, MayReply, given_after, events_after}
 use Rattle.gomp_model.specs.Starts.{start_row}
 use Rattle.gomp_model.specs.Arrivals.{Awaits, compared_arrival, arrival_row, ending}
 use Rattle.gomp_model.specs.Calls.{row_of}
 use Rattle.gomp_laws.proofs.Sound.{Gives, gives_of, IsLast}
 use Rattle.gomp_laws.proofs.CallsKeep.{step_keeps}
 use Rattle.gomp_laws.proofs.Calls.{row_is_sound}
-use Rattle.gomp_parts.specs.Answers.{in_place, IsReady, MayReply, SharesServe, given_after, left_once}
+use Rattle.gomp_parts.specs.Answers.{in_place, IsReady, SharesServe, left_once}
 
 -- By its own tests
 

@@ -8,13 +8,13 @@ use Rattle.gomp_types.specs.declared.event.Event.TheVariants.{Enter, End, Pass}
 use Rattle.gomp_types.specs.Limits.{standard}
 use Rattle.gomp_types.specs.Singles.{single_shape}
 use Rattle.gomp_model.specs.Past.{Terms, Past}
-use Rattle.gomp_model.specs.Row.{Row, plain_row}
+use Rattle.gomp_model.specs.Row.{Row, plain_row, given_after}
 use Rattle.gomp_model.specs.Loops.{loop_end_nowait_row}
 use Rattle.gomp_model.specs.Arrivals.{barrier_row}
 use Rattle.gomp_model.specs.Calls.{resume_row}
 use Rattle.gomp_model.specs.Team.{before_all}
 use Rattle.gomp_parts.specs.Payloads.{there}
-use Rattle.gomp_parts.specs.Answers.{ComesFirst, in_place, IsReady, given_after, left_once, broken_after}
+use Rattle.gomp_parts.specs.Answers.{ComesFirst, in_place, IsReady, left_once, broken_after}
 
 -- what two members are made with
 abbrev two_members : Terms

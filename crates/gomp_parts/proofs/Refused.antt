@@ -18,8 +18,7 @@ use Rattle.gomp_types.proofs.TestRows.{outcome_value}
 use Rattle.gomp_shares.specs.Calls.{MayOpenAs}
 use Rattle.gomp_shares.proofs.Admitted.{outcome_err}
 use Rattle.gomp_model.specs.Past.{Past}
-use Rattle.gomp_model.specs.Row.{Row, row_tests}
-use Rattle.gomp_laws.proofs.Layers.{by_layers}
+use Rattle.gomp_model.specs.Row.{Row, place_tests}
 use Rattle.gomp_parts.specs.Answers.{ComesFirst, ByPlace, StartsShare, Admits, in_place}
 
 -- tests in the order of their numbers
@@ -59,18 +58,18 @@ least_before n refusal ((true, one) ∷ tests) low high =
 least_before n refusal ((false, one) ∷ tests) low high = least_before n refusal tests low (and_right (nat_le n (number_of one)) (beginning n tests) high)
 
 pub comes_first : (row : Row) (limits : Limits) (seen : Seen) (found : Option Refusal) → found ≡ least (row.by_place limits seen) → up_to 34 (row.by_place limits seen) ≡ true →
-    ((m : ℕ) (p : Past) → beginning 34 (row.by_team m p ++ row.compared false m p) ≡ true) → ComesFirst row found
+    ((m : ℕ) (p : Past) → beginning 34 (row.compared false m p) ≡ true) → ComesFirst row found
 comes_first row limits seen None is low high = tt
-comes_first row limits seen (Some refusal) is low high = λ m p. least_before 34 refusal (row.by_team m p ++ row.compared false m p) (least_up 34 (row.by_place limits seen) refusal low (sym is)) (high m p)
+comes_first row limits seen (Some refusal) is low high = λ m p. least_before 34 refusal (row.compared false m p) (least_up 34 (row.by_place limits seen) refusal low (sym is)) (high m p)
 
 -- the member's place alone has refused
 pub by_place : (row : Row) (limits : Limits) (seen : Seen) (found : Option Refusal) → found ≡ least (row.by_place limits seen) → up_to 34 (row.by_place limits seen) ≡ true →
-    ((m : ℕ) (p : Past) → beginning 34 (row.by_team m p ++ row.compared false m p) ≡ true) → ((m : ℕ) (p : Past) → least (row.by_team m p) ≡ None) → ByPlace row limits seen found
-by_place row limits seen found is low high none = record { place = is; first = comes_first row limits seen found is low high; team = none }
+    ((m : ℕ) (p : Past) → beginning 34 (row.compared false m p) ≡ true) → ByPlace row limits seen found
+by_place row limits seen found is low high = record { place = is; first = comes_first row limits seen found is low high }
 
 -- a call with no such test
-no_place : (row : Row) (limits : Limits) (seen : Seen) → None ≡ least (row.by_place limits seen) → ((m : ℕ) (p : Past) → least (row.by_team m p) ≡ None) → ByPlace row limits seen None
-no_place row limits seen is none = record { place = is; first = tt; team = none }
+no_place : (row : Row) (limits : Limits) (seen : Seen) → None ≡ least (row.by_place limits seen) → ByPlace row limits seen None
+no_place row limits seen is = record { place = is; first = tt }
 
 -- a call that is repeated is in its place only if its member stays there
 pub stays_there : (stays : Bool) → in_place stays true ≡ true → stays ≡ true
@@ -83,27 +82,23 @@ place_by_same_limits : (row : Row) (m : ℕ) (p : Past) (limits : Limits) → p.
 place_by_same_limits row m p limits is = ap (λ (l : Limits). least (row.by_place l (seen_of m p.events))) (sym is)
 
 pub refused_there : (row : Row) (m : ℕ) (p : Past) (limits : Limits) (seen : Seen) (found : Option Refusal) (refusal : Refusal) → p.terms.limits ≡ limits → seen ≡ seen_of m p.events → found ≡ least (row.by_place limits seen) →
-    ComesFirst row found → found ≡ Some refusal → Some refusal ≡ least (row_tests false row m p)
+    ComesFirst row found → found ≡ Some refusal → Some refusal ≡ least (place_tests false row m p)
 refused_there row m p limits seen found refusal bounds at is first some =
     let here : least (row.by_place p.terms.limits (seen_of m p.events)) ≡ Some refusal = sym (place_by_same_limits row m p limits bounds) ∙ ap (λ (s : Seen). least (row.by_place limits s)) (sym at) ∙ sym is ∙ some in
     let rest : ComesFirst row (Some refusal) = rw some at first in
-    sym (least_append (row.by_place p.terms.limits (seen_of m p.events)) (row.by_team m p ++ row.compared false m p)
-    ∙ ap (λ (x : Option Refusal). lesser x (least (row.by_team m p ++ row.compared false m p))) here ∙ rest m p)
+    sym (least_append (row.by_place p.terms.limits (seen_of m p.events)) (row.compared false m p) ∙ ap (λ (x : Option Refusal). lesser x (least (row.compared false m p))) here ∙ rest m p)
 
 pub compared_then : (row : Row) (m : ℕ) (p : Past) (limits : Limits) (seen : Seen) (found other : Option Refusal) → p.terms.limits ≡ limits → seen ≡ seen_of m p.events → found ≡ least (row.by_place limits seen) → found ≡ None →
-    least (row.by_team m p) ≡ None → other ≡ least (row.compared false m p) → other ≡ least (row_tests false row m p)
-compared_then row m p limits seen found other bounds at is none team same =
+    other ≡ least (row.compared false m p) → other ≡ least (place_tests false row m p)
+compared_then row m p limits seen found other bounds at is none same =
     let here : least (row.by_place p.terms.limits (seen_of m p.events)) ≡ None = sym (place_by_same_limits row m p limits bounds) ∙ ap (λ (s : Seen). least (row.by_place limits s)) (sym at) ∙ sym is ∙ none in
-    same ∙ sym (by_layers row m p ∙ both_none (least (row.by_place p.terms.limits (seen_of m p.events))) (least (row.by_team m p)) (least (row.compared false m p)) here team)
-  where
-    both_none : (place team compared : Option Refusal) → place ≡ None → team ≡ None → lesser place (lesser team compared) ≡ compared
-    both_none place team compared one two = rw (one, two) refl
+    same ∙ sym (least_append (row.by_place p.terms.limits (seen_of m p.events)) (row.compared false m p) ∙ ap (λ (x : Option Refusal). lesser x (least (row.compared false m p))) here)
 
 -- what the comparison answers is the call's answer: if it is repeated no other test is made, and else its place has let it
 pub compared_last : (repeated : Bool) (row : Row) (m : ℕ) (p : Past) (limits : Limits) (seen : Seen) (found other : Option Refusal) → p.terms.limits ≡ limits → seen ≡ seen_of m p.events → ByPlace row limits seen found →
-    (repeated ≡ false → found ≡ None) → other ≡ least (row.compared repeated m p) → other ≡ least (row_tests repeated row m p)
+    (repeated ≡ false → found ≡ None) → other ≡ least (row.compared repeated m p) → other ≡ least (place_tests repeated row m p)
 compared_last true row m p limits seen found other bounds at place fine same = same
-compared_last false row m p limits seen found other bounds at place fine same = compared_then row m p limits seen found other bounds at place.place (fine refl) (place.team m p) same
+compared_last false row m p limits seen found other bounds at place fine same = compared_then row m p limits seen found other bounds at place.place (fine refl) same
 
 -- What the member's place makes of a call
 
@@ -119,11 +114,11 @@ started_here row seen tests own (Err refusal) starts is may = tt
 -- of a start: the refusal of its tests, or its shape
 pub admits_start : (row : Row) (limits : Limits) (seen : Seen) (tests : List Test) (own : Shape) (shape : Result Shape Refusal) (found : Result (Option Shape) Refusal) → row.stays ≡ true → row.starts ≡ Some own → row.by_place limits seen ≡ tests →
     shape ≡ outcome (first_refusal tests) own → IfOk shape (MayOpenAs seen) → found ≡ result_map_both (λ s. Some s) (λ refusal. refusal) shape → from 0 tests ≡ true → up_to 34 (row.by_place limits seen) ≡ true →
-    ((m : ℕ) (p : Past) → beginning 34 (row.by_team m p ++ row.compared false m p) ≡ true) → ((m : ℕ) (p : Past) → least (row.by_team m p) ≡ None) → Admits row limits seen found
-admits_start row limits seen tests own shape found stays starts are is may told rising low high none =
+    ((m : ℕ) (p : Past) → beginning 34 (row.compared false m p) ≡ true) → Admits row limits seen found
+admits_start row limits seen tests own shape found stays starts are is may told rising low high =
     let err : result_err found ≡ least (row.by_place limits seen) =
     ap result_err told ∙ err_kept shape ∙ ap result_err is ∙ outcome_err (first_refusal tests) own ∙ first_is_least 0 tests rising ∙ ap least (sym are) in
-    record { place = by_place row limits seen (result_err found) err low high none; starts = rw told (started_here row seen tests own shape starts is may); leaving = λ goes. absurd (let both = sym stays ∙ goes in cc) }
+    record { place = by_place row limits seen (result_err found) err low high; starts = rw told (started_here row seen tests own shape starts is may); leaving = λ goes. absurd (let both = sym stays ∙ goes in cc) }
 
 none_here : (row : Row) (seen : Seen) (refusal : Option Refusal) → row.starts ≡ None → IfOk (outcome refusal None) (StartsShare row seen)
 none_here row seen None starts = (sym starts, tt)
@@ -131,14 +126,14 @@ none_here row seen (Some refusal) starts = tt
 
 -- of another call: the refusal of its tests, and no share
 pub admits_none : (row : Row) (limits : Limits) (seen : Seen) (refusal : Option Refusal) (found : Result (Option Shape) Refusal) → found ≡ outcome refusal None → refusal ≡ least (row.by_place limits seen) → row.starts ≡ None →
-    up_to 34 (row.by_place limits seen) ≡ true → ((m : ℕ) (p : Past) → beginning 34 (row.by_team m p ++ row.compared false m p) ≡ true) → ((m : ℕ) (p : Past) → least (row.by_team m p) ≡ None) → Admits row limits seen found
-admits_none row limits seen refusal found told is starts low high none =
+    up_to 34 (row.by_place limits seen) ≡ true → ((m : ℕ) (p : Past) → beginning 34 (row.compared false m p) ≡ true) → Admits row limits seen found
+admits_none row limits seen refusal found told is starts low high =
     let err : result_err found ≡ least (row.by_place limits seen) = ap result_err told ∙ outcome_err refusal None ∙ is in
-    record { place = by_place row limits seen (result_err found) err low high none; starts = rw told (none_here row seen refusal starts); leaving = λ goes. starts }
+    record { place = by_place row limits seen (result_err found) err low high; starts = rw told (none_here row seen refusal starts); leaving = λ goes. starts }
 
 -- of one with no such test
-pub admits_at_once : (row : Row) (limits : Limits) (seen : Seen) → None ≡ least (row.by_place limits seen) → row.starts ≡ None → ((m : ℕ) (p : Past) → least (row.by_team m p) ≡ None) → Admits row limits seen (Ok None)
-admits_at_once row limits seen is starts none = record { place = no_place row limits seen is none; starts = (sym starts, tt); leaving = λ goes. starts }
+pub admits_at_once : (row : Row) (limits : Limits) (seen : Seen) → None ≡ least (row.by_place limits seen) → row.starts ≡ None → Admits row limits seen (Ok None)
+admits_at_once row limits seen is starts = record { place = no_place row limits seen is; starts = (sym starts, tt); leaving = λ goes. starts }
 
 -- the share that a start has found is its own
 pub start_has_its_share : (starts : Option Shape) (shape own : Shape) → starts ≡ Some shape → starts ≡ Some own → own ≡ shape

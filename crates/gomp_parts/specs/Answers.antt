@@ -15,7 +15,7 @@ use Rattle.gomp_types.specs.Seen.{seen_of}
 use Rattle.gomp_shares.specs.Calls.{MayOpenAs}
 use Rattle.gomp_shares.specs.Starts.{leaves}
 use Rattle.gomp_model.specs.Past.{Past}
-use Rattle.gomp_model.specs.Row.{Row, unless_repeated, begun_past}
+use Rattle.gomp_model.specs.Row.{Row, unless_repeated, MayReply, given_after}
 use Rattle.gomp_model.specs.Arrivals.{arrival_row, ending}
 use Rattle.gomp_types.specs.declared.event.Arrival.TheVariants.{ShareEnd}
 use Rattle.gomp_barrier.specs.Stands.{BarriersView, Stands as BarriersStand}
@@ -24,16 +24,15 @@ use Rattle.gomp_parts.specs.Payloads.{PayloadsStand}
 
 -- Tests
 
--- no later test of the call has a lesser number than this refusal by the member's place, if it is one
+-- no comparison of the call has a lesser number than this refusal by the member's place, if it is one
 abbrev pub ComesFirst : Row → Option Refusal → Type 0
 ComesFirst row found =
-    IfSome found (λ refusal. (m : ℕ) (p : Past) → lesser (Some refusal) (least (row.by_team m p ++ row.compared false m p)) ≡ Some refusal)
+    IfSome found (λ refusal. (m : ℕ) (p : Past) → lesser (Some refusal) (least (row.compared false m p)) ≡ Some refusal)
 
--- a call's refusal by its member's place: the least of these tests, before which no other test of the call comes; and none that the team decides holds
+-- a call's refusal by its member's place: the least of these tests, before which no comparison comes
 pub record ByPlace (row : Row) (limits : Limits) (seen : Seen) (found : Option Refusal) : Type 0 where
   pub place : found ≡ least (row.by_place limits seen)
   pub first : ComesFirst row found
-  pub team : (m : ℕ) (p : Past) → least (row.by_team m p) ≡ None
 
 -- the share that a call with this row starts, if it starts one, is one that its member may open
 abbrev pub StartsShare : Row → Seen → Option Shape → Type 0
@@ -53,7 +52,7 @@ in_place false repeated = not repeated
 
 -- Answers
 
--- none of the tests of a call with this row holds, in a past of a team of so many members; one that is repeated is one that may wait
+-- none of the tests of a call with this row by its place or by comparison holds, in a past of a team of so many members; one that is repeated is one that may wait
 pub record IsReady (row : Row) (members : ℕ) (repeated : Bool) (m : ℕ) (p : Past) : Type 0 where
   pub members_are : p.terms.members ≡ members
   pub place : in_place row.stays repeated ≡ true → least (row.by_place p.terms.limits (seen_of m p.events)) ≡ None
@@ -63,14 +62,6 @@ pub record IsReady (row : Row) (members : ℕ) (repeated : Bool) (m : ℕ) (p : 
 -- no test that the place of a member which sees this decides holds, by some limits
 abbrev pub IsPlaced : Row → Seen → Type 0
 IsPlaced row seen = (limits : Limits) × (least (row.by_place limits seen) ≡ None)
-
--- what a reply that is no refusal may be
-abbrev pub MayReply : Row → Bool → ℕ → Past → Reply → Type 0
-MayReply row repeated m p reply = row.may_reply m (begun_past repeated row m p) reply
-
--- the events after the call and such a reply
-abbrev pub given_after : Row → Bool → ℕ → Past → Reply → List Event
-given_after row repeated m p reply = row.gives m (begun_past repeated row m p) reply ++ (begun_past repeated row m p).events
 
 -- the row of a loop's end with a barrier, and of that of sections, but for their tests
 abbrev pub end_of_a_share : Row

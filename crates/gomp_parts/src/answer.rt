@@ -1,6 +1,6 @@
 //! What a member is answered if no test of its call holds.
 
-ghost use Rattle.std.specs.Prelude.{◌≡◌, ◌<◌, ◌++◌, true, None};
+ghost use Rattle.std.specs.Prelude.{◌≡◌, ◌<◌, ◌++◌, false, true, None};
 ghost use Rattle.gomp_types.specs.declared.call.Call.TheVariants.{Stop};
 ghost use Rattle.gomp_types.specs.declared.reply.Reply.TheVariants.{Wait, Stopped};
 ghost use Rattle.gomp_types.specs.Least.{least};
@@ -8,7 +8,8 @@ ghost use Rattle.gomp_shares.specs.Calls.{EachStands};
 ghost use Rattle.gomp_shares.specs.Singles.{put_tests, words_put};
 ghost use Rattle.gomp_barrier.specs.Stands.{members_of as barrier_members};
 ghost use Rattle.gomp_model.specs.Calls.{row_of};
-ghost use Rattle.gomp_parts.specs.Answers.{ArePartsKept, StartsShare, StandAfter, WordsStand, SomeReady, EachReady, MayReply};
+ghost use Rattle.gomp_model.specs.Row.{MayReply};
+ghost use Rattle.gomp_parts.specs.Answers.{ArePartsKept, StartsShare, StandAfter, WordsStand, SomeReady, EachReady};
 
 use crate::arrivals::{arrival_reply, end_reply};
 use crate::payloads::Payloads;
@@ -18,7 +19,7 @@ use gomp_shares::Shares;
 use gomp_types::{Arrival, Call, Payload, Reply, Shape};
 
 /// Answers a call, which starts a share of this shape if it starts one (`starts`), or goes on with
-/// one that waits (`repeated`).
+/// one that waits (`repeated`). The book of names and locks answers the calls on these.
 ///
 /// No test of the call holds. If a call that waits is asked about again and waits on, nothing
 /// changes.
@@ -32,6 +33,7 @@ pub fn answer<S: Shares>(
     repeated: bool,
 ) -> Reply
     requires member { member < S.members shares.old }
+    requires aside { (row_of call.now).asks_book ≡ false }
     requires starts { StartsShare (row_of call.now) (S.seen shares.old member) starts.now }
     requires team { barrier_members barriers.old ≡ S.members shares.old }
     requires ready { SomeReady S.stands S.members shares.old barriers.old payloads.old
@@ -69,6 +71,17 @@ pub fn answer<S: Shares>(
         | Call::OrderedEnd
         | Call::Stop => { share_reply(shares, payloads, member, call, starts) },
         Call::Resume => unreachable!(),
+        Call::CriticalStart(_)
+        | Call::CriticalEnd(_)
+        | Call::LockInit
+        | Call::NestInit
+        | Call::LockDestroy(_)
+        | Call::Set(_)
+        | Call::Test(_)
+        | Call::Unset(_)
+        | Call::SetNest(_)
+        | Call::TestNest(_)
+        | Call::UnsetNest(_) => unreachable!(),
     }
 }
 

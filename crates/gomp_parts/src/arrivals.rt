@@ -13,7 +13,8 @@ ghost use Rattle.gomp_types.specs.Least.{least};
 ghost use Rattle.gomp_shares.specs.Calls.{CanLeave, EachStands};
 ghost use Rattle.gomp_barrier.specs.Stands.{Stands as BarriersStand, members_of as barrier_members};
 ghost use Rattle.gomp_model.specs.Arrivals.{Awaits, passes, compared_arrival, arrival_row};
-ghost use Rattle.gomp_parts.specs.Answers.{BothStand, EachPast, MayReply, end_of_a_share, given_after, left_once};
+ghost use Rattle.gomp_model.specs.Row.{MayReply, given_after};
+ghost use Rattle.gomp_parts.specs.Answers.{BothStand, EachPast, end_of_a_share, left_once};
 
 use gomp_barrier::Barriers;
 use gomp_shares::Shares;

@@ -13,7 +13,7 @@ ghost use Rattle.gomp_shares.specs.OrderedParts.{part_tests, part_end_tests};
 ghost use Rattle.gomp_ordered.specs.Iterations.{HasShape};
 ghost use Rattle.gomp_barrier.specs.Stands.{members_of as barrier_members};
 ghost use Rattle.gomp_model.specs.Past.{Past};
-ghost use Rattle.gomp_model.specs.Row.{row_tests};
+ghost use Rattle.gomp_model.specs.Row.{place_tests};
 ghost use Rattle.gomp_model.specs.Arrivals.{outside_tests, compared_arrival};
 ghost use Rattle.gomp_model.specs.Calls.{row_of};
 ghost use Rattle.gomp_parts.specs.Answers.{BothStand, StartsShare, Admits};
@@ -49,7 +49,7 @@ pub fn unless_refused(
 /// The shape of the share that the call starts, if it starts one, unless one of its own tests
 /// refuses it: those on the member's place among the shares, and the comparison with other members'
 /// calls. A call that is repeated (`repeated`) is only compared: its place was tested when it was
-/// made.
+/// made. What names and locks refuse is none of this.
 pub fn admit_call<S: Shares>(
     shares: &mut S,
     barriers: &Barriers,
@@ -65,7 +65,7 @@ pub fn admit_call<S: Shares>(
     ensures kept { shares.new ≡ shares.old }
     ensures least { (p : Past) → p.terms.limits ≡ limits.now →
         BothStand S.stands shares.old barriers.now p.events →
-        result_err result ≡ least (row_tests repeated (row_of call.now) member p) }
+        result_err result ≡ least (place_tests repeated (row_of call.now) member p) }
     ensures starts { IfOk result (StartsShare (row_of call.now) (S.seen shares.old member)) }
 {
     let starts = match admit_place(shares, limits, member, call) {
@@ -118,6 +118,17 @@ fn admit_place<S: Shares>(
         Call::OrderedEnd => none_started(part_end_refusal(&seen)),
         Call::Barrier | Call::RegionEnd => none_started(barrier_refusal(&seen)),
         Call::Stop | Call::Resume => Ok(None),
+        Call::CriticalStart(_)
+        | Call::CriticalEnd(_)
+        | Call::LockInit
+        | Call::NestInit
+        | Call::LockDestroy(_)
+        | Call::Set(_)
+        | Call::Test(_)
+        | Call::Unset(_)
+        | Call::SetNest(_)
+        | Call::TestNest(_)
+        | Call::UnsetNest(_) => Ok(None),
     }
 }
 
@@ -212,6 +223,17 @@ fn compared_refusal<S: Shares>(
         | Call::OrderedStart(_)
         | Call::OrderedEnd
         | Call::Stop => None,
+        Call::CriticalStart(_)
+        | Call::CriticalEnd(_)
+        | Call::LockInit
+        | Call::NestInit
+        | Call::LockDestroy(_)
+        | Call::Set(_)
+        | Call::Test(_)
+        | Call::Unset(_)
+        | Call::SetNest(_)
+        | Call::TestNest(_)
+        | Call::UnsetNest(_) => None,
     }
 }
 

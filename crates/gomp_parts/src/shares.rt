@@ -32,6 +32,7 @@ pub fn share_reply<S: Shares>(
 ) -> Reply
     requires member { member < S.members shares.old }
     requires meant { call.now ≡ Resume → ⊥ }
+    requires aside { (row_of call.now).asks_book ≡ false }
     requires aloof { (row_of call.now).arrives ≡ None }
     requires silent { (row_of call.now).puts ≡ false }
     requires starts { StartsShare (row_of call.now) (S.seen shares.old member) starts.now }
@@ -68,6 +69,17 @@ pub fn share_reply<S: Shares>(
         | Call::Barrier
         | Call::RegionEnd
         | Call::Resume => unreachable!(),
+        Call::CriticalStart(_)
+        | Call::CriticalEnd(_)
+        | Call::LockInit
+        | Call::NestInit
+        | Call::LockDestroy(_)
+        | Call::Set(_)
+        | Call::Test(_)
+        | Call::Unset(_)
+        | Call::SetNest(_)
+        | Call::TestNest(_)
+        | Call::UnsetNest(_) => unreachable!(),
     }
 }
 
