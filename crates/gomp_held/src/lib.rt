@@ -11,7 +11,10 @@ ghost use Rattle.gomp_types.specs.declared.refusal.Refusal.TheVariants.{NoMemory
 ghost use Rattle.gomp_types.specs.declared.reply.Reply.TheVariants.{Wait, Stopped, Refused};
 ghost use Rattle.gomp_types.specs.declared.key.Key.TheVariants.{Critical};
 ghost use Rattle.gomp_types.specs.Least.{least};
+ghost use Rattle.gomp_types.specs.declared.event.Event.{Event};
 ghost use Rattle.gomp_locks.specs.Book.{name_at};
+ghost use Rattle.gomp_locks.specs.CriticalNames.{critical_tests};
+ghost use Rattle.gomp_locks.specs.Holders.{asker, holds_critical};
 ghost use Rattle.gomp_model.specs.Past.{Past};
 ghost use Rattle.gomp_model.specs.Row.{book_tests};
 ghost use Rattle.gomp_model.specs.Calls.{row_of};
@@ -46,12 +49,56 @@ pub fn held_refusal(book: &LockBook, member: u16, call: &Call, repeated: bool) -
     }
 }
 
+/// With what a call is refused that is refused even when it is repeated: with `NoLock` (E32) if its
+/// lock is not there.
+fn gone_refusal(book: &LockBook, call: &Call) -> Option<Refusal>
+    ensures { (m : ℕ) (p : Past) → BookStands book.now p →
+        result ≡ least ((row_of call.now).missing m p) }
+{
+    match call {
+        Call::Set(number) | Call::Test(number) | Call::Unset(number) => {
+            book.gone_refusal(LockKind::Simple, *number)
+        }
+        Call::SetNest(number) | Call::TestNest(number) | Call::UnsetNest(number) => {
+            book.gone_refusal(LockKind::Nest, *number)
+        }
+        Call::LockDestroy(number) => match book.any_lock_at(*number) {
+            None => Some(Refusal::NoLock),
+            Some(_) => None,
+        },
+        _ => None,
+    }
+}
+
+/// `HoldsCritical` (E11) if the owner holds a critical name.
+fn critical_refusal(book: &LockBook, owner: Owner) -> Option<Refusal>
+    ensures { (p : Past) → BookStands book.now p →
+        result ≡ least (critical_tests (holds_critical owner p.events)) }
+{
+    if book.holds_critical(owner) {
+        Some(Refusal::HoldsCritical)
+    } else {
+        None
+    }
+}
+
+/// The owner of what this member's calls hold: in its implicit task, and in team 0.
+fn owner_of(member: u16) -> Owner
+    ensures { (h : List Event) → result ≡ asker member h }
+{
+    Owner {
+        team: 0,
+        member,
+        task: 0,
+    }
+}
+
 /// Answers a call on names and locks that no test refuses, or goes on with one that waits
 /// (`repeated`). Only the first start of a name and the making of a lock take memory; a refused
 /// growth changes nothing.
 pub fn held_reply(book: &mut LockBook, member: u16, call: &Call, repeated: bool) -> Reply
     requires asks { (row_of call.now).asks_book ≡ true }
-    requires free { (p : Past) × BookStands book.old p × IsFree (row_of call.now) member p }
+    requires free { (p : Past) × BookStands book.old p × IsFree repeated (row_of call.now) member p }
     requires known { repeated ≡ true → IsKnown book.old (Some call.now) }
     ensures serves { ServesHeld book.old book.new (row_of call.now) repeated member result }
     ensures memory { result ≡ Refused NoMemory →
@@ -60,6 +107,7 @@ pub fn held_reply(book: &mut LockBook, member: u16, call: &Call, repeated: bool)
     ensures refusal { (refusal : Refusal) → result ≡ Refused refusal → refusal ≡ NoMemory }
     ensures stops { result ≢ Stopped }
     ensures kept { result ≡ Wait → book.new ≡ book.old }
+    ensures lacks { result ≡ Refused NoMemory → book.new ≡ book.old }
     ensures waits { result ≡ Wait → IsKnown book.new (Some call.now) }
     ensures names { (name : List ℕ) → IsSome (name_at name book.old) → IsSome (name_at name book.new) }
 {
