@@ -1,0 +1,2 @@
+pub mod HolderLemmas
+pub mod LockLemmas
