@@ -1,5 +1,5 @@
 -- What a written name or lock leaves of a book, as the past with one more event says it.
-use Rattle.std.proofs.Common.{◌≡◌, ◌≢◌, ◌≤◌, ◌<◌, ◌∙◌, ◌+◌, ◌==◌, ℕ, Bool, true, false, List, [], ◌∷◌, ◌++◌, Option, Some, None, suc, zero, refl, ap, sym, subst, length, arith, slice_get, inl, inr}
+use Rattle.std.proofs.Common.{◌≡◌, ◌∙◌, ◌+◌, ◌==◌, ℕ, true, false, List, [], ◌∷◌, ◌++◌, Option, Some, None, suc, zero, refl, ap, sym, length, arith, slice_get, inl, inr}
 use Rattle.std.specs.Prelude.{slice_set, bytes_eq, option_map, is_some, not, IsSome}
 use Rattle.std.specs.Option.{option_flatten}
 use Rattle.std.specs.Ordering.{nat_cmp, is_eq}
@@ -18,14 +18,14 @@ use Rattle.gomp_types.specs.declared.task.Task.{Task}
 use Rattle.gomp_types.specs.declared.event.Event.{Event}
 use Rattle.gomp_types.specs.declared.event.Event.TheVariants.{Hold, Free}
 use Rattle.gomp_types.specs.declared.key.Key.{Key}
-use Rattle.gomp_types.specs.declared.key.Key.TheVariants.{Critical, Lock as LockKey, NestLock}
+use Rattle.gomp_types.specs.declared.key.Key.TheVariants.{Critical}
 use Rattle.gomp_types.specs.declared.lock.Held.{Held}
 use Rattle.gomp_types.specs.declared.lock.LockKind.{LockKind}
 use Rattle.gomp_types.specs.declared.lock.LockKind.TheVariants.{Simple, Nest}
 use Rattle.gomp_types.proofs.Booleans.{is_equal, unequal_numbers}
 use Rattle.gomp_types.proofs.Lists.{slice_get-set_same, slice_get-set_other}
 use Rattle.gomp_locks.specs.declared.lock.Lock.{Lock}
-use Rattle.gomp_locks.specs.Book.{BookView, name_at, name_owner, with_name, with_lock, lock_at, any_lock_at, held_of_kind, held_of_any_kind}
+use Rattle.gomp_locks.specs.Book.{BookView, name_at, with_name, with_lock, lock_at, any_lock_at, held_of_kind, held_of_any_kind}
 use Rattle.gomp_locks.specs.Holders.{same_key, key_of, holder, holding_owner, held_if_kind, found_lock, held_of_either, found_any_lock}
 use Rattle.gomp_locks.proofs.OwnerLemmas.{one_name, same_name, another_name}
 use Rattle.gomp_model.specs.Past.{Past}

@@ -1,6 +1,6 @@
 -- The replies of a lock book are those that the rows of the calls on names and locks have.
-use Rattle.std.proofs.Common.{◌≡◌, ◌≢◌, ◌≤◌, ◌<◌, ◌∙◌, ◌+◌, ◌-◌, ◌==◌, ℕ, Bool, true, false, List, [], ◌∷◌, ◌++◌, Option, Some, None, refl, ap, sym, subst, length, arith, slice_get, inl, inr}
-use Rattle.std.specs.Prelude.{is_some, not, nat_le, nat_lt, ◌&&◌, IsSome, ◌⊎◌}
+use Rattle.std.proofs.Common.{◌≡◌, ◌<◌, ◌∙◌, ◌+◌, ◌-◌, ◌==◌, ℕ, Bool, true, false, List, [], ◌∷◌, ◌++◌, Option, Some, None, refl, ap, sym, subst, length, arith, slice_get, inl, inr}
+use Rattle.std.specs.Prelude.{is_some, not, nat_lt, ◌&&◌, IsSome, ◌⊎◌}
 use Rattle.std.specs.Option.{option_flatten}
 use Rattle.std.proofs.lemmas.Bool.{cases_Bool}
 use Rattle.std.proofs.lemmas.Bool.Decides.{nat_tests}
@@ -11,18 +11,17 @@ use Rattle.gomp_types.specs.declared.key.Key.TheVariants.{Critical, Lock as Lock
 use Rattle.gomp_types.specs.declared.lock.Held.{Held}
 use Rattle.gomp_types.specs.declared.lock.LockKind.{LockKind}
 use Rattle.gomp_types.specs.declared.lock.LockKind.TheVariants.{Simple, Nest}
-use Rattle.gomp_types.specs.declared.lock.TheConstants.{MAX_COUNT, MAX_LOCKS}
-use Rattle.gomp_types.specs.declared.refusal.Refusal.{Refusal}
+use Rattle.gomp_types.specs.declared.lock.TheConstants.{MAX_LOCKS}
 use Rattle.gomp_types.specs.declared.refusal.Refusal.TheVariants.{NoMemory}
 use Rattle.gomp_types.specs.declared.reply.Reply.{Reply}
-use Rattle.gomp_types.specs.declared.reply.Reply.TheVariants.{Finished, Wait, Lock as LockMade, Got, Count, Stopped, Refused}
+use Rattle.gomp_types.specs.declared.reply.Reply.TheVariants.{Finished, Wait, Lock as LockMade, Got, Count, Refused}
 use Rattle.gomp_types.specs.declared.task.Owner.{Owner}
 use Rattle.gomp_types.specs.declared.task.Task.TheVariants.{Implicit}
 use Rattle.gomp_types.specs.Laws.{Always}
 use Rattle.gomp_types.specs.Least.{least}
 use Rattle.gomp_types.specs.Owners.{same_owner}
 use Rattle.gomp_types.proofs.LeastTests.{AllFail, all_fail, fail_first, fail_later}
-use Rattle.gomp_locks.specs.Book.{BookView, AnswersOrLacks, name_at, name_owner, lock_at, any_lock_at, held_by, held_times, owned_by}
+use Rattle.gomp_locks.specs.Book.{BookView, AnswersOrLacks, name_at, name_owner, lock_at, held_by, held_times, owned_by}
 use Rattle.gomp_locks.specs.CriticalNames.{EntersCritical, after_critical_start, after_critical_end}
 use Rattle.gomp_locks.specs.Locks.{MakesLock, after_init, after_destroy, SetsLock, after_set, TestsLock, after_test, after_unset, count_for, held_by_another, SetsNest, after_set_nest, TestsNest, after_test_nest, UnsetsNest, after_unset_nest}
 use Rattle.gomp_locks.specs.Holders.{is_nestable, key_of, holder, holding_owner, held_once_more, held_once_less, held_if_kind, found_lock}
@@ -377,15 +376,17 @@ test_nest_serves : (number : ℕ) (repeated : Bool) (m count : ℕ) (book : Book
 test_nest_serves number repeated m count book may = λ p st is.
     let at = is_there Nest number p (missing_fails (test_nest_row number) repeated m p is.free).0 in
     let here = subst (λ (found : Option (Option Held)). TestsNest (own m) found (Count count)) (lock_is_found Nest number book p st) may in
-    let told = subst (λ (found : Option (Option Held)). TestsNest (own m) found (Count count)) (found_there Nest number p at) here in
-    (here, elim (cases_Bool (held_by_another (own m) (holder (NestLock number) p.events))) [
-      | inl other ↦ let none : count ≡ 0 = rw other at told in rw none st
-      | inr alone ↦
-          let more : count ≡ count_for (own m) (holder (NestLock number) p.events) + 1 = rw alone at told in
-          let some : (count == 0) ≡ false = grind (arith, nat_tests, more) in
-          let stands = nest_stands number count m book p st at alone more in
-          rw (some, counted_on count (count_for (own m) (holder (NestLock number) p.events)) more) (rw some at stands)
-    ])
+    let told = subst (λ (found : Option (Option Held)). TestsNest (own m) found (Count count)) (found_there Nest number p at) here in (
+      here,
+      elim (cases_Bool (held_by_another (own m) (holder (NestLock number) p.events))) [
+        | inl other ↦ let none : count ≡ 0 = rw other at told in rw none st
+        | inr alone ↦
+            let more : count ≡ count_for (own m) (holder (NestLock number) p.events) + 1 = rw alone at told in
+            let some : (count == 0) ≡ false = grind (arith, nat_tests, more) in
+            let stands = nest_stands number count m book p st at alone more in
+            rw (some, counted_on count (count_for (own m) (holder (NestLock number) p.events)) more) (rw some at stands)
+      ],
+    )
 
 test_nest_names : (number m count : ℕ) (book : BookView) (name : List ℕ) → IsSome (name_at name book) → IsSome (name_at name (after_test_nest (own m) number (Count count) book))
 test_nest_names number m count book name known = elim (cases_Bool (count == 0)) [ inl e ↦ rw e known | inr e ↦ rw e known ]
@@ -406,9 +407,11 @@ unset_nest_serves : (number : ℕ) (repeated : Bool) (m count : ℕ) (book : Boo
 unset_nest_serves number repeated m count book may = λ p st is.
     let at = is_there Nest number p (missing_fails (unset_nest_row number) repeated m p is.free).0 in
     let here = subst (λ (found : Option (Option Held)). UnsetsNest (own m) found (Count count)) (lock_is_found Nest number book p st) may in
-    let told = subst (λ (found : Option (Option Held)). UnsetsNest (own m) found (Count count)) (found_there Nest number p at) here in
-    (here, lock_written Nest number (held_times (own m) count) book p (Free (NestLock number) m (Implicit m) ∷ p.events) st at
-        (rw (key_of_itself Nest number) (nest_less (own m) count (holder (NestLock number) p.events) told)) (free_changes (NestLock number) m (Implicit m) p.events))
+    let told = subst (λ (found : Option (Option Held)). UnsetsNest (own m) found (Count count)) (found_there Nest number p at) here in (
+      here,
+      lock_written Nest number (held_times (own m) count) book p (Free (NestLock number) m (Implicit m) ∷ p.events) st at
+          (rw (key_of_itself Nest number) (nest_less (own m) count (holder (NestLock number) p.events) told)) (free_changes (NestLock number) m (Implicit m) p.events),
+    )
 
 pub served_by_unset_nest : (number : ℕ) (repeated : Bool) (m : ℕ) (book : BookView) (reply : Reply) → UnsetsNest (own m) (lock_at Nest number book) reply → HeldReply book (after_unset_nest (own m) number reply book) (unset_nest_row number) repeated m reply
 served_by_unset_nest number repeated m book reply may =
