@@ -21,7 +21,8 @@ struct meaning {
 static const struct meaning limits[] = {
     {14, "a loop has more than 2^39 iterations"},
     {15, "a construct has more than 65,536 sections"},
-    {27, "the team holds more names than there is room for"},
+    {29, "the name of a critical region has more than 32 bytes"},
+    {33, "a nestable lock is set 65,535 times, or 4,294,967,295 locks were made"},
     {34, "a member may start 131,064 work-shares in one parallel region"},
     {36, "the room for stored events is used up"},
     {37, "memory was refused"},
@@ -34,6 +35,7 @@ static const struct meaning faults[] = {
     {8, "the member is in a work-share, in which this may not be met"},
     {9, "the member is in no work-share of this kind"},
     {10, "the member is in an ordered part"},
+    {11, "the member is in a critical region, in which this may not be met"},
     {12, "the loop's step is 0"},
     {13, "the chunk is negative, or above 2^39"},
     {17, "the construct ends otherwise than it began"},
@@ -42,6 +44,9 @@ static const struct meaning faults[] = {
     {20, "the loop has no ordered clause"},
     {21, "an ordered part comes twice in an iteration, or not in the order of the iterations"},
     {22, "no such part is open"},
+    {30, "the thread holds it already, or a lock that is to be destroyed is set"},
+    {31, "the thread does not hold it"},
+    {32, "there is no such lock: it was never initialized, or it was destroyed"},
     {35, "the members of the team did not meet the same constructs in the same order"},
     {0, NULL},
 };
@@ -67,6 +72,24 @@ static void add_way(const struct member *member, struct text *text)
     add_count(member->barriers, "barrier", text);
 }
 
+// The critical names and locks that a member holds.
+static void add_holds(const struct member *member, struct text *text)
+{
+    int noted = member->holds < HOLDS_NOTED ? member->holds : HOLDS_NOTED;
+    for (int i = 0; i < noted; i++) {
+        const struct call *call = &member->held[i];
+        if (call->kind == CALL_NONE)
+            continue;
+        if (call->kind == CALL_CRITICAL) {
+            text_add(text, ", inside of ");
+            call_words(call, call, text);
+        } else {
+            text_add(text, ", holding lock %u", call->lock.number);
+        }
+        place_add(call->address, text);
+    }
+}
+
 // What a member did last. The members of a group have done the same.
 static void add_deed(const struct member *member, bool is_group, struct text *text)
 {
@@ -78,6 +101,7 @@ static void add_deed(const struct member *member, bool is_group, struct text *te
     call_words(&member->last, &member->share, text);
     place_add(member->last.address, text);
     add_way(member, text);
+    add_holds(member, text);
 }
 
 static bool is_same_deed(const struct member *one, const struct member *other)
@@ -150,6 +174,7 @@ static void add_refused_call(const struct team *team, int number, const struct c
         call_words(&member->share, &member->share, text);
         place_add(member->share.address, text);
     }
+    add_holds(member, text);
     text_add(text, "\n");
 }
 
