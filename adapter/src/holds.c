@@ -24,8 +24,8 @@ struct reply hold_call(struct context *context, struct call call, _Atomic(struct
     if (!context_is_outermost(context))
         end_call_not_served(&call, " in a parallel region inside of another one, or of a work-share,");
     if (owner != NULL && !atomic_compare_exchange_strong(owner, &first, context->team) && first != context->team)
-        end_call_not_served(&call, ", on a name or lock that another thread of the program's own, or its parent "
-                                   "before a fork, has used outside of this team,");
+        end_call_not_served(&call, ", which two threads of the program's own use, each in teams of its own, or "
+                                   "which was made before a fork,");
     return context_call(context, call);
 }
 

@@ -64,14 +64,27 @@ static unsigned long call_on(struct context *context, enum call_kind call, const
     return hold_call(context, (struct call){.kind = call, .lock = name}, found != NULL ? &found->team : NULL).count;
 }
 
+// The locks end with the engines, at the program's end; a library's own end may come later.
+static void destroy(void *address, enum call_kind call, const void *lock, enum kind kind)
+{
+    if (!has_ended())
+        call_on(context_enter(address), call, lock, kind);
+}
+
 EXPORT void omp_init_lock(omp_lock_t *lock) { make(ENTER(), lock, SIMPLE); }
-EXPORT void omp_destroy_lock(omp_lock_t *lock) { call_on(ENTER(), CALL_LOCK_DESTROY, lock, SIMPLE); }
+EXPORT void omp_destroy_lock(omp_lock_t *lock)
+{
+    destroy(__builtin_return_address(0), CALL_LOCK_DESTROY, lock, SIMPLE);
+}
 EXPORT void omp_set_lock(omp_lock_t *lock) { call_on(ENTER(), CALL_SET, lock, SIMPLE); }
 EXPORT void omp_unset_lock(omp_lock_t *lock) { call_on(ENTER(), CALL_UNSET, lock, SIMPLE); }
 EXPORT int omp_test_lock(omp_lock_t *lock) { return (int)call_on(ENTER(), CALL_TEST, lock, SIMPLE); }
 
 EXPORT void omp_init_nest_lock(omp_nest_lock_t *lock) { make(ENTER(), lock, NEST); }
-EXPORT void omp_destroy_nest_lock(omp_nest_lock_t *lock) { call_on(ENTER(), CALL_NEST_DESTROY, lock, NEST); }
+EXPORT void omp_destroy_nest_lock(omp_nest_lock_t *lock)
+{
+    destroy(__builtin_return_address(0), CALL_NEST_DESTROY, lock, NEST);
+}
 EXPORT void omp_set_nest_lock(omp_nest_lock_t *lock) { call_on(ENTER(), CALL_SET_NEST, lock, NEST); }
 EXPORT void omp_unset_nest_lock(omp_nest_lock_t *lock) { call_on(ENTER(), CALL_UNSET_NEST, lock, NEST); }
 EXPORT int omp_test_nest_lock(omp_nest_lock_t *lock) { return (int)call_on(ENTER(), CALL_TEST_NEST, lock, NEST); }

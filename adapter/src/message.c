@@ -83,6 +83,9 @@ _Noreturn void end_not_served(const char *name)
     end_with(STATUS_NOT_SERVED, &text);
 }
 
+// Whether the program has come to its end: its libraries may still end what they have.
+bool has_ended(void) { return end_is_mine; }
+
 // At exit(): the engines end, and the first one's notes come before the program's end.
 __attribute__((destructor)) static void end_normally(void)
 {

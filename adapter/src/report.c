@@ -44,8 +44,7 @@ static const struct meaning faults[] = {
     {20, "the loop has no ordered clause"},
     {21, "an ordered part comes twice in an iteration, or not in the order of the iterations"},
     {22, "no such part is open"},
-    {30, "the thread holds it already, or a lock that is to be destroyed is set"},
-    {31, "the thread does not hold it"},
+    {31, "the thread does not hold this lock"},
     {32, "there is no such lock: it was never initialized, or it was destroyed"},
     {35, "the members of the team did not meet the same constructs in the same order"},
     {0, NULL},
@@ -56,6 +55,17 @@ static const char *meaning_of(const struct meaning *meanings, int number)
     while (meanings->number != 0 && meanings->number != number)
         meanings++;
     return meanings->text;
+}
+
+// What a refusal says of a call on a name or lock that is held.
+static const char *meaning_of_held(const struct call *call)
+{
+    switch (call->kind) {
+    case CALL_CRITICAL: return "the thread is in a critical region of this name already";
+    case CALL_LOCK_DESTROY:
+    case CALL_NEST_DESTROY: return "a lock may not be destroyed while it is set";
+    default: return "the thread holds this lock already";
+    }
 }
 
 static void add_count(unsigned long count, const char *noun, struct text *text)
@@ -185,7 +195,8 @@ _Noreturn void report_refusal(struct team *team, int number, const struct call *
     char name[LINE_SIZE];
     snprintf(name, sizeof name, "%s", refusal + strlen("refused "));
     int refused = atoi(name + 1);
-    const char *limit = meaning_of(limits, refused), *fault = meaning_of(faults, refused);
+    const char *limit = meaning_of(limits, refused);
+    const char *fault = refused == 30 ? meaning_of_held(call) : meaning_of(faults, refused);
     claim_end();
     if (limit != NULL)
         text_add(&text, "dillbeam: %s: a limit of Dillbeam, not a fault of the program: %s\n", name, limit);
