@@ -128,10 +128,14 @@ static void critical_words(const struct call *call, struct text *text)
 static void lock_words(const struct call *call, struct text *text)
 {
     static const char *const routines[] = {
-        [CALL_LOCK_DESTROY] = "omp_destroy_lock", [CALL_NEST_DESTROY] = "omp_destroy_nest_lock",
-        [CALL_SET] = "omp_set_lock",              [CALL_SET_NEST] = "omp_set_nest_lock",
-        [CALL_TEST] = "omp_test_lock",            [CALL_TEST_NEST] = "omp_test_nest_lock",
-        [CALL_UNSET] = "omp_unset_lock",          [CALL_UNSET_NEST] = "omp_unset_nest_lock",
+        [CALL_LOCK_DESTROY] = "omp_destroy_lock",
+        [CALL_NEST_DESTROY] = "omp_destroy_nest_lock",
+        [CALL_SET] = "omp_set_lock",
+        [CALL_SET_NEST] = "omp_set_nest_lock",
+        [CALL_TEST] = "omp_test_lock",
+        [CALL_TEST_NEST] = "omp_test_nest_lock",
+        [CALL_UNSET] = "omp_unset_lock",
+        [CALL_UNSET_NEST] = "omp_unset_nest_lock",
     };
     text_add(text, "%s", routines[call->kind]);
     if (call->lock.number == NO_LOCK) {
@@ -221,9 +225,14 @@ static struct reply read_reply(const char *line)
         enum reply_kind kind;
         unsigned long count;
     } plain[] = {
-        {"executor yes", REPLY_EXECUTOR, 1}, {"executor no", REPLY_EXECUTOR, 0}, {"none", REPLY_NONE, 0},
-        {"ok", REPLY_OK, 0},                 {"passed", REPLY_PASSED, 0},        {"wait", REPLY_WAIT, 0},
-        {"got yes", REPLY_GOT, 1},           {"got no", REPLY_GOT, 0},
+        {"executor yes", REPLY_EXECUTOR, 1},
+        {"executor no", REPLY_EXECUTOR, 0},
+        {"none", REPLY_NONE, 0},
+        {"ok", REPLY_OK, 0},
+        {"passed", REPLY_PASSED, 0},
+        {"wait", REPLY_WAIT, 0},
+        {"got yes", REPLY_GOT, 1},
+        {"got no", REPLY_GOT, 0},
     };
     static const struct {
         const char *word;

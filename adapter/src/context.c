@@ -18,6 +18,7 @@ static __thread struct context *current;
 struct context *context_now(void)
 {
     if (current == NULL) {
+        variables_read();
         alone = (struct context){.size = 1, .variables = initial_variables};
         current = &alone;
     }
@@ -41,9 +42,9 @@ void context_forget(void) { alone.team = NULL; }
 extern const char __ehdr_start[] __attribute__((visibility("hidden")));
 extern const char _end[] __attribute__((visibility("hidden")));
 
-// The context of the calling thread, which called the library from this address of the program. A call that is
-// the last thing that a region does may be a jump: it returns to the library, and the region's function stands
-// for its place.
+// The context of the calling thread, which called the library from this address of the program. A call that
+// is the last thing that a region does may be a jump: it returns to the library, and the region's function
+// stands for its place.
 struct context *context_at(void *address)
 {
     struct context *context = context_now();
@@ -80,8 +81,8 @@ struct context *context_enter(void *address)
     return context;
 }
 
-// Whether the team is one of those that a thread makes outside of all regions, one after another: they have one
-// engine, which the thread keeps, and its locks.
+// Whether the team is one of those that a thread makes outside of all regions, one after another: they have
+// one engine, which the thread keeps, and its locks.
 bool context_is_outermost(const struct context *context)
 {
     const struct context *outer = context->outer;

@@ -1,5 +1,5 @@
-// Critical names and locks. An engine keeps those of its teams, one after another; so a thread's outermost teams
-// share theirs, and no others. What would need one book for several teams ends the program by its name.
+// Critical names and locks. An engine keeps those of its teams, one after another; so a thread's outermost
+// teams share theirs, and no others. What would need one book for several teams ends the program by its name.
 #include "holds.h"
 
 #include "message.h"
@@ -15,22 +15,24 @@ static _Noreturn void end_call_not_served(const struct call *call, const char *w
     end_not_served(text.bytes);
 }
 
-// Makes a call on a name or a lock. `owner` is the team that has been the first to call on it; NULL if the lock is
-// not made yet, or was never initialized.
+// Makes a call on a name or a lock. `owner` is the team that has been the first to call on it; NULL if the
+// lock is not made yet, or was never initialized.
 struct reply hold_call(struct context *context, struct call call, _Atomic(struct team *) *owner)
 {
     struct team *first = NULL;
     call.address = context->address;
     if (!context_is_outermost(context))
         end_call_not_served(&call, " in a parallel region inside of another one, or of a work-share,");
-    if (owner != NULL && !atomic_compare_exchange_strong(owner, &first, context->team) && first != context->team)
-        end_call_not_served(&call, ", which two threads of the program's own use, each in teams of its own, or "
-                                   "which was made before a fork,");
+    if (owner != NULL && !atomic_compare_exchange_strong(owner, &first, context->team) &&
+        first != context->team)
+        end_call_not_served(&call,
+                            ", which two threads of the program's own use, each in teams of its own, or "
+                            "which was made before a fork,");
     return context_call(context, call);
 }
 
-// Ends the program if a thread begins a region while it holds a name or a lock: the region's team would stand in
-// the place of the one that holds it, or would not know of it.
+// Ends the program if a thread begins a region while it holds a name or a lock: the region's team would stand
+// in the place of the one that holds it, or would not know of it.
 void holds_end_region_begin(struct context *context)
 {
     static struct text text;

@@ -1,7 +1,7 @@
-// The lock routines (OpenMP API 5.2, section 18.9). A lock of the program's has the number of its entry here, which
-// has the engine's. The number is mixed with a tag, one for each kind: what a lock has that was never initialized,
-// a 0 above all, is most likely no number, and the engine refuses the call for it. A lock that was destroyed keeps
-// its number.
+// The lock routines (OpenMP API 5.2, section 18.9). A lock of the program's has the number of its entry here,
+// which has the engine's. The number is mixed with a tag, one for each kind: what a lock has that was never
+// initialized, a 0 above all, is most likely no number, and the engine refuses the call for it. A lock that
+// was destroyed keeps its number.
 #include "holds.h"
 #include "message.h"
 
@@ -53,7 +53,8 @@ static void make(struct context *context, void *lock, enum kind kind)
 {
     struct call call = {.kind = kind == SIMPLE ? CALL_LOCK_INIT : CALL_NEST_INIT};
     struct reply reply = hold_call(context, call, NULL);
-    uint32_t word = tags[kind] ^ add(context->team, (struct lock_name){(unsigned)reply.count, context->address});
+    uint32_t word =
+        tags[kind] ^ add(context->team, (struct lock_name){(unsigned)reply.count, context->address});
     memcpy(lock, &word, sizeof word);
 }
 
@@ -61,7 +62,8 @@ static unsigned long call_on(struct context *context, enum call_kind call, const
 {
     struct lock *found = find(lock, kind);
     struct lock_name name = found != NULL ? found->name : (struct lock_name){NO_LOCK, NULL};
-    return hold_call(context, (struct call){.kind = call, .lock = name}, found != NULL ? &found->team : NULL).count;
+    return hold_call(context, (struct call){.kind = call, .lock = name}, found != NULL ? &found->team : NULL)
+        .count;
 }
 
 // The locks end with the engines, at the program's end; a library's own end may come later.
@@ -87,7 +89,10 @@ EXPORT void omp_destroy_nest_lock(omp_nest_lock_t *lock)
 }
 EXPORT void omp_set_nest_lock(omp_nest_lock_t *lock) { call_on(ENTER(), CALL_SET_NEST, lock, NEST); }
 EXPORT void omp_unset_nest_lock(omp_nest_lock_t *lock) { call_on(ENTER(), CALL_UNSET_NEST, lock, NEST); }
-EXPORT int omp_test_nest_lock(omp_nest_lock_t *lock) { return (int)call_on(ENTER(), CALL_TEST_NEST, lock, NEST); }
+EXPORT int omp_test_nest_lock(omp_nest_lock_t *lock)
+{
+    return (int)call_on(ENTER(), CALL_TEST_NEST, lock, NEST);
+}
 
 // Hints change nothing.
 EXPORT void omp_init_lock_with_hint(omp_lock_t *lock, omp_sync_hint_t hint)

@@ -1,7 +1,7 @@
-// Parallel regions: the size of a team, its threads, and its begin and end. Each region has a team. One outside of
-// all others has the engine of its thread's outermost teams; a nested one has an engine of its own. A thread that encounters a region is its member 0 and keeps the
-// threads of the other members for its next region, each for the same member, so that threadprivate variables
-// stay.
+// Parallel regions: the size of a team, its threads, and its begin and end. Each region has a team. One
+// outside of all others has the engine of its thread's outermost teams; a nested one has an engine of its
+// own. A thread that encounters a region is its member 0 and keeps the threads of the other members for its
+// next region, each for the same member, so that threadprivate variables stay.
 #define _GNU_SOURCE
 #include "region.h"
 
@@ -180,8 +180,8 @@ static struct context member_context(const struct region *region, struct context
     return context;
 }
 
-// The team of a region. Outside of all others it takes the place of the caller's team of one, if this is in no
-// work-share.
+// The team of a region. Outside of all others it takes the place of the caller's team of one, if this is in
+// no work-share.
 static struct team *begin_team(struct context *outer, int size)
 {
     struct team *team = outer->team;

@@ -14,8 +14,8 @@
 //   ordered part or a next chunk waits for its turn, which `next` hands on. Each such call asks again for all
 //   that wait for it, and again as long as one of those replies lets others pass, before the lock is given
 //   up.
-// - A critical name or a lock is freed by its owner's call alone, for one member at most: that call asks again
-//   for those that wait for this name or lock, who waits longest first, until one has it.
+// - A critical name or a lock is freed by its owner's call alone, for one member at most: that call asks
+//   again for those that wait for this name or lock, who waits longest first, until one has it.
 // - The semaphore counts: a reply that comes before the member sleeps is not lost.
 // Were that list too short, the team would not hang in silence: when all members wait, each asks once more,
 // and only if all are answered `wait` again is a deadlock named.
@@ -201,8 +201,8 @@ static unsigned ask_again(struct team *team, unsigned let)
     return let_in_turn;
 }
 
-// The member that waits longest for what a call has freed, of those whose wait began after another; -1 if there
-// is none.
+// The member that waits longest for what a call has freed, of those whose wait began after another; -1 if
+// there is none.
 static int next_for_hold(const struct team *team, const struct call *call, unsigned long after)
 {
     int next = -1;

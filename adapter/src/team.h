@@ -37,8 +37,8 @@ struct team {
     pthread_mutex_t lock; // of all that stands below
     struct engine *engine;
     int record, size, waiting;
-    unsigned long number; // of the team, from 1
-    unsigned long waits;  // so many members have waited yet
+    unsigned long number;         // of the team, from 1
+    unsigned long waits;          // so many members have waited yet
     struct locks_made locks_made; // by this engine, for all its teams
     struct memory *memories;
     struct team *next; // of those that are idle
