@@ -185,14 +185,14 @@ static struct context member_context(const struct region *region, struct context
 static struct team *begin_team(struct context *outer, int size)
 {
     struct team *team = outer->team;
-    bool is_inside = team != NULL && team->in_use && team->members[0].inside;
-    if (outer->outer != NULL || is_inside || outer->is_untold)
+    if (outer->outer != NULL || outer->is_untold)
         return team_take(size);
-    if (team != NULL)
-        team_renew(team, size);
-    else
-        outer->team = team_take(size);
-    return outer->team;
+    if (team == NULL)
+        return outer->team = team_take(size);
+    if (team->in_use && team->members[0].inside)
+        return team_take(size);
+    team_renew(team, size);
+    return team;
 }
 
 static void end_team(struct context *context)

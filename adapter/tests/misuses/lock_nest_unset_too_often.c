@@ -12,5 +12,5 @@ int main(void) {
         for (int k = 0; k < 3; k++)
             omp_unset_nest_lock(&lock);
     }
-    return 1;
+    return told();
 }

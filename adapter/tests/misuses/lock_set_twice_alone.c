@@ -13,5 +13,5 @@ int main(void) {
     }
     omp_set_lock(&locks[1]);
     omp_set_lock(&locks[1]);
-    return 1;
+    return told();
 }

@@ -11,5 +11,5 @@ int main(void) {
             omp_set_lock(&lock);
     }
     omp_unset_lock(&lock);
-    return 1;
+    return told();
 }

@@ -3,7 +3,7 @@
 #include "../check.h"
 
 int main(void) {
-    int count = 0;
+    int by_lock = 0, by_kept = 0;
     omp_lock_t lock, kept;
     omp_nest_lock_t nest;
     omp_init_lock(&kept);
@@ -13,11 +13,11 @@ int main(void) {
 #pragma omp parallel
         {
             omp_set_lock(&lock);
-            count++;
+            by_lock++;
             omp_unset_lock(&lock);
             omp_set_nest_lock(&nest);
             omp_set_lock(&kept);
-            count++;
+            by_kept++;
             omp_unset_lock(&kept);
             omp_unset_nest_lock(&nest);
 #pragma omp barrier
@@ -27,12 +27,12 @@ int main(void) {
                 omp_init_lock(&lock);
             }
             omp_set_lock(&lock);
-            count++;
+            by_lock++;
             omp_unset_lock(&lock);
         }
         omp_destroy_nest_lock(&nest);
         omp_destroy_lock(&lock);
-        CHECK(count == 3 * round * asked(), "%d in round %d", count, round);
+        CHECK(by_lock == 2 * round * asked() && by_kept == round * asked(), "%d, %d in round %d", by_lock, by_kept, round);
     }
     omp_destroy_lock(&kept);
     return told();
