@@ -271,6 +271,7 @@ struct reply reply_of(const struct call *call, const char *line)
     return reply;
 }
 
+// Whether a call makes, destroys or uses a lock.
 bool call_is_on_lock(const struct call *call) { return call->kind >= CALL_LOCK_INIT; }
 
 // Whether two calls are on one critical name, or on one lock.

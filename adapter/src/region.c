@@ -108,6 +108,7 @@ static void forget_after_fork(void)
 {
     crews = NULL;
     criticals_forget();
+    locks_forget();
     context_forget();
     teams_forget();
     engines_forget();
