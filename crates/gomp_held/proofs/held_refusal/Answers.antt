@@ -1,8 +1,8 @@
-use Rattle.std.proofs.Common.{◌≡◌, ◌∙◌, ap}
+use Rattle.std.proofs.Common.{◌≡◌, ◌∙◌, inl, inr}
 use Rattle.gomp_types.specs.Least.{least}
 use Rattle.gomp_types.specs.declared.lock.LockKind.TheVariants.{Simple, Nest}
 use Rattle.gomp_locks.specs.CriticalNames.{critical_start_tests, critical_end_tests}
-use Rattle.gomp_locks.specs.Locks.{set_tests, unset_tests}
+use Rattle.gomp_locks.specs.Locks.{set_tests, unset_tests, nest_tests}
 use Rattle.gomp_held.proofs.LockLemmas.{lock_as_found}
 use Rattle.gomp_held.proofs.held_refusal.Goals as goal
 
@@ -21,11 +21,5 @@ returns-in-Unset c = λ p stands. rw (c.if-repeated.false, c.in-Unset.is) (c.uns
 pub returns-in-UnsetNest : goal.returns-in-UnsetNest
 returns-in-UnsetNest c = λ p stands. rw (c.if-repeated.false, c.in-UnsetNest.is) (c.unset_refusal-in-UnsetNest.ensures ∙ (λ i. least (unset_tests (c.owner_of-owner.ensures p.events i) (lock_as_found Nest c.in-UnsetNest.number c.args.book.now p stands i))))
 
-pub returns-in_default : goal.returns-in_default
-returns-in_default c = ?
-
-pub returns-in-LockInit : goal.returns-in-LockInit
-returns-in-LockInit c = ?
-
 pub returns-in-SetNest : goal.returns-in-SetNest
-returns-in-SetNest c = ?
+returns-in-SetNest c = λ p stands. elim c.in-SetNest.is [ inl e ↦ rw (c.if-repeated.false, e) (c.nest_refusal.ensures ∙ (λ i. least (nest_tests (c.owner_of-owner.ensures p.events i) (lock_as_found Nest c.in-SetNest.number c.args.book.now p stands i)))) | inr e ↦ rw (c.if-repeated.false, e) (c.nest_refusal.ensures ∙ (λ i. least (nest_tests (c.owner_of-owner.ensures p.events i) (lock_as_found Nest c.in-SetNest.number c.args.book.now p stands i)))) ]
