@@ -2,8 +2,8 @@ use Rattle.std.proofs.Common.{◌≡◌, ◌∙◌, inl, inr}
 use Rattle.gomp_types.specs.Least.{least}
 use Rattle.gomp_types.specs.declared.lock.LockKind.TheVariants.{Simple, Nest}
 use Rattle.gomp_locks.specs.CriticalNames.{critical_start_tests, critical_end_tests}
-use Rattle.gomp_locks.specs.Locks.{set_tests, unset_tests, nest_tests}
-use Rattle.gomp_held.proofs.LockLemmas.{lock_as_found}
+use Rattle.gomp_locks.specs.Locks.{init_tests, set_tests, unset_tests, nest_tests}
+use Rattle.gomp_held.proofs.LockLemmas.{lock_as_found, as_many_locks}
 use Rattle.gomp_held.proofs.held_refusal.Goals as goal
 
 pub returns-in-CriticalStart : goal.returns-in-CriticalStart
@@ -23,3 +23,6 @@ returns-in-UnsetNest c = λ p stands. rw (c.if-repeated.false, c.in-UnsetNest.is
 
 pub returns-in-SetNest : goal.returns-in-SetNest
 returns-in-SetNest c = λ p stands. elim c.in-SetNest.is [ inl e ↦ rw (c.if-repeated.false, e) (c.nest_refusal.ensures ∙ (λ i. least (nest_tests (c.owner_of-owner.ensures p.events i) (lock_as_found Nest c.in-SetNest.number c.args.book.now p stands i)))) | inr e ↦ rw (c.if-repeated.false, e) (c.nest_refusal.ensures ∙ (λ i. least (nest_tests (c.owner_of-owner.ensures p.events i) (lock_as_found Nest c.in-SetNest.number c.args.book.now p stands i)))) ]
+
+pub returns-in-LockInit : goal.returns-in-LockInit
+returns-in-LockInit c = λ p stands. elim c.in-LockInit.is [ inl e ↦ rw (c.if-repeated.false, e) (c.init_refusal.ensures ∙ (λ i. least (init_tests (as_many_locks c.args.book.now p stands i)))) | inr e ↦ rw (c.if-repeated.false, e) (c.init_refusal.ensures ∙ (λ i. least (init_tests (as_many_locks c.args.book.now p stands i)))) ]
