@@ -1,7 +1,8 @@
 //! The book of names and locks.
 
-ghost use Rattle.std.specs.Prelude.{◌≡◌, ◌<◌, ◌↔◌, [], IsTrue, true, List, ℕ, map};
+ghost use Rattle.std.specs.Prelude.{◌≡◌, ◌<◌, ◌≤◌, ◌↔◌, [], IsTrue, true, List, ℕ, map, length};
 ghost use Rattle.std.specs.Option.{option_map};
+ghost use Rattle.gomp_types.specs.declared.lock.TheConstants.{MAX_LOCKS};
 ghost use Rattle.gomp_locks.specs.Book.{names_held, name_owner, owned_by, unset_lock};
 
 use crate::critical::place_of;
@@ -66,6 +67,7 @@ impl LockBook {
     pub fn without_holds(self) -> LockBook
         ensures names { result.names ≡ [] }
         ensures locks { result.locks ≡ map (option_map unset_lock) self.locks }
+        ensures bound { length result.locks ≤ MAX_LOCKS }
     {
         let LockBook {
             mut names,
