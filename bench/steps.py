@@ -7,6 +7,9 @@ without a chunk one piece, and in a guided loop about eight, save that a member 
 left is refused, which is a step as well. A member of an ordered loop hands its piece on as it asks for the next: the
 members ask in turn, which is the order of their pieces, so none waits.
 
+A second table has one member with many critical names or locks: each name is entered and left, or all are entered before
+the first is left; each lock is made, set and unset. Its time should grow with the lines alone.
+
 The peak memory that the system tells counts the launcher's own before the program begins (about 15 MB), so it
 says something of the program only where the text is large."""
 
@@ -52,6 +55,30 @@ def text_of(calls_of, members, lines):
     return "\n".join(text[:lines]) + "\n"
 
 
+def names(count):
+    """Each of so many critical names is entered and left."""
+    return [f"0 {call} name{number}" for number in range(count) for call in ("critical", "critical_end")]
+
+
+def nested_names(count):
+    """So many critical names are entered, then left, the last first."""
+    return [f"0 critical name{number}" for number in range(count)] + [f"0 critical_end name{number}" for number in reversed(range(count))]
+
+
+def locks(count):
+    """So many simple locks are made, then each is set, and then each is unset."""
+    return ["0 lock_init"] * count + [f"0 {call} {number}" for call in ("set", "unset") for number in range(count)]
+
+
+def nested_locks(count):
+    """So many nestable locks are made, then each is set twice and unset twice."""
+    calls = ("set_nest", "set_nest", "unset_nest", "unset_nest")
+    return ["0 nest_init"] * count + [f"0 {call} {number}" for number in range(count) for call in calls]
+
+
+HOLDS = [("names", names), ("names, nested", nested_names), ("locks", locks), ("nestable locks", nested_locks)]
+
+
 def run(path):
     """Seconds and peak memory (bytes) of one run."""
     began = time.perf_counter()
@@ -70,17 +97,21 @@ def main():
     for name, calls_of in CONSTRUCTS:
         for members in (1, 8, 64):
             for lines in (10_000, 100_000, 900_000):
-                row(name, calls_of, members, lines)
+                row(name, members, text_of(calls_of, members, lines))
+    print("names or locks    in all    lines   seconds  steps/s  ns/step   memory/text")
+    for name, calls_of in HOLDS:
+        for count in (1_000, 10_000, 100_000):
+            row(name, count, "team 1\n" + "\n".join(calls_of(count)) + "\n")
 
 
-def row(name, calls_of, members, lines):
+def row(name, count, text):
     """Prints the best of three runs."""
+    lines = text.count("\n")
     with tempfile.NamedTemporaryFile(suffix=".steps") as file:
-        file.write(text_of(calls_of, members, lines).encode())
+        file.write(text.encode())
         file.flush()
-        size = os.path.getsize(file.name)
         seconds, memory = min(run(file.name) for _ in range(3))
-    print(f"{name:17} {members:7} {lines:8} {seconds:9.4f} {lines / seconds:8.0f} {seconds / lines * 1e9:8.0f} {memory / size:13.1f}")
+    print(f"{name:17} {count:7} {lines:8} {seconds:9.4f} {lines / seconds:8.0f} {seconds / lines * 1e9:8.0f} {memory / len(text):13.1f}")
 
 
 if __name__ == "__main__":

@@ -129,9 +129,10 @@ abbrev pub shows : Bool → Bool → Bool
 shows true repeated = true
 shows false repeated = not repeated
 
--- what holds on of a call while it waits: its member holds no critical name, unless it waits for a name or a lock; and of that it holds nothing
+-- what holds on of a call while it waits: its member holds no critical name, unless it waits for a name or a lock; of that it holds nothing;
+-- and it is a call that may wait
 abbrev pub Lasts : Row → ℕ → List Event → Type 0
-Lasts row m h = (row.asks_book ≡ false → holds_critical (asker m h) h ≡ false) × ((key : Key) → row.holds ≡ Some key → own_part m (holder key h) ≡ None)
+Lasts row m h = (row.asks_book ≡ false → holds_critical (asker m h) h ≡ false) × ((key : Key) → row.holds ≡ Some key → own_part m (holder key h) ≡ None) × ((q : Past) × row.may_reply m q Wait)
 
 -- what the tests of a call have shown, if none of them holds
 pub record Ready (row : Row) (repeated : Bool) (m : ℕ) (p : Past) : Type 0 where
@@ -170,7 +171,7 @@ pub record IsSound (row : Row) : Type 0 where
   pub tells : is_some row.arrives ≡ true → (m : ℕ) (p : Past) (reply : Reply) → row.may_reply m p reply → (reply ≡ Passed) ⊎ (reply ≡ Wait)
   pub one_pass : is_some row.arrives ≡ true → (m : ℕ) (p : Past) → row.gives m p Passed ≡ Pass (barriers_passed m p.events) m ∷ []
   -- what holds on while it waits
-  pub lasts : (repeated : Bool) (m : ℕ) (p : Past) → Ready row repeated m p → row.may_reply m (begun_past repeated row m p) Wait → Lasts row m p.events
+  pub lasts : (repeated : Bool) (m : ℕ) (p : Past) → Ready row repeated m p → Always (TeamRule p.terms.members) p.events → row.may_reply m (begun_past repeated row m p) Wait → Lasts row m p.events
   -- it waits for a name or a lock only if somebody holds that
   pub waits_for : (key : Key) (m : ℕ) (p : Past) → row.holds ≡ Some key → row.may_reply m p Wait → (held : Held) × (holder key p.events ≡ Some held)
   -- a count is how often the task that asks holds the lock then

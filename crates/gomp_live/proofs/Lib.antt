@@ -1,4 +1,5 @@
 mod TalkLemmas
+mod LockLemmas
 mod InputLemmas
 mod ServeLemmas
 pub mod TalkExamples

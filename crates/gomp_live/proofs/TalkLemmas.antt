@@ -1,5 +1,5 @@
 -- What a line leaves of a talk.
-use Rattle.std.proofs.Common.{◌≡◌, ◌≢◌, ◌+◌, ◌++◌, ◌∷◌, ◌∙◌, ℕ, List, [], Bool, false, Option, Some, None, Result, Ok, Err, length, min, refl, ap, sym, subst, arith}
+use Rattle.std.proofs.Common.{◌≡◌, ◌+◌, ◌++◌, ◌∷◌, ◌∙◌, ℕ, List, [], Bool, false, Option, Some, None, Result, Ok, Err, length, min, refl, ap, sym, subst, arith}
 use Rattle.std.specs.Prelude.{IfOk, is_some, codes, if◌then◌else◌}
 use Rattle.std.proofs.lemmas.Bool.{cases_Bool}
 use Rattle.gomp_types.specs.declared.call.Step.{Step}
@@ -9,9 +9,10 @@ use Rattle.gomp_types.specs.declared.reply.Reply.TheVariants.{Refused}
 use Rattle.gomp_types.specs.declared.refusal.Refusal.TheVariants.{NoMemory}
 use Rattle.gomp_types.specs.Limits.{shown_number}
 use Rattle.gomp_model.specs.Past.{Terms}
+use Rattle.gomp_model.specs.Calls.{row_of}
 use Rattle.gomp_model.specs.Team.{Record, MayAnswer, past_of}
 use Rattle.gomp_icv.specs.Variables.{Variables}
-use Rattle.gomp_core.specs.Stands.{TeamView, Stands, Keeps, past}
+use Rattle.gomp_core.specs.Stands.{TeamView, Stands, Keeps, TakesMemory, past}
 use Rattle.gomp_core.specs.Resolved.{resolved_step}
 use Rattle.gomp_core.proofs.Stepping.{terms_are}
 use Rattle.gomp_script.specs.declared.live.LiveLine.{LiveLine}
@@ -25,7 +26,7 @@ use Rattle.gomp_live.specs.Stands.{TalkView, TeamStands, TeamIs, TalkStands}
 -- a step that a team answered is answered in the talk
 pub step_said :
     {S : Type 0} (stands : S → List Event → Type 0) (members : S → ℕ) (icv : Variables) (team after : TeamView S) (made : Made) (step : Step) (reply : Reply) (answer : List ℕ)
-    → TeamStands stands members icv team made → Keeps team after step.call reply → reply ≢ Refused NoMemory
+    → TeamStands stands members icv team made → Keeps team after step.call reply → (reply ≡ Refused NoMemory → TakesMemory (row_of step.call))
     → ((before : Record) → Stands stands members team before → MayAnswer (past team before) (resolved_step team.icv step) reply)
     → ((before : Record) → Stands stands members team before → Stands stands members after ((resolved_step team.icv step, reply) ∷ before))
     → answer ≡ reply_line reply

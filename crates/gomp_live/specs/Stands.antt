@@ -1,5 +1,5 @@
 -- When a talk stands for lines and what was said to them, and what an answer makes of it. (own)
-use Rattle.std.specs.Prelude.{ℕ, ◌≡◌, ◌++◌, List, ◌∷◌, Option, Some, None, Result, ⊤, IfOk, string_bytes}
+use Rattle.std.specs.Prelude.{ℕ, ◌≡◌, ◌++◌, List, [], ◌∷◌, Option, Some, None, Result, ⊤, IfOk, string_bytes}
 use Rattle.std.specs.declared.string.String.{String}
 use Rattle.std.specs.declared.alloc.Global.{Global}
 use Rattle.gomp_types.specs.declared.call.Step.{Step}
@@ -7,6 +7,7 @@ use Rattle.gomp_types.specs.declared.event.Event.{Event}
 use Rattle.gomp_types.specs.Limits.{standard}
 use Rattle.gomp_icv.specs.Variables.{Variables}
 use Rattle.gomp_core.specs.Stands.{TeamView, Stands, members_of}
+use Rattle.gomp_locks.specs.Book.{BookView}
 use Rattle.gomp_steps.specs.Output.{is_size}
 use Rattle.gomp_live.specs.Talk.{Made, TeamAnswered, StepAnswered, Talked, next_number}
 
@@ -46,11 +47,16 @@ AnswersLine stands members line talk after result =
     (lines : List (List ℕ)) (said : List ℕ) → TalkStands stands members talk lines said
     → IfOk result (λ answer. TalkStands stands members after (line ∷ lines) (said ++ string_bytes answer))
 
--- a new team of this size stands, if one may have it
+-- the book of names and locks of a team; an empty one if there is none
+abbrev pub book_of : {S : Type 0} → Option (TeamView S) → BookView
+book_of None = record { names = []; locks = [] }
+book_of (Some team) = team.book
+
+-- a new team of this size stands, if one may have it, with the locks of the one before it
 abbrev pub BeginsTeam : {S E : Type 0} → (S → List Event → Type 0) → (S → ℕ) → Variables → ℕ → Option (TeamView S) → Option (TeamView S) → Result (String Global) E → Type 0
 BeginsTeam stands members icv count team after result =
     IfOk result (λ answer. (made : Option Made) → TeamIs stands members icv team made
-    → (then : Option Made) × TeamAnswered (is_size count) count made (string_bytes answer) then × TeamIs stands members icv after then)
+    → (then : Option Made) × TeamAnswered icv (is_size count) count made (string_bytes answer) then × TeamIs stands members icv after then)
 
 -- the team made this step
 abbrev pub MakesStep : {S E : Type 0} → (S → List Event → Type 0) → (S → ℕ) → Step → TeamView S → TeamView S → Result (String Global) E → Type 0

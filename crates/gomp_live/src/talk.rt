@@ -1,14 +1,15 @@
 //! A talk with teams, line by line.
 
 ghost use Rattle.std.specs.Prelude.{◌≡◌, []};
-ghost use Rattle.gomp_live.specs.Stands.{TalkStands, AnswersLine, BeginsTeam, MakesStep};
+ghost use Rattle.gomp_live.specs.Stands.{TalkStands, AnswersLine, BeginsTeam, MakesStep, book_of};
 
 use gomp_core::Team;
 use gomp_icv::Icv;
+use gomp_locks::LockBook;
 use gomp_script::{BadLine, LiveLine, parse_live_line, print_bad_line, print_refusal, print_reply};
 use gomp_shares::Shares;
 use gomp_steps::answer::team_size;
-use gomp_types::{Refusal, Step};
+use gomp_types::{Refusal, Step, is_team_size};
 use std::alloc::{AllocError, Global};
 use std::marker::Model;
 
@@ -67,8 +68,9 @@ impl<S: Shares + Drop> Talk<S> {
     }
 }
 
-/// Puts a new team of this size in the place of the one that stands; a size that no team may have
-/// leaves that. Says which.
+/// Puts a new team of this size in the place of the one that stands, and hands it the locks that were
+/// made, which nobody holds then; a size that no team may have leaves the one that stands. Says
+/// which.
 fn begin_team<S: Shares + Drop>(
     alloc: Global,
     icv: Icv,
@@ -77,14 +79,25 @@ fn begin_team<S: Shares + Drop>(
 ) -> Result<String, AllocError>
     ensures { BeginsTeam S.stands S.members icv count team.old team.new result }
 {
-    match Team::new(alloc, team_size(count), icv) {
-        Ok(new_team) => {
-            let answer = String::from_str(alloc, "ok\n")?;
-            *team = Some(new_team);
-            Ok(answer)
-        }
-        Err(Refusal::BadTeam) => print_refusal(alloc, &Refusal::BadTeam),
-        Err(_) => Err(AllocError),
+    let size = team_size(count);
+    if !is_team_size(size) {
+        return print_refusal(alloc, &Refusal::BadTeam);
+    }
+    let book = book_of(alloc, team.take());
+    let Ok(new_team) = Team::with_book(alloc, size, icv, book) else {
+        return Err(AllocError);
+    };
+    *team = Some(new_team);
+    String::from_str(alloc, "ok\n")
+}
+
+/// The book of names and locks of a team that ends; a new one if there was no team.
+fn book_of<S: Shares + Drop>(alloc: Global, team: Option<Team<S>>) -> LockBook
+    ensures { result ≡ book_of team }
+{
+    match team {
+        Some(old) => old.into_book(),
+        None => LockBook::new(alloc),
     }
 }
 

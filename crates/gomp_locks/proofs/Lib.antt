@@ -4,6 +4,7 @@ pub mod BookExamples
 pub mod CallLemmas
 pub mod CountLemmas
 pub mod HoldLemmas
+pub mod HoldsKeep
 pub mod Laws
 pub mod LockExamples
 pub mod NameLemmas

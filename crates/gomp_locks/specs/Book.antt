@@ -82,6 +82,10 @@ any_lock_at number book = held_of_any_kind (slice_get book.locks number)
 abbrev pub with_lock : LockKind → ℕ → Option Held → BookView → BookView
 with_lock kind number held book = record book { locks = slice_set book.locks number (Some (record { kind = kind; held = held })) }
 
+-- a lock as nobody holds it
+abbrev pub unset_lock : Lock → Lock
+unset_lock lock = record lock { held = None }
+
 -- held by this owner so often; by nobody if that is 0
 abbrev pub held_times : Owner → ℕ → Option Held
 held_times owner count = if count == 0 then None else Some (record { owner = owner; count = count })

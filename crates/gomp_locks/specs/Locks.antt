@@ -1,5 +1,5 @@
 -- The lock routines. OpenMP API 5.2, section 18.9.
-use Rattle.std.specs.Prelude.{ℕ, ◌+◌, ◌≡◌, nat_le, not, is_some, if◌then◌else◌, ◌==◌, ◌&&◌, length, Bool, true, false, List, [], ◌∷◌, ◌++◌, Option, Some, None, slice_set}
+use Rattle.std.specs.Prelude.{ℕ, ◌+◌, ◌≡◌, nat_le, not, is_some, if◌then◌else◌, ◌==◌, ◌&&◌, Bool, true, false, List, [], ◌∷◌, ◌++◌, Option, Some, None, slice_set}
 use Rattle.std.specs.Option.{option_flatten}
 use Rattle.gomp_types.specs.declared.task.Owner.{Owner}
 use Rattle.gomp_types.specs.declared.lock.TheConstants.{MAX_COUNT, MAX_LOCKS}
@@ -11,7 +11,6 @@ use Rattle.gomp_types.specs.declared.reply.Reply.{Reply}
 use Rattle.gomp_types.specs.declared.reply.Reply.TheVariants.{Finished, Wait, Lock as LockMade, Got, Count}
 use Rattle.gomp_types.specs.Owners.{same_owner}
 use Rattle.gomp_types.specs.Tests.{Test}
-use Rattle.gomp_locks.specs.declared.lock.Lock.{Lock}
 use Rattle.gomp_locks.specs.Book.{BookView, with_lock, held_times, held_by}
 
 -- Making and destroying

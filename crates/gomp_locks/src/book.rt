@@ -1,7 +1,8 @@
 //! The book of names and locks.
 
-ghost use Rattle.std.specs.Prelude.{◌≡◌, ◌<◌, ◌↔◌, [], IsTrue};
-ghost use Rattle.gomp_locks.specs.Book.{names_held};
+ghost use Rattle.std.specs.Prelude.{◌≡◌, ◌<◌, ◌↔◌, [], IsTrue, map};
+ghost use Rattle.std.specs.Option.{option_map};
+ghost use Rattle.gomp_locks.specs.Book.{names_held, unset_lock};
 
 use crate::critical::place_of;
 use crate::lock::Lock;
@@ -53,5 +54,36 @@ impl LockBook {
         ensures { IsTrue result ↔ (0 < names_held owner self.now.names) }
     {
         place_of(&self.holders, owner).is_some()
+    }
+
+    /// The book with the same locks, but nobody holds any of them, and with no name.
+    pub fn without_holds(self) -> LockBook
+        ensures names { result.names ≡ [] }
+        ensures locks { result.locks ≡ map (option_map unset_lock) self.locks }
+    {
+        let LockBook {
+            mut names,
+            mut holders,
+            mut locks,
+        } = self;
+        names.clear();
+        holders.clear();
+        unset_all(&mut locks);
+        LockBook {
+            names,
+            holders,
+            locks,
+        }
+    }
+}
+
+/// Nobody holds any of these locks from now on.
+fn unset_all(locks: &mut [Option<Lock>])
+    ensures { locks.new ≡ map (option_map unset_lock) locks.old }
+{
+    for place in locks.iter_mut() {
+        if let Some(lock) = place {
+            lock.held = None;
+        }
     }
 }

@@ -90,8 +90,7 @@ impl LockBook {
     /// entered if nobody holds it, else the answer is to wait. It makes no test; the only refusal is
     /// `NoMemory` (E37).
     pub fn enter_critical(&mut self, owner: Owner, name: &CriticalName) -> Reply
-        ensures answer {
-            AnswersOrLacks [] (EntersCritical (name_owner name.now self.old)) result }
+        ensures answer { AnswersOrLacks [] (EntersCritical (name_owner name.now self.old)) result }
         ensures memory { result ≡ Refused NoMemory → name_at name.now self.old ≡ None }
         ensures book { self.new ≡ after_critical_start owner name.now result self.old }
     {

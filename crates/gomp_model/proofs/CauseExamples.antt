@@ -1,7 +1,7 @@
 -- To each call, the answers of other calls, and want of memory if it asks for none: none of them has a cause.
 use Rattle.std.proofs.Common.{◌≡◌, true, false, List, [], ◌∷◌, Some, None, refl, rules, inl, inr}
 use Rattle.std.proofs.lemmas.Bool.{cases_Bool}
-use Rattle.std.specs.Prelude.{pos, take, map, ◌++◌, ◌≢◌}
+use Rattle.std.specs.Prelude.{pos, take, ◌++◌, ◌≢◌}
 use Rattle.gomp_types.specs.declared.call.Step.{Step}
 use Rattle.gomp_types.specs.declared.event.Event.{Event}
 use Rattle.gomp_types.specs.declared.event.Event.TheVariants.{Enter, Take, Put}
@@ -10,204 +10,280 @@ use Rattle.gomp_types.specs.Events.{shares_entered, open_share, shape_at, has_le
 use Rattle.gomp_types.specs.Compare.{shape_differs}
 use Rattle.gomp_types.specs.EventLists.{eight_entered, four}
 use Rattle.gomp_shares.specs.Loops.{DealsOut}
+use Rattle.gomp_locks.specs.Holders.{asker, holds_critical}
 use Rattle.gomp_model.specs.Past.{Past}
 use Rattle.gomp_model.specs.Team.{MayAnswer, OneReply, SomeReply, before_all, refusal_of}
-use Rattle.gomp_types.specs.declared.call.Call.TheVariants.{LoopNext, LoopEnd, LoopEndNowait, SectionsStart, SectionsNext, SectionsEnd, SectionsEndNowait, SingleStart, SingleCopyStart, SingleCopyEnd, OrderedStart, OrderedEnd, Barrier, RegionEnd, Resume, Stop}
+use Rattle.gomp_types.specs.declared.call.Call.TheVariants.{LoopNext, LoopEnd, LoopEndNowait, SectionsStart, SectionsNext, SectionsEnd, SectionsEndNowait, SingleStart, SingleCopyStart, SingleCopyEnd, OrderedStart, OrderedEnd, Barrier, RegionEnd, CriticalStart, CriticalEnd, LockInit, NestInit, LockDestroy, Set, Test as TestLock, Unset, SetNest, TestNest, UnsetNest, Resume, Stop}
 use Rattle.gomp_types.specs.declared.loop_desc.EndKind.TheVariants.{Nowait}
 use Rattle.gomp_types.specs.declared.refusal.Place.TheVariants.{Share, Barrier as AtBarrier, Stopped as AtStop}
-use Rattle.gomp_types.specs.declared.refusal.Refusal.TheVariants.{BadMember, Ended, Broken, Waiting, InsideShare, OutsideShare, InOrdered, ZeroStep, BadChunk, LoopTooLong, BadSections, EndDiffers, NotDrained, Drained, NotOrdered, OrderedBackwards, NotInside, TooManyShares, Mismatch, NoMemory, BadTeam}
+use Rattle.gomp_types.specs.declared.refusal.Refusal.TheVariants.{BadMember, Ended, Broken, Waiting, InsideShare, OutsideShare, NotInside, TooManyShares, Mismatch, NoMemory}
 use Rattle.gomp_types.specs.declared.reply.Reply.{Reply}
-use Rattle.gomp_types.specs.declared.reply.Reply.TheVariants.{Chunk, NoChunk, Section, Executor, Copied, Finished, Passed, Wait, Stopped, Refused}
-use Rattle.gomp_model.specs.Examples.{MayReplyAfter, IsReplyAfter, IsWrongAfter, IsWrong, AreWrong, IsNoRun, asks, one_nowait, loop_of_two, loop_alone, eight_ahead}
+use Rattle.gomp_types.specs.declared.reply.Reply.TheVariants.{Chunk, NoChunk, Section, Executor, Copied, Finished, Passed, Wait, Lock, Got, Count, Stopped, Refused}
+use Rattle.gomp_model.specs.Examples.{MayReplyAfter, IsReplyAfter, IsWrongAfter, IsWrong, AreWrong, IsNoRun, lock_answers, share_answers, all_refusals, asks, one_nowait, loop_of_two, loop_alone, eight_ahead}
 use Rattle.gomp_model.specs.ShareExamples.{three_sections, sections_of_two, no_sections, single_of_two, copy_of_three, ordered_of_two, handed_of_two, ordered_alone}
-use Rattle.gomp_model.specs.RegionExamples.{copied_at_once}
+use Rattle.gomp_model.specs.HoldExamples.{name_a, long_name, holding, both_made, both_set, names_and_locks, destroyed_while_waiting}
+use Rattle.gomp_model.specs.RegionExamples.{copied_at_once, named_in_a_part}
 
 -- The answers of other calls
 
 -- a loop's start, with all iterations to take; among them iterations too late, none, and one too many
 pub wrong_at_loop_start : AreWrong 2 [] (asks 0 one_nowait)
-    (Chunk (pos 1) 1 ∷ Chunk (pos 0) 0 ∷ Chunk (pos 0) 2 ∷ NoChunk ∷ Section 0 ∷ Section 1 ∷ Executor true ∷ Executor false ∷ Copied [] ∷ Finished ∷ Passed ∷ Wait ∷ Stopped ∷ [])
+    (Chunk (pos 1) 1 ∷ Chunk (pos 0) 0 ∷ Chunk (pos 0) 2 ∷ NoChunk ∷ Section 0 ∷ Section 1 ∷ Executor true ∷ Executor false ∷ Copied [] ∷ Finished ∷ Passed ∷ Wait ∷ Stopped ∷ lock_answers)
 wrong_at_loop_start = search rules
 
 -- a start if another took them all
 pub wrong_at_started_loop : AreWrong 2 (take 1 loop_alone) (asks 1 one_nowait)
-    (Chunk (pos 1) 0 ∷ Chunk (pos 0) 1 ∷ Section 0 ∷ Section 1 ∷ Executor true ∷ Executor false ∷ Copied [] ∷ Finished ∷ Passed ∷ Wait ∷ Stopped ∷ [])
+    (Chunk (pos 1) 0 ∷ Chunk (pos 0) 1 ∷ Section 0 ∷ Section 1 ∷ Executor true ∷ Executor false ∷ Copied [] ∷ Finished ∷ Passed ∷ Wait ∷ Stopped ∷ lock_answers)
 wrong_at_started_loop = search rules
 
 -- the next iterations if there are some; among them those of another, too few, too many, and too late
 pub wrong_at_loop_next : AreWrong 2 (take 2 loop_of_two) (asks 0 LoopNext)
-    (Chunk (pos 0) 1 ∷ Chunk (pos 6) 2 ∷ Chunk (pos 6) 4 ∷ Chunk (pos 7) 3 ∷ NoChunk ∷ Section 0 ∷ Section 1 ∷ Executor true ∷ Executor false ∷ Copied [] ∷ Finished ∷ Passed ∷ Wait ∷ Stopped ∷ [])
+    (Chunk (pos 0) 1 ∷ Chunk (pos 6) 2 ∷ Chunk (pos 6) 4 ∷ Chunk (pos 7) 3 ∷ NoChunk ∷ Section 0 ∷ Section 1 ∷ Executor true ∷ Executor false ∷ Copied [] ∷ Finished ∷ Passed ∷ Wait ∷ Stopped ∷ lock_answers)
 wrong_at_loop_next = search rules
 
 -- the next iterations if there are none
 pub wrong_at_last_next : AreWrong 2 (take 4 loop_of_two) (asks 0 LoopNext)
-    (Chunk (pos 0) 1 ∷ Section 0 ∷ Section 1 ∷ Executor true ∷ Executor false ∷ Copied [] ∷ Finished ∷ Passed ∷ Wait ∷ Stopped ∷ [])
+    (Chunk (pos 0) 1 ∷ Section 0 ∷ Section 1 ∷ Executor true ∷ Executor false ∷ Copied [] ∷ Finished ∷ Passed ∷ Wait ∷ Stopped ∷ lock_answers)
 wrong_at_last_next = search rules
 
 -- a loop's end, of the first member
 pub wrong_at_loop_end : AreWrong 2 (take 6 loop_of_two) (asks 0 LoopEnd)
-    (Chunk (pos 0) 1 ∷ NoChunk ∷ Section 0 ∷ Section 1 ∷ Executor true ∷ Executor false ∷ Copied [] ∷ Finished ∷ Passed ∷ Stopped ∷ [])
+    (Chunk (pos 0) 1 ∷ NoChunk ∷ Section 0 ∷ Section 1 ∷ Executor true ∷ Executor false ∷ Copied [] ∷ Finished ∷ Passed ∷ Stopped ∷ lock_answers)
 wrong_at_loop_end = search rules
 
 -- and of the last
 pub wrong_at_last_end : AreWrong 2 (take 7 loop_of_two) (asks 1 LoopEnd)
-    (Chunk (pos 0) 1 ∷ NoChunk ∷ Section 0 ∷ Section 1 ∷ Executor true ∷ Executor false ∷ Copied [] ∷ Finished ∷ Wait ∷ Stopped ∷ [])
+    (Chunk (pos 0) 1 ∷ NoChunk ∷ Section 0 ∷ Section 1 ∷ Executor true ∷ Executor false ∷ Copied [] ∷ Finished ∷ Wait ∷ Stopped ∷ lock_answers)
 wrong_at_last_end = search rules
 
 -- the end of a loop that has no barrier
 pub wrong_at_nowait_end : AreWrong 2 (take 2 loop_alone) (asks 0 LoopEndNowait)
-    (Chunk (pos 0) 1 ∷ NoChunk ∷ Section 0 ∷ Section 1 ∷ Executor true ∷ Executor false ∷ Copied [] ∷ Passed ∷ Wait ∷ Stopped ∷ [])
+    (Chunk (pos 0) 1 ∷ NoChunk ∷ Section 0 ∷ Section 1 ∷ Executor true ∷ Executor false ∷ Copied [] ∷ Passed ∷ Wait ∷ Stopped ∷ lock_answers)
 wrong_at_nowait_end = search rules
 
 -- the start of sections, with all of them to take
 pub wrong_at_sections_start : AreWrong 2 [] (asks 0 three_sections)
-    (Section 2 ∷ Section 4 ∷ Chunk (pos 0) 1 ∷ NoChunk ∷ Section 0 ∷ Executor true ∷ Executor false ∷ Copied [] ∷ Finished ∷ Passed ∷ Wait ∷ Stopped ∷ [])
+    (Section 2 ∷ Section 4 ∷ Chunk (pos 0) 1 ∷ NoChunk ∷ Section 0 ∷ Executor true ∷ Executor false ∷ Copied [] ∷ Finished ∷ Passed ∷ Wait ∷ Stopped ∷ lock_answers)
 wrong_at_sections_start = search rules
 
 -- and with none
 pub wrong_at_no_sections : AreWrong 1 [] (asks 0 (SectionsStart 0 Nowait))
-    (Chunk (pos 0) 1 ∷ NoChunk ∷ Section 1 ∷ Executor true ∷ Executor false ∷ Copied [] ∷ Finished ∷ Passed ∷ Wait ∷ Stopped ∷ [])
+    (Chunk (pos 0) 1 ∷ NoChunk ∷ Section 1 ∷ Executor true ∷ Executor false ∷ Copied [] ∷ Finished ∷ Passed ∷ Wait ∷ Stopped ∷ lock_answers)
 wrong_at_no_sections = search rules
 
 -- the next section if there is one
 pub wrong_at_sections_next : AreWrong 2 (take 2 sections_of_two) (asks 0 SectionsNext)
-    (Section 2 ∷ Section 4 ∷ Chunk (pos 0) 1 ∷ NoChunk ∷ Section 0 ∷ Section 1 ∷ Executor true ∷ Executor false ∷ Copied [] ∷ Finished ∷ Passed ∷ Wait ∷ Stopped ∷ [])
+    (Section 2 ∷ Section 4 ∷ Chunk (pos 0) 1 ∷ NoChunk ∷ Section 0 ∷ Section 1 ∷ Executor true ∷ Executor false ∷ Copied [] ∷ Finished ∷ Passed ∷ Wait ∷ Stopped ∷ lock_answers)
 wrong_at_sections_next = search rules
 
 -- and if there is none
 pub wrong_at_last_section : AreWrong 2 (take 3 sections_of_two) (asks 0 SectionsNext)
-    (Section 3 ∷ Section 4 ∷ Chunk (pos 0) 1 ∷ NoChunk ∷ Section 1 ∷ Executor true ∷ Executor false ∷ Copied [] ∷ Finished ∷ Passed ∷ Wait ∷ Stopped ∷ [])
+    (Section 3 ∷ Section 4 ∷ Chunk (pos 0) 1 ∷ NoChunk ∷ Section 1 ∷ Executor true ∷ Executor false ∷ Copied [] ∷ Finished ∷ Passed ∷ Wait ∷ Stopped ∷ lock_answers)
 wrong_at_last_section = search rules
 
 -- the end of sections, of the first member
 pub wrong_at_sections_end : AreWrong 2 (take 5 sections_of_two) (asks 0 SectionsEnd)
-    (Chunk (pos 0) 1 ∷ NoChunk ∷ Section 0 ∷ Section 1 ∷ Executor true ∷ Executor false ∷ Copied [] ∷ Finished ∷ Passed ∷ Stopped ∷ [])
+    (Chunk (pos 0) 1 ∷ NoChunk ∷ Section 0 ∷ Section 1 ∷ Executor true ∷ Executor false ∷ Copied [] ∷ Finished ∷ Passed ∷ Stopped ∷ lock_answers)
 wrong_at_sections_end = search rules
 
 -- and of the last
 pub wrong_at_last_sections_end : AreWrong 2 (take 6 sections_of_two) (asks 1 SectionsEnd)
-    (Chunk (pos 0) 1 ∷ NoChunk ∷ Section 0 ∷ Section 1 ∷ Executor true ∷ Executor false ∷ Copied [] ∷ Finished ∷ Wait ∷ Stopped ∷ [])
+    (Chunk (pos 0) 1 ∷ NoChunk ∷ Section 0 ∷ Section 1 ∷ Executor true ∷ Executor false ∷ Copied [] ∷ Finished ∷ Wait ∷ Stopped ∷ lock_answers)
 wrong_at_last_sections_end = search rules
 
 -- the end of sections that have no barrier
 pub wrong_at_sections_nowait : AreWrong 1 (take 1 no_sections) (asks 0 SectionsEndNowait)
-    (Chunk (pos 0) 1 ∷ NoChunk ∷ Section 0 ∷ Section 1 ∷ Executor true ∷ Executor false ∷ Copied [] ∷ Passed ∷ Wait ∷ Stopped ∷ [])
+    (Chunk (pos 0) 1 ∷ NoChunk ∷ Section 0 ∷ Section 1 ∷ Executor true ∷ Executor false ∷ Copied [] ∷ Passed ∷ Wait ∷ Stopped ∷ lock_answers)
 wrong_at_sections_nowait = search rules
 
 -- a single that nobody executes yet
 pub wrong_at_single : AreWrong 2 [] (asks 0 SingleStart)
-    (Chunk (pos 0) 1 ∷ NoChunk ∷ Section 0 ∷ Section 1 ∷ Executor false ∷ Copied [] ∷ Finished ∷ Passed ∷ Wait ∷ Stopped ∷ [])
+    (Chunk (pos 0) 1 ∷ NoChunk ∷ Section 0 ∷ Section 1 ∷ Executor false ∷ Copied [] ∷ Finished ∷ Passed ∷ Wait ∷ Stopped ∷ lock_answers)
 wrong_at_single = search rules
 
 -- and one that another executes
 pub wrong_at_met_single : AreWrong 2 (take 1 single_of_two) (asks 1 SingleStart)
-    (Chunk (pos 0) 1 ∷ NoChunk ∷ Section 0 ∷ Section 1 ∷ Executor true ∷ Copied [] ∷ Finished ∷ Passed ∷ Wait ∷ Stopped ∷ [])
+    (Chunk (pos 0) 1 ∷ NoChunk ∷ Section 0 ∷ Section 1 ∷ Executor true ∷ Copied [] ∷ Finished ∷ Passed ∷ Wait ∷ Stopped ∷ lock_answers)
 wrong_at_met_single = search rules
 
 -- a single with words that nobody executes yet
 pub wrong_at_copy : AreWrong 3 [] (asks 0 SingleCopyStart)
-    (Chunk (pos 0) 1 ∷ NoChunk ∷ Section 0 ∷ Section 1 ∷ Executor false ∷ Copied [] ∷ Finished ∷ Passed ∷ Wait ∷ Stopped ∷ [])
+    (Chunk (pos 0) 1 ∷ NoChunk ∷ Section 0 ∷ Section 1 ∷ Executor false ∷ Copied [] ∷ Finished ∷ Passed ∷ Wait ∷ Stopped ∷ lock_answers)
 wrong_at_copy = search rules
 
 -- one whose words are to come
 pub wrong_at_waiting_copy : AreWrong 3 (take 1 copy_of_three) (asks 0 SingleCopyStart)
-    (Copied (11 ∷ 22 ∷ []) ∷ Chunk (pos 0) 1 ∷ NoChunk ∷ Section 0 ∷ Section 1 ∷ Executor true ∷ Executor false ∷ Copied [] ∷ Finished ∷ Passed ∷ Stopped ∷ [])
+    (Copied (11 ∷ 22 ∷ []) ∷ Chunk (pos 0) 1 ∷ NoChunk ∷ Section 0 ∷ Section 1 ∷ Executor true ∷ Executor false ∷ Copied [] ∷ Finished ∷ Passed ∷ Stopped ∷ lock_answers)
 wrong_at_waiting_copy = search rules
 
 -- one whose words came while the member waited; among them some of the words, in another order, and one more
 pub wrong_at_resumed_copy : AreWrong 3 (take 4 copy_of_three) (asks 0 Resume)
-    (Copied (11 ∷ []) ∷ Copied (22 ∷ 11 ∷ []) ∷ Copied (11 ∷ 22 ∷ 33 ∷ []) ∷ Chunk (pos 0) 1 ∷ NoChunk ∷ Section 0 ∷ Section 1 ∷ Executor true ∷ Executor false ∷ Copied [] ∷ Finished ∷ Passed ∷ Wait ∷ Stopped ∷ [])
+    (Copied (11 ∷ []) ∷ Copied (22 ∷ 11 ∷ []) ∷ Copied (11 ∷ 22 ∷ 33 ∷ []) ∷ Chunk (pos 0) 1 ∷ NoChunk ∷ Section 0 ∷ Section 1 ∷ Executor true ∷ Executor false ∷ Copied [] ∷ Finished ∷ Passed ∷ Wait ∷ Stopped ∷ lock_answers)
 wrong_at_resumed_copy = search rules
 
 -- one whose words are there
 pub wrong_at_late_copy : AreWrong 2 (take 2 copied_at_once) (asks 1 SingleCopyStart)
-    (Copied (12 ∷ []) ∷ Chunk (pos 0) 1 ∷ NoChunk ∷ Section 0 ∷ Section 1 ∷ Executor true ∷ Executor false ∷ Copied [] ∷ Finished ∷ Passed ∷ Wait ∷ Stopped ∷ [])
+    (Copied (12 ∷ []) ∷ Chunk (pos 0) 1 ∷ NoChunk ∷ Section 0 ∷ Section 1 ∷ Executor true ∷ Executor false ∷ Copied [] ∷ Finished ∷ Passed ∷ Wait ∷ Stopped ∷ lock_answers)
 wrong_at_late_copy = search rules
 
 -- the end of the executor of such a single
 pub wrong_at_copy_end : AreWrong 3 (take 1 copy_of_three) (asks 1 (SingleCopyEnd (11 ∷ 22 ∷ [])))
-    (Copied (11 ∷ 22 ∷ []) ∷ Chunk (pos 0) 1 ∷ NoChunk ∷ Section 0 ∷ Section 1 ∷ Executor true ∷ Executor false ∷ Copied [] ∷ Passed ∷ Wait ∷ Stopped ∷ [])
+    (Copied (11 ∷ 22 ∷ []) ∷ Chunk (pos 0) 1 ∷ NoChunk ∷ Section 0 ∷ Section 1 ∷ Executor true ∷ Executor false ∷ Copied [] ∷ Passed ∷ Wait ∷ Stopped ∷ lock_answers)
 wrong_at_copy_end = search rules
 
 -- an ordered part whose turn it is
 pub wrong_at_part : AreWrong 2 (take 1 ordered_of_two) (asks 0 (OrderedStart (pos 0)))
-    (Chunk (pos 0) 1 ∷ NoChunk ∷ Section 0 ∷ Section 1 ∷ Executor true ∷ Executor false ∷ Copied [] ∷ Passed ∷ Wait ∷ Stopped ∷ [])
+    (Chunk (pos 0) 1 ∷ NoChunk ∷ Section 0 ∷ Section 1 ∷ Executor true ∷ Executor false ∷ Copied [] ∷ Passed ∷ Wait ∷ Stopped ∷ lock_answers)
 wrong_at_part = search rules
 
 -- and one whose turn is to come
 pub wrong_at_waiting_part : AreWrong 2 (take 2 ordered_of_two) (asks 1 (OrderedStart (pos 1)))
-    (Chunk (pos 0) 1 ∷ NoChunk ∷ Section 0 ∷ Section 1 ∷ Executor true ∷ Executor false ∷ Copied [] ∷ Finished ∷ Passed ∷ Stopped ∷ [])
+    (Chunk (pos 0) 1 ∷ NoChunk ∷ Section 0 ∷ Section 1 ∷ Executor true ∷ Executor false ∷ Copied [] ∷ Finished ∷ Passed ∷ Stopped ∷ lock_answers)
 wrong_at_waiting_part = search rules
 
 -- the end of an ordered part
 pub wrong_at_part_end : AreWrong 1 (take 2 ordered_alone) (asks 0 OrderedEnd)
-    (Chunk (pos 0) 1 ∷ NoChunk ∷ Section 0 ∷ Section 1 ∷ Executor true ∷ Executor false ∷ Copied [] ∷ Passed ∷ Wait ∷ Stopped ∷ [])
+    (Chunk (pos 0) 1 ∷ NoChunk ∷ Section 0 ∷ Section 1 ∷ Executor true ∷ Executor false ∷ Copied [] ∷ Passed ∷ Wait ∷ Stopped ∷ lock_answers)
 wrong_at_part_end = search rules
 
 -- the next iterations of an ordered loop, before the turn of the member's piece
 pub wrong_at_waiting_next : AreWrong 2 (take 2 handed_of_two) (asks 1 LoopNext)
-    (Chunk (pos 0) 1 ∷ NoChunk ∷ Section 0 ∷ Section 1 ∷ Executor true ∷ Executor false ∷ Copied [] ∷ Finished ∷ Passed ∷ Stopped ∷ [])
+    (Chunk (pos 0) 1 ∷ NoChunk ∷ Section 0 ∷ Section 1 ∷ Executor true ∷ Executor false ∷ Copied [] ∷ Finished ∷ Passed ∷ Stopped ∷ lock_answers)
 wrong_at_waiting_next = search rules
 
 -- a barrier, of the first member
 pub wrong_at_barrier : AreWrong 2 [] (asks 0 Barrier)
-    (Chunk (pos 0) 1 ∷ NoChunk ∷ Section 0 ∷ Section 1 ∷ Executor true ∷ Executor false ∷ Copied [] ∷ Finished ∷ Passed ∷ Stopped ∷ [])
+    (Chunk (pos 0) 1 ∷ NoChunk ∷ Section 0 ∷ Section 1 ∷ Executor true ∷ Executor false ∷ Copied [] ∷ Finished ∷ Passed ∷ Stopped ∷ lock_answers)
 wrong_at_barrier = search rules
 
 -- and of one that is alone
 pub wrong_at_barrier_alone : AreWrong 1 [] (asks 0 Barrier)
-    (Chunk (pos 0) 1 ∷ NoChunk ∷ Section 0 ∷ Section 1 ∷ Executor true ∷ Executor false ∷ Copied [] ∷ Finished ∷ Wait ∷ Stopped ∷ [])
+    (Chunk (pos 0) 1 ∷ NoChunk ∷ Section 0 ∷ Section 1 ∷ Executor true ∷ Executor false ∷ Copied [] ∷ Finished ∷ Wait ∷ Stopped ∷ lock_answers)
 wrong_at_barrier_alone = search rules
 
 -- the region's end, of the first member
 pub wrong_at_region_end : AreWrong 2 [] (asks 0 RegionEnd)
-    (Chunk (pos 0) 1 ∷ NoChunk ∷ Section 0 ∷ Section 1 ∷ Executor true ∷ Executor false ∷ Copied [] ∷ Finished ∷ Passed ∷ Stopped ∷ [])
+    (Chunk (pos 0) 1 ∷ NoChunk ∷ Section 0 ∷ Section 1 ∷ Executor true ∷ Executor false ∷ Copied [] ∷ Finished ∷ Passed ∷ Stopped ∷ lock_answers)
 wrong_at_region_end = search rules
 
 -- and of one that is alone
 pub wrong_at_region_end_alone : AreWrong 1 [] (asks 0 RegionEnd)
-    (Chunk (pos 0) 1 ∷ NoChunk ∷ Section 0 ∷ Section 1 ∷ Executor true ∷ Executor false ∷ Copied [] ∷ Finished ∷ Wait ∷ Stopped ∷ [])
+    (Chunk (pos 0) 1 ∷ NoChunk ∷ Section 0 ∷ Section 1 ∷ Executor true ∷ Executor false ∷ Copied [] ∷ Finished ∷ Wait ∷ Stopped ∷ lock_answers)
 wrong_at_region_end_alone = search rules
 
 -- a resume of a member that waits for nothing
 pub wrong_at_resume : AreWrong 1 [] (asks 0 Resume)
-    (Chunk (pos 0) 1 ∷ NoChunk ∷ Section 0 ∷ Section 1 ∷ Executor true ∷ Executor false ∷ Copied [] ∷ Finished ∷ Passed ∷ Wait ∷ Stopped ∷ [])
+    (Chunk (pos 0) 1 ∷ NoChunk ∷ Section 0 ∷ Section 1 ∷ Executor true ∷ Executor false ∷ Copied [] ∷ Finished ∷ Passed ∷ Wait ∷ Stopped ∷ lock_answers)
 wrong_at_resume = search rules
 
 -- one if the barrier is met
 pub wrong_at_met_resume : AreWrong 2 (take 8 loop_of_two) (asks 0 Resume)
-    (Chunk (pos 0) 1 ∷ NoChunk ∷ Section 0 ∷ Section 1 ∷ Executor true ∷ Executor false ∷ Copied [] ∷ Finished ∷ Wait ∷ Stopped ∷ [])
+    (Chunk (pos 0) 1 ∷ NoChunk ∷ Section 0 ∷ Section 1 ∷ Executor true ∷ Executor false ∷ Copied [] ∷ Finished ∷ Wait ∷ Stopped ∷ lock_answers)
 wrong_at_met_resume = search rules
 
 -- and one if it is not
 pub wrong_at_waiting_resume : AreWrong 2 (take 7 loop_of_two) (asks 0 Resume)
-    (Chunk (pos 0) 1 ∷ NoChunk ∷ Section 0 ∷ Section 1 ∷ Executor true ∷ Executor false ∷ Copied [] ∷ Finished ∷ Passed ∷ Stopped ∷ [])
+    (Chunk (pos 0) 1 ∷ NoChunk ∷ Section 0 ∷ Section 1 ∷ Executor true ∷ Executor false ∷ Copied [] ∷ Finished ∷ Passed ∷ Stopped ∷ lock_answers)
 wrong_at_waiting_resume = search rules
 
 -- a stop
 pub wrong_at_stop : AreWrong 1 [] (asks 0 Stop)
-    (Chunk (pos 0) 1 ∷ NoChunk ∷ Section 0 ∷ Section 1 ∷ Executor true ∷ Executor false ∷ Copied [] ∷ Finished ∷ Passed ∷ Wait ∷ [])
+    (Chunk (pos 0) 1 ∷ NoChunk ∷ Section 0 ∷ Section 1 ∷ Executor true ∷ Executor false ∷ Copied [] ∷ Finished ∷ Passed ∷ Wait ∷ lock_answers)
 wrong_at_stop = search rules
 
 -- a ninth share while the other member is in the first: a loop
 pub wrong_at_ninth_loop : AreWrong 2 eight_ahead (asks 0 one_nowait)
-    (Chunk (pos 0) 1 ∷ NoChunk ∷ Section 0 ∷ Section 1 ∷ Executor true ∷ Executor false ∷ Copied [] ∷ Finished ∷ Passed ∷ Stopped ∷ [])
+    (Chunk (pos 0) 1 ∷ NoChunk ∷ Section 0 ∷ Section 1 ∷ Executor true ∷ Executor false ∷ Copied [] ∷ Finished ∷ Passed ∷ Stopped ∷ lock_answers)
 wrong_at_ninth_loop = search rules
 
 -- sections
 pub wrong_at_ninth_sections : AreWrong 2 eight_ahead (asks 0 three_sections)
-    (Chunk (pos 0) 1 ∷ NoChunk ∷ Section 0 ∷ Section 1 ∷ Executor true ∷ Executor false ∷ Copied [] ∷ Finished ∷ Passed ∷ Stopped ∷ [])
+    (Chunk (pos 0) 1 ∷ NoChunk ∷ Section 0 ∷ Section 1 ∷ Executor true ∷ Executor false ∷ Copied [] ∷ Finished ∷ Passed ∷ Stopped ∷ lock_answers)
 wrong_at_ninth_sections = search rules
 
 -- a single
 pub wrong_at_ninth_single : AreWrong 2 eight_ahead (asks 0 SingleStart)
-    (Chunk (pos 0) 1 ∷ NoChunk ∷ Section 0 ∷ Section 1 ∷ Executor true ∷ Executor false ∷ Copied [] ∷ Finished ∷ Passed ∷ Stopped ∷ [])
+    (Chunk (pos 0) 1 ∷ NoChunk ∷ Section 0 ∷ Section 1 ∷ Executor true ∷ Executor false ∷ Copied [] ∷ Finished ∷ Passed ∷ Stopped ∷ lock_answers)
 wrong_at_ninth_single = search rules
 
 -- and a single with words
 pub wrong_at_ninth_copy : AreWrong 2 eight_ahead (asks 0 SingleCopyStart)
-    (Chunk (pos 0) 1 ∷ NoChunk ∷ Section 0 ∷ Section 1 ∷ Executor true ∷ Executor false ∷ Copied [] ∷ Finished ∷ Passed ∷ Stopped ∷ [])
+    (Chunk (pos 0) 1 ∷ NoChunk ∷ Section 0 ∷ Section 1 ∷ Executor true ∷ Executor false ∷ Copied [] ∷ Finished ∷ Passed ∷ Stopped ∷ lock_answers)
 wrong_at_ninth_copy = search rules
+
+-- the start of a critical construct whose name nobody holds
+pub wrong_at_critical : AreWrong 2 [] (asks 0 (CriticalStart name_a)) (Wait ∷ share_answers ++ lock_answers)
+wrong_at_critical = search rules
+
+-- and of one whose name another member holds
+pub wrong_at_waiting_critical : AreWrong 2 (holding 1 name_a) (asks 0 (CriticalStart name_a)) (Finished ∷ share_answers ++ lock_answers)
+wrong_at_waiting_critical = search rules
+
+-- its end
+pub wrong_at_critical_end : AreWrong 2 (holding 0 name_a) (asks 0 (CriticalEnd name_a)) (Wait ∷ share_answers ++ lock_answers)
+wrong_at_critical_end = search rules
+
+-- the making of a simple lock
+pub wrong_at_lock_init : AreWrong 2 [] (asks 0 LockInit) (Finished ∷ Wait ∷ Lock 1 ∷ Got true ∷ Got false ∷ Count 0 ∷ Count 1 ∷ share_answers)
+wrong_at_lock_init = search rules
+
+-- and of a nestable one, after another
+pub wrong_at_nest_init : AreWrong 2 (take 1 both_made) (asks 0 NestInit) (Finished ∷ Wait ∷ Lock 0 ∷ Lock 2 ∷ Got true ∷ Got false ∷ Count 0 ∷ Count 1 ∷ share_answers)
+wrong_at_nest_init = search rules
+
+-- a lock's destruction
+pub wrong_at_lock_destroy : AreWrong 2 both_made (asks 0 (LockDestroy 0)) (Wait ∷ share_answers ++ lock_answers)
+wrong_at_lock_destroy = search rules
+
+-- a simple lock that nobody holds is set
+pub wrong_at_set : AreWrong 2 both_made (asks 0 (Set 0)) (Wait ∷ share_answers ++ lock_answers)
+wrong_at_set = search rules
+
+-- and one that another member holds
+pub wrong_at_waiting_set : AreWrong 2 (both_set 1) (asks 0 (Set 0)) (Finished ∷ share_answers ++ lock_answers)
+wrong_at_waiting_set = search rules
+
+-- a simple lock that nobody holds is tested
+pub wrong_at_test : AreWrong 2 both_made (asks 0 (TestLock 0)) (Finished ∷ Wait ∷ Lock 0 ∷ Got false ∷ Count 0 ∷ Count 1 ∷ share_answers)
+wrong_at_test = search rules
+
+-- and one that another holds, or the member itself
+pub wrong_at_failed_test :
+    AreWrong 2 (both_set 1) (asks 0 (TestLock 0)) (Finished ∷ Wait ∷ Lock 0 ∷ Got true ∷ Count 0 ∷ Count 1 ∷ share_answers)
+    × AreWrong 2 (both_set 0) (asks 0 (TestLock 0)) (Finished ∷ Wait ∷ Lock 0 ∷ Got true ∷ Count 0 ∷ Count 1 ∷ share_answers)
+wrong_at_failed_test = search rules
+
+-- a simple lock is unset
+pub wrong_at_unset : AreWrong 2 (both_set 0) (asks 0 (Unset 0)) (Wait ∷ share_answers ++ lock_answers)
+wrong_at_unset = search rules
+
+-- a nestable lock that nobody holds is set
+pub wrong_at_set_nest : AreWrong 2 both_made (asks 0 (SetNest 1)) (Finished ∷ Wait ∷ Lock 1 ∷ Got true ∷ Got false ∷ Count 0 ∷ Count 2 ∷ share_answers)
+wrong_at_set_nest = search rules
+
+-- one that the member holds
+pub wrong_at_second_set_nest : AreWrong 2 (both_set 0) (asks 0 (SetNest 1)) (Finished ∷ Wait ∷ Lock 1 ∷ Got true ∷ Got false ∷ Count 0 ∷ Count 1 ∷ Count 3 ∷ share_answers)
+wrong_at_second_set_nest = search rules
+
+-- and one that another does
+pub wrong_at_waiting_set_nest : AreWrong 2 (both_set 1) (asks 0 (SetNest 1)) (Finished ∷ Count 2 ∷ share_answers ++ lock_answers)
+wrong_at_waiting_set_nest = search rules
+
+-- a nestable lock that nobody holds is tested
+pub wrong_at_test_nest : AreWrong 2 both_made (asks 0 (TestNest 1)) (Finished ∷ Wait ∷ Lock 1 ∷ Got true ∷ Got false ∷ Count 0 ∷ Count 2 ∷ share_answers)
+wrong_at_test_nest = search rules
+
+-- one that the member holds
+pub wrong_at_second_test_nest : AreWrong 2 (both_set 0) (asks 0 (TestNest 1)) (Finished ∷ Wait ∷ Lock 1 ∷ Got true ∷ Got false ∷ Count 0 ∷ Count 1 ∷ Count 3 ∷ share_answers)
+wrong_at_second_test_nest = search rules
+
+-- and one that another does
+pub wrong_at_failed_test_nest : AreWrong 2 (both_set 1) (asks 0 (TestNest 1)) (Finished ∷ Wait ∷ Lock 1 ∷ Got true ∷ Got false ∷ Count 1 ∷ Count 2 ∷ share_answers)
+wrong_at_failed_test_nest = search rules
+
+-- a nestable lock is unset
+pub wrong_at_unset_nest : AreWrong 2 (both_set 0) (asks 0 (UnsetNest 1)) (Finished ∷ Wait ∷ Lock 1 ∷ Got true ∷ Got false ∷ Count 1 ∷ Count 2 ∷ share_answers)
+wrong_at_unset_nest = search rules
 
 -- Want of memory
 
@@ -275,6 +351,42 @@ memory_at_barrier_resume may = absurd (cc)
 pub memory_at_idle_resume : IsWrong 1 [] (asks 0 Resume) (Refused NoMemory)
 memory_at_idle_resume may = absurd (cc)
 
+-- at a critical construct's start that is repeated
+pub memory_at_critical_resume : IsWrong 2 (take 6 names_and_locks) (asks 1 Resume) (Refused NoMemory) × IsWrong 2 (take 8 names_and_locks) (asks 1 Resume) (Refused NoMemory)
+memory_at_critical_resume = ((λ may. absurd (cc)), (λ may. absurd (cc)))
+
+-- at its end
+pub memory_at_critical_end : IsWrong 2 (holding 0 name_a) (asks 0 (CriticalEnd name_a)) (Refused NoMemory)
+memory_at_critical_end may = absurd (cc)
+
+-- at a lock's destruction
+pub memory_at_lock_destroy : IsWrong 2 both_made (asks 0 (LockDestroy 0)) (Refused NoMemory)
+memory_at_lock_destroy may = absurd (cc)
+
+-- at a simple lock, free or held by another
+pub memory_at_set : IsWrong 2 both_made (asks 0 (Set 0)) (Refused NoMemory) × IsWrong 2 (both_set 1) (asks 0 (Set 0)) (Refused NoMemory)
+memory_at_set = ((λ may. absurd (cc)), (λ may. absurd (cc)))
+
+pub memory_at_test : IsWrong 2 both_made (asks 0 (TestLock 0)) (Refused NoMemory)
+memory_at_test may = absurd (cc)
+
+pub memory_at_unset : IsWrong 2 (both_set 0) (asks 0 (Unset 0)) (Refused NoMemory)
+memory_at_unset may = absurd (cc)
+
+-- at a nestable lock, free or held by another
+pub memory_at_set_nest : IsWrong 2 both_made (asks 0 (SetNest 1)) (Refused NoMemory) × IsWrong 2 (both_set 1) (asks 0 (SetNest 1)) (Refused NoMemory)
+memory_at_set_nest = ((λ may. absurd (cc)), (λ may. absurd (cc)))
+
+pub memory_at_test_nest : IsWrong 2 both_made (asks 0 (TestNest 1)) (Refused NoMemory)
+memory_at_test_nest may = absurd (cc)
+
+pub memory_at_unset_nest : IsWrong 2 (both_set 0) (asks 0 (UnsetNest 1)) (Refused NoMemory)
+memory_at_unset_nest may = absurd (cc)
+
+-- at a resume of a set
+pub memory_at_set_resume : IsWrong 2 (take 5 destroyed_while_waiting) (asks 1 Resume) (Refused NoMemory)
+memory_at_set_resume may = absurd (cc)
+
 -- beside a test: a loop inside of another
 pub memory_inside : IsWrong 1 (take 1 loop_alone) (asks 0 one_nowait) (Refused NoMemory)
 memory_inside may = absurd (cc)
@@ -287,18 +399,19 @@ memory_at_sections_inside may = absurd (cc)
 pub memory_at_copy_inside : IsWrong 1 (take 1 loop_alone) (asks 0 SingleCopyStart) (Refused NoMemory)
 memory_at_copy_inside may = absurd (cc)
 
--- and another construct than the team's
+-- another construct than the team's
 pub memory_of_another_construct : IsWrong 2 (take 1 loop_alone) (asks 1 SingleCopyStart) (Refused NoMemory)
 memory_of_another_construct may = absurd (cc)
 
--- Refusals if no test holds, and others than that whose test does
+-- a name that is too long, and one that the member holds
+pub memory_at_refused_name : IsWrong 1 [] (asks 0 (CriticalStart long_name)) (Refused NoMemory) × IsWrong 1 (holding 0 name_a) (asks 0 (CriticalStart name_a)) (Refused NoMemory)
+memory_at_refused_name = ((λ may. absurd (cc)), (λ may. absurd (cc)))
 
--- all refusals but want of memory, and but one with a cause or a word
-abbrev all_refusals : List Reply
-all_refusals =
-    map Refused
-    (BadMember ∷ Ended ∷ Waiting ∷ InsideShare ∷ OutsideShare ∷ InOrdered ∷ ZeroStep ∷ BadChunk ∷ LoopTooLong ∷ BadSections ∷ EndDiffers
-    ∷ NotDrained ∷ Drained ∷ NotOrdered ∷ OrderedBackwards ∷ NotInside ∷ TooManyShares ∷ Mismatch ∷ BadTeam ∷ [])
+-- and a barrier while a name is held
+pub memory_with_a_name : IsWrong 1 (holding 0 name_a) (asks 0 Barrier) (Refused NoMemory)
+memory_with_a_name may = absurd (cc)
+
+-- Refusals if no test holds, and others than that whose test does
 
 -- a loop's start
 pub refused_at_loop_start : AreWrong 2 [] (asks 0 one_nowait) all_refusals
@@ -379,6 +492,69 @@ refused_at_met_resume = search rules
 -- a start that waits for room
 pub refused_at_ninth : AreWrong 2 eight_ahead (asks 0 SingleStart) all_refusals
 refused_at_ninth = search rules
+
+-- the start of a critical construct, of a name that nobody holds
+pub refused_at_critical : AreWrong 2 [] (asks 0 (CriticalStart name_a)) all_refusals
+refused_at_critical = search rules
+
+-- and of one that another does
+pub refused_at_waiting_critical : AreWrong 2 (holding 1 name_a) (asks 0 (CriticalStart name_a)) all_refusals
+refused_at_waiting_critical = search rules
+
+-- its resume
+pub refused_at_critical_resume : AreWrong 2 (take 6 names_and_locks) (asks 1 Resume) all_refusals
+refused_at_critical_resume = search rules
+
+-- its end
+pub refused_at_critical_end : AreWrong 2 (holding 0 name_a) (asks 0 (CriticalEnd name_a)) all_refusals
+refused_at_critical_end = search rules
+
+-- the making of a lock
+pub refused_at_lock_init : AreWrong 2 both_made (asks 0 LockInit) all_refusals
+refused_at_lock_init = search rules
+
+pub refused_at_nest_init : AreWrong 2 both_made (asks 0 NestInit) all_refusals
+refused_at_nest_init = search rules
+
+-- its destruction
+pub refused_at_lock_destroy : AreWrong 2 both_made (asks 0 (LockDestroy 1)) all_refusals
+refused_at_lock_destroy = search rules
+
+-- a simple lock that nobody holds
+pub refused_at_set : AreWrong 2 both_made (asks 0 (Set 0)) all_refusals
+refused_at_set = search rules
+
+-- and that another does
+pub refused_at_waiting_set : AreWrong 2 (both_set 1) (asks 0 (Set 0)) all_refusals
+refused_at_waiting_set = search rules
+
+-- its resume
+pub refused_at_set_resume : AreWrong 2 (take 3 destroyed_while_waiting) (asks 1 Resume) all_refusals
+refused_at_set_resume = search rules
+
+-- its test, by the member that holds it too
+pub refused_at_test : AreWrong 2 (both_set 0) (asks 0 (TestLock 0)) all_refusals
+refused_at_test = search rules
+
+-- its unset
+pub refused_at_unset : AreWrong 2 (both_set 0) (asks 0 (Unset 0)) all_refusals
+refused_at_unset = search rules
+
+-- a nestable lock that the member holds
+pub refused_at_set_nest : AreWrong 2 (both_set 0) (asks 0 (SetNest 1)) all_refusals
+refused_at_set_nest = search rules
+
+-- and that another does
+pub refused_at_waiting_set_nest : AreWrong 2 (both_set 1) (asks 0 (SetNest 1)) all_refusals
+refused_at_waiting_set_nest = search rules
+
+-- its test
+pub refused_at_test_nest : AreWrong 2 (both_set 1) (asks 0 (TestNest 1)) all_refusals
+refused_at_test_nest = search rules
+
+-- its unset
+pub refused_at_unset_nest : AreWrong 2 (both_set 0) (asks 0 (UnsetNest 1)) all_refusals
+refused_at_unset_nest = search rules
 
 -- a call is refused for a share that it is inside of, and not for another reason, nor answered
 pub refused_otherwise : AreWrong 1 (take 1 loop_alone) (asks 0 SingleStart)
@@ -482,6 +658,19 @@ waiting_part_in_no_loop never = never
 pub none_of_no_share : DealsOut 1 0 None NoChunk [] → ⊥
 none_of_no_share never = never
 
+-- nor a lock that is none, if the tests refuse before: it is not set
+pub no_lock_set : (MayReplyAfter false 1 [] 0 (Set 0) Finished → ⊥) × (MayReplyAfter false 1 [] 0 (Set 0) Wait → ⊥)
+no_lock_set = ((λ never. never), (λ never. never))
+
+-- not tested
+pub no_lock_tested : (MayReplyAfter false 1 [] 0 (TestLock 0) (Got true) → ⊥) × (MayReplyAfter false 1 [] 0 (TestLock 0) (Got false) → ⊥)
+no_lock_tested = ((λ never. never), (λ never. never))
+
+-- nor is a nestable one
+pub no_nest_set : (MayReplyAfter false 1 [] 0 (SetNest 0) (Count 1) → ⊥) × (MayReplyAfter false 1 [] 0 (SetNest 0) Wait → ⊥) × (MayReplyAfter false 1 [] 0 (TestNest 0) (Count 1) → ⊥)
+    × (MayReplyAfter false 1 [] 0 (TestNest 0) (Count 0) → ⊥) × (MayReplyAfter false 1 [] 0 (UnsetNest 0) (Count 0) → ⊥)
+no_nest_set = ((λ never. never), (λ never. never), (λ never. never), (λ never. never), (λ never. never))
+
 -- Runs
 
 -- a run is none for its last answer
@@ -528,15 +717,20 @@ alone_waits reply = absurd (let waits = reply.1 in cc)
 pub part_end_outside : IsWrong 1 (take 1 ordered_alone) (asks 0 OrderedEnd) (Finished)
 part_end_outside = search rules
 
+-- nor is one while the member holds a critical name
+pub part_end_with_a_name : IsWrong 1 (take 6 named_in_a_part) (asks 0 OrderedEnd) Finished
+part_end_with_a_name = search rules
+
 -- the reply that there is to each step is another than want of memory
 pub some_reply_tells : (p : Past) (step : Step) → (some : SomeReply p step) → (some.0 ≢ Refused NoMemory) × MayAnswer p step some.0
 some_reply_tells p step some = (some.1, some.2)
 
 -- a limit above the standard one refuses no share later than that does
-pub limit_is_capped : (h : List Event) → has_left_region 0 h ≡ false → clash_of h ≡ None → open_share 0 h ≡ None → shares_entered 0 h ≡ 131064 →
+pub limit_is_capped :
+    (h : List Event) → has_left_region 0 h ≡ false → clash_of h ≡ None → open_share 0 h ≡ None → holds_critical (asker 0 h) h ≡ false → shares_entered 0 h ≡ 131064 →
     refusal_of (record (before_all (record { members = 1; limits = record { shares = 131065; tasks = 0; events = 0 }; cancellation = false })) { events = h }) (asks 0 SingleStart) ≡ Some TooManyShares
-limit_is_capped h stays whole outside many =
+limit_is_capped h stays whole outside free many =
     elim (cases_Bool (shape_differs (single_shape false) (shape_at 131064 h))) [
-      | inl differs ↦ rw (stays, whole, outside, many, differs) refl
-      | inr same ↦ rw (stays, whole, outside, many, same) refl
+      | inl differs ↦ rw (stays, whole, outside, free, many, differs) refl
+      | inr same ↦ rw (stays, whole, outside, free, many, same) refl
     ]

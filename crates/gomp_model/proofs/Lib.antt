@@ -1,2 +1,10 @@
+pub mod CauseExamples
 pub mod LoopLimits
+pub mod RecordExamples
+pub mod RowExamples
+pub mod StepExamples
+pub mod TestExamples
+pub mod RunsWithCauses
+pub mod WrongAnswers
+pub mod WrongHoldAnswers
 pub mod WrongShareAnswers

@@ -2,32 +2,38 @@
 use Rattle.std.proofs.Common.{ℕ, ◌≡◌, true, false, List, [], ◌∷◌, Some, None, refl, rules}
 use Rattle.std.specs.Prelude.{Bool, Option, pos, map, ◌++◌, ◌==◌, ◌&&◌}
 use Rattle.gomp_types.specs.declared.call.Call.{Call}
-use Rattle.gomp_types.specs.declared.call.Call.TheVariants.{LoopStart, LoopNext, LoopEnd, LoopEndNowait, SectionsNext, SectionsEnd, SectionsEndNowait, SingleStart, SingleCopyStart, SingleCopyEnd, OrderedStart, OrderedEnd, Barrier, RegionEnd, Resume, Stop}
+use Rattle.gomp_types.specs.declared.call.Call.TheVariants.{LoopStart, LoopNext, LoopEnd, LoopEndNowait, SectionsNext, SectionsEnd, SectionsEndNowait, SingleStart, SingleCopyStart, SingleCopyEnd, OrderedStart, OrderedEnd, Barrier, RegionEnd, CriticalStart, CriticalEnd, LockInit, NestInit, LockDestroy, Set, Test as TestLock, Unset, SetNest, TestNest, UnsetNest, Resume, Stop}
+use Rattle.gomp_types.specs.declared.key.Key.{Key}
+use Rattle.gomp_types.specs.declared.key.Key.TheVariants.{Critical, Lock, NestLock}
+use Rattle.gomp_types.specs.declared.lock.LockKind.{LockKind}
+use Rattle.gomp_types.specs.declared.lock.LockKind.TheVariants.{Simple, Nest}
+use Rattle.gomp_types.specs.declared.task.Task.TheVariants.{Implicit}
 use Rattle.gomp_types.specs.declared.loop_desc.EndKind.TheVariants.{Wait as WaitEnd}
 use Rattle.gomp_types.specs.declared.refusal.Place.TheVariants.{Share, Barrier as AtBarrier, Stopped as AtStop}
 use Rattle.gomp_types.specs.declared.refusal.Refusal.{Refusal}
-use Rattle.gomp_types.specs.declared.refusal.Refusal.TheVariants.{Ended, Waiting, InsideShare, NotDrained, NotInside, TooManyShares, Mismatch, NoMemory}
+use Rattle.gomp_types.specs.declared.refusal.Refusal.TheVariants.{Ended, Waiting, InsideShare, HoldsCritical, NotDrained, NotInside, NameTooLong, AlreadyHeld, NotHolder, NoLock, TooManyShares, Mismatch, NoMemory}
 use Rattle.gomp_types.specs.declared.reply.Reply.{Reply}
-use Rattle.gomp_types.specs.declared.reply.Reply.TheVariants.{Chunk, NoChunk, Section, Executor, Copied, Finished, Passed, Wait, Stopped, Refused}
+use Rattle.gomp_types.specs.declared.reply.Reply.TheVariants.{Chunk, NoChunk, Section, Executor, Copied, Finished, Passed, Wait, Lock as LockMade, Got as GotLock, Count, Stopped, Refused}
 use Rattle.gomp_types.specs.declared.shape.Shape.{Shape}
 use Rattle.gomp_types.specs.declared.shape.ShareKind.TheVariants.{Dynamic}
 use Rattle.gomp_types.specs.declared.event.Arrival.{Arrival}
 use Rattle.gomp_types.specs.declared.event.Arrival.TheVariants.{Barrier as BarrierArrival, ShareEnd, RegionEnd as RegionEndArrival}
 use Rattle.gomp_types.specs.declared.event.Event.{Event}
-use Rattle.gomp_types.specs.declared.event.Event.TheVariants.{Enter, Take, Drained, End, HandOn, Part, PartEnd, Put, Got, Arrive, Pass, Break}
+use Rattle.gomp_types.specs.declared.event.Event.TheVariants.{Enter, Take, Drained, End, HandOn, Part, PartEnd, Put, Got, Arrive, Pass, Hold, Free, Break}
 use Rattle.gomp_types.specs.Events.{shares_entered, barriers_passed}
 use Rattle.gomp_types.specs.Least.{least}
 use Rattle.gomp_types.specs.Sections.{sections_shape}
 use Rattle.gomp_types.specs.Singles.{single_shape}
 use Rattle.gomp_types.specs.Tests.{Test}
 use Rattle.gomp_types.specs.EventLists.{even_four, four, at}
-use Rattle.gomp_model.specs.Row.{Row, plain_row, at_once, unless_repeated, begun_past, row_tests, refusal_gives, events_after}
+use Rattle.gomp_model.specs.Row.{Row, plain_row, at_once, unless_repeated, begun_past, place_tests, book_tests, row_tests, refusal_gives, events_after, locks_after}
 use Rattle.gomp_model.specs.Calls.{row_of}
 use Rattle.gomp_model.specs.Loops.{loop_next_row}
 use Rattle.gomp_model.specs.Past.{Past}
 use Rattle.gomp_model.specs.Arrivals.{barrier_row}
 use Rattle.gomp_model.specs.OrderedParts.{ordered_start_row}
-use Rattle.gomp_model.specs.Examples.{MayReplyAfter, past_with, past_after_run, ten_by_three, up_to, stopped_waiting}
+use Rattle.gomp_model.specs.Examples.{MayReplyAfter, lock_answers, share_answers, past_with, past_after_run, ten_by_three, up_to, stopped_waiting}
+use Rattle.gomp_model.specs.HoldExamples.{name_a, name_b, longest_name, long_name}
 use Rattle.gomp_model.specs.ShareExamples.{three_sections}
 
 -- Flags
@@ -47,7 +53,21 @@ ends = LoopEndNowait ∷ SectionsEndNowait ∷ SingleCopyEnd (7 ∷ []) ∷ Orde
 abbrev arrivals : List Call
 arrivals = LoopEnd ∷ SectionsEnd ∷ Barrier ∷ RegionEnd ∷ []
 
--- and those that do neither
+-- all calls on shares and at barriers
+abbrev in_team : List Call
+in_team = starts ++ nexts ++ ends ++ arrivals
+
+-- those on critical names, and those on locks
+abbrev on_names : List Call
+on_names = CriticalStart name_a ∷ CriticalEnd name_a ∷ []
+
+abbrev on_locks : List Call
+on_locks = LockInit ∷ NestInit ∷ LockDestroy 0 ∷ Set 0 ∷ TestLock 0 ∷ Unset 0 ∷ SetNest 1 ∷ TestNest 1 ∷ UnsetNest 1 ∷ []
+
+abbrev in_book : List Call
+in_book = on_names ++ on_locks
+
+-- and the others
 abbrev others : List Call
 others = Resume ∷ Stop ∷ []
 
@@ -63,6 +83,10 @@ memory_of_starts = refl
 pub memory_of_arrivals : flags (λ row. row.memory) arrivals ≡ false ∷ false ∷ true ∷ false ∷ []
 memory_of_arrivals = refl
 
+-- the start of a critical construct, which may meet a name for the first time, and the making of a lock
+pub memory_of_book : flags (λ row. row.memory) in_book ≡ true ∷ false ∷ true ∷ true ∷ false ∷ false ∷ false ∷ false ∷ false ∷ false ∷ false ∷ []
+memory_of_book = refl
+
 -- no other call
 pub memory_of_others : flags (λ row. row.memory) (nexts ++ ends ++ others) ≡ false ∷ false ∷ false ∷ false ∷ false ∷ false ∷ false ∷ false ∷ false ∷ []
 memory_of_others = refl
@@ -71,9 +95,13 @@ memory_of_others = refl
 pub stays_while_waiting : flags (λ row. row.stays) (starts ++ nexts) ≡ true ∷ true ∷ true ∷ true ∷ true ∷ true ∷ true ∷ []
 stays_while_waiting = refl
 
--- if it waits at a barrier it has left its share, and no other call waits
+-- if it waits at a barrier it has left its share; the ends wait for nothing
 pub moves_or_waits_never : flags (λ row. row.stays) (ends ++ arrivals ++ others) ≡ false ∷ false ∷ false ∷ false ∷ false ∷ false ∷ false ∷ false ∷ false ∷ false ∷ []
 moves_or_waits_never = refl
+
+-- a name or a lock is waited for wherever the member is
+pub stays_for_no_lock : flags (λ row. row.stays) in_book ≡ map (λ call. false) in_book
+stays_for_no_lock = refl
 
 -- words are put at the end of a single with words
 pub puts_of_ends : flags (λ row. row.puts) ends ≡ false ∷ false ∷ true ∷ false ∷ []
@@ -82,6 +110,29 @@ puts_of_ends = refl
 -- and by no other call
 pub puts_of_others : flags (λ row. row.puts) (starts ++ nexts ++ arrivals ++ others) ≡ false ∷ false ∷ false ∷ false ∷ false ∷ false ∷ false ∷ false ∷ false ∷ false ∷ false ∷ false ∷ false ∷ []
 puts_of_others = refl
+
+pub puts_of_book : flags (λ row. row.puts) in_book ≡ map (λ call. false) in_book
+puts_of_book = refl
+
+-- the calls on names and locks ask the book of these, and no other call does
+pub books_asked : (flags (λ row. row.asks_book) in_book ≡ map (λ call. true) in_book) × (flags (λ row. row.asks_book) (in_team ++ others) ≡ map (λ call. false) (in_team ++ others))
+books_asked = (refl, refl)
+
+-- which name or lock these calls hold or free
+abbrev keys : List Call → List (Option Key)
+keys calls = map (λ call. (row_of call).holds) calls
+
+pub keys_of_names : keys on_names ≡ Some (Critical name_a) ∷ Some (Critical name_a) ∷ []
+keys_of_names = refl
+
+-- a lock is held by its kind and number; one that is made or destroyed is not
+pub keys_of_locks :
+    keys on_locks ≡ None ∷ None ∷ None ∷ Some (Lock 0) ∷ Some (Lock 0) ∷ Some (Lock 0) ∷ Some (NestLock 1) ∷ Some (NestLock 1) ∷ Some (NestLock 1) ∷ []
+keys_of_locks = refl
+
+-- no other call holds any
+pub keys_of_others : keys (in_team ++ others) ≡ map (λ call. None) (in_team ++ others)
+keys_of_others = refl
 
 -- at which kind of barrier these calls arrive
 abbrev kinds : List Call → List (Option Arrival)
@@ -93,6 +144,9 @@ kinds_of_arrivals = refl
 -- no other call arrives
 pub kinds_of_others : kinds (starts ++ nexts ++ ends ++ others) ≡ None ∷ None ∷ None ∷ None ∷ None ∷ None ∷ None ∷ None ∷ None ∷ None ∷ None ∷ None ∷ None ∷ []
 kinds_of_others = refl
+
+pub kinds_of_book : kinds in_book ≡ map (λ call. None) in_book
+kinds_of_book = refl
 
 -- Places
 
@@ -142,6 +196,9 @@ begun_by_arrivals = refl
 pub begun_by_others : begun (starts ++ nexts ++ others) ≡ [] ∷ [] ∷ [] ∷ [] ∷ [] ∷ [] ∷ [] ∷ [] ∷ [] ∷ []
 begun_by_others = refl
 
+pub begun_by_book : begun in_book ≡ map (λ call. []) in_book
+begun_by_book = refl
+
 -- Events that a reply gives
 
 -- those of this call in a loop of four, ordered, in whose first piece the member is, for each of these replies
@@ -152,23 +209,23 @@ given call (reply ∷ replies) =
 
 -- replies of other calls than one that asks for iterations
 abbrev no_iterations : List Reply
-no_iterations = Section 0 ∷ Section 1 ∷ Executor true ∷ Executor false ∷ Copied (7 ∷ []) ∷ Finished ∷ Passed ∷ Wait ∷ Stopped ∷ []
+no_iterations = Section 0 ∷ Section 1 ∷ Executor true ∷ Executor false ∷ Copied (7 ∷ []) ∷ Finished ∷ Passed ∷ Wait ∷ Stopped ∷ lock_answers
 
 -- than one that asks for a section
 abbrev no_section : List Reply
-no_section = Chunk (pos 0) 1 ∷ NoChunk ∷ Executor true ∷ Executor false ∷ Copied (7 ∷ []) ∷ Finished ∷ Passed ∷ Wait ∷ Stopped ∷ []
+no_section = Chunk (pos 0) 1 ∷ NoChunk ∷ Executor true ∷ Executor false ∷ Copied (7 ∷ []) ∷ Finished ∷ Passed ∷ Wait ∷ Stopped ∷ lock_answers
 
 -- than a single
 abbrev no_single : List Reply
-no_single = Chunk (pos 0) 1 ∷ NoChunk ∷ Section 0 ∷ Section 1 ∷ Copied (7 ∷ []) ∷ Finished ∷ Passed ∷ Wait ∷ Stopped ∷ []
+no_single = Chunk (pos 0) 1 ∷ NoChunk ∷ Section 0 ∷ Section 1 ∷ Copied (7 ∷ []) ∷ Finished ∷ Passed ∷ Wait ∷ Stopped ∷ lock_answers
 
 -- than one with words
 abbrev no_copy : List Reply
-no_copy = Chunk (pos 0) 1 ∷ NoChunk ∷ Section 0 ∷ Section 1 ∷ Executor false ∷ Finished ∷ Passed ∷ Wait ∷ Stopped ∷ []
+no_copy = Chunk (pos 0) 1 ∷ NoChunk ∷ Section 0 ∷ Section 1 ∷ Executor false ∷ Finished ∷ Passed ∷ Wait ∷ Stopped ∷ lock_answers
 
 -- than one that only finishes, passes, or stops
 abbrev no_finish : List Reply
-no_finish = Chunk (pos 0) 1 ∷ NoChunk ∷ Section 0 ∷ Section 1 ∷ Executor true ∷ Executor false ∷ Copied (7 ∷ []) ∷ Wait ∷ []
+no_finish = Chunk (pos 0) 1 ∷ NoChunk ∷ Section 0 ∷ Section 1 ∷ Executor true ∷ Executor false ∷ Copied (7 ∷ []) ∷ Wait ∷ lock_answers
 
 -- a start that waits enters nothing, and one that is answered as another call gives nothing
 pub none_given_by_starts : given ten_by_three no_iterations ++ given three_sections no_section ++ given SingleStart no_single ++ given SingleCopyStart no_copy ≡ []
@@ -195,6 +252,25 @@ none_given_by_arrivals = refl
 pub none_given_by_stop : given Stop (Finished ∷ Passed ∷ no_finish) ++ given Resume (Finished ∷ Passed ∷ Stopped ∷ no_finish) ≡ []
 none_given_by_stop = refl
 
+-- a member that does not get a name or a lock holds nothing, and one that is answered as another call neither
+pub none_held :
+    given (CriticalStart name_a) (Passed ∷ Stopped ∷ Wait ∷ GotLock false ∷ Count 0 ∷ LockMade 0 ∷ share_answers) ++ given (Set 0) (Passed ∷ Stopped ∷ Wait ∷ GotLock false ∷ Count 0 ∷ LockMade 0 ∷ share_answers)
+    ++ given (TestLock 0) (Wait ∷ GotLock false ∷ Count 0 ∷ LockMade 0 ∷ share_answers)
+    ++ given (SetNest 1) (Wait ∷ GotLock false ∷ Count 0 ∷ LockMade 0 ∷ share_answers) ++ given (TestNest 1) (Wait ∷ GotLock false ∷ Count 0 ∷ LockMade 0 ∷ share_answers) ≡ []
+none_held = refl
+
+-- nor does such an answer free any
+pub none_freed :
+    given (CriticalEnd name_a) (Wait ∷ GotLock true ∷ GotLock false ∷ LockMade 0 ∷ share_answers) ++ given (Unset 0) (Wait ∷ GotLock true ∷ GotLock false ∷ LockMade 0 ∷ share_answers)
+    ++ given (UnsetNest 1) (Wait ∷ GotLock true ∷ GotLock false ∷ LockMade 0 ∷ share_answers) ≡ []
+none_freed = refl
+
+-- a lock that is made or destroyed gives no event
+pub none_given_by_makers :
+    given LockInit (Finished ∷ Wait ∷ lock_answers ++ share_answers) ++ given NestInit (Finished ∷ Wait ∷ lock_answers ++ share_answers)
+    ++ given (LockDestroy 0) (Finished ∷ Wait ∷ lock_answers ++ share_answers) ≡ []
+none_given_by_makers = refl
+
 -- ten iterations in chunks of three
 abbrev ten_shape : Shape
 ten_shape = record { start = pos 0; incr = pos 1; trips = 10; kind = Dynamic; chunk = 3; ordered = false; end_kind = WaitEnd }
@@ -217,6 +293,64 @@ pub given_by_others :
     × (given Barrier (Passed ∷ []) ≡ Pass 0 0 ∷ [])
     × (given Stop (Stopped ∷ []) ≡ Break 0 AtStop ∷ [])
 given_by_others = (refl, refl, refl, refl, refl, refl)
+
+-- the calls on names
+pub given_by_names :
+    (given (CriticalStart name_a) (Finished ∷ []) ≡ Hold (Critical name_a) 0 (Implicit 0) ∷ []) × (given (CriticalEnd name_a) (Finished ∷ []) ≡ Free (Critical name_a) 0 (Implicit 0) ∷ [])
+given_by_names = (refl, refl)
+
+-- and on locks
+pub given_by_locks :
+    (given (Set 3) (Finished ∷ []) ≡ Hold (Lock 3) 0 (Implicit 0) ∷ []) × (given (TestLock 3) (GotLock true ∷ []) ≡ Hold (Lock 3) 0 (Implicit 0) ∷ [])
+    × (given (Unset 3) (Finished ∷ []) ≡ Free (Lock 3) 0 (Implicit 0) ∷ [])
+    × (given (SetNest 3) (Count 2 ∷ []) ≡ Hold (NestLock 3) 0 (Implicit 0) ∷ []) × (given (TestNest 3) (Count 2 ∷ []) ≡ Hold (NestLock 3) 0 (Implicit 0) ∷ [])
+    × (given (UnsetNest 3) (Count 2 ∷ Count 0 ∷ []) ≡ Free (NestLock 3) 0 (Implicit 0) ∷ Free (NestLock 3) 0 (Implicit 0) ∷ [])
+given_by_locks = (refl, refl, refl, refl, refl, refl)
+
+-- the second member holds for itself
+pub given_by_the_second :
+    ((row_of (Set 3)).gives 1 (past_with 2 []) Finished ≡ Hold (Lock 3) 1 (Implicit 1) ∷ []) × ((row_of (CriticalEnd name_b)).gives 1 (past_with 2 []) Finished ≡ Free (Critical name_b) 1 (Implicit 1) ∷ [])
+given_by_the_second = (refl, refl)
+
+-- Locks that there are
+
+-- lock 0 is simple, lock 1 nestable, and lock 2 was destroyed
+abbrev three_locks : List (Option LockKind)
+three_locks = Some Simple ∷ Some Nest ∷ None ∷ []
+
+-- those after each of these replies to a call
+abbrev left_by : Call → List Reply → List (List (Option LockKind))
+left_by call replies = map (λ reply. (row_of call).locks reply three_locks) replies
+
+-- a lock that is made stands behind the others, with its kind
+pub left_by_makers :
+    (left_by LockInit (LockMade 3 ∷ Finished ∷ Count 3 ∷ []) ≡ (Some Simple ∷ Some Nest ∷ None ∷ Some Simple ∷ []) ∷ three_locks ∷ three_locks ∷ [])
+    × (left_by NestInit (LockMade 3 ∷ Finished ∷ Count 3 ∷ []) ≡ (Some Simple ∷ Some Nest ∷ None ∷ Some Nest ∷ []) ∷ three_locks ∷ three_locks ∷ [])
+left_by_makers = (refl, refl)
+
+-- one that is destroyed leaves its place, and no other number changes
+pub left_by_destroyers :
+    (left_by (LockDestroy 0) (Finished ∷ Wait ∷ LockMade 3 ∷ []) ≡ (None ∷ Some Nest ∷ None ∷ []) ∷ three_locks ∷ three_locks ∷ [])
+    × (left_by (LockDestroy 1) (Finished ∷ []) ≡ (Some Simple ∷ None ∷ None ∷ []) ∷ []) × (left_by (LockDestroy 3) (Finished ∷ []) ≡ three_locks ∷ [])
+left_by_destroyers = (refl, refl, refl)
+
+-- all calls that change none
+abbrev no_makers : List Call
+no_makers = in_team ++ on_names ++ Set 0 ∷ TestLock 0 ∷ Unset 0 ∷ SetNest 1 ∷ TestNest 1 ∷ UnsetNest 1 ∷ others
+
+pub left_by_others :
+    map (λ call. left_by call (Finished ∷ Wait ∷ lock_answers ++ share_answers)) no_makers ≡ map (λ call. map (λ reply. three_locks) (Finished ∷ Wait ∷ lock_answers ++ share_answers)) no_makers
+left_by_others = refl
+
+-- a row that leaves no lock, whatever is answered
+abbrev forgetful : Row
+forgetful = record plain_row { locks = λ reply locks. [] }
+
+-- a refusal leaves them all
+pub locks_after_refusals :
+    (locks_after forgetful (Refused NoLock) three_locks ≡ three_locks) × (locks_after forgetful (Refused Mismatch) three_locks ≡ three_locks)
+    × (locks_after forgetful (Refused NoMemory) three_locks ≡ three_locks) × (locks_after forgetful Finished three_locks ≡ []) × (locks_after forgetful Wait three_locks ≡ [])
+locks_after_refusals = (refl, refl, refl, refl, refl)
 
 -- what a member of a team of this size gives after these events, when it is told that no iteration is left
 abbrev last_given : ℕ → ℕ → List Event → List Event
@@ -269,20 +403,28 @@ abbrev tested : Row
 tested = record plain_row {
   by_place = λ limits seen. (true, NotDrained) ∷ [];
   by_team = λ m p. (true, Waiting) ∷ [];
+  missing = λ m p. (true, NoLock) ∷ [];
   compared = λ repeated m p. (repeated, TooManyShares) ∷ (true, Mismatch) ∷ [];
 }
 
--- a call makes them all
-pub tests_of_a_call : row_tests false tested 0 (past_with 1 []) ≡ (true, NotDrained) ∷ (true, Waiting) ∷ (false, TooManyShares) ∷ (true, Mismatch) ∷ []
+-- a call makes them all, first those on its place
+pub tests_of_a_call :
+    row_tests false tested 0 (past_with 1 []) ≡ (true, NotDrained) ∷ (false, TooManyShares) ∷ (true, Mismatch) ∷ (true, Waiting) ∷ (true, NoLock) ∷ []
 tests_of_a_call = refl
 
 -- and is refused by the least
 pub refusal_of_a_call : least (row_tests false tested 0 (past_with 1 [])) ≡ Some Waiting
 refusal_of_a_call = refl
 
--- a resume compares alone
-pub tests_of_a_resume : row_tests true tested 0 (past_with 1 []) ≡ (true, TooManyShares) ∷ (true, Mismatch) ∷ []
+-- a resume compares, and asks whether the lock is there
+pub tests_of_a_resume : row_tests true tested 0 (past_with 1 []) ≡ (true, TooManyShares) ∷ (true, Mismatch) ∷ (true, NoLock) ∷ []
 tests_of_a_resume = refl
+
+-- the tests on the place are apart from those that names and locks decide
+pub tests_apart :
+    (place_tests false tested 0 (past_with 1 []) ≡ (true, NotDrained) ∷ (false, TooManyShares) ∷ (true, Mismatch) ∷ []) × (book_tests false tested 0 (past_with 1 []) ≡ (true, Waiting) ∷ (true, NoLock) ∷ [])
+    × (place_tests true tested 0 (past_with 1 []) ≡ (true, TooManyShares) ∷ (true, Mismatch) ∷ []) × (book_tests true tested 0 (past_with 1 []) ≡ (true, NoLock) ∷ [])
+tests_apart = (refl, refl, refl, refl)
 
 -- a test on the place, which holds if these are the limits and the shares entered
 abbrev tested_place : Row
@@ -294,15 +436,93 @@ pub tests_by_place :
     × (row_tests false tested_place 0 (past_with 2 (Enter 0 1 (four false) ∷ [])) ≡ (false, InsideShare) ∷ [])
 tests_by_place = (refl, refl)
 
--- the tests of these calls by the team, if another has started a single, waits at the region's end, and the team is broken
-abbrev by_team_tests : List Call → List Test
-by_team_tests [] = []
-by_team_tests (call ∷ calls) =
-    (row_of call).by_team 0 (past_with 2 (Enter 0 1 (single_shape false) ∷ Arrive 0 1 (at RegionEndArrival 1) ∷ Break 1 AtStop ∷ [])) ++ by_team_tests calls
+-- Tests that names and locks decide
 
--- no call has any
-pub none_by_team : by_team_tests (starts ++ nexts ++ ends ++ arrivals ++ others) ≡ []
+-- the past after these events, with these locks
+abbrev past_with_locks : List Event → Past
+past_with_locks happened = record (past_with 2 happened) { locks = three_locks }
+
+-- a member holds a name and both locks
+abbrev all_held_by : ℕ → List Event
+all_held_by m = Hold (Critical name_a) m (Implicit m) ∷ Hold (Lock 0) m (Implicit m) ∷ Hold (NestLock 1) m (Implicit m) ∷ []
+
+-- these tests of these calls, by the first member
+abbrev tests_after : List Event → List Call → List (List Test)
+tests_after happened calls = map (λ call. (row_of call).by_team 0 (past_with_locks happened)) calls
+
+-- and the refusals that they give
+abbrev refusals_after : List Event → List Call → List (Option Refusal)
+refusals_after happened calls = map (λ tests. least tests) (tests_after happened calls)
+
+-- a call on a share or at a barrier is refused if its own member holds a name
+pub held_by_the_member : tests_after (all_held_by 0) in_team ≡ map (λ call. (true, HoldsCritical) ∷ []) in_team
+held_by_the_member = refl
+
+-- not if another holds some, which waits at the region's end and has broken the team
+pub held_by_another_member :
+    tests_after (Enter 0 1 (single_shape false) ∷ all_held_by 1 ++ Arrive 0 1 (at RegionEndArrival 1) ∷ Break 1 AtStop ∷ []) in_team
+    ≡ map (λ call. (false, HoldsCritical) ∷ []) in_team
+held_by_another_member = refl
+
+-- nor if it has freed its name, or holds locks alone
+pub held_no_more :
+    (tests_after (all_held_by 0 ++ Free (Critical name_a) 0 (Implicit 0) ∷ []) in_team ≡ map (λ call. (false, HoldsCritical) ∷ []) in_team)
+    × (tests_after (Hold (Lock 0) 0 (Implicit 0) ∷ Hold (NestLock 1) 0 (Implicit 0) ∷ []) in_team ≡ map (λ call. (false, HoldsCritical) ∷ []) in_team)
+held_no_more = (refl, refl)
+
+-- it holds one of two
+pub one_of_two_held :
+    tests_after (all_held_by 0 ++ Hold (Critical name_b) 0 (Implicit 0) ∷ Free (Critical name_a) 0 (Implicit 0) ∷ []) (Barrier ∷ []) ≡ ((true, HoldsCritical) ∷ []) ∷ []
+one_of_two_held = refl
+
+-- a resume and a stop have no such test
+pub none_by_team : tests_after (all_held_by 0) others ≡ [] ∷ [] ∷ []
 none_by_team = refl
+
+-- the calls on names and locks if nobody holds any
+pub refusals_if_free :
+    refusals_after [] in_book ≡ None ∷ Some NotHolder ∷ None ∷ None ∷ None ∷ None ∷ None ∷ Some NotHolder ∷ None ∷ None ∷ Some NotHolder ∷ []
+refusals_if_free = refl
+
+-- if the member does
+pub refusals_if_own :
+    refusals_after (all_held_by 0) in_book ≡ Some AlreadyHeld ∷ None ∷ None ∷ None ∷ Some AlreadyHeld ∷ Some AlreadyHeld ∷ None ∷ None ∷ None ∷ None ∷ None ∷ []
+refusals_if_own = refl
+
+-- and if the other does
+pub refusals_if_other :
+    refusals_after (all_held_by 1) in_book ≡ None ∷ Some NotHolder ∷ None ∷ None ∷ Some AlreadyHeld ∷ None ∷ None ∷ Some NotHolder ∷ None ∷ None ∷ Some NotHolder ∷ []
+refusals_if_other = refl
+
+-- a name has at most 32 letters, of ASCII
+pub refusals_of_names :
+    (map (λ name. refusals_after [] (CriticalStart name ∷ [])) (longest_name ∷ long_name ∷ (127 ∷ []) ∷ (128 ∷ []) ∷ [])
+    ≡ (None ∷ []) ∷ (Some NameTooLong ∷ []) ∷ (None ∷ []) ∷ (Some NameTooLong ∷ []) ∷ [])
+    × (map (λ name. refusals_after [] (CriticalEnd name ∷ [])) (longest_name ∷ long_name ∷ (127 ∷ []) ∷ (128 ∷ []) ∷ [])
+    ≡ (Some NotHolder ∷ []) ∷ (Some NameTooLong ∷ []) ∷ (Some NotHolder ∷ []) ∷ (Some NameTooLong ∷ []) ∷ [])
+refusals_of_names = (refl, refl)
+
+-- the calls on the lock of this number, of either kind, on a simple one, and on a nestable one
+abbrev on_lock : ℕ → List Call
+on_lock number = LockDestroy number ∷ Set number ∷ TestLock number ∷ Unset number ∷ SetNest number ∷ TestNest number ∷ UnsetNest number ∷ []
+
+-- what these calls miss of these locks
+abbrev missed : List Call → List (List Test)
+missed calls = map (λ call. (row_of call).missing 0 (past_with_locks (all_held_by 1))) calls
+
+-- a lock is of one kind
+pub missed_by_kind :
+    (map (λ tests. least tests) (missed (on_lock 0)) ≡ None ∷ None ∷ None ∷ None ∷ Some NoLock ∷ Some NoLock ∷ Some NoLock ∷ [])
+    × (map (λ tests. least tests) (missed (on_lock 1)) ≡ None ∷ Some NoLock ∷ Some NoLock ∷ Some NoLock ∷ None ∷ None ∷ None ∷ [])
+missed_by_kind = (refl, refl)
+
+-- one that was destroyed is none, nor is one that was never made
+pub missed_by_all : (missed (on_lock 2) ≡ map (λ call. (true, NoLock) ∷ []) (on_lock 2)) × (missed (on_lock 3) ≡ map (λ call. (true, NoLock) ∷ []) (on_lock 3))
+missed_by_all = (refl, refl)
+
+-- no other call asks for a lock
+pub missed_by_none : missed (in_team ++ on_names ++ LockInit ∷ NestInit ∷ others) ≡ map (λ call. []) (in_team ++ on_names ++ LockInit ∷ NestInit ∷ others)
+missed_by_none = refl
 
 -- what these calls find to differ there, made or repeated
 abbrev differences : Bool → List Call → List (Option Refusal)
@@ -322,6 +542,9 @@ pub others_that_differ :
     (differences false (nexts ++ ends) ≡ None ∷ None ∷ None ∷ None ∷ None ∷ None ∷ None ∷ []) × (differences true (nexts ++ ends) ≡ differences false (nexts ++ ends))
     × (differences false others ≡ Some NotInside ∷ None ∷ []) × (differences true others ≡ Some NotInside ∷ None ∷ [])
 others_that_differ = (refl, refl, refl, refl)
+
+pub book_that_differs : (differences false in_book ≡ map (λ call. None) in_book) × (differences true in_book ≡ map (λ call. None) in_book)
+book_that_differs = (refl, refl)
 
 -- Events, once
 
@@ -395,13 +618,17 @@ pub no_share_started :
     map (λ call. (row_of call).starts) (nexts ++ (ends ++ (arrivals ++ others))) ≡ None ∷ None ∷ None ∷ None ∷ None ∷ None ∷ None ∷ None ∷ None ∷ None ∷ None ∷ None ∷ None ∷ []
 no_share_started = refl
 
+pub no_share_by_book : map (λ call. (row_of call).starts) in_book ≡ map (λ call. None) in_book
+no_share_by_book = refl
+
 -- Rows of which little is said
 
 -- what a row leaves as it is: no test, no event, and done at once
 pub plain_says_nothing :
     (row_tests false plain_row 0 (past_with 1 []) ≡ []) × (row_tests true plain_row 0 (past_with 1 []) ≡ []) × (plain_row.memory ≡ false) × (plain_row.stays ≡ false)
     × (plain_row.arrives ≡ None) × (plain_row.puts ≡ false) × (plain_row.begins 0 (past_with 1 []) ≡ []) × (plain_row.gives 0 (past_with 1 []) Finished ≡ [])
-plain_says_nothing = (refl, refl, refl, refl, refl, refl, refl, refl)
+    × (plain_row.asks_book ≡ false) × (plain_row.holds ≡ None) × (plain_row.locks Finished three_locks ≡ three_locks)
+plain_says_nothing = (refl, refl, refl, refl, refl, refl, refl, refl, refl, refl, refl)
 
 -- and nothing but done
 pub plain_is_done : (plain_row.may_reply 0 (past_with 1 []) Finished) × (plain_row.may_reply 0 (past_with 1 []) Wait → ⊥) × (plain_row.may_reply 0 (past_with 1 []) (Refused NoMemory) → ⊥)
@@ -409,7 +636,7 @@ plain_is_done = (refl, (λ e. absurd (cc)), (λ e. absurd (cc)))
 
 -- a call that is done at once has its tests, gives its events, and is done
 pub done_at_once :
-    (row_tests false (at_once (λ seen. (seen.in_part, NotDrained) ∷ []) (λ m h. End 0 m ∷ h)) 0 (past_with 1 []) ≡ (false, NotDrained) ∷ [])
+    (row_tests false (at_once (λ seen. (seen.in_part, NotDrained) ∷ []) (λ m h. End 0 m ∷ h)) 0 (past_with 1 []) ≡ (false, NotDrained) ∷ (false, HoldsCritical) ∷ [])
     × ((at_once (λ seen. []) (λ m h. End 0 m ∷ h)).begins 3 (past_with 1 (Pass 0 0 ∷ [])) ≡ End 0 3 ∷ Pass 0 0 ∷ [])
     × ((at_once (λ seen. []) (λ m h. [])).may_reply 0 (past_with 1 []) Finished)
 done_at_once = (refl, refl, refl)

@@ -5,7 +5,8 @@ use Rattle.gomp_types.specs.declared.loop_desc.Sched.TheVariants.{Static, Dynami
 use Rattle.gomp_types.specs.declared.loop_desc.EndKind.TheVariants.{Nowait}
 use Rattle.gomp_model.specs.Examples.{owned_pieces, even_pieces_of_four, shrinking_pieces, runtime_pieces, differing_schedule, IsRunOf, one_share, second_share, whole_region, IsRun, one_nowait, loop_of_two, empty_loops, refused_ends, ninth_share, differing_loop, other_end_values, differing_barrier, stopped_team, stopped_waiting, stopped_inside}
 use Rattle.gomp_model.specs.ShareExamples.{sections_of_two, no_sections, single_of_two, copy_of_three, misplaced_calls, differing_single, differing_copy, differing_sections, ordered_of_two, handed_of_two, ordered_alone, ordered_downwards, unordered_parts, differing_ordered}
-use Rattle.gomp_model.specs.RegionExamples.{region_of_two, later_barrier, later_share, differing_at_resume, differing_ninth, ninth_and_tenth, copied_at_once, parts_of_a_piece, early_arrivals, early_sections_end, early_starts, ends_in_order, outside_calls, second_of_each, stopped_at_the_end}
+use Rattle.gomp_model.specs.HoldExamples.{names_and_locks, names_to_the_end, destroyed_while_waiting, nest_of_two, names_in_a_loop}
+use Rattle.gomp_model.specs.RegionExamples.{region_of_two, later_barrier, later_share, differing_at_resume, differing_ninth, ninth_and_tenth, copied_at_once, parts_of_a_piece, early_arrivals, early_sections_end, early_starts, ends_in_order, outside_calls, second_of_each, stopped_at_the_end, named_in_a_part}
 
 -- Loops, barriers and stops
 
@@ -216,3 +217,29 @@ second_of_each_has_causes = search rules
 -- a stop by a member that waits at the end of the region
 pub stopped_at_the_end_has_causes : IsRun 3 stopped_at_the_end
 stopped_at_the_end_has_causes = search rules
+
+-- Critical names and locks
+
+-- two members, a name that both want, and a lock of each kind
+pub names_and_locks_have_causes : IsRun 2 names_and_locks
+names_and_locks_have_causes = search rules
+
+-- a member alone holds two names, and may not end the region with them
+pub names_to_the_end_have_causes : IsRun 1 names_to_the_end
+names_to_the_end_have_causes = search rules
+
+-- a lock is destroyed while a member waits for it
+pub destroyed_while_waiting_has_causes : IsRun 2 destroyed_while_waiting
+destroyed_while_waiting_has_causes = search rules
+
+-- a nestable lock goes from one member to another
+pub nest_of_two_has_causes : IsRun 2 nest_of_two
+nest_of_two_has_causes = search rules
+
+-- names inside of a loop, and a lock that is held at a barrier
+pub names_in_a_loop_have_causes : IsRun 1 names_in_a_loop
+names_in_a_loop_have_causes = search rules
+
+-- a name that is held at the end of an ordered part
+pub named_in_a_part_has_causes : IsRun 1 named_in_a_part
+named_in_a_part_has_causes = search rules

@@ -1,17 +1,19 @@
 -- What a step is tested for, may be refused, and leaves; and what a new team is.
 use Rattle.std.proofs.Common.{◌≡◌, true, false, [], ◌∷◌, Some, None, refl, inl, inr}
 use Rattle.std.specs.Prelude.{pos, take, map}
-use Rattle.gomp_types.specs.declared.call.Call.TheVariants.{LoopNext, LoopEnd, SectionsStart, SingleStart, SingleCopyStart, OrderedStart, Barrier, RegionEnd, Resume, Stop}
+use Rattle.gomp_types.specs.declared.call.Call.TheVariants.{LoopNext, LoopEnd, SectionsStart, SingleStart, SingleCopyStart, OrderedStart, Barrier, RegionEnd, CriticalStart, LockInit, NestInit, LockDestroy, Resume, Stop}
+use Rattle.gomp_types.specs.declared.lock.LockKind.TheVariants.{Simple, Nest}
 use Rattle.gomp_types.specs.declared.loop_desc.EndKind.TheVariants.{Nowait}
 use Rattle.gomp_types.specs.declared.refusal.Place.TheVariants.{Stopped as AtStop}
-use Rattle.gomp_types.specs.declared.refusal.Refusal.TheVariants.{BadMember, Ended, Broken, Waiting, InsideShare, ZeroStep, BadSections, TooManyShares, NotInside, NoMemory, Mismatch}
-use Rattle.gomp_types.specs.declared.reply.Reply.TheVariants.{Chunk, NoChunk, Section, Executor, Finished, Passed, Wait, Stopped, Refused}
+use Rattle.gomp_types.specs.declared.refusal.Refusal.TheVariants.{BadMember, Ended, Broken, Waiting, InsideShare, HoldsCritical, ZeroStep, BadSections, TooManyShares, NotInside, NoMemory, Mismatch}
+use Rattle.gomp_types.specs.declared.reply.Reply.TheVariants.{Chunk, NoChunk, Section, Executor, Finished, Passed, Wait, Lock, Stopped, Refused}
 use Rattle.gomp_types.specs.declared.event.Arrival.TheVariants.{Barrier as BarrierArrival, ShareEnd, RegionEnd as RegionEndArrival}
 use Rattle.gomp_types.specs.declared.event.Event.TheVariants.{Enter, End, Arrive, Pass, Break}
 use Rattle.gomp_types.specs.Singles.{single_shape}
 use Rattle.gomp_types.specs.EventLists.{four, at}
 use Rattle.gomp_model.specs.Team.{MayAnswer, MayRefuse, OneReply, is_resume, row_at, broken_tests, member_tests, wait_tests, tests_of, refusal_of, wait_after, past_after, before_all, past_of}
 use Rattle.gomp_model.specs.Examples.{IsWrong, past_with, past_after_run, team_of, asks, one_nowait, one_share, loop_by, loop_of_two, stopped_waiting, stopped_team}
+use Rattle.gomp_model.specs.HoldExamples.{name_a, both_made}
 use Rattle.gomp_model.specs.ShareExamples.{three_sections, ordered_of_two}
 
 -- Tests of every step
@@ -42,7 +44,7 @@ tests_of_waits = (refl, refl)
 -- a step's tests: those of every step, of the open wait, of its call
 pub tests_of_a_step :
     tests_of (past_with 2 (Enter 0 0 (four false) ∷ [])) (asks 0 Barrier)
-    ≡ (false, BadMember) ∷ (false, Ended) ∷ (false, Waiting) ∷ (true, InsideShare) ∷ (false, Mismatch) ∷ []
+    ≡ (false, BadMember) ∷ (false, Ended) ∷ (false, Waiting) ∷ (true, InsideShare) ∷ (false, Mismatch) ∷ (false, HoldsCritical) ∷ []
 tests_of_a_step = refl
 
 -- a resume's: those of every step, and those that its call makes again
@@ -118,11 +120,13 @@ refused_by_tests = (refl, refl)
 pub refused_by_no_test : (MayRefuse (Some Waiting) Ended true → ⊥) × (MayRefuse None Waiting true → ⊥)
 refused_by_no_test = ((λ e. absurd (cc)), (λ e. absurd (cc)))
 
--- a barrier may find no memory, and so may the starts but that of a single
+-- a barrier may find no memory, and so may the starts but that of a single, and the making of a lock
 pub memory_of_steps :
     MayAnswer (past_with 2 []) (asks 1 Barrier) (Refused NoMemory) × MayAnswer (past_with 2 []) (asks 1 one_nowait) (Refused NoMemory)
     × MayAnswer (past_with 2 []) (asks 1 three_sections) (Refused NoMemory) × MayAnswer (past_with 2 []) (asks 1 SingleCopyStart) (Refused NoMemory)
-memory_of_steps = ((refl, refl), (refl, refl), (refl, refl), (refl, refl))
+    × MayAnswer (past_with 2 []) (asks 1 (CriticalStart name_a)) (Refused NoMemory) × MayAnswer (past_with 2 []) (asks 1 LockInit) (Refused NoMemory)
+    × MayAnswer (past_with 2 []) (asks 1 NestInit) (Refused NoMemory)
+memory_of_steps = ((refl, refl), (refl, refl), (refl, refl), (refl, refl), (refl, refl), (refl, refl), (refl, refl))
 
 -- want of memory goes with each answer, and each answer with itself
 pub replies_that_are_one : OneReply Passed Passed × OneReply Passed (Refused NoMemory) × OneReply (Refused NoMemory) Wait
@@ -166,15 +170,21 @@ waits_of_stopped = (refl, refl)
 
 -- The past
 
--- a new team has no events and no waits, and no limit above the standard one
+-- a new team has no events, no waits and no locks, and no limit above the standard one
 pub new_team :
     before_all (record { members = 3; limits = record { shares = 131065; tasks = 5; events = 16777217 }; cancellation = true })
-    ≡ record { terms = record { members = 3; limits = record { shares = 131064; tasks = 5; events = 16777216 }; cancellation = true }; events = []; waits = λ m. None }
+    ≡ record { terms = record { members = 3; limits = record { shares = 131064; tasks = 5; events = 16777216 }; cancellation = true }; events = []; waits = λ m. None; locks = [] }
 new_team = refl
 
 -- a step leaves the terms
 pub terms_stay : ((past_after_run 2 loop_of_two).terms ≡ team_of 2) × ((past_after_run 2 stopped_team).terms ≡ team_of 2)
 terms_stay = (refl, refl)
+
+-- a step leaves its row's locks, and a refusal those that there are
+pub locks_of_steps :
+    ((past_after (past_with 2 []) (asks 1 NestInit) (Lock 0)).locks ≡ Some Nest ∷ []) × ((past_after (past_with 2 []) (asks 1 NestInit) (Refused NoMemory)).locks ≡ [])
+    × ((past_after (past_after_run 2 both_made) (asks 1 (LockDestroy 0)) Finished).locks ≡ None ∷ Some Nest ∷ []) × ((past_after (past_after_run 2 both_made) (asks 1 Barrier) Wait).locks ≡ Some Simple ∷ Some Nest ∷ [])
+locks_of_steps = (refl, refl, refl, refl)
 
 -- the newest step is the last
 pub past_in_order :

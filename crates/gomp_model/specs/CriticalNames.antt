@@ -1,5 +1,5 @@
 -- The rows of the calls on critical names. OpenMP API 5.2, section 15.2.
-use Rattle.std.specs.Prelude.{ℕ, ◌≡◌, Bool, true, false, List, [], ◌∷◌, Some}
+use Rattle.std.specs.Prelude.{ℕ, Bool, true, false, List, [], ◌∷◌, Some}
 use Rattle.gomp_types.specs.declared.key.Key.{Key}
 use Rattle.gomp_types.specs.declared.key.Key.TheVariants.{Critical}
 use Rattle.gomp_types.specs.declared.reply.Reply.{Reply}

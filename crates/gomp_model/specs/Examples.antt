@@ -1,5 +1,5 @@
 -- Worked runs of a team, step by step, and answers that are wrong there. (own)
-use Rattle.std.specs.Prelude.{ℕ, ℤ, pos, negsuc, Result, Bool, false, List, [], ◌∷◌, ◌++◌}
+use Rattle.std.specs.Prelude.{ℕ, ℤ, pos, negsuc, Result, Bool, true, false, List, [], ◌∷◌, ◌++◌, map}
 use Rattle.gomp_types.specs.declared.call.Call.{Call}
 use Rattle.gomp_types.specs.declared.call.Call.TheVariants.{LoopStart, LoopNext, LoopEnd, LoopEndNowait, Barrier, RegionEnd, Resume, Stop}
 use Rattle.gomp_types.specs.declared.call.Step.{Step}
@@ -10,9 +10,9 @@ use Rattle.gomp_types.specs.declared.loop_desc.EndKind.{EndKind}
 use Rattle.gomp_types.specs.declared.loop_desc.EndKind.TheVariants.{Wait as WaitEnd, Nowait}
 use Rattle.gomp_types.specs.declared.refusal.Place.TheVariants.{Share, Barrier as AtBarrier, Stopped as AtStop}
 use Rattle.gomp_types.specs.declared.refusal.Refusal.{Refusal}
-use Rattle.gomp_types.specs.declared.refusal.Refusal.TheVariants.{BadMember, Ended, InsideShare, ZeroStep, BadChunk, LoopTooLong, NotInside, TooManyShares, NoMemory, Broken, Waiting, OutsideShare, EndDiffers, NotDrained, Drained, Mismatch}
+use Rattle.gomp_types.specs.declared.refusal.Refusal.TheVariants.{BadMember, Ended, Broken, Waiting, InsideShare, OutsideShare, InOrdered, HoldsCritical, ZeroStep, BadChunk, LoopTooLong, BadSections, EndDiffers, NotDrained, Drained, NotOrdered, OrderedBackwards, NotInside, NameTooLong, AlreadyHeld, NotHolder, NoLock, CountTooLarge, TooManyShares, Mismatch, NoMemory, BadTeam}
 use Rattle.gomp_types.specs.declared.reply.Reply.{Reply}
-use Rattle.gomp_types.specs.declared.reply.Reply.TheVariants.{Chunk, NoChunk, Finished, Passed, Wait, Stopped, Refused}
+use Rattle.gomp_types.specs.declared.reply.Reply.TheVariants.{Chunk, NoChunk, Section, Executor, Copied, Finished, Passed, Wait, Lock, Got, Count, Stopped, Refused}
 use Rattle.gomp_types.specs.Limits.{standard}
 use Rattle.gomp_types.specs.Tests.{first_refusal, outcome}
 use Rattle.gomp_types.specs.Iterations.{trip_count, loop_tests}
@@ -61,6 +61,22 @@ IsWrong members run step reply = MayAnswer (past_after_run members run) step rep
 abbrev pub AreWrong : ℕ → Run → Step → List Reply → Type 0
 AreWrong members run step [] = Unit {0}
 AreWrong members run step (reply ∷ replies) = IsWrong members run step reply × AreWrong members run step replies
+
+-- answers to a call on a lock
+abbrev pub lock_answers : List Reply
+lock_answers = Lock 0 ∷ Lock 1 ∷ Got true ∷ Got false ∷ Count 0 ∷ Count 1 ∷ []
+
+-- answers to a call on a share, and of a barrier and a stop
+abbrev pub share_answers : List Reply
+share_answers = Chunk (pos 0) 1 ∷ NoChunk ∷ Section 0 ∷ Section 1 ∷ Executor true ∷ Executor false ∷ Copied [] ∷ Passed ∷ Stopped ∷ []
+
+-- all refusals but want of memory, and but one with a cause or a word
+abbrev pub all_refusals : List Reply
+all_refusals =
+    map Refused
+    (BadMember ∷ Ended ∷ Waiting ∷ InsideShare ∷ OutsideShare ∷ InOrdered ∷ HoldsCritical ∷ ZeroStep ∷ BadChunk ∷ LoopTooLong ∷ BadSections
+    ∷ EndDiffers ∷ NotDrained ∷ Drained ∷ NotOrdered ∷ OrderedBackwards ∷ NotInside ∷ NameTooLong ∷ AlreadyHeld ∷ NotHolder ∷ NoLock
+    ∷ CountTooLarge ∷ TooManyShares ∷ Mismatch ∷ BadTeam ∷ [])
 
 -- this run has an answer without a cause
 abbrev pub IsNoRun : ℕ → Run → Type 0

@@ -2,6 +2,7 @@ pub mod Arrivals
 pub mod Calls
 pub mod CriticalNames
 pub mod Examples
+pub mod HoldExamples
 pub mod Locks
 pub mod Loops
 pub mod OrderedParts

@@ -1,5 +1,5 @@
 -- The rows of the lock routines. OpenMP API 5.2, section 18.9.
-use Rattle.std.specs.Prelude.{ℕ, ◌≡◌, true, List, [], ◌∷◌, ◌++◌, Option, Some, None, length, slice_set}
+use Rattle.std.specs.Prelude.{ℕ, true, List, [], ◌∷◌, ◌++◌, Option, Some, None, length, slice_set}
 use Rattle.gomp_types.specs.declared.key.Key.TheVariants.{Lock, NestLock}
 use Rattle.gomp_types.specs.declared.lock.LockKind.{LockKind}
 use Rattle.gomp_types.specs.declared.lock.LockKind.TheVariants.{Simple, Nest}

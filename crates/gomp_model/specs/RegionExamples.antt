@@ -1,12 +1,13 @@
 -- Worked runs of regions, whose members go from one construct to another. OpenMP API 5.2, chapter 11 and section 15.3. (own)
 use Rattle.std.specs.Prelude.{ℕ, pos, negsuc, Bool, true, false, [], ◌∷◌, ◌++◌}
 use Rattle.gomp_types.specs.declared.call.Call.{Call}
-use Rattle.gomp_types.specs.declared.call.Call.TheVariants.{LoopNext, LoopEnd, LoopEndNowait, SectionsStart, SectionsNext, SectionsEnd, SectionsEndNowait, SingleStart, SingleCopyStart, SingleCopyEnd, OrderedStart, OrderedEnd, Barrier, RegionEnd, Resume, Stop}
+use Rattle.gomp_types.specs.declared.call.Call.TheVariants.{LoopNext, LoopEnd, LoopEndNowait, SectionsStart, SectionsNext, SectionsEnd, SectionsEndNowait, SingleStart, SingleCopyStart, SingleCopyEnd, OrderedStart, OrderedEnd, Barrier, RegionEnd, CriticalStart, CriticalEnd, Resume, Stop}
 use Rattle.gomp_types.specs.declared.loop_desc.EndKind.TheVariants.{Wait as WaitEnd, Nowait}
 use Rattle.gomp_types.specs.declared.refusal.Place.TheVariants.{Share, Barrier as AtBarrier, Stopped as AtStop}
-use Rattle.gomp_types.specs.declared.refusal.Refusal.TheVariants.{BadMember, Ended, InsideShare, ZeroStep, BadChunk, OutsideShare, InOrdered, EndDiffers, NotDrained, NotOrdered, OrderedBackwards, BadSections, LoopTooLong, TooManyShares, NoMemory, Broken, Mismatch}
+use Rattle.gomp_types.specs.declared.refusal.Refusal.TheVariants.{BadMember, Ended, InsideShare, ZeroStep, BadChunk, OutsideShare, InOrdered, HoldsCritical, EndDiffers, NotDrained, NotOrdered, OrderedBackwards, BadSections, LoopTooLong, TooManyShares, NoMemory, Broken, Mismatch}
 use Rattle.gomp_types.specs.declared.reply.Reply.TheVariants.{Chunk, NoChunk, Section, Executor, Copied, Finished, Passed, Wait, Stopped, Refused}
 use Rattle.gomp_model.specs.Examples.{Run, asks, dynamic_loop, one_nowait, eight_ahead, loop_by}
+use Rattle.gomp_model.specs.HoldExamples.{name_a}
 use Rattle.gomp_model.specs.ShareExamples.{ordered_by}
 
 -- a member goes through a single
@@ -235,4 +236,19 @@ stopped_at_the_end =
     ∷ (asks 1 Stop, Refused Ended)
     ∷ (asks 3 Stop, Refused BadMember)
     ∷ (asks 2 Resume, Refused (Broken (record { member = 0; place = AtStop })))
+    ∷ []
+
+-- a member does not end its ordered part while it holds a critical name
+abbrev pub named_in_a_part : Run
+named_in_a_part =
+    (asks 0 (ordered_by (pos 1) (pos 2) (pos 4)), Chunk (pos 0) 2)
+    ∷ (asks 0 (CriticalStart name_a), Finished)
+    ∷ (asks 0 (OrderedStart (pos 0)), Refused HoldsCritical)
+    ∷ (asks 0 (CriticalEnd name_a), Finished)
+    ∷ (asks 0 (OrderedStart (pos 0)), Finished)
+    ∷ (asks 0 (CriticalStart name_a), Finished)
+    ∷ (asks 0 OrderedEnd, Refused HoldsCritical)
+    ∷ (asks 0 LoopNext, Refused InOrdered)
+    ∷ (asks 0 (CriticalEnd name_a), Finished)
+    ∷ (asks 0 OrderedEnd, Finished)
     ∷ []

@@ -1,30 +1,30 @@
 -- What the lines of a text say, computed: each word, each number at its ends, each fault and which comes first. (own)
 use Rattle.std.proofs.Common.{◌≡◌, pos, negsuc, true, false, [], ◌∷◌, ◌++◌, Some, None, Ok, Err, codes, refl}
 use Rattle.std.specs.Prelude.{map, replicate}
-use Rattle.gomp_types.specs.declared.call.Call.TheVariants.{LoopStart, LoopNext, LoopEnd, LoopEndNowait, SectionsStart, SectionsNext, SectionsEnd, SectionsEndNowait, SingleStart, SingleCopyStart, SingleCopyEnd, OrderedStart, OrderedEnd, Barrier, RegionEnd, Resume, Stop}
+use Rattle.gomp_types.specs.declared.call.Call.TheVariants.{LoopStart, LoopNext, LoopEnd, LoopEndNowait, SectionsStart, SectionsNext, SectionsEnd, SectionsEndNowait, SingleStart, SingleCopyStart, SingleCopyEnd, OrderedStart, OrderedEnd, Barrier, RegionEnd, CriticalStart, CriticalEnd, LockInit, NestInit, LockDestroy, Set, Test, Unset, SetNest, TestNest, UnsetNest, Resume, Stop}
 use Rattle.gomp_types.specs.declared.loop_desc.EndKind.TheVariants.{Wait, Nowait}
 use Rattle.gomp_types.specs.declared.loop_desc.Sched.TheVariants.{Static, Dynamic, Guided, Runtime}
 use Rattle.gomp_script.specs.declared.parse.Why.TheVariants.{NotAscii, FirstLine, UnknownWord, MissingWord, BadNumber, ExtraWord}
-use Rattle.gomp_script.specs.StepText.{read_line, step_of, plain_step, loop_step, sections_step, copy_end_step, ordered_step, team_of}
+use Rattle.gomp_script.specs.StepText.{read_line, step_of, plain_step, loop_step, sections_step, copy_end_step, ordered_step, critical_step, critical_end_step, lock_step, team_of}
 use Rattle.gomp_script.specs.Examples.{parts, steps_said, teams_said, calls, each_bad, by_first, loop_of_four}
 
 -- the calls that stand alone, each by its word
-pub calls_alone : steps_said (calls (codes "next|end|end_nowait|section_next|sections_end|sections_end_nowait|single|single_copy|ordered_end|barrier|region_end|resume|stop")) ≡ map by_first (LoopNext ∷ LoopEnd ∷ LoopEndNowait ∷ SectionsNext ∷ SectionsEnd ∷ SectionsEndNowait ∷ SingleStart ∷ SingleCopyStart ∷ OrderedEnd ∷ Barrier ∷ RegionEnd ∷ Resume ∷ Stop ∷ [])
+pub calls_alone : steps_said (calls (codes "next|end|end_nowait|section_next|sections_end|sections_end_nowait|single|single_copy|ordered_end|barrier|region_end|lock_init|nest_init|resume|stop")) ≡ map by_first (LoopNext ∷ LoopEnd ∷ LoopEndNowait ∷ SectionsNext ∷ SectionsEnd ∷ SectionsEndNowait ∷ SingleStart ∷ SingleCopyStart ∷ OrderedEnd ∷ Barrier ∷ RegionEnd ∷ LockInit ∷ NestInit ∷ Resume ∷ Stop ∷ [])
 unfolding plain_step loop_step sections_step copy_end_step ordered_step team_of
 calls_alone = refl
 
 -- each of them with a letter too few
-pub calls_shortened : steps_said (calls (codes "nex|en|end_nowai|section_nex|sections_en|sections_end_nowai|singl|single_cop|ordered_en|barrie|region_en|resum|sto")) ≡ each_bad 13 UnknownWord
+pub calls_shortened : steps_said (calls (codes "nex|en|end_nowai|section_nex|sections_en|sections_end_nowai|singl|single_cop|ordered_en|barrie|region_en|lock_ini|nest_ini|resum|sto")) ≡ each_bad 15 UnknownWord
 unfolding plain_step loop_step sections_step copy_end_step ordered_step team_of
 calls_shortened = refl
 
 -- with a letter too many
-pub calls_lengthened : steps_said (calls (codes "nexts|ends|end_nowaits|section_nexts|sections_ends|sections_end_nowaits|singles|single_copys|ordered_ends|barriers|region_ends|resumes|stops")) ≡ each_bad 13 UnknownWord
+pub calls_lengthened : steps_said (calls (codes "nexts|ends|end_nowaits|section_nexts|sections_ends|sections_end_nowaits|singles|single_copys|ordered_ends|barriers|region_ends|lock_inits|nest_inits|resumes|stops")) ≡ each_bad 15 UnknownWord
 unfolding plain_step loop_step sections_step copy_end_step ordered_step team_of
 calls_lengthened = refl
 
 -- and with a capital
-pub calls_in_capitals : steps_said (calls (codes "Next|End|End_nowait|Section_next|Sections_end|Sections_end_nowait|Single|Single_copy|Ordered_end|Barrier|Region_end|Resume|Stop")) ≡ each_bad 13 UnknownWord
+pub calls_in_capitals : steps_said (calls (codes "Next|End|End_nowait|Section_next|Sections_end|Sections_end_nowait|Single|Single_copy|Ordered_end|Barrier|Region_end|Lock_init|Nest_init|Resume|Stop")) ≡ each_bad 15 UnknownWord
 unfolding plain_step loop_step sections_step copy_end_step ordered_step team_of
 calls_in_capitals = refl
 
@@ -107,6 +107,51 @@ ordered_parts = refl
 pub words_of_a_copying_single : steps_said (parts (codes "0 single_copy_end|0 single_copy_end 18446744073709551615|0 single_copy_end 1 2 3 4 5 6 7 8")) ≡ map by_first (SingleCopyEnd [] ∷ SingleCopyEnd (18446744073709551615 ∷ []) ∷ SingleCopyEnd (1 ∷ 2 ∷ 3 ∷ 4 ∷ 5 ∷ 6 ∷ 7 ∷ 8 ∷ []) ∷ [])
 unfolding plain_step loop_step sections_step copy_end_step ordered_step team_of
 words_of_a_copying_single = refl
+
+-- a critical construct with a name and without one
+pub critical_names : steps_said (calls (codes "critical|critical a|critical critical|critical_end|critical_end a|critical_end 0")) ≡ map by_first (CriticalStart [] ∷ CriticalStart (codes "a") ∷ CriticalStart (codes "critical") ∷ CriticalEnd [] ∷ CriticalEnd (codes "a") ∷ CriticalEnd (codes "0") ∷ [])
+unfolding plain_step critical_step critical_end_step lock_step
+critical_names = refl
+
+-- of a long name the first 33 bytes are kept
+pub long_critical_names : steps_said (calls (codes "critical nnnnnnnnnnnnnnnnnnnnnnnnnnnnnnnn|critical_end nnnnnnnnnnnnnnnnnnnnnnnnnnnnnnnnab|critical nnnnnnnnnnnnnnnnnnnnnnnnnnnnnnnnabc")) ≡ map by_first (CriticalStart (codes "nnnnnnnnnnnnnnnnnnnnnnnnnnnnnnnn") ∷ CriticalEnd (codes "nnnnnnnnnnnnnnnnnnnnnnnnnnnnnnnna") ∷ CriticalStart (codes "nnnnnnnnnnnnnnnnnnnnnnnnnnnnnnnna") ∷ [])
+unfolding plain_step critical_step critical_end_step lock_step
+long_critical_names = refl
+
+-- the calls on a lock, each by its word
+pub calls_on_locks : steps_said (calls (codes "lock_destroy 0|set 1|test 2|unset 3|set_nest 4|test_nest 5|unset_nest 6")) ≡ map by_first (LockDestroy 0 ∷ Set 1 ∷ Test 2 ∷ Unset 3 ∷ SetNest 4 ∷ TestNest 5 ∷ UnsetNest 6 ∷ [])
+unfolding plain_step critical_step critical_end_step lock_step
+calls_on_locks = refl
+
+-- each with the largest number of its type
+pub largest_locks : steps_said (calls (codes "lock_destroy 4294967295|set 4294967295|test 4294967295|unset 4294967295|set_nest 4294967295|test_nest 4294967295|unset_nest 4294967295")) ≡ map (λ call. by_first (call 4294967295)) (LockDestroy ∷ Set ∷ Test ∷ Unset ∷ SetNest ∷ TestNest ∷ UnsetNest ∷ [])
+unfolding plain_step critical_step critical_end_step lock_step
+largest_locks = refl
+
+-- words with a letter too few, with one too many and with a capital
+pub holds_miswritten : steps_said (calls (codes "critica a|critical_en a|lock_destro 0|se 0|tes 0|unse 0|set_nes 0|test_nes 0|unset_nes 0|criticals a|critical_ends a|lock_destroys 0|sets 0|tests 0|unsets 0|set_nests 0|test_nests 0|unset_nests 0|Critical a|Critical_end a|Lock_destroy 0|Set 0|Test 0|Unset 0|Set_nest 0|Test_nest 0|Unset_nest 0")) ≡ each_bad 27 UnknownWord
+unfolding plain_step critical_step critical_end_step lock_step
+holds_miswritten = refl
+
+-- a call on a lock without its number, before a bad number of the member
+pub lock_missing : steps_said (parts (codes "0 lock_destroy|0 set|0 test|0 unset|0 set_nest|0 test_nest|x unset_nest")) ≡ each_bad 7 MissingWord
+unfolding plain_step critical_step critical_end_step lock_step
+lock_missing = refl
+
+-- a word that is no number of a lock, or one beyond its type, before a word too many
+pub bad_locks : steps_said (parts (codes "0 lock_destroy x|0 set 4294967296|0 test -1|0 unset +0|0 set_nest x 1|0 test_nest 0x|x unset_nest 0 1")) ≡ each_bad 7 BadNumber
+unfolding plain_step critical_step critical_end_step lock_step
+bad_locks = refl
+
+-- a bad number of the member, before a word too many
+pub bad_members_that_hold : steps_said (parts (codes "x critical|65536 critical a|-1 critical_end|x critical a b|x critical_end a b|x lock_init|x nest_init 0|x set 0")) ≡ each_bad 8 BadNumber
+unfolding plain_step critical_step critical_end_step lock_step
+bad_members_that_hold = refl
+
+-- a word too many
+pub more_than_a_lock : steps_said (calls (codes "critical a b|critical_end a b c|lock_init 0|nest_init 0|lock_destroy 0 1|set 0 1|test 0 1|unset 0 1|set_nest 0 1|test_nest 0 1|unset_nest 0 1")) ≡ each_bad 11 ExtraWord
+unfolding plain_step critical_step critical_end_step lock_step
+more_than_a_lock = refl
 
 -- numbers beyond their types
 pub numbers_beyond : steps_said (parts (codes "0 sections 4294967296 wait|0 sections -1 wait|0 ordered 9223372036854775808|0 ordered -9223372036854775809|0 single_copy_end 18446744073709551616|0 single_copy_end -1|65536 next|-1 next|x single_copy_end")) ≡ each_bad 9 BadNumber

@@ -1,10 +1,10 @@
 -- What texts say, computed, and which line of them is bad. (own)
 use Rattle.std.proofs.Common.{◌≡◌, ℕ, [], ◌∷◌, ◌++◌, Some, None, Result, Ok, Err, codes, refl, ap, sym, arith}
-use Rattle.gomp_types.specs.declared.call.Call.TheVariants.{Barrier}
+use Rattle.gomp_types.specs.declared.call.Call.TheVariants.{Barrier, CriticalStart, CriticalEnd, LockInit, Set}
 use Rattle.gomp_script.specs.declared.parse.BadLine.{BadLine}
 use Rattle.gomp_script.specs.declared.parse.Why.TheVariants.{NotAscii, FirstLine, UnknownWord, MissingWord, BadNumber, ExtraWord}
 use Rattle.gomp_script.specs.declared.parse.ParseError.TheVariants.{Memory, Bad}
-use Rattle.gomp_script.specs.StepText.{steps_of, steps_from, text_from, bad_line, lines_left, steps_kept, Gives, HasStep, TeamHasStep, refused_by, plain_step, loop_step, sections_step, copy_end_step, ordered_step, team_of}
+use Rattle.gomp_script.specs.StepText.{steps_of, steps_from, text_from, bad_line, lines_left, steps_kept, Gives, HasStep, TeamHasStep, refused_by, plain_step, loop_step, sections_step, copy_end_step, ordered_step, critical_step, critical_end_step, lock_step, team_of}
 use Rattle.gomp_script.specs.Examples.{IsBad, next_step, second_line}
 
 -- a text of two steps
@@ -21,6 +21,16 @@ no_last_line_feed = refl
 pub lines_between : steps_of (codes "\n# a team\n\nteam 2\n\n# a step\n0 next\n\n#") ≡ Ok (2, next_step ∷ [])
 unfolding plain_step loop_step sections_step copy_end_step ordered_step team_of
 lines_between = refl
+
+-- a text of a critical name and a lock
+pub text_of_holds : steps_of (codes "team 2\n0 critical\n0 lock_init\n1 set 0\n0 critical_end\n") ≡ Ok (2, record { member = 0; call = CriticalStart [] } ∷ record { member = 0; call = LockInit } ∷ record { member = 1; call = Set 0 } ∷ record { member = 0; call = CriticalEnd [] } ∷ [])
+unfolding plain_step critical_step critical_end_step lock_step team_of
+text_of_holds = refl
+
+-- a line of one is bad
+pub bad_line_of_holds : IsBad 3 ExtraWord (codes "team 2\n0 critical a\n0 critical_end a b\n0 set\n")
+unfolding plain_step critical_step critical_end_step lock_step team_of
+bad_line_of_holds = refl
 
 -- a text may have no step
 pub no_step : steps_of (codes "team 2\n# none\n\n") ≡ Ok (2, [])

@@ -6,7 +6,7 @@ use Rattle.gomp_script.specs.declared.parse.BadLine.{BadLine}
 use Rattle.gomp_script.specs.declared.parse.ParseError.{ParseError}
 use Rattle.gomp_script.specs.declared.parse.ParseError.TheVariants.{Memory, Bad}
 use Rattle.gomp_text.specs.Words.{lines_of}
-use Rattle.gomp_script.specs.StepText.{lines_left, with_front, step_line, steps_kept, with_team, Fails, HasStep, TeamHasStep, refused_by}
+use Rattle.gomp_script.specs.StepText.{next_word, call_step, step_of, lines_left, with_front, step_line, steps_kept, with_team, Fails, HasStep, TeamHasStep, refused_by}
 
 -- how much is left
 abbrev pub left : Option (List ℕ) → ℕ
@@ -67,3 +67,10 @@ pub no_fault_here : (number : ℕ) (said : Option Step) (later : Result (List St
 no_fault_here number None later = refl
 no_fault_here number (Some step) (Ok later) = refl
 no_fault_here number (Some step) (Err bad) = refl
+
+-- a step whose call is taken
+pub step_by_call : (member : List ℕ) (words : List (List ℕ)) (taken : List ℕ × List (List ℕ)) → next_word words ≡ Ok taken → step_of (member ∷ words) ≡ call_step member taken.0 taken.1
+step_by_call member [] taken is = absurd (cc)
+step_by_call member (word ∷ words) taken is =
+    let here : (word, words) ≡ taken = cc in
+    ap (λ (parts : List ℕ × List (List ℕ)). call_step member parts.0 parts.1) here

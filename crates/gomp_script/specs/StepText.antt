@@ -3,17 +3,20 @@ use Rattle.std.specs.Prelude.{ℕ, ℤ, ◌≡◌, ◌≢◌, ◌+◌, ◌++◌,
 use Rattle.std.specs.Borrow.{Bor}
 use Rattle.std.specs.Option.{option_map_or}
 use Rattle.gomp_types.specs.declared.call.Call.{Call}
-use Rattle.gomp_types.specs.declared.call.Call.TheVariants.{LoopStart, LoopNext, LoopEnd, LoopEndNowait, SectionsStart, SectionsNext, SectionsEnd, SectionsEndNowait, SingleStart, SingleCopyStart, SingleCopyEnd, OrderedStart, OrderedEnd, Barrier, RegionEnd, Resume, Stop}
+use Rattle.gomp_types.specs.declared.call.Call.TheVariants.{LoopStart, LoopNext, LoopEnd, LoopEndNowait, SectionsStart, SectionsNext, SectionsEnd, SectionsEndNowait, SingleStart, SingleCopyStart, SingleCopyEnd, OrderedStart, OrderedEnd, Barrier, RegionEnd, CriticalStart, CriticalEnd, LockInit, NestInit, LockDestroy, Set, Test, Unset, SetNest, TestNest, UnsetNest, Resume, Stop}
 use Rattle.gomp_types.specs.declared.call.Step.{Step}
 use Rattle.gomp_types.specs.declared.loop_desc.Sched.{Sched}
 use Rattle.gomp_types.specs.declared.loop_desc.Sched.TheVariants.{Static, Dynamic, Guided, Runtime}
 use Rattle.gomp_types.specs.declared.loop_desc.EndKind.{EndKind}
 use Rattle.gomp_types.specs.declared.loop_desc.EndKind.TheVariants.{Wait, Nowait}
+use Rattle.gomp_types.specs.declared.critical_name.TheConstants.{KEPT_BYTES}
 use Rattle.gomp_types.specs.declared.payload.TheConstants.{MAX_WORDS}
 use Rattle.gomp_types.specs.Limits.{shown_number}
 use Rattle.gomp_script.specs.declared.parse.Why.{Why}
 use Rattle.gomp_script.specs.declared.parse.Why.TheVariants.{NotAscii, FirstLine, UnknownWord, MissingWord, BadNumber, ExtraWord}
 use Rattle.gomp_script.specs.declared.parse.BadLine.{BadLine}
+use Rattle.gomp_script.specs.declared.parse.locks.LockCall.{LockCall}
+use Rattle.gomp_script.specs.declared.parse.locks.LockCall.TheVariants.{Destroys, Sets, Tests, Unsets, SetsNest, TestsNest, UnsetsNest}
 use Rattle.gomp_script.specs.declared.parse.ParseError.{ParseError}
 use Rattle.gomp_script.specs.declared.parse.ParseError.TheVariants.{Memory, Bad}
 use Rattle.gomp_text.specs.Words.{lines_of, words_of, parts_left, is_ascii, same_word}
@@ -50,7 +53,7 @@ no_more_words (word ∷ words) = Err ExtraWord
 abbrev pub member_of : List ℕ → Result ℕ Why
 member_of word = or_why BadNumber (unsigned 65535 word)
 
--- a count, a u32
+-- a count, or the number of a lock, a u32
 abbrev pub count_of : List ℕ → Result ℕ Why
 count_of word = or_why BadNumber (unsigned 4294967295 word)
 
@@ -90,6 +93,8 @@ call_of word =
     if same_word word (codes "ordered_end") then Some OrderedEnd
     else if same_word word (codes "barrier") then Some Barrier
     else if same_word word (codes "region_end") then Some RegionEnd
+    else if same_word word (codes "lock_init") then Some LockInit
+    else if same_word word (codes "nest_init") then Some NestInit
     else if same_word word (codes "resume") then Some Resume
     else if same_word word (codes "stop") then Some Stop
     else share_call_of word
@@ -174,6 +179,57 @@ ordered_step member words = do
   done ← no_more_words value.1
   Ok (record { member = number; call = OrderedStart iteration })
 
+-- the name of a critical construct, of which the first bytes are kept: the one word that is left, or the empty name
+abbrev pub critical_name_of : List (List ℕ) → Result (List ℕ) Why
+critical_name_of [] = Ok []
+critical_name_of (word ∷ []) = Ok (take KEPT_BYTES word)
+critical_name_of (word ∷ other ∷ words) = Err ExtraWord
+
+-- `MEMBER critical [NAME]`
+unfoldable pub critical_step : List ℕ → List (List ℕ) → Result Step Why
+critical_step member words = do
+  number ← member_of member
+  name ← critical_name_of words
+  Ok (record { member = number; call = CriticalStart name })
+
+-- `MEMBER critical_end [NAME]`
+unfoldable pub critical_end_step : List ℕ → List (List ℕ) → Result Step Why
+critical_end_step member words = do
+  number ← member_of member
+  name ← critical_name_of words
+  Ok (record { member = number; call = CriticalEnd name })
+
+-- the calls on a lock, each a call once the lock's number is read
+abbrev pub lock_call_of : List ℕ → Option (ℕ → Call)
+lock_call_of word =
+    if same_word word (codes "lock_destroy") then Some LockDestroy
+    else if same_word word (codes "set") then Some Set
+    else if same_word word (codes "test") then Some Test
+    else if same_word word (codes "unset") then Some Unset
+    else if same_word word (codes "set_nest") then Some SetNest
+    else if same_word word (codes "test_nest") then Some TestNest
+    else if same_word word (codes "unset_nest") then Some UnsetNest
+    else None
+
+-- the same call, as it is kept until that number is read
+abbrev pub call_on : LockCall → ℕ → Call
+call_on Destroys = LockDestroy
+call_on Sets = Set
+call_on Tests = Test
+call_on Unsets = Unset
+call_on SetsNest = SetNest
+call_on TestsNest = TestNest
+call_on UnsetsNest = UnsetNest
+
+-- `MEMBER CALL L`, of a call on a lock
+unfoldable pub lock_step : (ℕ → Call) → List ℕ → List (List ℕ) → Result Step Why
+lock_step call member words = do
+  lock ← next_word words
+  number ← member_of member
+  locked ← count_of lock.0
+  done ← no_more_words lock.1
+  Ok (record { member = number; call = call locked })
+
 -- the step of a member, by the word of its call and those that follow
 abbrev pub call_step : List ℕ → List ℕ → List (List ℕ) → Result Step Why
 call_step member call words =
@@ -181,7 +237,9 @@ call_step member call words =
     else if same_word call (codes "sections") then sections_step member words
     else if same_word call (codes "single_copy_end") then copy_end_step member words
     else if same_word call (codes "ordered") then ordered_step member words
-    else plain_step member call words
+    else if same_word call (codes "critical") then critical_step member words
+    else if same_word call (codes "critical_end") then critical_end_step member words
+    else option_map_or (λ lock_call. lock_step lock_call member words) (lock_call_of call) (plain_step member call words)
 
 abbrev pub step_of : List (List ℕ) → Result Step Why
 step_of [] = Err MissingWord

@@ -5,6 +5,8 @@ ghost use Rattle.gomp_text.specs.Words.{words_of};
 ghost use Rattle.gomp_script.specs.declared.parse.ParseError.TheVariants.{Memory};
 ghost use Rattle.gomp_script.specs.StepText.{IsFirstOfLine, call_step, step_of, team_of, read_line, steps_left, steps_of, steps_kept, begins_comment, Gives, HasStep, TeamHasStep, refused_by};
 
+mod critical;
+mod locks;
 mod loops;
 mod ordered;
 mod payload;
@@ -12,8 +14,10 @@ mod plain;
 mod sections;
 mod words;
 
+use critical::{critical_end_step, critical_step};
 use gomp_text::{cut_at, is_ascii, is_word, next_word};
 use gomp_types::Step;
+use locks::{lock_call_of, lock_step};
 use loops::loop_step;
 use ordered::ordered_step;
 use payload::copy_end_step;
@@ -248,5 +252,14 @@ fn call_step(member: &[u8], call: &[u8], rest: &[u8]) -> Result<Step, Why>
     if is_word(call, b"ordered") {
         return ordered_step(member, rest);
     }
-    plain_step(member, call, rest)
+    if is_word(call, b"critical") {
+        return critical_step(member, rest);
+    }
+    if is_word(call, b"critical_end") {
+        return critical_end_step(member, rest);
+    }
+    match lock_call_of(call) {
+        Some(lock_call) => lock_step(lock_call, member, rest),
+        None => plain_step(member, call, rest),
+    }
 }

@@ -5,16 +5,17 @@ use Rattle.std.specs.Io.KnownBytes.{Appends}
 use Rattle.std.specs.declared.io.ErrorKind.TheVariants as io_kinds
 use Rattle.gomp_types.specs.declared.call.Step.{Step}
 use Rattle.gomp_types.specs.declared.reply.Reply.{Reply}
-use Rattle.gomp_types.specs.declared.refusal.Refusal.TheVariants.{BadTeam, BadEnv}
+use Rattle.gomp_types.specs.declared.refusal.Refusal.TheVariants.{InsideShare, NoMemory, BadTeam, BadEnv}
+use Rattle.gomp_types.specs.declared.reply.Reply.TheVariants.{Passed, Refused}
 use Rattle.gomp_model.specs.Team.{record_after, Caused}
 use Rattle.gomp_icv.specs.Variables.{Variables}
-use Rattle.gomp_core.specs.Stands.{standard_terms, NoneForMemory}
+use Rattle.gomp_core.specs.Stands.{standard_terms, OnlyTakersLack}
 use Rattle.gomp_core.specs.Resolved.{resolved_steps}
 use Rattle.gomp_script.specs.declared.parse.Why.TheVariants.{BadNumber}
 use Rattle.gomp_script.specs.Printing.{reply_line, bad_line_text, refusal_line}
 use Rattle.gomp_script.specs.StepText.{steps_of}
 use Rattle.gomp_steps.specs.Notes.{lines_of, notes_text}
-use Rattle.gomp_steps.specs.Output.{is_size, Runs, AnswerTo}
+use Rattle.gomp_steps.specs.Output.{is_size, status_of, Runs, AnswerTo}
 use Rattle.gomp_steps.specs.Serving.{Whole, max_text, IsLonger, IsShort, Serves, unread_as, IsUnread}
 use Rattle.gomp_steps.specs.declared.serve.Ending.TheVariants as ending
 use Rattle.gomp_steps.specs.declared.notes.Notes.TheVariants as notes
@@ -29,11 +30,16 @@ three = 35 ∷ 97 ∷ 10 ∷ []
 pub sizes_that_are_served : map is_size (0 ∷ 1 ∷ 64 ∷ 65 ∷ []) ≡ false ∷ true ∷ true ∷ false ∷ []
 sizes_that_are_served = refl
 
--- the replies of a team that may be are one for each step, each with its cause and none for want of memory, and are printed in their order
+-- the replies of a team that may be are one for each step, each with its cause, want of memory only of a call that takes some, and are printed in their order
 pub replied_has : (icv : Variables) (count : ℕ) (steps : List Step) (text : List ℕ) (code : ℕ) → Runs icv true count steps text code →
     (replies : List Reply) × (length replies ≡ length steps) × Caused (standard_terms count icv) (record_after (resolved_steps icv steps) replies [])
-    × NoneForMemory replies × (text ≡ flat_map reply_line replies) × (code ≡ 0)
+    × OnlyTakersLack steps replies × (text ≡ flat_map reply_line replies) × (code ≡ status_of replies)
 replied_has icv count steps text code runs = (runs.replies, runs.each, runs.caused, runs.memory, runs.text_is, runs.code_is)
+
+-- the status is 3 exactly if one of them is want of memory
+pub statuses_of_replies :
+    map status_of ([] ∷ (Passed ∷ Refused InsideShare ∷ []) ∷ (Refused NoMemory ∷ Passed ∷ []) ∷ (Passed ∷ Refused NoMemory ∷ []) ∷ []) ≡ 0 ∷ 0 ∷ 3 ∷ 3 ∷ []
+statuses_of_replies = refl
 
 -- of another team its refusal is written
 pub refused_has : (icv : Variables) (steps : List Step) (text : List ℕ) (code : ℕ) → Runs icv false 65 steps text code → (text ≡ refusal_line BadTeam) × (code ≡ 2)

@@ -1,12 +1,14 @@
 -- What `ompteam steps` writes for a text, and with which status it ends. (own)
-use Rattle.std.specs.Prelude.{ℕ, ◌≡◌, ◌&&◌, nat_le, Bool, true, false, List, [], Result, Ok, Err, length, flat_map, string_bytes}
+use Rattle.std.specs.Prelude.{ℕ, ◌≡◌, ◌&&◌, nat_le, if◌then◌else◌, Bool, true, false, List, [], Result, Ok, Err, length, flat_map, string_bytes}
+use Rattle.std.specs.List.{list_any}
 use Rattle.gomp_types.specs.declared.limits.TheConstants.{MAX_MEMBERS}
 use Rattle.gomp_types.specs.declared.call.Step.{Step}
 use Rattle.gomp_types.specs.declared.reply.Reply.{Reply}
-use Rattle.gomp_types.specs.declared.refusal.Refusal.TheVariants.{BadTeam}
+use Rattle.gomp_types.specs.declared.reply.Reply.TheVariants.{Refused}
+use Rattle.gomp_types.specs.declared.refusal.Refusal.TheVariants.{BadTeam, NoMemory}
 use Rattle.gomp_model.specs.Team.{record_after, Caused}
 use Rattle.gomp_icv.specs.Variables.{Variables}
-use Rattle.gomp_core.specs.Stands.{standard_terms, NoneForMemory}
+use Rattle.gomp_core.specs.Stands.{standard_terms, OnlyTakersLack}
 use Rattle.gomp_core.specs.Resolved.{resolved_steps}
 use Rattle.gomp_script.specs.declared.parse.BadLine.{BadLine}
 use Rattle.gomp_script.specs.StepText.{steps_of}
@@ -17,14 +19,23 @@ use Rattle.gomp_script.specs.Printing.{reply_line, bad_line_text, refusal_line}
 abbrev pub is_size : ℕ → Bool
 is_size count = nat_le 1 count && nat_le count MAX_MEMBERS
 
--- the replies of a new team of this size, by these control variables, to the steps, one for each, a line for each; no reply is for want of memory, with which the status would be 3
+-- whether a reply is want of memory
+abbrev pub lacks : Reply → Bool
+lacks (Refused NoMemory) = true
+lacks _ = false
+
+-- the exit status after these replies: 3 if one of them is want of memory
+abbrev pub status_of : List Reply → ℕ
+status_of replies = if list_any lacks replies then 3 else 0
+
+-- the replies of a new team of this size, by these control variables, to the steps, one for each, a line for each; only calls that take memory may find none
 pub record Replied (icv : Variables) (count : ℕ) (steps : List Step) (text : List ℕ) (code : ℕ) : Type 0 where
   pub replies : List Reply
   pub each : length replies ≡ length steps
   pub caused : Caused (standard_terms count icv) (record_after (resolved_steps icv steps) replies [])
-  pub memory : NoneForMemory replies
+  pub memory : OnlyTakersLack steps replies
   pub text_is : text ≡ flat_map reply_line replies
-  pub code_is : code ≡ 0
+  pub code_is : code ≡ status_of replies
 
 abbrev pub Runs : Variables → Bool → ℕ → List Step → List ℕ → ℕ → Type 0
 Runs icv true count steps text code = Replied icv count steps text code

@@ -1,13 +1,13 @@
 //! From a text of steps to the text of their replies, and the exit status.
 
 ghost use Rattle.std.specs.Prelude.{◌≡◌, min, IfOk};
-ghost use Rattle.gomp_steps.specs.Output.{IsAnswer};
+ghost use Rattle.gomp_steps.specs.Output.{IsAnswer, lacks, status_of};
 
 use gomp_core::run;
 use gomp_icv::Icv;
 use gomp_script::{ParseError, parse_steps, print_bad_line, print_refusal, print_replies};
 use gomp_share_plain::PlainShares;
-use gomp_types::Refusal;
+use gomp_types::{Refusal, Reply};
 use std::alloc::{AllocError, Global};
 
 /// What is written for a text, and the exit status.
@@ -15,7 +15,8 @@ use std::alloc::{AllocError, Global};
 pub struct Answer {
     /// The lines that are written.
     pub text: String,
-    /// 0 if the steps were answered, 1 if a line is bad, 2 if there is no such team.
+    /// 0 if the steps were answered, 3 if one of them with want of memory (E37); 1 if a line is bad,
+    /// 2 if there is no such team.
     pub code: u8,
 }
 
@@ -37,7 +38,7 @@ pub fn answer_steps(alloc: Global, icv: Icv, text: &[u8]) -> Result<Answer, Allo
     match run::<PlainShares>(alloc, team_size(count), icv, steps) {
         Ok((_, replies)) => Ok(Answer {
             text: print_replies(alloc, replies.as_slice())?,
-            code: 0,
+            code: status_of(replies.as_slice()),
         }),
         Err(Refusal::BadTeam) => Ok(Answer {
             text: print_refusal(alloc, &Refusal::BadTeam)?,
@@ -53,4 +54,18 @@ pub fn team_size(count: u32) -> u16
     ensures { result ≡ min count 65535 }
 {
     u16::try_from(count).unwrap_or(u16::MAX)
+}
+
+/// The exit status after these replies: 3 if one of them is want of memory, else 0.
+fn status_of(replies: &[Reply]) -> u8
+    ensures { result ≡ status_of replies.now }
+{
+    if replies.iter().any(lacks) { 3 } else { 0 }
+}
+
+/// Whether a reply is want of memory.
+fn lacks(reply: &Reply) -> bool
+    ensures { result ≡ lacks reply.now }
+{
+    matches!(reply, Reply::Refused(Refusal::NoMemory))
 }

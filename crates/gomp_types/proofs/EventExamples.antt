@@ -5,7 +5,9 @@ use Rattle.gomp_types.specs.declared.shape.Shape.{Shape}
 use Rattle.gomp_types.specs.declared.refusal.Place.TheVariants.{Share, Stopped as AtStop}
 use Rattle.gomp_types.specs.declared.event.Arrival.TheVariants.{Barrier, ShareEnd, RegionEnd}
 use Rattle.gomp_types.specs.declared.event.Event.{Event}
-use Rattle.gomp_types.specs.declared.event.Event.TheVariants.{Enter, Take, Drained, End, HandOn, Part, PartEnd, Put, Got, Arrive, Pass, Break}
+use Rattle.gomp_types.specs.declared.event.Event.TheVariants.{Enter, Take, Drained, End, HandOn, Part, PartEnd, Put, Got, Arrive, Pass, Hold, Free, Break}
+use Rattle.gomp_types.specs.declared.key.Key.TheVariants.{Lock}
+use Rattle.gomp_types.specs.declared.task.Task.TheVariants.{Implicit}
 use Rattle.gomp_types.specs.Singles.{single_shape}
 use Rattle.gomp_types.specs.Shapes.{is_loop}
 use Rattle.gomp_types.specs.Pieces.{Piece}
@@ -250,8 +252,8 @@ test_of_all_members = (refl, refl, refl)
 
 -- each event has its member
 pub members_of_events :
-    map member_of (Enter 0 1 wider ∷ Take 0 2 0 3 ∷ Drained 0 3 ∷ End 0 4 ∷ HandOn 0 5 0 ∷ Part 0 6 0 ∷ PartEnd 0 7 ∷ Put 0 8 [] ∷ Got 0 9 [] ∷ Arrive 0 10 (at Barrier 0) ∷ Pass 0 11 ∷ Break 12 AtStop ∷ [])
-    ≡ 1 ∷ 2 ∷ 3 ∷ 4 ∷ 5 ∷ 6 ∷ 7 ∷ 8 ∷ 9 ∷ 10 ∷ 11 ∷ 12 ∷ []
+    map member_of (Enter 0 1 wider ∷ Take 0 2 0 3 ∷ Drained 0 3 ∷ End 0 4 ∷ HandOn 0 5 0 ∷ Part 0 6 0 ∷ PartEnd 0 7 ∷ Put 0 8 [] ∷ Got 0 9 [] ∷ Arrive 0 10 (at Barrier 0) ∷ Pass 0 11 ∷ Break 12 AtStop ∷ Hold (Lock 0) 13 (Implicit 13) ∷ Free (Lock 0) 14 (Implicit 14) ∷ [])
+    ≡ 1 ∷ 2 ∷ 3 ∷ 4 ∷ 5 ∷ 6 ∷ 7 ∷ 8 ∷ 9 ∷ 10 ∷ 11 ∷ 12 ∷ 13 ∷ 14 ∷ []
 members_of_events = refl
 
 -- Values

@@ -53,6 +53,12 @@ fn call_of(word: &[u8]) -> Option<Call>
     if is_word(word, b"region_end") {
         return Some(Call::RegionEnd);
     }
+    if is_word(word, b"lock_init") {
+        return Some(Call::LockInit);
+    }
+    if is_word(word, b"nest_init") {
+        return Some(Call::NestInit);
+    }
     if is_word(word, b"resume") {
         return Some(Call::Resume);
     }

@@ -48,7 +48,7 @@ pub(crate) fn member_of(word: &[u8]) -> Result<u16, Why>
     }
 }
 
-/// The count of members or of sections that this word writes.
+/// The count of members or of sections, or the number of a lock, that this word writes.
 pub(crate) fn count_of(word: &[u8]) -> Result<u32, Why>
     ensures { result ≡ count_of word.now }
 {

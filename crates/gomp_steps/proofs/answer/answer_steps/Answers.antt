@@ -3,7 +3,7 @@ use Rattle.std.specs.Prelude.{flat_map}
 use Rattle.gomp_types.specs.declared.limits.TheConstants.{MAX_MEMBERS}
 use Rattle.gomp_script.specs.Printing.{reply_line}
 use Rattle.gomp_script.specs.StepText.{steps_of}
-use Rattle.gomp_steps.specs.Output.{is_size}
+use Rattle.gomp_steps.specs.Output.{is_size, status_of}
 use Rattle.gomp_steps.proofs.AnswerLemmas.{size_by, is_size_of, same_count}
 use Rattle.gomp_steps.proofs.answer.answer_steps.Goals as goal
 
@@ -19,7 +19,7 @@ returns-in-Ok-run c =
       caused = c.in-Ok-run.ensures.caused;
       memory = c.in-Ok-run.ensures.memory;
       text_is = c.in_ok-print_replies-in-Ok-run.ensures.lines ∙ ap (flat_map reply_line) c.as_slice.ensures.value;
-      code_is = refl;
+      code_is = c.status_of.ensures ∙ ap status_of c.as_slice-2.ensures.value;
     })
 
 pub returns-in-Err-Bad : goal.returns-in-Err-Bad

@@ -1,0 +1,263 @@
+-- What the rows of the calls on names and locks share: who holds what, and what such a row has to show.
+use Rattle.std.proofs.Common.{◌≡◌, ℕ, ◌+◌, ◌-◌, ◌<◌, ◌≤◌, Bool, true, false, List, [], ◌∷◌, ◌++◌, Option, Some, None, refl, ap, sym, ◌∙◌, subst, arith, inl, inr}
+use Rattle.std.specs.Prelude.{ℤ, ◌==◌, ◌&&◌, not, nat_lt, nat_le, is_some, if◌then◌else◌, slice_get}
+use Rattle.std.proofs.lemmas.Bool.{cases_Bool}
+use Rattle.gomp_types.specs.declared.event.Event.{Event}
+use Rattle.gomp_types.specs.declared.event.Event.TheVariants.{Hold, Free}
+use Rattle.gomp_types.specs.declared.key.Key.{Key}
+use Rattle.gomp_types.specs.declared.lock.Held.{Held}
+use Rattle.gomp_types.specs.declared.lock.LockKind.{LockKind}
+use Rattle.gomp_types.specs.declared.lock.LockKind.TheVariants.{Simple, Nest}
+use Rattle.gomp_types.specs.declared.key.Key.TheVariants.{Critical, Lock, NestLock}
+use Rattle.gomp_types.specs.declared.refusal.Refusal.{Refusal}
+use Rattle.gomp_types.specs.declared.reply.Reply.{Reply}
+use Rattle.gomp_types.specs.declared.reply.Reply.TheVariants.{Chunk, Finished, Wait, Got, Count, Refused}
+use Rattle.gomp_types.specs.declared.task.Owner.{Owner}
+use Rattle.gomp_types.specs.declared.task.Task.{Task}
+use Rattle.gomp_types.specs.Laws.{Always}
+use Rattle.gomp_types.specs.Owners.{same_owner, same_member}
+use Rattle.gomp_types.proofs.Always.{always_so}
+use Rattle.gomp_types.proofs.Booleans.{is_equal, same_number, and_false}
+use Rattle.gomp_types.proofs.LeastTests.{AllFail}
+use Rattle.gomp_locks.specs.Book.{same_lock_kind, held_times, held_by, owned_by_member}
+use Rattle.gomp_locks.specs.Locks.{gone_tests, count_for, held_by_another}
+use Rattle.gomp_locks.specs.Holders.{same_key, owner_of, task_number, current_task, asker, held_once_more, held_once_less, holder, holding_owner, own_part, held_if_kind, found_lock, key_of}
+use Rattle.gomp_locks.specs.HoldRules.{can_hold, HoldRule}
+use Rattle.gomp_locks.proofs.OwnerLemmas.{same_name}
+use Rattle.gomp_locks.proofs.HoldsKeep.{holder_is_asker}
+use Rattle.gomp_laws.specs.Rules.{TeamRule}
+use Rattle.gomp_model.specs.Past.{Past}
+use Rattle.gomp_model.specs.Row.{Row, plain_row}
+use Rattle.gomp_model.specs.CriticalNames.{is_held, is_freed, held_once, freed_once}
+use Rattle.gomp_laws.proofs.Sound.{AreGiven, IsSound, Ready, Lasts, memoryless, only_holds}
+
+-- Keys and owners
+
+-- a key is itself
+pub key_is_itself : (key : Key) → same_key key key ≡ true
+key_is_itself (Critical name) = same_name name
+key_is_itself (Lock number) = same_number number
+key_is_itself (NestLock number) = same_number number
+
+-- so is an owner
+pub owner_is_itself : (owner : Owner) → same_owner owner owner ≡ true
+owner_is_itself owner = rw (same_number owner.team, same_number owner.member, same_number owner.task) refl
+
+-- the rule of a team has that of names and locks
+hold_rule : (members : ℕ) (event : Event) (earlier : List Event) → TeamRule members event earlier → Always (TeamRule members) earlier → HoldRule event earlier
+hold_rule members (Hold key m task) earlier rule all = rule.holds
+hold_rule members (Free key m task) earlier rule all = rule
+hold_rule members _ earlier rule all = tt
+
+pub hold_rules : (members : ℕ) (h : List Event) → Always (TeamRule members) h → Always HoldRule h
+hold_rules members h all = always_so (TeamRule members) HoldRule (hold_rule members) h all
+
+-- whoever holds something is a task that may ask
+abbrev pub IsOfAsker : List Event → Option Held → Type 0
+IsOfAsker h found = (held : Held) → found ≡ Some held → held.owner ≡ asker held.owner.member h
+
+-- What a member holds
+
+-- it holds nothing of what is held by another member
+other_member : (m : ℕ) (held : Held) → (held.owner.member == m) ≡ false → own_part m (Some held) ≡ None
+other_member m held e = rw e refl
+
+pub apart_by_member : (m : ℕ) (h : List Event) (found : Option Held) → IsOfAsker h found → owned_by_member (asker m h) (holding_owner found) ≡ false → own_part m found ≡ None
+apart_by_member m h None is differ = refl
+apart_by_member m h (Some held) is differ = let team : held.owner.team ≡ 0 = ap (λ (owner : Owner). owner.team) (is held refl) in other_member m held (rw team at differ)
+
+-- or by another task, since each member has one
+pub apart_by_owner : (m : ℕ) (h : List Event) (found : Option Held) → IsOfAsker h found → held_by (asker m h) found ≡ false → own_part m found ≡ None
+apart_by_owner m h None is differ = refl
+apart_by_owner m h (Some held) is differ =
+    let team : held.owner.team ≡ 0 = ap (λ (owner : Owner). owner.team) (is held refl) in
+    let task : held.owner.task ≡ 0 = ap (λ (owner : Owner). owner.task) (is held refl) in
+    other_member m held (by_member (held.owner.member == m) (rw (team, task) at differ))
+  where
+    by_member : (b : Bool) → (b && true) ≡ false → b ≡ false
+    by_member true e = e
+    by_member false e = refl
+
+-- who holds nothing of it is another owner, and holds it no time
+pub holder_is_other : (m : ℕ) (h : List Event) (held : Held) → own_part m (Some held) ≡ None → same_owner held.owner (asker m h) ≡ false
+holder_is_other m h held apart =
+    elim (cases_Bool (held.owner.member == m)) [
+      | inl e ↦ absurd (let never : Some held ≡ None = rw e at apart in cc)
+      | inr e ↦ rw e (and_false (held.owner.team == 0) false refl)
+    ]
+
+pub apart_counts_none : (m : ℕ) (h : List Event) (held : Option Held) → own_part m held ≡ None → count_for (asker m h) held ≡ 0
+apart_counts_none m h None apart = refl
+apart_counts_none m h (Some held) apart = rw (holder_is_other m h held apart) refl
+
+-- what another task holds it holds no time
+pub another_counts_none : (owner : Owner) (held : Option Held) → held_by_another owner held ≡ true → count_for owner held ≡ 0
+another_counts_none owner None differ = refl
+another_counts_none owner (Some held) differ = by_owner (same_owner held.owner owner) differ
+  where
+    by_owner : (b : Bool) → not b ≡ true → (if b then held.count else 0) ≡ 0
+    by_owner true w = absurd (cc)
+    by_owner false w = refl
+
+-- Locks that are found
+
+-- a lock that is found is held as the events say
+pub found_as_held : (kind : LockKind) (entry : Option (Option LockKind)) (held other : Option Held) → held_if_kind kind entry held ≡ Some other → held ≡ other
+found_as_held kind None held other at = absurd (cc)
+found_as_held kind (Some None) held other at = absurd (cc)
+found_as_held kind (Some (Some is)) held other at = by_kind (same_lock_kind is kind) at
+  where
+    by_kind : (b : Bool) → ◌≡◌ {A = Option (Option Held)} (if b then Some held else None) (Some other) → held ≡ other
+    by_kind true e = cc
+    by_kind false e = absurd (cc)
+
+-- one that is not gone is found
+found_unless_gone : (kind : LockKind) (entry : Option (Option LockKind)) (held : Option Held) → AllFail (gone_tests (held_if_kind kind entry held)) → held_if_kind kind entry held ≡ Some held
+found_unless_gone kind None held there = absurd (let gone = there.0 in cc)
+found_unless_gone kind (Some None) held there = absurd (let gone = there.0 in cc)
+found_unless_gone kind (Some (Some is)) held there = by_kind (same_lock_kind is kind) there.0
+  where
+    by_kind : (b : Bool) → not (is_some (if b then Some held else None)) ≡ false → ◌≡◌ {A = Option (Option Held)} (if b then Some held else None) (Some held)
+    by_kind true e = refl
+    by_kind false e = absurd (cc)
+
+pub lock_is_found : (kind : LockKind) (number : ℕ) (p : Past) → AllFail (gone_tests (found_lock kind number p.locks p.events)) → found_lock kind number p.locks p.events ≡ Some (holder (key_of kind number) p.events)
+lock_is_found kind number p there = found_unless_gone kind (slice_get p.locks number) (holder (key_of kind number) p.events) there
+
+-- Events
+
+-- a call that holds its key gives that alone
+pub held_given : (key : Key) (m : ℕ) (reply : Reply) (h : List Event) → AreGiven (only_holds key) m reply (held_once (is_held reply) key m h)
+held_given key m Finished h = ((refl, refl, refl), tt)
+held_given key m (Got true) h = ((refl, refl, refl), tt)
+held_given key m (Got false) h = tt
+held_given key m (Count count) h = by_count (nat_lt 0 count)
+  where
+    by_count : (b : Bool) → AreGiven (only_holds key) m (Count count) (held_once b key m h)
+    by_count true = ((refl, refl, refl), tt)
+    by_count false = tt
+held_given key m _ h = tt
+
+-- so does one that frees it
+pub freed_given : (key : Key) (m : ℕ) (reply : Reply) (h : List Event) → AreGiven (only_holds key) m reply (freed_once (is_freed reply) key m h)
+freed_given key m Finished h = ((refl, refl, refl), tt)
+freed_given key m (Count count) h = ((refl, refl, refl), tt)
+freed_given key m _ h = tt
+
+-- a key that may be held keeps the rule
+pub hold_keeps : (members m : ℕ) (key : Key) (b : Bool) (h : List Event) → m < members → (b ≡ true → can_hold key (asker m h) (holder key h) ≡ true) → Always (TeamRule members) h → Always (TeamRule members) (held_once b key m h ++ h)
+hold_keeps members m key true h member can all = (record { holds = record { current = refl; free = can refl }; member = member }, all)
+hold_keeps members m key false h member can all = all
+
+-- so does one that is freed by its holder
+pub free_keeps : (members m : ℕ) (key : Key) (b : Bool) (h : List Event) → held_by (asker m h) (holder key h) ≡ true → Always (TeamRule members) h → Always (TeamRule members) (freed_once b key m h ++ h)
+free_keeps members m key true h held all = (record { current = refl; held = held }, all)
+free_keeps members m key false h held all = all
+
+-- Counts
+
+-- once more
+counted_more : (owner : Owner) (held : Option Held) → held_by_another owner held ≡ false → count_for owner (held_once_more owner held) ≡ count_for owner held + 1
+counted_more owner None free = rw (owner_is_itself owner) refl
+counted_more owner (Some held) free = by_owner (same_owner held.owner owner) free
+  where
+    by_owner : (b : Bool) → not b ≡ false → (if b then held.count + 1 else 0) ≡ (if b then held.count else 0) + 1
+    by_owner true w = refl
+    by_owner false w = absurd (cc)
+
+pub held_counts_more : (m : ℕ) (key : Key) (b : Bool) (h : List Event) → b ≡ true → held_by_another (asker m h) (holder key h) ≡ false → count_for (asker m h) (holder key (held_once b key m h ++ h)) ≡ count_for (asker m h) (holder key h) + 1
+held_counts_more m key true h e free = rw (key_is_itself key) (counted_more (asker m h) (holder key h) free)
+held_counts_more m key false h e free = absurd (cc)
+
+pub unheld_counts_same : (m : ℕ) (key : Key) (b : Bool) (h : List Event) → b ≡ false → count_for (asker m h) (holder key (held_once b key m h ++ h)) ≡ count_for (asker m h) (holder key h)
+unheld_counts_same m key true h e = absurd (cc)
+unheld_counts_same m key false h e = refl
+
+-- and once less
+counted_less : (owner : Owner) (count : ℕ) (held : Option Held) → count + 1 ≡ count_for owner held → count ≡ count_for owner (held_once_less held)
+counted_less owner count None more = absurd (omega (arith, more))
+counted_less owner count (Some held) more = by_owner (same_owner held.owner owner) refl more
+  where
+    by_count : (b : Bool) → (held.count - 1 == 0) ≡ b → same_owner held.owner owner ≡ true → count + 1 ≡ held.count → count ≡ count_for owner (held_times held.owner (held.count - 1))
+    by_count true z e more = rw z (let none = is_equal (held.count - 1) 0 z in omega (arith, none, more))
+    by_count false z e more = rw (z, e) (omega (arith, more))
+
+    by_owner : (b : Bool) → same_owner held.owner owner ≡ b → count + 1 ≡ (if b then held.count else 0) → count ≡ count_for owner (held_times held.owner (held.count - 1))
+    by_owner true e more = by_count (held.count - 1 == 0) refl e more
+    by_owner false e more = absurd (omega (arith, more))
+
+pub freed_counts_less : (m : ℕ) (key : Key) (count : ℕ) (h : List Event) → count + 1 ≡ count_for (asker m h) (holder key h) → count ≡ count_for (asker m h) (holder key (freed_once true key m h ++ h))
+freed_counts_less m key count h more = rw (key_is_itself key) (counted_less (asker m h) count (holder key h) more)
+
+-- Rows
+
+-- the row of a call that holds or frees this key, by what is its own
+abbrev pub held_row : Key → Row → Row
+held_row key row = record plain_row {
+  by_team = row.by_team;
+  missing = row.missing;
+  memory = row.memory;
+  asks_book = true;
+  holds = Some key;
+  may_reply = row.may_reply;
+  gives = row.gives;
+  locks = row.locks;
+}
+
+-- what the book answers is neither a chunk nor a refusal
+abbrev pub IsBookReply : Reply → Type 0
+IsBookReply (Chunk first count) = ⊥
+IsBookReply (Refused refusal) = ⊥
+IsBookReply _ = Unit {0}
+
+pub finished_is_one : (reply : Reply) → reply ≡ Finished → IsBookReply reply
+finished_is_one reply e = subst IsBookReply (sym e) tt
+
+-- a call that never waits is not repeated
+pub asked_first : (row : Row) (repeated : Bool) (m : ℕ) (p : Past) → ((q : Past) → row.may_reply m q Wait → ⊥) → Ready row repeated m p → AllFail (row.by_team m p)
+asked_first row repeated m p never ready =
+    elim (cases_Bool repeated) [
+      | inl e ↦ absurd (let may = (ready.lasting e).2 in never may.0 may.1)
+      | inr e ↦ ready.team e
+    ]
+
+-- what is to be shown of it
+pub record IsHeldRow (key : Key) (row : Row) : Type 0 where
+  pub decided : (m : ℕ) (p : Past) (a b : Reply) → row.may_reply m p a → row.may_reply m p b → a ≡ b
+  pub by_book : (m : ℕ) (p : Past) (reply : Reply) → row.may_reply m p reply → IsBookReply reply
+  pub answered : (repeated : Bool) (m : ℕ) (p : Past) → Ready (held_row key row) repeated m p → Always HoldRule p.events → (reply : Reply) × row.may_reply m p reply
+  pub given : (m : ℕ) (p : Past) (reply : Reply) → AreGiven (only_holds key) m reply (row.gives m p reply)
+  pub keep : (repeated : Bool) (m : ℕ) (p : Past) (reply : Reply) → Ready (held_row key row) repeated m p → row.may_reply m p reply → Always (TeamRule p.terms.members) p.events → Always (TeamRule p.terms.members) (row.gives m p reply ++ p.events)
+  -- it waits for what another member holds
+  pub apart : (repeated : Bool) (m : ℕ) (p : Past) → Ready (held_row key row) repeated m p → IsOfAsker p.events (holder key p.events) → row.may_reply m p Wait → own_part m (holder key p.events) ≡ None
+  pub waits_for : (m : ℕ) (p : Past) → row.may_reply m p Wait → (held : Held) × (holder key p.events ≡ Some held)
+  pub tells_count : (repeated : Bool) (m count : ℕ) (p : Past) → Ready (held_row key row) repeated m p → row.may_reply m p (Count count) → count ≡ count_for (asker m p.events) (holder key (row.gives m p (Count count) ++ p.events))
+  pub no_memory : (m : ℕ) (p : Past) → (memoryless (row.by_team m p) ≡ true) × (memoryless (row.missing m p) ≡ true)
+
+same_some : (key other : Key) → ◌≡◌ {A = Option Key} (Some key) (Some other) → key ≡ other
+same_some key other e = cc
+
+pub held_row_sound : (key : Key) (row : Row) → IsHeldRow key row → IsSound (held_row key row)
+held_row_sound key row is = record {
+  decided = is.decided;
+  accepts = λ m p refusal may. is.by_book m p (Refused refusal) may;
+  answered = λ repeated m p ready all. is.answered repeated m p ready (hold_rules p.terms.members p.events all);
+  counts = λ repeated m p first count ready all may. absurd (is.by_book m p (Chunk first count) may);
+  begins_own = λ m p. tt;
+  gives_own = is.given;
+  begins_keep = λ m p ready all. all;
+  gives_keep = λ repeated m p reply ready may all. is.keep repeated m p reply ready may all;
+  still = λ stays m p. absurd (cc);
+  tells = λ arrives m p reply may. absurd (cc);
+  one_pass = λ arrives m p. absurd (cc);
+  lasts = λ repeated m p ready all may. (
+    λ asks. absurd (cc),
+    λ other same. subst (λ (k : Key). own_part m (holder k p.events) ≡ None) (same_some key other same) (is.apart repeated m p ready (λ held at. holder_is_asker key held p.events (hold_rules p.terms.members p.events all) at) may),
+    (p, may),
+  );
+  waits_for = λ other m p at may. subst (λ (k : Key). (held : Held) × (holder k p.events ≡ Some held)) (same_some key other at) (is.waits_for m p may);
+  tells_count = λ other repeated m count p at ready all may.
+      subst (λ (k : Key). count ≡ count_for (asker m p.events) (holder k (row.gives m p (Count count) ++ p.events))) (same_some key other at) (is.tells_count repeated m count p ready may);
+  no_memory = λ m p. let none = is.no_memory m p in (refl, none.0, none.1, λ repeated. refl);
+  words_keep = λ puts repeated m p reply ready may all. absurd (cc);
+}

@@ -1,0 +1,11 @@
+use Rattle.std.proofs.Common.{◌≡◌, Ok, sym, ◌∙◌, rules}
+use Rattle.gomp_text.specs.Words.{words_of}
+use Rattle.gomp_script.specs.StepText.{next_word}
+use Rattle.gomp_script.proofs.TextLemmas.{step_by_call}
+use Rattle.gomp_script.proofs.parse.step_words.Goals as goal
+
+pub returns : goal.returns
+returns c =
+    let words = words_of c.args.rest.now in
+    let taken : next_word words ≡ Ok (c.in_ok-call.call.now, words_of c.in_ok-call.rest.now) = search rules in
+    c.call_step.ensures ∙ sym (step_by_call c.args.member.now words (c.in_ok-call.call.now, words_of c.in_ok-call.rest.now) taken)
