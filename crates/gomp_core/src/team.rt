@@ -92,13 +92,13 @@ impl<S: Shares> Team<S> {
         ensures limits { IfOk result (λ team. team.limits ≡ capped_limits limits) }
         ensures stands { IfOk result (λ team. Stands S.stands S.members team []) }
     {
-        if !is_team_size(count) {
-            return Err(Refusal::BadTeam);
-        }
-        match Team::make(alloc, count, icv, limits.capped_limits(), LockBook::new(alloc)) {
-            Ok(team) => Ok(team),
-            Err(_) => Err(Refusal::NoMemory),
-        }
+        Team::make_checked(
+            alloc,
+            count,
+            icv,
+            limits.capped_limits(),
+            LockBook::new(alloc),
+        )
     }
 
     /// A new team with the standard limits, and with the locks of an older team ([`into_book`]),
@@ -124,20 +124,36 @@ impl<S: Shares> Team<S> {
         ensures stands { IfOk result (λ team.
             Stands S.stands S.members team (locks_made (kinds_of book.locks))) }
     {
+        Team::make_checked(alloc, count, icv, Limits::STANDARD, book.without_holds())
+    }
+
+    /// A new team with these limits and this book. Refused as [`new`](Team::new) is.
+    fn make_checked(
+        alloc: Global,
+        count: u16,
+        icv: Icv,
+        limits: Limits,
+        book: LockBook,
+    ) -> Result<Team<S>, Refusal>
+        requires capped { capped_limits limits ≡ limits }
+        requires known { IsTeamSize count →
+            (before : Record) × Begins (terms_by count limits icv) book before }
+        ensures size { result ≡ Err BadTeam ↔ (IsTeamSize count → ⊥) }
+        ensures refused { (refusal : Refusal) → result ≡ Err refusal →
+            (refusal ≡ BadTeam) ⊎ (refusal ≡ NoMemory) }
+        ensures members { IfOk result (λ team. members_of team ≡ count) }
+        ensures icv { IfOk result (λ team. team.icv ≡ icv) }
+        ensures limits { IfOk result (λ team. team.limits ≡ limits) }
+        ensures stands { (before : Record) → Begins (terms_by count limits icv) book before →
+            IfOk result (λ team. Stands S.stands S.members team before) }
+    {
         if !is_team_size(count) {
             return Err(Refusal::BadTeam);
         }
-        match Team::make(alloc, count, icv, Limits::STANDARD, book.without_holds()) {
+        match Team::make(alloc, count, icv, limits, book) {
             Ok(team) => Ok(team),
             Err(_) => Err(Refusal::NoMemory),
         }
-    }
-
-    /// The names and locks of the team, which is dropped, as they are held then.
-    pub fn into_book(self) -> LockBook
-        ensures { result ≡ self.book }
-    {
-        self.book
     }
 
     /// A new team with these limits and this book, of a size that a team may have. The error is want
@@ -279,6 +295,15 @@ impl<S: Shares> Team<S> {
             member,
             call_meant(call, waiting),
         )
+    }
+}
+
+impl<S: Shares + Drop> Team<S> {
+    /// The names and locks of the team, which is dropped, as they are held then.
+    pub fn into_book(self) -> LockBook
+        ensures { result ≡ self.book }
+    {
+        self.book
     }
 }
 
