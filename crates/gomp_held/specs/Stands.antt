@@ -1,16 +1,20 @@
 -- When a lock book is as the past of a team leaves it. (own)
-use Rattle.std.specs.Prelude.{ℕ, ◌≡◌, ◌++◌, true, List, Option, Some, None, IsSome, ⊤, slice_get, option_map}
+use Rattle.std.specs.Prelude.{ℕ, ◌≡◌, ◌≢◌, ◌≤◌, Bool, true, List, Option, Some, None, IsSome, ⊤, length, slice_get, option_map}
 use Rattle.gomp_types.specs.declared.call.Call.{Call}
+use Rattle.gomp_types.specs.declared.key.Key.{Key}
 use Rattle.gomp_types.specs.declared.key.Key.TheVariants.{Critical}
 use Rattle.gomp_types.specs.declared.lock.LockKind.{LockKind}
+use Rattle.gomp_types.specs.declared.refusal.Refusal.{Refusal}
 use Rattle.gomp_types.specs.declared.refusal.Refusal.TheVariants.{NoMemory}
 use Rattle.gomp_types.specs.declared.reply.Reply.{Reply}
-use Rattle.gomp_types.specs.declared.reply.Reply.TheVariants.{Refused}
+use Rattle.gomp_types.specs.declared.reply.Reply.TheVariants.{Wait, Stopped, Refused}
 use Rattle.gomp_types.specs.declared.event.Event.{Event}
 use Rattle.gomp_types.specs.Least.{least}
+use Rattle.gomp_types.specs.Laws.{Always}
 use Rattle.gomp_locks.specs.declared.lock.Lock.{Lock}
 use Rattle.gomp_locks.specs.Book.{BookView, name_at, name_owner}
-use Rattle.gomp_locks.specs.Holders.{key_of, holder, holding_owner}
+use Rattle.gomp_locks.specs.Holders.{key_of, holder, holding_owner, own_part}
+use Rattle.gomp_locks.specs.HoldRules.{HoldRule}
 use Rattle.gomp_model.specs.Past.{Past}
 use Rattle.gomp_model.specs.Row.{Row, book_tests, MayReply, given_after}
 use Rattle.gomp_model.specs.Calls.{row_of}
@@ -23,15 +27,21 @@ lock_held number h place = option_map (λ (kind : LockKind). record { kind = kin
 pub record BookStands (book : BookView) (p : Past) : Type 0 where
   pub names : (name : List ℕ) → name_owner name book ≡ holding_owner (holder (Critical name) p.events)
   pub locks : (number : ℕ) → slice_get book.locks number ≡ option_map (lock_held number p.events) (slice_get p.locks number)
+  -- and nobody holds a lock that was not made
+  pub unmade : (kind : LockKind) (number : ℕ) → length p.locks ≤ number → holder (key_of kind number) p.events ≡ None
 
 -- a call that waits for a name waits for one that the book knows
 abbrev pub IsKnown : BookView → Option Call → Type 0
 IsKnown book None = ⊤
 IsKnown book (Some call) = (name : List ℕ) → (row_of call).holds ≡ Some (Critical name) → IsSome (name_at name book)
 
--- no test of the call that names and locks decide holds
-abbrev pub IsFree : Row → ℕ → Past → Type 0
-IsFree row m p = least (row.by_team m p ++ row.missing m p) ≡ None
+-- no test of the call that names and locks decide holds; of one that is repeated its member holds nothing of what it waits for, and it is one that may wait
+pub record IsFree (repeated : Bool) (row : Row) (m : ℕ) (p : Past) : Type 0 where
+  pub free : least (book_tests repeated row m p) ≡ None
+  pub lasting : repeated ≡ true → (key : Key) → row.holds ≡ Some key → own_part m (holder key p.events) ≡ None
+  pub waits : repeated ≡ true → (q : Past) × row.may_reply m q Wait
+  -- what happened keeps the rule of names and locks
+  pub rule : Always HoldRule p.events
 
 -- a reply is want of memory, of a call that may find none; or it is one that the row has
 abbrev pub MayGive : Row → Bool → ℕ → Past → Reply → Type 0
@@ -43,7 +53,18 @@ abbrev pub past_given : Row → Bool → ℕ → Past → Reply → Past
 past_given row repeated m p (Refused refusal) = p
 past_given row repeated m p reply = record p { events = given_after row repeated m p reply; locks = row.locks reply p.locks }
 
--- what a reply to such a call is in each past for which the book stands, and that it stands for what comes of it
-abbrev pub ServesHeld : BookView → BookView → Row → Bool → ℕ → Reply → Type 0
-ServesHeld book after row repeated m reply =
-    (p : Past) → BookStands book p → IsFree row m p → MayGive row repeated m p reply × BookStands after (past_given row repeated m p reply)
+-- a reply to a call on names and locks that no test refuses
+pub record HeldReply (book after : BookView) (row : Row) (repeated : Bool) (m : ℕ) (reply : Reply) : Type 0 where
+  -- in each past for which the book stands it is one that the row has, and the book then stands for what comes of it
+  pub serves : (p : Past) → BookStands book p → IsFree repeated row m p → MayGive row repeated m p reply × BookStands after (past_given row repeated m p reply)
+  -- it refuses for want of memory alone, a call that is made for the first time, on a name that was not started before; the book stays
+  pub refusal : (refusal : Refusal) → reply ≡ Refused refusal → refusal ≡ NoMemory
+  pub once : repeated ≡ true → reply ≢ Refused NoMemory
+  pub memory : reply ≡ Refused NoMemory → (name : List ℕ) → row.holds ≡ Some (Critical name) → name_at name book ≡ None
+  pub lacks : reply ≡ Refused NoMemory → after ≡ book
+  pub stops : reply ≢ Stopped
+  -- a wait changes nothing, and is for a name that the book knows
+  pub kept : reply ≡ Wait → after ≡ book
+  pub waits : reply ≡ Wait → (name : List ℕ) → row.holds ≡ Some (Critical name) → IsSome (name_at name after)
+  -- a name that is known stays known
+  pub names : (name : List ℕ) → IsSome (name_at name book) → IsSome (name_at name after)

@@ -6,16 +6,17 @@
 //! In a team of its own every owner has team 0. OpenMP API 5.2, sections 15.2 and 18.9.
 #![tactic(auto)]
 
-ghost use Rattle.std.specs.Prelude.{◌≡◌, ◌≢◌, true, Some, None, IsSome, List, ℕ};
-ghost use Rattle.gomp_types.specs.declared.refusal.Refusal.TheVariants.{NoMemory};
-ghost use Rattle.gomp_types.specs.declared.reply.Reply.TheVariants.{Wait, Stopped, Refused};
-ghost use Rattle.gomp_types.specs.declared.key.Key.TheVariants.{Critical};
+ghost use Rattle.std.specs.Prelude.{◌≡◌, ◌<◌, ◌↔◌, ℕ, Bool, true, Some, IsTrue};
+ghost use Rattle.gomp_types.specs.Laws.{Always};
 ghost use Rattle.gomp_types.specs.Least.{least};
-ghost use Rattle.gomp_locks.specs.Book.{name_at};
+ghost use Rattle.gomp_locks.specs.Book.{any_lock_at, names_held};
+ghost use Rattle.gomp_locks.specs.CriticalNames.{critical_tests};
+ghost use Rattle.gomp_locks.specs.HoldRules.{HoldRule};
+ghost use Rattle.gomp_locks.specs.Locks.{gone_tests};
 ghost use Rattle.gomp_model.specs.Past.{Past};
 ghost use Rattle.gomp_model.specs.Row.{book_tests};
 ghost use Rattle.gomp_model.specs.Calls.{row_of};
-ghost use Rattle.gomp_held.specs.Stands.{BookStands, IsKnown, IsFree, ServesHeld};
+ghost use Rattle.gomp_held.specs.Stands.{BookStands, IsKnown, IsFree, HeldReply};
 
 use gomp_locks::LockBook;
 use gomp_types::{Call, LockKind, Owner, Refusal, Reply};
@@ -24,7 +25,7 @@ use gomp_types::{Call, LockKind, Owner, Refusal, Reply};
 /// call on names and locks itself (E29 to E33). Of a call that is repeated (`repeated`) only
 /// whether its lock is still there is tested: `NoLock` (E32).
 pub fn held_refusal(book: &LockBook, member: u16, call: &Call, repeated: bool) -> Option<Refusal>
-    ensures { (p : Past) → BookStands book.now p →
+    ensures { (p : Past) → BookStands book.now p → Always HoldRule p.events →
         result ≡ least (book_tests repeated (row_of call.now) member p) }
 {
     if repeated {
@@ -42,7 +43,21 @@ pub fn held_refusal(book: &LockBook, member: u16, call: &Call, repeated: bool) -
         Call::SetNest(number) | Call::TestNest(number) => book.nest_refusal(owner, *number),
         Call::UnsetNest(number) => book.unset_refusal(owner, LockKind::Nest, *number),
         Call::Stop | Call::Resume => None,
-        _ => critical_refusal(book, owner),
+        Call::LoopStart(_)
+        | Call::LoopNext
+        | Call::LoopEnd
+        | Call::LoopEndNowait
+        | Call::SectionsStart { .. }
+        | Call::SectionsNext
+        | Call::SectionsEnd
+        | Call::SectionsEndNowait
+        | Call::SingleStart
+        | Call::SingleCopyStart
+        | Call::SingleCopyEnd(_)
+        | Call::OrderedStart(_)
+        | Call::OrderedEnd
+        | Call::Barrier
+        | Call::RegionEnd => critical_refusal(book, owner),
     }
 }
 
@@ -51,17 +66,10 @@ pub fn held_refusal(book: &LockBook, member: u16, call: &Call, repeated: bool) -
 /// growth changes nothing.
 pub fn held_reply(book: &mut LockBook, member: u16, call: &Call, repeated: bool) -> Reply
     requires asks { (row_of call.now).asks_book ≡ true }
-    requires free { (p : Past) × BookStands book.old p × IsFree (row_of call.now) member p }
+    requires free { (p : Past) × BookStands book.old p ×
+        IsFree repeated (row_of call.now) member p }
     requires known { repeated ≡ true → IsKnown book.old (Some call.now) }
-    ensures serves { ServesHeld book.old book.new (row_of call.now) repeated member result }
-    ensures memory { result ≡ Refused NoMemory →
-        (name : List ℕ) → (row_of call.now).holds ≡ Some (Critical name) → name_at name book.old ≡ None }
-    ensures once { repeated ≡ true → result ≢ Refused NoMemory }
-    ensures refusal { (refusal : Refusal) → result ≡ Refused refusal → refusal ≡ NoMemory }
-    ensures stops { result ≢ Stopped }
-    ensures kept { result ≡ Wait → book.new ≡ book.old }
-    ensures waits { result ≡ Wait → IsKnown book.new (Some call.now) }
-    ensures names { (name : List ℕ) → IsSome (name_at name book.old) → IsSome (name_at name book.new) }
+    ensures { HeldReply book.old book.new (row_of call.now) repeated member result }
 {
     let owner = owner_of(member);
     match call {
@@ -77,5 +85,55 @@ pub fn held_reply(book: &mut LockBook, member: u16, call: &Call, repeated: bool)
         Call::TestNest(number) => book.try_nest(owner, *number),
         Call::UnsetNest(number) => book.release_nest(owner, *number),
         _ => unreachable!(),
+    }
+}
+
+/// Why a call that waits is refused: its lock is gone.
+fn gone_refusal(book: &LockBook, call: &Call) -> Option<Refusal>
+    ensures { (m : ℕ) (p : Past) → BookStands book.now p →
+        result ≡ least ((row_of call.now).missing m p) }
+{
+    match call {
+        Call::LockDestroy(number) => either_gone_refusal(book, *number),
+        Call::Set(number) | Call::Test(number) | Call::Unset(number) => {
+            book.gone_refusal(LockKind::Simple, *number)
+        }
+        Call::SetNest(number) | Call::TestNest(number) | Call::UnsetNest(number) => {
+            book.gone_refusal(LockKind::Nest, *number)
+        }
+        _ => None,
+    }
+}
+
+/// Why a call on a lock of either kind is refused if there is no lock of this number.
+fn either_gone_refusal(book: &LockBook, number: u32) -> Option<Refusal>
+    ensures { result ≡ least (gone_tests (any_lock_at number book.now)) }
+{
+    match book.any_lock_at(number) {
+        None => Some(Refusal::NoLock),
+        Some(_) => None,
+    }
+}
+
+/// Why a task that holds a critical name may not meet a barrier or a work-share.
+fn critical_refusal(book: &LockBook, owner: Owner) -> Option<Refusal>
+    ensures { (holds : Bool) → (IsTrue holds ↔ (0 < names_held owner book.now.names)) →
+        result ≡ least (critical_tests holds) }
+{
+    if book.holds_critical(owner) {
+        Some(Refusal::HoldsCritical)
+    } else {
+        None
+    }
+}
+
+/// The owner that a member's implicit task is, in a team of its own.
+fn owner_of(member: u16) -> Owner
+    ensures { result ≡ record { team = 0; member = member; task = 0 } }
+{
+    Owner {
+        team: 0,
+        member,
+        task: 0,
     }
 }

@@ -21,8 +21,9 @@ use Rattle.gomp_types.proofs.LeastTests.{AllFail}
 use Rattle.gomp_shares.specs.Starts.{leaves}
 use Rattle.gomp_model.specs.Row.{at_once, begun_past}
 use Rattle.gomp_model.specs.Arrivals.{compared_arrival, Awaits, passes, arrival_row, ending, outside_tests, barrier_row, region_end_row}
+use Rattle.gomp_locks.specs.Holders.{asker, holds_critical}
 use Rattle.gomp_laws.proofs.AtOnce.{at_once_sound}
-use Rattle.gomp_laws.proofs.Sound.{AreGiven, memoryless, IsSound, only_arrives}
+use Rattle.gomp_laws.proofs.Sound.{AreGiven, memoryless, IsSound, only_arrives, outside_lasts, outside_free, names_begun}
 
 one_await : (met : Bool) (a b : Reply) → Awaits met a → Awaits met b → a ≡ b
 one_await met Passed Passed x y = refl
@@ -45,9 +46,10 @@ pass_own : (m : ℕ) (h : List Event) (reply : Reply) → AreGiven only_arrives 
 pass_own m h Passed = ((refl, refl, refl), tt)
 pass_own m h _ = tt
 
-pass_keeps : (members m : ℕ) (h : List Event) (reply : Reply) → m < members → Awaits (barrier_met members (barriers_passed m h) h) reply → Always (TeamRule members) h → Always (TeamRule members) (passes m h reply ++ h)
-pass_keeps members m h Passed lt may all = (record { passes = record { number = refl; met = may }; member = lt }, all)
-pass_keeps members m h _ lt may all = all
+pass_keeps : (members m : ℕ) (h : List Event) (reply : Reply) → m < members → holds_critical (asker m h) h ≡ false → Awaits (barrier_met members (barriers_passed m h) h) reply → Always (TeamRule members) h →
+    Always (TeamRule members) (passes m h reply ++ h)
+pass_keeps members m h Passed lt free may all = (record { passes = record { number = refl; met = may }; member = lt; free = free }, all)
+pass_keeps members m h _ lt free may all = all
 
 -- what every arrival has, whatever is tested and given before it
 arrive_rule : (members m : ℕ) (kind : Arrival) (h after : List Event) → m < members → tag_differs (tag_with kind (shares_entered m h)) (tag_at (barriers_passed m h) h) ≡ false → arrival_of (barriers_passed m h) m h ≡ None →
@@ -76,11 +78,17 @@ outside_sound kind memory = record {
   gives_own = λ m p reply. pass_own m p.events reply;
   begins_keep = λ m p ready all.
       (arrive_rule p.terms.members m kind p.events p.events ready.member ready.compared.0 (ready.first refl refl) refl refl (none_of (open_share m p.events) (ready.place refl).0) refl refl, all);
-  gives_keep = λ repeated m p reply ready may all. let q = begun_past repeated (arrival_row kind) m p in pass_keeps p.terms.members m q.events reply ready.member may all;
+  gives_keep = λ repeated m p reply ready may all.
+      let q = begun_past repeated (arrival_row kind) m p in
+      let free = outside_free ready refl (λ fail. fail.0) in
+      pass_keeps p.terms.members m q.events reply ready.member (names_begun repeated m ((arrival_row kind).begins m p) p.events free free) may all;
   still = λ stays m p. absurd (cc);
   tells = λ arrives m p reply may. await_tells (barrier_met p.terms.members (barriers_passed m p.events) p.events) reply may;
   one_pass = λ arrives m p. refl;
-  no_memory = λ m p. (refl, refl, λ repeated. compared_clean kind repeated m p.events);
+  lasts = λ repeated m p ready all may. outside_lasts ready refl refl (λ fail. fail.0) may;
+  waits_for = λ key m p holds may. absurd (cc);
+  tells_count = λ key repeated m count p holds ready all may. absurd (cc);
+  no_memory = λ m p. (refl, refl, refl, λ repeated. compared_clean kind repeated m p.events);
   words_keep = λ puts repeated m p reply ready may all. absurd (cc);
 }
 
@@ -110,11 +118,18 @@ end_arrival_sound tests kind is = record {
         arrive_rule p.terms.members m kind h (End (open_number m h) m ∷ h) ready.member ready.compared.0 (ready.first refl refl) refl refl (rw (same_number m) refl) refl refl,
         (is.leaves p.terms.members m h (ready.place refl) all, all),
       );
-  gives_keep = λ repeated m p reply ready may all. let q = begun_past repeated (ending tests (arrival_row kind)) m p in pass_keeps p.terms.members m q.events reply ready.member may all;
+  gives_keep = λ repeated m p reply ready may all.
+      let row = ending tests (arrival_row kind) in
+      let q = begun_past repeated row m p in
+      let free = outside_free ready refl (λ fail. fail.0) in
+      pass_keeps p.terms.members m q.events reply ready.member (names_begun repeated m (row.begins m p) p.events free free) may all;
   still = λ stays m p. absurd (cc);
   tells = λ arrives m p reply may. await_tells (barrier_met p.terms.members (barriers_passed m p.events) p.events) reply may;
   one_pass = λ arrives m p. refl;
-  no_memory = λ m p. (is.no_memory (seen_of m p.events), refl, λ repeated. compared_clean kind repeated m p.events);
+  lasts = λ repeated m p ready all may. outside_lasts ready refl refl (λ fail. fail.0) may;
+  waits_for = λ key m p holds may. absurd (cc);
+  tells_count = λ key repeated m count p holds ready all may. absurd (cc);
+  no_memory = λ m p. (is.no_memory (seen_of m p.events), refl, refl, λ repeated. compared_clean kind repeated m p.events);
   words_keep = λ puts repeated m p reply ready may all. absurd (cc);
 }
 

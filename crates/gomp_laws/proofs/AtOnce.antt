@@ -30,6 +30,9 @@ at_once_sound tests events is = record {
   still = λ stays m p. absurd (cc);
   tells = λ arrives m p reply may. absurd (cc);
   one_pass = λ arrives m p. absurd (cc);
-  no_memory = λ m p. (is.no_memory (seen_of m p.events), refl, λ repeated. refl);
+  lasts = λ repeated m p ready all may. absurd (cc);
+  waits_for = λ key m p holds may. absurd (cc);
+  tells_count = λ key repeated m count p holds ready all may. absurd (cc);
+  no_memory = λ m p. (is.no_memory (seen_of m p.events), refl, refl, λ repeated. refl);
   words_keep = λ puts repeated m p reply ready may all. absurd (cc);
 }

@@ -1,7 +1,8 @@
 -- Every call's row is sound: the second list of calls, in proofs alone.
 use Rattle.std.proofs.Common.{ℕ, List, ◌++◌, refl, sym, ◌∙◌}
 use Rattle.gomp_types.specs.declared.call.Call.{Call}
-use Rattle.gomp_types.specs.declared.call.Call.TheVariants.{LoopStart, LoopNext, LoopEnd, LoopEndNowait, SectionsStart, SectionsNext, SectionsEnd, SectionsEndNowait, SingleStart, SingleCopyStart, SingleCopyEnd, Resume, OrderedStart, OrderedEnd, Barrier, RegionEnd, Stop}
+use Rattle.gomp_types.specs.declared.call.Call.TheVariants.{LoopStart, LoopNext, LoopEnd, LoopEndNowait, SectionsStart, SectionsNext, SectionsEnd, SectionsEndNowait, SingleStart, SingleCopyStart, SingleCopyEnd, Resume, OrderedStart, OrderedEnd, Barrier, RegionEnd, CriticalStart, CriticalEnd, LockInit, NestInit, LockDestroy, Set, Test as TestLock, Unset, SetNest, TestNest, UnsetNest, Stop}
+use Rattle.gomp_types.specs.declared.lock.LockKind.TheVariants.{Simple, Nest}
 use Rattle.gomp_types.specs.declared.reply.Reply.{Reply}
 use Rattle.gomp_types.specs.declared.reply.Reply.TheVariants.{Stopped}
 use Rattle.gomp_types.specs.declared.event.Event.{Event}
@@ -14,6 +15,8 @@ use Rattle.gomp_laws.proofs.Sections.{sections_start_sound, sections_next_sound,
 use Rattle.gomp_laws.proofs.Singles.{single_start_sound, single_copy_start_sound, single_copy_end_sound}
 use Rattle.gomp_laws.proofs.OrderedParts.{ordered_start_sound, ordered_end_sound}
 use Rattle.gomp_laws.proofs.Arrivals.{barrier_sound, region_end_sound}
+use Rattle.gomp_laws.proofs.CriticalNames.{critical_start_sound, critical_end_sound}
+use Rattle.gomp_laws.proofs.Locks.{init_sound, destroy_sound, set_sound, test_sound, unset_sound, set_nest_sound, test_nest_sound, unset_nest_sound}
 
 pub resume_sound : IsSound resume_row
 resume_sound = record {
@@ -28,7 +31,10 @@ resume_sound = record {
   still = λ stays m p. absurd (cc);
   tells = λ arrives m p reply may. absurd (cc);
   one_pass = λ arrives m p. absurd (cc);
-  no_memory = λ m p. (refl, refl, λ repeated. refl);
+  lasts = λ repeated m p ready all may. absurd may;
+  waits_for = λ key m p holds may. absurd (cc);
+  tells_count = λ key repeated m count p holds ready all may. absurd (cc);
+  no_memory = λ m p. (refl, refl, refl, λ repeated. refl);
   words_keep = λ puts repeated m p reply ready may all. absurd (cc);
 }
 
@@ -53,7 +59,10 @@ stop_sound = record {
   still = λ stays m p. absurd (cc);
   tells = λ arrives m p reply may. absurd (cc);
   one_pass = λ arrives m p. absurd (cc);
-  no_memory = λ m p. (refl, refl, λ repeated. refl);
+  lasts = λ repeated m p ready all may. absurd (cc);
+  waits_for = λ key m p holds may. absurd (cc);
+  tells_count = λ key repeated m count p holds ready all may. absurd (cc);
+  no_memory = λ m p. (refl, refl, refl, λ repeated. refl);
   words_keep = λ puts repeated m p reply ready may all. absurd (cc);
 }
 
@@ -73,5 +82,16 @@ row_is_sound (OrderedStart value) = ordered_start_sound value
 row_is_sound OrderedEnd = ordered_end_sound
 row_is_sound Barrier = barrier_sound
 row_is_sound RegionEnd = region_end_sound
+row_is_sound (CriticalStart name) = critical_start_sound name
+row_is_sound (CriticalEnd name) = critical_end_sound name
+row_is_sound LockInit = init_sound Simple
+row_is_sound NestInit = init_sound Nest
+row_is_sound (LockDestroy number) = destroy_sound number
+row_is_sound (Set number) = set_sound number
+row_is_sound (TestLock number) = test_sound number
+row_is_sound (Unset number) = unset_sound number
+row_is_sound (SetNest number) = set_nest_sound number
+row_is_sound (TestNest number) = test_nest_sound number
+row_is_sound (UnsetNest number) = unset_nest_sound number
 row_is_sound Stop = stop_sound
 row_is_sound Resume = resume_sound

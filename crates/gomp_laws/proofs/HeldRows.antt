@@ -1,27 +1,22 @@
 -- What the rows of the calls on names and locks share: who holds what, and what such a row has to show.
-use Rattle.std.proofs.Common.{◌≡◌, ℕ, ◌+◌, ◌-◌, ◌<◌, ◌≤◌, Bool, true, false, List, [], ◌∷◌, ◌++◌, Option, Some, None, refl, ap, sym, ◌∙◌, subst, arith, inl, inr}
-use Rattle.std.specs.Prelude.{ℤ, ◌==◌, ◌&&◌, not, nat_lt, nat_le, is_some, if◌then◌else◌, slice_get}
+use Rattle.std.proofs.Common.{◌≡◌, ℕ, ◌+◌, ◌-◌, ◌<◌, Bool, true, false, List, ◌++◌, Option, Some, None, refl, ap, sym, subst, arith, inl, inr}
+use Rattle.std.specs.Prelude.{◌==◌, ◌&&◌, not, nat_lt, is_some, if◌then◌else◌, slice_get}
 use Rattle.std.proofs.lemmas.Bool.{cases_Bool}
 use Rattle.gomp_types.specs.declared.event.Event.{Event}
-use Rattle.gomp_types.specs.declared.event.Event.TheVariants.{Hold, Free}
 use Rattle.gomp_types.specs.declared.key.Key.{Key}
 use Rattle.gomp_types.specs.declared.lock.Held.{Held}
 use Rattle.gomp_types.specs.declared.lock.LockKind.{LockKind}
-use Rattle.gomp_types.specs.declared.lock.LockKind.TheVariants.{Simple, Nest}
 use Rattle.gomp_types.specs.declared.key.Key.TheVariants.{Critical, Lock, NestLock}
-use Rattle.gomp_types.specs.declared.refusal.Refusal.{Refusal}
 use Rattle.gomp_types.specs.declared.reply.Reply.{Reply}
 use Rattle.gomp_types.specs.declared.reply.Reply.TheVariants.{Chunk, Finished, Wait, Got, Count, Refused}
 use Rattle.gomp_types.specs.declared.task.Owner.{Owner}
-use Rattle.gomp_types.specs.declared.task.Task.{Task}
 use Rattle.gomp_types.specs.Laws.{Always}
-use Rattle.gomp_types.specs.Owners.{same_owner, same_member}
-use Rattle.gomp_types.proofs.Always.{always_so}
+use Rattle.gomp_types.specs.Owners.{same_owner}
 use Rattle.gomp_types.proofs.Booleans.{is_equal, same_number, and_false}
 use Rattle.gomp_types.proofs.LeastTests.{AllFail}
 use Rattle.gomp_locks.specs.Book.{same_lock_kind, held_times, held_by, owned_by_member}
 use Rattle.gomp_locks.specs.Locks.{gone_tests, count_for, held_by_another}
-use Rattle.gomp_locks.specs.Holders.{same_key, owner_of, task_number, current_task, asker, held_once_more, held_once_less, holder, holding_owner, own_part, held_if_kind, found_lock, key_of}
+use Rattle.gomp_locks.specs.Holders.{same_key, asker, held_once_more, held_once_less, holder, holding_owner, own_part, held_if_kind, found_lock, key_of}
 use Rattle.gomp_locks.specs.HoldRules.{can_hold, HoldRule}
 use Rattle.gomp_locks.proofs.OwnerLemmas.{same_name}
 use Rattle.gomp_locks.proofs.HoldsKeep.{holder_is_asker}
@@ -29,7 +24,8 @@ use Rattle.gomp_laws.specs.Rules.{TeamRule}
 use Rattle.gomp_model.specs.Past.{Past}
 use Rattle.gomp_model.specs.Row.{Row, plain_row}
 use Rattle.gomp_model.specs.CriticalNames.{is_held, is_freed, held_once, freed_once}
-use Rattle.gomp_laws.proofs.Sound.{AreGiven, IsSound, Ready, Lasts, memoryless, only_holds}
+use Rattle.gomp_laws.proofs.TeamShares.{hold_rules}
+use Rattle.gomp_laws.proofs.Sound.{AreGiven, IsSound, Ready, memoryless, only_holds}
 
 -- Keys and owners
 
@@ -42,15 +38,6 @@ key_is_itself (NestLock number) = same_number number
 -- so is an owner
 pub owner_is_itself : (owner : Owner) → same_owner owner owner ≡ true
 owner_is_itself owner = rw (same_number owner.team, same_number owner.member, same_number owner.task) refl
-
--- the rule of a team has that of names and locks
-hold_rule : (members : ℕ) (event : Event) (earlier : List Event) → TeamRule members event earlier → Always (TeamRule members) earlier → HoldRule event earlier
-hold_rule members (Hold key m task) earlier rule all = rule.holds
-hold_rule members (Free key m task) earlier rule all = rule
-hold_rule members _ earlier rule all = tt
-
-pub hold_rules : (members : ℕ) (h : List Event) → Always (TeamRule members) h → Always HoldRule h
-hold_rules members h all = always_so (TeamRule members) HoldRule (hold_rule members) h all
 
 -- whoever holds something is a task that may ask
 abbrev pub IsOfAsker : List Event → Option Held → Type 0
@@ -221,7 +208,7 @@ asked_first row repeated m p never ready =
       | inr e ↦ ready.team e
     ]
 
--- what is to be shown of it
+-- what is to be shown of such a row
 pub record IsHeldRow (key : Key) (row : Row) : Type 0 where
   pub decided : (m : ℕ) (p : Past) (a b : Reply) → row.may_reply m p a → row.may_reply m p b → a ≡ b
   pub by_book : (m : ℕ) (p : Past) (reply : Reply) → row.may_reply m p reply → IsBookReply reply

@@ -8,11 +8,12 @@ use Rattle.gomp_types.specs.declared.call.Call.TheVariants.{Resume, Stop}
 use Rattle.gomp_types.specs.declared.call.Step.{Step}
 use Rattle.gomp_types.specs.declared.limits.Limits.{Limits}
 use Rattle.gomp_types.specs.declared.refusal.Clash.{Clash}
+use Rattle.gomp_types.specs.declared.refusal.Place.{Place}
 use Rattle.gomp_types.specs.declared.refusal.Refusal.TheVariants.{Mismatch}
 use Rattle.gomp_types.specs.declared.reply.Reply.{Reply}
 use Rattle.gomp_types.specs.declared.reply.Reply.TheVariants.{Passed, Wait, Refused}
 use Rattle.gomp_types.specs.declared.event.Event.{Event}
-use Rattle.gomp_types.specs.declared.event.Event.TheVariants.{Arrive, Put, Pass}
+use Rattle.gomp_types.specs.declared.event.Event.TheVariants.{Arrive, Put, Pass, Break}
 use Rattle.gomp_types.specs.Events.{barriers_passed, arrival, clash_of}
 use Rattle.gomp_types.specs.Laws.{Always}
 use Rattle.gomp_laws.specs.Rules.{TeamRule}
@@ -24,10 +25,10 @@ use Rattle.gomp_model.specs.Past.{Terms, Past}
 use Rattle.gomp_model.specs.Row.{Row, unless_repeated, begun_past, row_tests, events_after}
 use Rattle.gomp_model.specs.Calls.{stop_row, row_of}
 use Rattle.gomp_model.specs.Team.{Record, call_meant, is_resume, row_at, broken_tests, member_tests, wait_tests, refusal_of, MayAnswer, wait_after, past_after, before_all, past_of, events, Caused}
-use Rattle.gomp_laws.proofs.Sound.{shows, Ready, IsSound, Gives, gives_of, IsLast}
+use Rattle.gomp_laws.proofs.Sound.{shows, Lasts, Ready, IsSound, Gives, gives_of, IsLast}
 use Rattle.gomp_laws.proofs.CallsKeep.{step_keeps}
 use Rattle.gomp_laws.proofs.Calls.{row_is_sound}
-use Rattle.gomp_laws.proofs.Places.{seen_other, SameBarriers, barriers_other, barriers_own, was_whole}
+use Rattle.gomp_laws.proofs.Places.{seen_other, SameBarriers, barriers_other, barriers_own, was_whole, lasts_other, lasts_own}
 
 -- What is known while a wait is open
 
@@ -45,10 +46,16 @@ has_arrived (Some call) = is_some (row_of call).arrives
 abbrev pub Fresh : ℕ → Option Call → List Event → Type 0
 Fresh k waiting h = clash_of h ≡ None → has_arrived waiting ≡ false → arrival (barriers_passed k h) k h ≡ None
 
+-- what a call that waits for a name or a lock, or outside of critical names, relies on holds still
+abbrev pub WaitLasts : ℕ → Option Call → List Event → Type 0
+WaitLasts k None h = Unit {0}
+WaitLasts k (Some call) h = Lasts (row_of call) k h
+
 -- the rule holds, what a waiting call relies on does, who has not arrived is known, and words are still to come
 pub record Known (p : Past) : Type 0 where
   pub rule : Always (TeamRule p.terms.members) p.events
   pub pending : (k : ℕ) → Pending p.terms.limits k (p.waits k) p.events
+  pub lasting : (k : ℕ) → WaitLasts k (p.waits k) p.events
   pub fresh : (k : ℕ) → Fresh k (p.waits k) p.events
   pub words : WordsToCome p.events
 
@@ -59,6 +66,11 @@ pending_meant : (limits : Limits) (m : ℕ) (call : Call) (waiting : Option Call
 pending_meant limits m Resume None h repeated pending stays = absurd (cc)
 pending_meant limits m Resume (Some call) h repeated pending stays = pending stays
 pending_meant limits m _ waiting h repeated pending stays = absurd (cc)
+
+lasting_meant : (m : ℕ) (call : Call) (waiting : Option Call) (p : Past) → is_resume call ≡ true → AllFail (row_tests (is_resume call) (row_of (call_meant call waiting)) m p) → WaitLasts m waiting p.events → Lasts (row_of (call_meant call waiting)) m p.events
+lasting_meant m Resume None p repeated fail lasting = absurd (let never = fail.0 in cc)
+lasting_meant m Resume (Some call) p repeated fail lasting = lasting
+lasting_meant m _ waiting p repeated fail lasting = absurd (cc)
 
 first_meant : (call : Call) (waiting : Option Call) (P : Type 0) → is_resume call ≡ false → AllFail (wait_tests call waiting) → (has_arrived waiting ≡ false → P) → is_some (row_of (call_meant call waiting)).arrives ≡ true → P
 first_meant Resume waiting P once fail fresh arrives = absurd (cc)
@@ -79,17 +91,27 @@ stays_shown true e = refl
 stays_shown false e = absurd (cc)
 
 ready_by : (row : Row) (repeated : Bool) (m : ℕ) (p : Past) → m < p.terms.members → AllFail (row_tests repeated row m p) → (repeated ≡ true → row.stays ≡ true → AllFail (row.by_place p.terms.limits (seen_of m p.events))) →
-    (repeated ≡ false → is_some row.arrives ≡ true → arrival (barriers_passed m p.events) m p.events ≡ None) → WordsToCome p.events → Ready row repeated m p
-ready_by row true m p lt fail pending first words =
-    record { member = lt; place = λ shown. pending refl (stays_shown row.stays shown); team = λ e. absurd (cc); compared = fail; first = λ e. absurd (cc); words = words }
-ready_by row false m p lt fail pending first words =
+    (repeated ≡ true → Lasts row m p.events) → (repeated ≡ false → is_some row.arrives ≡ true → arrival (barriers_passed m p.events) m p.events ≡ None) → WordsToCome p.events → Ready row repeated m p
+ready_by row true m p lt fail pending lasting first words = record {
+  member = lt;
+  place = λ shown. pending refl (stays_shown row.stays shown);
+  team = λ e. absurd (cc);
+  missing = fail_later (row.compared true m p) (row.missing m p) fail;
+  lasting = lasting;
+  compared = fail_first (row.compared true m p) (row.missing m p) fail;
+  first = λ e. absurd (cc);
+  words = words;
+}
+ready_by row false m p lt fail pending lasting first words =
     let place = row.by_place p.terms.limits (seen_of m p.events) in
-    let rest = row.by_team m p ++ row.compared false m p in
-    let later = fail_later place rest fail in record {
+    let there = fail_first (place ++ row.compared false m p) (row.by_team m p ++ row.missing m p) fail in
+    let book = fail_later (place ++ row.compared false m p) (row.by_team m p ++ row.missing m p) fail in record {
       member = lt;
-      place = λ shown. fail_first place rest fail;
-      team = λ e. fail_first (row.by_team m p) (row.compared false m p) later;
-      compared = fail_later (row.by_team m p) (row.compared false m p) later;
+      place = λ shown. fail_first place (row.compared false m p) there;
+      team = λ e. fail_first (row.by_team m p) (row.missing m p) book;
+      missing = fail_later (row.by_team m p) (row.missing m p) book;
+      lasting = λ e. absurd (cc);
+      compared = fail_later place (row.compared false m p) there;
       first = first;
       words = words;
     }
@@ -122,6 +144,7 @@ unrefused_step_is_ready p step fine known =
     let all = unrefused_step_passes p step fine in
     ready_by (row_at p step) (is_resume step.call) step.member p (is_member p.terms.members step.member all.member.0) all.row
     (λ repeated. pending_meant p.terms.limits step.member step.call (p.waits step.member) p.events repeated (known.pending step.member))
+    (λ repeated. lasting_meant step.member step.call (p.waits step.member) p repeated all.row (known.lasting step.member))
     (λ once arrives. first_meant step.call (p.waits step.member) (arrival (barriers_passed step.member p.events) step.member p.events ≡ None) once all.wait
     (λ quiet. known.fresh step.member (unbroken_clash (clash_of p.events) all.member.1.1) quiet) arrives)
     known.words
@@ -178,6 +201,32 @@ pending_after p step reply k may known =
       | inl e ↦ rw e (subst (λ (x : ℕ). Pending p.terms.limits x (wait_after reply step.call (p.waits x)) (past_after p step reply).events) (is_equal step.member k e) (answer_pending p step reply may known))
       | inr e ↦ rw e (pending_same p.terms.limits k (p.waits k) p.events (past_after p step reply).events
           (seen_other (row_at p step) (row_is_sound (call_meant step.call (p.waits step.member))) (is_resume step.call) k step.member p reply e) (known.pending k))
+    ]
+
+lasts_at_break : (k n : ℕ) (place : Place) (waiting : Option Call) (h : List Event) → WaitLasts k waiting h → WaitLasts k waiting (Break n place ∷ h)
+lasts_at_break k n place None h lasting = tt
+lasts_at_break k n place (Some call) h lasting = lasting
+
+answer_lasts : (p : Past) (step : Step) (reply : Reply) → MayAnswer p step reply → Known p → WaitLasts step.member (wait_after reply step.call (p.waits step.member)) (past_after p step reply).events
+answer_lasts p step (Refused Mismatch) may known =
+    lasts_at_break step.member step.member ((row_at p step).place step.member p.events) (p.waits step.member) p.events (known.lasting step.member)
+answer_lasts p step (Refused _) may known = known.lasting step.member
+answer_lasts p step Wait may known =
+    let row = row_at p step in
+    let s = row_is_sound (call_meant step.call (p.waits step.member)) in
+    lasts_own row s (is_resume step.call) step.member p (s.lasts (is_resume step.call) step.member p (unrefused_step_is_ready p step may.0 known) known.rule may.1)
+answer_lasts p step _ may known = tt
+
+wait_lasts_other : (row : Row) → IsSound row → (repeated : Bool) (members k m : ℕ) (p : Past) (reply : Reply) (waiting : Option Call) → (m == k) ≡ false → Always (TeamRule members) (events_after repeated row m p reply) → WaitLasts k waiting p.events →
+    WaitLasts k waiting (events_after repeated row m p reply)
+wait_lasts_other row sound repeated members k m p reply None e rules lasting = tt
+wait_lasts_other row sound repeated members k m p reply (Some call) e rules lasting = lasts_other row sound repeated members k m p reply (row_of call) e rules lasting
+
+lasts_after : (p : Past) (step : Step) (reply : Reply) (k : ℕ) → MayAnswer p step reply → Known p → Always (TeamRule p.terms.members) (past_after p step reply).events → WaitLasts k ((past_after p step reply).waits k) (past_after p step reply).events
+lasts_after p step reply k may known rule =
+    elim (cases_Bool (step.member == k)) [
+      | inl e ↦ rw e (subst (λ (x : ℕ). WaitLasts x (wait_after reply step.call (p.waits x)) (past_after p step reply).events) (is_equal step.member k e) (answer_lasts p step reply may known))
+      | inr e ↦ rw e (wait_lasts_other (row_at p step) (row_is_sound (call_meant step.call (p.waits step.member))) (is_resume step.call) p.terms.members k step.member p reply (p.waits k) e rule (known.lasting k))
     ]
 
 -- Arrivals
@@ -305,13 +354,14 @@ known_after p step reply may known =
     let rule = answer_rule p step reply may known in record {
       rule = rule;
       pending = λ k. pending_after p step reply k may known;
+      lasting = λ k. lasts_after p step reply k may known rule;
       fresh = λ k. fresh_after p step reply k may known;
       words = answer_words p step reply may known rule;
     }
 
 -- of a new team
 pub known_first : (terms : Terms) → Known (before_all terms)
-known_first terms = record { rule = tt; pending = λ k. tt; fresh = λ k whole quiet. refl; words = λ k i shape at single piece. absurd (cc) }
+known_first terms = record { rule = tt; pending = λ k. tt; lasting = λ k. tt; fresh = λ k whole quiet. refl; words = λ k i shape at single piece. absurd (cc) }
 
 -- and of each record whose replies have their causes
 pub known_of : (terms : Terms) (run : Record) → Caused terms run → Known (past_of terms run)

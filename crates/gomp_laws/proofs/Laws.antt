@@ -12,10 +12,12 @@ use Rattle.gomp_types.specs.declared.refusal.Refusal.{Refusal}
 use Rattle.gomp_types.specs.declared.reply.Reply.{Reply}
 use Rattle.gomp_types.specs.declared.reply.Reply.TheVariants.{Chunk, Refused}
 use Rattle.gomp_laws.specs.Headline.{Headline}
+use Rattle.gomp_laws.specs.Replies.{HoldReplies}
 use Rattle.gomp_model.specs.Past.{Terms, Past}
 use Rattle.gomp_model.specs.Team.{Record, refusal_of, MayAnswer, past_of, events, Caused, OneReply, SomeReply}
 use Rattle.gomp_laws.proofs.ChunksCount.{chunks_have}
 use Rattle.gomp_laws.proofs.Headline.{headline_of}
+use Rattle.gomp_laws.proofs.HoldReplies.{hold_replies}
 use Rattle.gomp_laws.proofs.OneReply.{one_answer}
 use Rattle.gomp_laws.proofs.SomeReply.{some_reply_of, refused_so}
 
@@ -24,8 +26,9 @@ use Rattle.gomp_laws.proofs.SomeReply.{some_reply_of, refused_so}
 -- members end had every iteration or section taken, and a single that all members left was executed by one
 -- of them; ordered parts of a loop run in the order of its iterations, and an ordered loop that all members
 -- left had each of its pieces handed on; the words that a member copies are those that the executor of the
--- single put; all members go through the same constructs in the same order; and no member passes a barrier
--- before all arrived, and have left the constructs before it.
+-- single put; all members go through the same constructs in the same order; no member passes a barrier
+-- before all arrived, and have left the constructs before it; a critical name and a lock have at most one
+-- owner at a time, which alone releases it, and no member passes a barrier while it holds a critical name.
 pub headline_holds : (terms : Terms) → (run : Record) → Caused terms run → Headline terms.members (events terms run)
 headline_holds = headline_of
 
@@ -40,6 +43,11 @@ at_most_one_reply_has_its_cause = one_answer
 pub some_reply_has_its_cause :
     (terms : Terms) → (run : Record) → (step : Step) → Caused terms run → SomeReply (past_of terms run) step
 some_reply_has_its_cause = some_reply_of
+
+-- A call waits for a critical name or a lock only if another owner holds it; a count that is answered is the
+-- number of open holds of the lock that the task which asks has then.
+pub replies_on_names_and_locks : (terms : Terms) → (run : Record) → Caused terms run → HoldReplies terms run
+replies_on_names_and_locks = hold_replies
 
 -- A chunk that is answered has an iteration, at least one.
 pub chunk_has_an_iteration :

@@ -1,29 +1,25 @@
 -- The rows of the lock routines.
 use Rattle.std.proofs.Common.{◌≡◌, ℕ, ◌+◌, ◌-◌, ◌≤◌, Bool, true, false, List, ◌++◌, Option, Some, None, refl, ap, sym, ◌∙◌, subst, arith, inl, inr}
-use Rattle.std.specs.Prelude.{ℤ, ◌&&◌, ◌<◌, not, nat_lt, nat_le, is_some, if◌then◌else◌, length, slice_get}
+use Rattle.std.specs.Prelude.{not, nat_lt, nat_le, is_some, if◌then◌else◌, length, slice_get}
 use Rattle.std.specs.Option.{option_flatten}
 use Rattle.std.proofs.lemmas.Bool.{cases_Bool}
 use Rattle.std.proofs.lemmas.Bool.Decides.{nat_tests}
 use Rattle.gomp_types.specs.declared.event.Event.{Event}
-use Rattle.gomp_types.specs.declared.key.Key.{Key}
 use Rattle.gomp_types.specs.declared.key.Key.TheVariants.{Lock, NestLock}
 use Rattle.gomp_types.specs.declared.lock.Held.{Held}
 use Rattle.gomp_types.specs.declared.lock.TheConstants.{MAX_COUNT}
 use Rattle.gomp_types.specs.declared.lock.LockKind.{LockKind}
 use Rattle.gomp_types.specs.declared.lock.LockKind.TheVariants.{Simple, Nest}
-use Rattle.gomp_types.specs.declared.refusal.Refusal.{Refusal}
 use Rattle.gomp_types.specs.declared.reply.Reply.{Reply}
-use Rattle.gomp_types.specs.declared.reply.Reply.TheVariants.{Chunk, Finished, Wait, Lock as LockMade, Got, Count, Refused}
+use Rattle.gomp_types.specs.declared.reply.Reply.TheVariants.{Finished, Wait, Lock as LockMade, Got, Count}
 use Rattle.gomp_types.specs.declared.task.Owner.{Owner}
-use Rattle.gomp_types.specs.Laws.{Always}
 use Rattle.gomp_types.specs.Owners.{same_owner}
-use Rattle.gomp_types.proofs.Booleans.{and_right, not_false}
+use Rattle.gomp_types.proofs.Booleans.{not_false}
 use Rattle.gomp_types.proofs.LeastTests.{AllFail}
 use Rattle.gomp_locks.specs.Book.{held_by}
-use Rattle.gomp_locks.specs.Locks.{MakesLock, gone_tests, set_by_other_tests, count_for, count_tests, held_by_another, SetsLock, TestsLock, SetsNest, TestsNest, UnsetsNest}
-use Rattle.gomp_locks.specs.Holders.{asker, holder, own_part, held_if_kind, found_lock}
-use Rattle.gomp_locks.specs.HoldRules.{can_hold, HoldRule}
-use Rattle.gomp_model.specs.Past.{Past}
+use Rattle.gomp_locks.specs.Locks.{MakesLock, set_by_other_tests, count_for, count_tests, held_by_another, SetsLock, TestsLock, SetsNest, TestsNest, UnsetsNest}
+use Rattle.gomp_locks.specs.Holders.{asker, holder, found_lock}
+use Rattle.gomp_locks.specs.HoldRules.{can_hold}
 use Rattle.gomp_model.specs.CriticalNames.{is_held, is_freed, held_once}
 use Rattle.gomp_model.specs.Locks.{init_row, destroy_row, set_row, test_row, unset_row, set_nest_row, test_nest_row, unset_nest_row}
 use Rattle.gomp_locks.proofs.HoldsKeep.{held_at_least_once}
@@ -159,11 +155,13 @@ test_is_free held (Got free) may is = sym may ∙ is
 test_is_free held _ may is = absurd may
 
 -- a test never waits, and tells no count
-test_tells : {P : Type 0} (found : Option (Option Held)) (reply : Reply) → TestsLock found reply → (reply ≡ Got true → ⊥) → (reply ≡ Got false → ⊥) → P
-test_tells None reply may got failed = absurd may
-test_tells (Some held) (Got true) may got failed = absurd (got refl)
-test_tells (Some held) (Got false) may got failed = absurd (failed refl)
-test_tells (Some held) _ may got failed = absurd may
+test_waits : {P : Type 0} (found : Option (Option Held)) → TestsLock found Wait → P
+test_waits None may = absurd may
+test_waits (Some held) may = absurd may
+
+test_counts_none : {P : Type 0} (found : Option (Option Held)) (count : ℕ) → TestsLock found (Count count) → P
+test_counts_none None count may = absurd may
+test_counts_none (Some held) count may = absurd may
 
 pub test_sound : (number : ℕ) → IsSound (test_row number)
 test_sound number = held_row_sound (Lock number) (test_row number) (record {
@@ -177,13 +175,13 @@ test_sound number = held_row_sound (Lock number) (test_row number) (record {
       let found = lock_is_found Simple number p ready.missing in
       let tests = subst (λ (f : Option (Option Held)). TestsLock f reply) found may in
       hold_keeps p.terms.members m (Lock number) (is_held reply) p.events ready.member (test_is_free (holder (Lock number) p.events) reply tests) all;
-  apart = λ repeated m p ready tasks may. test_tells (found_lock Simple number p.locks p.events) Wait may (λ e. cc) (λ e. cc);
-  waits_for = λ m p may. test_tells (found_lock Simple number p.locks p.events) Wait may (λ e. cc) (λ e. cc);
-  tells_count = λ repeated m count p ready may. test_tells (found_lock Simple number p.locks p.events) (Count count) may (λ e. cc) (λ e. cc);
+  apart = λ repeated m p ready tasks may. test_waits (found_lock Simple number p.locks p.events) may;
+  waits_for = λ m p may. test_waits (found_lock Simple number p.locks p.events) may;
+  tells_count = λ repeated m count p ready may. test_counts_none (found_lock Simple number p.locks p.events) count may;
   no_memory = λ m p. (refl, refl);
 })
 
--- a lock that no other task is refused for is held by the one that asks
+-- a lock whose release is not refused is held by the task that asks
 unset_by_holder : (owner : Owner) (held : Option Held) (found : Option (Option Held)) → found ≡ Some held → AllFail (set_by_other_tests owner found) → held_by owner held ≡ true
 unset_by_holder owner held found at fail = not_false (held_by owner held) (subst (λ (f : Option (Option Held)). AllFail (set_by_other_tests owner f)) at fail).0
 

@@ -36,7 +36,7 @@ use Rattle.gomp_laws.proofs.HandedOn.{told_holds_none}
 use Rattle.gomp_laws.proofs.TeamShares.{share_rules}
 use Rattle.gomp_shares.specs.Loops.{IsChunk, end_tests, DealsOut, DealsNext, piece_given, handed_on, next_given}
 use Rattle.gomp_model.specs.Loops.{loop_start_row, loop_next_row, loop_end_row, loop_end_nowait_row}
-use Rattle.gomp_laws.proofs.Sound.{AreOwn, own_append, own_given, is_wait, IsSound, quiet}
+use Rattle.gomp_laws.proofs.Sound.{AreOwn, own_append, own_given, is_wait, IsSound, quiet, outside_lasts}
 use Rattle.gomp_laws.proofs.CallsKeep.{regroup_rules}
 use Rattle.gomp_laws.proofs.Starts.{IsDeal, start_sound}
 use Rattle.gomp_laws.proofs.Arrivals.{IsEnd, end_sound, end_arrival_sound}
@@ -253,7 +253,10 @@ loop_next_sound = record {
   still = λ stays m p. (refl, next_still p.terms.members (open_share m p.events) m p.events);
   tells = λ arrives m p reply may. absurd (cc);
   one_pass = λ arrives m p. absurd (cc);
-  no_memory = λ m p. (refl, refl, λ repeated. refl);
+  lasts = λ repeated m p ready all may. outside_lasts ready refl refl (λ fail. fail.0) may;
+  waits_for = λ key m p holds may. absurd (cc);
+  tells_count = λ key repeated m count p holds ready all may. absurd (cc);
+  no_memory = λ m p. (refl, refl, refl, λ repeated. refl);
   words_keep = λ puts repeated m p reply ready may all. absurd (cc);
 }
 

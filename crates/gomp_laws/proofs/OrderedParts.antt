@@ -20,7 +20,7 @@ use Rattle.gomp_laws.proofs.TeamShares.{share_rules}
 use Rattle.gomp_shares.specs.OrderedParts.{BeginsPart, part_given, part_end_tests, part_end_events}
 use Rattle.gomp_model.specs.OrderedParts.{ordered_start_row, ordered_end_row}
 use Rattle.gomp_laws.proofs.AtOnce.{at_once_sound}
-use Rattle.gomp_laws.proofs.Sound.{AreGiven, IsSound, quiet}
+use Rattle.gomp_laws.proofs.Sound.{AreGiven, IsSound, quiet, outside_lasts}
 
 one_part : (members m : ℕ) (own : Option (ℕ × Shape)) (a b : Reply) (h : List Event) → BeginsPart members m own a h → BeginsPart members m own b h → a ≡ b
 one_part members m None a b h x y = absurd x
@@ -90,7 +90,10 @@ ordered_start_sound value = record {
   still = λ stays m p. (refl, part_still (open_share m p.events) m value);
   tells = λ arrives m p reply may. absurd (cc);
   one_pass = λ arrives m p. absurd (cc);
-  no_memory = λ m p. (refl, refl, λ repeated. refl);
+  lasts = λ repeated m p ready all may. outside_lasts ready refl refl (λ fail. fail.0) may;
+  waits_for = λ key m p holds may. absurd (cc);
+  tells_count = λ key repeated m count p holds ready all may. absurd (cc);
+  no_memory = λ m p. (refl, refl, refl, λ repeated. refl);
   words_keep = λ puts repeated m p reply ready may all. absurd (cc);
 }
 

@@ -7,7 +7,9 @@ use Rattle.gomp_types.specs.declared.shape.Shape.{Shape}
 use Rattle.gomp_types.specs.declared.shape.ShareKind.TheVariants.{Guided}
 use Rattle.gomp_types.specs.declared.event.Arrival.TheVariants.{Barrier, RegionEnd}
 use Rattle.gomp_types.specs.declared.event.Tag.{Tag}
-use Rattle.gomp_types.specs.declared.event.Event.TheVariants.{Enter, Take, Drained, End, HandOn, Part, PartEnd, Put, Got, Arrive, Pass}
+use Rattle.gomp_types.specs.declared.key.Key.TheVariants.{Critical, Lock}
+use Rattle.gomp_types.specs.declared.task.Task.TheVariants.{Implicit, Explicit}
+use Rattle.gomp_types.specs.declared.event.Event.TheVariants.{Enter, Take, Drained, End, HandOn, Part, PartEnd, Put, Got, Arrive, Pass, Hold, Free}
 use Rattle.gomp_types.specs.Shapes.{is_copy}
 use Rattle.gomp_types.specs.Singles.{single_shape}
 use Rattle.gomp_types.specs.Sections.{sections_shape}
@@ -358,3 +360,27 @@ team_pass_alone may = absurd (let met = may.passes.met in cc)
 -- one who is no member passes, if all have arrived
 pub team_pass_stranger : RefusedAfter (TeamRule 2) (Arrive 0 0 (at Barrier 0) ∷ Arrive 0 1 (at Barrier 0) ∷ []) (Pass 0 2)
 team_pass_stranger may = absurd (let member = may.member in omega arith)
+
+-- a member passes while it holds a critical name
+pub team_pass_holding : RefusedAfter (TeamRule 1) (Hold (Critical (65 ∷ [])) 0 (Implicit 0) ∷ Arrive 0 0 (at Barrier 0) ∷ []) (Pass 0 0)
+team_pass_holding may = absurd (let free = may.free in cc)
+
+-- a member holds a lock that another holds
+pub team_hold_of_held : RefusedAfter (TeamRule 2) (Hold (Lock 0) 0 (Implicit 0) ∷ []) (Hold (Lock 0) 1 (Implicit 1))
+team_hold_of_held may = absurd (let free = may.holds.free in cc)
+
+-- a member holds a lock in a task that it does not execute
+pub team_hold_in_other_task : RefusedAfter (TeamRule 2) [] (Hold (Lock 0) 0 (Explicit 0))
+team_hold_in_other_task may = absurd (let current = may.holds.current in cc)
+
+-- one who is no member holds a lock
+pub team_hold_stranger : RefusedAfter (TeamRule 2) [] (Hold (Lock 0) 2 (Implicit 2))
+team_hold_stranger may = absurd (let member = may.member in omega arith)
+
+-- a member frees a lock that another holds
+pub team_free_of_held : RefusedAfter (TeamRule 2) (Hold (Lock 0) 0 (Implicit 0) ∷ []) (Free (Lock 0) 1 (Implicit 1))
+team_free_of_held may = absurd (let held = may.held in cc)
+
+-- a member frees a lock in a task that it does not execute
+pub team_free_in_other_task : RefusedAfter (TeamRule 2) (Hold (Lock 0) 0 (Implicit 0) ∷ []) (Free (Lock 0) 0 (Explicit 0))
+team_free_in_other_task may = absurd (let current = may.current in cc)

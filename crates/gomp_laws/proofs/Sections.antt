@@ -29,7 +29,7 @@ use Rattle.gomp_laws.proofs.HandedOn.{told_holds_none}
 use Rattle.gomp_laws.proofs.TeamShares.{share_rules}
 use Rattle.gomp_shares.specs.Sections.{DealsSections, section_given, section_next_given, sections_end_tests}
 use Rattle.gomp_model.specs.Sections.{sections_start_row, sections_next_row, sections_end_row, sections_end_nowait_row}
-use Rattle.gomp_laws.proofs.Sound.{AreOwn, own_given, IsSound, quiet}
+use Rattle.gomp_laws.proofs.Sound.{AreOwn, own_given, IsSound, quiet, outside_lasts}
 use Rattle.gomp_laws.proofs.Starts.{IsDeal, start_sound}
 use Rattle.gomp_laws.proofs.Arrivals.{IsEnd, end_sound, end_arrival_sound}
 
@@ -174,7 +174,10 @@ sections_next_sound = record {
   still = λ stays m p. (refl, section_next_still (open_share m p.events) m);
   tells = λ arrives m p reply may. absurd (cc);
   one_pass = λ arrives m p. absurd (cc);
-  no_memory = λ m p. (refl, refl, λ repeated. refl);
+  lasts = λ repeated m p ready all may. outside_lasts ready refl refl (λ fail. fail.0) may;
+  waits_for = λ key m p holds may. absurd (cc);
+  tells_count = λ key repeated m count p holds ready all may. absurd (cc);
+  no_memory = λ m p. (refl, refl, refl, λ repeated. refl);
   words_keep = λ puts repeated m p reply ready may all. absurd (cc);
 }
 

@@ -235,6 +235,9 @@ single_copy_end_sound payload = record {
   still = λ stays m p. absurd (cc);
   tells = λ arrives m p reply may. absurd (cc);
   one_pass = λ arrives m p. absurd (cc);
-  no_memory = λ m p. (refl, refl, λ repeated. refl);
+  lasts = λ repeated m p ready all may. absurd (cc);
+  waits_for = λ key m p holds may. absurd (cc);
+  tells_count = λ key repeated m count p holds ready all may. absurd (cc);
+  no_memory = λ m p. (refl, refl, refl, λ repeated. refl);
   words_keep = λ puts repeated m p reply ready may all. end_words payload repeated m p ready all ready.words;
 }

@@ -59,11 +59,12 @@ wait_clean Stop waiting = refl
 wait_clean _ waiting = refl
 
 row_clean : (row : Row) → IsSound row → (repeated : Bool) (m : ℕ) (p : Past) → memoryless (row_tests repeated row m p) ≡ true
-row_clean row sound true m p = (sound.no_memory m p).2 true
+row_clean row sound true m p =
+    let clean = sound.no_memory m p in clean_append (row.compared true m p) (row.missing m p) (clean.3 true) clean.2
 row_clean row sound false m p =
     let clean = sound.no_memory m p in
-    clean_append (row.by_place p.terms.limits (seen_of m p.events)) (row.by_team m p ++ row.compared false m p) clean.0
-    (clean_append (row.by_team m p) (row.compared false m p) clean.1 (clean.2 false))
+    let place = clean_append (row.by_place p.terms.limits (seen_of m p.events)) (row.compared false m p) clean.0 (clean.3 false) in
+    clean_append (row.by_place p.terms.limits (seen_of m p.events) ++ row.compared false m p) (row.by_team m p ++ row.missing m p) place (clean_append (row.by_team m p) (row.missing m p) clean.1 clean.2)
 
 step_clean : (p : Past) (step : Step) → memoryless (tests_of p step) ≡ true
 step_clean p step =

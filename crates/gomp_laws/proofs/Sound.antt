@@ -1,5 +1,5 @@
 -- What the theorems on a team ask of a call's row.
-use Rattle.std.proofs.Common.{◌≡◌, ℕ, Bool, true, false, List, [], ◌∷◌, ◌++◌, Option, Some, None}
+use Rattle.std.proofs.Common.{◌≡◌, ℕ, Bool, true, false, List, [], ◌∷◌, ◌++◌, Option, Some, None, refl, sym, ◌∙◌}
 use Rattle.gomp_types.specs.declared.key.Key.{Key}
 use Rattle.std.specs.Prelude.{ℤ, ◌⊎◌, ◌<◌, ◌&&◌, not, is_some}
 use Rattle.gomp_types.specs.declared.refusal.Refusal.{Refusal}
@@ -20,7 +20,7 @@ use Rattle.gomp_types.specs.declared.lock.Held.{Held}
 use Rattle.gomp_locks.specs.Locks.{count_for}
 use Rattle.gomp_locks.specs.Holders.{asker, holder, own_part, holds_critical}
 use Rattle.gomp_model.specs.Past.{Past}
-use Rattle.gomp_model.specs.Row.{Row, begun_past, given_after}
+use Rattle.gomp_model.specs.Row.{Row, unless_repeated, begun_past, given_after}
 
 -- whether a refusal is want of memory
 abbrev pub is_memory : Refusal → Bool
@@ -147,6 +147,24 @@ pub record Ready (row : Row) (repeated : Bool) (m : ℕ) (p : Past) : Type 0 whe
   pub first : repeated ≡ false → is_some row.arrives ≡ true → arrival (barriers_passed m p.events) m p.events ≡ None
   -- the words of a single are still to be put while its executor is in it
   pub words : WordsToCome p.events
+
+-- so a call that no task makes while it holds a critical name is made without one, or was
+pub outside_free : {row : Row} {repeated : Bool} {m : ℕ} {p : Past} → Ready row repeated m p → row.asks_book ≡ false → (AllFail (row.by_team m p) → holds_critical (asker m p.events) p.events ≡ false) →
+    holds_critical (asker m p.events) p.events ≡ false
+outside_free {row} {repeated = true} {m} {p} ready other tested = (ready.lasting refl).0 other
+outside_free {row} {repeated = false} {m} {p} ready other tested = tested (ready.team refl)
+
+-- and waits without one
+pub outside_lasts : {row : Row} {repeated : Bool} {m : ℕ} {p : Past} → Ready row repeated m p → row.asks_book ≡ false → row.holds ≡ None → (AllFail (row.by_team m p) → holds_critical (asker m p.events) p.events ≡ false) →
+    row.may_reply m (begun_past repeated row m p) Wait → Lasts row m p.events
+outside_lasts {row} {repeated} {m} {p} ready other none tested may = ((λ outside. outside_free ready other tested), (λ key holds. absurd (let some = sym none ∙ holds in cc)), (begun_past repeated row m p, may))
+
+-- the names that a member holds once its call has begun
+pub names_begun : (repeated : Bool) (m : ℕ) (events h : List Event) → holds_critical (asker m (events ++ h)) (events ++ h) ≡ false → holds_critical (asker m h) h ≡ false →
+    holds_critical (asker m (unless_repeated events repeated ++ h)) (unless_repeated events repeated ++ h) ≡ false
+names_begun repeated m [] h begun before = before
+names_begun true m (event ∷ events) h begun before = before
+names_begun false m (event ∷ events) h begun before = begun
 
 -- what a row has to be for the theorems
 pub record IsSound (row : Row) : Type 0 where

@@ -23,7 +23,7 @@ use Rattle.gomp_types.proofs.LeastTests.{AllFail, fail_first}
 use Rattle.gomp_shares.specs.Starts.{Deals, Starts, behind, entry_and}
 use Rattle.gomp_model.specs.Past.{Past}
 use Rattle.gomp_model.specs.Starts.{start_row}
-use Rattle.gomp_laws.proofs.Sound.{AreOwn, own_append, own_given, memoryless, clean_append, Ready, IsSound, quiet}
+use Rattle.gomp_laws.proofs.Sound.{AreOwn, own_append, own_given, memoryless, clean_append, Ready, IsSound, quiet, outside_lasts}
 use Rattle.gomp_laws.proofs.CallsKeep.{regroup_rules}
 
 -- a start that waits found no room, and every other one found some
@@ -130,6 +130,9 @@ start_sound memory own shape deals Given is = record {
   still = λ stays m p. (refl, ap (behind (Enter (shares_entered m p.events) m shape)) (is.still (shares_entered m p.events) m));
   tells = λ arrives m p reply may. absurd (cc);
   one_pass = λ arrives m p. absurd (cc);
-  no_memory = λ m p. (clean_append own ((nat_le p.terms.limits.shares (shares_entered m p.events), TooManyShares) ∷ []) is.no_memory refl, refl, λ repeated. refl);
+  lasts = λ repeated m p ready all may. outside_lasts ready refl refl (λ fail. fail.0) may;
+  waits_for = λ key m p holds may. absurd (cc);
+  tells_count = λ key repeated m count p holds ready all may. absurd (cc);
+  no_memory = λ m p. (clean_append own ((nat_le p.terms.limits.shares (shares_entered m p.events), TooManyShares) ∷ []) is.no_memory refl, refl, refl, λ repeated. refl);
   words_keep = λ puts repeated m p reply ready may all. absurd (cc);
 }

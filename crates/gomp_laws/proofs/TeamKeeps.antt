@@ -11,6 +11,8 @@ use Rattle.gomp_types.specs.Deals.{schedule}
 use Rattle.gomp_types.specs.Laws.{Always, Happened}
 use Rattle.gomp_shares.specs.Rules.{ShareRule}
 use Rattle.gomp_types.specs.Arrivals.{ArrivalRule}
+use Rattle.gomp_locks.specs.HoldRules.{HoldRule}
+use Rattle.gomp_locks.specs.HoldLaws.{FreesItsOwn, PassesFree}
 use Rattle.gomp_laws.specs.Rules.{TeamRule}
 use Rattle.gomp_shares.specs.Laws.{TakesItsOwn}
 use Rattle.gomp_laws.specs.Laws.{LeavesHandedOn, PutsOnce, GetsWhatWasPut, LeavesWithWords, ArrivesOutside, ClosesShares, HappensUnbroken, HappensInside, ArrivesOnce, TellsShares}
@@ -18,7 +20,8 @@ use Rattle.gomp_laws.specs.Headline.{Headline}
 use Rattle.gomp_types.proofs.Booleans.{which_branch, is_equal, same_number}
 use Rattle.gomp_types.proofs.Always.{always_so}
 use Rattle.gomp_shares.proofs.SharesKeep.{shares_keep, left_before}
-use Rattle.gomp_laws.proofs.TeamShares.{share_rules}
+use Rattle.gomp_locks.proofs.HoldsKeep.{one_owner_holds, held_once_holds, frees_its_own, passes_free_holds}
+use Rattle.gomp_laws.proofs.TeamShares.{share_rules, hold_rules}
 use Rattle.gomp_laws.proofs.HandedOn.{leaves_handed_on, all_handed_on}
 use Rattle.gomp_shares.proofs.Assigned.{takes_its_own}
 use Rattle.gomp_shares.proofs.OrderedKeep.{ordered_keep}
@@ -117,11 +120,18 @@ closes_shares members (Pass barrier m) earlier rule all = λ tag stands share lt
     arrived_left members barrier x own.0 earlier all own.1 share (rw same lt)
 closes_shares members _ earlier rule all = tt
 
+-- Names and locks
+
+passes_free : (members : ℕ) (event : Event) (earlier : List Event) → TeamRule members event earlier → Always (TeamRule members) earlier → PassesFree event earlier
+passes_free members (Pass barrier m) earlier rule all = passes_free_holds barrier m earlier rule.free (hold_rules members earlier all)
+passes_free members _ earlier rule all = tt
+
 -- the headline, from the rule of the team, if nothing follows a break or the region's end
 pub team_keeps : (members : ℕ) (h : List Event) → Always (TeamRule members) h → Always InTime h → Headline members h
 team_keeps members h all in_time =
     let shares = shares_keep (schedule members) members h (share_rules members h all) in
     let copies = copies_keep members h all in
+    let holds = hold_rules members h all in
     let arrivals = arrivals_keep members h (arrival_rules members h all) in record {
       taken_once = shares.taken_once;
       owned = always_so (ShareRule (schedule members) members) (TakesItsOwn members) (takes_its_own members) h (share_rules members h all);
@@ -141,4 +151,8 @@ team_keeps members h all in_time =
       in_region = always_so InTime HappensInside inside_holds h in_time;
       passes = arrivals.passes;
       closes = always_so (TeamRule members) (ClosesShares members) (closes_shares members) h all;
+      one_owner = one_owner_holds h holds;
+      held_once = held_once_holds h holds;
+      frees = always_so HoldRule FreesItsOwn frees_its_own h holds;
+      passes_free = always_so (TeamRule members) PassesFree (passes_free members) h all;
     }

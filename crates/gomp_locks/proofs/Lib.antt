@@ -3,7 +3,9 @@ pub mod BookCalls
 pub mod BookExamples
 pub mod CallLemmas
 pub mod CountLemmas
+pub mod HoldLawExamples
 pub mod HoldLemmas
+pub mod HolderExamples
 pub mod HoldsKeep
 pub mod Laws
 pub mod LockExamples

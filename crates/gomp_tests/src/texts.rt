@@ -117,6 +117,19 @@ const CALLS: &[&str] = &[
     "ordered_end",
     "barrier",
     "region_end",
+    "critical",
+    "critical a",
+    "critical_end",
+    "critical_end aaaaaaaaaaaaaaaaaaaaaaaaaaaaaaaaaaaa",
+    "lock_init",
+    "nest_init",
+    "lock_destroy 0",
+    "set 4294967295",
+    "test 0",
+    "unset 4294967295",
+    "set_nest 0",
+    "test_nest 4294967295",
+    "unset_nest 0",
     "resume",
     "stop",
 ];
@@ -164,6 +177,8 @@ const BAD_TEXTS: &[BadRow] = &[
     ("team 1\n0 ", "x", "y\n", 0, 2, Why::UnknownWord),
     ("team 1\n99999", "9", " next\n", 0, 2, Why::BadNumber),
     ("team 1\n0 next", " x", " y\n", 0, 2, Why::ExtraWord),
+    ("team 1\n0 critical x", "x", " y\n", 0, 2, Why::ExtraWord),
+    ("team 1\n0 set ", "0", "4294967296\n", 0, 2, Why::BadNumber),
     ("te", "a", "mm 1\n", 0, 1, Why::FirstLine),
 ];
 
