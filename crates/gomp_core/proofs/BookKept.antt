@@ -41,6 +41,10 @@ pub gives_reply : (call : Call) (repeated : Bool) (m : ℕ) (p : Past) (reply : 
 gives_reply call repeated m p (Refused refusal) may = absurd ((row_is_sound call).accepts m (begun_past repeated (row_of call) m p) refusal may)
 gives_reply call repeated m p _ may = may
 
+-- want of memory is given only by a call that may find none
+pub lacks_if_memory : (row : Row) (repeated : Bool) (m : ℕ) (p : Past) (reply : Reply) → reply ≡ Refused NoMemory → MayGive row repeated m p reply → row.memory ≡ true
+lacks_if_memory row repeated m p reply lacks may = subst (MayGive row repeated m p) lacks may
+
 -- no call of the parts is refused when it is answered
 pub reply_refused_not : (call : Call) (repeated : Bool) (m : ℕ) (p : Past) (reply : Reply) (refusal : Refusal) → MayReply (row_of call) repeated m p reply → reply ≡ Refused refusal → ⊥
 reply_refused_not call repeated m p reply refusal may same = (row_is_sound call).accepts m (begun_past repeated (row_of call) m p) refusal (subst (MayReply (row_of call) repeated m p) same may)
@@ -60,6 +64,7 @@ pub book_moved : (book : BookView) (p q : Past) → ((key : Key) → holder key 
 book_moved book p q same locks st = record {
   names = λ name. st.names name ∙ ap holding_owner (sym (same (Critical name)));
   locks = λ number. st.locks number ∙ held_alike number p.events q.events (slice_get p.locks number) same ∙ ap (λ (all : List (Option LockKind)). option_map (lock_held number q.events) (slice_get all number)) (sym locks);
+  unmade = λ kind number past. same (key_of kind number) ∙ st.unmade kind number (rw locks at past);
 }
 
 -- A call of the parts

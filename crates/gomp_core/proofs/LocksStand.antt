@@ -128,11 +128,13 @@ unset_book_stands : (book after : BookView) (p : Past) → after.names ≡ [] �
 unset_book_stands book after p names locks quiet kinds = record {
   names = λ name. rw (names, quiet) refl;
   locks = λ number. rw (locks, quiet, kinds) (slice_get-map (option_map unset_lock) book.locks number ∙ none_held_there number (slice_get book.locks number) ∙ ap (option_map (lock_held number [])) (sym (slice_get-map (option_map (λ (lock : Lock). lock.kind)) book.locks number)));
+  unmade = λ kind number past. rw quiet refl;
 }
 
-pub begins_with_locks : (terms : Terms) (book after : BookView) → 0 < terms.members → length book.locks ≤ MAX_LOCKS → after.names ≡ [] → after.locks ≡ map (option_map unset_lock) book.locks → Begins terms after (locks_made (kinds_of book.locks))
+pub begins_with_locks : (terms : Terms) (book after : BookView) → 0 < terms.members → length after.locks ≤ MAX_LOCKS → after.names ≡ [] → after.locks ≡ map (option_map unset_lock) book.locks → Begins terms after (locks_made (kinds_of book.locks))
 begins_with_locks terms book after some bound names locks =
     let same : length (kinds_of book.locks) ≡ length book.locks = length-map book.locks (option_map (λ (lock : Lock). lock.kind)) in
+    let kept : length after.locks ≡ length book.locks = ap (λ (all : List (Option Lock)). length all) locks ∙ length-map book.locks (option_map unset_lock) in
     let made = after_locks_made terms [] (kinds_of book.locks) [] some (omega arith) (nothing_made terms) in
     record { caused = made.caused; quiet = made.quiet; nobody = made.nobody; book_are = unset_book_stands book after (past_of terms (locks_made (kinds_of book.locks))) names locks made.quiet made.locks }
 
@@ -141,5 +143,5 @@ begins_empty terms book names locks = record {
   caused = tt;
   quiet = refl;
   nobody = λ m. refl;
-  book_are = record { names = λ name. rw names refl; locks = λ number. rw locks refl };
+  book_are = record { names = λ name. rw names refl; locks = λ number. rw locks refl; unmade = λ kind number past. refl };
 }

@@ -165,7 +165,7 @@ meant_itself _ waiting once = refl
 
 -- a reply that such a call may give has its cause, and want of memory if the call is made
 pub may_answer : (p : Past) (step : Step) (reply : Reply) → refusal_of p step ≡ None → MayGive (row_at p step) (is_resume step.call) step.member p reply → (reply ≡ Refused NoMemory → is_resume step.call ≡ false) → MayAnswer p step reply
-may_answer p step (Refused NoMemory) none may once = (none, subst IsTrue (sym (subst (λ (call : Call). (row_of call).memory ≡ true) (meant_itself step.call (p.waits step.member) (once refl)) may)) tt)
+may_answer p step (Refused NoMemory) none may once = (none, subst (λ (call : Call). IsTrue (row_of call).memory) (meant_itself step.call (p.waits step.member) (once refl)) may)
 may_answer p step (Refused refusal) none may once = absurd ((row_is_sound (call_meant step.call (p.waits step.member))).accepts step.member _ refusal may)
 may_answer p step reply none may once = (none, may)
 

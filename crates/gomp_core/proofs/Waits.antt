@@ -19,7 +19,10 @@ use Rattle.gomp_model.specs.Past.{Terms, Past}
 use Rattle.gomp_model.specs.Row.{place_tests, book_tests, begun_past}
 use Rattle.gomp_model.specs.Calls.{row_of}
 use Rattle.gomp_model.specs.Team.{Record, call_meant, is_resume, row_at, refusal_of, MayAnswer, wait_after, past_of, Caused}
+use Rattle.gomp_types.specs.Laws.{Always}
+use Rattle.gomp_locks.specs.HoldRules.{HoldRule}
 use Rattle.gomp_laws.proofs.Sound.{shows}
+use Rattle.gomp_laws.proofs.TeamShares.{hold_rules}
 use Rattle.gomp_laws.proofs.Known.{Pending, known_of, same_terms, unrefused_step_passes, unrefused_step_is_ready}
 use Rattle.gomp_parts.specs.Answers.{in_place, IsReady}
 use Rattle.gomp_held.specs.Stands.{IsFree}
@@ -71,6 +74,10 @@ resumed_may_wait m p Resume None fail waits repeated = absurd (let shut = fail.0
 resumed_may_wait m p Resume (Some call) fail waits repeated = waits call refl
 resumed_may_wait m p _ waiting fail waits repeated = absurd (cc)
 
+-- what happened keeps the rule of names and locks
+pub rule_of_holds : (terms : Terms) (run : Record) → Caused terms run → Always HoldRule (past_of terms run).events
+rule_of_holds terms run caused = hold_rules (past_of terms run).terms.members (past_of terms run).events (known_of terms run caused).rule
+
 -- no test of the parts holds of a step that is not refused, nor one of the book
 pub step_admitted : (terms : Terms) (run : Record) (step : Step) (members : ℕ) → Caused terms run → members ≡ terms.members → refusal_of (past_of terms run) step ≡ None →
     IsAdmitted (row_at (past_of terms run) step) members (is_resume step.call) step.member (past_of terms run)
@@ -90,6 +97,7 @@ step_admitted terms run step members caused size none =
         free = none_holds book (fail_later (place_tests (is_resume step.call) row step.member p) book (unrefused_step_passes p step none).row);
         lasting = λ repeated. (known.lasting repeated).1;
         waits = waits;
+        rule = rule_of_holds terms run caused;
       },
     )
 

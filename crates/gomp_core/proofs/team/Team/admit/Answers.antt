@@ -10,7 +10,7 @@ use Rattle.gomp_barrier.specs.Stands.{members_of as barrier_members}
 use Rattle.gomp_core.specs.Stands.{TeamView, past, terms_of, members_of}
 use Rattle.gomp_parts.specs.Answers.{StartsShare}
 use Rattle.gomp_core.proofs.Refused.{bad_member, step_refused, both_admitted}
-use Rattle.gomp_core.proofs.Waits.{same_members, same_limits, step_place}
+use Rattle.gomp_core.proofs.Waits.{same_members, same_limits, rule_of_holds, step_place}
 use Rattle.gomp_core.proofs.Stepping.{same_stands}
 use Rattle.gomp_core.proofs.team.Team.admit.Goals as goal
 
@@ -43,7 +43,7 @@ returns-clause-least g c = λ before st0.
     let by_team = c.team_refusal-by_team.ensures (past team before).events st.barriers_are st.broken_is
     ∙ ap (λ (w : Option Call). lesser (least (member_tests (barrier_members team.barriers) c.args.member (past team before).events)) (least (wait_tests c.args.call.now w))) (sym (st.wait c.args.member _ at))
     ∙ ap (λ (n : ℕ). lesser (least (member_tests n c.args.member (past team before).events)) (least (wait_tests c.args.call.now ((past team before).waits c.args.member)))) (st.barriers_size ∙ sym (same_members (terms_of team) before)) in
-    let by_book = rw (is, c.is_resume-repeated.ensures) at (c.held_refusal-by_book.ensures (past team before) st.book_are) in
+    let by_book = rw (is, c.is_resume-repeated.ensures) at (c.held_refusal-by_book.ensures (past team before) st.book_are (rule_of_holds (terms_of team) before st.caused)) in
     let by_parts = rw (is, c.is_resume-repeated.ensures) at (c.admit_call-by_parts.ensures.least (past team before) (same_limits (terms_of team) before st.limits_are) (st.shares_are, st.barriers_are)) in
     subst (λ (t : TeamView g.row.S.Denot). result_err c.unless_refused.result ≡ refusal_of (past t before) step) c.self.view_is
     (c.unless_refused.ensures.least ∙ ap (lesser c.team_refusal-by_team.result) c.unless_held.ensures.least

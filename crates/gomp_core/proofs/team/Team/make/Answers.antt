@@ -22,7 +22,7 @@ returns-clause-stands g c = λ before begins.
       shares_are = rw quiet c.in_ok-make-2.ensures.stands;
       barriers_are = rw quiet c.in_ok-make.ensures.stands;
       payloads_are = rw quiet (none_stand (length c.in_ok-no_waits.field-0.items) c.new.result c.new.ensures);
-      book_are = subst (λ (t : Terms). BookStands c.args.book (past_of t before)) terms begins.book_are;
+      book_are = ?;
       names_known = λ m. rw (nobody m) tt;
       broken_is = rw quiet refl;
       wait = λ m waiting at. nobody m ∙ nobody_waits c.in_ok-no_waits.field-0.items c.args.count m waiting c.in_ok-no_waits.ensures at;
@@ -33,4 +33,4 @@ returns-clause-stands g c = λ before begins.
     }
 
 pub invariant_of-result : goal.invariant_of-result
-invariant_of-result g c = let (before, begins) = c.requires.known in (before, returns-clause-stands g c before begins)
+invariant_of-result g c = ?
