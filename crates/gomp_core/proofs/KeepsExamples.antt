@@ -20,6 +20,7 @@ one_waits = record {
   waiting = Some Barrier ∷ None ∷ [];
   barriers = record { seats = []; front = record { odd = false; number = 0; tag = None; next = None } };
   payloads = replicate OPEN_SHARES None;
+  book = record { names = []; locks = [] };
   shares = 7;
 }
 
@@ -30,6 +31,10 @@ none_waits = record one_waits { waiting = None ∷ None ∷ [] }
 -- and but for its shares
 abbrev other_shares : TeamView ℕ
 other_shares = record one_waits { shares = 8 }
+
+-- and but for its locks
+abbrev other_book : TeamView ℕ
+other_book = record one_waits { book = record { names = []; locks = None ∷ [] } }
 
 -- it is broken
 abbrev broken_at_share : TeamView ℕ
@@ -84,3 +89,11 @@ keeps_less_at_a_break = (λ keeps. absurd (let waiting = ap (λ (team : TeamView
 -- nor does a resume that waits on, neither a wait nor the shares
 pub keeps_less_at_a_wait : (Keeps one_waits none_waits Resume Wait → ⊥) × (Keeps one_waits other_shares Resume Wait → ⊥)
 keeps_less_at_a_wait = (λ keeps. absurd (let waiting = ap (λ (team : TeamView ℕ). team.waiting) (keeps.waits refl refl) in cc), λ keeps. absurd (let shares = ap (λ (team : TeamView ℕ). team.shares) (keeps.waits refl refl) in omega arith))
+
+-- none of them makes a lock
+pub keeps_the_book : (Keeps one_waits other_book LoopNext (Refused InsideShare) → ⊥) × (Keeps one_waits other_book LoopNext (Refused Mismatch) → ⊥) × (Keeps one_waits other_book Resume Wait → ⊥)
+keeps_the_book = (
+  λ keeps. absurd (let book = ap (λ (team : TeamView ℕ). team.book) (keeps.refused InsideShare refl (λ is. absurd (cc))) in cc),
+  λ keeps. absurd (let book = ap (λ (team : TeamView ℕ). team.book) (keeps.broken refl) in cc),
+  λ keeps. absurd (let book = ap (λ (team : TeamView ℕ). team.book) (keeps.waits refl refl) in cc),
+)

@@ -13,10 +13,10 @@ use Rattle.gomp_types.specs.RefusalTexts.{number_of}
 use Rattle.gomp_types.specs.Events.{has_left_region, clash_of}
 use Rattle.gomp_types.specs.Least.{lesser, least}
 use Rattle.gomp_model.specs.Past.{Past}
-use Rattle.gomp_model.specs.Row.{row_tests}
+use Rattle.gomp_model.specs.Row.{place_tests, book_tests, row_tests}
 use Rattle.gomp_model.specs.Team.{is_resume, row_at, broken_tests, member_tests, wait_tests, refusal_of}
 use Rattle.gomp_laws.proofs.Layers.{step_layers}
-use Rattle.gomp_types.proofs.LeastTests.{lesser_assoc}
+use Rattle.gomp_types.proofs.LeastTests.{lesser_assoc, least_append}
 use Rattle.gomp_parts.proofs.Refused.{up_to, beginning, least_up, least_before}
 
 -- no number is less than that of a bad member
@@ -83,13 +83,20 @@ wait_alone members m h wait found is none =
     let here : least (member_tests members m h) ≡ None = sym is ∙ none in
     rw here refl
 
-pub step_refused : (p : Past) (step : Step) (team row : Option Refusal) → team ≡ lesser (least (member_tests p.terms.members step.member p.events)) (least (wait_tests step.call (p.waits step.member))) →
-    row ≡ least (row_tests (is_resume step.call) (row_at p step) step.member p) → lesser team row ≡ refusal_of p step
-step_refused p step team row one two =
-    rw (one, two) (sym (lesser_assoc (least (member_tests p.terms.members step.member p.events)) (least (wait_tests step.call (p.waits step.member))) (least (row_tests (is_resume step.call) (row_at p step) step.member p))))
+-- the refusals of the team, of the parts and of the book together
+pub step_refused : (p : Past) (step : Step) (team parts book : Option Refusal) → team ≡ lesser (least (member_tests p.terms.members step.member p.events)) (least (wait_tests step.call (p.waits step.member))) →
+    parts ≡ least (place_tests (is_resume step.call) (row_at p step) step.member p) → book ≡ least (book_tests (is_resume step.call) (row_at p step) step.member p) → lesser team (lesser parts book) ≡ refusal_of p step
+step_refused p step team parts book one two three =
+    let row : lesser parts book ≡ least (row_tests (is_resume step.call) (row_at p step) step.member p) =
+    rw (two, three) (sym (least_append (place_tests (is_resume step.call) (row_at p step) step.member p) (book_tests (is_resume step.call) (row_at p step) step.member p))) in
+    rw (one, row) (sym (lesser_assoc (least (member_tests p.terms.members step.member p.events)) (least (wait_tests step.call (p.waits step.member))) (least (row_tests (is_resume step.call) (row_at p step) step.member p))))
     ∙ sym (step_layers p step)
 
 -- what a call was admitted to stays so if nothing else refuses it
 pub still_admitted : {A : Type 0} (P : A → Type 0) (own all : Result A Refusal) → IfOk all (λ found. own ≡ Ok found) → IfOk own P → IfOk all P
 still_admitted P own (Ok found) same may = rw same at may
 still_admitted P own (Err refusal) same may = tt
+
+-- and if two others refuse it
+pub both_admitted : {A : Type 0} (P : A → Type 0) (own more all : Result A Refusal) → IfOk all (λ found. more ≡ Ok found) → IfOk more (λ found. own ≡ Ok found) → IfOk own P → IfOk all P
+both_admitted P own more all last first may = still_admitted P more all last (still_admitted P own more first may)

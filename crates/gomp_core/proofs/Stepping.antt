@@ -1,10 +1,11 @@
 -- A step leaves the team standing for the record with this step and its reply.
 use Rattle.std.proofs.Common.{◌≡◌, ℕ, ◌<◌, Bool, true, false, List, [], ◌∷◌, ◌++◌, Option, Some, None, length, slice_get, slice_set, replicate, refl, ap, ◌∙◌, sym, subst, arith, suc, zero, inl, inr}
-use Rattle.std.specs.Prelude.{◌==◌, ◌≢◌, if◌then◌else◌, nat_le}
+use Rattle.std.specs.Prelude.{◌==◌, ◌≢◌, if◌then◌else◌, nat_le, IsTrue}
 use Rattle.std.proofs.lemmas.Bool.Decides.{nat_tests}
+use Rattle.std.proofs.lemmas.Bool.{cases_Bool}
 use Rattle.std.proofs.lemmas.List.{map-append, length-map, length-set}
 use Rattle.gomp_types.specs.declared.call.Call.{Call}
-use Rattle.gomp_types.specs.declared.call.Call.TheVariants.{Resume, Stop}
+use Rattle.gomp_types.specs.declared.call.Call.TheVariants.{LoopStart, Resume, Stop}
 use Rattle.gomp_types.specs.declared.call.Step.{Step}
 use Rattle.gomp_types.specs.declared.refusal.Clash.{Clash}
 use Rattle.gomp_types.specs.declared.refusal.Place.{Place}
@@ -18,9 +19,12 @@ use Rattle.gomp_types.specs.Limits.{standard, IsTeamSize}
 use Rattle.gomp_types.specs.Events.{has_left_region, clash_of}
 use Rattle.gomp_types.specs.Least.{lesser, least}
 use Rattle.gomp_types.proofs.Lists.{slice_get-set}
-use Rattle.gomp_types.proofs.LeastTests.{AllFail, lesser_low}
+use Rattle.gomp_types.proofs.LeastTests.{AllFail, fail_first, lesser_low}
+use Rattle.gomp_types.proofs.Booleans.{is_equal}
+use Rattle.gomp_locks.specs.Book.{BookView}
+use Rattle.gomp_locks.specs.Holders.{holder}
 use Rattle.gomp_model.specs.Past.{Terms, Past}
-use Rattle.gomp_model.specs.Row.{row_tests, refusal_gives}
+use Rattle.gomp_model.specs.Row.{Row, place_tests, book_tests, row_tests, MayReply, given_after, refusal_gives, events_after, locks_after}
 use Rattle.gomp_model.specs.Calls.{row_of}
 use Rattle.gomp_model.specs.Team.{Record, record_after, call_meant, is_resume, row_at, broken_tests, refusal_of, MayAnswer, wait_after, past_of, Caused}
 use Rattle.gomp_barrier.specs.Stands.{BarriersView, Stands as BarriersStand, members_of as barrier_members}
@@ -32,10 +36,13 @@ use Rattle.gomp_laws.proofs.Calls.{row_is_sound}
 use Rattle.gomp_icv.specs.Variables.{Variables}
 use Rattle.gomp_parts.specs.declared.payloads.Put.{Put}
 use Rattle.gomp_parts.specs.Payloads.{PayloadsStand}
-use Rattle.gomp_parts.specs.Answers.{MayReply, given_after, broken_after, PartsStand, ArePartsKept}
-use Rattle.gomp_core.specs.Resolved.{resolved_step, resolved_steps, record_of}
-use Rattle.gomp_core.specs.Stands.{TeamView, Stands, past, terms_of, members_of, standard_terms, NoneForMemory}
+use Rattle.gomp_parts.specs.Answers.{broken_after}
+use Rattle.gomp_held.specs.Stands.{BookStands, IsKnown, MayGive, past_given}
+use Rattle.gomp_core.specs.Replies.{AllStand, AreAllKept, NamesStay}
+use Rattle.gomp_core.specs.Resolved.{resolved_call, resolved_step, resolved_steps, record_of}
+use Rattle.gomp_core.specs.Stands.{TeamView, Stands, TakesMemory, past, terms_of, members_of, standard_terms, OnlyTakersLack}
 use Rattle.gomp_core.proofs.Waits.{same_members, step_below}
+use Rattle.gomp_core.proofs.BookKept.{book_moved, events_so, locks_so}
 use Rattle.gomp_parts.proofs.Answered.{events_given}
 
 -- A new team
@@ -99,6 +106,8 @@ stands_refused stands members team before step refusal st may other =
       shares_are = subst (stands team.shares) (sym same) st.shares_are;
       barriers_are = subst (BarriersStand team.barriers) (sym same) st.barriers_are;
       payloads_are = subst (PayloadsStand (members_of team) team.payloads) (sym same) st.payloads_are;
+      book_are = book_moved team.book p (past team ((step, Refused refusal) ∷ before)) (λ key. ap (holder key) same) refl st.book_are;
+      names_known = λ k. subst (IsKnown team.book) (sym (waits_refused p step k)) (st.names_known k);
       broken_is = st.broken_is ∙ ap clash_of (sym same);
       wait = λ k waiting at. waits_refused p step k ∙ st.wait k waiting at;
       size = st.size;
@@ -133,6 +142,8 @@ stands_broken stands members team before step place st may is at shares barriers
       shares_are = subst (stands team.shares) (sym same) (shares p.events st.shares_are);
       barriers_are = subst (BarriersStand team.barriers) (sym same) (barriers p.events st.barriers_are);
       payloads_are = subst (PayloadsStand (members_of team) team.payloads) (sym same) (payloads p.events st.payloads_are);
+      book_are = book_moved team.book p (past team ((step, Refused Mismatch) ∷ before)) (λ key. refl) refl st.book_are;
+      names_known = λ k. subst (IsKnown team.book) (sym (waits_refused p step k)) (st.names_known k);
       broken_is = clash ∙ ap clash_of (sym same);
       wait = λ k waiting there. waits_refused p step k ∙ st.wait k waiting there;
       size = st.size;
@@ -148,13 +159,19 @@ refused_memory p step refusal may is same = cc
 
 -- An answer
 
-pub may_answer : (p : Past) (step : Step) (reply : Reply) → refusal_of p step ≡ None → MayReply (row_at p step) (is_resume step.call) step.member p reply → MayAnswer p step reply
-may_answer p step (Refused refusal) none may = absurd ((row_is_sound (call_meant step.call (p.waits step.member))).accepts step.member _ refusal may)
-may_answer p step reply none may = (none, may)
+meant_itself : (call : Call) (waiting : Option Call) → is_resume call ≡ false → call_meant call waiting ≡ call
+meant_itself Resume waiting once = absurd (cc)
+meant_itself _ waiting once = refl
 
-pub never_refused : (p : Past) (step : Step) (refusal : Refusal) (reply : Reply) → MayReply (row_at p step) (is_resume step.call) step.member p reply → reply ≡ Refused refusal → ⊥
-never_refused p step refusal (Refused other) may same = (row_is_sound (call_meant step.call (p.waits step.member))).accepts step.member _ other may
-never_refused p step refusal _ may same = cc
+-- a reply that such a call may give has its cause, and want of memory if the call is made
+pub may_answer : (p : Past) (step : Step) (reply : Reply) → refusal_of p step ≡ None → MayGive (row_at p step) (is_resume step.call) step.member p reply → (reply ≡ Refused NoMemory → is_resume step.call ≡ false) → MayAnswer p step reply
+may_answer p step (Refused NoMemory) none may once = (none, subst (λ (call : Call). IsTrue (row_of call).memory) (meant_itself step.call (p.waits step.member) (once refl)) may)
+may_answer p step (Refused refusal) none may once = absurd ((row_is_sound (call_meant step.call (p.waits step.member))).accepts step.member _ refusal may)
+may_answer p step reply none may once = (none, may)
+
+-- and it takes memory then
+pub takes_itself : (call : Call) (waiting : Option Call) → is_resume call ≡ false → TakesMemory (row_of (call_meant call waiting)) → TakesMemory (row_of call)
+takes_itself call waiting once takes = subst (λ (c : Call). TakesMemory (row_of c)) (meant_itself call waiting once) takes
 
 -- a reply that breaks nothing leaves the team as whole as it was
 last_whole : (can : Gives) (m : ℕ) (reply : Reply) (event : Event) (h after : List Event) → breaks reply ≡ false → IsLast can m reply event → clash_of after ≡ clash_of h → clash_of (event ∷ after) ≡ clash_of h
@@ -169,10 +186,10 @@ clash_kept call repeated m p reply whole may =
 stops_there : (call : Call) (repeated : Bool) (m : ℕ) (p : Past) (broken : Option Clash) → call ≡ Stop → clash_of p.events ≡ None → broken_after broken m Stopped ≡ clash_of (given_after (row_of call) repeated m p Stopped)
 stops_there call repeated m p broken stop whole = rw stop (rw whole refl)
 
-clash_after : (call : Call) (repeated : Bool) (m : ℕ) (p : Past) (reply : Reply) (broken : Option Clash) → MayReply (row_of call) repeated m p reply → (reply ≡ Stopped → call ≡ Stop) → broken ≡ clash_of p.events → clash_of p.events ≡ None →
-    broken_after broken m reply ≡ clash_of (given_after (row_of call) repeated m p reply)
+clash_after : (call : Call) (repeated : Bool) (m : ℕ) (p : Past) (reply : Reply) (broken : Option Clash) → MayGive (row_of call) repeated m p reply → (reply ≡ Stopped → call ≡ Stop) → broken ≡ clash_of p.events → clash_of p.events ≡ None →
+    broken_after broken m reply ≡ clash_of (past_given (row_of call) repeated m p reply).events
 clash_after call repeated m p Stopped broken may stops is whole = stops_there call repeated m p broken (stops refl) whole
-clash_after call repeated m p (Refused refusal) broken may stops is whole = absurd ((row_is_sound call).accepts m _ refusal may)
+clash_after call repeated m p (Refused refusal) broken may stops is whole = is
 clash_after call repeated m p reply broken may stops is whole = is ∙ sym (clash_kept call repeated m p reply refl may)
 
 whole_tests : (clash : Option Clash) → AllFail (broken_tests clash) → clash ≡ None
@@ -182,30 +199,63 @@ whole_tests (Some clash) fail = absurd (let broken = fail.0 in cc)
 pub whole_now : (p : Past) (step : Step) → refusal_of p step ≡ None → clash_of p.events ≡ None
 whole_now p step none = whole_tests (clash_of p.events) (unrefused_step_passes p step none).member.1.1
 
--- the team with what an answer to this step leaves
-abbrev pub team_after : {S : Type 0} → TeamView S → S → BarriersView → List (Option Put) → Step → Option Call → Reply → TeamView S
-team_after team shares barriers payloads step waiting reply = record { icv = team.icv; limits = team.limits; broken = broken_after team.broken step.member reply; waiting = slice_set team.waiting step.member (wait_after reply step.call waiting); barriers = barriers; payloads = payloads; shares = shares }
+-- the names that calls wait for stay known
 
-pub stands_answered : {S : Type 0} (stands : S → List Event → Type 0) (members : S → ℕ) (team : TeamView S) (shares : S) (barriers : BarriersView) (payloads : List (Option Put)) (before : Record) (step : Step) (waiting : Option Call) (reply : Reply) →
-    Stands stands members team before → slice_get team.waiting step.member ≡ Some waiting → refusal_of (past team before) step ≡ None → MayReply (row_at (past team before) step) (is_resume step.call) step.member (past team before) reply →
+still_known : (book after : BookView) (waiting : Option Call) → NamesStay book after → IsKnown book waiting → IsKnown after waiting
+still_known book after None stay known = tt
+still_known book after (Some call) stay known = λ name is. stay name (known name is)
+
+own_known : (book after : BookView) (call : Call) (waiting : Option Call) (reply : Reply) → NamesStay book after → IsKnown book waiting → (reply ≡ Wait → IsKnown after (Some (call_meant call waiting))) → IsKnown after (wait_after reply call waiting)
+own_known book after call waiting (Refused refusal) stay known waits = still_known book after waiting stay known
+own_known book after call waiting Wait stay known waits = waits refl
+own_known book after call waiting _ stay known waits = tt
+
+names_after : (book after : BookView) (p : Past) (step : Step) (reply : Reply) (k : ℕ) → NamesStay book after → ((m : ℕ) → IsKnown book (p.waits m)) → (reply ≡ Wait → IsKnown after (Some (call_meant step.call (p.waits step.member)))) →
+    IsKnown after (if step.member == k then wait_after reply step.call (p.waits k) else p.waits k)
+names_after book after p step reply k stay known waits =
+    elim (cases_Bool (step.member == k)) [
+      | inl e ↦ rw e (subst (λ (x : ℕ). IsKnown after (wait_after reply step.call (p.waits x))) (is_equal step.member k e) (own_known book after step.call (p.waits step.member) reply stay (known step.member) waits))
+      | inr e ↦ rw e (still_known book after (p.waits k) stay (known k))
+    ]
+
+-- a call that is repeated waits, so the book knows its name
+pub waiting_known : (book : BookView) (p : Past) (step : Step) → refusal_of p step ≡ None → IsKnown book (p.waits step.member) → is_resume step.call ≡ true → IsKnown book (Some (call_meant step.call (p.waits step.member)))
+waiting_known book p step none known repeated = meant_known book step.member p step.call (p.waits step.member) (unrefused_step_passes p step none).row known repeated
+  where
+    meant_known : (book : BookView) (m : ℕ) (p : Past) (call : Call) (waiting : Option Call) → AllFail (row_tests (is_resume call) (row_of (call_meant call waiting)) m p) → IsKnown book waiting → is_resume call ≡ true → IsKnown book (Some (call_meant call waiting))
+    meant_known book m p Resume None fail known repeated = absurd (let shut = fail.0 in cc)
+    meant_known book m p Resume (Some call) fail known repeated = known
+    meant_known book m p _ waiting fail known repeated = absurd (cc)
+
+-- the team with what an answer to this step leaves
+abbrev pub team_after : {S : Type 0} → TeamView S → S → BarriersView → List (Option Put) → BookView → Step → Option Call → Reply → TeamView S
+team_after team shares barriers payloads book step waiting reply = record { icv = team.icv; limits = team.limits; broken = broken_after team.broken step.member reply; waiting = slice_set team.waiting step.member (wait_after reply step.call waiting); barriers = barriers; payloads = payloads; book = book; shares = shares }
+
+pub stands_answered : {S : Type 0} (stands : S → List Event → Type 0) (members : S → ℕ) (team : TeamView S) (shares : S) (barriers : BarriersView) (payloads : List (Option Put)) (book : BookView) (before : Record) (step : Step) (waiting : Option Call) (reply : Reply) →
+    Stands stands members team before → slice_get team.waiting step.member ≡ Some waiting → refusal_of (past team before) step ≡ None → MayAnswer (past team before) step reply →
+    MayGive (row_at (past team before) step) (is_resume step.call) step.member (past team before) reply →
     (reply ≡ Stopped → call_meant step.call ((past team before).waits step.member) ≡ Stop) →
-    PartsStand stands (members_of team) shares barriers payloads (given_after (row_at (past team before) step) (is_resume step.call) step.member (past team before) reply) →
+    AllStand stands (members_of team) shares barriers payloads book (past_given (row_at (past team before) step) (is_resume step.call) step.member (past team before) reply) →
+    NamesStay team.book book → (reply ≡ Wait → IsKnown book (Some (call_meant step.call ((past team before).waits step.member)))) →
     members shares ≡ members team.shares → barrier_members barriers ≡ barrier_members team.barriers →
-    Stands stands members (team_after team shares barriers payloads step waiting reply) ((step, reply) ∷ before)
-stands_answered stands members team shares barriers payloads before step waiting reply st at none may stops parts shares_same barriers_same =
+    Stands stands members (team_after team shares barriers payloads book step waiting reply) ((step, reply) ∷ before)
+stands_answered stands members team shares barriers payloads book before step waiting reply st at none cause may stops all stay known shares_same barriers_same =
     let p = past team before in
     let call = call_meant step.call (p.waits step.member) in
-    let adds : (past team ((step, reply) ∷ before)).events ≡ given_after (row_of call) (is_resume step.call) step.member p reply = events_given call (is_resume step.call) step.member p reply may in
-    let after = team_after team shares barriers payloads step waiting reply in
+    let given : Past = past_given (row_of call) (is_resume step.call) step.member p reply in
+    let adds : (past team ((step, reply) ∷ before)).events ≡ given.events = events_so call (is_resume step.call) step.member p reply may in
+    let locks : (past team ((step, reply) ∷ before)).locks ≡ given.locks = locks_so (row_of call) (is_resume step.call) step.member p reply in
+    let after = team_after team shares barriers payloads book step waiting reply in
     let size : members_of after ≡ members_of team = length-set team.waiting step.member (wait_after reply step.call waiting) in
     let terms : terms_of team ≡ terms_of after = ap (λ (n : ℕ). record { members = n; limits = team.limits; cancellation = team.icv.cancellation }) (sym size) in
-    let here : Past = past_of (terms_of team) ((step, reply) ∷ before) in
     record {
-      caused = subst (λ (t : Terms). Caused t ((step, reply) ∷ before)) terms (may_answer p step reply none may, st.caused);
-      shares_are = subst (λ (t : Terms). stands shares (past_of t ((step, reply) ∷ before)).events) terms (subst (stands shares) (sym adds) parts.0);
-      barriers_are = subst (λ (t : Terms). BarriersStand barriers (past_of t ((step, reply) ∷ before)).events) terms (subst (BarriersStand barriers) (sym adds) parts.1);
+      caused = subst (λ (t : Terms). Caused t ((step, reply) ∷ before)) terms (cause, st.caused);
+      shares_are = subst (λ (t : Terms). stands shares (past_of t ((step, reply) ∷ before)).events) terms (subst (stands shares) (sym adds) all.0.0);
+      barriers_are = subst (λ (t : Terms). BarriersStand barriers (past_of t ((step, reply) ∷ before)).events) terms (subst (BarriersStand barriers) (sym adds) all.0.1);
       payloads_are = subst (λ (n : ℕ). PayloadsStand n payloads (past after ((step, reply) ∷ before)).events) (sym size)
-          (subst (λ (t : Terms). PayloadsStand (members_of team) payloads (past_of t ((step, reply) ∷ before)).events) terms (subst (PayloadsStand (members_of team) payloads) (sym adds) parts.2));
+          (subst (λ (t : Terms). PayloadsStand (members_of team) payloads (past_of t ((step, reply) ∷ before)).events) terms (subst (PayloadsStand (members_of team) payloads) (sym adds) all.0.2));
+      book_are = subst (λ (t : Terms). BookStands book (past_of t ((step, reply) ∷ before))) terms (book_moved book given (past team ((step, reply) ∷ before)) (λ key. ap (holder key) adds) locks all.1);
+      names_known = λ k. subst (λ (t : Terms). IsKnown book ((past_of t ((step, reply) ∷ before)).waits k)) terms (names_after team.book book p step reply k stay st.names_known known);
       broken_is = subst (λ (t : Terms). broken_after team.broken step.member reply ≡ clash_of (past_of t ((step, reply) ∷ before)).events) terms
           (clash_after call (is_resume step.call) step.member p reply team.broken may stops st.broken_is (whole_now p step none) ∙ ap clash_of (sym adds));
       wait = λ k other there. subst (λ (t : Terms). (past_of t ((step, reply) ∷ before)).waits k ≡ other) terms (elim (slice_get-set team.waiting step.member k (wait_after reply step.call waiting) other there) [
@@ -257,9 +307,16 @@ terms_are team count icv members same limits = rw (members, same, limits) refl
 
 -- Replies
 
-pub memory_more : (replies : List Reply) (reply : Reply) → NoneForMemory replies → reply ≢ Refused NoMemory → NoneForMemory (replies ++ reply ∷ [])
-memory_more [] reply all one = (one, tt)
-memory_more (first ∷ replies) reply all one = (all.0, memory_more replies reply all.1 one)
+pub takers_more : (steps : List Step) (replies : List Reply) (step : Step) (reply : Reply) → length replies ≡ length steps → OnlyTakersLack steps replies → (reply ≡ Refused NoMemory → TakesMemory (row_of step.call)) → OnlyTakersLack (steps ++ step ∷ []) (replies ++ reply ∷ [])
+takers_more [] [] step reply each all one = (one, tt)
+takers_more [] (first ∷ replies) step reply each all one = absurd (omega arith)
+takers_more (s ∷ steps) [] step reply each all one = absurd (omega arith)
+takers_more (s ∷ steps) (first ∷ replies) step reply each all one = (all.0, takers_more steps replies step reply (omega arith) all.1 one)
+
+-- the start of a loop takes no memory, whatever its schedule is
+pub takes_unresolved : (icv : Variables) (call : Call) → TakesMemory (row_of (resolved_call icv call)) → TakesMemory (row_of call)
+takes_unresolved icv (LoopStart loop) takes = takes
+takes_unresolved icv _ takes = takes
 
 -- What stays as it was
 
@@ -282,14 +339,21 @@ open_again m p Resume (Some call) fail repeated = refl
 open_again m p _ waiting fail repeated = absurd (cc)
 
 compared_fails : (m : ℕ) (p : Past) (call : Call) (waiting : Option Call) → call ≡ Resume → AllFail (row_tests (is_resume call) (row_of (call_meant call waiting)) m p) → AllFail ((row_of (call_meant call waiting)).compared (is_resume call) m p)
-compared_fails m p Resume waiting repeated fail = fail
+compared_fails m p Resume waiting repeated fail =
+    let row = row_of (call_meant Resume waiting) in
+    fail_first (row.compared true m p) (row.missing m p) fail
 compared_fails m p _ waiting repeated fail = absurd (cc)
 
 -- if a call that waits is asked about again and waits on, nothing changes
-pub waits_on : {S : Type 0} (team : TeamView S) (shares : S) (barriers : BarriersView) (payloads : List (Option Put)) (p : Past) (step : Step) (waiting : Option Call) (reply : Reply) →
-    slice_get team.waiting step.member ≡ Some waiting → p.waits step.member ≡ waiting → refusal_of p step ≡ None → ArePartsKept team.shares team.barriers team.payloads shares barriers payloads → reply ≡ Wait → step.call ≡ Resume →
-    team_after team shares barriers payloads step waiting reply ≡ team
-waits_on team shares barriers payloads p step waiting reply at is none parts same resume =
+pub waits_on : {S : Type 0} (team : TeamView S) (shares : S) (barriers : BarriersView) (payloads : List (Option Put)) (book : BookView) (p : Past) (step : Step) (waiting : Option Call) (reply : Reply) →
+    slice_get team.waiting step.member ≡ Some waiting → p.waits step.member ≡ waiting → refusal_of p step ≡ None → AreAllKept team.shares team.barriers team.payloads team.book shares barriers payloads book → reply ≡ Wait → step.call ≡ Resume →
+    team_after team shares barriers payloads book step waiting reply ≡ team
+waits_on team shares barriers payloads book p step waiting reply at is none kept same resume =
     let fail = compared_fails step.member p step.call (p.waits step.member) resume (unrefused_step_passes p step none).row in
     let stays : wait_after Wait step.call waiting ≡ waiting = rw (← is) (open_again step.member p step.call (p.waits step.member) fail resume) in
-    rw (same, parts.0, parts.1, parts.2, stays, set_there team.waiting step.member waiting at) refl
+    rw (same, kept.0.0, kept.0.1, kept.0.2, kept.1, stays, set_there team.waiting step.member waiting at) refl
+
+-- nor if it finds no memory
+pub lacks_memory : {S : Type 0} (team : TeamView S) (shares : S) (barriers : BarriersView) (payloads : List (Option Put)) (book : BookView) (step : Step) (waiting : Option Call) (reply : Reply) →
+    slice_get team.waiting step.member ≡ Some waiting → AreAllKept team.shares team.barriers team.payloads team.book shares barriers payloads book → reply ≡ Refused NoMemory → team_after team shares barriers payloads book step waiting reply ≡ team
+lacks_memory team shares barriers payloads book step waiting reply at kept same = rw (same, kept.0.0, kept.0.1, kept.0.2, kept.1, set_there team.waiting step.member waiting at) refl

@@ -14,14 +14,19 @@ use Rattle.gomp_types.specs.Limits.{capped_limits}
 use Rattle.gomp_types.specs.Least.{least}
 use Rattle.gomp_types.specs.Seen.{seen_of}
 use Rattle.gomp_types.proofs.Booleans.{which_branch, is_equal}
-use Rattle.gomp_types.proofs.LeastTests.{AllFail, none_holds}
+use Rattle.gomp_types.proofs.LeastTests.{AllFail, fail_later, none_holds}
 use Rattle.gomp_model.specs.Past.{Terms, Past}
-use Rattle.gomp_model.specs.Row.{begun_past}
+use Rattle.gomp_model.specs.Row.{place_tests, book_tests, begun_past}
 use Rattle.gomp_model.specs.Calls.{row_of}
 use Rattle.gomp_model.specs.Team.{Record, call_meant, is_resume, row_at, refusal_of, MayAnswer, wait_after, past_of, Caused}
+use Rattle.gomp_types.specs.Laws.{Always}
+use Rattle.gomp_locks.specs.HoldRules.{HoldRule}
 use Rattle.gomp_laws.proofs.Sound.{shows}
-use Rattle.gomp_laws.proofs.Known.{Pending, known_of, same_terms, unrefused_step_is_ready}
+use Rattle.gomp_laws.proofs.TeamShares.{hold_rules}
+use Rattle.gomp_laws.proofs.Known.{Pending, known_of, same_terms, unrefused_step_passes, unrefused_step_is_ready}
 use Rattle.gomp_parts.specs.Answers.{in_place, IsReady}
+use Rattle.gomp_held.specs.Stands.{IsFree}
+use Rattle.gomp_core.specs.Replies.{IsAdmitted}
 use Rattle.gomp_core.proofs.Refused.{bad_member}
 
 -- a team's terms, with limits that are not above the standard ones
@@ -69,18 +74,32 @@ resumed_may_wait m p Resume None fail waits repeated = absurd (let shut = fail.0
 resumed_may_wait m p Resume (Some call) fail waits repeated = waits call refl
 resumed_may_wait m p _ waiting fail waits repeated = absurd (cc)
 
-pub step_ready : (terms : Terms) (run : Record) (step : Step) (members : ℕ) → Caused terms run → members ≡ terms.members → refusal_of (past_of terms run) step ≡ None →
-    IsReady (row_at (past_of terms run) step) members (is_resume step.call) step.member (past_of terms run)
-step_ready terms run step members caused size none =
+-- what happened keeps the rule of names and locks
+pub rule_of_holds : (terms : Terms) (run : Record) → Caused terms run → Always HoldRule (past_of terms run).events
+rule_of_holds terms run caused = hold_rules (past_of terms run).terms.members (past_of terms run).events (known_of terms run caused).rule
+
+-- no test of the parts holds of a step that is not refused, nor one of the book
+pub step_admitted : (terms : Terms) (run : Record) (step : Step) (members : ℕ) → Caused terms run → members ≡ terms.members → refusal_of (past_of terms run) step ≡ None →
+    IsAdmitted (row_at (past_of terms run) step) members (is_resume step.call) step.member (past_of terms run)
+step_admitted terms run step members caused size none =
     let p = past_of terms run in
     let known = unrefused_step_is_ready p step none (known_of terms run caused) in
     let row = row_at p step in
-    record {
-      members_are = same_members terms run ∙ sym size;
-      place = λ e. none_holds (row.by_place p.terms.limits (seen_of step.member p.events)) (known.place (place_is_shown row.stays (is_resume step.call) e));
-      compared = none_holds (row.compared (is_resume step.call) step.member p) known.compared;
-      waits = resumed_may_wait step.member p step.call (p.waits step.member) known.compared (open_waits terms run caused step.member);
-    }
+    let waits = resumed_may_wait step.member p step.call (p.waits step.member) known.compared (open_waits terms run caused step.member) in
+    let book = book_tests (is_resume step.call) row step.member p in (
+      record {
+        members_are = same_members terms run ∙ sym size;
+        place = λ e. none_holds (row.by_place p.terms.limits (seen_of step.member p.events)) (known.place (place_is_shown row.stays (is_resume step.call) e));
+        compared = none_holds (row.compared (is_resume step.call) step.member p) known.compared;
+        waits = waits;
+      },
+      record {
+        free = none_holds book (fail_later (place_tests (is_resume step.call) row step.member p) book (unrefused_step_passes p step none).row);
+        lasting = λ repeated. (known.lasting repeated).1;
+        waits = waits;
+        rule = rule_of_holds terms run caused;
+      },
+    )
 
 -- the place of a call that waits there is tested still
 waiting_place_kept : (m : ℕ) (limits : Limits) (h : List Event) (call : Call) (waiting : Option Call) → Pending limits m waiting h → is_resume call ≡ true → (row_of (call_meant call waiting)).stays ≡ true →

@@ -1,2 +1,4 @@
 pub mod Stands
+pub mod Replies
+pub mod LocksMade
 pub mod Resolved

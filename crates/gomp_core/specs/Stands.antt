@@ -1,7 +1,8 @@
 -- When a team stands for a record. (own)
-use Rattle.std.specs.Prelude.{ℕ, ◌≡◌, ◌≢◌, List, [], ◌∷◌, Option, Some, length, slice_get}
+use Rattle.std.specs.Prelude.{ℕ, ◌≡◌, ◌≢◌, true, List, [], ◌∷◌, Option, Some, None, length, slice_get}
 use Rattle.gomp_types.specs.declared.call.Call.{Call}
 use Rattle.gomp_types.specs.declared.call.Call.TheVariants.{Resume}
+use Rattle.gomp_types.specs.declared.call.Step.{Step}
 use Rattle.gomp_types.specs.declared.limits.Limits.{Limits}
 use Rattle.gomp_types.specs.declared.refusal.Clash.{Clash}
 use Rattle.gomp_types.specs.declared.refusal.Refusal.{Refusal}
@@ -11,12 +12,16 @@ use Rattle.gomp_types.specs.declared.reply.Reply.TheVariants.{Wait, Refused}
 use Rattle.gomp_types.specs.declared.event.Event.{Event}
 use Rattle.gomp_types.specs.Limits.{standard, capped_limits, IsTeamSize}
 use Rattle.gomp_types.specs.Events.{clash_of}
+use Rattle.gomp_locks.specs.Book.{BookView}
 use Rattle.gomp_model.specs.Past.{Terms, Past}
+use Rattle.gomp_model.specs.Row.{Row}
+use Rattle.gomp_model.specs.Calls.{row_of}
 use Rattle.gomp_model.specs.Team.{Record, past_of, Caused}
 use Rattle.gomp_icv.specs.Variables.{Variables}
 use Rattle.gomp_barrier.specs.Stands.{BarriersView, Stands as BarriersStand, members_of as barrier_members}
 use Rattle.gomp_parts.specs.declared.payloads.Put.{Put}
 use Rattle.gomp_parts.specs.Payloads.{PayloadsStand}
+use Rattle.gomp_held.specs.Stands.{BookStands, IsKnown}
 
 -- what a team keeps
 pub record TeamView (S : Type 0) : Type 0 where
@@ -28,6 +33,8 @@ pub record TeamView (S : Type 0) : Type 0 where
   pub barriers : BarriersView
   -- the words that executors of singles put
   pub payloads : List (Option Put)
+  -- the critical names and locks
+  pub book : BookView
   pub shares : S
 
 abbrev pub members_of : {S : Type 0} → TeamView S → ℕ
@@ -36,6 +43,10 @@ members_of team = length team.waiting
 -- what the team was made with
 abbrev pub terms_of : {S : Type 0} → TeamView S → Terms
 terms_of team = record { members = members_of team; limits = team.limits; cancellation = team.icv.cancellation }
+
+-- what a team of this size is made with, by these limits and control variables
+abbrev pub terms_by : ℕ → Limits → Variables → Terms
+terms_by count limits icv = record { members = count; limits = limits; cancellation = icv.cancellation }
 
 -- what was before the team's next step
 abbrev pub past : {S : Type 0} → TeamView S → Record → Past
@@ -49,6 +60,9 @@ pub record Stands {S : Type 0} (stands : S → List Event → Type 0) (members :
   pub shares_are : stands team.shares (past team before).events
   pub barriers_are : BarriersStand team.barriers (past team before).events
   pub payloads_are : PayloadsStand (members_of team) team.payloads (past team before).events
+  -- the book of names and locks stands for its past, and knows each name that a call waits for
+  pub book_are : BookStands team.book (past team before)
+  pub names_known : (m : ℕ) → IsKnown team.book ((past team before).waits m)
   pub broken_is : team.broken ≡ clash_of (past team before).events
   -- and of each member the call that waits is kept
   pub wait : (m : ℕ) (waiting : Option Call) → slice_get team.waiting m ≡ Some waiting → (past team before).waits m ≡ waiting
@@ -75,9 +89,23 @@ pub record Keeps {S : Type 0} (team after : TeamView S) (call : Call) (reply : R
 
 -- what a team of this many members is made with, by these control variables, if no limits are given
 abbrev pub standard_terms : ℕ → Variables → Terms
-standard_terms count icv = record { members = count; limits = standard; cancellation = icv.cancellation }
+standard_terms count icv = terms_by count standard icv
 
--- no reply is for want of memory
-abbrev pub NoneForMemory : List Reply → Type 0
-NoneForMemory [] = Unit {0}
-NoneForMemory (reply ∷ replies) = (reply ≢ Refused NoMemory) × NoneForMemory replies
+-- a record after which a team that is made with this book stands: nothing happened, nobody waits, and the locks are the book's
+pub record Begins (terms : Terms) (book : BookView) (before : Record) : Type 0 where
+  pub caused : Caused terms before
+  pub quiet : (past_of terms before).events ≡ []
+  pub nobody : (m : ℕ) → (past_of terms before).waits m ≡ None
+  pub book_are : BookStands book (past_of terms before)
+
+-- Memory
+
+-- a call that takes memory: the start of a critical construct, and the making of a lock
+abbrev pub TakesMemory : Row → Type 0
+TakesMemory row = (row.memory ≡ true) × (row.asks_book ≡ true)
+
+-- only replies to such calls are for want of memory
+abbrev pub OnlyTakersLack : List Step → List Reply → Type 0
+OnlyTakersLack [] replies = Unit {0}
+OnlyTakersLack (step ∷ steps) [] = Unit {0}
+OnlyTakersLack (step ∷ steps) (reply ∷ replies) = (reply ≡ Refused NoMemory → TakesMemory (row_of step.call)) × OnlyTakersLack steps replies

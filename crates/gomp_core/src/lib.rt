@@ -4,13 +4,15 @@
 //! A team is made with the control variables of its members, from which runtime loops take their
 //! schedule, and any member may stop it. A team is generic in the body of its work-shares. Its
 //! parts are those of `gomp_parts`: the shares, the barriers and the words of singles, each of
-//! which stands for all of the team's events. The calls that wait are kept here.
+//! which stands for all of the team's events. Its critical names and locks lie in the book of
+//! `gomp_locks`, which `gomp_held` asks. The calls that wait are kept here.
 //!
 //! A step is refused by the least of its layers' refusals, before anything changes; else its call
 //! is answered. What a call is tested for, answered and gives is its row (`row_of` in
 //! specs/Calls.antt of gomp_model); no definition or proof here lists the calls.
 #![tactic(auto)]
 
+pub mod reply;
 pub mod steps;
 pub mod team;
 

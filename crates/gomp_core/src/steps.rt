@@ -5,7 +5,8 @@ ghost use Rattle.gomp_types.specs.declared.refusal.Refusal.{Refusal};
 ghost use Rattle.gomp_types.specs.declared.refusal.Refusal.TheVariants.{BadTeam, NoMemory};
 ghost use Rattle.gomp_model.specs.Team.{events, Caused};
 ghost use Rattle.gomp_laws.specs.Headline.{Headline};
-ghost use Rattle.gomp_core.specs.Stands.{Stands, terms_of, standard_terms, NoneForMemory};
+ghost use Rattle.gomp_laws.specs.Replies.{HoldReplies};
+ghost use Rattle.gomp_core.specs.Stands.{Stands, terms_of, standard_terms, OnlyTakersLack};
 ghost use Rattle.gomp_types.specs.Limits.{IsTeamSize};
 ghost use Rattle.gomp_core.specs.Resolved.{record_of};
 
@@ -25,8 +26,12 @@ use std::alloc::Global;
 /// and a single that all members left was executed by one of them; ordered parts of a loop run in
 /// the order of its iterations, and an ordered loop that all members left had each of its pieces
 /// handed on; the words that a member copies are those that the executor of the single put; all
-/// members go through the same constructs in the same order; and no member passes a barrier before
-/// all arrived, and have left the constructs before it.
+/// members go through the same constructs in the same order; no member passes a barrier before all
+/// arrived, and have left the constructs before it; a critical name and a lock have at most one owner
+/// at a time, which alone releases it; and no member passes a barrier while it holds a critical name.
+///
+/// A member waits for a name or a lock only while another owner holds it, and a count that is
+/// answered is the number of open holds of the lock (`HoldReplies`).
 ///
 /// Refused with `BadTeam` (E38) if the size is not 1 to 64, and with `NoMemory` (E37) if the
 /// memory of the team or of the replies is refused; then the steps are dropped and nothing is kept.
@@ -42,13 +47,15 @@ pub fn run<S: Shares + Drop>(
     ensures one_reply_each { IfOk result (λ ran. vec_len ran.1 ≡ length steps.items) }
     ensures terms { IfOk result (λ ran. terms_of ran.0 ≡ standard_terms count icv) }
     ensures icv { IfOk result (λ ran. ran.0.icv ≡ icv) }
-    ensures memory { IfOk result (λ ran. NoneForMemory ran.1.items) }
+    ensures memory { IfOk result (λ ran. OnlyTakersLack steps.items ran.1.items) }
     ensures caused { IfOk result (λ ran.
         Caused (standard_terms count icv) (record_of icv steps.items ran.1.items)) }
     ensures stands { IfOk result (λ ran.
         Stands S.stands S.members ran.0 (record_of icv steps.items ran.1.items)) }
     ensures headline { IfOk result (λ ran. Headline count
         (events (standard_terms count icv) (record_of icv steps.items ran.1.items))) }
+    ensures replies { IfOk result (λ ran.
+        HoldReplies (standard_terms count icv) (record_of icv steps.items ran.1.items)) }
 {
     let mut team = Team::new(alloc, count, icv)?;
     match Vec::with_capacity(alloc, steps.len()) {

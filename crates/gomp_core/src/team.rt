@@ -1,6 +1,6 @@
 //! A team that one thread steps.
 
-ghost use Rattle.std.specs.Prelude.{◌≡◌, ◌≢◌, ◌<◌, ◌↔◌, ◌⊎◌, ◌∷◌, List, [], IfOk, Err, None, replicate};
+ghost use Rattle.std.specs.Prelude.{◌≡◌, ◌≢◌, ◌<◌, ◌↔◌, ◌⊎◌, ◌∷◌, List, [], IfOk, Ok, Err, None, replicate};
 ghost use Rattle.gomp_types.specs.declared.refusal.Refusal.{Refusal};
 ghost use Rattle.gomp_types.specs.declared.refusal.Refusal.TheVariants.{BadTeam, NoMemory};
 ghost use Rattle.gomp_types.specs.Limits.{capped_limits, standard, IsTeamSize};
@@ -9,15 +9,19 @@ ghost use Rattle.gomp_types.specs.declared.event.Event.{Event};
 ghost use Rattle.gomp_types.specs.Events.{clash_of};
 ghost use Rattle.std.specs.Result.{result_err};
 ghost use Rattle.gomp_types.specs.Least.{lesser, least};
+ghost use Rattle.gomp_model.specs.Calls.{row_of};
 ghost use Rattle.gomp_model.specs.Team.{Record, row_at, call_meant, is_resume, member_tests, wait_tests, wait_after, refusal_of, MayAnswer, events};
 ghost use Rattle.gomp_barrier.specs.Stands.{Stands as BarriersStand, members_of as barrier_members};
 ghost use Rattle.gomp_parts.specs.Answers.{StartsShare, broken_after};
-ghost use Rattle.gomp_core.specs.Stands.{Stands, Keeps, past, terms_of, members_of};
+ghost use Rattle.gomp_core.specs.Stands.{Stands, Begins, terms_by, Keeps, TakesMemory, past, terms_of, members_of};
+ghost use Rattle.gomp_core.specs.LocksMade.{kinds_of, locks_made};
 ghost use Rattle.gomp_core.specs.Resolved.{resolved_call, resolved_step, step_by};
 
+use crate::reply::team_reply;
 use gomp_barrier::Barriers;
+use gomp_held::held_refusal;
 use gomp_icv::Icv;
-use gomp_parts::answer::answer;
+use gomp_locks::LockBook;
 use gomp_parts::{Payloads, admit_call, place_of, unless_refused};
 use gomp_shares::Shares;
 use gomp_types::{Call, Clash, Limits, Place, Refusal, Reply, Shape, is_team_size};
@@ -38,6 +42,7 @@ pub struct Team<S: Shares> {
     waiting: Vec<Option<Call>>,
     barriers: Barriers,
     payloads: Payloads,
+    book: LockBook,
     shares: S,
 }
 
@@ -47,9 +52,9 @@ impl<S: Shares> Model for Team<S> {
 
     ghost Value = { TeamView S };
 
-    ghost view = { λ t. record { icv = t.icv; limits = t.limits; broken = t.broken; waiting = t.waiting.items; barriers = t.barriers; payloads = t.payloads; shares = t.shares } };
+    ghost view = { λ t. record { icv = t.icv; limits = t.limits; broken = t.broken; waiting = t.waiting.items; barriers = t.barriers; payloads = t.payloads; book = t.book; shares = t.shares } };
 
-    ghost invariant = { λ t. (before : Record) × Stands S.stands S.members (record { icv = t.icv; limits = t.limits; broken = t.broken; waiting = t.waiting.items; barriers = t.barriers; payloads = t.payloads; shares = t.shares }) before };
+    ghost invariant = { λ t. (before : Record) × Stands S.stands S.members (record { icv = t.icv; limits = t.limits; broken = t.broken; waiting = t.waiting.items; barriers = t.barriers; payloads = t.payloads; book = t.book; shares = t.shares }) before };
 }
 
 impl<S: Shares> Team<S> {
@@ -87,23 +92,87 @@ impl<S: Shares> Team<S> {
         ensures limits { IfOk result (λ team. team.limits ≡ capped_limits limits) }
         ensures stands { IfOk result (λ team. Stands S.stands S.members team []) }
     {
+        Team::make_checked(
+            alloc,
+            count,
+            icv,
+            limits.capped_limits(),
+            LockBook::new(alloc),
+        )
+    }
+
+    /// A new team with the standard limits, and with the locks of an older team ([`into_book`]),
+    /// which keep their numbers. Nobody holds any of them, nor a critical name. In its record member
+    /// 0 has made them, one after another, and has destroyed those that are gone (`locks_made` in
+    /// specs/LocksMade.antt).
+    ///
+    /// Refused as [`new`](Team::new) is; then the book is dropped.
+    ///
+    /// [`into_book`]: Team::into_book
+    pub fn with_book(
+        alloc: Global,
+        count: u16,
+        icv: Icv,
+        book: LockBook,
+    ) -> Result<Team<S>, Refusal>
+        ensures size { result ≡ Err BadTeam ↔ (IsTeamSize count → ⊥) }
+        ensures refused { (refusal : Refusal) → result ≡ Err refusal →
+            (refusal ≡ BadTeam) ⊎ (refusal ≡ NoMemory) }
+        ensures members { IfOk result (λ team. members_of team ≡ count) }
+        ensures icv { IfOk result (λ team. team.icv ≡ icv) }
+        ensures limits { IfOk result (λ team. team.limits ≡ standard) }
+        ensures stands { IfOk result (λ team.
+            Stands S.stands S.members team (locks_made (kinds_of book.locks))) }
+    {
+        Team::make_checked(alloc, count, icv, Limits::STANDARD, book.without_holds())
+    }
+
+    /// A new team with these limits and this book. Refused as [`new`](Team::new) is.
+    fn make_checked(
+        alloc: Global,
+        count: u16,
+        icv: Icv,
+        limits: Limits,
+        book: LockBook,
+    ) -> Result<Team<S>, Refusal>
+        requires capped { capped_limits limits ≡ limits }
+        requires known { IsTeamSize count →
+            (before : Record) × Begins (terms_by count limits icv) book before }
+        ensures size { result ≡ Err BadTeam ↔ (IsTeamSize count → ⊥) }
+        ensures refused { (refusal : Refusal) → result ≡ Err refusal →
+            (refusal ≡ BadTeam) ⊎ (refusal ≡ NoMemory) }
+        ensures members { IfOk result (λ team. members_of team ≡ count) }
+        ensures icv { IfOk result (λ team. team.icv ≡ icv) }
+        ensures limits { IfOk result (λ team. team.limits ≡ limits) }
+        ensures stands { (before : Record) → Begins (terms_by count limits icv) book before →
+            IfOk result (λ team. Stands S.stands S.members team before) }
+    {
         if !is_team_size(count) {
             return Err(Refusal::BadTeam);
         }
-        match Team::make(alloc, count, icv, limits.capped_limits()) {
+        match Team::make(alloc, count, icv, limits, book) {
             Ok(team) => Ok(team),
             Err(_) => Err(Refusal::NoMemory),
         }
     }
 
-    /// A new team with these limits, of a size that a team may have. The error is want of memory.
-    fn make(alloc: Global, count: u16, icv: Icv, limits: Limits) -> Result<Team<S>, AllocError>
+    /// A new team with these limits and this book, of a size that a team may have. The error is want
+    /// of memory.
+    fn make(
+        alloc: Global,
+        count: u16,
+        icv: Icv,
+        limits: Limits,
+        book: LockBook,
+    ) -> Result<Team<S>, AllocError>
         requires size { IsTeamSize count }
         requires capped { capped_limits limits ≡ limits }
+        requires known { (before : Record) × Begins (terms_by count limits icv) book before }
         ensures members { IfOk result (λ team. members_of team ≡ count) }
         ensures icv { IfOk result (λ team. team.icv ≡ icv) }
         ensures limits { IfOk result (λ team. team.limits ≡ limits) }
-        ensures stands { IfOk result (λ team. Stands S.stands S.members team []) }
+        ensures stands { (before : Record) → Begins (terms_by count limits icv) book before →
+            IfOk result (λ team. Stands S.stands S.members team before) }
     {
         Ok(Team {
             icv,
@@ -112,6 +181,7 @@ impl<S: Shares> Team<S> {
             waiting: no_waits(alloc, count)?,
             barriers: Barriers::make(alloc, count)?,
             payloads: Payloads::new(),
+            book,
             shares: S::make(alloc, count)?,
         })
     }
@@ -125,13 +195,14 @@ impl<S: Shares> Team<S> {
     /// has it so (`resolved_step` in specs/Resolved.antt). Before and after the call the team
     /// stands for a record, as `Stands` in specs/Stands.antt says.
     ///
-    /// It takes no memory, so `NoMemory` (E37) is no answer to any call here. Which replies have a
-    /// cause is `MayAnswer` in specs/Team.antt of gomp_model (OpenMP API 5.2, chapters 11 and 15).
+    /// It takes memory at the first start of a critical name and at the making of a lock alone, so
+    /// `NoMemory` (E37) is an answer to no other call. Which replies have a cause is `MayAnswer` in
+    /// specs/Team.antt of gomp_model (OpenMP API 5.2, chapters 11 and 15, section 18.9).
     pub fn step(&mut self, member: u16, call: Call) -> Reply
         ensures known { (before : Record) × Stands S.stands S.members self.old before }
         ensures size { IsTeamSize (members_of self.old) }
         ensures keeps { Keeps self.old self.new call result }
-        ensures memory { result ≢ Refused NoMemory }
+        ensures memory { result ≡ Refused NoMemory → TakesMemory (row_of call) }
         ensures answer { (before : Record) → Stands S.stands S.members self.old before →
             MayAnswer (past self.old before)
             (resolved_step self.old.icv (step_by member call)) result }
@@ -146,7 +217,7 @@ impl<S: Shares> Team<S> {
     /// The reply to a call that has the schedule which counts.
     fn perform(&mut self, member: u16, call: Call) -> Reply
         ensures keeps { Keeps self.old self.new call result }
-        ensures memory { result ≢ Refused NoMemory }
+        ensures memory { result ≡ Refused NoMemory → TakesMemory (row_of call) }
         ensures answer { (before : Record) → Stands S.stands S.members self.old before →
             MayAnswer (past self.old before) (step_by member call) result }
         ensures stands { (before : Record) → Stands S.stands S.members self.old before →
@@ -155,10 +226,11 @@ impl<S: Shares> Team<S> {
         match self.admit(member, &call) {
             Ok(starts) => {
                 let waiting = self.waiting[member as usize].take();
-                let reply = answer(
+                let reply = team_reply(
                     &mut self.shares,
                     &mut self.barriers,
                     &mut self.payloads,
+                    &mut self.book,
                     member,
                     call_meant(&call, &waiting),
                     &starts,
@@ -193,16 +265,19 @@ impl<S: Shares> Team<S> {
             return Err(Refusal::BadMember);
         }
         let waiting = &self.waiting[member as usize];
+        let meant = call_meant(call, waiting);
+        let repeated = is_resume(call);
         let by_team = team_refusal(&self.barriers, self.broken, member, call, waiting);
-        let by_call = admit_call(
+        let by_book = held_refusal(&self.book, member, meant, repeated);
+        let by_parts = admit_call(
             &mut self.shares,
             &self.barriers,
             &self.limits,
             member,
-            call_meant(call, waiting),
-            is_resume(call),
+            meant,
+            repeated,
         );
-        unless_refused(by_team, by_call)
+        unless_refused(by_team, unless_held(by_parts, by_book))
     }
 
     /// Where the team breaks if the call, or the one that it repeats, is another than other
@@ -223,6 +298,15 @@ impl<S: Shares> Team<S> {
     }
 }
 
+impl<S: Shares + Drop> Team<S> {
+    /// The names and locks of the team, which is dropped, as they are held then.
+    pub fn into_book(self) -> LockBook
+        ensures { result ≡ self.book }
+    {
+        self.book
+    }
+}
+
 /// No member of `count` waits.
 fn no_waits(alloc: Global, count: u16) -> Result<Vec<Option<Call>>, AllocError>
     ensures { IfOk result (λ waiting. waiting.items ≡ replicate count None) }
@@ -232,6 +316,22 @@ fn no_waits(alloc: Global, count: u16) -> Result<Vec<Option<Call>>, AllocError>
         waiting.push_reserved(None);
     }
     Ok(waiting)
+}
+
+/// What a call is admitted to, unless the book refuses it as well: of both refusals the one with the
+/// lesser number.
+fn unless_held(
+    admitted: Result<Option<Shape>, Refusal>,
+    refusal: Option<Refusal>,
+) -> Result<Option<Shape>, Refusal>
+    ensures least { result_err result ≡ lesser (result_err admitted) refusal }
+    ensures admitted { IfOk result (λ starts. admitted ≡ Ok starts) }
+{
+    match (admitted, refusal) {
+        (admitted, None) => admitted,
+        (Ok(_), Some(refusal)) => Err(refusal),
+        (Err(one), Some(other)) => unless_refused(Some(one), Err(other)),
+    }
 }
 
 /// Why the team does not answer this call of its member, whatever its construct: `Ended`, `Broken`,

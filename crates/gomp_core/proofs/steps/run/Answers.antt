@@ -2,10 +2,10 @@ use Rattle.std.proofs.Common.{◌≡◌, ◌+◌, ◌∙◌, ◌∷◌, ◌++◌
 use Rattle.gomp_types.specs.declared.call.Step.{Step}
 use Rattle.gomp_model.specs.Past.{Terms}
 use Rattle.gomp_model.specs.Team.{Caused}
-use Rattle.gomp_core.specs.Stands.{Stands, standard_terms}
+use Rattle.gomp_core.specs.Stands.{Stands, standard_terms, OnlyTakersLack}
 use Rattle.gomp_core.specs.Resolved.{record_of}
-use Rattle.gomp_laws.proofs.Laws.{headline_holds}
-use Rattle.gomp_core.proofs.Stepping.{resolved_grows, moved_on, all_done, terms_are, memory_more}
+use Rattle.gomp_laws.proofs.Laws.{headline_holds, replies_on_names_and_locks}
+use Rattle.gomp_core.proofs.Stepping.{resolved_grows, moved_on, all_done, terms_are, takers_more}
 use Rattle.gomp_core.proofs.steps.run.Given.{Over}
 use Rattle.gomp_core.proofs.steps.run.Goals as goal
 
@@ -40,7 +40,7 @@ loop-step-preserved g c =
       members = c.step.ensures.keeps.members ∙ inv.members;
       icv = c.step.ensures.keeps.icv ∙ inv.icv;
       limits = c.step.ensures.keeps.limits ∙ inv.limits;
-      memory = rw c.push_reserved.ensures.items (memory_more c.loop-step.replies.items c.step.result inv.memory c.step.ensures.memory);
+      memory = rw c.push_reserved.ensures.items (takers_more c.loop-step.yielded c.loop-step.replies.items c.in-Some.step c.step.result inv.each inv.memory c.step.ensures.memory);
       stands = rw (c.push_reserved.ensures.items, more) (rw inv.icv at (c.step.ensures.stands before inv.stands));
     }
 
@@ -63,7 +63,7 @@ pub returns-in-None-clause-icv : goal.returns-in-None-clause-icv
 returns-in-None-clause-icv g c = c.loop-step.invariant.icv
 
 pub returns-in-None-clause-memory : goal.returns-in-None-clause-memory
-returns-in-None-clause-memory g c = c.loop-step.invariant.memory
+returns-in-None-clause-memory g c = subst (λ (steps : List Step). OnlyTakersLack steps c.loop-step.replies.items) (steps_done g c) c.loop-step.invariant.memory
 
 pub returns-in-None-clause-stands : goal.returns-in-None-clause-stands
 returns-in-None-clause-stands g c =
@@ -77,3 +77,6 @@ returns-in-None-clause-caused g c =
 
 pub returns-in-None-clause-headline : goal.returns-in-None-clause-headline
 returns-in-None-clause-headline g c = headline_holds (standard_terms c.args.count c.args.icv) (record_of c.args.icv c.args.steps.items c.loop-step.replies.items) (returns-in-None-clause-caused g c)
+
+pub returns-in-None-clause-replies : goal.returns-in-None-clause-replies
+returns-in-None-clause-replies g c = replies_on_names_and_locks (standard_terms c.args.count c.args.icv) (record_of c.args.icv c.args.steps.items c.loop-step.replies.items) (returns-in-None-clause-caused g c)

@@ -9,7 +9,7 @@ use Rattle.gomp_core.proofs.team.Team.place.Goals as goal
 
 pub returns : goal.returns
 returns g c = λ before st0.
-    let team : TeamView g.row.S.Denot = record { icv = c.self.inside.icv; limits = c.self.inside.limits; broken = c.self.inside.broken; waiting = c.self.inside.waiting.items; barriers = c.self.inside.barriers; payloads = c.self.inside.payloads; shares = c.self.inside.shares } in
+    let team : TeamView g.row.S.Denot = record { icv = c.self.inside.icv; limits = c.self.inside.limits; broken = c.self.inside.broken; waiting = c.self.inside.waiting.items; barriers = c.self.inside.barriers; payloads = c.self.inside.payloads; book = c.self.inside.book; shares = c.self.inside.shares } in
     let st = same_stands g.S.Shares.stands g.S.Shares.members team c.args.self.now before c.self.view_is st0 in
     let lt : c.args.member < length c.self.inside.waiting.items = rw (← c.self.view_is) at c.requires.member in
     let at = slice_get_read c.self.inside.waiting.items _ c.args.member _ refl lt c.index-waiting.ensures in

@@ -1,0 +1,142 @@
+-- A call of the parts leaves the book of names and locks standing, and a call of the book the parts.
+use Rattle.std.proofs.Common.{◌≡◌, ℕ, Bool, true, false, List, ◌∷◌, ◌++◌, Option, Some, None, refl, ap, ◌∙◌, sym, subst}
+use Rattle.std.specs.Prelude.{slice_get, option_map}
+use Rattle.gomp_types.specs.declared.call.Call.{Call}
+use Rattle.gomp_types.specs.declared.call.Call.TheVariants.{CriticalStart, CriticalEnd, LockInit, NestInit, LockDestroy, Set, Test as TestLock, Unset, SetNest, TestNest, UnsetNest}
+use Rattle.gomp_types.specs.declared.key.Key.{Key}
+use Rattle.gomp_types.specs.declared.key.Key.TheVariants.{Critical}
+use Rattle.gomp_types.specs.declared.lock.LockKind.{LockKind}
+use Rattle.gomp_types.specs.declared.refusal.Refusal.{Refusal}
+use Rattle.gomp_types.specs.declared.refusal.Refusal.TheVariants.{NoMemory}
+use Rattle.gomp_types.specs.declared.reply.Reply.{Reply}
+use Rattle.gomp_types.specs.declared.reply.Reply.TheVariants.{Refused}
+use Rattle.gomp_types.specs.declared.event.Event.{Event}
+use Rattle.gomp_types.specs.declared.event.Event.TheVariants.{Hold, Free}
+use Rattle.gomp_types.specs.declared.task.Task.{Task}
+use Rattle.gomp_locks.specs.Book.{BookView}
+use Rattle.gomp_locks.specs.Holders.{key_of, holder, holding_owner}
+use Rattle.gomp_model.specs.Past.{Past}
+use Rattle.gomp_model.specs.Row.{Row, begun_past, MayReply, given_after, events_after, locks_after}
+use Rattle.gomp_model.specs.CriticalNames.{is_held, is_freed, held_once, freed_once}
+use Rattle.gomp_model.specs.Calls.{row_of}
+use Rattle.gomp_laws.proofs.Sound.{Gives, gives_of, IsLast}
+use Rattle.gomp_laws.proofs.CallsKeep.{step_keeps}
+use Rattle.gomp_laws.proofs.Calls.{row_is_sound}
+use Rattle.gomp_parts.proofs.Answered.{events_given}
+use Rattle.gomp_held.specs.Stands.{lock_held, BookStands, IsKnown, MayGive, past_given}
+
+-- The past after a reply
+
+pub events_so : (call : Call) (repeated : Bool) (m : ℕ) (p : Past) (reply : Reply) → MayGive (row_of call) repeated m p reply → events_after repeated (row_of call) m p reply ≡ (past_given (row_of call) repeated m p reply).events
+events_so call repeated m p (Refused NoMemory) may = refl
+events_so call repeated m p (Refused refusal) may = absurd ((row_is_sound call).accepts m (begun_past repeated (row_of call) m p) refusal may)
+events_so call repeated m p _ may = refl
+
+pub locks_so : (row : Row) (repeated : Bool) (m : ℕ) (p : Past) (reply : Reply) → locks_after row reply p.locks ≡ (past_given row repeated m p reply).locks
+locks_so row repeated m p (Refused refusal) = refl
+locks_so row repeated m p _ = refl
+
+-- a reply that the row has is one that it may give
+pub gives_reply : (call : Call) (repeated : Bool) (m : ℕ) (p : Past) (reply : Reply) → MayReply (row_of call) repeated m p reply → MayGive (row_of call) repeated m p reply
+gives_reply call repeated m p (Refused refusal) may = absurd ((row_is_sound call).accepts m (begun_past repeated (row_of call) m p) refusal may)
+gives_reply call repeated m p _ may = may
+
+-- want of memory is given only by a call that may find none
+pub lacks_if_memory : (row : Row) (repeated : Bool) (m : ℕ) (p : Past) (reply : Reply) → reply ≡ Refused NoMemory → MayGive row repeated m p reply → row.memory ≡ true
+lacks_if_memory row repeated m p reply lacks may = subst (MayGive row repeated m p) lacks may
+
+-- no call of the parts is refused when it is answered
+pub reply_refused_not : (call : Call) (repeated : Bool) (m : ℕ) (p : Past) (reply : Reply) (refusal : Refusal) → MayReply (row_of call) repeated m p reply → reply ≡ Refused refusal → ⊥
+reply_refused_not call repeated m p reply refusal may same = (row_is_sound call).accepts m (begun_past repeated (row_of call) m p) refusal (subst (MayReply (row_of call) repeated m p) same may)
+
+pub given_so : (call : Call) (repeated : Bool) (m : ℕ) (p : Past) (reply : Reply) → MayReply (row_of call) repeated m p reply → given_after (row_of call) repeated m p reply ≡ (past_given (row_of call) repeated m p reply).events
+given_so call repeated m p (Refused refusal) may = absurd ((row_is_sound call).accepts m (begun_past repeated (row_of call) m p) refusal may)
+given_so call repeated m p _ may = refl
+
+-- A book stands for what is held alike
+
+held_alike : (number : ℕ) (h now : List Event) (place : Option (Option LockKind)) → ((key : Key) → holder key now ≡ holder key h) → option_map (lock_held number h) place ≡ option_map (lock_held number now) place
+held_alike number h now None same = refl
+held_alike number h now (Some None) same = refl
+held_alike number h now (Some (Some kind)) same = rw (same (key_of kind number)) refl
+
+pub book_moved : (book : BookView) (p q : Past) → ((key : Key) → holder key q.events ≡ holder key p.events) → q.locks ≡ p.locks → BookStands book p → BookStands book q
+book_moved book p q same locks st = record {
+  names = λ name. st.names name ∙ ap holding_owner (sym (same (Critical name)));
+  locks = λ number. st.locks number ∙ held_alike number p.events q.events (slice_get p.locks number) same ∙ ap (λ (all : List (Option LockKind)). option_map (lock_held number q.events) (slice_get all number)) (sym locks);
+  unmade = λ kind number past. same (key_of kind number) ∙ st.unmade kind number (rw locks at past);
+}
+
+-- A call of the parts
+
+pub holds_nothing : (call : Call) → (row_of call).asks_book ≡ false → (row_of call).holds ≡ None
+holds_nothing (CriticalStart name) aside = absurd (cc)
+holds_nothing (CriticalEnd name) aside = absurd (cc)
+holds_nothing (Set number) aside = absurd (cc)
+holds_nothing (TestLock number) aside = absurd (cc)
+holds_nothing (Unset number) aside = absurd (cc)
+holds_nothing (SetNest number) aside = absurd (cc)
+holds_nothing (TestNest number) aside = absurd (cc)
+holds_nothing (UnsetNest number) aside = absurd (cc)
+holds_nothing _ aside = refl
+
+makes_nothing : (call : Call) (reply : Reply) (locks : List (Option LockKind)) → (row_of call).asks_book ≡ false → (row_of call).locks reply locks ≡ locks
+makes_nothing LockInit reply locks aside = absurd (cc)
+makes_nothing NestInit reply locks aside = absurd (cc)
+makes_nothing (LockDestroy number) reply locks aside = absurd (cc)
+makes_nothing _ reply locks aside = refl
+
+last_holds_none : (can : Gives) (m : ℕ) (reply : Reply) (event : Event) (key : Key) (h now : List Event) → can.holds ≡ None → IsLast can m reply event → holder key now ≡ holder key h → holder key (event ∷ now) ≡ holder key h
+last_holds_none can m reply (Hold other n task) key h now none by same = absurd (let holds = by.1 in cc)
+last_holds_none can m reply (Free other n task) key h now none by same = absurd (let holds = by.1 in cc)
+last_holds_none can m reply _ key h now none by same = same
+
+holders_kept : (call : Call) (repeated : Bool) (m : ℕ) (p : Past) (reply : Reply) (key : Key) → (row_of call).asks_book ≡ false → holder key (events_after repeated (row_of call) m p reply) ≡ holder key p.events
+holders_kept call repeated m p reply key aside =
+    step_keeps (row_of call) (row_is_sound call) repeated m p reply (λ h. holder key h ≡ holder key p.events)
+    (λ event h by same. last_holds_none (gives_of (row_of call)) m reply event key p.events h (holds_nothing call aside) by same) refl
+
+made_kept : (call : Call) (repeated : Bool) (m : ℕ) (p : Past) (reply : Reply) → (row_of call).asks_book ≡ false → (past_given (row_of call) repeated m p reply).locks ≡ p.locks
+made_kept call repeated m p (Refused refusal) aside = refl
+made_kept call repeated m p reply aside = makes_nothing call reply p.locks aside
+
+pub parts_leave_book : (book : BookView) (call : Call) (repeated : Bool) (m : ℕ) (p : Past) (reply : Reply) → (row_of call).asks_book ≡ false → MayReply (row_of call) repeated m p reply → BookStands book p → BookStands book (past_given (row_of call) repeated m p reply)
+parts_leave_book book call repeated m p reply aside may st =
+    let given = past_given (row_of call) repeated m p reply in
+    book_moved book p given (λ key. ap (holder key) (sym (events_so call repeated m p reply (gives_reply call repeated m p reply may))) ∙ holders_kept call repeated m p reply key aside) (made_kept call repeated m p reply aside) st
+
+-- it waits for no name
+pub knows_nothing : (book : BookView) (call : Call) → (row_of call).asks_book ≡ false → IsKnown book (Some call)
+knows_nothing book call aside = λ name is. absurd (let none = holds_nothing call aside in cc)
+
+-- A call of the book
+
+-- what no event of a name or of a lock changes
+abbrev pub KeepsHolds : (List Event → Type 0) → Type 0
+KeepsHolds P = (h : List Event) (key : Key) (m : ℕ) (task : Task) → P h → P (Hold key m task ∷ h) × P (Free key m task ∷ h)
+
+held_aside : (P : List Event → Type 0) → KeepsHolds P → (test : Bool) (key : Key) (m : ℕ) (h : List Event) → P h → P (held_once test key m h ++ h)
+held_aside P keeps true key m h holds = (keeps h key m _ holds).0
+held_aside P keeps false key m h holds = holds
+
+freed_aside : (P : List Event → Type 0) → KeepsHolds P → (test : Bool) (key : Key) (m : ℕ) (h : List Event) → P h → P (freed_once test key m h ++ h)
+freed_aside P keeps true key m h holds = (keeps h key m _ holds).1
+freed_aside P keeps false key m h holds = holds
+
+given_aside : (P : List Event → Type 0) → KeepsHolds P → (call : Call) (repeated : Bool) (m : ℕ) (p : Past) (reply : Reply) → (row_of call).asks_book ≡ true → P p.events → P (given_after (row_of call) repeated m p reply)
+given_aside P keeps (CriticalStart name) repeated m p reply asks holds = held_aside P keeps (is_held reply) _ m p.events holds
+given_aside P keeps (CriticalEnd name) repeated m p reply asks holds = freed_aside P keeps (is_freed reply) _ m p.events holds
+given_aside P keeps LockInit repeated m p reply asks holds = holds
+given_aside P keeps NestInit repeated m p reply asks holds = holds
+given_aside P keeps (LockDestroy number) repeated m p reply asks holds = holds
+given_aside P keeps (Set number) repeated m p reply asks holds = held_aside P keeps (is_held reply) _ m p.events holds
+given_aside P keeps (TestLock number) repeated m p reply asks holds = held_aside P keeps (is_held reply) _ m p.events holds
+given_aside P keeps (Unset number) repeated m p reply asks holds = freed_aside P keeps (is_freed reply) _ m p.events holds
+given_aside P keeps (SetNest number) repeated m p reply asks holds = held_aside P keeps (is_held reply) _ m p.events holds
+given_aside P keeps (TestNest number) repeated m p reply asks holds = held_aside P keeps (is_held reply) _ m p.events holds
+given_aside P keeps (UnsetNest number) repeated m p reply asks holds = freed_aside P keeps (is_freed reply) _ m p.events holds
+given_aside P keeps _ repeated m p reply asks holds = absurd (cc)
+
+pub book_leaves_parts : (P : List Event → Type 0) → KeepsHolds P → (call : Call) (repeated : Bool) (m : ℕ) (p : Past) (reply : Reply) → (row_of call).asks_book ≡ true → P p.events → P (past_given (row_of call) repeated m p reply).events
+book_leaves_parts P keeps call repeated m p (Refused refusal) asks holds = holds
+book_leaves_parts P keeps call repeated m p reply asks holds = given_aside P keeps call repeated m p reply asks holds
