@@ -2,6 +2,8 @@
 // program. And the engine's reply, read and held against what the call may be answered.
 #include "call.h"
 
+#include "place.h"
+
 #include <stdarg.h>
 #include <stdio.h>
 #include <stdlib.h>
@@ -52,8 +54,34 @@ static const char *plain_line(enum call_kind kind)
     case CALL_SINGLE_COPY: return "single_copy";
     case CALL_ORDERED_END: return "ordered_end";
     case CALL_REGION_END: return "region_end";
+    case CALL_LOCK_INIT: return "lock_init";
+    case CALL_NEST_INIT: return "nest_init";
     default: return "barrier";
     }
+}
+
+// The word of a call on a lock that there is; NULL for other calls.
+static const char *lock_word(enum call_kind kind)
+{
+    switch (kind) {
+    case CALL_LOCK_DESTROY:
+    case CALL_NEST_DESTROY: return "lock_destroy";
+    case CALL_SET: return "set";
+    case CALL_TEST: return "test";
+    case CALL_UNSET: return "unset";
+    case CALL_SET_NEST: return "set_nest";
+    case CALL_TEST_NEST: return "test_nest";
+    case CALL_UNSET_NEST: return "unset_nest";
+    default: return NULL;
+    }
+}
+
+static int hold_line(const struct call *call, int member, char line[LINE_SIZE])
+{
+    if (lock_word(call->kind) != NULL)
+        return snprintf(line, LINE_SIZE, "%d %s %u\n", member, lock_word(call->kind), call->lock.number);
+    return snprintf(line, LINE_SIZE, "%d critical%s%s%s\n", member, call->kind == CALL_CRITICAL ? "" : "_end",
+                    *call->name != 0 ? " " : "", call->name);
 }
 
 // Writes the line of a member's call, with its line feed, and answers its length.
@@ -66,7 +94,12 @@ size_t call_line(const struct call *call, int member, char line[LINE_SIZE])
     case CALL_SINGLE_COPY_END:
         return (size_t)snprintf(line, LINE_SIZE, "%d single_copy_end %lu\n", member, call->word);
     case CALL_ORDERED: return (size_t)snprintf(line, LINE_SIZE, "%d ordered %ld\n", member, call->iteration);
-    default: return (size_t)snprintf(line, LINE_SIZE, "%d %s\n", member, plain_line(call->kind));
+    case CALL_CRITICAL:
+    case CALL_CRITICAL_END: return (size_t)hold_line(call, member, line);
+    default:
+        if (lock_word(call->kind) != NULL)
+            return (size_t)hold_line(call, member, line);
+        return (size_t)snprintf(line, LINE_SIZE, "%d %s\n", member, plain_line(call->kind));
     }
 }
 
@@ -83,6 +116,34 @@ static void loop_words(const struct loop *loop, struct text *text)
         text_add(text, "%ld iterations", loop->end);
     else
         text_add(text, "%ld to %ld by %ld", loop->start, loop->end, loop->increment);
+}
+
+static void critical_words(const struct call *call, struct text *text)
+{
+    text_add(text, "%s#pragma omp critical", call->kind == CALL_CRITICAL ? "" : "the end of ");
+    if (*call->name != 0)
+        text_add(text, " (%s)", call->name);
+}
+
+static void lock_words(const struct call *call, struct text *text)
+{
+    static const char *const routines[] = {
+        [CALL_LOCK_DESTROY] = "omp_destroy_lock",
+        [CALL_NEST_DESTROY] = "omp_destroy_nest_lock",
+        [CALL_SET] = "omp_set_lock",
+        [CALL_SET_NEST] = "omp_set_nest_lock",
+        [CALL_TEST] = "omp_test_lock",
+        [CALL_TEST_NEST] = "omp_test_nest_lock",
+        [CALL_UNSET] = "omp_unset_lock",
+        [CALL_UNSET_NEST] = "omp_unset_nest_lock",
+    };
+    text_add(text, "%s", routines[call->kind]);
+    if (call->lock.number == NO_LOCK) {
+        text_add(text, " of a lock that was never initialized");
+    } else {
+        text_add(text, " of lock %u", call->lock.number);
+        place_add_after(", initialized at ", call->lock.made, text);
+    }
 }
 
 // Adds a call in OpenMP's words. `share` is the start of the work-share that the member is, or was last, in.
@@ -103,12 +164,25 @@ void call_words(const struct call *call, const struct call *share, struct text *
     case CALL_ORDERED_END: text_add(text, "the end of #pragma omp ordered"); break;
     case CALL_BARRIER: text_add(text, "#pragma omp barrier (or the barrier that ends a construct)"); break;
     case CALL_REGION_END: text_add(text, "the end of the parallel region"); break;
+    case CALL_CRITICAL:
+    case CALL_CRITICAL_END: critical_words(call, text); break;
+    case CALL_LOCK_INIT: text_add(text, "omp_init_lock"); break;
+    case CALL_NEST_INIT: text_add(text, "omp_init_nest_lock"); break;
+    case CALL_LOCK_DESTROY:
+    case CALL_NEST_DESTROY:
+    case CALL_SET:
+    case CALL_TEST:
+    case CALL_UNSET:
+    case CALL_SET_NEST:
+    case CALL_TEST_NEST:
+    case CALL_UNSET_NEST: lock_words(call, text); break;
     default: text_add(text, "%s", before[call->kind]); call_words(share, share, text);
     }
 }
 
-static bool may_be_answered(const struct call *call, enum reply_kind reply)
+static bool may_be_answered(const struct call *call, const struct reply *answer)
 {
+    enum reply_kind reply = answer->kind;
     switch (call->kind) {
     case CALL_LOOP:
     case CALL_LOOP_NEXT: return reply == REPLY_CHUNK || reply == REPLY_NONE;
@@ -119,6 +193,12 @@ static bool may_be_answered(const struct call *call, enum reply_kind reply)
     case CALL_BARRIER:
     case CALL_BARRIER_OF_SHARE:
     case CALL_REGION_END: return reply == REPLY_PASSED;
+    case CALL_LOCK_INIT:
+    case CALL_NEST_INIT: return reply == REPLY_LOCK && answer->count < NO_LOCK;
+    case CALL_TEST: return reply == REPLY_GOT;
+    case CALL_SET_NEST: return reply == REPLY_COUNT && answer->count > 0;
+    case CALL_TEST_NEST:
+    case CALL_UNSET_NEST: return reply == REPLY_COUNT;
     default: return reply == REPLY_OK;
     }
 }
@@ -145,18 +225,32 @@ static struct reply read_reply(const char *line)
         enum reply_kind kind;
         unsigned long count;
     } plain[] = {
-        {"executor yes", REPLY_EXECUTOR, 1}, {"executor no", REPLY_EXECUTOR, 0}, {"none", REPLY_NONE, 0},
-        {"ok", REPLY_OK, 0},                 {"passed", REPLY_PASSED, 0},        {"wait", REPLY_WAIT, 0},
+        {"executor yes", REPLY_EXECUTOR, 1},
+        {"executor no", REPLY_EXECUTOR, 0},
+        {"none", REPLY_NONE, 0},
+        {"ok", REPLY_OK, 0},
+        {"passed", REPLY_PASSED, 0},
+        {"wait", REPLY_WAIT, 0},
+        {"got yes", REPLY_GOT, 1},
+        {"got no", REPLY_GOT, 0},
     };
+    static const struct {
+        const char *word;
+        enum reply_kind kind;
+    } numbered[] = {
+        {"section", REPLY_SECTION}, {"copied", REPLY_COPIED}, {"lock", REPLY_LOCK}, {"count", REPLY_COUNT}};
     struct reply reply = {.kind = REPLY_UNKNOWN};
     if (sscanf(line, "chunk %ld %lu", &reply.first, &reply.count) == 2 && is_chunk(line, &reply))
         reply.kind = REPLY_CHUNK;
-    else if (sscanf(line, "section %lu", &reply.count) == 1 && is_numbered(line, "section", reply.count))
-        reply.kind = REPLY_SECTION;
-    else if (sscanf(line, "copied %lu", &reply.count) == 1 && is_numbered(line, "copied", reply.count))
-        reply.kind = REPLY_COPIED;
     else if (strncmp(line, "refused E", 9) == 0)
         reply.kind = REPLY_REFUSED;
+    unsigned long number;
+    bool has_number = sscanf(line, "%*s %lu", &number) == 1;
+    for (size_t i = 0; has_number && i < sizeof numbered / sizeof *numbered; i++)
+        if (is_numbered(line, numbered[i].word, number)) {
+            reply.kind = numbered[i].kind;
+            reply.count = number;
+        }
     for (size_t i = 0; i < sizeof plain / sizeof *plain; i++)
         if (strcmp(line, plain[i].line) == 0) {
             reply.kind = plain[i].kind;
@@ -170,9 +264,23 @@ struct reply reply_of(const struct call *call, const char *line)
 {
     struct reply reply = read_reply(line);
     bool any_call = reply.kind == REPLY_WAIT || reply.kind == REPLY_REFUSED;
-    if (!any_call && !may_be_answered(call, reply.kind))
+    if (!any_call && !may_be_answered(call, &reply))
         reply.kind = REPLY_UNKNOWN;
     if (reply.kind == REPLY_REFUSED)
         snprintf(reply.text, sizeof reply.text, "%s", line);
     return reply;
+}
+
+// Whether a call makes, destroys or uses a lock.
+bool call_is_on_lock(const struct call *call) { return call->kind >= CALL_LOCK_INIT; }
+
+// Whether two calls are on one critical name, or on one lock.
+bool call_is_of_one_hold(const struct call *one, const struct call *other)
+{
+    bool is_critical = one->kind == CALL_CRITICAL || one->kind == CALL_CRITICAL_END;
+    bool is_other_critical = other->kind == CALL_CRITICAL || other->kind == CALL_CRITICAL_END;
+    if (is_critical || is_other_critical)
+        return is_critical && is_other_critical && strcmp(one->name, other->name) == 0;
+    return lock_word(one->kind) != NULL && lock_word(other->kind) != NULL &&
+           one->lock.number == other->lock.number;
 }

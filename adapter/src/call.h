@@ -4,6 +4,7 @@
 
 #include <stdbool.h>
 #include <stddef.h>
+#include <stdint.h>
 
 enum { LINE_SIZE = 256, TEXT_SIZE = 32768 };
 
@@ -22,7 +23,19 @@ enum call_kind {
     CALL_ORDERED_END,
     CALL_BARRIER,
     CALL_BARRIER_OF_SHARE,
-    CALL_REGION_END
+    CALL_REGION_END,
+    CALL_CRITICAL,
+    CALL_CRITICAL_END,
+    CALL_LOCK_INIT,
+    CALL_LOCK_DESTROY,
+    CALL_SET,
+    CALL_TEST,
+    CALL_UNSET,
+    CALL_NEST_INIT,
+    CALL_NEST_DESTROY,
+    CALL_SET_NEST,
+    CALL_TEST_NEST,
+    CALL_UNSET_NEST
 };
 
 // The numbers are those of libgomp, which GOMP_loop_start is given.
@@ -39,6 +52,13 @@ struct loop {
     long start, end, increment, chunk; // the chunk as the program gave it, 0 for none
 };
 
+// A lock, simple or nestable, as a call names it.
+struct lock_name {
+    unsigned number; // the engine's, NO_LOCK for a lock that was never initialized
+    void *made;      // where the program initialized it
+};
+#define NO_LOCK UINT32_MAX // the engine gives this number to no lock
+
 struct call {
     enum call_kind kind;
     void *address; // where in the program it returns to
@@ -47,6 +67,8 @@ struct call {
         unsigned sections;
         long iteration;     // of an ordered part
         unsigned long word; // what a single hands to the other members
+        const char *name;   // of a critical region, empty if it has none
+        struct lock_name lock;
     };
 };
 
@@ -58,6 +80,9 @@ enum reply_kind {
     REPLY_COPIED,
     REPLY_OK,
     REPLY_PASSED,
+    REPLY_LOCK,
+    REPLY_GOT,
+    REPLY_COUNT,
     REPLY_WAIT,
     REPLY_REFUSED,
     REPLY_UNKNOWN
@@ -66,7 +91,8 @@ enum reply_kind {
 struct reply {
     enum reply_kind kind;
     long first;           // of a chunk: the value of its first iteration
-    unsigned long count;  // of a chunk: iterations; a section's number; yes or no; a copied word
+    unsigned long count;  // of a chunk: iterations; the number of a section or a lock; yes or no; a copied word;
+                          // how often a nestable lock is set
     char text[LINE_SIZE]; // the line itself, of a refusal
 };
 
@@ -80,5 +106,7 @@ void text_add(struct text *text, const char *format, ...) __attribute__((format(
 size_t call_line(const struct call *call, int member, char line[LINE_SIZE]);
 void call_words(const struct call *call, const struct call *share, struct text *text);
 struct reply reply_of(const struct call *call, const char *line);
+bool call_is_on_lock(const struct call *call);
+bool call_is_of_one_hold(const struct call *one, const struct call *other);
 
 #endif

@@ -1,6 +1,7 @@
 // The context of a thread: which member of which team it is, and its control variables. Outside of every
 // region a thread is a team of one, which has an engine once it meets a construct, and is renewed between
-// constructs before its limit of shares.
+// constructs before its limit of shares. A region that the thread begins then takes the team's place and its
+// engine, so that the locks stay.
 #include "context.h"
 
 #include "memory.h"
@@ -17,6 +18,7 @@ static __thread struct context *current;
 struct context *context_now(void)
 {
     if (current == NULL) {
+        variables_read();
         alone = (struct context){.size = 1, .variables = initial_variables};
         current = &alone;
     }
@@ -25,10 +27,10 @@ struct context *context_now(void)
 
 void context_set(struct context *context) { current = context; }
 
-// A thread's end gives back its team of one.
+// A thread's end gives back its outermost team, unless it ends inside of a region.
 void context_end(void)
 {
-    if (alone.team != NULL)
+    if (alone.team != NULL && current == &alone)
         team_give_back(alone.team);
     alone.team = NULL;
 }
@@ -40,9 +42,9 @@ void context_forget(void) { alone.team = NULL; }
 extern const char __ehdr_start[] __attribute__((visibility("hidden")));
 extern const char _end[] __attribute__((visibility("hidden")));
 
-// The context of the calling thread, which called the library from this address of the program. A call that is
-// the last thing that a region does may be a jump: it returns to the library, and the region's function stands
-// for its place.
+// The context of the calling thread, which called the library from this address of the program. A call that
+// is the last thing that a region does may be a jump: it returns to the library, and the region's function
+// stands for its place.
 struct context *context_at(void *address)
 {
     struct context *context = context_now();
@@ -51,20 +53,40 @@ struct context *context_at(void *address)
     return context;
 }
 
+static bool is_used_up(const struct member *member)
+{
+    return member->shares >= SHARES_OF_ONE && !member->inside && member->holds == 0;
+}
+
+// Sees to it that the team of one stands.
+static void stand_alone(void)
+{
+    if (alone.team == NULL) {
+        alone.team = team_take(1);
+        region_watch_thread_end();
+    } else if (!alone.team->in_use || is_used_up(&alone.team->members[0])) {
+        team_renew(alone.team, 1);
+    } else {
+        return;
+    }
+    team_join(alone.team, 0);
+}
+
 // The same with a team.
 struct context *context_enter(void *address)
 {
     struct context *context = context_at(address);
-    if (context->team == NULL) {
-        context->team = team_take(1);
-        team_join(context->team, 0);
-        region_watch_thread_end();
-    } else if (context == &alone) {
-        const struct member *member = &context->team->members[0];
-        if (member->shares >= SHARES_OF_ONE && !member->inside)
-            team_renew(context->team);
-    }
+    if (context == &alone)
+        stand_alone();
     return context;
+}
+
+// Whether the team is one of those that a thread makes outside of all regions, one after another: they have
+// one engine, which the thread keeps, and its locks.
+bool context_is_outermost(const struct context *context)
+{
+    const struct context *outer = context->outer;
+    return outer == NULL || (outer->outer == NULL && outer->team == context->team);
 }
 
 // Makes a call of this member.

@@ -42,6 +42,7 @@ struct context *context_enter(void *address);
 void context_end(void);
 void context_forget(void);
 void context_set(struct context *context);
+bool context_is_outermost(const struct context *context);
 struct reply context_call(struct context *context, struct call call);
 bool context_extras(struct context *context, bool answer, uintptr_t *reductions, void **memory);
 

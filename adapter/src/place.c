@@ -28,6 +28,15 @@ void place_add(void *address, struct text *text)
         text_add(text, " (%s+0x%lx)", name, offset);
 }
 
+// Adds a place behind these words, and nothing if it is in no binary.
+void place_add_after(const char *before, void *address, struct text *text)
+{
+    const char *name;
+    unsigned long offset;
+    if (find(address, &name, &offset))
+        text_add(text, "%s%s+0x%lx", before, name, offset);
+}
+
 // Adds the command that prints the line of a place.
 void place_add_command(void *address, struct text *text)
 {

@@ -5,6 +5,7 @@
 #include "call.h"
 
 void place_add(void *address, struct text *text);
+void place_add_after(const char *before, void *address, struct text *text);
 void place_add_command(void *address, struct text *text);
 
 #endif

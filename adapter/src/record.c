@@ -8,6 +8,7 @@
 
 #include <errno.h>
 #include <fcntl.h>
+#include <pthread.h>
 #include <stdatomic.h>
 #include <stdio.h>
 #include <stdlib.h>
@@ -26,16 +27,22 @@ static _Noreturn void end_unwritten(void)
     end_with(STATUS_RECORD, &text);
 }
 
-__attribute__((constructor)) static void take_word(void)
+static void take_word(void)
 {
     const char *word = getenv("DILLBEAM_RECORD");
     if (word != NULL && *word != 0)
         base = strdup(word);
 }
 
+__attribute__((constructor)) static void take_word_once(void)
+{
+    static pthread_once_t taken = PTHREAD_ONCE_INIT;
+    pthread_once(&taken, take_word);
+}
+
 // The first team of a process empties the word, so that the programs which the process runs do not write over
-// its records. It writes one byte: unsetenv() would move the words of the environment while other threads read
-// them.
+// its records. It writes one byte: unsetenv() would move the words of the environment while other threads
+// read them.
 static void empty_word(void)
 {
     char *word = getenv("DILLBEAM_RECORD");
@@ -71,6 +78,7 @@ static void record_words(int record)
 int record_open(void)
 {
     char name[4096];
+    take_word_once();
     if (base == NULL)
         return -1;
     unsigned long number = atomic_fetch_add(&records, 1) + 1;

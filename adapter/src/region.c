@@ -1,10 +1,11 @@
-// Parallel regions: the size of a team, its threads, and its begin and end. Each region has a team with an
-// engine of its own, a nested one too. A thread that encounters a region is its member 0 and keeps the
-// threads of the other members for its next region, each for the same member, so that threadprivate variables
-// stay.
+// Parallel regions: the size of a team, its threads, and its begin and end. Each region has a team. One
+// outside of all others has the engine of its thread's outermost teams; a nested one has an engine of its
+// own. A thread that encounters a region is its member 0 and keeps the threads of the other members for its
+// next region, each for the same member, so that threadprivate variables stay.
 #define _GNU_SOURCE
 #include "region.h"
 
+#include "holds.h"
 #include "message.h"
 #include "record.h"
 
@@ -106,6 +107,8 @@ static void end_thread(void *unused)
 static void forget_after_fork(void)
 {
     crews = NULL;
+    criticals_forget();
+    locks_forget();
     context_forget();
     teams_forget();
     engines_forget();
@@ -178,10 +181,34 @@ static struct context member_context(const struct region *region, struct context
     return context;
 }
 
+// The team of a region. Outside of all others it takes the place of the caller's team of one, if this is in
+// no work-share.
+static struct team *begin_team(struct context *outer, int size)
+{
+    struct team *team = outer->team;
+    if (outer->outer != NULL || outer->is_untold)
+        return team_take(size);
+    if (team == NULL)
+        return outer->team = team_take(size);
+    if (team->in_use && team->members[0].inside)
+        return team_take(size);
+    team_renew(team, size);
+    return team;
+}
+
+static void end_team(struct context *context)
+{
+    if (context->team == context->outer->team)
+        team_rest(context->team);
+    else
+        team_give_back(context->team);
+}
+
 // Begins a region: the caller becomes its member 0.
 void region_begin(struct context *outer, void (*body)(void *), void *data, unsigned wanted,
                   struct call combined)
 {
+    holds_end_region_begin(outer);
     int size = team_size(outer, wanted);
     struct region *region = calloc(1, sizeof *region + (size_t)size * sizeof *region->contexts);
     if (region == NULL)
@@ -191,7 +218,7 @@ void region_begin(struct context *outer, void (*body)(void *), void *data, unsig
     region->data = data;
     region->busy = thread_limit < INT32_MAX ? size - 1 : 0;
     sem_init(&region->left, 0, 0);
-    struct team *team = team_take(size);
+    struct team *team = begin_team(outer, size);
     for (int number = 0; number < size; number++) {
         region->contexts[number] = member_context(region, outer, team, number);
         region->contexts[number].combined = combined;
@@ -219,7 +246,7 @@ static void region_end(struct context *context)
         crews = region->crew;
     }
     atomic_fetch_sub(&busy_threads, region->busy);
-    team_give_back(context->team);
+    end_team(context);
     context_set(context->outer);
     sem_destroy(&region->left);
     free(region);

@@ -21,7 +21,8 @@ struct meaning {
 static const struct meaning limits[] = {
     {14, "a loop has more than 2^39 iterations"},
     {15, "a construct has more than 65,536 sections"},
-    {27, "the team holds more names than there is room for"},
+    {29, "the name of a critical region has more than 32 bytes"},
+    {33, "a nestable lock is set 65,535 times, or 4,294,967,295 locks were made"},
     {34, "a member may start 131,064 work-shares in one parallel region"},
     {36, "the room for stored events is used up"},
     {37, "memory was refused"},
@@ -34,6 +35,7 @@ static const struct meaning faults[] = {
     {8, "the member is in a work-share, in which this may not be met"},
     {9, "the member is in no work-share of this kind"},
     {10, "the member is in an ordered part"},
+    {11, "the member is in a critical region, in which this may not be met"},
     {12, "the loop's step is 0"},
     {13, "the chunk is negative, or above 2^39"},
     {17, "the construct ends otherwise than it began"},
@@ -42,6 +44,8 @@ static const struct meaning faults[] = {
     {20, "the loop has no ordered clause"},
     {21, "an ordered part comes twice in an iteration, or not in the order of the iterations"},
     {22, "no such part is open"},
+    {31, "the thread does not hold this lock"},
+    {32, "there is no such lock: it was never initialized, or it was destroyed"},
     {35, "the members of the team did not meet the same constructs in the same order"},
     {0, NULL},
 };
@@ -51,6 +55,17 @@ static const char *meaning_of(const struct meaning *meanings, int number)
     while (meanings->number != 0 && meanings->number != number)
         meanings++;
     return meanings->text;
+}
+
+// What a refusal says of a call on a name or lock that is held.
+static const char *meaning_of_held(const struct call *call)
+{
+    switch (call->kind) {
+    case CALL_CRITICAL: return "the thread is in a critical region of this name already";
+    case CALL_LOCK_DESTROY:
+    case CALL_NEST_DESTROY: return "a lock may not be destroyed while it is set";
+    default: return "the thread holds this lock already";
+    }
 }
 
 static void add_count(unsigned long count, const char *noun, struct text *text)
@@ -67,6 +82,24 @@ static void add_way(const struct member *member, struct text *text)
     add_count(member->barriers, "barrier", text);
 }
 
+// The critical names and locks that a member holds.
+static void add_holds(const struct member *member, struct text *text)
+{
+    int noted = member->holds < HOLDS_NOTED ? member->holds : HOLDS_NOTED;
+    for (int i = 0; i < noted; i++) {
+        const struct call *call = &member->held[i];
+        if (call->kind == CALL_NONE)
+            continue;
+        if (call->kind == CALL_CRITICAL) {
+            text_add(text, ", inside of ");
+            call_words(call, call, text);
+        } else {
+            text_add(text, ", holding lock %u", call->lock.number);
+        }
+        place_add(call->address, text);
+    }
+}
+
 // What a member did last. The members of a group have done the same.
 static void add_deed(const struct member *member, bool is_group, struct text *text)
 {
@@ -78,6 +111,7 @@ static void add_deed(const struct member *member, bool is_group, struct text *te
     call_words(&member->last, &member->share, text);
     place_add(member->last.address, text);
     add_way(member, text);
+    add_holds(member, text);
 }
 
 static bool is_same_deed(const struct member *one, const struct member *other)
@@ -150,6 +184,7 @@ static void add_refused_call(const struct team *team, int number, const struct c
         call_words(&member->share, &member->share, text);
         place_add(member->share.address, text);
     }
+    add_holds(member, text);
     text_add(text, "\n");
 }
 
@@ -160,7 +195,8 @@ _Noreturn void report_refusal(struct team *team, int number, const struct call *
     char name[LINE_SIZE];
     snprintf(name, sizeof name, "%s", refusal + strlen("refused "));
     int refused = atoi(name + 1);
-    const char *limit = meaning_of(limits, refused), *fault = meaning_of(faults, refused);
+    const char *limit = meaning_of(limits, refused);
+    const char *fault = refused == 30 ? meaning_of_held(call) : meaning_of(faults, refused);
     claim_end();
     if (limit != NULL)
         text_add(&text, "dillbeam: %s: a limit of Dillbeam, not a fault of the program: %s\n", name, limit);

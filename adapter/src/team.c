@@ -14,6 +14,8 @@
 //   ordered part or a next chunk waits for its turn, which `next` hands on. Each such call asks again for all
 //   that wait for it, and again as long as one of those replies lets others pass, before the lock is given
 //   up.
+// - A critical name or a lock is freed by its owner's call alone, for one member at most: that call asks
+//   again for those that wait for this name or lock, who waits longest first, until one has it.
 // - The semaphore counts: a reply that comes before the member sleeps is not lost.
 // Were that list too short, the team would not hang in silence: when all members wait, each asks once more,
 // and only if all are answered `wait` again is a deadlock named.
@@ -65,6 +67,9 @@ static enum wait waits_for(const struct call *call)
     case CALL_REGION_END: return WAIT_ARRIVAL;
     case CALL_LOOP_NEXT:
     case CALL_ORDERED: return WAIT_TURN;
+    case CALL_CRITICAL:
+    case CALL_SET:
+    case CALL_SET_NEST: return WAIT_HOLD;
     default: return WAIT_LEAVE;
     }
 }
@@ -86,9 +91,57 @@ static unsigned lets_pass(const struct call *call)
     }
 }
 
+// Whether a reply gives a critical name or a lock to the member.
+static bool gives_hold(const struct call *call, const struct reply *reply)
+{
+    switch (call->kind) {
+    case CALL_CRITICAL:
+    case CALL_SET: return true;
+    case CALL_SET_NEST:
+    case CALL_TEST_NEST:
+    case CALL_TEST: return reply->count == 1;
+    default: return false;
+    }
+}
+
+// Whether a reply frees one.
+static bool frees_hold(const struct call *call, const struct reply *reply)
+{
+    switch (call->kind) {
+    case CALL_CRITICAL_END:
+    case CALL_UNSET: return true;
+    case CALL_UNSET_NEST: return reply->count == 0;
+    default: return false;
+    }
+}
+
+// A hold behind those that are noted is counted alone.
+static void note_hold(struct member *member, const struct call *call)
+{
+    if (member->holds < HOLDS_NOTED)
+        member->held[member->holds] = *call;
+    member->holds++;
+}
+
+static void note_free(struct member *member, const struct call *call)
+{
+    int noted = member->holds < HOLDS_NOTED ? member->holds : HOLDS_NOTED, at = 0;
+    while (at < noted && !call_is_of_one_hold(&member->held[at], call))
+        at++;
+    if (at < noted)
+        memmove(&member->held[at], &member->held[at + 1], (size_t)(noted - at - 1) * sizeof member->held[at]);
+    if (at < noted && noted < member->holds)
+        member->held[noted - 1].kind = CALL_NONE; // one that was not noted
+    member->holds--;
+}
+
 // Keeps the notes of a member for messages.
 static void note_reply(struct member *member, const struct call *call, const struct reply *reply)
 {
+    if (gives_hold(call, reply))
+        note_hold(member, call);
+    if (frees_hold(call, reply))
+        note_free(member, call);
     switch (call->kind) {
     case CALL_LOOP:
     case CALL_SECTIONS:
@@ -108,6 +161,21 @@ static void note_reply(struct member *member, const struct call *call, const str
     }
 }
 
+// Takes the reply to a member's `resume`, and wakes the member if it may go on. Answers whether it may.
+static bool receive_again(struct team *team, int number)
+{
+    struct member *member = &team->members[number];
+    struct reply reply = receive(team, number, &member->last);
+    if (reply.kind == REPLY_WAIT)
+        return false;
+    note_reply(member, &member->last, &reply);
+    member->reply = reply;
+    member->wait = WAIT_NOT;
+    team->waiting--;
+    sem_post(&member->answered);
+    return true;
+}
+
 // Asks once more for each member that waits for one of these, in one write. Answers whom the replies let pass
 // in turn.
 static unsigned ask_again(struct team *team, unsigned let)
@@ -124,19 +192,41 @@ static unsigned ask_again(struct team *team, unsigned let)
         send_lines(team, lines, length);
     unsigned let_in_turn = WAIT_NOT;
     for (int i = 0; i < count; i++) {
-        struct member *member = &team->members[asked[i]];
-        struct reply reply = receive(team, asked[i], &member->last);
-        if (reply.kind == REPLY_WAIT)
-            continue;
-        note_reply(member, &member->last, &reply);
-        if (member->wait != WAIT_ARRIVAL) // the last to arrive has let all pass
-            let_in_turn |= lets_pass(&member->last);
-        member->reply = reply;
-        member->wait = WAIT_NOT;
-        team->waiting--;
-        sem_post(&member->answered);
+        const struct member *member = &team->members[asked[i]];
+        enum wait wait = member->wait;
+        unsigned may_let = lets_pass(&member->last);
+        if (receive_again(team, asked[i]) && wait != WAIT_ARRIVAL) // the last to arrive has let all pass
+            let_in_turn |= may_let;
     }
     return let_in_turn;
+}
+
+// The member that waits longest for what a call has freed, of those whose wait began after another; -1 if
+// there is none.
+static int next_for_hold(const struct team *team, const struct call *call, unsigned long after)
+{
+    int next = -1;
+    for (int number = 0; number < team->size; number++) {
+        const struct member *member = &team->members[number];
+        if (member->wait == WAIT_HOLD && member->since > after && call_is_of_one_hold(&member->last, call) &&
+            (next < 0 || member->since < team->members[next].since))
+            next = number;
+    }
+    return next;
+}
+
+// Gives the name or lock that a call has freed to the member that waits longest for it.
+static void hand_on(struct team *team, const struct call *call)
+{
+    char line[LINE_SIZE];
+    unsigned long after = 0;
+    int number;
+    while ((number = next_for_hold(team, call, after)) >= 0) {
+        after = team->members[number].since;
+        send_lines(team, line, (size_t)snprintf(line, sizeof line, "%d resume\n", number));
+        if (receive_again(team, number))
+            return;
+    }
 }
 
 static void let_others_pass(struct team *team, unsigned let)
@@ -149,6 +239,7 @@ static struct reply wait_for_reply(struct team *team, int number, const struct c
 {
     struct member *member = &team->members[number];
     member->wait = waits_for(call);
+    member->since = ++team->waits;
     team->waiting++;
     if (team->waiting == team->size) {
         let_others_pass(team, WAIT_ANY);
@@ -176,13 +267,19 @@ struct reply team_call(struct team *team, int number, const struct call *call)
     size_t length = call_line(call, number, line);
     struct member *member = &team->members[number];
     pthread_mutex_lock(&team->lock);
+    if (call_is_on_lock(call))
+        locks_made_record(&team->locks_made, team->record, number);
     send_lines(team, line, length);
     struct reply reply = receive(team, number, call);
     member->last = *call;
     if (reply.kind == REPLY_WAIT)
         return wait_for_reply(team, number, call);
     note_reply(member, call, &reply);
-    let_others_pass(team, lets_pass(call));
+    locks_made_note(&team->locks_made, call, &reply);
+    if (frees_hold(call, &reply))
+        hand_on(team, call);
+    else
+        let_others_pass(team, lets_pass(call));
     pthread_mutex_unlock(&team->lock);
     return reply;
 }
@@ -196,12 +293,14 @@ static void begin(struct team *team, int size)
     team->in_use = true;
     team->number = atomic_fetch_add(&teams_begun, 1) + 1;
     team->record = record_open();
+    team->locks_made.recorded = false;
     for (int number = 0; number < size; number++) {
         struct member *member = &team->members[number];
         member->thread = 0;
         member->last.kind = member->share.kind = CALL_NONE;
         member->inside = false;
         member->shares = member->barriers = 0;
+        member->holds = 0;
         member->wait = WAIT_NOT;
     }
     send_lines(team, line, (size_t)snprintf(line, sizeof line, "team %d\n", size));
@@ -218,6 +317,8 @@ static void finish(struct team *team)
     memory_free_all(team);
     record_close(team->record);
     team->record = -1;
+    for (int number = 0; number < team->size; number++)
+        team->members[number].holds = 0;
     team->in_use = false;
     pthread_mutex_unlock(&team->lock);
 }
@@ -261,12 +362,15 @@ void team_give_back(struct team *team)
     pthread_mutex_unlock(&teams_lock);
 }
 
-// A new team of the same thread's.
-void team_renew(struct team *team)
+// Ends a team, and keeps its engine for the same thread's next one.
+void team_rest(struct team *team) { finish(team); }
+
+// A new team with the same engine, so with the locks that were made in it.
+void team_renew(struct team *team, int size)
 {
-    finish(team);
-    begin(team, 1);
-    team_join(team, 0);
+    if (team->in_use)
+        finish(team);
+    begin(team, size);
 }
 
 // The teams one after another, from the first one (after NULL); NULL at the end.

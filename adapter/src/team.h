@@ -4,6 +4,7 @@
 
 #include "call.h"
 #include "engine.h"
+#include "locks_made.h"
 
 #include <pthread.h>
 #include <semaphore.h>
@@ -12,7 +13,9 @@
 enum { MOST_MEMBERS = 64 };
 
 // What lets a member that waits go on.
-enum wait { WAIT_NOT = 0, WAIT_ARRIVAL = 1, WAIT_LEAVE = 2, WAIT_TURN = 4, WAIT_ANY = 7 };
+enum wait { WAIT_NOT = 0, WAIT_ARRIVAL = 1, WAIT_LEAVE = 2, WAIT_TURN = 4, WAIT_HOLD = 8, WAIT_ANY = 15 };
+
+enum { HOLDS_NOTED = 8 };
 
 struct member {
     pid_t thread;
@@ -20,8 +23,11 @@ struct member {
     struct call share;              // the start of the work-share that it is, or was last, in
     bool inside;                    // of that share
     unsigned long shares, barriers; // it has started and passed, in this region
+    int holds;                      // critical names and locks that it holds now
+    struct call held[HOLDS_NOTED];  // the calls that got the first of them
     enum wait wait;
-    struct reply reply; // to the call that it waited with
+    unsigned long since; // the number of its wait, among the team's
+    struct reply reply;  // to the call that it waited with
     sem_t answered;
 };
 
@@ -31,7 +37,9 @@ struct team {
     pthread_mutex_t lock; // of all that stands below
     struct engine *engine;
     int record, size, waiting;
-    unsigned long number; // of the team, from 1
+    unsigned long number;         // of the team, from 1
+    unsigned long waits;          // so many members have waited yet
+    struct locks_made locks_made; // by this engine, for all its teams
     struct memory *memories;
     struct team *next; // of those that are idle
     struct team *next_of_all;
@@ -41,7 +49,8 @@ struct team {
 
 struct team *team_take(int size);
 void team_give_back(struct team *team);
-void team_renew(struct team *team);
+void team_renew(struct team *team, int size);
+void team_rest(struct team *team);
 void team_join(struct team *team, int number);
 struct reply team_call(struct team *team, int number, const struct call *call);
 struct team *team_after(struct team *team);

@@ -2,6 +2,7 @@
 #pragma once
 #include <limits.h>
 #include <omp.h>
+#include <sched.h>
 #include <stdbool.h>
 #include <stdio.h>
 #include <stdlib.h>

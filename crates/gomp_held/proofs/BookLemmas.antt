@@ -1,5 +1,5 @@
 -- What a written name or lock leaves of a book, as the past with one more event says it.
-use Rattle.std.proofs.Common.{◌≡◌, ◌≢◌, ◌≤◌, ◌<◌, ◌∙◌, ◌+◌, ◌==◌, ℕ, Bool, true, false, List, [], ◌∷◌, ◌++◌, Option, Some, None, suc, zero, refl, ap, sym, subst, length, arith, slice_get, inl, inr}
+use Rattle.std.proofs.Common.{◌≡◌, ◌∙◌, ◌+◌, ◌==◌, ℕ, true, false, List, [], ◌∷◌, ◌++◌, Option, Some, None, suc, zero, refl, ap, sym, length, arith, slice_get, inl, inr}
 use Rattle.std.specs.Prelude.{slice_set, bytes_eq, option_map, is_some, not, IsSome}
 use Rattle.std.specs.Option.{option_flatten}
 use Rattle.std.specs.Ordering.{nat_cmp, is_eq}
@@ -18,14 +18,14 @@ use Rattle.gomp_types.specs.declared.task.Task.{Task}
 use Rattle.gomp_types.specs.declared.event.Event.{Event}
 use Rattle.gomp_types.specs.declared.event.Event.TheVariants.{Hold, Free}
 use Rattle.gomp_types.specs.declared.key.Key.{Key}
-use Rattle.gomp_types.specs.declared.key.Key.TheVariants.{Critical, Lock as LockKey, NestLock}
+use Rattle.gomp_types.specs.declared.key.Key.TheVariants.{Critical}
 use Rattle.gomp_types.specs.declared.lock.Held.{Held}
 use Rattle.gomp_types.specs.declared.lock.LockKind.{LockKind}
 use Rattle.gomp_types.specs.declared.lock.LockKind.TheVariants.{Simple, Nest}
 use Rattle.gomp_types.proofs.Booleans.{is_equal, unequal_numbers}
 use Rattle.gomp_types.proofs.Lists.{slice_get-set_same, slice_get-set_other}
 use Rattle.gomp_locks.specs.declared.lock.Lock.{Lock}
-use Rattle.gomp_locks.specs.Book.{BookView, name_at, name_owner, with_name, with_lock, lock_at, any_lock_at, held_of_kind, held_of_any_kind}
+use Rattle.gomp_locks.specs.Book.{BookView, name_at, with_name, with_lock, lock_at, any_lock_at, held_of_kind, held_of_any_kind}
 use Rattle.gomp_locks.specs.Holders.{same_key, key_of, holder, holding_owner, held_if_kind, found_lock, held_of_either, found_any_lock}
 use Rattle.gomp_locks.proofs.OwnerLemmas.{one_name, same_name, another_name}
 use Rattle.gomp_model.specs.Past.{Past}
@@ -42,8 +42,8 @@ kind_found Nest number h (Some (Some Simple)) = refl
 kind_found Simple number h (Some (Some Nest)) = refl
 kind_found Nest number h (Some (Some Nest)) = refl
 
-pub lock_is_found : (kind : LockKind) (number : ℕ) (book : BookView) (p : Past) → BookStands book p → lock_at kind number book ≡ found_lock kind number p.locks p.events
-lock_is_found kind number book p st = ap (held_of_kind kind) (st.locks number) ∙ kind_found kind number p.events (slice_get p.locks number)
+pub lock_found_in_past : (kind : LockKind) (number : ℕ) (book : BookView) (p : Past) → BookStands book p → lock_at kind number book ≡ found_lock kind number p.locks p.events
+lock_found_in_past kind number book p st = ap (held_of_kind kind) (st.locks number) ∙ kind_found kind number p.events (slice_get p.locks number)
 
 -- a lock of either
 either_found : (number : ℕ) (h : List Event) (place : Option (Option LockKind)) → held_of_any_kind (option_map (lock_held number h) place) ≡ held_of_either place number h
@@ -51,8 +51,8 @@ either_found number h None = refl
 either_found number h (Some None) = refl
 either_found number h (Some (Some kind)) = refl
 
-pub any_lock_is_found : (number : ℕ) (book : BookView) (p : Past) → BookStands book p → any_lock_at number book ≡ found_any_lock number p.locks p.events
-any_lock_is_found number book p st = ap held_of_any_kind (st.locks number) ∙ either_found number p.events (slice_get p.locks number)
+pub any_lock_found_in_past : (number : ℕ) (book : BookView) (p : Past) → BookStands book p → any_lock_at number book ≡ found_any_lock number p.locks p.events
+any_lock_found_in_past number book p st = ap held_of_any_kind (st.locks number) ∙ either_found number p.events (slice_get p.locks number)
 
 -- lists whose places are told by one another are of one length
 same_lengths : (made : ℕ → Option LockKind → Option Lock) (locks : List (Option Lock)) (kinds : List (Option LockKind)) → ((number : ℕ) → slice_get locks number ≡ option_map (made number) (slice_get kinds number)) → length locks ≡ length kinds
@@ -109,10 +109,10 @@ key_of_itself Simple number = grind (arith, nat_tests)
 key_of_itself Nest number = grind (arith, nat_tests)
 
 -- a place is as before if its lock is
-place_stays : (number : ℕ) (h now : List Event) → ((kind : LockKind) → holder (key_of kind number) now ≡ holder (key_of kind number) h) → (place : Option (Option LockKind)) → option_map (lock_held number h) place ≡ option_map (lock_held number now) place
-place_stays number h now same None = refl
-place_stays number h now same (Some None) = refl
-place_stays number h now same (Some (Some kind)) = ap (λ (held : Option Held). lock_of kind held) (sym (same kind))
+place_stays_held : (number : ℕ) (h now : List Event) → ((kind : LockKind) → holder (key_of kind number) now ≡ holder (key_of kind number) h) → (place : Option (Option LockKind)) → option_map (lock_held number h) place ≡ option_map (lock_held number now) place
+place_stays_held number h now same None = refl
+place_stays_held number h now same (Some None) = refl
+place_stays_held number h now same (Some (Some kind)) = ap (λ (held : Option Held). lock_of kind held) (sym (same kind))
   where
     lock_of : LockKind → Option Held → Option (Option Lock)
     lock_of kind held = Some (Some (record { kind = kind; held = held }))
@@ -120,9 +120,9 @@ place_stays number h now same (Some (Some kind)) = ap (λ (held : Option Held). 
 -- Names
 
 -- a name that is written is found
-pub written_name : {X : Type 0} (name : List ℕ) (value : X) (names : List (List ℕ × X)) → lookup (bytes_eq name) (insert_entry (slice_cmp nat_cmp) names name value) ≡ Some value
-written_name name value [] = rw (same_name name) refl
-written_name name value (entry ∷ names) = by_order (slice_cmp nat_cmp name entry.0) refl (written_name name value names)
+pub written_name_is_found : {X : Type 0} (name : List ℕ) (value : X) (names : List (List ℕ × X)) → lookup (bytes_eq name) (insert_entry (slice_cmp nat_cmp) names name value) ≡ Some value
+written_name_is_found name value [] = rw (same_name name) refl
+written_name_is_found name value (entry ∷ names) = by_order (slice_cmp nat_cmp name entry.0) refl (written_name_is_found name value names)
   where
     by_order : (o : Ordering) → slice_cmp nat_cmp name entry.0 ≡ o → lookup (bytes_eq name) (insert_entry (slice_cmp nat_cmp) names name value) ≡ Some value → lookup (bytes_eq name) (insert_entry (slice_cmp nat_cmp) (entry ∷ names) name value) ≡ Some value
     by_order Less e later = rw (e, same_name name) refl
@@ -132,7 +132,7 @@ written_name name value (entry ∷ names) = by_order (slice_cmp nat_cmp name ent
 -- a name that was known stays known
 pub known_stays : (name other : List ℕ) (value : Option Owner) (book : BookView) → IsSome (name_at other book) → IsSome (name_at other (with_name name value book))
 known_stays name other value book known = elim (cases_Bool (bytes_eq other name)) [
-  | inl same ↦ rw (one_name other name same, written_name name value book.names) refl
+  | inl same ↦ rw (one_name other name same, written_name_is_found name value book.names) refl
   | inr apart ↦ rw (another_name name other value book.names apart) known
 ]
 
@@ -140,10 +140,10 @@ pub name_written : (name : List ℕ) (owner : Option Owner) (book : BookView) (p
     BookStands (with_name name owner book) (record p { events = now })
 name_written name owner book p now st held only = record {
   names = λ other. elim (cases_Bool (bytes_eq other name)) [
-    | inl same ↦ rw (one_name other name same) (ap option_flatten (written_name name owner book.names) ∙ sym held)
+    | inl same ↦ rw (one_name other name same) (ap option_flatten (written_name_is_found name owner book.names) ∙ sym held)
     | inr apart ↦ ap option_flatten (another_name name other owner book.names apart) ∙ st.names other ∙ ap holding_owner (sym (only (Critical other) (turned other apart)))
   ];
-  locks = λ number. st.locks number ∙ place_stays number p.events now (λ kind. only (key_of kind number) (name_is_no_lock name kind number)) (slice_get p.locks number);
+  locks = λ number. st.locks number ∙ place_stays_held number p.events now (λ kind. only (key_of kind number) (name_is_no_lock name kind number)) (slice_get p.locks number);
   unmade = λ kind number le. only (key_of kind number) (name_is_no_lock name kind number) ∙ st.unmade kind number le;
 }
   where
@@ -166,7 +166,7 @@ lock_written kind number held book p now st at is only =
       locks = λ other. elim (cases_Bool (number == other)) [
         | inl e ↦ rw (← is_equal number other e) (slice_get-set_same book.locks number lock within ∙ ap (λ (h : Option Held). written h) (sym is) ∙ ap (option_map (lock_held number now)) (sym at))
         | inr e ↦ slice_get-set_other book.locks number other lock (λ same. unequal_numbers number other e (sym same)) ∙ st.locks other
-            ∙ place_stays other p.events now (λ k. only (key_of k other) (apart_numbers number other e kind k)) (slice_get p.locks other)
+            ∙ place_stays_held other p.events now (λ k. only (key_of k other) (apart_numbers number other e kind k)) (slice_get p.locks other)
       ];
       unmade = λ k other le. only (key_of k other) (apart_numbers number other (grind (arith, nat_tests, le, inside)) kind k) ∙ st.unmade k other le;
     }

@@ -6,11 +6,12 @@
 //! In a team of its own every owner has team 0. OpenMP API 5.2, sections 15.2 and 18.9.
 #![tactic(auto)]
 
-ghost use Rattle.std.specs.Prelude.{◌≡◌, ◌<◌, ◌↔◌, ℕ, Bool, true, Some, IsTrue};
+ghost use Rattle.std.specs.Prelude.{◌≡◌, ℕ, true, Some};
 ghost use Rattle.gomp_types.specs.Laws.{Always};
 ghost use Rattle.gomp_types.specs.Least.{least};
-ghost use Rattle.gomp_locks.specs.Book.{any_lock_at, names_held};
+ghost use Rattle.gomp_locks.specs.Book.{any_lock_at};
 ghost use Rattle.gomp_locks.specs.CriticalNames.{critical_tests};
+ghost use Rattle.gomp_locks.specs.Holders.{holds_critical};
 ghost use Rattle.gomp_locks.specs.HoldRules.{HoldRule};
 ghost use Rattle.gomp_locks.specs.Locks.{gone_tests};
 ghost use Rattle.gomp_model.specs.Past.{Past};
@@ -117,8 +118,8 @@ fn either_gone_refusal(book: &LockBook, number: u32) -> Option<Refusal>
 
 /// Why a task that holds a critical name may not meet a barrier or a work-share.
 fn critical_refusal(book: &LockBook, owner: Owner) -> Option<Refusal>
-    ensures { (holds : Bool) → (IsTrue holds ↔ (0 < names_held owner book.now.names)) →
-        result ≡ least (critical_tests holds) }
+    ensures { (p : Past) → BookStands book.now p → Always HoldRule p.events →
+        result ≡ least (critical_tests (holds_critical owner p.events)) }
 {
     if book.holds_critical(owner) {
         Some(Refusal::HoldsCritical)

@@ -34,8 +34,8 @@ same_places made back (lock ∷ locks) (kind ∷ kinds) each =
     rw (own, rest) refl
 
 -- the kinds of a book's locks are those of the locks of its past
-pub kinds_of_book : (book : BookView) (p : Past) → BookStands book p → kinds_of book.locks ≡ p.locks
-kinds_of_book book p is = same_places (λ number place. lock_held number p.events place) (λ number place. kind_of_held number p.events place) book.locks p.locks is.locks
+pub kinds_of_the_book : (book : BookView) (p : Past) → BookStands book p → kinds_of book.locks ≡ p.locks
+kinds_of_the_book book p is = same_places (λ number place. lock_held number p.events place) (λ number place. kind_of_held number p.events place) book.locks p.locks is.locks
 
 -- so the book of the team that stood has the locks so far
 pub locks_of_the_book : {S : Type 0} (stands : S → List Event → Type 0) (members : S → ℕ) (icv : Variables) (team : Option (TeamView S)) (made : Option Made) → TeamIs stands members icv team made → kinds_of (book_of team).locks ≡ locks_so_far icv made
@@ -43,5 +43,5 @@ locks_of_the_book stands members icv None None is = refl
 locks_of_the_book stands members icv None (Some made) is = absurd is
 locks_of_the_book stands members icv (Some team) None is = absurd is
 locks_of_the_book stands members icv (Some team) (Some made) is =
-    kinds_of_book team.book (past_of (terms_of team) made.run) is.stands_for.book_are
+    kinds_of_the_book team.book (past_of (terms_of team) made.run) is.stands_for.book_are
     ∙ ap (λ (terms : Terms). (past_of terms made.run).locks) (terms_are team made.size icv is.size_is is.icv_is is.limits_are)

@@ -1,16 +1,14 @@
 -- Each clause of the rule and of each law of names and locks by itself refuses an event after some others: one hold too many, a
 -- release by another, a pass too early. Only that clause refuses it, and it is computed; and what is allowed. OpenMP API 5.2,
 -- sections 15.2 and 18.9.
-use Rattle.std.proofs.Common.{◌≡◌, ℕ, ◌≤◌, true, false, List, [], ◌∷◌, None, refl, ap, arith}
+use Rattle.std.proofs.Common.{◌≡◌, ℕ, true, false, List, [], ◌∷◌, None, refl, ap, arith}
 use Rattle.gomp_types.specs.declared.task.Task.{Task}
 use Rattle.gomp_types.specs.declared.task.Task.TheVariants.{Implicit, Explicit}
 use Rattle.gomp_types.specs.declared.task.Owner.{Owner}
-use Rattle.gomp_types.specs.declared.key.Key.{Key}
 use Rattle.gomp_types.specs.declared.key.Key.TheVariants.{Critical, Lock, NestLock}
 use Rattle.gomp_types.specs.declared.event.Event.{Event}
 use Rattle.gomp_types.specs.declared.event.Event.TheVariants.{Hold, Free, Pass}
 use Rattle.gomp_types.specs.Laws.{Always}
-use Rattle.gomp_locks.specs.Holders.{is_nestable, task_number}
 use Rattle.gomp_locks.specs.HoldRules.{can_hold, HoldRule}
 use Rattle.gomp_locks.specs.HoldLaws.{holds_left, AtEachMoment, OneOwner, HeldOnce, FreesItsOwn, PassesFree}
 use Rattle.gomp_locks.proofs.BookExamples.{zero_owner, other_owner, task_owner}

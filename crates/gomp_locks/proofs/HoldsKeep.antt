@@ -168,14 +168,14 @@ count_of_times owner other count = by_count (count == 0) refl (same_owner other 
     by_count false e s same = rw e refl
 
 -- one hold more of what may be held
-left_more : (key : Key) (owner one : Owner) (left : ℕ) (found : Option Held) → can_hold key one found ≡ true → left ≡ count_for owner found →
+holds_left_more : (key : Key) (owner one : Owner) (left : ℕ) (found : Option Held) → can_hold key one found ≡ true → left ≡ count_for owner found →
     (if same_owner one owner then left + 1 else left) ≡ count_for owner (held_once_more one found)
-left_more key owner one left None may is = by_owner (same_owner one owner) refl
+holds_left_more key owner one left None may is = by_owner (same_owner one owner) refl
   where
     by_owner : (b : Bool) → same_owner one owner ≡ b → (if same_owner one owner then left + 1 else left) ≡ count_for owner (held_once_more one None)
     by_owner true e = rw (e, is) refl
     by_owner false e = rw (e, is) refl
-left_more key owner one left (Some held) may is = by_owner (same_owner one owner) refl
+holds_left_more key owner one left (Some held) may is = by_owner (same_owner one owner) refl
   where
     same : (same_owner held.owner owner) ≡ same_owner one owner
     same = ap (λ (other : Owner). same_owner other owner) (found_by_hold key one (Some held) may).0
@@ -185,10 +185,10 @@ left_more key owner one left (Some held) may is = by_owner (same_owner one owner
     by_owner false e = let none : left ≡ 0 = rw (same, e) at is in rw (same, e, none) refl
 
 -- one hold less of what is held
-left_less : (owner one : Owner) (left : ℕ) (found : Option Held) → held_by one found ≡ true → left ≡ count_for owner found →
+holds_left_less : (owner one : Owner) (left : ℕ) (found : Option Held) → held_by one found ≡ true → left ≡ count_for owner found →
     (if same_owner one owner then left - 1 else left) ≡ count_for owner (held_once_less found)
-left_less owner one left None may is = absurd (cc)
-left_less owner one left (Some held) may is = by_owner (same_owner one owner) refl ∙ sym (count_of_times owner held.owner (held.count - 1))
+holds_left_less owner one left None may is = absurd (cc)
+holds_left_less owner one left (Some held) may is = by_owner (same_owner one owner) refl ∙ sym (count_of_times owner held.owner (held.count - 1))
   where
     same : (same_owner held.owner owner) ≡ same_owner one owner
     same = ap (λ (other : Owner). same_owner other owner) (found_by_free one (Some held) may)
@@ -203,12 +203,12 @@ holds_left_is_count owner key [] all = refl
 holds_left_is_count owner key (Hold other m task ∷ earlier) all = by_key (same_key other key) refl (holds_left_is_count owner key earlier all.1)
   where
     by_key : (b : Bool) → same_key other key ≡ b → holds_left owner key earlier ≡ count_for owner (holder key earlier) → holds_left owner key (Hold other m task ∷ earlier) ≡ count_for owner (holder key (Hold other m task ∷ earlier))
-    by_key true e is = rw e (left_more key owner (owner_of m task) (holds_left owner key earlier) (holder key earlier) (hold_of_key key other m task earlier e all.0) is)
+    by_key true e is = rw e (holds_left_more key owner (owner_of m task) (holds_left owner key earlier) (holder key earlier) (hold_of_key key other m task earlier e all.0) is)
     by_key false e is = rw e is
 holds_left_is_count owner key (Free other m task ∷ earlier) all = by_key (same_key other key) refl (holds_left_is_count owner key earlier all.1)
   where
     by_key : (b : Bool) → same_key other key ≡ b → holds_left owner key earlier ≡ count_for owner (holder key earlier) → holds_left owner key (Free other m task ∷ earlier) ≡ count_for owner (holder key (Free other m task ∷ earlier))
-    by_key true e is = rw e (left_less owner (owner_of m task) (holds_left owner key earlier) (holder key earlier) (free_of_key key other m task earlier e all.0) is)
+    by_key true e is = rw e (holds_left_less owner (owner_of m task) (holds_left owner key earlier) (holder key earlier) (free_of_key key other m task earlier e all.0) is)
     by_key false e is = rw e is
 holds_left_is_count owner key (_ ∷ earlier) all = holds_left_is_count owner key earlier all.1
 

@@ -1,7 +1,7 @@
 -- The laws of critical names and locks: the page to read first. They speak of one call by one owner, its reply, and the book
--- before and after it (BookCalls). OpenMP API 5.2, sections 15.2 and 18.9.
+-- before and after it (BookCalls); the last section speaks of the events of a team. OpenMP API 5.2, sections 15.2 and 18.9.
 use Rattle.std.proofs.Common.{◌≡◌, ◌≤◌, ℕ, ◌+◌, ◌<◌, true, false, List, [], Option, Some, None, length}
-use Rattle.std.specs.Prelude.{slice_get, bytes_eq, ◌↔◌}
+use Rattle.std.specs.Prelude.{slice_get, bytes_eq, IsTrue, ◌↔◌}
 use Rattle.std.proofs.lemmas.List.{length_push}
 use Rattle.std.specs.Option.{option_flatten}
 use Rattle.std.specs.Ordering.{nat_cmp}
@@ -11,14 +11,25 @@ use Rattle.std.specs.Map.{lookup, keys_of}
 use Rattle.gomp_types.specs.declared.task.Owner.{Owner}
 use Rattle.gomp_types.specs.declared.lock.LockKind.{LockKind}
 use Rattle.gomp_types.specs.declared.lock.Held.{Held}
+use Rattle.gomp_types.specs.declared.key.Key.{Key}
+use Rattle.gomp_types.specs.declared.key.Key.TheVariants.{Critical}
+use Rattle.gomp_types.specs.declared.event.Event.{Event}
+use Rattle.gomp_types.specs.declared.event.Event.TheVariants.{Pass}
 use Rattle.gomp_types.specs.declared.reply.Reply.{Reply}
 use Rattle.gomp_types.specs.declared.reply.Reply.TheVariants.{Lock as LockMade}
+use Rattle.gomp_types.specs.Laws.{Always}
 use Rattle.gomp_types.specs.Owners.{same_owner}
+use Rattle.gomp_types.proofs.Always.{always_so}
 use Rattle.gomp_locks.specs.declared.lock.Lock.{Lock}
-use Rattle.gomp_locks.specs.Book.{BookView, name_owner, owned_by, names_held, open_holds}
+use Rattle.gomp_locks.specs.Book.{BookView, name_owner, owned_by, names_held, open_holds, held_by}
+use Rattle.gomp_locks.specs.Locks.{count_for}
+use Rattle.gomp_locks.specs.Holders.{asker, holder, holds_critical}
+use Rattle.gomp_locks.specs.HoldRules.{HoldRule}
+use Rattle.gomp_locks.specs.HoldLaws.{holds_left, AtEachMoment, OneOwner, HeldOnce, FreesItsOwn, PassesFree}
 use Rattle.gomp_locks.proofs.BookCalls.{BookCall, CallAnswered, after_call, holds_gained, holds_lost, IsInOrder, make_lock}
 use Rattle.gomp_locks.proofs.CallLemmas.{barred_stays, no_fewer_locks, another_owners_name}
 use Rattle.gomp_locks.proofs.CountLemmas.{some_are_held}
+use Rattle.gomp_locks.proofs.HoldsKeep.{name_is_held, critical_name_held, holds_left_is_count, one_owner_holds, held_once_holds, frees_its_own, passes_free_holds}
 use Rattle.gomp_locks.proofs.OpenHolds.{holds_move}
 use Rattle.gomp_locks.proofs.OrderLemmas.{new_in_order, call_keeps_order}
 use Rattle.gomp_locks.proofs.OwnerLemmas.{one_that_is_held}
@@ -74,3 +85,30 @@ calls_keep_order = call_keeps_order
 pub holder_of_names_holds_one : (owner : Owner) (names : List (List ℕ × Option Owner)) → IsStrictlySortedBy (slice_cmp nat_cmp) (keys_of names) →
     (0 < names_held owner names) ↔ ((name : List ℕ) × (owned_by owner (option_flatten (lookup (bytes_eq name) names)) ≡ true))
 holder_of_names_holds_one owner names sorted = (one_that_is_held owner names sorted, (λ held. some_are_held owner held.0 names sorted held.1))
+
+-- By events: what happened in a team says who holds what (specs/Holders.antt), if each hold and each release keeps the rule
+-- (specs/HoldRules.antt)
+
+-- a critical name, a simple lock and a nestable lock have one owner at each moment
+pub one_owner_at_each_moment : (h : List Event) → Always HoldRule h → AtEachMoment OneOwner h
+one_owner_at_each_moment = one_owner_holds
+
+-- a critical name and a simple lock are held at most once at each moment
+pub held_once_at_each_moment : (h : List Event) → Always HoldRule h → AtEachMoment HeldOnce h
+held_once_at_each_moment = held_once_holds
+
+-- each release is by the owner of an open hold
+pub each_frees_its_own : (h : List Event) → Always HoldRule h → Always FreesItsOwn h
+each_frees_its_own = always_so HoldRule FreesItsOwn frees_its_own
+
+-- a member that holds no critical name as it asks holds none in any of its tasks: so it may pass a barrier
+pub passes_without_names : (barrier m : ℕ) (earlier : List Event) → holds_critical (asker m earlier) earlier ≡ false → Always HoldRule earlier → PassesFree (Pass barrier m) earlier
+passes_without_names = passes_free_holds
+
+-- and it holds a critical name exactly if it is the holder of one
+pub holder_of_names_by_events : (owner : Owner) (h : List Event) → Always HoldRule h → IsTrue (holds_critical owner h) ↔ ((name : List ℕ) × (held_by owner (holder (Critical name) h) ≡ true))
+holder_of_names_by_events owner h all = (critical_name_held owner h all, (λ held. name_is_held owner held.0 h all held.1))
+
+-- an owner has as many open holds of a name or a lock as it is held by it
+pub open_holds_by_events : (owner : Owner) (key : Key) (h : List Event) → Always HoldRule h → holds_left owner key h ≡ count_for owner (holder key h)
+open_holds_by_events = holds_left_is_count

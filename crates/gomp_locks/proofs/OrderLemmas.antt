@@ -38,12 +38,12 @@ alone_in_order : {K : Type 0} (R : K → K → Ordering) (k : K) → IsStrictlyS
 unfolding IsStrictlySortedBy
 alone_in_order R k = (tt, tt)
 
-none_in_order : {K : Type 0} (R : K → K → Ordering) → IsStrictlySortedBy R []
+pub none_in_order : {K : Type 0} (R : K → K → Ordering) → IsStrictlySortedBy R []
 unfolding IsStrictlySortedBy
 none_in_order R = tt
 
 -- entries stay in order when one is put
-put_in_order : {K X : Type 0} (R : K → K → Ordering) → IsTotalOrder R → (k : K) (v : X) (entries : List (K × X)) → IsStrictlySortedBy R (keys_of entries) → IsStrictlySortedBy R (keys_of (insert_entry R entries k v))
+pub put_in_order : {K X : Type 0} (R : K → K → Ordering) → IsTotalOrder R → (k : K) (v : X) (entries : List (K × X)) → IsStrictlySortedBy R (keys_of entries) → IsStrictlySortedBy R (keys_of (insert_entry R entries k v))
 put_in_order R o k v [] sorted = alone_in_order R k
 put_in_order R o k v (entry ∷ entries) sorted = by_order (R k entry.0) refl (put_in_order R o k v entries (sorted_tail R entry.0 (keys_of entries) sorted))
   where

@@ -1,8 +1,9 @@
 //! The book of names and locks.
 
-ghost use Rattle.std.specs.Prelude.{◌≡◌, ◌<◌, ◌↔◌, [], IsTrue, map};
+ghost use Rattle.std.specs.Prelude.{◌≡◌, ◌<◌, ◌≤◌, ◌↔◌, [], IsTrue, true, List, ℕ, map, length};
 ghost use Rattle.std.specs.Option.{option_map};
-ghost use Rattle.gomp_locks.specs.Book.{names_held, unset_lock};
+ghost use Rattle.gomp_types.specs.declared.lock.TheConstants.{MAX_LOCKS};
+ghost use Rattle.gomp_locks.specs.Book.{names_held, name_owner, owned_by, unset_lock};
 
 use crate::critical::place_of;
 use crate::lock::Lock;
@@ -25,6 +26,10 @@ pub struct LockBook {
 
 impl Model for LockBook {
     ghost use Rattle.std.specs.Prelude.{◌≤◌, length, vec_capacity};
+    ghost use Rattle.std.specs.Ordering.{nat_cmp};
+    ghost use Rattle.std.specs.Cmp.Lexicographic.{slice_cmp};
+    ghost use Rattle.std.specs.List.Sorted.{IsStrictlySortedBy};
+    ghost use Rattle.std.specs.Map.{keys_of};
     ghost use Rattle.gomp_types.specs.declared.lock.TheConstants.{MAX_LOCKS};
     ghost use Rattle.gomp_locks.specs.Book.{BookView};
     ghost use Rattle.gomp_locks.specs.Counts.{AreHolders, AreHeldOnce};
@@ -33,7 +38,7 @@ impl Model for LockBook {
 
     ghost view = { λ book. record { names = book.names.entries; locks = book.locks.items } };
 
-    ghost invariant = { λ book. AreHolders book.holders.items book.names.entries (vec_capacity book.holders) × AreHeldOnce book.locks.items × (length book.locks.items ≤ MAX_LOCKS) };
+    ghost invariant = { λ book. AreHolders book.holders.items book.names.entries (vec_capacity book.holders) × AreHeldOnce book.locks.items × (length book.locks.items ≤ MAX_LOCKS) × IsStrictlySortedBy (slice_cmp nat_cmp) (keys_of book.names.entries) };
 }
 
 impl LockBook {
@@ -51,7 +56,9 @@ impl LockBook {
 
     /// Whether this owner holds a critical name.
     pub fn holds_critical(&self, owner: Owner) -> bool
-        ensures { IsTrue result ↔ (0 < names_held owner self.now.names) }
+        ensures held { IsTrue result ↔ (0 < names_held owner self.now.names) }
+        ensures name { IsTrue result ↔
+            ((name : List ℕ) × (owned_by owner (name_owner name self.now) ≡ true)) }
     {
         place_of(&self.holders, owner).is_some()
     }
@@ -60,6 +67,7 @@ impl LockBook {
     pub fn without_holds(self) -> LockBook
         ensures names { result.names ≡ [] }
         ensures locks { result.locks ≡ map (option_map unset_lock) self.locks }
+        ensures bound { length result.locks ≤ MAX_LOCKS }
     {
         let LockBook {
             mut names,

@@ -79,7 +79,8 @@ impl LockBook {
     /// task has set it now; else the answer is to wait. So this task has set it less than 65,535 times.
     pub fn take_nest(&mut self, owner: Owner, number: u32) -> Reply
         requires there { IsSome (lock_at Nest number self.old) }
-        requires room { count_for owner (option_flatten (lock_at Nest number self.old)) < MAX_COUNT }
+        requires room { count_for owner (option_flatten (lock_at Nest number self.old)) <
+            MAX_COUNT }
         ensures answer { SetsNest owner (lock_at Nest number self.old) result }
         ensures book { self.new ≡ after_set_nest owner number result self.old }
     {
@@ -95,7 +96,8 @@ impl LockBook {
     /// [`take_nest`](LockBook::take_nest), but the answer is 0 if another task holds the lock.
     pub fn try_nest(&mut self, owner: Owner, number: u32) -> Reply
         requires there { IsSome (lock_at Nest number self.old) }
-        requires room { count_for owner (option_flatten (lock_at Nest number self.old)) < MAX_COUNT }
+        requires room { count_for owner (option_flatten (lock_at Nest number self.old)) <
+            MAX_COUNT }
         ensures answer { TestsNest owner (lock_at Nest number self.old) result }
         ensures book { self.new ≡ after_test_nest owner number result self.old }
     {

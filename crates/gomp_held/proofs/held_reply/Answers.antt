@@ -1,9 +1,6 @@
-use Rattle.std.proofs.Common.{◌≡◌, ◌<◌, Bool, true, Some, refl, subst, ap, arith}
-use Rattle.std.specs.Prelude.{IsSome}
-use Rattle.gomp_types.specs.declared.call.Call.{Call}
+use Rattle.std.proofs.Common.{◌≡◌, true, Some, refl, arith}
 use Rattle.gomp_types.specs.declared.lock.LockKind.TheVariants.{Simple, Nest}
-use Rattle.gomp_model.specs.Calls.{row_of}
-use Rattle.gomp_held.specs.Stands.{IsFree, IsKnown}
+use Rattle.gomp_held.specs.Stands.{IsKnown}
 use Rattle.gomp_held.proofs.BookLemmas.{as_many_locks}
 use Rattle.gomp_held.proofs.Served.{served_by_start, served_by_end, made_room, served_by_init, served_by_destroy, served_by_set, served_by_test, served_by_unset, served_by_set_nest, served_by_test_nest, served_by_unset_nest}
 use Rattle.gomp_held.proofs.held_reply.Goals as goal

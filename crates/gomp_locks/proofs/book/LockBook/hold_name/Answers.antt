@@ -1,8 +1,11 @@
-use Rattle.std.proofs.Common.{◌≡◌, None, ap, length, arith}
+use Rattle.std.proofs.Common.{◌≡◌, None, Some, ap, length, arith}
 use Rattle.std.specs.Prelude.{bytes_eq}
 use Rattle.std.specs.Option.{option_flatten}
 use Rattle.std.specs.Map.{lookup}
 use Rattle.gomp_locks.proofs.CountLemmas.{holders_more, holders_room, holds_within}
+use Rattle.std.specs.Ordering.{nat_cmp}
+use Rattle.std.specs.Cmp.Lexicographic.{slice_cmp, nat_list_cmp_total}
+use Rattle.gomp_locks.proofs.OrderLemmas.{put_in_order}
 use Rattle.gomp_locks.proofs.book.LockBook.hold_name.Goals as goal
 
 pub put_name-requires-clause-fewer : goal.put_name-requires-clause-fewer
@@ -14,7 +17,7 @@ put_name-requires-clause-room c = c.self.invariant.0.fit
 pub invariant_of-self : goal.invariant_of-self
 invariant_of-self c =
     let are = c.self.invariant.0 in
-    (rw (c.put_name.ensures.holders, c.in_err-put_name.ensures.kept) (record { counted = are.counted; all = are.all; fit = rw c.in_err-put_name.ensures.kept at c.put_name.ensures.room }), c.self.invariant.1, c.self.invariant.2)
+    (rw (c.put_name.ensures.holders, c.in_err-put_name.ensures.kept) (record { counted = are.counted; all = are.all; fit = rw c.in_err-put_name.ensures.kept at c.put_name.ensures.room }), c.self.invariant.1, c.self.invariant.2, rw c.in_err-put_name.ensures.kept c.self.invariant.3)
 
 pub push_reserved-requires : goal.push_reserved-requires
 push_reserved-requires c =
@@ -29,4 +32,5 @@ invariant_of-self-2 c =
           (holders_more c.args.owner c.args.name.now c.self.inside.holders.items c.self.inside.names.entries _ _ c.self.invariant.0 c.put_name.ensures.ordered free (rw c.in_ok-put_name.ensures.put at c.put_name.ensures.room)),
       c.self.invariant.1,
       c.self.invariant.2,
+      rw c.in_ok-put_name.ensures.put (put_in_order (slice_cmp nat_cmp) nat_list_cmp_total c.args.name.now (Some c.args.owner) c.self.inside.names.entries c.self.invariant.3),
     )

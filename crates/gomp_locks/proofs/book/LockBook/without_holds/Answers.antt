@@ -7,6 +7,9 @@ use Rattle.std.proofs.lemmas.Option.{slice_get-map}
 use Rattle.gomp_locks.specs.declared.lock.Lock.{Lock}
 use Rattle.gomp_locks.specs.Book.{unset_lock}
 use Rattle.gomp_locks.specs.Counts.{AreHeldOnce, IsHeldOnce}
+use Rattle.std.specs.Ordering.{nat_cmp}
+use Rattle.std.specs.Cmp.Lexicographic.{slice_cmp}
+use Rattle.gomp_locks.proofs.OrderLemmas.{none_in_order}
 use Rattle.gomp_locks.proofs.book.LockBook.without_holds.Goals as goal
 
 -- a lock of the list is one that nobody holds
@@ -28,4 +31,4 @@ invariant_of-result c =
     let as_many = ap length c.unset_all.ensures ∙ length-map c.deref_mut.result.now (option_map unset_lock) ∙ c.deref_mut.ensures.len in
     let locks = written_over c.unset_all.new.locks (drop (length c.unset_all.new.locks) c.self.inside.locks.items) c.self.inside.locks.len as_many ∙ unset in
     let fewer = c.self.invariant.2 in
-    rw locks (rw (c.clear-2.ensures.items, c.clear.ensures.empty) (record { counted = λ owner. refl; all = refl; fit = omega arith }), are_held_once c.self.inside.locks.items, rw (length-map c.self.inside.locks.items (option_map unset_lock)) fewer)
+    rw locks (rw (c.clear-2.ensures.items, c.clear.ensures.empty) (record { counted = λ owner. refl; all = refl; fit = omega arith }), are_held_once c.self.inside.locks.items, rw (length-map c.self.inside.locks.items (option_map unset_lock)) fewer, rw c.clear.ensures.empty (none_in_order (slice_cmp nat_cmp)))

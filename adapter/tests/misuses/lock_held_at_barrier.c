@@ -1,4 +1,5 @@
-// omp_init_nest_lock: a lock that nests.
+// 75: a member comes to a barrier with a lock that the others wait for.
+// words: deadlock, #pragma omp barrier, omp_set_nest_lock of lock 0, holding lock 0
 #include "../check.h"
 
 int main(void) {
@@ -8,12 +9,10 @@ int main(void) {
 #pragma omp parallel
     {
         omp_set_nest_lock(&lock);
-        omp_set_nest_lock(&lock);
         count++;
-        omp_unset_nest_lock(&lock);
+#pragma omp barrier
         omp_unset_nest_lock(&lock);
     }
-    omp_destroy_nest_lock(&lock);
     CHECK(count == asked(), "%d", count);
     return told();
 }
