@@ -93,7 +93,7 @@ keeps_less_at_a_wait = (λ keeps. absurd (let waiting = ap (λ (team : TeamView 
 -- none of them makes a lock
 pub keeps_the_book : (Keeps one_waits other_book LoopNext (Refused InsideShare) → ⊥) × (Keeps one_waits other_book LoopNext (Refused Mismatch) → ⊥) × (Keeps one_waits other_book Resume Wait → ⊥)
 keeps_the_book = (
-  λ keeps. absurd (let book = ap (λ (team : TeamView ℕ). team.book) (keeps.refused InsideShare refl (λ is. absurd (cc))) in cc),
-  λ keeps. absurd (let book = ap (λ (team : TeamView ℕ). team.book) (keeps.broken refl) in cc),
-  λ keeps. absurd (let book = ap (λ (team : TeamView ℕ). team.book) (keeps.waits refl refl) in cc),
+  λ keeps. absurd (let locks = ap (λ (team : TeamView ℕ). team.book.locks) (keeps.refused InsideShare refl (λ is. absurd (cc))) in cc),
+  λ keeps. absurd (let locks = ap (λ (team : TeamView ℕ). team.book.locks) (keeps.broken refl) in cc),
+  λ keeps. absurd (let locks = ap (λ (team : TeamView ℕ). team.book.locks) (keeps.waits refl refl) in cc),
 )

@@ -36,7 +36,7 @@ pub memory_is_taken :
     × (OnlyTakersLack (made_by Barrier LockInit) (Refused NoMemory ∷ LockMade 0 ∷ []) → ⊥) × (OnlyTakersLack (made_by LockInit (LoopStart (loop_by Guided 4))) (LockMade 0 ∷ Refused NoMemory ∷ []) → ⊥)
     × (OnlyTakersLack (made_by LockInit (CriticalEnd [])) (LockMade 0 ∷ Refused NoMemory ∷ []) → ⊥)
 memory_is_taken = (
-  (λ lacks. (refl, refl), λ lacks. (refl, refl), tt),
+  (λ lacks. (refl, refl), (λ lacks. (refl, refl), tt)),
   λ only. absurd (let asks = (only.0 refl).1 in cc),
   λ only. absurd (let asks = (only.1.0 refl).1 in cc),
   λ only. absurd (let memory = (only.1.0 refl).0 in cc),

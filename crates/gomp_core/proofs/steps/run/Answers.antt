@@ -17,7 +17,7 @@ loop-step-init g c = record {
   members = c.in_ok-team.ensures.members;
   icv = c.in_ok-team.ensures.icv;
   limits = c.in_ok-team.ensures.limits;
-  memory = rw c.in-Ok.ensures.items tt;
+  memory = tt;
   stands = c.in_ok-team.ensures.stands;
 }
 

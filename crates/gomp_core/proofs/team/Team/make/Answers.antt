@@ -2,6 +2,7 @@ use Rattle.std.proofs.Common.{◌≡◌, ◌∙◌, ℕ, [], Option, None, lengt
 use Rattle.std.proofs.lemmas.List.{length-replicate}
 use Rattle.gomp_types.specs.Limits.{IsTeamSize}
 use Rattle.gomp_types.specs.declared.call.Call.{Call}
+use Rattle.gomp_locks.specs.Book.{BookView}
 use Rattle.gomp_model.specs.Past.{Terms}
 use Rattle.gomp_model.specs.Team.{past_of, Caused}
 use Rattle.gomp_parts.proofs.Words.{none_stand}
@@ -22,7 +23,7 @@ returns-clause-stands g c = λ before begins.
       shares_are = rw quiet c.in_ok-make-2.ensures.stands;
       barriers_are = rw quiet c.in_ok-make.ensures.stands;
       payloads_are = rw quiet (none_stand (length c.in_ok-no_waits.field-0.items) c.new.result c.new.ensures);
-      book_are = ?;
+      book_are = subst (λ (book : BookView). BookStands book (past_of own before)) (sym c.book.view_is) (subst (λ (t : Terms). BookStands c.args.book (past_of t before)) terms begins.book_are);
       names_known = λ m. rw (nobody m) tt;
       broken_is = rw quiet refl;
       wait = λ m waiting at. nobody m ∙ nobody_waits c.in_ok-no_waits.field-0.items c.args.count m waiting c.in_ok-no_waits.ensures at;
@@ -33,4 +34,7 @@ returns-clause-stands g c = λ before begins.
     }
 
 pub invariant_of-result : goal.invariant_of-result
-invariant_of-result g c = ?
+invariant_of-result g c = c.book.invariant
+
+pub invariant_of-result-2 : goal.invariant_of-result-2
+invariant_of-result-2 g c = let (before, begins) = c.requires.known in (before, returns-clause-stands g c before begins)

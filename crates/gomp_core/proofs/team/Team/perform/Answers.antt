@@ -3,7 +3,9 @@ use Rattle.std.specs.Result.{result_err}
 use Rattle.std.proofs.lemmas.Option.{slice_get_read}
 use Rattle.gomp_types.specs.declared.call.Step.{Step}
 use Rattle.gomp_types.specs.declared.event.Event.TheVariants.{Break}
+use Rattle.gomp_types.specs.declared.refusal.Refusal.{Refusal}
 use Rattle.gomp_types.specs.declared.refusal.Refusal.TheVariants.{Mismatch, NoMemory}
+use Rattle.gomp_types.specs.declared.reply.Reply.TheVariants.{Refused}
 use Rattle.gomp_model.specs.Calls.{row_of}
 use Rattle.gomp_model.specs.Team.{Record, call_meant, is_resume, row_at, refusal_of, MayAnswer}
 use Rattle.gomp_parts.specs.Answers.{StartsShare}
@@ -156,7 +158,7 @@ returns-in-Ok-clause-keeps g c =
       icv = search rules;
       limits = search rules;
       refused = λ refusal same differ.
-          let lacks : c.team_reply-reply.result ≡ Refused NoMemory = same ∙ ap Refused (c.team_reply-reply.ensures.refusal refusal same) in
+          let lacks : c.team_reply-reply.result ≡ Refused NoMemory = same ∙ ap (λ (r : Refusal). Refused r) (c.team_reply-reply.ensures.refusal refusal same) in
           rw (set_twice c.self.inside.waiting.items c.args.member c.take-waiting.new.self c.wait_after.result, c.wait_after.ensures, c.broken_after-self-inside.ensures)
           (lacks_memory (team_of g c) c.team_reply-reply.new.shares c.team_reply-reply.new.barriers c.team_reply-reply.new.payloads c.team_reply-reply.new.book (step_of g c) c.take-waiting.result c.team_reply-reply.result k.at (c.team_reply-reply.ensures.lacks lacks) lacks ∙ same_as g c);
       broken = λ same. absurd (let other = c.team_reply-reply.ensures.refusal Mismatch same in cc);
