@@ -1,6 +1,5 @@
 -- What `ompteam steps` writes for a text, and with which status it ends. (own)
-use Rattle.std.specs.Prelude.{ℕ, ◌≡◌, ◌&&◌, nat_le, if◌then◌else◌, Bool, true, false, List, [], Result, Ok, Err, length, flat_map, string_bytes}
-use Rattle.std.specs.List.{list_any}
+use Rattle.std.specs.Prelude.{ℕ, ◌≡◌, ◌&&◌, nat_le, if◌then◌else◌, Bool, true, false, List, [], ◌∷◌, Result, Ok, Err, length, flat_map, string_bytes}
 use Rattle.gomp_types.specs.declared.limits.TheConstants.{MAX_MEMBERS}
 use Rattle.gomp_types.specs.declared.call.Step.{Step}
 use Rattle.gomp_types.specs.declared.reply.Reply.{Reply}
@@ -26,7 +25,8 @@ lacks _ = false
 
 -- the exit status after these replies: 3 if one of them is want of memory
 abbrev pub status_of : List Reply → ℕ
-status_of replies = if list_any lacks replies then 3 else 0
+status_of [] = 0
+status_of (reply ∷ replies) = if lacks reply then 3 else status_of replies
 
 -- the replies of a new team of this size, by these control variables, to the steps, one for each, a line for each; only calls that take memory may find none
 pub record Replied (icv : Variables) (count : ℕ) (steps : List Step) (text : List ℕ) (code : ℕ) : Type 0 where

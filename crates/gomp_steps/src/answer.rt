@@ -60,7 +60,12 @@ pub fn team_size(count: u32) -> u16
 fn status_of(replies: &[Reply]) -> u8
     ensures { result ≡ status_of replies.now }
 {
-    if replies.iter().any(lacks) { 3 } else { 0 }
+    for reply in replies {
+        if lacks(reply) {
+            return 3;
+        }
+    }
+    0
 }
 
 /// Whether a reply is want of memory.

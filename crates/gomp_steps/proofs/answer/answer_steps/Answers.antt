@@ -19,7 +19,7 @@ returns-in-Ok-run c =
       caused = c.in-Ok-run.ensures.caused;
       memory = c.in-Ok-run.ensures.memory;
       text_is = c.in_ok-print_replies-in-Ok-run.ensures.lines ∙ ap (flat_map reply_line) c.as_slice.ensures.value;
-      code_is = c.status_of.ensures ∙ ap status_of c.as_slice-2.ensures.value;
+      code_is = c.status_of.ensures ∙ ap status_of c.as_slice-in-Ok-run.ensures.value;
     })
 
 pub returns-in-Err-Bad : goal.returns-in-Err-Bad
