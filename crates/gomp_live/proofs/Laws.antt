@@ -19,8 +19,8 @@ use Rattle.gomp_live.proofs.InputLemmas.{appends_nothing, input_begins, input_st
 abbrev HasCauses : Variables → Option Made → Type 0
 HasCauses icv team = IfSome team (λ made. Caused (standard_terms made.size icv) made.run)
 
-team_keeps_causes : (icv : Variables) (is_team : Bool) (count : ℕ) (stood : Option Made) (answer : List ℕ) (stands : Option Made) → TeamAnswered is_team count stood answer stands → HasCauses icv stood → HasCauses icv stands
-team_keeps_causes icv true count stood answer stands answered had = subst (HasCauses icv) (sym answered.1) tt
+team_keeps_causes : (icv : Variables) (is_team : Bool) (count : ℕ) (stood : Option Made) (answer : List ℕ) (stands : Option Made) → TeamAnswered icv is_team count stood answer stands → HasCauses icv stood → HasCauses icv stands
+team_keeps_causes icv true count stood answer stands answered had = subst (HasCauses icv) (sym answered.stands_is) answered.caused
 team_keeps_causes icv false count stood answer stands answered had = subst (HasCauses icv) (sym answered.1) had
 
 line_keeps_causes : (icv : Variables) (number : ℕ) (stood : Option Made) (read : Result (Option LiveLine) Why) (answer : List ℕ) (stands : Option Made) → LineAnswered icv number stood read answer stands → HasCauses icv stood → HasCauses icv stands

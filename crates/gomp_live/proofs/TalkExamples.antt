@@ -1,31 +1,42 @@
 -- A talk, line by line: for each line of a definition an answer that it alone refuses.
-use Rattle.std.proofs.Common.{◌≡◌, ◌≢◌, ◌∙◌, ℕ, true, false, List, [], ◌∷◌, ◌++◌, Option, Some, None, refl, ap}
+use Rattle.std.proofs.Common.{◌≡◌, ◌∙◌, ℕ, true, false, List, [], ◌∷◌, ◌++◌, Option, Some, None, refl, ap}
 use Rattle.std.specs.Prelude.{IfSome, map, codes}
 use Rattle.std.specs.Io.KnownBytes.{Appends}
 use Rattle.gomp_types.specs.declared.call.Step.{Step}
 use Rattle.gomp_types.specs.declared.reply.Reply.{Reply}
 use Rattle.gomp_types.specs.declared.reply.Reply.TheVariants.{Refused}
 use Rattle.gomp_types.specs.declared.refusal.Refusal.TheVariants.{BadTeam, NoMemory}
-use Rattle.gomp_model.specs.Team.{MayAnswer, past_of}
-use Rattle.gomp_icv.specs.Variables.{Variables}
-use Rattle.gomp_core.specs.Stands.{standard_terms}
+use Rattle.gomp_types.specs.declared.lock.LockKind.TheVariants.{Simple, Nest}
+use Rattle.gomp_model.specs.Calls.{row_of}
+use Rattle.gomp_model.specs.Team.{MayAnswer, Caused, past_of}
+use Rattle.gomp_icv.specs.Variables.{Variables, initial}
+use Rattle.gomp_core.specs.LocksMade.{locks_made}
+use Rattle.gomp_core.specs.Stands.{standard_terms, TakesMemory}
 use Rattle.gomp_core.specs.Resolved.{resolved_step}
 use Rattle.gomp_script.specs.declared.parse.Why.TheVariants.{FirstLine}
 use Rattle.gomp_script.specs.Printing.{reply_line, bad_line_text, refusal_line}
-use Rattle.gomp_live.specs.Talk.{Made, TeamAnswered, StepAnswered, NextStepAnswered, Answers, next_number, Talked}
+use Rattle.gomp_live.specs.Talk.{Made, locks_so_far, begun_with, TeamAnswered, StepAnswered, NextStepAnswered, Answers, next_number, Talked}
 use Rattle.gomp_live.specs.Input.{input_lines, in_order}
 use Rattle.gomp_live.specs.Serving.{LinesAnswered, ServesLive}
 use Rattle.gomp_steps.specs.declared.serve.Ending.TheVariants as ending
 
 -- Answers
 
--- of a size that may be a new team stands, of which nothing was asked
-pub new_team_stands : (stood : Option Made) (answer : List ℕ) (stands : Option Made) → TeamAnswered true 2 stood answer stands → (answer ≡ codes "ok\n") × (stands ≡ Some (record { size = 2; run = [] }))
-new_team_stands stood answer stands answered = answered
+-- of a size that may be a new team stands, in which the locks that there were are made, and nothing else was asked
+pub new_team_stands : (icv : Variables) (stood : Option Made) (answer : List ℕ) (stands : Option Made) → TeamAnswered icv true 2 stood answer stands →
+    (answer ≡ codes "ok\n") × Caused (standard_terms 2 icv) (locks_made (locks_so_far icv stood)) × (stands ≡ Some (begun_with 2 (locks_so_far icv stood)))
+new_team_stands icv stood answer stands answered = (answered.answer_is, answered.caused, answered.stands_is)
+
+-- the first team has no lock, the second those of the first, the destroyed one too
+pub locks_handed_on :
+    (locks_so_far initial None ≡ [])
+    × (locks_so_far initial (Some (begun_with 1 (Some Simple ∷ None ∷ Some Nest ∷ []))) ≡ Some Simple ∷ None ∷ Some Nest ∷ [])
+    × (begun_with 2 [] ≡ record { size = 2; run = [] })
+locks_handed_on = (refl, refl, refl)
 
 -- of another the team that stood is left
-pub old_team_stays : (stood : Option Made) (answer : List ℕ) (stands : Option Made) → TeamAnswered false 65 stood answer stands → (answer ≡ refusal_line BadTeam) × (stands ≡ stood)
-old_team_stays stood answer stands answered = answered
+pub old_team_stays : (icv : Variables) (stood : Option Made) (answer : List ℕ) (stands : Option Made) → TeamAnswered icv false 65 stood answer stands → (answer ≡ refusal_line BadTeam) × (stands ≡ stood)
+old_team_stays icv stood answer stands answered = answered
 
 -- no step is answered before the first team
 pub no_step_without_a_team : (icv : Variables) (step : Step) (answer : List ℕ) (stands : Option Made) → NextStepAnswered icv None step answer stands → ⊥
@@ -41,7 +52,7 @@ comment_is_skipped icv stood answer stands answered = answered
 
 -- what the answer to a step is
 pub step_answered_has : (icv : Variables) (made : Made) (step : Step) (answer : List ℕ) (stands : Option Made) → NextStepAnswered icv (Some made) step answer stands →
-    (reply : Reply) × MayAnswer (past_of (standard_terms made.size icv) made.run) (resolved_step icv step) reply × (reply ≢ Refused NoMemory)
+    (reply : Reply) × MayAnswer (past_of (standard_terms made.size icv) made.run) (resolved_step icv step) reply × (reply ≡ Refused NoMemory → TakesMemory (row_of step.call))
     × (answer ≡ reply_line reply) × (stands ≡ Some (record made { run = (resolved_step icv step, reply) ∷ made.run }))
 step_answered_has icv made step answer stands answered = (answered.reply, answered.caused, answered.memory, answered.answer_is, answered.stands_is)
 
