@@ -17,12 +17,11 @@ use Rattle.gomp_locks.specs.Book.{BookView}
 use Rattle.gomp_locks.specs.Holders.{key_of, holder, holding_owner}
 use Rattle.gomp_model.specs.Past.{Past}
 use Rattle.gomp_model.specs.Row.{Row, begun_past, MayReply, given_after, events_after, locks_after}
-use Rattle.gomp_model.specs.CriticalNames.{is_held, is_freed, held_once, freed_once}
+use Rattle.gomp_model.specs.CriticalNames.{held_once, freed_once}
 use Rattle.gomp_model.specs.Calls.{row_of}
 use Rattle.gomp_laws.proofs.Sound.{Gives, gives_of, IsLast}
 use Rattle.gomp_laws.proofs.CallsKeep.{step_keeps}
 use Rattle.gomp_laws.proofs.Calls.{row_is_sound}
-use Rattle.gomp_parts.proofs.Answered.{events_given}
 use Rattle.gomp_held.specs.Stands.{lock_held, BookStands, IsKnown, MayGive, past_given}
 
 -- The past after a reply
