@@ -2,7 +2,7 @@
 use Rattle.std.proofs.Common.{◌≡◌, ℕ, Bool, true, false, List, ◌∷◌, ◌++◌, Option, Some, None, refl, ap, ◌∙◌, sym, subst}
 use Rattle.std.specs.Prelude.{slice_get, option_map}
 use Rattle.gomp_types.specs.declared.call.Call.{Call}
-use Rattle.gomp_types.specs.declared.call.Call.TheVariants.{CriticalStart, CriticalEnd, LockInit, NestInit, LockDestroy, Set, Test as TestLock, Unset, SetNest, TestNest, UnsetNest}
+use Rattle.gomp_types.specs.declared.call.Call.TheVariants.{Stop}
 use Rattle.gomp_types.specs.declared.key.Key.{Key}
 use Rattle.gomp_types.specs.declared.key.Key.TheVariants.{Critical}
 use Rattle.gomp_types.specs.declared.lock.LockKind.{LockKind}
@@ -17,12 +17,11 @@ use Rattle.gomp_locks.specs.Book.{BookView}
 use Rattle.gomp_locks.specs.Holders.{key_of, holder, holding_owner}
 use Rattle.gomp_model.specs.Past.{Past}
 use Rattle.gomp_model.specs.Row.{Row, begun_past, MayReply, given_after, events_after, locks_after}
-use Rattle.gomp_model.specs.CriticalNames.{is_held, is_freed, held_once, freed_once}
+use Rattle.gomp_model.specs.CriticalNames.{held_once, freed_once}
 use Rattle.gomp_model.specs.Calls.{row_of}
 use Rattle.gomp_laws.proofs.Sound.{Gives, gives_of, IsLast}
 use Rattle.gomp_laws.proofs.CallsKeep.{step_keeps}
 use Rattle.gomp_laws.proofs.Calls.{row_is_sound}
-use Rattle.gomp_parts.proofs.Answered.{events_given}
 use Rattle.gomp_held.specs.Stands.{lock_held, BookStands, IsKnown, MayGive, past_given}
 
 -- The past after a reply
@@ -70,21 +69,12 @@ book_moved book p q same locks st = record {
 -- A call of the parts
 
 pub holds_nothing : (call : Call) → (row_of call).asks_book ≡ false → (row_of call).holds ≡ None
-holds_nothing (CriticalStart name) aside = absurd (cc)
-holds_nothing (CriticalEnd name) aside = absurd (cc)
-holds_nothing (Set number) aside = absurd (cc)
-holds_nothing (TestLock number) aside = absurd (cc)
-holds_nothing (Unset number) aside = absurd (cc)
-holds_nothing (SetNest number) aside = absurd (cc)
-holds_nothing (TestNest number) aside = absurd (cc)
-holds_nothing (UnsetNest number) aside = absurd (cc)
-holds_nothing _ aside = refl
+holds_nothing Stop aside = refl
+holds_nothing _ aside = cc
 
 makes_nothing : (call : Call) (reply : Reply) (locks : List (Option LockKind)) → (row_of call).asks_book ≡ false → (row_of call).locks reply locks ≡ locks
-makes_nothing LockInit reply locks aside = absurd (cc)
-makes_nothing NestInit reply locks aside = absurd (cc)
-makes_nothing (LockDestroy number) reply locks aside = absurd (cc)
-makes_nothing _ reply locks aside = refl
+makes_nothing Stop reply locks aside = refl
+makes_nothing _ reply locks aside = cc
 
 last_holds_none : (can : Gives) (m : ℕ) (reply : Reply) (event : Event) (key : Key) (h now : List Event) → can.holds ≡ None → IsLast can m reply event → holder key now ≡ holder key h → holder key (event ∷ now) ≡ holder key h
 last_holds_none can m reply (Hold other n task) key h now none by same = absurd (let holds = by.1 in cc)
@@ -124,18 +114,8 @@ freed_aside P keeps true key m h holds = (keeps h key m _ holds).1
 freed_aside P keeps false key m h holds = holds
 
 given_aside : (P : List Event → Type 0) → KeepsHolds P → (call : Call) (repeated : Bool) (m : ℕ) (p : Past) (reply : Reply) → (row_of call).asks_book ≡ true → P p.events → P (given_after (row_of call) repeated m p reply)
-given_aside P keeps (CriticalStart name) repeated m p reply asks holds = held_aside P keeps (is_held reply) _ m p.events holds
-given_aside P keeps (CriticalEnd name) repeated m p reply asks holds = freed_aside P keeps (is_freed reply) _ m p.events holds
-given_aside P keeps LockInit repeated m p reply asks holds = holds
-given_aside P keeps NestInit repeated m p reply asks holds = holds
-given_aside P keeps (LockDestroy number) repeated m p reply asks holds = holds
-given_aside P keeps (Set number) repeated m p reply asks holds = held_aside P keeps (is_held reply) _ m p.events holds
-given_aside P keeps (TestLock number) repeated m p reply asks holds = held_aside P keeps (is_held reply) _ m p.events holds
-given_aside P keeps (Unset number) repeated m p reply asks holds = freed_aside P keeps (is_freed reply) _ m p.events holds
-given_aside P keeps (SetNest number) repeated m p reply asks holds = held_aside P keeps (is_held reply) _ m p.events holds
-given_aside P keeps (TestNest number) repeated m p reply asks holds = held_aside P keeps (is_held reply) _ m p.events holds
-given_aside P keeps (UnsetNest number) repeated m p reply asks holds = freed_aside P keeps (is_freed reply) _ m p.events holds
-given_aside P keeps _ repeated m p reply asks holds = absurd (cc)
+given_aside P keeps Stop repeated m p reply asks holds = absurd (cc)
+given_aside P keeps _ repeated m p reply asks holds = first_of (cc, search (held_aside P keeps, freed_aside P keeps, holds))
 
 pub book_leaves_parts : (P : List Event → Type 0) → KeepsHolds P → (call : Call) (repeated : Bool) (m : ℕ) (p : Past) (reply : Reply) → (row_of call).asks_book ≡ true → P p.events → P (past_given (row_of call) repeated m p reply).events
 book_leaves_parts P keeps call repeated m p (Refused refusal) asks holds = holds

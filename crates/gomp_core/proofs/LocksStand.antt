@@ -4,7 +4,7 @@ use Rattle.std.specs.Prelude.{nat_le, ◌==◌, if◌then◌else◌, option_map,
 use Rattle.std.proofs.lemmas.Bool.Decides.{nat_tests}
 use Rattle.std.proofs.lemmas.List.{length-map, append-nil}
 use Rattle.std.proofs.lemmas.Option.{slice_get-map}
-use Rattle.gomp_types.specs.declared.call.Call.TheVariants.{LockInit, NestInit, LockDestroy}
+use Rattle.gomp_types.specs.declared.call.Call.TheVariants.{LockDestroy}
 use Rattle.gomp_types.specs.declared.lock.TheConstants.{MAX_LOCKS}
 use Rattle.gomp_types.specs.declared.lock.LockKind.{LockKind}
 use Rattle.gomp_types.specs.declared.lock.LockKind.TheVariants.{Simple, Nest}

@@ -24,7 +24,7 @@ use Rattle.gomp_types.proofs.Booleans.{is_equal}
 use Rattle.gomp_locks.specs.Book.{BookView}
 use Rattle.gomp_locks.specs.Holders.{holder}
 use Rattle.gomp_model.specs.Past.{Terms, Past}
-use Rattle.gomp_model.specs.Row.{Row, place_tests, book_tests, row_tests, MayReply, given_after, refusal_gives, events_after, locks_after}
+use Rattle.gomp_model.specs.Row.{row_tests, MayReply, given_after, refusal_gives}
 use Rattle.gomp_model.specs.Calls.{row_of}
 use Rattle.gomp_model.specs.Team.{Record, record_after, call_meant, is_resume, row_at, broken_tests, refusal_of, MayAnswer, wait_after, past_of, Caused}
 use Rattle.gomp_barrier.specs.Stands.{BarriersView, Stands as BarriersStand, members_of as barrier_members}

@@ -24,8 +24,7 @@ use Rattle.gomp_locks.specs.HoldRules.{HoldRule}
 use Rattle.gomp_laws.proofs.Sound.{shows}
 use Rattle.gomp_laws.proofs.TeamShares.{hold_rules}
 use Rattle.gomp_laws.proofs.Known.{Pending, known_of, same_terms, unrefused_step_passes, unrefused_step_is_ready}
-use Rattle.gomp_parts.specs.Answers.{in_place, IsReady}
-use Rattle.gomp_held.specs.Stands.{IsFree}
+use Rattle.gomp_parts.specs.Answers.{in_place}
 use Rattle.gomp_core.specs.Replies.{IsAdmitted}
 use Rattle.gomp_core.proofs.Refused.{bad_member}
 

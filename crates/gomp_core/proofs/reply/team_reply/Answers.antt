@@ -1,6 +1,5 @@
-use Rattle.std.proofs.Common.{◌≡◌, ◌∙◌, ℕ, true, false, ◌∷◌, List, refl, sym, subst, inl, inr}
+use Rattle.std.proofs.Common.{◌≡◌, ◌∙◌, true, false, refl, sym, subst, inl, inr}
 use Rattle.std.proofs.lemmas.Bool.{cases_Bool}
-use Rattle.gomp_types.specs.declared.event.Event.{Event}
 use Rattle.gomp_types.specs.declared.event.Event.TheVariants.{Hold, Free}
 use Rattle.gomp_types.specs.declared.refusal.Refusal.TheVariants.{NoMemory}
 use Rattle.gomp_barrier.specs.Stands.{Stands as BarriersStand}
@@ -94,17 +93,17 @@ returns-else-asks_book-clause-repeated g c = λ repeated wait. (c.answer.ensures
 pub returns-else-asks_book-clause-lacks : goal.returns-else-asks_book-clause-lacks
 returns-else-asks_book-clause-lacks g c = λ lacks.
     let (p, all, admitted) = c.requires.admitted in
-    absurd (reply_refused_not c.args.call.now c.args.repeated c.args.member p c.answer.result NoMemory (c.answer.ensures.answer p all.0 admitted.0) lacks)
+    elim (reply_refused_not c.args.call.now c.args.repeated c.args.member p c.answer.result NoMemory (c.answer.ensures.answer p all.0 admitted.0) lacks) [ ]
 
 pub returns-else-asks_book-clause-memory : goal.returns-else-asks_book-clause-memory
 returns-else-asks_book-clause-memory g c = λ lacks.
     let (p, all, admitted) = c.requires.admitted in
-    absurd (reply_refused_not c.args.call.now c.args.repeated c.args.member p c.answer.result NoMemory (c.answer.ensures.answer p all.0 admitted.0) lacks)
+    elim (reply_refused_not c.args.call.now c.args.repeated c.args.member p c.answer.result NoMemory (c.answer.ensures.answer p all.0 admitted.0) lacks) [ ]
 
 pub returns-else-asks_book-clause-refusal : goal.returns-else-asks_book-clause-refusal
 returns-else-asks_book-clause-refusal g c = λ refusal same.
     let (p, all, admitted) = c.requires.admitted in
-    absurd (reply_refused_not c.args.call.now c.args.repeated c.args.member p c.answer.result refusal (c.answer.ensures.answer p all.0 admitted.0) same)
+    elim (reply_refused_not c.args.call.now c.args.repeated c.args.member p c.answer.result refusal (c.answer.ensures.answer p all.0 admitted.0) same) [ ]
 
 pub returns-else-asks_book-clause-stops : goal.returns-else-asks_book-clause-stops
 returns-else-asks_book-clause-stops g c = c.answer.ensures.stops

@@ -9,7 +9,7 @@ use Rattle.gomp_types.specs.declared.reply.Reply.TheVariants.{Refused}
 use Rattle.gomp_model.specs.Calls.{row_of}
 use Rattle.gomp_model.specs.Team.{Record, call_meant, is_resume, row_at, refusal_of, MayAnswer}
 use Rattle.gomp_parts.specs.Answers.{StartsShare}
-use Rattle.gomp_held.specs.Stands.{IsKnown, MayGive, past_given}
+use Rattle.gomp_held.specs.Stands.{MayGive, past_given}
 use Rattle.gomp_core.specs.Replies.{IsAdmitted, AllStand}
 use Rattle.gomp_parts.specs.Payloads.{PayloadsStand}
 use Rattle.gomp_core.specs.Stands.{TeamView, Stands, past, terms_of}
@@ -161,7 +161,7 @@ returns-in-Ok-clause-keeps g c =
           let lacks : c.team_reply-reply.result ≡ Refused NoMemory = same ∙ ap (λ (r : Refusal). Refused r) (c.team_reply-reply.ensures.refusal refusal same) in
           rw (set_twice c.self.inside.waiting.items c.args.member c.take-waiting.new.self c.wait_after.result, c.wait_after.ensures, c.broken_after-self-inside.ensures)
           (lacks_memory (team_of g c) c.team_reply-reply.new.shares c.team_reply-reply.new.barriers c.team_reply-reply.new.payloads c.team_reply-reply.new.book (step_of g c) c.take-waiting.result c.team_reply-reply.result k.at (c.team_reply-reply.ensures.lacks lacks) lacks ∙ same_as g c);
-      broken = λ same. absurd (let other = c.team_reply-reply.ensures.refusal Mismatch same in cc);
+      broken = λ same. let other = c.team_reply-reply.ensures.refusal Mismatch same in cc;
       waits = λ wait resume.
           let kept = c.team_reply-reply.ensures.repeated (c.is_resume.ensures ∙ ap is_resume resume) wait in
           rw (set_twice c.self.inside.waiting.items c.args.member c.take-waiting.new.self c.wait_after.result, c.wait_after.ensures, c.broken_after-self-inside.ensures)
