@@ -38,8 +38,8 @@ pub fn team_reply<S: Shares>(
     requires member { member < S.members shares.old }
     requires starts { StartsShare (row_of call.now) (S.seen shares.old member) starts.now }
     requires team { barrier_members barriers.old ≡ S.members shares.old }
-    requires admitted { SomeAdmitted S.stands S.members shares.old barriers.old payloads.old book.old
-        (row_of call.now) repeated member }
+    requires admitted { SomeAdmitted S.stands S.members shares.old barriers.old payloads.old
+        book.old (row_of call.now) repeated member }
     requires known { repeated ≡ true → IsKnown book.old (Some call.now) }
     ensures members { S.members shares.new ≡ S.members shares.old }
     ensures barriers { barrier_members barriers.new ≡ barrier_members barriers.old }
@@ -57,9 +57,8 @@ pub fn team_reply<S: Shares>(
         (row_of call.now) repeated member
         (λ p. MayGive (row_of call.now) repeated member p result) }
     ensures stands { EachAdmitted S.stands S.members shares.old barriers.old payloads.old book.old
-        (row_of call.now) repeated member
-        (λ p. AllStand S.stands (S.members shares.old) shares.new barriers.new payloads.new book.new
-        (past_given (row_of call.now) repeated member p result)) }
+        (row_of call.now) repeated member (λ p. AllStand S.stands (S.members shares.old) shares.new
+        barriers.new payloads.new book.new (past_given (row_of call.now) repeated member p result)) }
     ensures names { NamesStay book.old book.new }
     ensures waits { result ≡ Wait → IsKnown book.new (Some call.now) }
 {

@@ -83,8 +83,8 @@ waiting_reply book row repeated m serves known = record {
 }
 
 -- want of memory
-lacks_memory : (book : BookView) (row : Row) (repeated : Bool) (m : ℕ) → row.memory ≡ true → (repeated ≡ true → ⊥) → ((name : List ℕ) → row.holds ≡ Some (Critical name) → name_at name book ≡ None) → HeldReply book book row repeated m (Refused NoMemory)
-lacks_memory book row repeated m memory first new = record {
+lacking_reply : (book : BookView) (row : Row) (repeated : Bool) (m : ℕ) → row.memory ≡ true → (repeated ≡ true → ⊥) → ((name : List ℕ) → row.holds ≡ Some (Critical name) → name_at name book ≡ None) → HeldReply book book row repeated m (Refused NoMemory)
+lacking_reply book row repeated m memory first new = record {
   serves = λ p st free. (memory, st);
   refusal = λ refusal e. cc;
   once = λ again e. first again;
@@ -214,7 +214,7 @@ entry_of_a_name_waits name repeated m book may some =
 pub served_by_start : (name : List ℕ) (repeated : Bool) (m : ℕ) (book : BookView) (reply : Reply) → (repeated ≡ true → IsSome (name_at name book)) → AnswersOrLacks [] (EntersCritical (name_owner name book)) reply → (reply ≡ Refused NoMemory → name_at name book ≡ None) →
     HeldReply book (after_critical_start (own m) name reply book) (critical_start_row name) repeated m reply
 served_by_start name repeated m book (Refused NoMemory) known answer lacks =
-    lacks_memory book (critical_start_row name) repeated m refl (λ again. let is = rw (lacks refl) at (known again) in cc) (λ other same. subst (λ (n : List ℕ). name_at n book ≡ None) (same_critical name other same) (lacks refl))
+    lacking_reply book (critical_start_row name) repeated m refl (λ again. let is = rw (lacks refl) at (known again) in cc) (λ other same. subst (λ (n : List ℕ). name_at n book ≡ None) (same_critical name other same) (lacks refl))
 served_by_start name repeated m book (Refused _) known answer lacks = absurd (cc)
 served_by_start name repeated m book reply known answer lacks =
     elim (enters_only (name_owner name book) reply answer.1) [
@@ -251,7 +251,7 @@ init_serves kind repeated m book = λ p st is. (as_many_locks book p st, lock_ma
 
 pub served_by_init : (kind : LockKind) (repeated : Bool) (m : ℕ) (book : BookView) (reply : Reply) → (p : Past) → IsFree repeated (init_row kind) m p → AnswersOrLacks [] (MakesLock (length book.locks)) reply → HeldReply book (after_init kind reply book) (init_row kind) repeated m reply
 served_by_init kind repeated m book (Refused NoMemory) p is answer =
-    lacks_memory book (init_row kind) repeated m refl (λ again. never_repeated (init_row kind) m p (subst (λ (b : Bool). IsFree b (init_row kind) m p) again is) (λ q may. may)) (λ name same. absurd (cc))
+    lacking_reply book (init_row kind) repeated m refl (λ again. never_repeated (init_row kind) m p (subst (λ (b : Bool). IsFree b (init_row kind) m p) again is) (λ q may. may)) (λ name same. absurd (cc))
 served_by_init kind repeated m book (Refused _) p is answer = absurd (cc)
 served_by_init kind repeated m book reply p is answer =
     subst (λ (r : Reply). HeldReply book (after_init kind r book) (init_row kind) repeated m r) (sym (makes_only (length book.locks) reply answer.1))

@@ -253,11 +253,11 @@ pub none_given_by_stop : given Stop (Finished ∷ Passed ∷ no_finish) ++ given
 none_given_by_stop = refl
 
 -- a member that does not get a name or a lock holds nothing, and one that is answered as another call neither
-pub none_held :
+pub none_held_or_freed :
     given (CriticalStart name_a) (Passed ∷ Stopped ∷ Wait ∷ GotLock false ∷ Count 0 ∷ LockMade 0 ∷ share_answers) ++ given (Set 0) (Passed ∷ Stopped ∷ Wait ∷ GotLock false ∷ Count 0 ∷ LockMade 0 ∷ share_answers)
     ++ given (TestLock 0) (Wait ∷ GotLock false ∷ Count 0 ∷ LockMade 0 ∷ share_answers)
     ++ given (SetNest 1) (Wait ∷ GotLock false ∷ Count 0 ∷ LockMade 0 ∷ share_answers) ++ given (TestNest 1) (Wait ∷ GotLock false ∷ Count 0 ∷ LockMade 0 ∷ share_answers) ≡ []
-none_held = refl
+none_held_or_freed = refl
 
 -- nor does such an answer free any
 pub none_freed :
