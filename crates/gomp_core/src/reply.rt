@@ -9,9 +9,9 @@ ghost use Rattle.gomp_types.specs.declared.reply.Reply.TheVariants.{Wait, Stoppe
 ghost use Rattle.gomp_model.specs.Calls.{row_of};
 ghost use Rattle.gomp_barrier.specs.Stands.{members_of as barrier_members};
 ghost use Rattle.gomp_parts.specs.Answers.{StartsShare};
-ghost use Rattle.gomp_held.specs.Stands.{IsKnown, MayGive, past_given};
+ghost use Rattle.gomp_held.specs.Stands.{IsKnown, MayGive};
 ghost use Rattle.gomp_core.specs.Stands.{TakesMemory};
-ghost use Rattle.gomp_core.specs.Replies.{AllStand, AreAllKept, SomeAdmitted, EachAdmitted, NamesStay};
+ghost use Rattle.gomp_core.specs.Replies.{AllStandAfter, AreAllKept, SomeAdmitted, EachAdmitted, NamesStay};
 
 use gomp_barrier::Barriers;
 use gomp_held::held_reply;
@@ -57,8 +57,8 @@ pub fn team_reply<S: Shares>(
         (row_of call.now) repeated member
         (λ p. MayGive (row_of call.now) repeated member p result) }
     ensures stands { EachAdmitted S.stands S.members shares.old barriers.old payloads.old book.old
-        (row_of call.now) repeated member (λ p. AllStand S.stands (S.members shares.old) shares.new
-        barriers.new payloads.new book.new (past_given (row_of call.now) repeated member p result)) }
+        (row_of call.now) repeated member (AllStandAfter S.stands (S.members shares.old)
+        shares.new barriers.new payloads.new book.new (row_of call.now) repeated member result) }
     ensures names { NamesStay book.old book.new }
     ensures waits { result ≡ Wait → IsKnown book.new (Some call.now) }
 {
