@@ -1,10 +1,11 @@
 -- The number with which the program ends is 0, 1, 2 or 3.
 use Rattle.std.proofs.Common.{◌≡◌, ◌≤◌, ℕ, Bool, true, false, List, [], ◌∷◌, Option, Some, None, ap, arith}
-use Rattle.std.specs.Prelude.{Result, Ok, Err}
+use Rattle.std.specs.Prelude.{Result, Ok, Err, if◌then◌else◌}
 use Rattle.clap.specs.Words.{Kinds, Text}
 use Rattle.clap.specs.declared.error.kind.ErrorKind.{ErrorKind}
 use Rattle.gomp_types.specs.declared.call.Step.{Step}
 use Rattle.gomp_types.specs.declared.refusal.Refusal.{Refusal}
+use Rattle.gomp_types.specs.declared.reply.Reply.{Reply}
 use Rattle.gomp_icv.specs.Variables.{Variables}
 use Rattle.gomp_script.specs.declared.parse.BadLine.{BadLine}
 use Rattle.gomp_script.specs.StepText.{steps_of}
@@ -13,15 +14,23 @@ use Rattle.gomp_command.specs.Settings.{first_without, read_settings}
 use Rattle.gomp_command.specs.declared.command.Service.{Service}
 use Rattle.gomp_command.specs.declared.command.Service.TheVariants.{Steps, Live}
 use Rattle.gomp_serve.specs.Ends.{Ends, EndsWithRead, IsFault, IsStatus, IsErrorReport, ServesBy}
-use Rattle.gomp_steps.specs.Output.{AnswerTo, Runs, is_size}
+use Rattle.gomp_steps.specs.Output.{AnswerTo, Runs, is_size, lacks, status_of}
 use Rattle.gomp_steps.specs.declared.notes.Notes.{Notes}
 use Rattle.gomp_steps.specs.declared.notes.Notes.TheVariants as notes
 use Rattle.gomp_steps.specs.declared.notes.Status.{Status}
 use Rattle.gomp_steps.specs.declared.serve.Ending.{Ending}
 use Rattle.gomp_steps.specs.declared.serve.Ending.TheVariants as ending
 
+replies_number : (replies : List Reply) → status_of replies ≤ 3
+replies_number [] = omega arith
+replies_number (reply ∷ replies) = by_first (lacks reply) (replies_number replies)
+  where
+    by_first : (b : Bool) → status_of replies ≤ 3 → (if b then 3 else status_of replies) ≤ 3
+    by_first true rest = omega arith
+    by_first false rest = rest
+
 runs_number : (icv : Variables) (fits : Bool) (count : ℕ) (steps : List Step) (text : List ℕ) (code : ℕ) → Runs icv fits count steps text code → code ≤ 3
-runs_number icv true count steps text code runs = let is = runs.code_is in omega (arith, is)
+runs_number icv true count steps text code runs = let is = runs.code_is in let small = replies_number runs.replies in omega (arith, is, small)
 runs_number icv false count steps text code runs = let is = runs.1 in omega (arith, is)
 
 answer_number : (icv : Variables) (read : Result (ℕ × List Step) BadLine) (text : List ℕ) (code : ℕ) → AnswerTo icv read text code → code ≤ 3
