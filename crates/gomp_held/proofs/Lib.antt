@@ -1,3 +1,4 @@
 pub mod BookLemmas
 pub mod HolderLemmas
 pub mod Served
+pub mod StandsExamples

@@ -1,0 +1,167 @@
+-- Which book stands for which past, which replies may be given and what they leave, computed: for each clause what it alone refuses. (own)
+use Rattle.std.proofs.Common.{◌≡◌, ◌==◌, ℕ, Bool, true, false, List, [], ◌∷◌, Option, Some, None, suc, zero, refl, ap, sym, subst, arith, inl, inr}
+use Rattle.std.specs.Prelude.{◌≤◌, slice_get, option_map, bytes_eq}
+use Rattle.std.specs.Option.{option_flatten}
+use Rattle.std.proofs.lemmas.Bool.{cases_Bool}
+use Rattle.std.proofs.lemmas.Bool.Decides.{nat_tests}
+use Rattle.gomp_types.specs.declared.task.Owner.{Owner}
+use Rattle.gomp_types.specs.declared.call.Call.TheVariants.{CriticalStart, Set}
+use Rattle.gomp_types.specs.declared.key.Key.TheVariants.{Critical, Lock, NestLock}
+use Rattle.gomp_types.specs.declared.event.Event.{Event}
+use Rattle.gomp_types.specs.declared.lock.LockKind.{LockKind}
+use Rattle.gomp_types.specs.declared.lock.LockKind.TheVariants.{Simple, Nest}
+use Rattle.gomp_types.specs.declared.refusal.Refusal.TheVariants.{NoMemory, AlreadyHeld}
+use Rattle.gomp_types.specs.declared.reply.Reply.TheVariants.{Finished, Wait, Lock as LockMade, Refused}
+use Rattle.gomp_locks.specs.declared.lock.Lock.{Lock as LockKept}
+use Rattle.gomp_locks.specs.Book.{BookView, name_owner, same_lock_kind, holds_of_lock}
+use Rattle.gomp_locks.specs.Holders.{key_of, holder, holding_owner}
+use Rattle.gomp_locks.proofs.OwnerLemmas.{one_name}
+use Rattle.gomp_locks.proofs.BookExamples.{zero_owner, other_owner}
+use Rattle.gomp_locks.proofs.HolderExamples.{short_name, other_name, hold_by, held_so, after_events}
+use Rattle.gomp_model.specs.Past.{Past}
+use Rattle.gomp_model.specs.CriticalNames.{critical_start_row}
+use Rattle.gomp_model.specs.Locks.{init_row, set_row, destroy_row}
+use Rattle.gomp_held.specs.Stands.{lock_held, BookStands, IsKnown, MayGive, past_given}
+
+-- member 0 holds the name 'a', and member 1 has set nestable lock 1 twice
+abbrev in_use : List Event
+in_use = after_events (hold_by 0 (Critical short_name) ∷ hold_by 1 (NestLock 1) ∷ hold_by 1 (NestLock 1) ∷ [])
+
+-- the past of a team of two with these events and locks
+abbrev past_so : List Event → List (Option LockKind) → Past
+past_so h kinds = record {
+  terms = record { members = 2; limits = record { shares = 131064; tasks = 1048576; events = 16777216 }; cancellation = false };
+  events = h;
+  waits = λ m. None;
+  locks = kinds;
+}
+
+-- lock 0 is simple, lock 1 nestable, and lock 2 was destroyed
+abbrev past_in_use : Past
+past_in_use = past_so in_use (Some Simple ∷ Some Nest ∷ None ∷ [])
+
+-- the book that is so
+abbrev book_in_use : BookView
+book_in_use = record {
+  names = (short_name, Some zero_owner) ∷ [];
+  locks = Some (record { kind = Simple; held = None }) ∷ Some (record { kind = Nest; held = held_so other_owner 2 }) ∷ None ∷ [];
+}
+
+-- a lock of a place as these events hold it: free, set twice, destroyed
+pub locks_as_held :
+    (lock_held 0 in_use (Some Simple) ≡ Some (record { kind = Simple; held = None })) × (lock_held 1 in_use (Some Nest) ≡ Some (record { kind = Nest; held = held_so other_owner 2 }))
+    × (lock_held 1 in_use (Some Simple) ≡ Some (record { kind = Simple; held = None })) × (lock_held 1 in_use None ≡ None)
+locks_as_held = (refl, refl, refl, refl)
+
+-- the number of the member that owns a name
+abbrev member_of_owner : Option Owner → ℕ
+member_of_owner None = 0
+member_of_owner (Some owner) = owner.member
+
+-- whether a nestable lock stands in a place, and how often a lock there is held
+abbrev is_nest_lock : Option (Option LockKept) → Bool
+is_nest_lock (Some (Some lock)) = same_lock_kind lock.kind Nest
+is_nest_lock _ = false
+
+abbrev held_count : Option (Option LockKept) → ℕ
+held_count place = holds_of_lock (option_flatten place)
+
+-- The names of a book that stands have their owners
+
+pub owned_by_another : BookStands (record book_in_use { names = (short_name, Some other_owner) ∷ [] }) past_in_use → ⊥
+owned_by_another stands = absurd (let owner : 1 ≡ 0 = ap member_of_owner (stands.names short_name) in omega (arith, owner))
+
+pub held_name_free : BookStands (record book_in_use { names = (short_name, None) ∷ [] }) past_in_use → ⊥
+held_name_free stands = absurd (let owner = stands.names short_name in cc)
+
+pub other_name_held : BookStands (record book_in_use { names = (short_name, Some zero_owner) ∷ (other_name, Some zero_owner) ∷ [] }) past_in_use → ⊥
+other_name_held stands = absurd (let owner = stands.names other_name in cc)
+
+-- Its locks are there, each of its kind and held so
+
+abbrev with_locks : List (Option LockKept) → BookView
+with_locks locks = record book_in_use { locks = locks }
+
+pub lock_is_missing : BookStands (with_locks (Some (record { kind = Simple; held = None }) ∷ Some (record { kind = Nest; held = held_so other_owner 2 }) ∷ [])) past_in_use → ⊥
+lock_is_missing stands = absurd (let lock = stands.locks 2 in cc)
+
+pub lock_is_destroyed : BookStands (with_locks (None ∷ Some (record { kind = Nest; held = held_so other_owner 2 }) ∷ None ∷ [])) past_in_use → ⊥
+lock_is_destroyed stands = absurd (let lock = stands.locks 0 in cc)
+
+pub lock_too_many : BookStands (with_locks (Some (record { kind = Simple; held = None }) ∷ Some (record { kind = Nest; held = held_so other_owner 2 }) ∷ None ∷ None ∷ [])) past_in_use → ⊥
+lock_too_many stands = absurd (let lock = stands.locks 3 in cc)
+
+pub lock_of_wrong_kind : BookStands (with_locks (Some (record { kind = Nest; held = None }) ∷ Some (record { kind = Nest; held = held_so other_owner 2 }) ∷ None ∷ [])) past_in_use → ⊥
+lock_of_wrong_kind stands = absurd (let kind : true ≡ false = ap is_nest_lock (stands.locks 0) in cc)
+
+pub count_off_by_one : BookStands (with_locks (Some (record { kind = Simple; held = None }) ∷ Some (record { kind = Nest; held = held_so other_owner 1 }) ∷ None ∷ [])) past_in_use → ⊥
+count_off_by_one stands = absurd (let count : 1 ≡ 2 = ap held_count (stands.locks 1) in omega (arith, count))
+
+-- Nobody holds a lock that was not made
+
+pub held_lock_unmade : BookStands (record { names = []; locks = [] }) (past_so (after_events (hold_by 0 (Lock 3) ∷ [])) []) → ⊥
+held_lock_unmade stands = absurd (let none = stands.unmade Simple 3 (omega arith) in cc)
+
+pub held_nest_unmade : BookStands (record { names = []; locks = Some (record { kind = Simple; held = None }) ∷ [] }) (past_so (after_events (hold_by 0 (NestLock 1) ∷ [])) (Some Simple ∷ [])) → ⊥
+held_nest_unmade stands = absurd (let none = stands.unmade Nest 1 (omega arith) in cc)
+
+-- All this holds of the book that is so
+
+-- 'a' has its owner, and no other name has one
+is_one_name : (name : List ℕ) → name_owner name book_in_use ≡ holding_owner (holder (Critical name) in_use)
+is_one_name name = elim (cases_Bool (bytes_eq name short_name)) [
+    | inl e ↦ rw (one_name name short_name e) refl
+    | inr e ↦ elim (cases_Bool (bytes_eq short_name name)) [
+        | inl other ↦ absurd (let no : true ≡ false = subst (λ (n : List ℕ). bytes_eq n short_name ≡ false) (sym (one_name short_name name other)) e in cc)
+        | inr other ↦ rw (e, other) refl
+      ]
+  ]
+
+places_in_use : (number : ℕ) → slice_get book_in_use.locks number ≡ option_map (lock_held number in_use) (slice_get past_in_use.locks number)
+places_in_use zero = refl
+places_in_use (suc zero) = refl
+places_in_use (suc (suc zero)) = refl
+places_in_use (suc (suc (suc number))) = refl
+
+unmade_in_use : (kind : LockKind) (number : ℕ) → 3 ≤ number → holder (key_of kind number) in_use ≡ None
+unmade_in_use Simple number more = refl
+unmade_in_use Nest number more = let other : (1 == number) ≡ false = grind (arith, nat_tests, more) in rw other refl
+
+pub book_stands_in_use : BookStands book_in_use past_in_use
+book_stands_in_use = record { names = is_one_name; locks = places_in_use; unmade = unmade_in_use }
+
+-- What a call that waits waits for is known
+
+pub nothing_to_know : IsKnown book_in_use None × IsKnown book_in_use (Some (Set 7))
+nothing_to_know = (tt, λ name same. absurd (cc))
+
+pub unknown_name : IsKnown book_in_use (Some (CriticalStart other_name)) → ⊥
+unknown_name known = absurd (let is = known other_name refl in cc)
+
+-- Want of memory is a reply where a call may find none, and there alone
+
+pub held_call_may_lack_memory : MayGive (critical_start_row other_name) false 1 past_in_use (Refused NoMemory) × MayGive (init_row Nest) false 1 past_in_use (Refused NoMemory)
+held_call_may_lack_memory = (refl, refl)
+
+pub held_call_never_lacks_memory : MayGive (set_row 0) false 1 past_in_use (Refused NoMemory) → ⊥
+held_call_never_lacks_memory may = absurd (cc)
+
+-- another reply is one that the row has: a held name is waited for, and no free one is
+pub replies_of_rows :
+    MayGive (critical_start_row short_name) false 1 past_in_use Wait × MayGive (critical_start_row other_name) false 1 past_in_use Finished
+    × (MayGive (critical_start_row short_name) false 1 past_in_use Finished → ⊥) × (MayGive (set_row 0) false 1 past_in_use (Refused AlreadyHeld) → ⊥)
+replies_of_rows = (tt, tt, λ may. may, λ may. may)
+
+-- A refusal leaves the past, and another reply its events and locks
+
+pub past_left_by_refusal : past_given (critical_start_row other_name) false 1 past_in_use (Refused NoMemory) ≡ past_in_use
+past_left_by_refusal = refl
+
+pub lock_set_after_call : past_given (set_row 0) false 1 past_in_use Finished ≡ record past_in_use { events = hold_by 1 (Lock 0) ∷ in_use }
+lock_set_after_call = refl
+
+pub lock_made_after_call : past_given (init_row Nest) false 1 past_in_use (LockMade 3) ≡ record past_in_use { locks = Some Simple ∷ Some Nest ∷ None ∷ Some Nest ∷ [] }
+lock_made_after_call = refl
+
+pub lock_gone_after_call : past_given (destroy_row 0) false 1 past_in_use Finished ≡ record past_in_use { locks = None ∷ Some Nest ∷ None ∷ [] }
+lock_gone_after_call = refl
