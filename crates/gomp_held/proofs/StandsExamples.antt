@@ -110,12 +110,12 @@ held_nest_unmade stands = absurd (let none = stands.unmade Nest 1 (omega arith) 
 -- 'a' has its owner, and no other name has one
 is_one_name : (name : List ℕ) → name_owner name book_in_use ≡ holding_owner (holder (Critical name) in_use)
 is_one_name name = elim (cases_Bool (bytes_eq name short_name)) [
-    | inl e ↦ rw (one_name name short_name e) refl
-    | inr e ↦ elim (cases_Bool (bytes_eq short_name name)) [
-        | inl other ↦ absurd (let no : true ≡ false = subst (λ (n : List ℕ). bytes_eq n short_name ≡ false) (sym (one_name short_name name other)) e in cc)
-        | inr other ↦ rw (e, other) refl
-      ]
+  | inl e ↦ rw (one_name name short_name e) refl
+  | inr e ↦ elim (cases_Bool (bytes_eq short_name name)) [
+    | inl other ↦ absurd (let no : true ≡ false = subst (λ (n : List ℕ). bytes_eq n short_name ≡ false) (sym (one_name short_name name other)) e in cc)
+    | inr other ↦ rw (e, other) refl
   ]
+]
 
 places_in_use : (number : ℕ) → slice_get book_in_use.locks number ≡ option_map (lock_held number in_use) (slice_get past_in_use.locks number)
 places_in_use zero = refl

@@ -273,10 +273,10 @@ set_nest_sound number = held_row_sound (NestLock number) (set_nest_row number) (
       let found = lock_is_found Nest number p ready.missing in
       let sets = subst (λ (f : Option (Option Held)). SetsNest (asker m p.events) f reply) found may in
       let below : nat_le MAX_COUNT (count_for (asker m p.events) (holder (NestLock number) p.events)) ≡ false =
-          elim (cases_Bool repeated) [
-            | inl e ↦ rw (apart_counts_none m p.events (holder (NestLock number) p.events) ((ready.lasting e).1 (NestLock number) refl)) refl
-            | inr e ↦ count_is_below (asker m p.events) (holder (NestLock number) p.events) (found_lock Nest number p.locks p.events) found (ready.team e)
-          ] in
+      elim (cases_Bool repeated) [
+        | inl e ↦ rw (apart_counts_none m p.events (holder (NestLock number) p.events) ((ready.lasting e).1 (NestLock number) refl)) refl
+        | inr e ↦ count_is_below (asker m p.events) (holder (NestLock number) p.events) (found_lock Nest number p.locks p.events) found (ready.team e)
+      ] in
       hold_keeps p.terms.members m (NestLock number) (is_held reply) p.events ready.member (nest_set_may number (asker m p.events) (holder (NestLock number) p.events) reply below sets) all;
   apart = λ repeated m p ready tasks may.
       let differ = subst (λ (f : Option (Option Held)). SetsNest (asker m p.events) f Wait) (lock_is_found Nest number p ready.missing) may in

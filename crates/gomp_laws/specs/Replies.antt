@@ -1,5 +1,5 @@
 -- What holds of the replies to calls on names and locks, beside the laws of the events. OpenMP API 5.2, sections 15.2 and 18.9.
-use Rattle.std.specs.Prelude.{ℕ, ◌<◌, ◌≡◌, false, List, [], ◌∷◌, Some}
+use Rattle.std.specs.Prelude.{◌<◌, ◌≡◌, false, [], ◌∷◌, Some}
 use Rattle.gomp_types.specs.declared.call.Step.{Step}
 use Rattle.gomp_types.specs.declared.key.Key.{Key}
 use Rattle.gomp_types.specs.declared.reply.Reply.{Reply}
