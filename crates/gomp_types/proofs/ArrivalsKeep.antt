@@ -1,13 +1,14 @@
 -- Arrivals that keep their rule keep their laws.
 use Rattle.std.proofs.Common.{◌≡◌, ℕ, List, [], ◌∷◌, Some, refl, ap, inl, inr}
-use Rattle.std.specs.Prelude.{◌&&◌, ◌==◌, is_some}
+use Rattle.std.specs.Prelude.{◌&&◌, ◌||◌, ◌==◌, not, is_some, true}
 use Rattle.std.proofs.lemmas.Bool.{cases_Bool}
 use Rattle.gomp_types.specs.declared.event.Tag.{Tag}
 use Rattle.gomp_types.specs.declared.event.Event.{Event}
 use Rattle.gomp_types.specs.declared.event.Event.TheVariants.{Arrive, Pass}
-use Rattle.gomp_types.specs.Events.{arrival, tag_at}
+use Rattle.gomp_types.specs.Events.{barriers_passed, arrival, tag_at, all_arrived, at_region_end}
+use Rattle.gomp_types.specs.Goals.{bound_complete, barrier_met, region_met}
 use Rattle.gomp_types.specs.Laws.{Always, Happened}
-use Rattle.gomp_types.specs.Arrivals.{ArrivalRule, BarriersOneByOne, SameArrivals, PassesAfterAll, ArrivalLaws}
+use Rattle.gomp_types.specs.Arrivals.{MayPass, ArrivalRule, BarriersOneByOne, SameArrivals, PassesAfterAll, ArrivalLaws}
 use Rattle.gomp_types.proofs.Booleans.{which_branch, is_equal, same_number, and_left, and_right, some_of, every_tells}
 use Rattle.gomp_types.proofs.Always.{always_so}
 
@@ -50,9 +51,14 @@ arrival_stands g m tag (Arrive barrier member other ∷ earlier) at =
     ]
 arrival_stands g m tag (_ ∷ earlier) at = inr (arrival_stands g m tag earlier at)
 
+-- who passes a barrier has met it
+pub passed_met : (members barrier m : ℕ) (h : List Event) → MayPass members barrier m h → barrier_met members barrier h ≡ true
+passed_met members barrier m h rule = rw rule.number (and_left (barrier_met members (barriers_passed m h) h) (not (at_region_end m h) || region_met members h) rule.met)
+
 pub passes_after_all : (members : ℕ) (event : Event) (earlier : List Event) → ArrivalRule members event earlier → Always (ArrivalRule members) earlier → PassesAfterAll members event earlier
 passes_after_all members (Pass barrier m) earlier rule all = λ x lt.
-    let found = some_of (arrival barrier x earlier) (every_tells members (λ y. is_some (arrival barrier y earlier)) x rule.met lt) in
+    let met = and_left (all_arrived members barrier earlier) (bound_complete barrier earlier) (passed_met members barrier m earlier rule) in
+    let found = some_of (arrival barrier x earlier) (every_tells members (λ y. is_some (arrival barrier y earlier)) x met lt) in
     (found.0, arrival_stands barrier x found.0 earlier found.1)
 passes_after_all members _ earlier rule all = tt
 

@@ -12,7 +12,7 @@ use Rattle.gomp_types.specs.Singles.{single_shape}
 use Rattle.gomp_types.specs.Shapes.{is_loop}
 use Rattle.gomp_types.specs.Pieces.{Piece}
 use Rattle.gomp_types.specs.Values.{value_at, iteration_of}
-use Rattle.gomp_types.specs.Events.{every_member, member_of, shares_entered, open_share, is_inside, open_number, has_drained, last_piece, in_kind, shape_at, has_ended, is_over, has_room, has_iteration, times_taken, turn, holds_piece, next_part, in_part, open_part, payload_at, has_piece, has_words, barriers_passed, arrival, tag_at, barrier_met, has_left_region, clash_of}
+use Rattle.gomp_types.specs.Events.{every_member, member_of, shares_entered, open_share, is_inside, open_number, has_drained, last_piece, in_kind, shape_at, has_ended, is_over, has_room, has_iteration, times_taken, turn, holds_piece, next_part, in_part, open_part, payload_at, has_piece, has_words, barriers_passed, arrival, tag_at, all_arrived, at_barrier, at_region_end, has_left_region, clash_of}
 use Rattle.gomp_types.specs.Ordered.{same_piece, has_turn, number_of_piece, last_number, is_ordered, must_wait, is_in_rest, comes_next}
 use Rattle.gomp_types.specs.EventLists.{newest_first, four, wider, at}
 
@@ -221,9 +221,21 @@ tags_of_members = (refl, refl, refl, refl)
 pub tags_of_barriers : (tag_at 0 (after some_arrivals) ≡ Some (at Barrier 0)) × (tag_at 1 (after some_arrivals) ≡ Some (at ShareEnd 1)) × (tag_at 2 (after some_arrivals) ≡ None)
 tags_of_barriers = (refl, refl, refl)
 
--- if all have
-pub barriers_that_are_met : (barrier_met 2 0 (after some_arrivals) ≡ true) × (barrier_met 3 0 (after some_arrivals) ≡ false) × (barrier_met 2 1 (after some_arrivals) ≡ false)
-barriers_that_are_met = (refl, refl, refl)
+-- whether all have
+pub all_have_arrived : (all_arrived 2 0 (after some_arrivals) ≡ true) × (all_arrived 3 0 (after some_arrivals) ≡ false) × (all_arrived 2 1 (after some_arrivals) ≡ false)
+all_have_arrived = (refl, refl, refl)
+
+-- who waits at a barrier: the first at the second one, the second still at the first, no third member
+pub members_at_barriers :
+    (at_barrier 0 (after some_arrivals) ≡ true) × (at_barrier 1 (after some_arrivals) ≡ true) × (at_barrier 2 (after some_arrivals) ≡ false)
+    × (at_barrier 0 (after (Arrive 0 0 (at Barrier 0) ∷ Pass 0 0 ∷ [])) ≡ false) × (at_barrier 1 (after (Arrive 0 0 (at Barrier 0) ∷ Arrive 0 1 (at Barrier 0) ∷ Pass 0 0 ∷ [])) ≡ true)
+members_at_barriers = (refl, refl, refl, refl, refl)
+
+-- who has arrived at the region's end, and stays there when it passes; a barrier is none
+pub members_at_region_end :
+    (at_region_end 0 (after (Arrive 0 0 (at RegionEnd 0) ∷ [])) ≡ true) × (at_region_end 1 (after (Arrive 0 0 (at RegionEnd 0) ∷ [])) ≡ false)
+    × (at_region_end 0 (after (Arrive 0 0 (at RegionEnd 0) ∷ Pass 0 0 ∷ [])) ≡ true) × (at_region_end 0 (after some_arrivals) ≡ false)
+members_at_region_end = (refl, refl, refl, refl)
 
 -- a member leaves the region if it passes its end, and not if another does, or at another barrier
 pub region_that_is_left :

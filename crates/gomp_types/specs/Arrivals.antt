@@ -3,7 +3,8 @@ use Rattle.std.specs.Prelude.{ℕ, ◌<◌, ◌≡◌, true, List, Some}
 use Rattle.gomp_types.specs.declared.event.Tag.{Tag}
 use Rattle.gomp_types.specs.declared.event.Event.{Event}
 use Rattle.gomp_types.specs.declared.event.Event.TheVariants.{Arrive, Pass}
-use Rattle.gomp_types.specs.Events.{barriers_passed, tag_at, barrier_met}
+use Rattle.gomp_types.specs.Events.{barriers_passed, tag_at}
+use Rattle.gomp_types.specs.Goals.{may_pass}
 use Rattle.gomp_types.specs.Laws.{Always, Happened}
 
 -- a member arrives at its next barrier, with the tag of all that arrived there before
@@ -11,10 +12,10 @@ pub record MayArrive (barrier m : ℕ) (tag : Tag) (earlier : List Event) : Type
   pub number : barrier ≡ barriers_passed m earlier
   pub same : (other : Tag) → tag_at barrier earlier ≡ Some other → other ≡ tag
 
--- a member passes its next barrier if every member has arrived
+-- a member passes its next barrier if every member has arrived and the tasks bound to it are complete; at the region's end, if all tasks are
 pub record MayPass (members barrier m : ℕ) (earlier : List Event) : Type 0 where
   pub number : barrier ≡ barriers_passed m earlier
-  pub met : barrier_met members barrier earlier ≡ true
+  pub met : may_pass members m earlier ≡ true
 
 -- the rule of the arrivals alone
 abbrev pub ArrivalRule : ℕ → Event → List Event → Type 0

@@ -9,7 +9,7 @@ use Rattle.gomp_types.specs.declared.event.Arrival.{Arrival}
 use Rattle.gomp_types.specs.declared.event.Arrival.TheVariants.{RegionEnd}
 use Rattle.gomp_types.specs.declared.event.Tag.{Tag}
 use Rattle.gomp_types.specs.declared.event.Event.{Event}
-use Rattle.gomp_types.specs.declared.event.Event.TheVariants.{Enter, Take, Drained, End, HandOn, Part, PartEnd, Put, Got, Arrive, Pass, Hold, Free, Break}
+use Rattle.gomp_types.specs.declared.event.Event.TheVariants.{Enter, Take, Drained, End, HandOn, Part, PartEnd, Put, Got, Arrive, Pass, Hold, Free, Create, Start, Done, Group, GroupEnd, Waited, Break}
 
 -- whether each member of a team of this size passes the test
 abbrev pub every_member : ℕ → (ℕ → Bool) → Bool
@@ -31,6 +31,12 @@ member_of (Arrive barrier m tag) = m
 member_of (Pass barrier m) = m
 member_of (Hold key m task) = m
 member_of (Free key m task) = m
+member_of (Create task m parent desc) = m
+member_of (Start task m) = m
+member_of (Done task m) = m
+member_of (Group group m) = m
+member_of (GroupEnd group m) = m
+member_of (Waited m) = m
 member_of (Break m place) = m
 
 -- Work-shares (OpenMP API 5.2, chapter 11)
@@ -191,9 +197,16 @@ tag_at barrier [] = None
 tag_at barrier (Arrive g member tag ∷ earlier) = if g == barrier then Some tag else tag_at barrier earlier
 tag_at barrier (_ ∷ earlier) = tag_at barrier earlier
 
--- whether a member that waits at the barrier may go on: every member has arrived there
-abbrev pub barrier_met : ℕ → ℕ → List Event → Bool
-barrier_met members barrier h = every_member members (λ m. is_some (arrival barrier m h))
+-- whether every member has arrived at the barrier
+abbrev pub all_arrived : ℕ → ℕ → List Event → Bool
+all_arrived members barrier h = every_member members (λ m. is_some (arrival barrier m h))
+
+-- whether the member waits at a barrier: it has arrived there and not passed it
+abbrev pub at_barrier : ℕ → List Event → Bool
+at_barrier m [] = false
+at_barrier m (Arrive barrier member tag ∷ earlier) = if member == m then true else at_barrier m earlier
+at_barrier m (Pass barrier member ∷ earlier) = if member == m then false else at_barrier m earlier
+at_barrier m (_ ∷ earlier) = at_barrier m earlier
 
 -- whether an arrival was at the region's end
 abbrev pub is_region_end : Arrival → Bool
@@ -204,6 +217,12 @@ is_region_end _ = false
 abbrev pub was_region_end : Option Tag → Bool
 was_region_end None = false
 was_region_end (Some tag) = is_region_end tag.kind
+
+-- whether the member has arrived at the region's end
+abbrev pub at_region_end : ℕ → List Event → Bool
+at_region_end m [] = false
+at_region_end m (Arrive barrier member tag ∷ earlier) = (member == m && is_region_end tag.kind) || at_region_end m earlier
+at_region_end m (_ ∷ earlier) = at_region_end m earlier
 
 -- whether the member has passed the region's end
 abbrev pub has_left_region : ℕ → List Event → Bool

@@ -3,6 +3,8 @@ pub mod Compare
 pub mod Deals
 pub mod EventLists
 pub mod Events
+pub mod Goals
+pub mod Groups
 pub mod Iterations
 pub mod Laws
 pub mod Least
@@ -15,5 +17,8 @@ pub mod Sections
 pub mod Seen
 pub mod Shapes
 pub mod Singles
+pub mod TaskLaws
+pub mod TaskRules
+pub mod Tasks
 pub mod Tests
 pub mod Values

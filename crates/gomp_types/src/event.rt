@@ -7,7 +7,7 @@ use crate::key::Key;
 use crate::payload::Payload;
 use crate::refusal::Place;
 use crate::shape::Shape;
-use crate::task::Task;
+use crate::task::{Task, TaskDesc};
 
 /// At what kind of barrier a member arrives (OpenMP API 5.2, sections 15.3.1 and 15.3.2).
 #[derive(Clone, Copy, Debug, PartialEq, Eq)]
@@ -109,6 +109,39 @@ pub enum Event {
         key: Key,
         member: u16,
         task: Task,
+    },
+    /// The member created a task in this one. Tasks are numbered from 1 in the order of their
+    /// creation.
+    Create {
+        task: u32,
+        member: u16,
+        parent: Task,
+        desc: TaskDesc,
+    },
+    /// The member started the task.
+    Start {
+        task: u32,
+        member: u16,
+    },
+    /// The member ended the task.
+    Done {
+        task: u32,
+        member: u16,
+    },
+    /// The member opened a group of tasks in its current task. Groups are numbered from 0 in the
+    /// order in which they are opened.
+    Group {
+        group: u64,
+        member: u16,
+    },
+    /// The member ended the group: its tasks are complete.
+    GroupEnd {
+        group: u64,
+        member: u16,
+    },
+    /// The member's current task waited for its children: they are complete.
+    Waited {
+        member: u16,
     },
     /// The member broke the team: its construct differed from the team's there, or it stopped it.
     Break {

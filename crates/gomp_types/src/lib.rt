@@ -27,7 +27,8 @@ pub use critical_name::{CriticalName, MAX_NAME};
 pub use event::{Arrival, Event, Tag};
 pub use key::Key;
 pub use limits::{
-    Limits, MAX_CHUNK, MAX_MEMBERS, MAX_SECTIONS, MAX_TRIPS, OPEN_SHARES, is_team_size,
+    Limits, MAX_CHUNK, MAX_MEMBERS, MAX_SECTIONS, MAX_TASK_DEPTH, MAX_TRIPS, OPEN_SHARES,
+    is_team_size,
 };
 pub use lock::{Held, LockKind, MAX_COUNT, MAX_LOCKS};
 pub use loop_desc::{EndKind, LoopDesc, Sched, trips};
@@ -39,4 +40,4 @@ pub use sections::sections_shape;
 pub use seen::Seen;
 pub use shape::{Shape, ShareKind};
 pub use single::single_shape;
-pub use task::{Owner, Task};
+pub use task::{Owner, Task, TaskDesc};

@@ -14,6 +14,16 @@ pub enum Task {
     Explicit(u32),
 }
 
+/// An explicit task as the program asks for it: two numbers, which mean to the program what it does
+/// and on what (own; libgomp has a function and its data).
+#[derive(Debug, Drop, PartialEq, Eq)]
+pub struct TaskDesc {
+    /// What the task does.
+    pub code: u64,
+    /// On what it does it.
+    pub arg: u64,
+}
+
 /// Who holds a critical name or a lock.
 #[derive(Clone, Copy, Debug, PartialEq, Eq, PartialOrd, Ord)]
 pub struct Owner {
