@@ -3,7 +3,7 @@ use Rattle.std.proofs.Common.{◌≡◌, pos, negsuc, true, false, [], ◌∷◌
 use Rattle.std.specs.Fmt.{digits}
 use Rattle.gomp_types.specs.declared.refusal.Place.TheVariants.{Share}
 use Rattle.gomp_types.specs.declared.refusal.Refusal.TheVariants.{Broken, Mismatch, BadTeam}
-use Rattle.gomp_types.specs.declared.reply.Reply.TheVariants.{Chunk, NoChunk, Section, Executor, Copied, Finished, Passed, Wait, Lock, Got, Count, Stopped, Refused}
+use Rattle.gomp_types.specs.declared.reply.Reply.TheVariants.{Chunk, NoChunk, Section, Executor, Copied, Finished, Passed, Wait, Created, Run, TaskDone, Lock, Got, Count, Stopped, Refused}
 use Rattle.gomp_script.specs.declared.parse.Why.TheVariants.{NotAscii, FirstLine, UnknownWord, MissingWord, BadNumber, ExtraWord}
 use Rattle.gomp_script.specs.Printing.{reply_text, reply_line, refusal_line, bad_line_text}
 
@@ -56,6 +56,21 @@ no_words_printed = refl
 pub words_printed : reply_text (Copied (10 ∷ 0 ∷ 18446744073709551615 ∷ [])) ≡ codes "copied 10 0 18446744073709551615"
 unfolding digits
 words_printed = refl
+
+-- the number of a task, the first and the largest of its type
+pub created_printed : (reply_text (Created 1) ≡ codes "created 1") × (reply_text (Created 4294967295) ≡ codes "created 4294967295")
+unfolding digits
+created_printed = (refl, refl)
+
+-- a task that is run, and one that is the call's own
+pub run_printed : (reply_text (Run 1 7 5 false) ≡ codes "run 1 7 5") × (reply_text (Run 10 0 18446744073709551615 true) ≡ codes "run 10 0 18446744073709551615 own")
+unfolding digits
+run_printed = (refl, refl)
+
+-- a task that is done, with a wait beneath it and without
+pub task_done_printed : (reply_text (TaskDone 2 true) ≡ codes "task_done 2 waiting") × (reply_text (TaskDone 64 false) ≡ codes "task_done 64 free")
+unfolding digits
+task_done_printed = (refl, refl)
 
 -- the number of a lock, the first and the last
 pub lock_printed : (reply_text (Lock 0) ≡ codes "lock 0") × (reply_text (Lock 4294967294) ≡ codes "lock 4294967294")

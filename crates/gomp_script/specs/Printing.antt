@@ -1,8 +1,8 @@
 -- How a reply is printed. (own)
-use Rattle.std.specs.Prelude.{List, ◌++◌, codes, ℕ, Bool, true, false, flat_map}
+use Rattle.std.specs.Prelude.{List, [], ◌++◌, codes, ℕ, Bool, true, false, flat_map}
 use Rattle.std.specs.Fmt.{decimal, signed_decimal}
 use Rattle.gomp_types.specs.declared.reply.Reply.{Reply}
-use Rattle.gomp_types.specs.declared.reply.Reply.TheVariants.{Chunk, NoChunk, Section, Executor, Copied, Finished, Passed, Wait, Lock, Got, Count, Stopped, Refused}
+use Rattle.gomp_types.specs.declared.reply.Reply.TheVariants.{Chunk, NoChunk, Section, Executor, Copied, Finished, Passed, Wait, Created, Run, TaskDone, Lock, Got, Count, Stopped, Refused}
 use Rattle.gomp_types.specs.declared.refusal.Refusal.{Refusal}
 use Rattle.gomp_script.specs.declared.parse.Why.{Why}
 use Rattle.gomp_script.specs.declared.parse.Why.TheVariants.{NotAscii, FirstLine, UnknownWord, MissingWord, BadNumber, ExtraWord}
@@ -24,6 +24,20 @@ got_text false = codes "got no"
 abbrev pub word_text : ℕ → List ℕ
 word_text word = codes " " ++ decimal word
 
+-- a task that is executed, and what was asked for
+abbrev pub run_text : ℕ → ℕ → ℕ → List ℕ
+run_text task code arg = codes "run " ++ (decimal task ++ (codes " " ++ (decimal code ++ (codes " " ++ decimal arg))))
+
+-- whether it is the call's own
+abbrev pub own_text : Bool → List ℕ
+own_text true = codes " own"
+own_text false = []
+
+-- whether the wait beneath a task is open again
+abbrev pub waiting_text : Bool → List ℕ
+waiting_text true = codes " waiting"
+waiting_text false = codes " free"
+
 -- the text of a reply; its numbers are decimal
 abbrev pub reply_text : Reply → List ℕ
 reply_text (Chunk first count) = codes "chunk " ++ (signed_decimal first ++ (codes " " ++ decimal count))
@@ -34,6 +48,9 @@ reply_text (Copied payload) = codes "copied" ++ flat_map word_text payload
 reply_text Finished = codes "ok"
 reply_text Passed = codes "passed"
 reply_text Wait = codes "wait"
+reply_text (Created task) = codes "created " ++ decimal task
+reply_text (Run task code arg own) = run_text task code arg ++ own_text own
+reply_text (TaskDone task waiting) = codes "task_done " ++ (decimal task ++ waiting_text waiting)
 reply_text (Lock number) = codes "lock " ++ decimal number
 reply_text (Got free) = got_text free
 reply_text (Count count) = codes "count " ++ decimal count

@@ -26,6 +26,27 @@ impl fmt::Display for Printed<'_> {
             Reply::Finished => write!(f, "ok"),
             Reply::Passed => write!(f, "passed"),
             Reply::Wait => write!(f, "wait"),
+            Reply::Created(task) => write!(f, "created {task}"),
+            Reply::Run {
+                task,
+                code,
+                arg,
+                own: false,
+            } => write!(f, "run {task} {code} {arg}"),
+            Reply::Run {
+                task,
+                code,
+                arg,
+                own: true,
+            } => write!(f, "run {task} {code} {arg} own"),
+            Reply::TaskDone {
+                task,
+                waiting: true,
+            } => write!(f, "task_done {task} waiting"),
+            Reply::TaskDone {
+                task,
+                waiting: false,
+            } => write!(f, "task_done {task} free"),
             Reply::Lock(number) => write!(f, "lock {number}"),
             Reply::Got(true) => write!(f, "got yes"),
             Reply::Got(false) => write!(f, "got no"),

@@ -32,9 +32,9 @@ beyond members g x [] all e = absurd (cc)
 beyond members g x (Arrive barrier member tag ∷ earlier) all e =
     elim (cases_Bool (member == x)) [
       | inl who ↦ elim (cases_Bool (barrier == g)) [
-          | inl at ↦ inr (let here = is_equal barrier g at in let same = is_equal member x who in let n : g ≡ barriers_passed x earlier = rw (← here, ← same) all.0.number in n, rw who refl)
-          | inr away ↦ elim (beyond members g x earlier all.1 (rw away at e)) [ inl past ↦ inl past | inr here ↦ inr (here.0, rw who refl) ]
-        ]
+        | inl at ↦ inr (let here = is_equal barrier g at in let same = is_equal member x who in let n : g ≡ barriers_passed x earlier = rw (← here, ← same) all.0.number in n, rw who refl)
+        | inr away ↦ elim (beyond members g x earlier all.1 (rw away at e)) [ inl past ↦ inl past | inr here ↦ inr (here.0, rw who refl) ]
+      ]
       | inr other ↦ elim (beyond members g x earlier all.1 (rw (and_false (barrier == g) (member == x) other) at e)) [ inl past ↦ inl past | inr here ↦ inr (here.0, rw other here.1) ]
     ]
 beyond members g x (Pass barrier member ∷ earlier) all e =
@@ -79,6 +79,7 @@ met_open members g t h met made open' =
     by : (b c : Bool) → (not b || c) ≡ true → b ≡ true → c ≡ true
     by true c e is = e
     by false c e is = absurd (cc)
+
     at : (u : ℕ) → 0 < u → u ≤ tasks_created h → all_complete (λ v. nat_le (epoch v h) g) h ≡ true → (not (nat_le (epoch u h) g) || is_complete u h) ≡ true
     at zero low high all = absurd (omega arith)
     at (suc k) low high all = every_tells (tasks_created h) (λ j. not (nat_le (epoch (suc j) h) g) || is_complete (suc j) h) k all (omega arith)
@@ -132,7 +133,8 @@ later_open members g n (_ ∷ earlier) arrivals tasks (inr past) = later_open me
 
 pub creates_later : (members : ℕ) (h : List Event) → Always (ArrivalRule members) h → Always (TaskRule members) h → Always CreatesLater h
 creates_later members [] arrivals tasks = tt
-creates_later members (Create task member p desc ∷ earlier) arrivals tasks =
-    ((λ g n past. new_later members g n task member p desc earlier arrivals.1 tasks.1 tasks.0 past (later_open members g n earlier arrivals.1 tasks.1 past)),
-     creates_later members earlier arrivals.1 tasks.1)
+creates_later members (Create task member p desc ∷ earlier) arrivals tasks = (
+  (λ g n past. new_later members g n task member p desc earlier arrivals.1 tasks.1 tasks.0 past (later_open members g n earlier arrivals.1 tasks.1 past)),
+  creates_later members earlier arrivals.1 tasks.1,
+)
 creates_later members (_ ∷ earlier) arrivals tasks = (tt, creates_later members earlier arrivals.1 tasks.1)

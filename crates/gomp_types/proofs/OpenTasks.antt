@@ -69,17 +69,17 @@ open_done test t m h made counted incomplete =
 pub open_done_other : (test : ℕ → Bool) (t m : ℕ) (h : List Event) → test t ≡ false → open_tasks test h ≡ open_tasks test (Done t m ∷ h)
 open_done_other test t m h not_counted =
     how_many_same (tasks_created h) (λ u. test u && not (is_complete u h)) (λ u. test u && not (t == u || is_complete u h)) (λ u low high.
-      elim (eqb_tells t u) [
-        | inl e ↦ rw (← e.1, not_counted) refl
-        | inr e ↦ rw e.0 refl
-      ])
+    elim (eqb_tells t u) [
+      | inl e ↦ rw (← e.1, not_counted) refl
+      | inr e ↦ rw e.0 refl
+    ])
 
 -- a new task counts where the test holds of it
 pub open_created : (old new : ℕ → Bool) (m : ℕ) (p : Task) (desc : TaskDesc) (h : List Event) → is_complete (suc (tasks_created h)) h ≡ false → ((t : ℕ) → t ≤ tasks_created h → new t ≡ old t) →
     open_tasks new (Create (suc (tasks_created h)) m p desc ∷ h) ≡ (if new (suc (tasks_created h)) then open_tasks old h + 1 else open_tasks old h)
 open_created old new m p desc h fresh same =
     let rest : how_many (tasks_created h) (λ u. new u && not (is_complete u h)) ≡ how_many (tasks_created h) (λ u. old u && not (is_complete u h)) =
-        how_many_same (tasks_created h) _ _ (λ t low high. rw (same t high) refl) in
+    how_many_same (tasks_created h) _ _ (λ t low high. rw (same t high) refl) in
     elim (cases_Bool (new (suc (tasks_created h)))) [
       | inl e ↦ rw (e, fresh) (ap (λ n. n + 1) rest)
       | inr e ↦ rw e rest
@@ -94,6 +94,7 @@ closed_all test h all =
     by true true e = refl
     by true false e = absurd (cc)
     by false c e = refl
+
     at : (t : ℕ) → 0 < t → t ≤ tasks_created h → (not (test t) || is_complete t h) ≡ true
     at zero low high = absurd (omega arith)
     at (suc k) low high = every_tells (tasks_created h) (λ k. not (test (suc k)) || is_complete (suc k) h) k all (omega arith)

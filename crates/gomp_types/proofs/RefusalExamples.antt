@@ -5,7 +5,7 @@ use Rattle.std.proofs.Common.{◌≡◌, ℕ, List, refl}
 use Rattle.std.specs.Prelude.{codes}
 use Rattle.std.specs.Fmt.{digits}
 use Rattle.gomp_types.specs.declared.refusal.Place.TheVariants.{Share, Barrier, Stopped}
-use Rattle.gomp_types.specs.declared.refusal.Refusal.TheVariants.{BadMember, Ended, Broken, Waiting, InsideShare, OutsideShare, InOrdered, HoldsCritical, ZeroStep, BadChunk, LoopTooLong, BadSections, EndDiffers, NotDrained, Drained, NotOrdered, OrderedBackwards, NotInside, NameTooLong, AlreadyHeld, NotHolder, NoLock, CountTooLarge, TooManyShares, Mismatch, NoMemory, BadTeam, BadEnv}
+use Rattle.gomp_types.specs.declared.refusal.Refusal.TheVariants.{BadMember, Ended, Broken, Waiting, InsideTask, NotInTask, InsideShare, OutsideShare, InOrdered, HoldsCritical, ZeroStep, BadChunk, LoopTooLong, BadSections, EndDiffers, NotDrained, Drained, NotOrdered, OrderedBackwards, NotInside, NoGroup, GroupOpen, TooDeep, TooManyTasks, NameTooLong, AlreadyHeld, NotHolder, NoLock, CountTooLarge, TooManyShares, Mismatch, TraceFull, NoMemory, BadTeam, BadEnv}
 use Rattle.gomp_types.specs.RefusalTexts.{Prints, text_of, clash_text, place_text}
 
 -- the member's number is not below the team's size
@@ -22,6 +22,16 @@ ended_prints = (refl, refl, refl)
 pub waiting_prints : Prints Waiting 4 (codes "Waiting") (codes "E4 Waiting")
 unfolding digits
 waiting_prints = (refl, refl, refl)
+
+-- the member executes an explicit task
+pub inside_task_prints : Prints InsideTask 6 (codes "InsideTask") (codes "E6 InsideTask")
+unfolding digits
+inside_task_prints = (refl, refl, refl)
+
+-- the member executes no explicit task
+pub not_in_task_prints : Prints NotInTask 7 (codes "NotInTask") (codes "E7 NotInTask")
+unfolding digits
+not_in_task_prints = (refl, refl, refl)
 
 -- the member is in a work-share
 pub inside_share_prints : Prints InsideShare 8 (codes "InsideShare") (codes "E8 InsideShare")
@@ -93,6 +103,26 @@ pub not_inside_prints : Prints NotInside 22 (codes "NotInside") (codes "E22 NotI
 unfolding digits
 not_inside_prints = (refl, refl, refl)
 
+-- there is no group to end
+pub no_group_prints : Prints NoGroup 24 (codes "NoGroup") (codes "E24 NoGroup")
+unfolding digits
+no_group_prints = (refl, refl, refl)
+
+-- a group is open
+pub group_open_prints : Prints GroupOpen 25 (codes "GroupOpen") (codes "E25 GroupOpen")
+unfolding digits
+group_open_prints = (refl, refl, refl)
+
+-- the new task would lie too deep
+pub too_deep_prints : Prints TooDeep 26 (codes "TooDeep") (codes "E26 TooDeep")
+unfolding digits
+too_deep_prints = (refl, refl, refl)
+
+-- the region has had its tasks
+pub too_many_tasks_prints : Prints TooManyTasks 27 (codes "TooManyTasks") (codes "E27 TooManyTasks")
+unfolding digits
+too_many_tasks_prints = (refl, refl, refl)
+
 -- the critical name is too long
 pub name_too_long_prints : Prints NameTooLong 29 (codes "NameTooLong") (codes "E29 NameTooLong")
 unfolding digits
@@ -127,6 +157,11 @@ too_many_shares_prints = (refl, refl, refl)
 pub mismatch_prints : Prints Mismatch 35 (codes "Mismatch") (codes "E35 Mismatch")
 unfolding digits
 mismatch_prints = (refl, refl, refl)
+
+-- no room for events is left
+pub trace_full_prints : Prints TraceFull 36 (codes "TraceFull") (codes "E36 TraceFull")
+unfolding digits
+trace_full_prints = (refl, refl, refl)
 
 -- memory was refused
 pub no_memory_prints : Prints NoMemory 37 (codes "NoMemory") (codes "E37 NoMemory")

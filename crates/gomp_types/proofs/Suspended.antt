@@ -84,11 +84,13 @@ made_on t h e =
 
 -- after a start
 started : (m task member : ℕ) (h : List Event) → Stacked h → IsFresh task h → (b : Bool) → (member == m) ≡ b → Apart (if b then task ∷ task_stack m h else task_stack m h)
-started m task member h known new true e =
-    (elim (cases_Bool (contains task (task_stack m h))) [
-       | inl there ↦ absurd (never_ran task m h new.1 ((known m).1 task there).2)
-       | inr away ↦ away
-     ], (known m).0)
+started m task member h known new true e = (
+  elim (cases_Bool (contains task (task_stack m h))) [
+    | inl there ↦ absurd (never_ran task m h new.1 ((known m).1 task there).2)
+    | inr away ↦ away
+  ],
+  (known m).0,
+)
 started m task member h known new false e = (known m).0
 
 -- a task of an earlier task_stack is not the one that is started

@@ -59,10 +59,10 @@ unstarted_start task m h low high off incomplete =
 unstarted_done : (task m : ℕ) (h : List Event) → has_started task h ≡ true → unstarted h ≡ unstarted (Done task m ∷ h)
 unstarted_done task m h on =
     how_many_same (tasks_created h) (λ u. not (has_started u h) && not (is_complete u h)) (λ u. not (has_started u h) && not (task == u || is_complete u h)) (λ u low high.
-      elim (eqb_tells task u) [
-        | inl e ↦ let there : has_started u h ≡ true = rw (← e.1) on in both u there
-        | inr e ↦ rw e.0 refl
-      ])
+    elim (eqb_tells task u) [
+      | inl e ↦ let there : has_started u h ≡ true = rw (← e.1) on in both u there
+      | inr e ↦ rw e.0 refl
+    ])
   where
     both : (u : ℕ) → has_started u h ≡ true → (not (has_started u h) && not (is_complete u h)) ≡ (not (has_started u h) && not (task == u || is_complete u h))
     both u there = rw there refl

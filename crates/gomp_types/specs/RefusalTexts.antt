@@ -5,7 +5,7 @@ use Rattle.gomp_types.specs.declared.refusal.Place.{Place}
 use Rattle.gomp_types.specs.declared.refusal.Place.TheVariants.{Share, Barrier, Stopped}
 use Rattle.gomp_types.specs.declared.refusal.Clash.{Clash}
 use Rattle.gomp_types.specs.declared.refusal.Refusal.{Refusal}
-use Rattle.gomp_types.specs.declared.refusal.Refusal.TheVariants.{BadMember, Ended, Broken, Waiting, InsideShare, OutsideShare, InOrdered, HoldsCritical, ZeroStep, BadChunk, LoopTooLong, BadSections, EndDiffers, NotDrained, Drained, NotOrdered, OrderedBackwards, NotInside, NameTooLong, AlreadyHeld, NotHolder, NoLock, CountTooLarge, TooManyShares, Mismatch, NoMemory, BadTeam, BadEnv}
+use Rattle.gomp_types.specs.declared.refusal.Refusal.TheVariants.{BadMember, Ended, Broken, Waiting, InsideTask, NotInTask, InsideShare, OutsideShare, InOrdered, HoldsCritical, ZeroStep, BadChunk, LoopTooLong, BadSections, EndDiffers, NotDrained, Drained, NotOrdered, OrderedBackwards, NotInside, NoGroup, GroupOpen, TooDeep, TooManyTasks, NameTooLong, AlreadyHeld, NotHolder, NoLock, CountTooLarge, TooManyShares, Mismatch, TraceFull, NoMemory, BadTeam, BadEnv}
 
 -- the number of a refusal: of several that hold the least is the answer
 abbrev pub number_of : Refusal → ℕ
@@ -13,6 +13,8 @@ number_of BadMember = 1
 number_of Ended = 2
 number_of (Broken clash) = 3
 number_of Waiting = 4
+number_of InsideTask = 6
+number_of NotInTask = 7
 number_of InsideShare = 8
 number_of OutsideShare = 9
 number_of InOrdered = 10
@@ -27,6 +29,10 @@ number_of Drained = 19
 number_of NotOrdered = 20
 number_of OrderedBackwards = 21
 number_of NotInside = 22
+number_of NoGroup = 24
+number_of GroupOpen = 25
+number_of TooDeep = 26
+number_of TooManyTasks = 27
 number_of NameTooLong = 29
 number_of AlreadyHeld = 30
 number_of NotHolder = 31
@@ -34,6 +40,7 @@ number_of NoLock = 32
 number_of CountTooLarge = 33
 number_of TooManyShares = 34
 number_of Mismatch = 35
+number_of TraceFull = 36
 number_of NoMemory = 37
 number_of BadTeam = 38
 number_of (BadEnv name) = 41
@@ -44,6 +51,8 @@ name_of BadMember = codes "BadMember"
 name_of Ended = codes "Ended"
 name_of (Broken clash) = codes "Broken"
 name_of Waiting = codes "Waiting"
+name_of InsideTask = codes "InsideTask"
+name_of NotInTask = codes "NotInTask"
 name_of InsideShare = codes "InsideShare"
 name_of OutsideShare = codes "OutsideShare"
 name_of InOrdered = codes "InOrdered"
@@ -58,6 +67,10 @@ name_of Drained = codes "Drained"
 name_of NotOrdered = codes "NotOrdered"
 name_of OrderedBackwards = codes "OrderedBackwards"
 name_of NotInside = codes "NotInside"
+name_of NoGroup = codes "NoGroup"
+name_of GroupOpen = codes "GroupOpen"
+name_of TooDeep = codes "TooDeep"
+name_of TooManyTasks = codes "TooManyTasks"
 name_of NameTooLong = codes "NameTooLong"
 name_of AlreadyHeld = codes "AlreadyHeld"
 name_of NotHolder = codes "NotHolder"
@@ -65,6 +78,7 @@ name_of NoLock = codes "NoLock"
 name_of CountTooLarge = codes "CountTooLarge"
 name_of TooManyShares = codes "TooManyShares"
 name_of Mismatch = codes "Mismatch"
+name_of TraceFull = codes "TraceFull"
 name_of NoMemory = codes "NoMemory"
 name_of BadTeam = codes "BadTeam"
 name_of (BadEnv name) = codes "BadEnv"

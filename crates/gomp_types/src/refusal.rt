@@ -41,6 +41,10 @@ pub enum Refusal {
     Broken(Clash),
     /// E4: the member's wait is open, and the call is neither `resume` nor `stop`.
     Waiting,
+    /// E6: the member executes an explicit task.
+    InsideTask,
+    /// E7: the member executes no explicit task.
+    NotInTask,
     /// E8: the member is in a work-share.
     InsideShare,
     /// E9: the member is in no work-share of the call's kind.
@@ -69,6 +73,14 @@ pub enum Refusal {
     OrderedBackwards,
     /// E22: no such part is open, or `resume` with no wait open.
     NotInside,
+    /// E24: the current task has opened no group that it has not ended.
+    NoGroup,
+    /// E25: the current task has opened a group and not ended it.
+    GroupOpen,
+    /// E26: the new task would lie deeper than 64 in the tree of tasks.
+    TooDeep,
+    /// E27: the region has had as many tasks as the limit.
+    TooManyTasks,
     /// E29: the critical name has more than 32 bytes, or is not ASCII.
     NameTooLong,
     /// E30: the member holds this critical name; its task owns this simple lock; the lock to be
@@ -84,6 +96,8 @@ pub enum Refusal {
     TooManyShares,
     /// E35: the construct differs from the team's.
     Mismatch,
+    /// E36: there is no room left for the events that the call may give.
+    TraceFull,
     /// E37: memory was refused.
     NoMemory,
     /// E38: a team has 1 to 64 members.
@@ -102,6 +116,8 @@ impl Refusal {
             Refusal::Ended => 2,
             Refusal::Broken(_) => 3,
             Refusal::Waiting => 4,
+            Refusal::InsideTask => 6,
+            Refusal::NotInTask => 7,
             Refusal::InsideShare => 8,
             Refusal::OutsideShare => 9,
             Refusal::InOrdered => 10,
@@ -116,6 +132,10 @@ impl Refusal {
             Refusal::NotOrdered => 20,
             Refusal::OrderedBackwards => 21,
             Refusal::NotInside => 22,
+            Refusal::NoGroup => 24,
+            Refusal::GroupOpen => 25,
+            Refusal::TooDeep => 26,
+            Refusal::TooManyTasks => 27,
             Refusal::NameTooLong => 29,
             Refusal::AlreadyHeld => 30,
             Refusal::NotHolder => 31,
@@ -123,6 +143,7 @@ impl Refusal {
             Refusal::CountTooLarge => 33,
             Refusal::TooManyShares => 34,
             Refusal::Mismatch => 35,
+            Refusal::TraceFull => 36,
             Refusal::NoMemory => 37,
             Refusal::BadTeam => 38,
             Refusal::BadEnv(_) => 41,
@@ -138,6 +159,8 @@ impl Refusal {
             Refusal::Ended => "Ended",
             Refusal::Broken(_) => "Broken",
             Refusal::Waiting => "Waiting",
+            Refusal::InsideTask => "InsideTask",
+            Refusal::NotInTask => "NotInTask",
             Refusal::InsideShare => "InsideShare",
             Refusal::OutsideShare => "OutsideShare",
             Refusal::InOrdered => "InOrdered",
@@ -152,6 +175,10 @@ impl Refusal {
             Refusal::NotOrdered => "NotOrdered",
             Refusal::OrderedBackwards => "OrderedBackwards",
             Refusal::NotInside => "NotInside",
+            Refusal::NoGroup => "NoGroup",
+            Refusal::GroupOpen => "GroupOpen",
+            Refusal::TooDeep => "TooDeep",
+            Refusal::TooManyTasks => "TooManyTasks",
             Refusal::NameTooLong => "NameTooLong",
             Refusal::AlreadyHeld => "AlreadyHeld",
             Refusal::NotHolder => "NotHolder",
@@ -159,6 +186,7 @@ impl Refusal {
             Refusal::CountTooLarge => "CountTooLarge",
             Refusal::TooManyShares => "TooManyShares",
             Refusal::Mismatch => "Mismatch",
+            Refusal::TraceFull => "TraceFull",
             Refusal::NoMemory => "NoMemory",
             Refusal::BadTeam => "BadTeam",
             Refusal::BadEnv(_) => "BadEnv",

@@ -7,7 +7,10 @@ use crate::refusal::Refusal;
 #[derive(Debug, Drop, PartialEq, Eq)]
 pub enum Reply {
     /// Iterations to do: the value of the first one, and how many there are, at least 1.
-    Chunk { first: i64, count: u64 },
+    Chunk {
+        first: i64,
+        count: u64,
+    },
     /// No iterations are left for this member.
     NoChunk,
     /// The section to do, numbered from 1; 0 if none is left.
@@ -22,6 +25,22 @@ pub enum Reply {
     Passed,
     /// Not yet: the call stands, and `Resume` asks again.
     Wait,
+    /// The number of the task that was created, from 1.
+    Created(u32),
+    /// The member executes this task from now on, of which this was asked when it was created, and
+    /// ends it by a call; `own` if it is the undeferred task of this very call. No call is answered
+    /// so yet.
+    Run {
+        task: u32,
+        code: u64,
+        arg: u64,
+        own: bool,
+    },
+    /// The member has ended this task; `waiting` if the wait at which it was started is open again.
+    TaskDone {
+        task: u32,
+        waiting: bool,
+    },
     /// The number of the lock that was made: how many were made before it.
     Lock(u32),
     /// Whether the simple lock was free, and is set now.
