@@ -1,0 +1,32 @@
+-- What the calls on a team's tasks ask for and answer. OpenMP API 5.2, chapter 12.
+use Rattle.std.specs.Prelude.{ℕ, ◌≡◌, Bool, true, List, Option, Some, None}
+use Rattle.std.proofs.Common.{suc}
+use Rattle.gomp_types.specs.declared.task.Task.{Task}
+use Rattle.gomp_types.specs.declared.task.Task.TheVariants.{Implicit, Explicit}
+use Rattle.gomp_types.specs.declared.event.Event.{Event}
+use Rattle.gomp_types.specs.declared.event.Event.TheVariants.{Create, Start, Done}
+use Rattle.gomp_types.specs.Tasks.{executed_task, epoch_of_child, is_odd, is_ancestor}
+use Rattle.gomp_types.specs.TaskRules.{MayCreate}
+use Rattle.gomp_tasks.specs.Stands.{TasksView, members_of, count_of}
+
+-- the member may create the next task in the one that it executes, bound to a barrier whose number is odd or not
+pub record MayCreateNext (tasks : TasksView) (m : ℕ) (odd : Bool) (h : List Event) : Type 0 where
+  pub rule : MayCreate (members_of tasks) (suc (count_of tasks)) m (executed_task m h) h
+  pub odd_is : odd ≡ is_odd (epoch_of_child (executed_task m h) h)
+
+-- the explicit task, or the member's implicit one if there is none
+abbrev pub task_or_implicit : ℕ → Option ℕ → Task
+task_or_implicit m None = Implicit m
+task_or_implicit m (Some t) = Explicit t
+
+-- whether the second task descends from the first, if the first is an explicit one
+abbrev pub is_under_explicit : Task → ℕ → List Event → Bool
+is_under_explicit (Implicit m) t h = true
+is_under_explicit (Explicit s) t h = is_ancestor (Explicit s) t h
+
+-- an event that creates, starts or ends no task
+abbrev pub IsAside : Event → Type 0
+IsAside (Create t m parent desc) = ⊥
+IsAside (Start t m) = ⊥
+IsAside (Done t m) = ⊥
+IsAside _ = Unit {0}
