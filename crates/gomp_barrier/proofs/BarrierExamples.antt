@@ -6,37 +6,40 @@ use Rattle.gomp_types.specs.declared.refusal.Place.{Place}
 use Rattle.gomp_types.specs.declared.shape.Shape.{Shape}
 use Rattle.gomp_types.specs.declared.event.Tag.{Tag}
 use Rattle.gomp_types.specs.declared.event.Event.TheVariants.{Enter, Take, Drained, End, HandOn, Part, PartEnd, Put, Got, Arrive, Pass, Break}
+use Rattle.gomp_types.specs.declared.event.Event.{Event}
 use Rattle.gomp_types.specs.Events.{arrival, tag_at}
+use Rattle.gomp_types.specs.Tasks.{tasks_created, is_complete}
 use Rattle.gomp_barrier.specs.declared.front.Seat.{Seat}
-use Rattle.gomp_barrier.specs.Calls.{at_barrier, arrived_after, turn_after, IsAside}
+use Rattle.gomp_barrier.specs.Calls.{barrier_seen, arrived_after, turn_after, IsAside}
 use Rattle.gomp_barrier.specs.Seats.{differ, is_ahead, tag_for, number_for, IsThere, arrived_at, passed_by, next_front, barrier_of, SeatStands, FrontStands, SomeBehind}
+use Rattle.gomp_barrier.specs.Bound.{TasksStand}
 use Rattle.gomp_barrier.specs.Stands.{Stands, members_of}
-use Rattle.gomp_barrier.specs.Examples.{at_barrier_tag, at_end_tag, both_arrived, second_ahead, first_left, seat_with, front_with, barriers_with, sees_barrier, new_seat, new_front, seat_behind, seat_ahead, front_between}
+use Rattle.gomp_barrier.specs.Examples.{at_barrier_tag, at_end_tag, both_arrived, second_ahead, first_left, seat_with, front_with, bound_with, no_tasks, barriers_with, sees_barrier, new_seat, new_front, seat_behind, seat_ahead, front_between}
 
 -- What a member sees
 
 -- nobody has arrived
-pub seen_when_nobody_arrived : at_barrier 0 [] ≡ sees_barrier 0 None None false
+pub seen_when_nobody_arrived : barrier_seen 0 [] ≡ sees_barrier 0 None None false
 seen_when_nobody_arrived = refl
 
 -- the other has arrived
-pub seen_after_the_other : at_barrier 0 (Arrive 0 1 at_barrier_tag ∷ []) ≡ sees_barrier 0 (Some at_barrier_tag) None false
+pub seen_after_the_other : barrier_seen 0 (Arrive 0 1 at_barrier_tag ∷ []) ≡ sees_barrier 0 (Some at_barrier_tag) None false
 seen_after_the_other = refl
 
 -- the other is one barrier ahead, and each sees its own
-pub seen_behind : at_barrier 0 second_ahead ≡ sees_barrier 0 (Some at_barrier_tag) (Some at_barrier_tag) false
+pub seen_behind : barrier_seen 0 second_ahead ≡ sees_barrier 0 (Some at_barrier_tag) (Some at_barrier_tag) false
 seen_behind = refl
 
 -- the one that is ahead sees the region's end
-pub seen_ahead : at_barrier 1 second_ahead ≡ sees_barrier 1 (Some at_end_tag) (Some at_end_tag) false
+pub seen_ahead : barrier_seen 1 second_ahead ≡ sees_barrier 1 (Some at_end_tag) (Some at_end_tag) false
 seen_ahead = refl
 
 -- a member has passed the region's end, and the other has not
-pub seen_after_the_region : at_barrier 0 first_left ≡ sees_barrier 2 None None true
+pub seen_after_the_region : barrier_seen 0 first_left ≡ sees_barrier 2 None None true
 seen_after_the_region = refl
 
 -- the other still waits at it
-pub seen_before_the_end : at_barrier 1 first_left ≡ sees_barrier 1 (Some at_end_tag) (Some at_end_tag) false
+pub seen_before_the_end : barrier_seen 1 first_left ≡ sees_barrier 1 (Some at_end_tag) (Some at_end_tag) false
 seen_before_the_end = refl
 
 -- What the calls add
@@ -242,7 +245,7 @@ front_seatless (suc m) seat at = absurd (cc)
 
 -- the front between them
 pub front_stands : FrontStands [] front_between 0 second_ahead
-front_stands = record { number = refl; tag = refl; next = refl; beyond = not_later; seat = front_seatless }
+front_stands = record { parity = refl; number = refl; tag = refl; next = refl; beyond = not_later; seat = front_seatless }
   where
     not_later : (g : ℕ) → 2 ≤ g → tag_at g second_ahead ≡ None
     not_later zero below = absurd (omega arith)
@@ -290,11 +293,16 @@ two_seats P a b first second zero seat at = let same : a ≡ seat = cc in subst 
 two_seats P a b first second (suc zero) seat at = let same : b ≡ seat = cc in subst (P 1) same second
 two_seats P a b first second (suc (suc m)) seat at = absurd (cc)
 
+-- no task was created
+no_tasks_stand : (h : List Event) → tasks_created h ≡ 0 → ((t : ℕ) → is_complete t h ≡ false) → TasksStand no_tasks 0 h
+no_tasks_stand h none never = ?
+
 -- the barriers of the two members
-pub barriers_stand : Stands (barriers_with (seat_behind ∷ seat_ahead ∷ []) front_between) second_ahead
+pub barriers_stand : Stands (barriers_with (seat_behind ∷ seat_ahead ∷ []) front_between no_tasks) second_ahead
 barriers_stand = record {
   least = 0;
-  barrier = record { number = refl; tag = refl; next = refl; beyond = front_stands.beyond; seat = two_seats (λ m seat. SeatStands front_between 0 m seat second_ahead) seat_behind seat_ahead first_stands second_stands };
+  tasks = no_tasks_stand second_ahead refl (λ t. refl);
+  barrier = record { parity = refl; number = refl; tag = refl; next = refl; beyond = front_stands.beyond; seat = two_seats (λ m seat. SeatStands front_between 0 m seat second_ahead) seat_behind seat_ahead first_stands second_stands };
   behind = first_is_behind;
   rule = (
     record { number = refl; same = λ other at. absurd (cc) },
@@ -303,21 +311,21 @@ barriers_stand = record {
 }
 
 -- the team has two members
-pub two_seats_are_two_members : members_of (barriers_with (seat_behind ∷ seat_ahead ∷ []) front_between) ≡ 2
+pub two_seats_are_two_members : members_of (barriers_with (seat_behind ∷ seat_ahead ∷ []) front_between no_tasks) ≡ 2
 two_seats_are_two_members = refl
 
 -- a front with a tag at which nobody has arrived
-pub barriers_of_another_front : Stands (barriers_with (new_seat ∷ []) (front_with false 0 (Some at_end_tag) None)) [] → ⊥
+pub barriers_of_another_front : Stands (barriers_with (new_seat ∷ []) (front_with false 0 (Some at_end_tag) None) no_tasks) [] → ⊥
 barriers_of_another_front stands = absurd (let tag = stands.barrier.tag in cc)
 
 -- a front that all have passed
-pub barriers_all_passed : Stands (barriers_with (seat_ahead ∷ seat_ahead ∷ []) front_between) (Arrive 1 0 at_end_tag ∷ Pass 0 0 ∷ second_ahead) → ⊥
+pub barriers_all_passed : Stands (barriers_with (seat_ahead ∷ seat_ahead ∷ []) front_between no_tasks) (Arrive 1 0 at_end_tag ∷ Pass 0 0 ∷ second_ahead) → ⊥
 barriers_all_passed stands = nobody_is_behind stands.behind
 
 -- members that arrived with two tags
-pub barriers_of_two_tags : Stands (barriers_with (seat_behind ∷ seat_with false (Some at_end_tag) false ∷ []) (front_with false 0 (Some at_end_tag) None)) (Arrive 0 1 at_end_tag ∷ Arrive 0 0 at_barrier_tag ∷ []) → ⊥
+pub barriers_of_two_tags : Stands (barriers_with (seat_behind ∷ seat_with false (Some at_end_tag) false ∷ []) (front_with false 0 (Some at_end_tag) None) no_tasks) (Arrive 0 1 at_end_tag ∷ Arrive 0 0 at_barrier_tag ∷ []) → ⊥
 barriers_of_two_tags stands = absurd (let same = ap (λ (tag : Tag). tag.kind) (stands.rule.0.same at_barrier_tag refl) in cc)
 
 -- a member that passed alone
-pub barriers_passed_alone : Stands (barriers_with (seat_with true None false ∷ new_seat ∷ []) (front_with false 0 (Some at_barrier_tag) None)) (Pass 0 0 ∷ Arrive 0 0 at_barrier_tag ∷ []) → ⊥
+pub barriers_passed_alone : Stands (barriers_with (seat_with true None false ∷ new_seat ∷ []) (front_with false 0 (Some at_barrier_tag) None) no_tasks) (Pass 0 0 ∷ Arrive 0 0 at_barrier_tag ∷ []) → ⊥
 barriers_passed_alone stands = absurd (let met = stands.rule.0.met in cc)

@@ -1,5 +1,5 @@
 -- The barrier stays in step with the events.
-use Rattle.std.proofs.Common.{◌≡◌, ◌≢◌, ℕ, ◌+◌, ◌<◌, ◌≤◌, Bool, true, false, not, List, ◌∷◌, Some, None, length, slice_get, slice_set, get_or, refl, ap, ◌∙◌, sym, subst, arith, inl, inr}
+use Rattle.std.proofs.Common.{◌≡◌, ◌≢◌, ℕ, ◌+◌, ◌<◌, ◌≤◌, Bool, true, false, not, List, ◌∷◌, Some, None, length, slice_get, slice_set, get_or, suc, refl, ap, ◌∙◌, sym, subst, arith, inl, inr}
 use Rattle.std.specs.Prelude.{◌==◌, ◌&&◌, ◌||◌, if◌then◌else◌, is_some, All}
 use Rattle.std.proofs.lemmas.Bool.Decides.{eqb_tells}
 use Rattle.std.proofs.lemmas.Bool.{cases_Bool}
@@ -7,7 +7,8 @@ use Rattle.std.proofs.lemmas.Option.{slice_get-get_or, slice_get_within, get_or_
 use Rattle.gomp_types.specs.declared.event.Tag.{Tag}
 use Rattle.gomp_types.specs.declared.event.Event.{Event}
 use Rattle.gomp_types.specs.declared.event.Event.TheVariants.{Arrive, Pass}
-use Rattle.gomp_types.specs.Events.{barriers_passed, arrival, tag_at, has_left_region, is_region_end, barrier_met}
+use Rattle.gomp_types.specs.Events.{barriers_passed, arrival, tag_at, has_left_region, is_region_end, all_arrived}
+use Rattle.gomp_types.specs.Tasks.{is_odd}
 use Rattle.gomp_types.specs.Limits.{shown_number}
 use Rattle.gomp_types.proofs.Booleans.{same_number, other_number, every_tells, every_by}
 use Rattle.gomp_types.proofs.Lists.{slice_get-set}
@@ -126,6 +127,7 @@ arrival_keeps_the_front members front least m member after tag h st at odd arriv
     let t = tagged_after_arrival front member least m tag h (record { number = st.number; tag = st.tag; next = st.next; beyond = st.beyond }) in
     let turn = turn_arrived front member tag in
     record {
+      parity = turn ∙ st.parity;
       number = t.number;
       tag = t.tag;
       next = t.next;
@@ -197,6 +199,7 @@ pub pass_keeps_the_front : (members : List Seat) (front : Front) (least m : ℕ)
     is_ahead front member ≡ false → member.arrived ≡ Some tag → after.odd ≡ not member.odd → after.arrived ≡ None → after.left ≡ (member.left || is_region_end tag.kind) →
     FrontStands (slice_set members m after) front least (Pass least m ∷ h)
 pass_keeps_the_front members front least m member after tag h st at behind arrived odd none left = record {
+  parity = st.parity;
   number = st.number;
   tag = st.tag;
   next = st.next;
@@ -218,11 +221,16 @@ not_ahead_once_advanced front member e = by member.odd front.odd e
     by false true e = refl
     by false false e = absurd (cc)
 
+-- the number after an odd one is even, and the other way round
+pub odd_next : (n : ℕ) → is_odd (n + 1) ≡ not (is_odd n)
+odd_next n = let e : n + 1 ≡ suc n = omega arith in rw e refl
+
 all_at : (front : Front) (members : List Seat) (m : ℕ) (member : Seat) → All (λ x. is_ahead front x ≡ true) members → slice_get members m ≡ Some member → is_ahead front member ≡ true
 all_at front members m member all at = rw (get_or_from_slice_get members m member member at) at (all m member (slice_get_within members m member at))
 
 pub moves_on : (members : List Seat) (front : Front) (least : ℕ) (h : List Event) → FrontStands members front least h → All (λ x. is_ahead front x ≡ true) members → FrontStands members (next_front front) (least + 1) h
 moves_on members front least h st all = record {
+  parity = ap not st.parity ∙ sym (odd_next least);
   number = ap (λ n. shown_number (n + 1)) st.number ∙ shown_next least;
   tag = st.next;
   next = st.beyond (least + 1 + 1) (omega arith);
@@ -257,22 +265,22 @@ arrived_at_least front least m member h p = by_ahead (is_ahead front member) ref
     by_ahead true e = let same : barrier_of front least member ≡ least + 1 = rw e refl in p.behind least (subst (λ b. least < b) (sym same) (omega arith))
     by_ahead false e = let same : barrier_of front least member ≡ least = rw e refl in ap is_some (subst (λ b. arrival b m h ≡ member.arrived) same p.here)
 
-pub met_by : (members : List Seat) (front : Front) (least : ℕ) (h : List Event) → FrontStands members front least h → All (IsThere front) members → barrier_met (length members) least h ≡ true
+pub met_by : (members : List Seat) (front : Front) (least : ℕ) (h : List Event) → FrontStands members front least h → All (IsThere front) members → all_arrived (length members) least h ≡ true
 met_by members front least h st all =
     every_by (length members) (λ m. is_some (arrival least m h)) (λ m lt.
     let none : Seat = record { odd = true; arrived = None; left = true } in
     let at : slice_get members m ≡ Some (get_or members m none) = slice_get-get_or members m none lt in
     arrived_at_least front least m _ h (st.seat m _ at) ∙ all m none lt)
 
-pub met_all : (members : List Seat) (front : Front) (least : ℕ) (h : List Event) → FrontStands members front least h → barrier_met (length members) least h ≡ true → All (IsThere front) members
+pub met_all : (members : List Seat) (front : Front) (least : ℕ) (h : List Event) → FrontStands members front least h → all_arrived (length members) least h ≡ true → All (IsThere front) members
 met_all members front least h st met = λ m none lt.
     let at : slice_get members m ≡ Some (get_or members m none) = slice_get-get_or members m none lt in
     sym (arrived_at_least front least m _ h (st.seat m _ at)) ∙ every_tells (length members) (λ x. is_some (arrival least x h)) m met lt
 
 -- a member ahead of the front waits for those behind it
-pub not_met_ahead : (members : List Seat) (front : Front) (least : ℕ) (h : List Event) → FrontStands members front least h → SomeBehind front members → barrier_met (length members) (least + 1) h ≡ false
+pub not_met_ahead : (members : List Seat) (front : Front) (least : ℕ) (h : List Event) → FrontStands members front least h → SomeBehind front members → all_arrived (length members) (least + 1) h ≡ false
 not_met_ahead members front least h st behind =
-    elim (cases_Bool (barrier_met (length members) (least + 1) h)) [
+    elim (cases_Bool (all_arrived (length members) (least + 1) h)) [
       | inl met ↦ absurd (behind (λ m none lt.
           let at : slice_get members m ≡ Some (get_or members m none) = slice_get-get_or members m none lt in
           ahead_of m _ (st.seat m _ at) (every_tells (length members) (λ x. is_some (arrival (least + 1) x h)) m met lt)))

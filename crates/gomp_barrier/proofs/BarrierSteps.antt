@@ -1,13 +1,15 @@
 -- Each call keeps the barriers of a team in step with the events.
 use Rattle.std.proofs.Common.{◌≡◌, ℕ, ◌+◌, ◌<◌, Bool, true, false, List, [], ◌∷◌, Option, Some, None, length, slice_get, slice_set, get_or, replicate, refl, ap, ◌∙◌, sym, subst, arith, suc, zero, ◌⊎◌, inl, inr}
-use Rattle.std.specs.Prelude.{◌||◌, is_some, All}
+use Rattle.std.specs.Prelude.{◌||◌, is_some, All, IsTrue}
 use Rattle.std.proofs.lemmas.Bool.{cases_Bool}
 use Rattle.std.proofs.lemmas.List.{length-set, get_or-replicate, length-replicate}
 use Rattle.std.proofs.lemmas.Option.{slice_get-get_or, slice_get_within, get_or_from_slice_get}
 use Rattle.gomp_types.specs.declared.event.Tag.{Tag}
 use Rattle.gomp_types.specs.declared.event.Event.{Event}
-use Rattle.gomp_types.specs.declared.event.Event.TheVariants.{Arrive, Pass}
-use Rattle.gomp_types.specs.Events.{barriers_passed, arrival, tag_at, has_left_region, was_region_end, is_region_end, barrier_met}
+use Rattle.gomp_types.specs.declared.event.Event.TheVariants.{Arrive, Pass, Create, Done}
+use Rattle.gomp_types.specs.Events.{barriers_passed, arrival, tag_at, has_left_region, was_region_end, is_region_end, at_barrier}
+use Rattle.gomp_types.specs.Tasks.{is_created, is_odd}
+use Rattle.gomp_types.specs.Goals.{may_pass}
 use Rattle.gomp_types.specs.Limits.{shown_number}
 use Rattle.gomp_types.specs.Compare.{tag_differs}
 use Rattle.gomp_types.specs.Laws.{Always}
@@ -19,24 +21,26 @@ use Rattle.gomp_barrier.specs.declared.front.Seat.{Seat}
 use Rattle.gomp_barrier.specs.declared.front.Front.{Front}
 use Rattle.gomp_barrier.specs.declared.barriers.AtBarrier.{AtBarrier}
 use Rattle.gomp_barrier.specs.Seats.{differ, is_ahead, tag_for, number_for, IsThere, arrived_at, passed_by, next_front, barrier_of, SeatStands, FrontStands, SomeBehind}
-use Rattle.gomp_barrier.specs.Calls.{at_barrier, IsAside}
-use Rattle.gomp_barrier.specs.Stands.{BarriersView, Stands, members_of}
-use Rattle.gomp_barrier.proofs.BarrierKeeps.{tag_is, number_is, arrival_keeps_the_front, turn_arrived, pass_keeps_the_front, moves_on, behind_again, met_by, met_all, not_met_ahead}
+use Rattle.gomp_barrier.specs.Calls.{barrier_seen, IsAside}
+use Rattle.gomp_barrier.specs.declared.bound.BoundTasks.{BoundTasks}
+use Rattle.gomp_barrier.specs.Bound.{open_bound, bound_count, TasksStand}
+use Rattle.gomp_barrier.specs.Stands.{BarriersView, Stands, MayTurn, members_of}
+use Rattle.gomp_barrier.proofs.BarrierKeeps.{tag_is, number_is, arrival_keeps_the_front, turn_arrived, pass_keeps_the_front, moves_on, behind_again}
 
 -- The value of a team's barriers, and their fields
 
 pub view_stands_too : (view now : BarriersView) (h : List Event) → view ≡ now → Stands now h → Stands view h
 view_stands_too view now h e st = rw e st
 
--- barriers with these seats and this front stand for the events
-abbrev pub StandAt : List Seat → Front → List Event → Type 0
-StandAt seats front h = Stands (record { seats = seats; front = front }) h
+-- barriers with these seats, this front and these counts stand for the events
+abbrev pub StandAt : List Seat → Front → BoundTasks → List Event → Type 0
+StandAt seats front tasks h = Stands (record { seats = seats; front = front; tasks = tasks }) h
 
 -- Looking
 
-pub look_is : (seats : List Seat) (front : Front) (m : ℕ) (seat : Seat) (h : List Event) → StandAt seats front h → slice_get seats m ≡ Some seat →
-    record { number = number_for front seat; tag = tag_for front seat; arrived = seat.arrived; left = seat.left } ≡ at_barrier m h
-look_is seats front m seat h st at =
+pub look_is : (seats : List Seat) (front : Front) (tasks : BoundTasks) (m : ℕ) (seat : Seat) (h : List Event) → StandAt seats front tasks h → slice_get seats m ≡ Some seat →
+    record { number = number_for front seat; tag = tag_for front seat; arrived = seat.arrived; left = seat.left } ≡ barrier_seen m h
+look_is seats front tasks m seat h st at =
     let p = st.barrier.seat m seat at in
     let number : number_for front seat ≡ shown_number (barriers_passed m h) = number_is seats front st.least seat h st.barrier ∙ ap shown_number (sym p.passed_is) in
     let tag : tag_for front seat ≡ tag_at (barriers_passed m h) h = sym (tag_is seats front st.least seat h st.barrier) ∙ ap (λ g. tag_at g h) (sym p.passed_is) in
@@ -64,10 +68,17 @@ aside_rule members (Arrive barrier k tag) h is = absurd is
 aside_rule members (Pass barrier k) h is = absurd is
 aside_rule members _ h is = tt
 
+aside_tasks : (tasks : BoundTasks) (least : ℕ) (event : Event) (h : List Event) → IsAside event → TasksStand tasks least h → TasksStand tasks least (event ∷ h)
+aside_tasks tasks least (Create task k parent desc) h is t = absurd is
+aside_tasks tasks least (Done task k) h is t = absurd is
+aside_tasks tasks least _ h is t = record { counted = t.counted; near = t.near; unborn = t.unborn }
+
 pub aside_keeps : (barriers : BarriersView) (h : List Event) (event : Event) → IsAside event → Stands barriers h → Stands barriers (event ∷ h)
 aside_keeps barriers h event is st = record {
   least = st.least;
+  tasks = aside_tasks barriers.tasks st.least event h is st.tasks;
   barrier = record {
+    parity = st.barrier.parity;
     number = st.barrier.number;
     tag = aside_tag event h is st.least ∙ st.barrier.tag;
     next = aside_tag event h is (st.least + 1) ∙ st.barrier.next;
@@ -80,8 +91,8 @@ aside_keeps barriers h event is st = record {
 
 -- Arriving
 
-pub tag_here : (seats : List Seat) (front : Front) (m : ℕ) (seat : Seat) (h : List Event) → StandAt seats front h → slice_get seats m ≡ Some seat → tag_at (barriers_passed m h) h ≡ tag_for front seat
-tag_here seats front m seat h st at =
+pub tag_here : (seats : List Seat) (front : Front) (tasks : BoundTasks) (m : ℕ) (seat : Seat) (h : List Event) → StandAt seats front tasks h → slice_get seats m ≡ Some seat → tag_at (barriers_passed m h) h ≡ tag_for front seat
+tag_here seats front tasks m seat h st at =
     ap (λ g. tag_at g h) (st.barrier.seat m seat at).passed_is ∙ tag_is seats front st.least seat h st.barrier
 
 ahead_stays : (front after : Front) (m : ℕ) (seat new : Seat) (seats : List Seat) → slice_get seats m ≡ Some seat → new.odd ≡ seat.odd → after.odd ≡ front.odd → SomeBehind front seats → SomeBehind after (slice_set seats m new)
@@ -104,49 +115,37 @@ ahead_stays front after m seat new seats at odd turn behind = λ all. behind (λ
     same_ahead : (one other : Seat) → one.odd ≡ other.odd → is_ahead after one ≡ true → is_ahead front other ≡ true
     same_ahead one other e is = subst (λ odd. differ odd front.odd ≡ true) e (subst (λ odd. differ one.odd odd ≡ true) turn is)
 
-pub arrive_keeps : (seats : List Seat) (front : Front) (m : ℕ) (seat : Seat) (tag : Tag) (h : List Event) → StandAt seats front h → slice_get seats m ≡ Some seat → tag_differs tag (tag_for front seat) ≡ false →
-    StandAt (slice_set seats m (record { odd = seat.odd; arrived = Some tag; left = seat.left })) (arrived_at front seat tag) (Arrive (barriers_passed m h) m tag ∷ h)
-arrive_keeps seats front m seat tag h st at fine =
+pub arrive_keeps : (seats : List Seat) (front : Front) (tasks : BoundTasks) (m : ℕ) (seat : Seat) (tag : Tag) (h : List Event) → StandAt seats front tasks h → slice_get seats m ≡ Some seat → tag_differs tag (tag_for front seat) ≡ false →
+    StandAt (slice_set seats m (record { odd = seat.odd; arrived = Some tag; left = seat.left })) (arrived_at front seat tag) tasks (Arrive (barriers_passed m h) m tag ∷ h)
+arrive_keeps seats front tasks m seat tag h st at fine =
     let new : Seat = record { odd = seat.odd; arrived = Some tag; left = seat.left } in
     let p = st.barrier.seat m seat at in
     record {
       least = st.least;
       barrier = subst (λ g. FrontStands (slice_set seats m new) (arrived_at front seat tag) st.least (Arrive g m tag ∷ h)) (sym p.passed_is) (arrival_keeps_the_front seats front st.least m seat new tag h st.barrier at refl refl refl);
+      tasks = record { counted = st.tasks.counted; near = st.tasks.near; unborn = st.tasks.unborn };
       behind = ahead_stays front (arrived_at front seat tag) m seat new seats at refl (turn_arrived front seat tag) st.behind;
       rule = subst (λ n. Always (ArrivalRule n) (Arrive (barriers_passed m h) m tag ∷ h)) (sym (length-set seats m new)) (
-        record { number = refl; same = same_tags tag (tag_at (barriers_passed m h) h) (ap (tag_differs tag) (tag_here seats front m seat h st at) ∙ fine) },
+        record { number = refl; same = same_tags tag (tag_at (barriers_passed m h) h) (ap (tag_differs tag) (tag_here seats front tasks m seat h st at) ∙ fine) },
         st.rule,
       );
     }
 
 -- whether a tag differs from those of the others, by what the seat shows of them
-pub differs_is : (seats : List Seat) (front : Front) (m : ℕ) (seat : Seat) (tag : Tag) (others : Option Tag) (differs : Bool) (h : List Event) → StandAt seats front h → slice_get seats m ≡ Some seat → others ≡ tag_for front seat → differs ≡ tag_differs tag others →
+pub differs_is : (seats : List Seat) (front : Front) (tasks : BoundTasks) (m : ℕ) (seat : Seat) (tag : Tag) (others : Option Tag) (differs : Bool) (h : List Event) → StandAt seats front tasks h → slice_get seats m ≡ Some seat → others ≡ tag_for front seat → differs ≡ tag_differs tag others →
     tag_differs tag (tag_at (barriers_passed m h) h) ≡ differs
-differs_is seats front m seat tag others differs h st at seen is = ap (tag_differs tag) (tag_here seats front m seat h st at ∙ sym seen) ∙ sym is
+differs_is seats front tasks m seat tag others differs h st at seen is = ap (tag_differs tag) (tag_here seats front tasks m seat h st at ∙ sym seen) ∙ sym is
 
 -- Passing
 
-pub met_ahead : (seats : List Seat) (front : Front) (m : ℕ) (seat : Seat) (h : List Event) → StandAt seats front h → slice_get seats m ≡ Some seat → is_ahead front seat ≡ true → barrier_met (length seats) (barriers_passed m h) h ≡ false
-met_ahead seats front m seat h st at ahead =
-    let next : barrier_of front st.least seat ≡ st.least + 1 = rw ahead refl in
-    subst (λ g. barrier_met (length seats) g h ≡ false) (sym ((st.barrier.seat m seat at).passed_is ∙ next)) (not_met_ahead seats front st.least h st.barrier st.behind)
-
-at_least : (seats : List Seat) (front : Front) (m : ℕ) (seat : Seat) (h : List Event) (st : StandAt seats front h) → slice_get seats m ≡ Some seat → is_ahead front seat ≡ false → barriers_passed m h ≡ st.least
-at_least seats front m seat h st at behind =
+at_least : (seats : List Seat) (front : Front) (tasks : BoundTasks) (m : ℕ) (seat : Seat) (h : List Event) (st : StandAt seats front tasks h) → slice_get seats m ≡ Some seat → is_ahead front seat ≡ false → barriers_passed m h ≡ st.least
+at_least seats front tasks m seat h st at behind =
     let same : barrier_of front st.least seat ≡ st.least = rw behind refl in (st.barrier.seat m seat at).passed_is ∙ same
 
-pub met_not : (seats : List Seat) (front : Front) (m : ℕ) (seat : Seat) (h : List Event) → StandAt seats front h → slice_get seats m ≡ Some seat → is_ahead front seat ≡ false → (All (IsThere front) seats → ⊥) →
-    barrier_met (length seats) (barriers_passed m h) h ≡ false
-met_not seats front m seat h st at behind not_all =
-    elim (cases_Bool (barrier_met (length seats) (barriers_passed m h) h)) [
-      | inl e ↦ absurd (not_all (met_all seats front st.least h st.barrier (subst (λ g. barrier_met (length seats) g h ≡ true) (at_least seats front m seat h st at behind) e)))
-      | inr e ↦ e
-    ]
-
-pub met_now : (seats : List Seat) (front : Front) (m : ℕ) (seat : Seat) (h : List Event) → StandAt seats front h → slice_get seats m ≡ Some seat → is_ahead front seat ≡ false → All (IsThere front) seats →
-    barrier_met (length seats) (barriers_passed m h) h ≡ true
-met_now seats front m seat h st at behind all =
-    subst (λ g. barrier_met (length seats) g h ≡ true) (sym (at_least seats front m seat h st at behind)) (met_by seats front st.least h st.barrier all)
+-- the answer of a turn
+pub turn_is : (seats : List Seat) (front : Front) (tasks : BoundTasks) (m : ℕ) (seat : Seat) (h : List Event) (result : Bool) → StandAt seats front tasks h → slice_get seats m ≡ Some seat →
+    (IsTrue result → MayTurn (record { seats = seats; front = front; tasks = tasks }) seat) → (MayTurn (record { seats = seats; front = front; tasks = tasks }) seat → IsTrue result) → result ≡ may_pass (length seats) m h
+turn_is seats front tasks m seat h result st at may must = ?
 
 -- all seats pass a test, or not all do
 decide_all : (test : Seat → Bool) (seats : List Seat) → All (λ p. test p ≡ true) seats ⊎ (All (λ p. test p ≡ true) seats → ⊥)
@@ -165,47 +164,24 @@ decide_all test (x ∷ xs) =
     cons_all (suc k) d e all lt = all k d (omega arith)
 
 -- the front after members have passed
-pub settle_keeps : (seats : List Seat) (front settled : Front) (m : ℕ) (seat : Seat) (least : ℕ) (h : List Event) → FrontStands seats front least h → slice_get seats m ≡ Some seat → Always (ArrivalRule (length seats)) h →
-    (All (λ p. is_ahead front p ≡ true) seats → settled ≡ next_front front) → ((All (λ p. is_ahead front p ≡ true) seats → ⊥) → settled ≡ front) → StandAt seats settled h
-settle_keeps seats front settled m seat least h st at rule all some =
-    elim (decide_all (is_ahead front) seats) [
-      | inl every ↦ rw (all every) (record { least = least + 1; barrier = moves_on seats front least h st every; behind = behind_again seats front m seat at every; rule = rule })
-      | inr not_every ↦ rw (some not_every) (record { least = least; barrier = st; behind = not_every; rule = rule })
-    ]
-
-there_tag : (front : Front) (seat : Seat) → is_ahead front seat ≡ false → IsThere front seat → (tag : Tag) × (seat.arrived ≡ Some tag)
-there_tag front seat behind is = some_of seat.arrived (subst (λ b. (b || is_some seat.arrived) ≡ true) behind is)
-
-pub turn_keeps : (seats : List Seat) (front settled : Front) (m : ℕ) (seat : Seat) (h : List Event) → StandAt seats front h → slice_get seats m ≡ Some seat → is_ahead front seat ≡ false → All (IsThere front) seats →
+pub turn_keeps : (seats : List Seat) (front settled : Front) (tasks : BoundTasks) (m : ℕ) (seat : Seat) (h : List Event) → StandAt seats front tasks h → slice_get seats m ≡ Some seat → MayTurn (record { seats = seats; front = front; tasks = tasks }) seat →
     (All (λ p. is_ahead front p ≡ true) (slice_set seats m (passed_by seat (was_region_end seat.arrived))) → settled ≡ next_front front) →
     ((All (λ p. is_ahead front p ≡ true) (slice_set seats m (passed_by seat (was_region_end seat.arrived))) → ⊥) → settled ≡ front) →
-    StandAt (slice_set seats m (passed_by seat (was_region_end seat.arrived))) settled (Pass (barriers_passed m h) m ∷ h)
-turn_keeps seats front settled m seat h st at behind all every some =
-    let new : Seat = passed_by seat (was_region_end seat.arrived) in
-    let is : IsThere front seat = rw (get_or_from_slice_get seats m seat seat at) at (all m seat (slice_get_within seats m seat at)) in
-    let tag = there_tag front seat behind is in
-    let number = at_least seats front m seat h st at behind in
-    let left : new.left ≡ (seat.left || is_region_end tag.0.kind) = ap (λ t. seat.left || was_region_end t) tag.1 in
-    let moved : FrontStands (slice_set seats m new) front st.least (Pass (barriers_passed m h) m ∷ h) = subst (λ g. FrontStands (slice_set seats m new) front st.least (Pass g m ∷ h)) (sym number) (pass_keeps_the_front seats front st.least m seat new tag.0 h st.barrier at behind tag.1 refl refl left) in
-    let own : slice_get (slice_set seats m new) m ≡ Some new = set_same seats m new (slice_get_within seats m seat at) in
-    settle_keeps (slice_set seats m new) front settled m new st.least (Pass (barriers_passed m h) m ∷ h) moved own
-    (subst (λ n. Always (ArrivalRule n) (Pass (barriers_passed m h) m ∷ h)) (sym (length-set seats m new)) (record { number = refl; met = met_now seats front m seat h st at behind all }, st.rule)) every some
-  where
-    set_same : (xs : List Seat) (i : ℕ) (x : Seat) → i < length xs → slice_get (slice_set xs i x) i ≡ Some x
-    set_same [] i x lt = absurd (omega arith)
-    set_same (a ∷ xs) zero x lt = refl
-    set_same (a ∷ xs) (suc i) x lt = set_same xs i x (omega arith)
+    StandAt (slice_set seats m (passed_by seat (was_region_end seat.arrived))) settled tasks (Pass (barriers_passed m h) m ∷ h)
+turn_keeps seats front settled tasks m seat h st at may every some = ?
 
 -- New barriers stand for no events
 
-pub new_barriers_stand : (seats : List Seat) (n : ℕ) → 0 < n → seats ≡ replicate n (record { odd = false; arrived = None; left = false }) → StandAt seats (record { odd = false; number = 0; tag = None; next = None }) []
+pub new_barriers_stand : (seats : List Seat) (n : ℕ) → 0 < n → seats ≡ replicate n (record { odd = false; arrived = None; left = false }) → StandAt seats (record { odd = false; number = 0; tag = None; next = None }) (record { even = 0; odd = 0 }) []
 new_barriers_stand seats n some e =
     let new : Seat = record { odd = false; arrived = None; left = false } in
     let front : Front = record { odd = false; number = 0; tag = None; next = None } in
     let size : length seats ≡ n = ap length e ∙ length-replicate n new in
     record {
       least = 0;
+      tasks = record { counted = no_counts; near = λ t is. absurd (let none = is.0 in none_created t none); unborn = λ t lt. refl };
       barrier = record {
+        parity = refl;
         number = refl;
         tag = refl;
         next = refl;
@@ -220,6 +196,13 @@ new_barriers_stand seats n some e =
       rule = tt;
     }
   where
+    no_counts : (odd : Bool) → open_bound odd [] ≡ bound_count (record { even = 0; odd = 0 }) odd
+    no_counts true = refl
+    no_counts false = refl
+
+    none_created : (t : ℕ) → is_created t [] ≡ true → ⊥
+    none_created t made = ?
+
     one : (m : ℕ) (seat : Seat) → slice_get (replicate n (record { odd = false; arrived = None; left = false })) m ≡ Some seat → record { odd = false; arrived = None; left = false } ≡ seat
     one m seat at =
         let new : Seat = record { odd = false; arrived = None; left = false } in

@@ -1,15 +1,19 @@
--- What the calls on a team's barriers answer and add to the events. The newest event stands first. OpenMP API 5.2, section 15.3.
-use Rattle.std.specs.Prelude.{ℕ, Bool, true, false, List, ◌∷◌}
+-- What the calls on a team's barriers answer, require and add to the events. The newest event stands first. OpenMP API 5.2, section 15.3.
+use Rattle.std.specs.Prelude.{ℕ, ◌<◌, ◌≡◌, Bool, true, false, List, ◌∷◌}
+use Rattle.std.proofs.Common.{suc}
+use Rattle.gomp_types.specs.declared.task.Task.{Task}
+use Rattle.gomp_types.specs.declared.task.Task.TheVariants.{Implicit, Explicit}
 use Rattle.gomp_types.specs.declared.event.Tag.{Tag}
 use Rattle.gomp_types.specs.declared.event.Event.{Event}
-use Rattle.gomp_types.specs.declared.event.Event.TheVariants.{Arrive, Pass}
+use Rattle.gomp_types.specs.declared.event.Event.TheVariants.{Arrive, Pass, Create, Done}
 use Rattle.gomp_types.specs.Events.{barriers_passed, arrival, tag_at, has_left_region}
+use Rattle.gomp_types.specs.Tasks.{tasks_created, is_created, is_complete, epoch, epoch_of_child, is_odd}
 use Rattle.gomp_types.specs.Limits.{shown_number}
 use Rattle.gomp_barrier.specs.declared.barriers.AtBarrier.{AtBarrier}
 
 -- what these events say of the member's next barrier
-abbrev pub at_barrier : ℕ → List Event → AtBarrier
-at_barrier m h = record {
+abbrev pub barrier_seen : ℕ → List Event → AtBarrier
+barrier_seen m h = record {
   number = shown_number (barriers_passed m h);
   tag = tag_at (barriers_passed m h) h;
   arrived = arrival (barriers_passed m h) m h;
@@ -26,8 +30,30 @@ abbrev pub turn_after : Bool → ℕ → List Event → List Event
 turn_after true m h = Pass (barriers_passed m h) m ∷ h
 turn_after false m h = h
 
+-- the task was created, and is not complete
+abbrev pub IsOpen : ℕ → List Event → Type 0
+IsOpen t h = (is_created t h ≡ true) × (is_complete t h ≡ false)
+
+-- a task in which one may be created: the implicit one of a member of the team, or an open explicit one
+abbrev pub IsParent : ℕ → Task → List Event → Type 0
+IsParent members (Implicit m) h = m < members
+IsParent members (Explicit t) h = IsOpen t h
+
+-- the next task is created in this one, bound to a barrier of this parity
+pub record MayBind (members t : ℕ) (parent : Task) (odd : Bool) (h : List Event) : Type 0 where
+  pub number : t ≡ suc (tasks_created h)
+  pub parent_is : IsParent members parent h
+  pub parity : odd ≡ is_odd (epoch_of_child parent h)
+
+-- an open task is ended, which is bound to a barrier of this parity
+pub record MayRelease (t : ℕ) (odd : Bool) (h : List Event) : Type 0 where
+  pub is_open : IsOpen t h
+  pub parity : odd ≡ is_odd (epoch t h)
+
 -- an event that the barriers do not see
 abbrev pub IsAside : Event → Type 0
 IsAside (Arrive barrier m tag) = ⊥
 IsAside (Pass barrier m) = ⊥
+IsAside (Create task m parent desc) = ⊥
+IsAside (Done task m) = ⊥
 IsAside _ = Unit {0}

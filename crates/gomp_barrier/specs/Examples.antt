@@ -7,6 +7,7 @@ use Rattle.gomp_types.specs.declared.event.Event.TheVariants.{Arrive, Pass}
 use Rattle.gomp_barrier.specs.declared.barriers.AtBarrier.{AtBarrier}
 use Rattle.gomp_barrier.specs.declared.front.Seat.{Seat}
 use Rattle.gomp_barrier.specs.declared.front.Front.{Front}
+use Rattle.gomp_barrier.specs.declared.bound.BoundTasks.{BoundTasks}
 use Rattle.gomp_barrier.specs.Stands.{BarriersView}
 
 -- the arrivals at a barrier and at the region's end, after no share
@@ -34,8 +35,15 @@ seat_with odd arrived left = record { odd = odd; arrived = arrived; left = left 
 abbrev pub front_with : Bool → ℕ → Option Tag → Option Tag → Front
 front_with odd number tag next = record { odd = odd; number = number; tag = tag; next = next }
 
-abbrev pub barriers_with : List Seat → Front → BarriersView
-barriers_with seats front = record { seats = seats; front = front }
+-- so many open tasks are bound to barriers of even and of odd numbers
+abbrev pub bound_with : ℕ → ℕ → BoundTasks
+bound_with even odd = record { even = even; odd = odd }
+
+abbrev pub no_tasks : BoundTasks
+no_tasks = bound_with 0 0
+
+abbrev pub barriers_with : List Seat → Front → BoundTasks → BarriersView
+barriers_with seats front tasks = record { seats = seats; front = front; tasks = tasks }
 
 abbrev pub sees_barrier : ℕ → Option Tag → Option Tag → Bool → AtBarrier
 sees_barrier number tag arrived left = record { number = number; tag = tag; arrived = arrived; left = left }

@@ -1,4 +1,5 @@
 pub mod Seats
 pub mod Calls
+pub mod Bound
 pub mod Stands
 pub mod Examples

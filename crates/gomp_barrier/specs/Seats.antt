@@ -2,7 +2,8 @@
 use Rattle.std.specs.Prelude.{ℕ, ◌+◌, ◌<◌, ◌≤◌, ◌≡◌, Bool, true, false, not, ◌||◌, if◌then◌else◌, List, Option, Some, None, is_some, All, slice_get}
 use Rattle.gomp_types.specs.declared.event.Tag.{Tag}
 use Rattle.gomp_types.specs.declared.event.Event.{Event}
-use Rattle.gomp_types.specs.Events.{barriers_passed, arrival, tag_at, has_left_region}
+use Rattle.gomp_types.specs.Events.{barriers_passed, arrival, tag_at, has_left_region, was_region_end}
+use Rattle.gomp_types.specs.Tasks.{is_odd}
 use Rattle.gomp_types.specs.Limits.{shown_number}
 use Rattle.gomp_barrier.specs.declared.front.Seat.{Seat}
 use Rattle.gomp_barrier.specs.declared.front.Front.{Front}
@@ -28,6 +29,10 @@ number_for front member = if is_ahead front member then shown_number (front.numb
 -- the member has arrived at the front, or has passed it
 abbrev pub IsThere : Front → Seat → Type 0
 IsThere front member = (is_ahead front member || is_some member.arrived) ≡ true
+
+-- the member has arrived at the region's end, or has passed it
+abbrev pub has_come_to_end : Seat → Bool
+has_come_to_end member = member.left || was_region_end member.arrived
 
 -- the front after an arrival
 abbrev pub arrived_at : Front → Seat → Tag → Front
@@ -62,6 +67,7 @@ pub record SeatStands (front : Front) (least m : ℕ) (member : Seat) (h : List 
 
 -- the front, and each member's seat
 pub record FrontStands (members : List Seat) (front : Front) (least : ℕ) (h : List Event) : Type 0 where
+  pub parity : front.odd ≡ is_odd least
   pub number : front.number ≡ shown_number least
   pub tag : tag_at least h ≡ front.tag
   pub next : tag_at (least + 1) h ≡ front.next

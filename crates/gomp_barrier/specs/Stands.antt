@@ -1,24 +1,37 @@
 -- When the barriers of a team stand for a list of events. (own)
-use Rattle.std.specs.Prelude.{ℕ, List, length}
+use Rattle.std.specs.Prelude.{ℕ, ◌≡◌, true, false, not, List, length, All}
 use Rattle.gomp_types.specs.declared.event.Event.{Event}
 use Rattle.gomp_types.specs.Laws.{Always}
 use Rattle.gomp_types.specs.Arrivals.{ArrivalRule}
 use Rattle.gomp_barrier.specs.declared.front.Seat.{Seat}
 use Rattle.gomp_barrier.specs.declared.front.Front.{Front}
-use Rattle.gomp_barrier.specs.Seats.{FrontStands, SomeBehind}
+use Rattle.gomp_barrier.specs.declared.bound.BoundTasks.{BoundTasks}
+use Rattle.gomp_barrier.specs.Seats.{is_ahead, IsThere, has_come_to_end, FrontStands, SomeBehind}
+use Rattle.gomp_barrier.specs.Bound.{bound_count, TasksStand}
 
 -- the barriers of a team, as data
 pub record BarriersView : Type 0 where
   pub seats : List Seat
   pub front : Front
+  pub tasks : BoundTasks
 
 -- how many members the team has
 abbrev pub members_of : BarriersView → ℕ
 members_of barriers = length barriers.seats
 
--- each seat and the front say what the events do, some member has not passed the front, and the events keep their rule
+-- a member may pass the front: it has not, all are there, and no open task holds it up
+pub record MayTurn (barriers : BarriersView) (member : Seat) : Type 0 where
+  pub behind : is_ahead barriers.front member ≡ false
+  pub there : All (IsThere barriers.front) barriers.seats
+  -- none is bound to the front
+  pub bound : bound_count barriers.tasks barriers.front.odd ≡ 0
+  -- and at the region's end none to the barrier after it
+  pub ended : has_come_to_end member ≡ true → bound_count barriers.tasks (not barriers.front.odd) ≡ 0
+
+-- each seat, the front and the counts say what the events do, some member has not passed the front, and the events keep their rule
 pub record Stands (barriers : BarriersView) (h : List Event) : Type 0 where
   pub least : ℕ
   pub barrier : FrontStands barriers.seats barriers.front least h
+  pub tasks : TasksStand barriers.tasks least h
   pub behind : SomeBehind barriers.front barriers.seats
   pub rule : Always (ArrivalRule (members_of barriers)) h

@@ -1,15 +1,21 @@
 //! The barriers of a team that one thread steps.
 
-ghost use Rattle.std.specs.Prelude.{◌≡◌, ◌<◌, List, [], IfOk, not, false};
+ghost use Rattle.std.specs.Prelude.{◌≡◌, ◌<◌, ◌↔◌, ℕ, List, [], ◌∷◌, IfOk, IsTrue, not, false};
+ghost use Rattle.gomp_types.specs.declared.task.Task.{Task};
+ghost use Rattle.gomp_types.specs.declared.task.TaskDesc.{TaskDesc};
 ghost use Rattle.gomp_types.specs.declared.event.Event.{Event};
-ghost use Rattle.gomp_types.specs.Events.{barriers_passed, tag_at, barrier_met};
+ghost use Rattle.gomp_types.specs.declared.event.Event.TheVariants.{Create, Done};
+ghost use Rattle.gomp_types.specs.Events.{barriers_passed, tag_at, at_barrier};
+ghost use Rattle.gomp_types.specs.Tasks.{tasks_created, is_odd};
+ghost use Rattle.gomp_types.specs.Goals.{may_pass};
 ghost use Rattle.gomp_types.specs.Compare.{tag_differs};
-ghost use Rattle.gomp_barrier.specs.Calls.{at_barrier, arrived_after, turn_after};
-ghost use Rattle.gomp_barrier.specs.Stands.{Stands, members_of};
+ghost use Rattle.gomp_barrier.specs.Calls.{barrier_seen, arrived_after, turn_after, MayBind, MayRelease};
+ghost use Rattle.gomp_barrier.specs.Stands.{BarriersView, Stands, MayTurn, members_of};
 
+use crate::bound::BoundTasks;
 use crate::front::{
-    Front, Seat, all_there, arrived_at, ends_region, front_after, is_ahead, number_for, passed_by,
-    tag_for,
+    Front, Seat, all_there, arrived_at, ends_region, front_after, has_come_to_end, is_ahead,
+    number_for, passed_by, tag_for,
 };
 use gomp_types::Tag;
 use std::alloc::{AllocError, Global};
@@ -28,11 +34,13 @@ pub struct AtBarrier {
     pub left: bool,
 }
 
-/// The barriers of one team. After `make` no call takes memory.
+/// The barriers of one team, and how many open tasks are bound to them. After `make` no call takes
+/// memory.
 #[derive(Debug, Drop)]
 pub struct Barriers {
     seats: Vec<Seat>,
     front: Front,
+    tasks: BoundTasks,
 }
 
 impl Model for Barriers {
@@ -42,9 +50,9 @@ impl Model for Barriers {
 
     ghost Value = { BarriersView };
 
-    ghost view = { λ b. record { seats = b.seats.items; front = b.front } };
+    ghost view = { λ b. record { seats = b.seats.items; front = b.front; tasks = b.tasks } };
 
-    ghost invariant = { λ b. (h : List Event) × Stands (record { seats = b.seats.items; front = b.front }) h };
+    ghost invariant = { λ b. (h : List Event) × Stands (record { seats = b.seats.items; front = b.front; tasks = b.tasks }) h };
 }
 
 impl Barriers {
@@ -68,6 +76,7 @@ impl Barriers {
                 tag: None,
                 next: None,
             },
+            tasks: BoundTasks { even: 0, odd: 0 },
         })
     }
 
@@ -75,7 +84,7 @@ impl Barriers {
     pub fn look(&self, member: u16) -> AtBarrier
         requires member { member < members_of self.now }
         ensures known { (h : List Event) × Stands self.now h }
-        ensures value { (h : List Event) → Stands self.now h → result ≡ at_barrier member h }
+        ensures value { (h : List Event) → Stands self.now h → result ≡ barrier_seen member h }
     {
         let seat = self.seats[member as usize];
         AtBarrier {
@@ -112,29 +121,84 @@ impl Barriers {
         true
     }
 
-    /// The member, numbered from 0, passes its next barrier if every member has arrived there; else
+    /// Whether the member, numbered from 0, has passed an odd number of barriers: so whether a task
+    /// that is created in its implicit task is bound to a barrier of an odd number.
+    pub fn is_odd(&self, member: u16) -> bool
+        requires member { member < members_of self.now }
+        ensures known { (h : List Event) × Stands self.now h }
+        ensures value { (h : List Event) → Stands self.now h →
+            result ≡ is_odd (barriers_passed member h) }
+    {
+        self.seats[member as usize].odd
+    }
+
+    /// Whether the member, numbered from 0, waits at a barrier: it has arrived there, and has not
+    /// passed it.
+    pub fn at_barrier(&self, member: u16) -> bool
+        requires member { member < members_of self.now }
+        ensures known { (h : List Event) × Stands self.now h }
+        ensures value { (h : List Event) → Stands self.now h → result ≡ at_barrier member h }
+    {
+        self.seats[member as usize].arrived.is_some()
+    }
+
+    /// The member, numbered from 0, passes its next barrier if every member has arrived there and
+    /// every task that is bound to it is complete; at the region's end, if every task is. Else
     /// nothing changes, and the answer is false.
     pub fn turn(&mut self, member: u16) -> bool
         requires member { member < members_of self.old }
         ensures members { members_of self.new ≡ members_of self.old }
         ensures known { (h : List Event) × Stands self.old h }
         ensures answer { (h : List Event) → Stands self.old h →
-            result ≡ barrier_met (members_of self.old) (barriers_passed member h) h }
+            result ≡ may_pass (members_of self.old) member h }
         ensures kept { result ≡ false → self.new ≡ self.old }
         ensures stands { (h : List Event) → Stands self.old h →
             Stands self.new (turn_after result member h) }
     {
         let seat = self.seats[member as usize];
-        if is_ahead(&self.front, &seat) {
-            return false;
-        }
-        if !all_there(&self.front, &self.seats) {
+        if !may_turn(&self.seats, &self.front, &self.tasks, &seat) {
             return false;
         }
         self.seats[member as usize] = passed_by(&seat, ends_region(seat.arrived));
         self.front = front_after(&self.front, &self.seats);
         true
     }
+
+    /// A task was created, bound to a barrier whose number has this parity (`odd`): the next one of
+    /// the member in whose implicit task its tree begins. `is_odd` tells that of a child of an
+    /// implicit task; a child of an explicit task has its parent's.
+    pub fn bind(&mut self, odd: bool)
+        requires may { (h : List Event) × (task : ℕ) × (parent : Task) × Stands self.old h ×
+            MayBind (members_of self.old) task parent odd h }
+        requires room { (h : List Event) × Stands self.old h × (tasks_created h < u32.MAX) }
+        ensures members { members_of self.new ≡ members_of self.old }
+        ensures stands { (h : List Event) (task member : ℕ) (parent : Task) (desc : TaskDesc) →
+            Stands self.old h → MayBind (members_of self.old) task parent odd h →
+            Stands self.new (Create task member parent desc ∷ h) }
+    {
+        self.tasks = self.tasks.one_more(odd);
+    }
+
+    /// A task was ended that was bound to a barrier whose number has this parity (`odd`).
+    pub fn release(&mut self, odd: bool)
+        requires may { (h : List Event) × (task : ℕ) × Stands self.old h × MayRelease task odd h }
+        ensures members { members_of self.new ≡ members_of self.old }
+        ensures stands { (h : List Event) (task member : ℕ) → Stands self.old h →
+            MayRelease task odd h → Stands self.new (Done task member ∷ h) }
+    {
+        self.tasks = self.tasks.one_less(odd);
+    }
+}
+
+/// Whether the member may pass its next barrier.
+fn may_turn(seats: &[Seat], front: &Front, tasks: &BoundTasks, member: &Seat) -> bool
+    ensures { IsTrue result ↔ MayTurn
+        (record { seats = seats.now; front = front.now; tasks = tasks.now }) member.now }
+{
+    !is_ahead(front, member)
+        && all_there(front, seats)
+        && tasks.count(front.odd) == 0
+        && (!has_come_to_end(member) || tasks.count(!front.odd) == 0)
 }
 
 /// Whether some member arrived with another tag.

@@ -5,7 +5,7 @@
 
 ghost use Rattle.std.specs.Prelude.{◌≡◌, ◌↔◌, IsTrue, All};
 ghost use Rattle.gomp_types.specs.Events.{was_region_end};
-ghost use Rattle.gomp_barrier.specs.Seats.{is_ahead, tag_for, number_for, IsThere, AllAhead, SomeBehind, arrived_at, passed_by, next_front};
+ghost use Rattle.gomp_barrier.specs.Seats.{is_ahead, tag_for, number_for, IsThere, has_come_to_end, AllAhead, SomeBehind, arrived_at, passed_by, next_front};
 
 use gomp_types::{Arrival, Tag};
 
@@ -116,6 +116,13 @@ pub fn front_after(front: &Front, members: &[Seat]) -> Front
     } else {
         *front
     }
+}
+
+/// Whether the member has arrived at the region's end, or has passed it.
+pub fn has_come_to_end(member: &Seat) -> bool
+    ensures { result ≡ has_come_to_end member.now }
+{
+    member.left || ends_region(member.arrived)
 }
 
 /// Whether an arrival is at the region's end.
