@@ -85,9 +85,9 @@ AwaitsTasks m met h (Run task code arg own) =
 AwaitsTasks m met h Wait = (met ≡ false) × (some_startable m h ≡ false)
 AwaitsTasks m met h _ = ⊥
 
--- the answer to the creator of a task: its number, the next one
+-- the answer to the creator of a task, once it is created: its number
 abbrev pub CreatesTask : List Event → Reply → Type 0
-CreatesTask h reply = reply ≡ Created (suc (tasks_created h))
+CreatesTask h reply = reply ≡ Created (tasks_created h)
 
 -- the answer at the end of the task that the member executes: the wait at which it was started is open again
 abbrev pub EndsTask : Task → Reply → Type 0

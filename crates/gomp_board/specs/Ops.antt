@@ -1,0 +1,171 @@
+-- What each operation on a board is tested for, what it is answered, and which events it gives. OpenMP API 5.2, chapter 12 and sections 15.3 to 15.5.
+use Rattle.std.specs.Prelude.{ℕ, ◌+◌, ◌-◌, ◌≡◌, ◌&&◌, nat_lt, nat_le, not, Bool, true, false, if◌then◌else◌, IsTrue, List, [], ◌∷◌, ◌++◌, Option, Some, None}
+use Rattle.gomp_types.specs.declared.limits.Limits.{Limits}
+use Rattle.gomp_types.specs.declared.refusal.Clash.{Clash}
+use Rattle.gomp_types.specs.declared.refusal.Place.{Place}
+use Rattle.gomp_types.specs.declared.refusal.Place.TheVariants.{Share, Barrier as AtBarrier, Stopped as AtStop}
+use Rattle.gomp_types.specs.declared.refusal.Refusal.{Refusal}
+use Rattle.gomp_types.specs.declared.refusal.Refusal.TheVariants.{Ended, Broken, Waiting, NotInside, Mismatch, NoMemory}
+use Rattle.gomp_types.specs.declared.reply.Reply.{Reply}
+use Rattle.gomp_types.specs.declared.reply.Reply.TheVariants.{Finished, Passed, Stopped, Refused}
+use Rattle.gomp_types.specs.declared.event.Arrival.{Arrival}
+use Rattle.gomp_types.specs.declared.event.Arrival.TheVariants.{Barrier, ShareEnd, RegionEnd}
+use Rattle.gomp_types.specs.declared.event.Event.{Event}
+use Rattle.gomp_types.specs.declared.event.Event.TheVariants.{Arrive as ArriveEvent, Pass, Break as BreakEvent}
+use Rattle.gomp_types.specs.Tests.{Test}
+use Rattle.gomp_types.specs.Least.{least}
+use Rattle.gomp_types.specs.Limits.{shown_number}
+use Rattle.gomp_types.specs.Compare.{tag_differs}
+use Rattle.gomp_types.specs.Events.{barriers_passed, tag_at, at_barrier, has_left_region, clash_of}
+use Rattle.gomp_types.specs.Tasks.{executed_task, in_task}
+use Rattle.gomp_types.specs.Goals.{may_pass}
+use Rattle.gomp_types.specs.TaskCalls.{outside_tasks_tests, group_open_tests, create_tests, end_task_tests, end_group_tests, room_tests, task_room, group_room, arrival_room, AwaitsTasks, CreatesTask, EndsTask, AwaitsChildren, AwaitsGroup, creates, starts_task, ends_task, waited, opens_group, ends_group}
+use Rattle.gomp_board.specs.declared.op.Op.{Op}
+use Rattle.gomp_board.specs.declared.op.Op.TheVariants.{Create, EndTask, AwaitChildren, OpenGroup, EndGroup, Arrive, AwaitBarrier, Reserve, Break}
+
+-- Room
+
+-- the room that an arrival asks for: none at the region's end, whose room every team is made with, and none at the end of a share that has kept it
+abbrev pub arrival_asks : Arrival → ℕ → ℕ
+arrival_asks Barrier kept = arrival_room
+arrival_asks ShareEnd kept = if nat_le arrival_room kept then 0 else arrival_room
+arrival_asks RegionEnd kept = 0
+
+-- the room that an operation asks for, if its member has kept so much
+abbrev pub op_asks : Op → ℕ → ℕ
+op_asks (Create desc) kept = task_room
+op_asks OpenGroup kept = group_room
+op_asks (Arrive tag) kept = arrival_asks tag.kind kept
+op_asks (Reserve more) kept = more
+op_asks _ kept = 0
+
+-- what its member keeps after it: the end of a share uses what was kept
+abbrev pub arrival_keeps : Arrival → ℕ → ℕ
+arrival_keeps ShareEnd kept = if nat_le arrival_room kept then kept - arrival_room else kept
+arrival_keeps _ kept = kept
+
+abbrev pub op_keeps : Op → ℕ → ℕ
+op_keeps (Arrive tag) kept = arrival_keeps tag.kind kept
+op_keeps (Reserve more) kept = kept + more
+op_keeps _ kept = kept
+
+-- Tests
+
+-- a broken team refuses every operation
+abbrev pub broken_tests : Option Clash → List Test
+broken_tests None = []
+broken_tests (Some clash) = (true, Broken clash) ∷ []
+
+-- what every operation is tested for: the member has passed the region's end, the team is broken
+abbrev pub member_tests : ℕ → List Event → List Test
+member_tests m h = (has_left_region m h, Ended) ∷ broken_tests (clash_of h)
+
+-- whether the member waits at a barrier itself, and does not execute a task there
+abbrev pub awaits_barrier : ℕ → List Event → Bool
+awaits_barrier m h = at_barrier m h && not (in_task m h)
+
+-- an operation that is not asked while the member waits at a barrier
+abbrev pub busy_tests : ℕ → List Event → List Test
+busy_tests m h = (awaits_barrier m h, Waiting) ∷ []
+
+-- the region's end leaves no group open
+abbrev pub end_tests : Arrival → ℕ → List Event → List Test
+end_tests RegionEnd m h = group_open_tests m h
+end_tests _ m h = []
+
+-- whether a break is that of a stop
+abbrev pub is_stop : Place → Bool
+is_stop AtStop = true
+is_stop _ = false
+
+-- the tests of an operation, if so much room was asked for, of which its member has kept so much
+abbrev pub op_tests : Limits → ℕ → ℕ → ℕ → Op → List Event → List Test
+op_tests limits room kept m (Create desc) h = busy_tests m h ++ (create_tests limits m h ++ room_tests limits room task_room)
+op_tests limits room kept m EndTask h = busy_tests m h ++ end_task_tests m h
+op_tests limits room kept m AwaitChildren h = busy_tests m h
+op_tests limits room kept m OpenGroup h = busy_tests m h ++ room_tests limits room group_room
+op_tests limits room kept m EndGroup h = busy_tests m h ++ end_group_tests m h
+op_tests limits room kept m (Arrive tag) h =
+    busy_tests m h
+    ++ (outside_tasks_tests m h ++ (end_tests tag.kind m h
+    ++ ((tag_differs tag (tag_at (barriers_passed m h) h), Mismatch) ∷ room_tests limits room (arrival_asks tag.kind kept))))
+op_tests limits room kept m AwaitBarrier h = (not (awaits_barrier m h), NotInside) ∷ []
+op_tests limits room kept m (Reserve more) h = busy_tests m h ++ (outside_tasks_tests m h ++ room_tests limits room more)
+op_tests limits room kept m (Break place) h = (not (is_stop place), Mismatch) ∷ []
+
+-- an operation is refused by that of its tests that hold whose refusal has the least number
+abbrev pub op_refusal : Limits → ℕ → ℕ → ℕ → Op → List Event → Option Refusal
+op_refusal limits room kept m op h = least (member_tests m h ++ op_tests limits room kept m op h)
+
+-- Events, the newest first
+
+-- those that it gives before its reply, unless it is refused
+abbrev pub op_begins : ℕ → Op → List Event → List Event
+op_begins m (Create desc) h = creates m desc h
+op_begins m (Arrive tag) h = ArriveEvent (barriers_passed m h) m tag ∷ []
+op_begins m _ h = []
+
+-- the events once it has begun
+abbrev pub begun : ℕ → Op → List Event → List Event
+begun m op h = op_begins m op h ++ h
+
+-- the barrier at which the member waits is passed, or a task is started there
+abbrev pub passes_barrier : ℕ → List Event → Reply → List Event
+passes_barrier m h Passed = Pass (barriers_passed m h) m ∷ []
+passes_barrier m h reply = starts_task m reply
+
+-- a stop breaks the team
+abbrev pub breaks : ℕ → Place → Reply → List Event
+breaks m place Stopped = BreakEvent m place ∷ []
+breaks m place _ = []
+
+-- those that its reply gives
+abbrev pub op_gives : ℕ → Op → List Event → Reply → List Event
+op_gives m (Create desc) h reply = []
+op_gives m EndTask h reply = ends_task m reply
+op_gives m AwaitChildren h reply = waited m reply
+op_gives m OpenGroup h reply = opens_group m h reply
+op_gives m EndGroup h reply = ends_group m h reply
+op_gives m (Arrive tag) h reply = passes_barrier m h reply
+op_gives m AwaitBarrier h reply = passes_barrier m h reply
+op_gives m (Reserve more) h reply = []
+op_gives m (Break place) h reply = breaks m place reply
+
+-- where the member's construct differs
+abbrev pub op_place : ℕ → Op → List Event → Place
+op_place m (Break place) h = place
+op_place m _ h = AtBarrier (shown_number (barriers_passed m h))
+
+-- a mismatch breaks the team, no other refusal changes anything
+abbrev pub refusal_gives : ℕ → Place → Refusal → List Event
+refusal_gives m place Mismatch = BreakEvent m place ∷ []
+refusal_gives m place _ = []
+
+-- the events after an operation and its reply, if the team was not broken before
+abbrev pub op_after : ℕ → Op → Reply → List Event → List Event
+op_after m op (Refused refusal) h = refusal_gives m (op_place m op h) refusal ++ h
+op_after m op reply h = op_gives m op (begun m op h) reply ++ begun m op h
+
+-- Replies
+
+-- the reply to an operation that no test refuses, by the events once it has begun
+abbrev pub OpReply : ℕ → ℕ → Op → List Event → Reply → Type 0
+OpReply members m (Create desc) h reply = CreatesTask h reply
+OpReply members m EndTask h reply = EndsTask (executed_task m h) reply
+OpReply members m AwaitChildren h reply = AwaitsChildren m h reply
+OpReply members m OpenGroup h reply = reply ≡ Finished
+OpReply members m EndGroup h reply = AwaitsGroup m h reply
+OpReply members m (Arrive tag) h reply = AwaitsTasks m (may_pass members m h) h reply
+OpReply members m AwaitBarrier h reply = AwaitsTasks m (may_pass members m h) h reply
+OpReply members m (Reserve more) h reply = reply ≡ Finished
+OpReply members m (Break place) h reply = reply ≡ Stopped
+
+-- whether an operation may find no memory: it asks for room
+abbrev pub asks_memory : Op → ℕ → Bool
+asks_memory op kept = nat_lt 0 (op_asks op kept)
+
+-- the answer of a board of a team of this size: a refusal is that of the tests; if none holds, an operation that asks for room may find no memory; any other reply is the operation's
+abbrev pub OpAnswer : Limits → ℕ → ℕ → ℕ → ℕ → Op → List Event → Reply → Type 0
+OpAnswer limits room kept members m op h (Refused NoMemory) = (op_refusal limits room kept m op h ≡ None) × IsTrue (asks_memory op kept)
+OpAnswer limits room kept members m op h (Refused refusal) = op_refusal limits room kept m op h ≡ Some refusal
+OpAnswer limits room kept members m op h reply = (op_refusal limits room kept m op h ≡ None) × OpReply members m op (begun m op h) reply

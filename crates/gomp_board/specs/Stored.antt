@@ -1,0 +1,23 @@
+-- Which events a board stores. (own)
+use Rattle.std.specs.Prelude.{Bool, true, false, if◌then◌else◌, List, [], ◌∷◌}
+use Rattle.gomp_types.specs.declared.event.Event.{Event}
+use Rattle.gomp_types.specs.declared.event.Event.TheVariants.{Put, Got, Arrive, Pass, Create, Start, Done, Group, GroupEnd, Break}
+
+-- whether a board stores the event: not what a member does in its shares, nor a taskwait, nor what names and locks keep
+abbrev pub is_stored : Event → Bool
+is_stored (Put share m payload) = true
+is_stored (Got share m payload) = true
+is_stored (Arrive barrier m tag) = true
+is_stored (Pass barrier m) = true
+is_stored (Create task m parent desc) = true
+is_stored (Start task m) = true
+is_stored (Done task m) = true
+is_stored (Group group m) = true
+is_stored (GroupEnd group m) = true
+is_stored (Break m place) = true
+is_stored _ = false
+
+-- those that it stores
+abbrev pub stored : List Event → List Event
+stored [] = []
+stored (event ∷ earlier) = if is_stored event then event ∷ stored earlier else stored earlier

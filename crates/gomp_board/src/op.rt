@@ -1,0 +1,28 @@
+//! What a team asks of its board.
+
+use gomp_types::{Place, Tag, TaskDesc};
+
+/// One call of a member, as far as it is the board's: the call itself, or the wait that a repeated
+/// call goes on with.
+#[derive(Debug, Drop, PartialEq, Eq)]
+pub enum Op {
+    /// Creates a task in the task that the member executes (OpenMP API 5.2, section 12.5).
+    Create(TaskDesc),
+    /// Ends that task.
+    EndTask,
+    /// Waits, or waits on, for the children of that task (section 15.5).
+    AwaitChildren,
+    /// Opens a group in that task (section 15.4).
+    OpenGroup,
+    /// Ends the last open group of that task, or waits on for the group's tasks.
+    EndGroup,
+    /// Arrives with this tag at the member's next barrier (section 15.3).
+    Arrive(Tag),
+    /// Waits on at the barrier at which the member has arrived.
+    AwaitBarrier,
+    /// Keeps room for so many events that the member gives later: those of the end of a share that
+    /// it starts (own).
+    Reserve(u32),
+    /// Breaks the team there (own).
+    Break(Place),
+}
