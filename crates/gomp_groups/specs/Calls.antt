@@ -1,0 +1,40 @@
+-- What the calls on a team's groups answer and when they may be made. OpenMP API 5.2, sections 15.4 and 15.5.
+use Rattle.std.specs.Prelude.{ℕ, ◌<◌, ◌≡◌, List, [], ◌∷◌, Option, Some, None}
+use Rattle.std.proofs.Common.{suc}
+use Rattle.gomp_types.specs.declared.task.Task.{Task}
+use Rattle.gomp_types.specs.declared.event.Event.{Event}
+use Rattle.gomp_types.specs.declared.event.Event.TheVariants.{Create, Done, Group, GroupEnd}
+use Rattle.gomp_types.specs.Tasks.{tasks_created, executed_task}
+use Rattle.gomp_types.specs.Groups.{open_groups}
+use Rattle.gomp_types.specs.TaskRules.{MayCreate, MayEndGroup}
+
+-- the first of these, if there is one
+abbrev pub first_of : List ℕ → Option ℕ
+first_of [] = None
+first_of (q ∷ qs) = Some q
+
+-- the last group that the task has opened and not ended
+abbrev pub last_open : Task → List Event → Option ℕ
+last_open task h = first_of (open_groups task h)
+
+-- the member is of the team, and executes the task
+pub record Executes (members m : ℕ) (task : Task) (h : List Event) : Type 0 where
+  pub member : m < members
+  pub current : executed_task m h ≡ task
+
+-- it executes the task, whose last group it may end
+pub record MayClose (members q m : ℕ) (task : Task) (h : List Event) : Type 0 where
+  pub current : executed_task m h ≡ task
+  pub rule : MayEndGroup members q m h
+
+-- it may create the next task in this one
+abbrev pub MayCreateIn : (members m : ℕ) → Task → List Event → Type 0
+MayCreateIn members m parent h = MayCreate members (suc (tasks_created h)) m parent h
+
+-- an event that changes no group
+abbrev pub IsAside : Event → Type 0
+IsAside (Create t m parent desc) = ⊥
+IsAside (Done t m) = ⊥
+IsAside (Group q m) = ⊥
+IsAside (GroupEnd q m) = ⊥
+IsAside _ = Unit {0}

@@ -1,0 +1,62 @@
+-- The rows of groups, tasks and members, and the chain of groups that they hold. OpenMP API 5.2, section 15.4.
+use Rattle.std.specs.Prelude.{ℕ, ◌+◌, ◌<◌, ◌≤◌, ◌≡◌, ◌==◌, Bool, true, false, if◌then◌else◌, List, [], ◌∷◌, Option, Some, None, IfSome, length, slice_index_or}
+use Rattle.std.proofs.Common.{zero, suc}
+use Rattle.gomp_types.specs.declared.task.Task.{Task}
+use Rattle.gomp_types.specs.declared.task.Task.TheVariants.{Implicit, Explicit}
+use Rattle.gomp_types.specs.Tasks.{contains}
+use Rattle.gomp_groups.specs.declared.rows.GroupRow.{GroupRow}
+use Rattle.gomp_groups.specs.declared.rows.Seat.{Seat}
+use Rattle.gomp_groups.specs.declared.rows.TaskRow.{TaskRow}
+
+-- a group with no task, in no other; a task with no child, in no group; and its row
+abbrev pub no_group : GroupRow
+no_group = record { outer = None; pending = 0 }
+
+abbrev pub no_seat : Seat
+no_seat = record { children = 0; around = None; last = None }
+
+abbrev pub no_task : TaskRow
+no_task = record { parent = Implicit 0; seat = no_seat }
+
+-- the group around a group, and how many tasks in it are open
+abbrev pub outer_at : List GroupRow → ℕ → Option ℕ
+outer_at groups q = (slice_index_or groups q no_group).outer
+
+abbrev pub pending_at : List GroupRow → ℕ → ℕ
+pending_at groups q = (slice_index_or groups q no_group).pending
+
+-- what is kept of a task; the explicit ones are numbered from 1
+abbrev pub seat_at : List TaskRow → List Seat → Task → Seat
+seat_at tasks members (Implicit m) = slice_index_or members m no_seat
+seat_at tasks members (Explicit zero) = no_seat
+seat_at tasks members (Explicit (suc k)) = (slice_index_or tasks k no_task).seat
+
+-- the task is one of these
+abbrev pub IsSeatedIn : List TaskRow → List Seat → Task → Type 0
+IsSeatedIn tasks members (Implicit m) = m < length members
+IsSeatedIn tasks members (Explicit t) = (0 < t) × (t ≤ length tasks)
+
+-- these groups, and no others, are the first one, the group around it, the group around that, and so on
+abbrev pub IsChain : List GroupRow → Option ℕ → List ℕ → Type 0
+IsChain groups first [] = first ≡ None
+IsChain groups first (q ∷ qs) = (first ≡ Some q) × (q < length groups) × IsChain groups (outer_at groups q) qs
+
+-- a group lies in one that was opened before it
+abbrev pub IsNested : List GroupRow → Type 0
+IsNested groups = (q : ℕ) → IfSome (outer_at groups q) (λ outer. outer < q)
+
+-- whether two groups, or none, are the same
+abbrev pub same_group : Option ℕ → Option ℕ → Bool
+same_group None None = true
+same_group (Some a) (Some b) = a == b
+same_group _ _ = false
+
+-- the last group that the task has opened and not ended: the one that its children are in, unless it is in that itself
+abbrev pub own_group : Seat → Option ℕ
+own_group seat = if same_group seat.last seat.around then None else seat.last
+
+-- one more task is open in each of these groups, and nothing else changes
+pub record CountsOneMore (qs : List ℕ) (old new : List GroupRow) : Type 0 where
+  pub len : length new ≡ length old
+  pub outer : (q : ℕ) → outer_at new q ≡ outer_at old q
+  pub pending : (q : ℕ) → pending_at new q ≡ pending_at old q + (if contains q qs then 1 else 0)

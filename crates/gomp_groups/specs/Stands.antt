@@ -1,0 +1,62 @@
+-- When the groups of a team's tasks stand for a list of events. (own)
+use Rattle.std.specs.Prelude.{ℕ, ◌<◌, ◌≡◌, List, [], ◌++◌, length, slice_index_or}
+use Rattle.std.proofs.Common.{suc}
+use Rattle.gomp_types.specs.declared.task.Task.{Task}
+use Rattle.gomp_types.specs.declared.task.Task.TheVariants.{Implicit, Explicit}
+use Rattle.gomp_types.specs.declared.event.Event.{Event}
+use Rattle.gomp_types.specs.Laws.{Always}
+use Rattle.gomp_types.specs.Tasks.{tasks_created, open_tasks, is_child, same_task}
+use Rattle.gomp_types.specs.Groups.{groups_opened, open_groups, groups_around, in_group}
+use Rattle.gomp_types.specs.TaskRules.{TaskRule}
+use Rattle.gomp_groups.specs.declared.rows.GroupRow.{GroupRow}
+use Rattle.gomp_groups.specs.declared.rows.Seat.{Seat}
+use Rattle.gomp_groups.specs.declared.rows.TaskRow.{TaskRow}
+use Rattle.gomp_groups.specs.Rows.{no_task, pending_at, seat_at, IsSeatedIn, IsChain, IsNested}
+
+-- the groups of a team's tasks, as data
+pub record GroupsView : Type 0 where
+  -- the groups by their numbers
+  pub groups : List GroupRow
+  -- the explicit tasks, from number 1 on
+  pub tasks : List TaskRow
+  -- the members' implicit tasks
+  pub members : List Seat
+  -- so many tasks and groups find room in memory
+  pub task_room : ℕ
+  pub group_room : ℕ
+
+-- how many members the team has
+abbrev pub members_of : GroupsView → ℕ
+members_of groups = length groups.members
+
+-- the task is an implicit one of the team, or was created
+abbrev pub IsSeated : GroupsView → Task → Type 0
+IsSeated groups task = IsSeatedIn groups.tasks groups.members task
+
+-- the groups whose ends wait for a task: none waits for an implicit one
+abbrev pub groups_beyond : Task → List Event → List ℕ
+groups_beyond (Implicit m) h = []
+groups_beyond (Explicit t) h = groups_around t h
+
+-- each row and seat says what the events do, and the events keep their rule
+pub record GroupsStand (groups : List GroupRow) (tasks : List TaskRow) (members : List Seat) (h : List Event) : Type 0 where
+  -- so many groups were opened, and so many tasks created
+  pub opened : groups_opened h ≡ length groups
+  pub created : tasks_created h ≡ length tasks
+  -- a group lies in one that was opened before it
+  pub nested : IsNested groups
+  -- so many tasks in it are open
+  pub pending : (q : ℕ) → open_tasks (λ t. in_group q t h) h ≡ pending_at groups q
+  -- a task was created in its parent, and in no other
+  pub parent : (k : ℕ) → k < length tasks → (p : Task) → is_child p (suc k) h ≡ same_task (slice_index_or tasks k no_task).parent p
+  -- so many children of a task are open
+  pub children : (p : Task) → open_tasks (λ t. is_child p t h) h ≡ (seat_at tasks members p).children
+  -- a task is in these groups
+  pub around : (p : Task) → IsChain groups (seat_at tasks members p).around (groups_beyond p h)
+  -- a child that it creates now is in these
+  pub last : (p : Task) → IsChain groups (seat_at tasks members p).last (open_groups p h ++ groups_beyond p h)
+  pub rule : Always (TaskRule (length members)) h
+
+-- the groups stand for the events
+abbrev pub Stands : GroupsView → List Event → Type 0
+Stands groups h = GroupsStand groups.groups groups.tasks groups.members h

@@ -1,0 +1,224 @@
+//! The groups of a team that one thread steps.
+
+ghost use Rattle.std.specs.Prelude.{◌≡◌, ◌<◌, ◌≤◌, ◌+◌, ◌∷◌, ℕ, List, [], length, IfOk, IfSome, OnOk, OnErr, IsOk};
+ghost use Rattle.std.proofs.Common.{suc};
+ghost use Rattle.gomp_types.specs.declared.task.TaskDesc.{TaskDesc};
+ghost use Rattle.gomp_types.specs.declared.event.Event.{Event};
+ghost use Rattle.gomp_types.specs.declared.event.Event.TheVariants.{Create, Done, Group, GroupEnd};
+ghost use Rattle.gomp_types.specs.Tasks.{tasks_created};
+ghost use Rattle.gomp_types.specs.Groups.{groups_opened, group_complete};
+ghost use Rattle.gomp_types.specs.Goals.{children_complete};
+ghost use Rattle.gomp_types.specs.TaskRules.{MayEnd};
+ghost use Rattle.gomp_groups.specs.Stands.{Stands, IsSeated, members_of};
+ghost use Rattle.gomp_groups.specs.Calls.{last_open, Executes, MayClose, MayCreateIn};
+
+use crate::rows::{GroupRow, Seat, TaskRow, add_task, open_group, put_seat, remove_task, seat_of};
+use gomp_types::Task;
+use std::alloc::{AllocError, Global};
+use std::marker::Model;
+
+/// The groups of one team's tasks. After `make`, `reserve_task` and `reserve_group` no call takes
+/// memory.
+#[derive(Debug, Drop)]
+pub struct Groups {
+    groups: Vec<GroupRow>,
+    tasks: Vec<TaskRow>,
+    members: Vec<Seat>,
+}
+
+impl Model for Groups {
+    ghost use Rattle.std.specs.Prelude.{List, ◌-◌, vec_len, vec_capacity};
+    ghost use Rattle.gomp_types.specs.declared.event.Event.{Event};
+    ghost use Rattle.gomp_groups.specs.Stands.{GroupsView, GroupsStand};
+
+    ghost Value = { GroupsView };
+
+    ghost view = { λ g. record {
+      groups = g.groups.items;
+      tasks = g.tasks.items;
+      members = g.members.items;
+      task_room = vec_capacity g.tasks - vec_len g.tasks;
+      group_room = vec_capacity g.groups - vec_len g.groups;
+    } };
+
+    ghost invariant = { λ g. (h : List Event) × GroupsStand g.groups.items g.tasks.items g.members.items h };
+}
+
+impl Groups {
+    /// The groups of a new team of `count` members: none is open, and no task was created. It fails
+    /// if their memory is refused.
+    pub fn make(alloc: Global, count: u16) -> Result<Groups, AllocError>
+        ensures members { IfOk result (λ groups. members_of groups ≡ count) }
+        ensures stands { IfOk result (λ groups. Stands groups []) }
+    {
+        let seat = Seat {
+            children: 0,
+            around: None,
+            last: None,
+        };
+        Ok(Groups {
+            groups: Vec::new(alloc),
+            tasks: Vec::new(alloc),
+            members: vec![in alloc; seat; count as usize]?,
+        })
+    }
+
+    /// Makes room for one more task. It fails, and nothing changes, if the memory is refused.
+    pub fn reserve_task(&mut self) -> Result<(), AllocError>
+        ensures room { OnOk result (0 < self.new.task_room) }
+        ensures kept { OnOk result (self.new ≡ record self.old { task_room = self.new.task_room }) }
+        ensures grows { self.old.task_room ≤ self.new.task_room }
+        ensures there { 0 < self.old.task_room → IsOk result }
+        ensures err { OnErr result (self.new ≡ self.old) }
+    {
+        self.tasks.reserve(1)
+    }
+
+    /// Makes room for one more group. It fails, and nothing changes, if the memory is refused.
+    pub fn reserve_group(&mut self) -> Result<(), AllocError>
+        ensures room { OnOk result (0 < self.new.group_room) }
+        ensures kept { OnOk result (self.new ≡ record self.old { group_room = self.new.group_room }) }
+        ensures grows { self.old.group_room ≤ self.new.group_room }
+        ensures there { 0 < self.old.group_room → IsOk result }
+        ensures err { OnErr result (self.new ≡ self.old) }
+    {
+        self.groups.reserve(1)
+    }
+
+    /// The last group that the task, of this team, has opened and not ended.
+    pub fn last_open(&self, task: Task) -> Option<u64>
+        requires seated { IsSeated self.now task }
+        ensures known { (h : List Event) × Stands self.now h }
+        ensures value { (h : List Event) → Stands self.now h → result ≡ last_open task h }
+        ensures opened { IfSome result (λ group. group < length self.now.groups) }
+    {
+        open_group(&seat_of(&self.tasks, &self.members, task))
+    }
+
+    /// Whether all tasks in the group are complete. Groups are numbered from 0 in the order in which
+    /// they were opened.
+    pub fn is_done(&self, group: u64) -> bool
+        requires opened { group < length self.now.groups }
+        ensures known { (h : List Event) × Stands self.now h }
+        ensures value { (h : List Event) → Stands self.now h → result ≡ group_complete group h }
+    {
+        self.groups[group as usize].pending == 0
+    }
+
+    /// Whether all children of the task, which is one of this team, are complete.
+    pub fn children_done(&self, task: Task) -> bool
+        requires seated { IsSeated self.now task }
+        ensures known { (h : List Event) × Stands self.now h }
+        ensures value { (h : List Event) → Stands self.now h → result ≡ children_complete task h }
+    {
+        seat_of(&self.tasks, &self.members, task).children == 0
+    }
+
+    /// A member opens a group in the task, which it executes. The answer is the group's number, from 0.
+    pub fn open(&mut self, task: Task) -> u64
+        requires room { 0 < self.old.group_room }
+        requires may { (h : List Event) × (m : ℕ) × Stands self.old h ×
+            Executes (members_of self.old) m task h }
+        ensures members { members_of self.new ≡ members_of self.old }
+        ensures group_room { self.new.group_room + 1 ≡ self.old.group_room }
+        ensures task_room { self.new.task_room ≡ self.old.task_room }
+        ensures number { (h : List Event) → Stands self.old h → result ≡ groups_opened h }
+        ensures stands { (h : List Event) (m : ℕ) → Stands self.old h →
+            Executes (members_of self.old) m task h → Stands self.new (Group result m ∷ h) }
+    {
+        let group = self.groups.len() as u64;
+        let seat = seat_of(&self.tasks, &self.members, task);
+        self.groups.push_reserved(GroupRow {
+            outer: seat.last,
+            pending: 0,
+        });
+        let opened = Seat {
+            children: seat.children,
+            around: seat.around,
+            last: Some(group),
+        };
+        put_seat(&mut self.tasks, &mut self.members, task, opened);
+        group
+    }
+
+    /// A member ends the last open group of the task, which it executes. All tasks in the group are
+    /// complete.
+    pub fn close(&mut self, task: Task)
+        requires may { (h : List Event) × (q : ℕ) × (m : ℕ) × Stands self.old h ×
+            MayClose (members_of self.old) q m task h }
+        ensures members { members_of self.new ≡ members_of self.old }
+        ensures group_room { self.new.group_room ≡ self.old.group_room }
+        ensures task_room { self.new.task_room ≡ self.old.task_room }
+        ensures stands { (h : List Event) (q m : ℕ) → Stands self.old h →
+            MayClose (members_of self.old) q m task h → Stands self.new (GroupEnd q m ∷ h) }
+    {
+        let seat = seat_of(&self.tasks, &self.members, task);
+        match seat.last {
+            None => unreachable!(),
+            Some(group) => {
+                let closed = Seat {
+                    children: seat.children,
+                    around: seat.around,
+                    last: self.groups[group as usize].outer,
+                };
+                put_seat(&mut self.tasks, &mut self.members, task, closed);
+            }
+        }
+    }
+
+    /// A member creates the next task in this one, which it executes.
+    pub fn create(&mut self, parent: Task)
+        requires room { 0 < self.old.task_room }
+        requires may { (h : List Event) × (m : ℕ) × Stands self.old h ×
+            MayCreateIn (members_of self.old) m parent h }
+        ensures members { members_of self.new ≡ members_of self.old }
+        ensures group_room { self.new.group_room ≡ self.old.group_room }
+        ensures task_room { self.new.task_room + 1 ≡ self.old.task_room }
+        ensures stands { (h : List Event) (m : ℕ) (desc : TaskDesc) → Stands self.old h →
+            MayCreateIn (members_of self.old) m parent h →
+            Stands self.new (Create (suc (tasks_created h)) m parent desc ∷ h) }
+    {
+        let seat = seat_of(&self.tasks, &self.members, parent);
+        add_task(&mut self.groups, seat.last);
+        let with_child = Seat {
+            children: seat.children + 1,
+            around: seat.around,
+            last: seat.last,
+        };
+        put_seat(&mut self.tasks, &mut self.members, parent, with_child);
+        self.tasks.push_reserved(TaskRow {
+            parent,
+            seat: Seat {
+                children: 0,
+                around: seat.last,
+                last: seat.last,
+            },
+        });
+    }
+
+    /// A member ends the explicit task with this number, from 1, which it executes.
+    pub fn complete(&mut self, task: u32)
+        requires may { (h : List Event) × (m : ℕ) × Stands self.old h ×
+            MayEnd (members_of self.old) task m h }
+        ensures members { members_of self.new ≡ members_of self.old }
+        ensures group_room { self.new.group_room ≡ self.old.group_room }
+        ensures task_room { self.new.task_room ≡ self.old.task_room }
+        ensures stands { (h : List Event) (m : ℕ) → Stands self.old h →
+            MayEnd (members_of self.old) task m h → Stands self.new (Done task m ∷ h) }
+    {
+        let row = self.tasks[task as usize - 1];
+        remove_task(&mut self.groups, row.seat.around);
+        let parent = seat_of(&self.tasks, &self.members, row.parent);
+        let without_child = Seat {
+            children: parent.children - 1,
+            around: parent.around,
+            last: parent.last,
+        };
+        put_seat(
+            &mut self.tasks,
+            &mut self.members,
+            row.parent,
+            without_child,
+        );
+    }
+}

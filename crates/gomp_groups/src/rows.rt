@@ -1,0 +1,123 @@
+//! What is kept of a group, of a task and of a member's implicit task.
+
+ghost use Rattle.std.specs.Prelude.{◌≡◌, ◌<◌, ◌≤◌, ◌+◌, ◌^◌, ℕ, List, length, if◌then◌else◌, slice_index_or, IfSome};
+ghost use Rattle.gomp_types.specs.declared.task.Task.{Task as AnyTask};
+ghost use Rattle.gomp_types.specs.Tasks.{same_task, contains};
+ghost use Rattle.gomp_groups.specs.Rows.{seat_at, outer_at, pending_at, IsSeatedIn, IsChain, no_task, own_group, CountsOneMore, IsNested};
+
+use gomp_types::Task;
+
+/// A group of tasks.
+#[derive(Clone, Copy, Debug, PartialEq, Eq)]
+pub struct GroupRow {
+    /// The group around it: the innermost one that its task's children were in before.
+    pub outer: Option<u64>,
+    /// How many tasks in it are open: created, and not complete.
+    pub pending: usize,
+}
+
+/// What is kept of any task, implicit or explicit.
+#[derive(Clone, Copy, Debug, PartialEq, Eq)]
+pub struct Seat {
+    /// How many of its children are open.
+    pub children: usize,
+    /// The innermost group that the task is in: none for an implicit task.
+    pub around: Option<u64>,
+    /// The innermost group that its children are in: the last one that it has opened and not ended,
+    /// else the group that it is in itself.
+    pub last: Option<u64>,
+}
+
+/// An explicit task.
+#[derive(Clone, Copy, Debug, PartialEq, Eq)]
+pub struct TaskRow {
+    /// The task that it was created in.
+    pub parent: Task,
+    /// Its groups and children.
+    pub seat: Seat,
+}
+
+/// What is kept of the task, explicit tasks being numbered from 1.
+pub(crate) fn seat_of(tasks: &[TaskRow], members: &[Seat], task: Task) -> Seat
+    requires seated { IsSeatedIn tasks.now members.now task }
+    ensures value { result ≡ seat_at tasks.now members.now task }
+{
+    match task {
+        Task::Implicit(member) => members[member as usize],
+        Task::Explicit(number) => tasks[number as usize - 1].seat,
+    }
+}
+
+/// Keeps this of the task.
+pub(crate) fn put_seat(tasks: &mut [TaskRow], members: &mut [Seat], task: Task, seat: Seat)
+    requires seated { IsSeatedIn tasks.old members.old task }
+    ensures seat { (other : AnyTask) → seat_at tasks.new members.new other ≡
+        (if same_task task other then seat else seat_at tasks.old members.old other) }
+    ensures parents { (k : ℕ) → (slice_index_or tasks.new k no_task).parent ≡
+        (slice_index_or tasks.old k no_task).parent }
+{
+    match task {
+        Task::Implicit(member) => members[member as usize] = seat,
+        Task::Explicit(number) => {
+            let place = number as usize - 1;
+            let row = tasks[place];
+            tasks[place] = TaskRow {
+                parent: row.parent,
+                seat,
+            };
+        }
+    }
+}
+
+/// The last group that the task has opened and not ended: the one that its children are in, unless
+/// it is in that itself.
+pub(crate) fn open_group(seat: &Seat) -> Option<u64>
+    ensures { result ≡ own_group seat.now }
+{
+    if seat.last == seat.around {
+        None
+    } else {
+        seat.last
+    }
+}
+
+/// One more task is open in this group and in each one around it.
+pub(crate) fn add_task(groups: &mut [GroupRow], first: Option<u64>)
+    requires chain { (qs : List ℕ) × IsChain groups.old first qs }
+    requires nested { IsNested groups.old }
+    requires room { (q : ℕ) → pending_at groups.old q + 1 < 2 ^ 64 }
+    ensures counts { (qs : List ℕ) → IsChain groups.old first qs →
+        CountsOneMore qs groups.old groups.new }
+{
+    let mut next = first;
+    while let Some(group) = next {
+        let place = group as usize;
+        let row = groups[place];
+        groups[place] = GroupRow {
+            outer: row.outer,
+            pending: row.pending + 1,
+        };
+        next = row.outer;
+    }
+}
+
+/// One task less is open in this group and in each one around it.
+pub(crate) fn remove_task(groups: &mut [GroupRow], first: Option<u64>)
+    requires chain { (qs : List ℕ) × IsChain groups.old first qs }
+    requires nested { IsNested groups.old }
+    requires some { (qs : List ℕ) → IsChain groups.old first qs → (q : ℕ) →
+        (if contains q qs then 1 else 0) ≤ pending_at groups.old q }
+    ensures counts { (qs : List ℕ) → IsChain groups.old first qs →
+        CountsOneMore qs groups.new groups.old }
+{
+    let mut next = first;
+    while let Some(group) = next {
+        let place = group as usize;
+        let row = groups[place];
+        groups[place] = GroupRow {
+            outer: row.outer,
+            pending: row.pending - 1,
+        };
+        next = row.outer;
+    }
+}

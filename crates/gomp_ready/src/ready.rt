@@ -1,0 +1,85 @@
+//! The list of tasks that may be taken.
+
+ghost use Rattle.std.specs.Prelude.{◌≡◌, ◌<◌, ◌≤◌, ◌+◌, [], ◌∷◌, ◌++◌, Some, length, slice_get, OnOk, OnErr, IsOk, IsTrue, ◌↔◌};
+ghost use Rattle.std.specs.List.{remove};
+
+use std::alloc::{AllocError, Global};
+use std::marker::Model;
+
+/// The tasks that may be taken, by their numbers, the one that was put first at the front.
+#[derive(Debug, Drop)]
+pub struct Ready {
+    ids: Vec<u32>,
+}
+
+impl Model for Ready {
+    ghost use Rattle.std.specs.Prelude.{◌-◌, vec_len, vec_capacity};
+    ghost use Rattle.gomp_ready.specs.Ready.{ReadyView};
+
+    ghost Value = { ReadyView };
+
+    ghost view = { λ r. record { ids = r.ids.items; room = vec_capacity r.ids - vec_len r.ids } };
+}
+
+impl Ready {
+    /// No task. It takes no memory.
+    pub fn new(alloc: Global) -> Ready
+        ensures { result.ids ≡ [] }
+    {
+        Ready {
+            ids: Vec::new(alloc),
+        }
+    }
+
+    /// Makes room for one more task. It fails, and nothing changes, if the memory is refused.
+    pub fn reserve(&mut self) -> Result<(), AllocError>
+        ensures ids { self.new.ids ≡ self.old.ids }
+        ensures room { OnOk result (0 < self.new.room) }
+        ensures grows { self.old.room ≤ self.new.room }
+        ensures there { 0 < self.old.room → IsOk result }
+        ensures err { OnErr result (self.new ≡ self.old) }
+    {
+        self.ids.reserve(1)
+    }
+
+    /// Puts a task at the end. It takes no memory.
+    pub fn put(&mut self, task: u32)
+        requires room { 0 < self.old.room }
+        ensures ids { self.new.ids ≡ self.old.ids ++ task ∷ [] }
+        ensures room { self.new.room + 1 ≡ self.old.room }
+    {
+        self.ids.push_reserved(task);
+    }
+
+    /// Takes the task at this place, from 0, out of the list; the others keep their order. A place
+    /// near the end costs least, since those behind it move down.
+    pub fn take(&mut self, index: usize) -> u32
+        requires within { index < length self.old.ids }
+        ensures task { slice_get self.old.ids index ≡ Some result }
+        ensures ids { self.new.ids ≡ remove self.old.ids index }
+        ensures room { self.new.room ≡ self.old.room + 1 }
+    {
+        self.ids.remove(index)
+    }
+
+    /// The tasks, in the order in which they were put.
+    pub fn as_slice(&self) -> &[u32]
+        ensures { result.now ≡ self.now.ids }
+    {
+        self.ids.as_slice()
+    }
+
+    /// How many tasks there are.
+    pub fn len(&self) -> usize
+        ensures { result ≡ length self.now.ids }
+    {
+        self.ids.len()
+    }
+
+    /// Whether there is none.
+    pub fn is_empty(&self) -> bool
+        ensures { IsTrue result ↔ (self.now.ids ≡ []) }
+    {
+        self.ids.is_empty()
+    }
+}
