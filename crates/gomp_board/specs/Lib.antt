@@ -1,4 +1,4 @@
 pub mod Stored
 pub mod Owed
 pub mod Ops
-pub mod Boards
+pub mod ReadyTasks

@@ -1,0 +1,6 @@
+//! The board of a team.
+#![tactic(auto)]
+
+pub mod op;
+
+pub use op::Op;
