@@ -5,7 +5,7 @@ use Rattle.gomp_types.specs.Laws.{Always}
 use Rattle.gomp_types.specs.TaskRules.{TaskRule}
 use Rattle.gomp_tasks.specs.Calls.{IsAside}
 use Rattle.gomp_tasks.specs.Stands.{TasksView, Stands, members_of}
-use Rattle.gomp_tasks.proofs.RowsKeep.{aside_keeps}
+use Rattle.gomp_tasks.proofs.TasksKeep.{aside_keeps}
 
 -- whatever calls were made, the events keep the rule of tasks
 pub tasks_keep_task_rule : (tasks : TasksView) (h : List Event) → Stands tasks h → Always (TaskRule (members_of tasks)) h

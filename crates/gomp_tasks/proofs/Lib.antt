@@ -1,2 +1,4 @@
 pub mod Laws
 pub mod RowsKeep
+pub mod StartedTasks
+pub mod TasksKeep

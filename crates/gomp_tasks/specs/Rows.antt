@@ -34,11 +34,11 @@ desc_of row = record { code = row.code; arg = row.arg }
 
 -- the task once this member has started it
 abbrev pub started_by : ℕ → TaskRow → TaskRow
-started_by m row = record { code = row.code; arg = row.arg; parent = row.parent; depth = row.depth; odd = row.odd; runner = Some m; state = Running }
+started_by m row = record row { runner = Some m; state = Running }
 
--- the task once it is done
+-- the task once it is complete
 abbrev pub completed : TaskRow → TaskRow
-completed row = record { code = row.code; arg = row.arg; parent = row.parent; depth = row.depth; odd = row.odd; runner = row.runner; state = Done }
+completed row = record row { state = Done }
 
 -- the first of some tasks, if there is one
 abbrev pub first_of : List ℕ → Option ℕ
