@@ -1,18 +1,18 @@
 -- What becomes of the rows of a team's tasks as events come.
-use Rattle.std.proofs.Common.{◌≡◌, ◌≢◌, ℕ, ◌+◌, ◌-◌, ◌<◌, ◌≤◌, Bool, true, false, List, [], ◌∷◌, ◌++◌, Option, Some, None, length, slice_get, slice_set, refl, ap, ◌∙◌, sym, subst, arith, suc, zero, inl, inr, ◌⊎◌}
-use Rattle.std.specs.Prelude.{◌==◌, ◌||◌, if◌then◌else◌}
+use Rattle.std.proofs.Common.{◌≡◌, ◌≢◌, ℕ, ◌+◌, ◌-◌, ◌<◌, Bool, true, false, List, [], ◌∷◌, ◌++◌, Some, None, length, slice_get, slice_set, refl, ap, ◌∙◌, sym, subst, arith, suc, zero, inl, inr, ◌⊎◌}
+use Rattle.std.specs.Prelude.{◌==◌, ◌||◌}
 use Rattle.gomp_types.specs.declared.task.Task.{Task}
 use Rattle.gomp_types.specs.declared.task.Task.TheVariants.{Implicit, Explicit}
 use Rattle.gomp_types.specs.declared.task.TaskDesc.{TaskDesc}
 use Rattle.gomp_types.specs.declared.event.Event.{Event}
 use Rattle.gomp_types.specs.declared.event.Event.TheVariants.{Create, Start, Done}
-use Rattle.gomp_types.specs.Tasks.{same_task, of_explicit, has_started, task_runner, is_complete, is_child, is_ancestor, task_depth, depth_of, epoch, epoch_of_child, is_odd}
+use Rattle.gomp_types.specs.Tasks.{same_task, of_explicit, has_started, task_runner, is_complete, is_ancestor, task_depth, depth_of, epoch, epoch_of_child, is_odd}
 use Rattle.gomp_types.proofs.Booleans.{same_number, other_number}
 use Rattle.gomp_types.proofs.Lists.{slice_get-set}
 use Rattle.gomp_types.proofs.TaskDepths.{new_depth}
 use Rattle.gomp_tasks.specs.declared.rows.TaskState.TheVariants as states
 use Rattle.gomp_tasks.specs.declared.rows.TaskRow.{TaskRow}
-use Rattle.gomp_tasks.specs.Rows.{IsState, IsParent, RowStands, started_by, completed, desc_of}
+use Rattle.gomp_tasks.specs.Rows.{IsState, RowStands, started_by, completed}
 use Rattle.gomp_tasks.specs.Calls.{IsAside}
 
 -- An event that creates, starts or ends no task
@@ -74,17 +74,17 @@ other_completed_row task m t row h other st = record {
 
 -- A task that is created
 
-old_depth : (t task m : ℕ) (p : Task) (desc : TaskDesc) (h : List Event) → (task == t) ≡ false → task_depth t (Create task m p desc ∷ h) ≡ task_depth t h
-old_depth t task m (Implicit x) desc h other = rw other refl
-old_depth t task m (Explicit q) desc h other = rw other refl
+depth_of_old_task : (t task m : ℕ) (p : Task) (desc : TaskDesc) (h : List Event) → (task == t) ≡ false → task_depth t (Create task m p desc ∷ h) ≡ task_depth t h
+depth_of_old_task t task m (Implicit x) desc h other = rw other refl
+depth_of_old_task t task m (Explicit q) desc h other = rw other refl
 
-old_epoch : (t task m : ℕ) (p : Task) (desc : TaskDesc) (h : List Event) → (task == t) ≡ false → epoch t (Create task m p desc ∷ h) ≡ epoch t h
-old_epoch t task m (Implicit x) desc h other = rw other refl
-old_epoch t task m (Explicit q) desc h other = rw other refl
+epoch_of_old_task : (t task m : ℕ) (p : Task) (desc : TaskDesc) (h : List Event) → (task == t) ≡ false → epoch t (Create task m p desc ∷ h) ≡ epoch t h
+epoch_of_old_task t task m (Implicit x) desc h other = rw other refl
+epoch_of_old_task t task m (Explicit q) desc h other = rw other refl
 
-new_epoch : (t m : ℕ) (p : Task) (desc : TaskDesc) (h : List Event) → epoch t (Create t m p desc ∷ h) ≡ epoch_of_child p h
-new_epoch t m (Implicit x) desc h = rw (same_number t) refl
-new_epoch t m (Explicit q) desc h = rw (same_number t) refl
+epoch_of_new_task : (t m : ℕ) (p : Task) (desc : TaskDesc) (h : List Event) → epoch t (Create t m p desc ∷ h) ≡ epoch_of_child p h
+epoch_of_new_task t m (Implicit x) desc h = rw (same_number t) refl
+epoch_of_new_task t m (Explicit q) desc h = rw (same_number t) refl
 
 -- the ancestors of a parent that is older than the new task
 ancestors_kept : (task m : ℕ) (p : Task) (desc : TaskDesc) (up a : Task) (h : List Event) → ((q : ℕ) → up ≡ Explicit q → (task == q) ≡ false) →
@@ -100,8 +100,8 @@ old_row task m t p desc row h other older st = record {
     ancestors = λ a. rw other (st.parent.ancestors a ∙ ancestors_kept task m p desc row.parent a h (λ q e. older q (st.parent.older q e).1));
     older = st.parent.older;
   };
-  depth = old_depth t task m p desc h other ∙ st.depth;
-  odd = ap is_odd (old_epoch t task m p desc h other) ∙ st.odd;
+  depth = depth_of_old_task t task m p desc h other ∙ st.depth;
+  odd = ap is_odd (epoch_of_old_task t task m p desc h other) ∙ st.odd;
   runner = st.runner;
   state = record { started = st.state.started; complete = st.state.complete };
 }
@@ -120,7 +120,7 @@ new_row t m p desc depth odd h state nobody older deep odd_is = record {
     older = older;
   };
   depth = new_depth t m p desc h ∙ sym deep;
-  odd = ap is_odd (new_epoch t m p desc h) ∙ sym odd_is;
+  odd = ap is_odd (epoch_of_new_task t m p desc h) ∙ sym odd_is;
   runner = nobody;
   state = record { started = state.started; complete = state.complete };
 }

@@ -1,14 +1,13 @@
 -- The tasks that a member has started and not ended lie one above another: what descends from the innermost descends from all.
-use Rattle.std.proofs.Common.{◌≡◌, ℕ, ◌+◌, ◌-◌, ◌<◌, ◌≤◌, Bool, true, false, List, [], ◌∷◌, Some, length, slice_get, refl, ap, ◌∙◌, sym, subst, arith, suc, zero, inl, inr}
-use Rattle.std.specs.Prelude.{◌==◌, ◌||◌, ◌&&◌, if◌then◌else◌}
+use Rattle.std.proofs.Common.{◌≡◌, ℕ, ◌-◌, ◌<◌, ◌≤◌, Bool, true, false, List, [], ◌∷◌, Some, length, slice_get, refl, ◌∙◌, sym, subst, arith, suc, zero, inl, inr}
+use Rattle.std.specs.Prelude.{◌==◌, ◌||◌, if◌then◌else◌}
 use Rattle.std.proofs.lemmas.Bool.{cases_Bool}
 use Rattle.gomp_types.specs.declared.task.Task.{Task}
 use Rattle.gomp_types.specs.declared.task.Task.TheVariants.{Implicit, Explicit}
-use Rattle.gomp_types.specs.declared.task.TaskDesc.{TaskDesc}
 use Rattle.gomp_types.specs.declared.event.Event.{Event}
 use Rattle.gomp_types.specs.declared.event.Event.TheVariants.{Create, Start, Done}
 use Rattle.gomp_types.specs.Events.{at_barrier}
-use Rattle.gomp_types.specs.Tasks.{tasks_created, is_created, task_stack, executed_task, innermost_task, after_first, contains, same_task, of_explicit, is_ancestor}
+use Rattle.gomp_types.specs.Tasks.{task_stack, executed_task, innermost_task, after_first, contains, same_task, of_explicit, is_ancestor}
 use Rattle.gomp_types.specs.Goals.{each_of, is_ready, may_descend, may_start}
 use Rattle.gomp_types.specs.Laws.{Always}
 use Rattle.gomp_types.specs.TaskRules.{TaskRule}
@@ -16,10 +15,9 @@ use Rattle.gomp_types.proofs.Booleans.{and_left, and_right, or_tells, or_right, 
 use Rattle.gomp_types.proofs.OpenTasks.{created_high}
 use Rattle.gomp_types.proofs.Suspended.{stacked}
 use Rattle.gomp_tasks.specs.declared.rows.TaskRow.{TaskRow}
-use Rattle.gomp_tasks.specs.Rows.{RowStands}
 use Rattle.gomp_tasks.specs.Stands.{RowsStand}
-use Rattle.gomp_tasks.specs.Calls.{is_under_all, task_or_implicit}
-use Rattle.gomp_tasks.proofs.TasksKeep.{row_of}
+use Rattle.gomp_tasks.specs.Calls.{is_under_all}
+use Rattle.gomp_tasks.proofs.TasksKeep.{task_row_of}
 
 -- An ancestor of an ancestor is an ancestor
 
@@ -44,7 +42,7 @@ through_parent : (rows : List TaskRow) (stacks : List (List ℕ)) (h : List Even
 through_parent rows stacks h st a s top zero t lt low high e = absurd (omega arith)
 through_parent rows stacks h st a s top (suc most) t lt low high e =
     let found = has_row rows (t - 1) (omega (arith, low, high)) in
-    let is = (row_of rows stacks t found.0 h st low found.1).parent in
+    let is = (task_row_of rows stacks t found.0 h st low found.1).parent in
     is.ancestors a ∙ over_parent a s t h top (λ q some older far. through_parent rows stacks h st a s top most q (omega (arith, lt, older)) some (omega (arith, high, older)) far) found.0.parent is.older (sym (is.ancestors (Explicit s)) ∙ e)
 
 -- The started tasks of a member
@@ -77,18 +75,18 @@ chained_more m task member h may all true e =
     let each = and_left (is_under_all (task_stack member h) task h) (at_barrier member h || is_ancestor (Implicit member) task h) down in
     (subst (λ (x : ℕ). is_under_all (task_stack x h) task h ≡ true) (is_equal member m e) each, all)
 
-chained : (members m : ℕ) (h : List Event) → Always (TaskRule members) h → Chained (λ s t. is_ancestor (Explicit s) t h) (task_stack m h)
-chained members m [] all = tt
-chained members m (Start task member ∷ earlier) all = chained_more m task member earlier all.0.may (chained members m earlier all.1) (member == m) refl
-chained members m (Done task member ∷ earlier) all = chained_rest (λ s t. is_ancestor (Explicit s) t earlier) (task_stack m earlier) (chained members m earlier all.1) (member == m)
-chained members m (Create task member p desc ∷ earlier) all =
+started_chained : (members m : ℕ) (h : List Event) → Always (TaskRule members) h → Chained (λ s t. is_ancestor (Explicit s) t h) (task_stack m h)
+started_chained members m [] all = tt
+started_chained members m (Start task member ∷ earlier) all = chained_more m task member earlier all.0.may (started_chained members m earlier all.1) (member == m) refl
+started_chained members m (Done task member ∷ earlier) all = chained_rest (λ s t. is_ancestor (Explicit s) t earlier) (task_stack m earlier) (started_chained members m earlier all.1) (member == m)
+started_chained members m (Create task member p desc ∷ earlier) all =
     chained_same (λ s t. is_ancestor (Explicit s) t earlier) (λ s t. is_ancestor (Explicit s) t (Create task member p desc ∷ earlier)) (task_stack m earlier)
     (λ s t there.
     let high = created_high t earlier (((stacked members earlier all.1) m).1 t there).0 in
     let number = all.0.number in
     let old : (task == t) ≡ false = other_number task t (λ same. omega (arith, high, number, same)) in rw old refl)
-    (chained members m earlier all.1)
-chained members m (_ ∷ earlier) all = chained members m earlier all.1
+    (started_chained members m earlier all.1)
+started_chained members m (_ ∷ earlier) all = started_chained members m earlier all.1
 
 -- what descends from one descends from all that this one descends from
 under_rest : (rows : List TaskRow) (stacks : List (List ℕ)) (t s : ℕ) (ss : List ℕ) (h : List Event) → RowsStand rows stacks h → 0 < t → t ≤ length rows → is_ancestor (Explicit s) t h ≡ true → is_under_all ss s h ≡ true → is_under_all ss t h ≡ true
@@ -106,7 +104,7 @@ under_all_of rows stacks t s ss h st low high all =
     ]
 
 pub under_started : (rows : List TaskRow) (stacks : List (List ℕ)) (m t s : ℕ) (h : List Event) → RowsStand rows stacks h → 0 < t → t ≤ length rows → executed_task m h ≡ Explicit s → is_under_all (task_stack m h) t h ≡ is_ancestor (Explicit s) t h
-under_started rows stacks m t s h st low high top = by (task_stack m h) (chained (length stacks) m h st.rule) top
+under_started rows stacks m t s h st low high top = by (task_stack m h) (started_chained (length stacks) m h st.rule) top
   where
     by : (ts : List ℕ) → Chained (λ u v. is_ancestor (Explicit u) v h) ts → innermost_task m ts ≡ Explicit s → is_under_all ts t h ≡ is_ancestor (Explicit s) t h
     by [] all e = absurd (cc)

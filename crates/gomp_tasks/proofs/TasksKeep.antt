@@ -1,14 +1,14 @@
 -- What becomes of a team's tasks as they are created, started and ended.
-use Rattle.std.proofs.Common.{◌≡◌, ◌≢◌, ℕ, ◌+◌, ◌-◌, ◌<◌, ◌≤◌, Bool, true, false, List, [], ◌∷◌, ◌++◌, Option, Some, None, length, slice_get, slice_set, refl, ap, ◌∙◌, sym, subst, arith, suc, zero, inl, inr, ◌⊎◌, replicate}
-use Rattle.std.specs.Prelude.{◌==◌, if◌then◌else◌, IfSome}
+use Rattle.std.proofs.Common.{◌≡◌, ℕ, ◌+◌, ◌-◌, ◌<◌, ◌≤◌, Bool, false, List, [], ◌∷◌, ◌++◌, Option, Some, None, length, slice_get, slice_set, refl, ap, ◌∙◌, sym, subst, arith, suc, zero, inl, inr, ◌⊎◌, replicate}
+use Rattle.std.specs.Prelude.{◌==◌, IfSome}
 use Rattle.std.proofs.lemmas.List.{length-set, length-append}
 use Rattle.gomp_types.specs.declared.task.Task.{Task}
-use Rattle.gomp_types.specs.declared.task.Task.TheVariants.{Implicit, Explicit}
+use Rattle.gomp_types.specs.declared.task.Task.TheVariants.{Explicit}
 use Rattle.gomp_types.specs.declared.task.TaskDesc.{TaskDesc}
 use Rattle.gomp_types.specs.declared.limits.TheConstants.{MAX_TASK_DEPTH}
 use Rattle.gomp_types.specs.declared.event.Event.{Event}
 use Rattle.gomp_types.specs.declared.event.Event.TheVariants.{Create, Start, Done}
-use Rattle.gomp_types.specs.Tasks.{tasks_created, is_created, task_stack, executed_task, innermost_task, after_first, has_started, task_runner, is_complete, depth_of, epoch_of_child, is_odd}
+use Rattle.gomp_types.specs.Tasks.{tasks_created, task_stack, executed_task, innermost_task, after_first, task_runner, depth_of, epoch_of_child, is_odd}
 use Rattle.gomp_types.specs.Laws.{Always}
 use Rattle.gomp_types.specs.TaskRules.{TaskRule, MayCreate, MayStart}
 use Rattle.gomp_types.proofs.Booleans.{same_number, other_number}
@@ -19,24 +19,24 @@ use Rattle.gomp_types.proofs.TaskDepths.{few_suspended}
 use Rattle.gomp_types.proofs.TaskRoom.{unborn}
 use Rattle.gomp_tasks.specs.declared.rows.TaskRow.{TaskRow}
 use Rattle.gomp_tasks.specs.Rows.{RowStands, started_by, completed, first_of}
-use Rattle.gomp_tasks.specs.Stands.{TasksView, RowsStand, Stands, IsNumber, members_of, count_of}
-use Rattle.gomp_tasks.specs.Calls.{IsAside, MayCreateNext, task_or_implicit}
+use Rattle.gomp_tasks.specs.Stands.{TasksView, RowsStand, Stands}
+use Rattle.gomp_tasks.specs.Calls.{IsAside, task_or_implicit}
 use Rattle.gomp_tasks.proofs.RowsKeep.{aside_row, started_row, other_started_row, completed_row, other_completed_row, old_row, new_of, new_row, row_set, row_appended, row_named}
 
 -- the tasks of another value with the same view
-pub view_stands_too : (view now : TasksView) (h : List Event) → view ≡ now → Stands now h → Stands view h
-view_stands_too view now h e st = subst (λ (v : TasksView). Stands v h) (sym e) st
+pub tasks_of_view_stand : (view now : TasksView) (h : List Event) → view ≡ now → Stands now h → Stands view h
+tasks_of_view_stand view now h e st = subst (λ (v : TasksView). Stands v h) (sym e) st
 
 -- the row of a task
-pub row_of : (rows : List TaskRow) (stacks : List (List ℕ)) (t : ℕ) (row : TaskRow) (h : List Event) → RowsStand rows stacks h → 0 < t → slice_get rows (t - 1) ≡ Some row → RowStands t row h
-row_of rows stacks t row h st low at = subst (λ (x : ℕ). RowStands x row h) (omega (arith, low)) (st.row (t - 1) row at)
+pub task_row_of : (rows : List TaskRow) (stacks : List (List ℕ)) (t : ℕ) (row : TaskRow) (h : List Event) → RowsStand rows stacks h → 0 < t → slice_get rows (t - 1) ≡ Some row → RowStands t row h
+task_row_of rows stacks t row h st low at = subst (λ (x : ℕ). RowStands x row h) (omega (arith, low)) (st.row (t - 1) row at)
 
 -- an event that creates, starts or ends no task
-pub aside_keeps : (rows : List TaskRow) (stacks : List (List ℕ)) (event : Event) (h : List Event) → IsAside event → TaskRule (length stacks) event h → RowsStand rows stacks h → RowsStand rows stacks (event ∷ h)
-aside_keeps rows stacks (Create task m p desc) h is rule st = absurd is
-aside_keeps rows stacks (Start task m) h is rule st = absurd is
-aside_keeps rows stacks (Done task m) h is rule st = absurd is
-aside_keeps rows stacks _ h is rule st = record {
+pub aside_keeps_tasks : (rows : List TaskRow) (stacks : List (List ℕ)) (event : Event) (h : List Event) → IsAside event → TaskRule (length stacks) event h → RowsStand rows stacks h → RowsStand rows stacks (event ∷ h)
+aside_keeps_tasks rows stacks (Create task m p desc) h is rule st = absurd is
+aside_keeps_tasks rows stacks (Start task m) h is rule st = absurd is
+aside_keeps_tasks rows stacks (Done task m) h is rule st = absurd is
+aside_keeps_tasks rows stacks _ h is rule st = record {
   count = st.count;
   row = λ k row at. aside_row (suc k) row _ h is (st.row k row at);
   stack = st.stack;
@@ -73,13 +73,13 @@ stack_set stacks m new k ts at = elim (slice_get-set stacks m k new ts at) [
   | inr away ↦ inr (other_number m k (λ same. away.0 (sym same)), away.1)
 ]
 
-popped : (t m k : ℕ) (ts us : List ℕ) (h : List Event) → m ≡ k → us ≡ after_first ts → task_stack m h ≡ ts → task_stack k (Done t m ∷ h) ≡ us
-popped t m k ts us h here e is =
+stack_popped : (t m k : ℕ) (ts us : List ℕ) (h : List Event) → m ≡ k → us ≡ after_first ts → task_stack m h ≡ ts → task_stack k (Done t m ∷ h) ≡ us
+stack_popped t m k ts us h here e is =
     let own : task_stack m (Done t m ∷ h) ≡ after_first ts = rw (same_number m) (ap after_first is) in
     subst (λ (x : ℕ). task_stack x (Done t m ∷ h) ≡ us) here (own ∙ sym e)
 
-pushed : (t m k : ℕ) (ts us : List ℕ) (h : List Event) → m ≡ k → us ≡ t ∷ ts → task_stack m h ≡ ts → task_stack k (Start t m ∷ h) ≡ us
-pushed t m k ts us h here e is =
+stack_pushed : (t m k : ℕ) (ts us : List ℕ) (h : List Event) → m ≡ k → us ≡ t ∷ ts → task_stack m h ≡ ts → task_stack k (Start t m ∷ h) ≡ us
+stack_pushed t m k ts us h here e is =
     let own : task_stack m (Start t m ∷ h) ≡ t ∷ ts = rw (same_number m) (ap (λ xs. t ∷ xs) is) in
     subst (λ (x : ℕ). task_stack x (Start t m ∷ h) ≡ us) here (own ∙ sym e)
 
@@ -95,23 +95,23 @@ fresh_number rows stacks m t h st rule =
 -- there is room for it among the member's started tasks
 pub stack_room : (rows : List TaskRow) (stacks : List (List ℕ)) (m t : ℕ) (ts : List ℕ) (h : List Event) → RowsStand rows stacks h → slice_get stacks m ≡ Some ts → MayStart (length stacks) t m h → length ts < MAX_TASK_DEPTH
 stack_room rows stacks m t ts h st at rule =
-    let top : task_stack m (Start t m ∷ h) ≡ t ∷ ts = pushed t m m ts (t ∷ ts) h refl refl (st.stack m ts at) in
+    let top : task_stack m (Start t m ∷ h) ≡ t ∷ ts = stack_pushed t m m ts (t ∷ ts) h refl refl (st.stack m ts at) in
     let most = few_suspended (length stacks) m (Start t m ∷ h) (rule, st.rule) in
     let all : length (task_stack m (Start t m ∷ h)) ≡ length (t ∷ ts) = ap length top in
     omega (arith, all, most)
 
-pub start_keeps : (rows : List TaskRow) (stacks : List (List ℕ)) (m t : ℕ) (row : TaskRow) (ts : List ℕ) (h : List Event) → RowsStand rows stacks h → slice_get stacks m ≡ Some ts → slice_get rows (t - 1) ≡ Some row → MayStart (length stacks) t m h →
+pub task_start_keeps : (rows : List TaskRow) (stacks : List (List ℕ)) (m t : ℕ) (row : TaskRow) (ts : List ℕ) (h : List Event) → RowsStand rows stacks h → slice_get stacks m ≡ Some ts → slice_get rows (t - 1) ≡ Some row → MayStart (length stacks) t m h →
     RowsStand (slice_set rows (t - 1) (started_by m row)) (slice_set stacks m (t ∷ ts)) (Start t m ∷ h)
-start_keeps rows stacks m t row ts h st at at_row rule =
+task_start_keeps rows stacks m t row ts h st at at_row rule =
     let is = fresh m t h rule.may in
     let low = created_low t h is.0 in record {
       count = st.count ∙ sym (length-set rows (t - 1) (started_by m row));
       row = λ k found at_k. elim (row_set rows t (started_by m row) k found low at_k) [
-        | inl here ↦ row_named (suc k) t found (started_by m row) (Start t m ∷ h) here.0 here.1 (started_row t m row h is.2 (row_of rows stacks t row h st low at_row))
+        | inl here ↦ row_named (suc k) t found (started_by m row) (Start t m ∷ h) here.0 here.1 (started_row t m row h is.2 (task_row_of rows stacks t row h st low at_row))
         | inr away ↦ other_started_row t m (suc k) found h (other_number t (suc k) (λ same. away.0 (sym same))) (st.row k found away.1)
       ];
       stack = λ k us at_k. elim (stack_set stacks m (t ∷ ts) k us at_k) [
-        | inl here ↦ pushed t m k ts us h here.0 here.1 (st.stack m ts at)
+        | inl here ↦ stack_pushed t m k ts us h here.0 here.1 (st.stack m ts at)
         | inr away ↦ rw away.0 (st.stack k us away.1)
       ];
       rule = subst (λ (n : ℕ). Always (TaskRule n) (Start t m ∷ h)) (sym (length-set stacks m (t ∷ ts))) (rule, st.rule);
@@ -119,18 +119,18 @@ start_keeps rows stacks m t row ts h st at at_row rule =
 
 -- A task that ends
 
-pub finish_keeps : (rows : List TaskRow) (stacks : List (List ℕ)) (m t : ℕ) (row : TaskRow) (ts : List ℕ) (h : List Event) → RowsStand rows stacks h → m < length stacks → slice_get stacks m ≡ Some ts → slice_get rows (t - 1) ≡ Some row → executed_task m h ≡ Explicit t →
+pub task_end_keeps : (rows : List TaskRow) (stacks : List (List ℕ)) (m t : ℕ) (row : TaskRow) (ts : List ℕ) (h : List Event) → RowsStand rows stacks h → m < length stacks → slice_get stacks m ≡ Some ts → slice_get rows (t - 1) ≡ Some row → executed_task m h ≡ Explicit t →
     RowsStand (slice_set rows (t - 1) (completed row)) (slice_set stacks m (after_first ts)) (Done t m ∷ h)
-finish_keeps rows stacks m t row ts h st member at at_row top =
+task_end_keeps rows stacks m t row ts h st member at at_row top =
     let is = current_open (length stacks) m t h st.rule top in
     let low = created_low t h is.0 in record {
       count = st.count ∙ sym (length-set rows (t - 1) (completed row));
       row = λ k found at_k. elim (row_set rows t (completed row) k found low at_k) [
-        | inl here ↦ row_named (suc k) t found (completed row) (Done t m ∷ h) here.0 here.1 (completed_row t m row h (ran t m h is.2) (row_of rows stacks t row h st low at_row))
+        | inl here ↦ row_named (suc k) t found (completed row) (Done t m ∷ h) here.0 here.1 (completed_row t m row h (ran t m h is.2) (task_row_of rows stacks t row h st low at_row))
         | inr away ↦ other_completed_row t m (suc k) found h (other_number t (suc k) (λ same. away.0 (sym same))) (st.row k found away.1)
       ];
       stack = λ k us at_k. elim (stack_set stacks m (after_first ts) k us at_k) [
-        | inl here ↦ popped t m k ts us h here.0 here.1 (st.stack m ts at)
+        | inl here ↦ stack_popped t m k ts us h here.0 here.1 (st.stack m ts at)
         | inr away ↦ rw away.0 (st.stack k us away.1)
       ];
       rule = subst (λ (n : ℕ). Always (TaskRule n) (Done t m ∷ h)) (sym (length-set stacks m (after_first ts))) (record { member = member; current = top }, st.rule);
@@ -139,16 +139,16 @@ finish_keeps rows stacks m t row ts h st member at at_row top =
 -- A task that is created
 
 -- nobody has started a task with a higher number
-never_ran : (members t : ℕ) (h : List Event) → Always (TaskRule members) h → tasks_created h < t → task_runner t h ≡ None
-never_ran members t h all lt = by (task_runner t h) refl
+not_run_yet : (members t : ℕ) (h : List Event) → Always (TaskRule members) h → tasks_created h < t → task_runner t h ≡ None
+not_run_yet members t h all lt = by (task_runner t h) refl
   where
     by : (found : Option ℕ) → task_runner t h ≡ found → task_runner t h ≡ None
     by None e = e
     by (Some m) e = absurd (let on = ran t m h e in let off = (unborn members h all t lt).0 in cc)
 
-pub create_keeps : (rows : List TaskRow) (stacks : List (List ℕ)) (m t depth : ℕ) (odd : Bool) (p : Task) (desc : TaskDesc) (h : List Event) → RowsStand rows stacks h → MayCreate (length stacks) t m p h → depth ≡ depth_of p h + 1 → odd ≡ is_odd (epoch_of_child p h) →
+pub task_create_keeps : (rows : List TaskRow) (stacks : List (List ℕ)) (m t depth : ℕ) (odd : Bool) (p : Task) (desc : TaskDesc) (h : List Event) → RowsStand rows stacks h → MayCreate (length stacks) t m p h → depth ≡ depth_of p h + 1 → odd ≡ is_odd (epoch_of_child p h) →
     RowsStand (rows ++ new_of desc p depth odd ∷ []) stacks (Create t m p desc ∷ h)
-create_keeps rows stacks m t depth odd p desc h st rule deep odd_is =
+task_create_keeps rows stacks m t depth odd p desc h st rule deep odd_is =
     let number = rule.number in
     let count = st.count in
     let new = unborn (length stacks) h st.rule t (omega (arith, number)) in
@@ -159,7 +159,7 @@ create_keeps rows stacks m t depth odd p desc h st rule deep odd_is =
       count = omega (arith, count, longer);
       row = λ k found at. elim (row_appended rows (new_of desc p depth odd) k found at) [
         | inl here ↦ row_named (suc k) t found (new_of desc p depth odd) (Create t m p desc ∷ h) (let n = here.0 in omega (arith, n, number, count)) here.1
-            (new_row t m p desc depth odd h (record { started = new.0; complete = new.1 }) (never_ran (length stacks) t h st.rule (omega (arith, number))) older deep odd_is)
+            (new_row t m p desc depth odd h (record { started = new.0; complete = new.1 }) (not_run_yet (length stacks) t h st.rule (omega (arith, number))) older deep odd_is)
         | inr away ↦
             let lt = away.0 in
             old_row t m (suc k) p desc found h (other_number t (suc k) (λ same. omega (arith, same, lt, number, count)))
@@ -171,8 +171,8 @@ create_keeps rows stacks m t depth odd p desc h st rule deep odd_is =
 
 -- New tasks
 
-pub none_stand : (members : ℕ) (stacks : List (List ℕ)) → stacks ≡ replicate members [] → RowsStand [] stacks []
-none_stand members stacks e = record {
+pub no_tasks_stand : (members : ℕ) (stacks : List (List ℕ)) → stacks ≡ replicate members [] → RowsStand [] stacks []
+no_tasks_stand members stacks e = record {
   count = refl;
   row = λ k row at. absurd (cc);
   stack = λ m ts at. sym (empty members m ts (subst (λ (xs : List (List ℕ)). slice_get xs m ≡ Some ts) e at));

@@ -1,7 +1,7 @@
 -- What is kept of an explicit task, and when that stands for what a list of events says of it. OpenMP API 5.2, chapter 12.
 use Rattle.std.specs.Prelude.{ℕ, ◌<◌, ◌≡◌, ◌||◌, Bool, true, false, List, [], ◌∷◌, Option, Some, None}
 use Rattle.gomp_types.specs.declared.task.Task.{Task}
-use Rattle.gomp_types.specs.declared.task.Task.TheVariants.{Implicit, Explicit}
+use Rattle.gomp_types.specs.declared.task.Task.TheVariants.{Explicit}
 use Rattle.gomp_types.specs.declared.task.TaskDesc.{TaskDesc}
 use Rattle.gomp_types.specs.declared.event.Event.{Event}
 use Rattle.gomp_types.specs.Tasks.{same_task, of_explicit, has_started, task_runner, is_complete, task_desc, is_child, is_ancestor, task_depth, epoch, is_odd}

@@ -1,7 +1,6 @@
 //! The explicit tasks of a team that one thread steps.
 
-ghost use Rattle.std.specs.Prelude.{◌≡◌, ◌<◌, ◌≤◌, ◌+◌, ◌||◌, ℕ, ◌-◌, List, [], ◌∷◌, Option, Some, None, IfOk, OnOk, OnErr, IfSome, length, replicate, slice_get};
-ghost use Rattle.std.proofs.Common.{suc};
+ghost use Rattle.std.specs.Prelude.{◌≡◌, ◌<◌, ◌≤◌, ◌+◌, ◌-◌, ℕ, List, [], ◌∷◌, Some, None, IfOk, OnOk, OnErr, IfSome, replicate, slice_get};
 ghost use Rattle.gomp_types.specs.declared.event.Event.{Event};
 ghost use Rattle.gomp_types.specs.declared.event.Event.TheVariants.{Create, Start, Done};
 ghost use Rattle.gomp_types.specs.Events.{at_barrier as waits_at_barrier};
@@ -9,7 +8,7 @@ ghost use Rattle.gomp_types.specs.Tasks.{same_task, tasks_created, task_stack, e
 ghost use Rattle.gomp_types.specs.Goals.{is_ready, may_descend, may_start};
 ghost use Rattle.gomp_types.specs.TaskRules.{MayStart};
 ghost use Rattle.gomp_tasks.specs.Rows.{IsState, IsParent, RowStands};
-ghost use Rattle.gomp_tasks.specs.Stands.{Stands, members_of, count_of, IsNumber, IsTask};
+ghost use Rattle.gomp_tasks.specs.Stands.{Stands, AreSame, members_of, count_of, IsNumber, IsTask};
 ghost use Rattle.gomp_tasks.specs.Calls.{MayCreateNext, task_or_implicit, is_under_all};
 
 use crate::rows::{TaskRow, TaskState};
@@ -157,8 +156,8 @@ impl Tasks {
         requires member { member < members_of self.now }
         requires task { IsNumber task self.now }
         ensures known { (h : List Event) × Stands self.now h }
-        ensures value { (h : List Event) → Stands self.now h → at_barrier ≡ waits_at_barrier member h →
-            result ≡ may_start member task h }
+        ensures value { (h : List Event) → Stands self.now h →
+            at_barrier ≡ waits_at_barrier member h → result ≡ may_start member task h }
     {
         self.is_ready(task) && self.may_descend(member, at_barrier, task)
     }
@@ -168,9 +167,9 @@ impl Tasks {
     pub fn reserve(&mut self) -> Result<(), AllocError>
         ensures room { OnOk result (0 < self.new.room) }
         ensures grown { self.old.room ≤ self.new.room }
-        ensures rows { self.new.rows ≡ self.old.rows }
-        ensures stacks { self.new.stacks ≡ self.old.stacks }
-        ensures known { (h : List Event) × Stands self.new h }
+        ensures tasks { AreSame self.new self.old }
+        ensures known { (h : List Event) × Stands self.old h }
+        ensures stands { (h : List Event) → Stands self.old h → Stands self.new h }
         ensures kept { OnErr result (self.new ≡ self.old) }
         ensures full { OnErr result (self.old.room ≡ 0) }
     {
@@ -182,12 +181,14 @@ impl Tasks {
     pub fn create(&mut self, member: u16, odd: bool, desc: TaskDesc) -> u32
         requires room { 0 < self.old.room }
         requires few { count_of self.old < MAX_TASKS }
-        requires may { (h : List Event) × Stands self.old h × MayCreateNext self.old member odd h }
+        requires may { (h : List Event) × Stands self.old h ×
+            MayCreateNext self.old member odd h }
         ensures number { result ≡ count_of self.new }
         ensures count { count_of self.new ≡ count_of self.old + 1 }
         ensures room { self.new.room + 1 ≡ self.old.room }
         ensures members { members_of self.new ≡ members_of self.old }
-        ensures stands { (h : List Event) → Stands self.old h → MayCreateNext self.old member odd h →
+        ensures stands { (h : List Event) → Stands self.old h →
+            MayCreateNext self.old member odd h →
             Stands self.new (Create result member (executed_task member h) desc ∷ h) }
     {
         let parent = self.current(member);
@@ -207,7 +208,8 @@ impl Tasks {
 
     /// The member, numbered from 0, starts the task, which it may start.
     pub fn start(&mut self, member: u16, task: u32)
-        requires may { (h : List Event) × Stands self.old h × MayStart (members_of self.old) task member h }
+        requires may { (h : List Event) × Stands self.old h ×
+            MayStart (members_of self.old) task member h }
         ensures room { self.new.room ≡ self.old.room }
         ensures count { count_of self.new ≡ count_of self.old }
         ensures members { members_of self.new ≡ members_of self.old }
@@ -268,8 +270,8 @@ impl Tasks {
     fn may_descend(&self, member: u16, at_barrier: bool, task: u32) -> bool
         requires member { member < members_of self.now }
         requires task { IsNumber task self.now }
-        ensures value { (h : List Event) → Stands self.now h → at_barrier ≡ waits_at_barrier member h →
-            result ≡ may_descend member task h }
+        ensures value { (h : List Event) → Stands self.now h →
+            at_barrier ≡ waits_at_barrier member h → result ≡ may_descend member task h }
     {
         self.is_under_started(member, task)
             && (at_barrier || self.is_under(Task::Implicit(member), task))
