@@ -1,5 +1,5 @@
 -- What the calls of the barriers answer and add, and when seats stand for events: for each line of a definition what it says, and what it alone refuses.
-use Rattle.std.proofs.Common.{◌≡◌, ℕ, ◌-◌, ◌<◌, ◌≤◌, ◌^◌, true, false, List, [], ◌∷◌, Some, None, suc, zero, slice_get, refl, subst, ap, arith}
+use Rattle.std.proofs.Common.{◌≡◌, ℕ, Bool, ◌-◌, ◌<◌, ◌≤◌, ◌^◌, true, false, List, [], ◌∷◌, Some, None, suc, zero, slice_get, refl, subst, ap, arith}
 use Rattle.std.specs.Prelude.{◌==◌, get_or, is_some}
 use Rattle.std.proofs.lemmas.Bool.Decides.{nat_tests}
 use Rattle.gomp_types.specs.declared.refusal.Place.{Place}
@@ -9,10 +9,11 @@ use Rattle.gomp_types.specs.declared.event.Event.TheVariants.{Enter, Take, Drain
 use Rattle.gomp_types.specs.declared.event.Event.{Event}
 use Rattle.gomp_types.specs.Events.{arrival, tag_at}
 use Rattle.gomp_types.specs.Tasks.{tasks_created, is_complete}
+use Rattle.gomp_types.proofs.OpenTasks.{created_low, created_high}
 use Rattle.gomp_barrier.specs.declared.front.Seat.{Seat}
 use Rattle.gomp_barrier.specs.Calls.{barrier_seen, arrived_after, turn_after, IsAside}
 use Rattle.gomp_barrier.specs.Seats.{differ, is_ahead, tag_for, number_for, IsThere, arrived_at, passed_by, next_front, barrier_of, SeatStands, FrontStands, SomeBehind}
-use Rattle.gomp_barrier.specs.Bound.{TasksStand}
+use Rattle.gomp_barrier.specs.Bound.{open_bound, bound_count, TasksStand}
 use Rattle.gomp_barrier.specs.Stands.{Stands, members_of}
 use Rattle.gomp_barrier.specs.Examples.{at_barrier_tag, at_end_tag, both_arrived, second_ahead, first_left, seat_with, front_with, bound_with, no_tasks, barriers_with, sees_barrier, new_seat, new_front, seat_behind, seat_ahead, front_between}
 
@@ -295,7 +296,15 @@ two_seats P a b first second (suc (suc m)) seat at = absurd (cc)
 
 -- no task was created
 no_tasks_stand : (h : List Event) → tasks_created h ≡ 0 → ((t : ℕ) → is_complete t h ≡ false) → TasksStand no_tasks 0 h
-no_tasks_stand h none never = ?
+no_tasks_stand h none never = record {
+  counted = λ odd. open_none_yet odd;
+  near = λ t is. absurd (let low = created_low t h is.0 in let high = created_high t h is.0 in omega (arith, low, high, none));
+  unborn = λ t lt. never t;
+}
+  where
+    open_none_yet : (odd : Bool) → open_bound odd h ≡ bound_count no_tasks odd
+    open_none_yet true = rw none refl
+    open_none_yet false = rw none refl
 
 -- the barriers of the two members
 pub barriers_stand : Stands (barriers_with (seat_behind ∷ seat_ahead ∷ []) front_between no_tasks) second_ahead
