@@ -1,6 +1,6 @@
 -- No task that is bound to a barrier is created after a member passed it.
-use Rattle.std.proofs.Common.{◌≡◌, ℕ, ◌<◌, ◌≤◌, Bool, true, false, List, [], ◌∷◌, Some, refl, sym, subst, arith, suc, zero, inl, inr, ◌⊎◌}
-use Rattle.std.specs.Prelude.{◌&&◌, ◌||◌, ◌==◌, nat_lt, nat_le, not, if◌then◌else◌, is_some, Option}
+use Rattle.std.proofs.Common.{◌≡◌, ℕ, ◌<◌, Bool, true, false, List, [], ◌∷◌, Some, refl, sym, subst, arith, suc, inl, inr, ◌⊎◌}
+use Rattle.std.specs.Prelude.{◌&&◌, ◌||◌, ◌==◌, nat_lt, nat_le, if◌then◌else◌, is_some, Option}
 use Rattle.std.proofs.lemmas.Bool.{cases_Bool, cases_lt}
 use Rattle.std.proofs.lemmas.Bool.Decides.{nat_tests}
 use Rattle.gomp_types.specs.declared.task.Task.{Task}
@@ -9,7 +9,7 @@ use Rattle.gomp_types.specs.declared.task.TaskDesc.{TaskDesc}
 use Rattle.gomp_types.specs.declared.event.Event.{Event}
 use Rattle.gomp_types.specs.declared.event.Event.TheVariants.{Create, Done, Arrive, Pass}
 use Rattle.gomp_types.specs.Events.{barriers_passed, arrival, at_barrier, all_arrived}
-use Rattle.gomp_types.specs.Tasks.{tasks_created, is_created, task_stack, innermost_task, is_complete, epoch, of_explicit, all_complete}
+use Rattle.gomp_types.specs.Tasks.{tasks_created, is_created, task_stack, innermost_task, is_complete, epoch, of_explicit}
 use Rattle.gomp_types.specs.Goals.{bound_complete, barrier_met}
 use Rattle.gomp_types.specs.Laws.{Always, Happened}
 use Rattle.gomp_types.specs.Arrivals.{ArrivalRule}
@@ -94,7 +94,7 @@ new_later members g n task member (Explicit q) desc h arrivals tasks rule past l
     let is = current_open members member q h tasks (sym rule.current) in
     rw (same_number task) (later q is.0 is.1)
 
-old_epoch : (t task member : ℕ) (p : Task) (desc : TaskDesc) (h : List Event) → (task == t) ≡ false → epoch t (Create task member p desc ∷ h) ≡ epoch t h
+pub old_epoch : (t task member : ℕ) (p : Task) (desc : TaskDesc) (h : List Event) → (task == t) ≡ false → epoch t (Create task member p desc ∷ h) ≡ epoch t h
 old_epoch t task member (Implicit x) desc h other = rw other refl
 old_epoch t task member (Explicit q) desc h other = rw other refl
 

@@ -46,11 +46,11 @@ IsOpen m t h = (is_created t h ≡ true) × (is_complete t h ≡ false) × (task
 abbrev pub Stacked : List Event → Type 0
 Stacked h = (m : ℕ) → Apart (task_stack m h) × ((t : ℕ) → contains t (task_stack m h) ≡ true → IsOpen m t h)
 
-after_first_apart : (ts : List ℕ) → Apart ts → Apart (after_first ts)
+pub after_first_apart : (ts : List ℕ) → Apart ts → Apart (after_first ts)
 after_first_apart [] all = tt
 after_first_apart (t ∷ ts) all = all.1
 
-in_after_first : (t : ℕ) (ts : List ℕ) → contains t (after_first ts) ≡ true → contains t ts ≡ true
+pub in_after_first : (t : ℕ) (ts : List ℕ) → contains t (after_first ts) ≡ true → contains t ts ≡ true
 in_after_first t [] e = e
 in_after_first t (x ∷ xs) e = elim (cases_Bool (x == t)) [ inl same ↦ rw same refl | inr other ↦ rw other e ]
 
@@ -67,7 +67,7 @@ innermost_not_below m t (x ∷ xs) e all = let same : x ≡ t = cc in rw (← sa
 one_runner : (t a b : ℕ) (h : List Event) → task_runner t h ≡ Some a → task_runner t h ≡ Some b → a ≡ b
 one_runner t a b h x y = let e : Some a ≡ Some b = sym x ∙ y in cc
 
-unstarted_has_no_runner : (t m : ℕ) (h : List Event) → has_started t h ≡ false → task_runner t h ≡ Some m → ⊥
+pub unstarted_has_no_runner : (t m : ℕ) (h : List Event) → has_started t h ≡ false → task_runner t h ≡ Some m → ⊥
 unstarted_has_no_runner t m h e r = not_both (has_started t h) (runner_has_started t m h r) e
 
 -- a task that was created stays so when the next one is
