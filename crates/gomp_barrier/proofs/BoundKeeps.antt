@@ -11,7 +11,7 @@ use Rattle.gomp_types.specs.declared.event.Event.TheVariants.{Create, Done}
 use Rattle.gomp_types.specs.Tasks.{tasks_created, is_created, is_complete, all_complete, epoch, epoch_of_child, how_many, open_tasks, is_odd}
 use Rattle.gomp_types.specs.Goals.{bound_complete}
 use Rattle.gomp_types.proofs.Booleans.{and_left, and_right, and_false, same_number, other_number, is_equal, not_both}
-use Rattle.gomp_types.proofs.OpenTasks.{how_many_same, none_open, created_low, created_high, open_done, open_done_other, open_created, closed_all, all_closed}
+use Rattle.gomp_types.proofs.OpenTasks.{how_many_same, none_counted, created_low, created_high, open_done, open_done_other, open_created, closed_all, all_closed}
 use Rattle.gomp_types.proofs.LaterTasks.{old_created}
 use Rattle.gomp_barrier.specs.declared.bound.BoundTasks.{BoundTasks}
 use Rattle.gomp_barrier.specs.Calls.{IsOpen, MayBind, MayRelease}
@@ -103,7 +103,7 @@ tasks_move_on tasks least h st none = record {
   counted = st.counted;
   near = λ t is.
       let near = st.near t is in
-      let closed = none_open (tasks_created h) (λ u. nat_le (epoch u h) least && not (is_complete u h)) (bound_open tasks least h st ∙ none) t (created_low t h is.0) (created_high t h is.0) in
+      let closed = none_counted (tasks_created h) (λ u. nat_le (epoch u h) least && not (is_complete u h)) (bound_open tasks least h st ∙ none) t (created_low t h is.0) (created_high t h is.0) in
       let off : nat_le (epoch t h) least ≡ false = by (nat_le (epoch t h) least) (rw is.1 at closed) in
       (grind (arith, nat_tests, off), let high = near.1 in omega (arith, high));
   unborn = st.unborn;

@@ -13,7 +13,7 @@ use Rattle.gomp_types.specs.Laws.{Always}
 use Rattle.gomp_types.specs.TaskRules.{TaskRule}
 use Rattle.gomp_types.proofs.Booleans.{and_left, and_right, or_tells, or_right, same_number, other_number, is_equal}
 use Rattle.gomp_types.proofs.OpenTasks.{created_high}
-use Rattle.gomp_types.proofs.Suspended.{stacked}
+use Rattle.gomp_types.proofs.Suspended.{tasks_stacked}
 use Rattle.gomp_tasks.specs.declared.rows.TaskRow.{TaskRow}
 use Rattle.gomp_tasks.specs.Stands.{RowsStand}
 use Rattle.gomp_tasks.specs.Calls.{is_under_all}
@@ -82,7 +82,7 @@ started_chained members m (Done task member ∷ earlier) all = chained_rest (λ 
 started_chained members m (Create task member p desc ∷ earlier) all =
     chained_same (λ s t. is_ancestor (Explicit s) t earlier) (λ s t. is_ancestor (Explicit s) t (Create task member p desc ∷ earlier)) (task_stack m earlier)
     (λ s t there.
-    let high = created_high t earlier (((stacked members earlier all.1) m).1 t there).0 in
+    let high = created_high t earlier (((tasks_stacked members earlier all.1) m).1 t there).0 in
     let number = all.0.number in
     let old : (task == t) ≡ false = other_number task t (λ same. omega (arith, high, number, same)) in rw old refl)
     (started_chained members m earlier all.1)

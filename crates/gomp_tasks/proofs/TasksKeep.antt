@@ -14,9 +14,9 @@ use Rattle.gomp_types.specs.TaskRules.{TaskRule, MayCreate, MayStart}
 use Rattle.gomp_types.proofs.Booleans.{same_number, other_number}
 use Rattle.gomp_types.proofs.Lists.{slice_get-set}
 use Rattle.gomp_types.proofs.OpenTasks.{created_low, created_high}
-use Rattle.gomp_types.proofs.Suspended.{ran, current_open, fresh}
+use Rattle.gomp_types.proofs.Suspended.{runner_has_started, current_open, startable_is_fresh}
 use Rattle.gomp_types.proofs.TaskDepths.{few_suspended}
-use Rattle.gomp_types.proofs.TaskRoom.{unborn}
+use Rattle.gomp_types.proofs.TaskRoom.{uncreated_not_started}
 use Rattle.gomp_tasks.specs.declared.rows.TaskRow.{TaskRow}
 use Rattle.gomp_tasks.specs.Rows.{RowStands, started_by, completed, first_of}
 use Rattle.gomp_tasks.specs.Stands.{TasksView, RowsStand, Stands}
@@ -87,7 +87,7 @@ stack_pushed t m k ts us h here e is =
 
 pub fresh_number : (rows : List TaskRow) (stacks : List (List ℕ)) (m t : ℕ) (h : List Event) → RowsStand rows stacks h → MayStart (length stacks) t m h → (0 < t) × (t ≤ length rows)
 fresh_number rows stacks m t h st rule =
-    let is = fresh m t h rule.may in
+    let is = startable_is_fresh m t h rule.may in
     let high = created_high t h is.0 in
     let count = st.count in
     (created_low t h is.0, omega (arith, high, count))
@@ -103,7 +103,7 @@ stack_room rows stacks m t ts h st at rule =
 pub task_start_keeps : (rows : List TaskRow) (stacks : List (List ℕ)) (m t : ℕ) (row : TaskRow) (ts : List ℕ) (h : List Event) → RowsStand rows stacks h → slice_get stacks m ≡ Some ts → slice_get rows (t - 1) ≡ Some row → MayStart (length stacks) t m h →
     RowsStand (slice_set rows (t - 1) (started_by m row)) (slice_set stacks m (t ∷ ts)) (Start t m ∷ h)
 task_start_keeps rows stacks m t row ts h st at at_row rule =
-    let is = fresh m t h rule.may in
+    let is = startable_is_fresh m t h rule.may in
     let low = created_low t h is.0 in record {
       count = st.count ∙ sym (length-set rows (t - 1) (started_by m row));
       row = λ k found at_k. elim (row_set rows t (started_by m row) k found low at_k) [
@@ -126,7 +126,7 @@ task_end_keeps rows stacks m t row ts h st member at at_row top =
     let low = created_low t h is.0 in record {
       count = st.count ∙ sym (length-set rows (t - 1) (completed row));
       row = λ k found at_k. elim (row_set rows t (completed row) k found low at_k) [
-        | inl here ↦ row_named (suc k) t found (completed row) (Done t m ∷ h) here.0 here.1 (completed_row t m row h (ran t m h is.2) (task_row_of rows stacks t row h st low at_row))
+        | inl here ↦ row_named (suc k) t found (completed row) (Done t m ∷ h) here.0 here.1 (completed_row t m row h (runner_has_started t m h is.2) (task_row_of rows stacks t row h st low at_row))
         | inr away ↦ other_completed_row t m (suc k) found h (other_number t (suc k) (λ same. away.0 (sym same))) (st.row k found away.1)
       ];
       stack = λ k us at_k. elim (stack_set stacks m (after_first ts) k us at_k) [
@@ -144,14 +144,14 @@ not_run_yet members t h all lt = by (task_runner t h) refl
   where
     by : (found : Option ℕ) → task_runner t h ≡ found → task_runner t h ≡ None
     by None e = e
-    by (Some m) e = absurd (let on = ran t m h e in let off = (unborn members h all t lt).0 in cc)
+    by (Some m) e = absurd (let on = runner_has_started t m h e in let off = (uncreated_not_started members h all t lt).0 in cc)
 
 pub task_create_keeps : (rows : List TaskRow) (stacks : List (List ℕ)) (m t depth : ℕ) (odd : Bool) (p : Task) (desc : TaskDesc) (h : List Event) → RowsStand rows stacks h → MayCreate (length stacks) t m p h → depth ≡ depth_of p h + 1 → odd ≡ is_odd (epoch_of_child p h) →
     RowsStand (rows ++ new_of desc p depth odd ∷ []) stacks (Create t m p desc ∷ h)
 task_create_keeps rows stacks m t depth odd p desc h st rule deep odd_is =
     let number = rule.number in
     let count = st.count in
-    let new = unborn (length stacks) h st.rule t (omega (arith, number)) in
+    let new = uncreated_not_started (length stacks) h st.rule t (omega (arith, number)) in
     let older : (q : ℕ) → p ≡ Explicit q → (0 < q) × (q < t) = (λ q e.
     let is = executed_number rows stacks m q h st (sym rule.current ∙ e) in
     let high = is.1 in (is.0, omega (arith, high, number, count))) in
