@@ -1,3 +1,4 @@
 pub mod Chains
+pub mod Counting
 pub mod GroupsKeep
 pub mod Laws
