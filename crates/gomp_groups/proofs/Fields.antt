@@ -1,22 +1,25 @@
 -- What the fields of the groups say of the events, as the calls read and write them.
 use Rattle.std.proofs.Common.{◌≡◌, ℕ, ◌+◌, ◌<◌, ◌≤◌, Bool, true, false, List, [], ◌∷◌, ◌++◌, Option, Some, None, IfSome, length, get_or, take, drop, replicate, refl, ap, ◌∙◌, sym, subst, arith, suc, zero, inl, inr}
-use Rattle.std.specs.Prelude.{◌==◌, if◌then◌else◌}
+use Rattle.std.specs.Prelude.{◌==◌, ◌&&◌, not, if◌then◌else◌}
 use Rattle.std.proofs.Math.Seq.{take-append_seam}
 use Rattle.std.proofs.lemmas.List.{get_or_read}
 use Rattle.gomp_types.specs.declared.task.Task.{Task}
 use Rattle.gomp_types.specs.declared.task.Task.TheVariants.{Implicit, Explicit}
+use Rattle.gomp_types.specs.declared.task.TaskDesc.{TaskDesc}
 use Rattle.gomp_types.specs.declared.event.Event.{Event}
-use Rattle.gomp_types.specs.Tasks.{same_task, open_tasks, is_child, executed_task}
+use Rattle.gomp_types.specs.declared.event.Event.TheVariants.{Create, Done, Group, GroupEnd}
+use Rattle.gomp_types.specs.Tasks.{same_task, how_many, open_tasks, tasks_created, is_complete, is_child, executed_task}
 use Rattle.gomp_types.specs.Groups.{open_groups, in_group, group_complete}
 use Rattle.gomp_types.specs.Goals.{children_complete}
+use Rattle.gomp_types.specs.TaskRules.{MayEnd}
 use Rattle.gomp_groups.specs.declared.rows.GroupRow.{GroupRow}
 use Rattle.gomp_groups.specs.declared.rows.Seat.{Seat}
 use Rattle.gomp_groups.specs.declared.rows.TaskRow.{TaskRow}
-use Rattle.gomp_groups.specs.Rows.{no_group, no_seat, no_task, pending_at, seat_at, IsSeatedIn, IsChain, same_group, own_group}
+use Rattle.gomp_groups.specs.Rows.{no_group, no_seat, no_task, outer_at, pending_at, seat_at, IsSeatedIn, IsChain, same_group, own_group, CountsOneMore}
 use Rattle.gomp_groups.specs.Stands.{GroupsView, GroupsStand, Stands, groups_beyond}
-use Rattle.gomp_groups.specs.Calls.{last_open}
+use Rattle.gomp_groups.specs.Calls.{last_open, Executes, MayClose, MayCreateIn}
 use Rattle.gomp_groups.proofs.Chains.{chain_starts, own_is}
-use Rattle.gomp_groups.proofs.GroupsKeep.{Reseats, done_is}
+use Rattle.gomp_groups.proofs.GroupsKeep.{Reseats, done_is, open_keeps, close_keeps, create_keeps, complete_keeps}
 
 -- the value stands for what the fields do
 pub view_stands : (view now : GroupsView) (h : List Event) → view ≡ now → Stands now h → Stands view h
@@ -92,3 +95,66 @@ reseated at tasks new seats members others n k task seat a b same_tasks same_mem
     subst (λ (xs : List TaskRow). Reseats tasks members task seat xs (take k (others ++ drop (length others) members))) (sym (written new tasks n (same_tasks ∙ ap length a) tasks_size))
     (subst (λ (xs : List Seat). Reseats tasks members task seat new xs) (sym (written others members k (same_members ∙ ap length b) members_size))
         (record { tasks_len = same_tasks ∙ ap length a; members_len = same_members ∙ ap length b; seat_is = λ p. seat_is p ∙ rw (a, b) refl; parents = λ i. parents i ∙ rw a refl }))
+
+-- a group that was opened
+pub open_writes : (groups pushed : List GroupRow) (tasks : List TaskRow) (members : List Seat) (task : Task) (seat : Seat) (group : ℕ) (tasks_now : List TaskRow) (members_now : List Seat) (h : List Event) (m : ℕ) → GroupsStand groups tasks members h → Executes (length members) m task h →
+    seat ≡ seat_at tasks members task → group ≡ length groups → pushed ≡ groups ++ record { outer = seat.last; pending = 0 } ∷ [] →
+    Reseats tasks members task (record { children = seat.children; around = seat.around; last = Some group }) tasks_now members_now →
+    GroupsStand pushed tasks_now members_now (Group group m ∷ h)
+open_writes groups pushed tasks members task seat group tasks_now members_now h m st executes is number pushed_is re =
+    rw (pushed_is, number, is) (open_keeps groups tasks members task tasks_now members_now h m st executes
+        (subst (λ (s : Seat). Reseats tasks members task (record { children = s.children; around = s.around; last = Some (length groups) }) tasks_now members_now) is
+            (subst (λ (n : ℕ). Reseats tasks members task (record { children = seat.children; around = seat.around; last = Some n }) tasks_now members_now) number re)))
+
+-- and one that was ended: the one that its task's children are in
+pub close_first : (groups : List GroupRow) (tasks : List TaskRow) (members : List Seat) (task : Task) (h : List Event) (q m n : ℕ) → GroupsStand groups tasks members h → MayClose n q m task h → ((seat_at tasks members task).last ≡ Some q) × (q < length groups)
+close_first groups tasks members task h q m n st may =
+    let open' : open_groups task h ≡ q ∷ may.rule.outer = rw (← may.current) may.rule.last in
+    let chain = rw open' at (st.last task) in
+    (chain.0, chain.1)
+
+pub close_writes : (groups : List GroupRow) (tasks : List TaskRow) (members : List Seat) (task : Task) (seat : Seat) (group : ℕ) (row : GroupRow) (tasks_now : List TaskRow) (members_now : List Seat) (h : List Event) (q m : ℕ) → GroupsStand groups tasks members h → MayClose (length members) q m task h →
+    seat ≡ seat_at tasks members task → seat.last ≡ Some group → row ≡ get_or groups group row →
+    Reseats tasks members task (record { children = seat.children; around = seat.around; last = row.outer }) tasks_now members_now →
+    GroupsStand groups tasks_now members_now (GroupEnd q m ∷ h)
+close_writes groups tasks members task seat group row tasks_now members_now h q m st may is last row_is re =
+    let first = close_first groups tasks members task h q m (length members) st may in
+    let found : (seat_at tasks members task).last ≡ Some group = rw (← is) last in
+    let same : q ≡ group = (let e : Some q ≡ Some group = sym first.0 ∙ found in cc) in
+    let read : row ≡ get_or groups group no_group = get_or_read groups group row (rw (← same) first.1) row_is no_group in
+    close_keeps groups tasks members task group tasks_now members_now h q m st may found
+        (subst (λ (s : Seat). Reseats tasks members task (record { children = s.children; around = s.around; last = outer_at groups group }) tasks_now members_now) is
+            (subst (λ (r : GroupRow). Reseats tasks members task (record { children = seat.children; around = seat.around; last = r.outer }) tasks_now members_now) read re))
+
+-- a task that was created
+how_many_most : (n : ℕ) (test : ℕ → Bool) → how_many n test ≤ n
+how_many_most zero test = omega arith
+how_many_most (suc n) test = by (test (suc n)) (how_many_most n test)
+  where
+    by : (b : Bool) → how_many n test ≤ n → (if b then how_many n test + 1 else how_many n test) ≤ suc n
+    by true le = omega (arith, le)
+    by false le = omega (arith, le)
+
+pub pending_most : (groups : List GroupRow) (tasks : List TaskRow) (members : List Seat) (h : List Event) (q : ℕ) → GroupsStand groups tasks members h → pending_at groups q ≤ length tasks
+pending_most groups tasks members h q st = rw (← st.pending q, ← st.created) (how_many_most (tasks_created h) (λ t. in_group q t h && not (is_complete t h)))
+
+pub children_most : (groups : List GroupRow) (tasks : List TaskRow) (members : List Seat) (h : List Event) (p : Task) → GroupsStand groups tasks members h → (seat_at tasks members p).children ≤ length tasks
+children_most groups tasks members h p st = rw (← st.children p, ← st.created) (how_many_most (tasks_created h) (λ t. is_child p t h && not (is_complete t h)))
+
+pub create_writes : (groups groups_new : List GroupRow) (tasks pushed : List TaskRow) (members : List Seat) (parent : Task) (seat : Seat) (n : ℕ) (tasks_now : List TaskRow) (members_now : List Seat) (h : List Event) (m : ℕ) (desc : TaskDesc) → GroupsStand groups tasks members h → MayCreateIn (length members) m parent h →
+    seat ≡ seat_at tasks members parent → n ≡ length groups →
+    ((qs : List ℕ) → IsChain groups seat.last qs → CountsOneMore qs groups groups_new) →
+    pushed ≡ tasks_now ++ record { parent = parent; seat = record { children = 0; around = seat.last; last = seat.last } } ∷ [] →
+    Reseats tasks members parent (record { children = seat.children + 1; around = seat.around; last = seat.last }) tasks_now members_now →
+    GroupsStand (take n (groups_new ++ drop (length groups_new) groups)) pushed members_now (Create (suc (tasks_created h)) m parent desc ∷ h)
+create_writes groups groups_new tasks pushed members parent seat n tasks_now members_now h m desc st may is size counts pushed_is re =
+    let chain : IsChain groups seat.last (open_groups parent h ++ groups_beyond parent h) = rw is (st.last parent) in
+    let counted = counts (open_groups parent h ++ groups_beyond parent h) chain in
+    rw (written groups_new groups n counted.len size, pushed_is, is) (create_keeps groups tasks members parent groups_new tasks_now members_now h m desc st may counted
+        (subst (λ (s : Seat). Reseats tasks members parent (record { children = s.children + 1; around = s.around; last = s.last }) tasks_now members_now) is re))
+
+-- A task that was ended
+
+-- it has a row
+pub row_there : (groups : List GroupRow) (tasks : List TaskRow) (members : List Seat) (t : ℕ) (h : List Event) (m n : ℕ) → GroupsStand groups tasks members h → MayEnd n t m h → (0 < t) × (t ≤ length tasks)
+row_there groups tasks members t h m n st may = ?
