@@ -75,22 +75,26 @@ other_left groups q x left n m begin other e = rw (begin.is, other) at e
 pub adds_next : (first : Option ℕ) (was now : List GroupRow) (q : ℕ) → IsNested was → IsLeft first (Some q) was now was now → (q < length now) × (pending_at now q ≤ pending_at was q) ×
     IsLeft first (outer_at now q) was (set now q (record { outer = outer_at now q; pending = pending_at now q + 1 })) was (set now q (record { outer = outer_at now q; pending = pending_at now q + 1 }))
 adds_next first was now q nested is =
-    let left = begins now q is.left (nested_now was now is.outer nested) is.left_is in
-    (left.within, few left, record {
-      len = length-set now q (record { outer = outer_at now q; pending = pending_at now q + 1 }) ∙ is.len;
-      outer = λ x. outer_at-set now q x (pending_at now q + 1) left.within ∙ is.outer x;
-      all = is.all;
-      left = left.rest;
-      all_is = is.all_is;
-      left_is = rest_stays now q (pending_at now q + 1) (outer_at now q) left.rest left.within left.rest_is;
-      counted = λ x. rw (pending_at-set now q x (pending_at now q + 1) left.within) (counted_now left x (q == x) refl);
-    })
+    let left = begins now q is.left (nested_now was now is.outer nested) is.left_is in (
+      left.within,
+      few left,
+      record {
+        len = length-set now q (record { outer = outer_at now q; pending = pending_at now q + 1 }) ∙ is.len;
+        outer = λ x. outer_at-set now q x (pending_at now q + 1) left.within ∙ is.outer x;
+        all = is.all;
+        left = left.rest;
+        all_is = is.all_is;
+        left_is = rest_stays now q (pending_at now q + 1) (outer_at now q) left.rest left.within left.rest_is;
+        counted = λ x. rw (pending_at-set now q x (pending_at now q + 1) left.within) (counted_now left x (q == x) refl);
+      },
+    )
   where
     few : BeginsWith now q is.left → pending_at now q ≤ pending_at was q
     few left =
         let here = next_left now q (pending_at now q) is.all is.left (pending_at was q) left (is.counted q) in
         let one = one_at_most (contains q is.all) in
         omega (arith, here, one)
+
     counted_now : (left : BeginsWith now q is.left) (x : ℕ) (b : Bool) → (q == x) ≡ b → (if b then pending_at now q + 1 else pending_at now x) + (if contains x left.rest then 1 else 0) ≡ pending_at was x + (if contains x is.all then 1 else 0)
     counted_now left x true same =
         let here = next_left now q (pending_at now q) is.all is.left (pending_at was q) left (is.counted q) in
@@ -101,16 +105,19 @@ adds_next first was now q nested is =
 pub removes_next : (first : Option ℕ) (was now : List GroupRow) (q : ℕ) → IsNested was → ((qs : List ℕ) → IsChain was first qs → (x : ℕ) → (if contains x qs then 1 else 0) ≤ pending_at was x) → IsLeft first (Some q) was now now was → (q < length now) × (1 ≤ pending_at now q) ×
     IsLeft first (outer_at now q) was (set now q (record { outer = outer_at now q; pending = pending_at now q - 1 })) (set now q (record { outer = outer_at now q; pending = pending_at now q - 1 })) was
 removes_next first was now q nested some is =
-    let left = begins now q is.left (nested_now was now is.outer nested) is.left_is in
-    (left.within, enough left, record {
-      len = length-set now q (record { outer = outer_at now q; pending = pending_at now q - 1 }) ∙ is.len;
-      outer = λ x. outer_at-set now q x (pending_at now q - 1) left.within ∙ is.outer x;
-      all = is.all;
-      left = left.rest;
-      all_is = is.all_is;
-      left_is = rest_stays now q (pending_at now q - 1) (outer_at now q) left.rest left.within left.rest_is;
-      counted = λ x. rw (pending_at-set now q x (pending_at now q - 1) left.within) (counted_now left x (q == x) refl);
-    })
+    let left = begins now q is.left (nested_now was now is.outer nested) is.left_is in (
+      left.within,
+      enough left,
+      record {
+        len = length-set now q (record { outer = outer_at now q; pending = pending_at now q - 1 }) ∙ is.len;
+        outer = λ x. outer_at-set now q x (pending_at now q - 1) left.within ∙ is.outer x;
+        all = is.all;
+        left = left.rest;
+        all_is = is.all_is;
+        left_is = rest_stays now q (pending_at now q - 1) (outer_at now q) left.rest left.within left.rest_is;
+        counted = λ x. rw (pending_at-set now q x (pending_at now q - 1) left.within) (counted_now left x (q == x) refl);
+      },
+    )
   where
     enough : BeginsWith now q is.left → 1 ≤ pending_at now q
     enough left =
@@ -118,6 +125,7 @@ removes_next first was now q nested some is =
         let was_some = some is.all is.all_is q in
         let one = one_at_most (contains q is.all) in
         omega (arith, here, was_some, one)
+
     counted_now : (left : BeginsWith now q is.left) (x : ℕ) (b : Bool) → (q == x) ≡ b → pending_at was x + (if contains x left.rest then 1 else 0) ≡ (if b then pending_at now q - 1 else pending_at now x) + (if contains x is.all then 1 else 0)
     counted_now left x true same =
         let here = next_left now q (pending_at was q) is.all is.left (pending_at now q) left (is.counted q) in

@@ -96,10 +96,13 @@ open_keeps groups tasks members task tasks_now members_now h m st executes re =
   where
     seat : Seat
     seat = record { children = (seat_at tasks members task).children; around = (seat_at tasks members task).around; last = Some (length groups) }
+
     row : GroupRow
     row = record { outer = (seat_at tasks members task).last; pending = 0 }
+
     stays : (first : Option ℕ) (qs : List ℕ) → IsChain groups first qs → IsChain (groups ++ row ∷ []) first qs
     stays first qs chain = let size = length-append groups (row ∷ []) in chain_on groups (groups ++ row ∷ []) first qs (omega (arith, size)) (outer_at-push groups row) chain
+
     last_now : (p : Task) (b : Bool) → same_task task p ≡ b → IsChain (groups ++ row ∷ []) (if b then seat else seat_at tasks members p).last ((if b then length groups ∷ open_groups p h else open_groups p h) ++ groups_beyond p h)
     last_now p true same =
         let size = length-append groups (row ∷ []) in
@@ -125,6 +128,7 @@ close_keeps groups tasks members task group tasks_now members_now h q m st may i
   where
     seat : Seat
     seat = record { children = (seat_at tasks members task).children; around = (seat_at tasks members task).around; last = outer_at groups group }
+
     last_now : (p : Task) (b : Bool) → same_task task p ≡ b → IsChain groups (if b then seat else seat_at tasks members p).last ((if b then after_first (open_groups p h) else open_groups p h) ++ groups_beyond p h)
     last_now p true same =
         let here = same_task_is task p same in
@@ -194,22 +198,31 @@ create_keeps groups tasks members parent groups_now tasks_now members_now h m de
   where
     new : ℕ
     new = suc (tasks_created h)
+
     event : List Event
     event = Create (suc (tasks_created h)) m parent desc ∷ h
+
     with_child : Seat
     with_child = record { children = (seat_at tasks members parent).children + 1; around = (seat_at tasks members parent).around; last = (seat_at tasks members parent).last }
+
     row : TaskRow
     row = record { parent = parent; seat = record { children = 0; around = (seat_at tasks members parent).last; last = (seat_at tasks members parent).last } }
+
     incomplete : is_complete (suc (tasks_created h)) h ≡ false
     incomplete = (unborn (length members) h st.rule (suc (tasks_created h)) (omega arith)).1
+
     place : length tasks_now ≡ tasks_created h
     place = re.tasks_len ∙ sym st.created
+
     seat_now : (p : Task) → seat_at (tasks_now ++ row ∷ []) members_now p ≡ (if same_task (Explicit (suc (tasks_created h))) p then row.seat else if same_task parent p then with_child else seat_at tasks members p)
     seat_now p = seat_at-push tasks_now members_now row p ∙ rw (place, re.seat_is p) refl
+
     away : same_task parent (Explicit (suc (tasks_created h))) ≡ false
     away = not_new tasks members parent (tasks_created h) st.created (executed_seated groups tasks members h m parent st may.member (sym may.current))
+
     stays : (first : Option ℕ) (qs : List ℕ) → IsChain groups first qs → IsChain groups_now first qs
     stays first qs chain = chain_on groups groups_now first qs (let len = counts.len in omega (arith, len)) (λ q lt. counts.outer q) chain
+
     parent_now : (k : ℕ) (p : Task) → (k < length tasks_now) ⊎ (length tasks_now ≤ k) → k < length (tasks_now ++ row ∷ []) → is_child p (suc k) event ≡ same_task (get_or (tasks_now ++ row ∷ []) k no_task).parent p
     parent_now k p (inl lt) within =
         let size = place in
@@ -221,6 +234,7 @@ create_keeps groups tasks members parent groups_now tasks_now members_now h m de
         let here : k ≡ length tasks_now = omega (arith, ge, within, longer) in
         let same : (suc (tasks_created h) == suc k) ≡ true = rw (here, size) (same_number (suc (tasks_created h))) in
         rw (same, here, row-pushed tasks_now row) refl
+
     children_now : (p : Task) (b : Bool) → same_task (Explicit (suc (tasks_created h))) p ≡ b → (if same_task parent p then (seat_at tasks members p).children + 1 else (seat_at tasks members p).children) ≡ (if b then row.seat else if same_task parent p then with_child else seat_at tasks members p).children
     children_now p true same =
         let here = same_task_is (Explicit (suc (tasks_created h))) p same in
@@ -231,6 +245,7 @@ create_keeps groups tasks members parent groups_now tasks_now members_now h m de
         with_one : (b : Bool) → same_task parent p ≡ b → (if b then (seat_at tasks members p).children + 1 else (seat_at tasks members p).children) ≡ (if b then with_child else seat_at tasks members p).children
         with_one true same = rw (same_task_is parent p same) refl
         with_one false differ = refl
+
     around_now : (p : Task) (b : Bool) → same_task (Explicit (suc (tasks_created h))) p ≡ b → IsChain groups_now (if b then row.seat else if same_task parent p then with_child else seat_at tasks members p).around (groups_beyond p event)
     around_now p true same =
         rw (← same_task_is (Explicit (suc (tasks_created h))) p same, around_new (suc (tasks_created h)) m parent desc h) (stays (seat_at tasks members parent).last (open_groups parent h ++ groups_beyond parent h) (st.last parent))
@@ -239,6 +254,7 @@ create_keeps groups tasks members parent groups_now tasks_now members_now h m de
         by : (b : Bool) → same_task parent p ≡ b → IsChain groups_now (if b then with_child else seat_at tasks members p).around (groups_beyond p h)
         by true same = rw (same_task_is parent p same) (stays (seat_at tasks members p).around (groups_beyond p h) (st.around p))
         by false differ = stays (seat_at tasks members p).around (groups_beyond p h) (st.around p)
+
     last_now : (p : Task) (b : Bool) → same_task (Explicit (suc (tasks_created h))) p ≡ b → IsChain groups_now (if b then row.seat else if same_task parent p then with_child else seat_at tasks members p).last (open_groups p h ++ groups_beyond p event)
     last_now p true same =
         let none = no_chain groups (open_groups (Explicit (suc (tasks_created h))) h) (groups_beyond (Explicit (suc (tasks_created h))) h) (rw (none_yet tasks members (tasks_created h) st.created) at (st.last (Explicit (suc (tasks_created h))))) in
@@ -284,10 +300,13 @@ complete_keeps groups tasks members t groups_now tasks_now members_now h m paren
   where
     less : Seat
     less = record { children = (seat_at tasks members parent).children - 1; around = (seat_at tasks members parent).around; last = (seat_at tasks members parent).last }
+
     stays : (first : Option ℕ) (qs : List ℕ) → IsChain groups first qs → IsChain groups_now first qs
     stays first qs chain = chain_on groups groups_now first qs (let len = counts.len in omega (arith, len)) (λ q lt. sym (counts.outer q)) chain
+
     open' : (is_created t h ≡ true) × (is_complete t h ≡ false)
     open' = let was = current_open (length members) m t h st.rule may.current in (was.0, was.1)
+
     pending_now : (q : ℕ) (b : Bool) → contains q (groups_around t h) ≡ b → open_tasks (λ u. in_group q u h) (Done t m ∷ h) ≡ pending_at groups_now q
     pending_now q true there =
         let more = counts.pending q in
@@ -301,6 +320,7 @@ complete_keeps groups tasks members t groups_now tasks_now members_now h m paren
         let was = st.pending q in
         let done = open_done_other (λ u. in_group q u h) t m h away in
         omega (arith, here, was, done)
+
     children_now : (p : Task) (b : Bool) → same_task parent p ≡ b → open_tasks (λ u. is_child p u h) (Done t m ∷ h) ≡ (seat_at tasks_now members_now p).children
     children_now p true same =
         let here = same_task_is parent p same in

@@ -1,4 +1,4 @@
-use Rattle.std.proofs.Common.{◌≡◌, ℕ, List, ◌∷◌, length, sym, subst, arith}
+use Rattle.std.proofs.Common.{ℕ, List, ◌∷◌, ◌∙◌, sym, subst}
 use Rattle.gomp_types.specs.declared.event.Event.{Event}
 use Rattle.gomp_types.specs.declared.event.Event.TheVariants.{Group}
 use Rattle.gomp_groups.specs.Stands.{GroupsView, Stands, members_of}
@@ -21,13 +21,10 @@ put_seat-requires c =
 
 pub returns-clause-stands : goal.returns-clause-stands
 returns-clause-stands c = λ h m st executes.
-    let tasks_size : c.self.inside.tasks.len ≡ length c.self.inside.tasks.items = (let ok = c.self.inside.tasks.ok.0 in omega (arith, ok)) in
-    let members_size : c.self.inside.members.len ≡ length c.self.inside.members.items = (let ok = c.self.inside.members.ok.0 in omega (arith, ok)) in
-    let number : c.len-group.result ≡ length c.self.inside.groups.items = (let ok = c.self.inside.groups.ok.0 in let is = c.len-group.ensures in omega (arith, ok, is)) in
     let seat = seat_read _ _ _ _ c.args.task _ c.deref.ensures.value c.deref-2.ensures.value c.seat_of-seat.ensures.value in
-    let re = reseated _ c.self.inside.tasks.items _ _ c.self.inside.members.items _ _ _ c.args.task _ c.deref_mut.ensures.value c.deref_mut-2.ensures.value c.put_seat.auto.tasks c.put_seat.auto.members tasks_size members_size c.put_seat.ensures.seat c.put_seat.ensures.parents in
+    let re = reseated _ c.self.inside.tasks.items _ _ c.self.inside.members.items _ _ _ c.args.task _ c.deref_mut.ensures.value c.deref_mut-2.ensures.value c.put_seat.auto.tasks c.put_seat.auto.members c.self.inside.tasks.ok.0 c.self.inside.members.ok.0 c.put_seat.ensures.seat c.put_seat.ensures.parents in
     open_writes c.self.inside.groups.items _ c.self.inside.tasks.items c.self.inside.members.items c.args.task _ _ _ _ h m (view_stands _ _ h c.self.view_is st)
-    (subst (λ (v : GroupsView). Executes (members_of v) m c.args.task h) (sym c.self.view_is) executes) seat number c.push_reserved.ensures.items re
+    (subst (λ (v : GroupsView). Executes (members_of v) m c.args.task h) (sym c.self.view_is) executes) seat (c.len-group.ensures ∙ c.self.inside.groups.ok.0) c.push_reserved.ensures.items re
 
 pub invariant_of-self : goal.invariant_of-self
 invariant_of-self c =
