@@ -206,12 +206,12 @@ pub numbers_of_two : IsNumber 1 both_running × IsNumber 2 both_running
 numbers_of_two = ((omega arith, omega arith), (omega arith, omega arith))
 
 -- 0 is none, nor is that of the next task
-pub numbers_beyond : (IsNumber 0 both_running → ⊥) × (IsNumber 3 both_running → ⊥)
-numbers_beyond = ((λ is. absurd (let some = is.0 in omega arith)), (λ is. absurd (let few = is.1 in omega arith)))
+pub numbers_of_no_task : (IsNumber 0 both_running → ⊥) × (IsNumber 3 both_running → ⊥)
+numbers_of_no_task = ((λ is. absurd (let some = is.0 in omega arith)), (λ is. absurd (let few = is.1 in omega arith)))
 
 -- an implicit task is one, and an explicit one if its number is
 pub tasks_by_number : IsTask (Implicit 5) both_running × IsTask (Explicit 2) both_running × (IsTask (Explicit 3) both_running → ⊥)
-tasks_by_number = (tt, numbers_of_two.1, numbers_beyond.1)
+tasks_by_number = (tt, numbers_of_two.1, numbers_of_no_task.1)
 
 -- the same tasks with more room
 pub same_in_more_room : AreSame (tasks_with [] [] [] 3) (tasks_with [] [] [] 0)

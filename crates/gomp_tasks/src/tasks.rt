@@ -193,6 +193,7 @@ impl Tasks {
     {
         let parent = self.current(member);
         let depth = self.depth(parent) + 1;
+        let task = self.count() + 1;
         let TaskDesc { code, arg } = desc;
         self.rows.push_reserved(TaskRow {
             code,
@@ -203,7 +204,7 @@ impl Tasks {
             runner: None,
             state: TaskState::Ready,
         });
-        self.rows.len() as u32
+        task
     }
 
     /// The member, numbered from 0, starts the task, which it may start.

@@ -17,7 +17,7 @@ returns-clause-stands c = λ h st0 may0.
     let may = subst (λ (v : TasksView). MayCreateNext v c.args.member c.args.odd h) (sym c.self.view_is) may0 in
     let parent = c.current-parent.ensures.value h st0 in
     let deep : c.depth-depth.result + 1 ≡ depth_of (executed_task c.args.member h) h + 1 = ap (λ (n : ℕ). n + 1) (c.depth-depth.ensures.value h st0 ∙ ap (λ (p : Task). depth_of p h) parent) in
-    let number : c.len.result ≡ suc (length c.self.inside.rows.items) = (let len = c.len.ensures in let more = c.push_reserved.ensures.len in let ok = c.self.inside.rows.ok.0 in omega (arith, len, more, ok)) in
+    let number : c.count-task.result + 1 ≡ suc (length c.self.inside.rows.items) = (let counted = c.count-task.ensures.rows ∙ ap count_of (sym c.self.view_is) in omega (arith, counted)) in
     rw (number, c.push_reserved.ensures.items, parent) (task_create_keeps c.self.inside.rows.items c.self.inside.stacks.items c.args.member _ (c.depth-depth.result + 1) c.args.odd _ c.args.desc h st may.rule deep may.odd_is)
 
 pub invariant_of-self : goal.invariant_of-self
@@ -25,4 +25,4 @@ invariant_of-self c =
     let may : (h : List Event) × Stands c.args.self.now h × MayCreateNext c.args.self.now c.args.member c.args.odd h = c.requires.may in
     let few : length c.self.inside.rows.items < MAX_TASKS = subst (λ (v : TasksView). count_of v < MAX_TASKS) (sym c.self.view_is) c.requires.few in
     let longer = length-append c.self.inside.rows.items (new_of c.args.desc c.current-parent.result (c.depth-depth.result + 1) c.args.odd ∷ []) in
-    ((Create c.len.result c.args.member (executed_task c.args.member may.0) c.args.desc ∷ may.0, returns-clause-stands c may.0 may.1 may.2), rw c.push_reserved.ensures.items (omega (arith, few, longer)))
+    ((Create (c.count-task.result + 1) c.args.member (executed_task c.args.member may.0) c.args.desc ∷ may.0, returns-clause-stands c may.0 may.1 may.2), rw c.push_reserved.ensures.items (omega (arith, few, longer)))
