@@ -115,13 +115,13 @@ tasks_move_on tasks least h st none = record {
 
 -- A task is created
 
-new_epoch : (task member : ℕ) (parent : Task) (desc : TaskDesc) (h : List Event) → epoch task (Create task member parent desc ∷ h) ≡ epoch_of_child parent h
-new_epoch task member (Implicit x) desc h = rw (same_number task) refl
-new_epoch task member (Explicit p) desc h = rw (same_number task) refl
+epoch_of_new : (task member : ℕ) (parent : Task) (desc : TaskDesc) (h : List Event) → epoch task (Create task member parent desc ∷ h) ≡ epoch_of_child parent h
+epoch_of_new task member (Implicit x) desc h = rw (same_number task) refl
+epoch_of_new task member (Explicit p) desc h = rw (same_number task) refl
 
-old_epoch : (t task member : ℕ) (parent : Task) (desc : TaskDesc) (h : List Event) → (task == t) ≡ false → epoch t (Create task member parent desc ∷ h) ≡ epoch t h
-old_epoch t task member (Implicit x) desc h other = rw other refl
-old_epoch t task member (Explicit p) desc h other = rw other refl
+epoch_of_old : (t task member : ℕ) (parent : Task) (desc : TaskDesc) (h : List Event) → (task == t) ≡ false → epoch t (Create task member parent desc ∷ h) ≡ epoch t h
+epoch_of_old t task member (Implicit x) desc h other = rw other refl
+epoch_of_old t task member (Explicit p) desc h other = rw other refl
 
 -- one more of its parity
 count_more : (tasks : BoundTasks) (odd own : Bool) (n : ℕ) → odd ≡ is_odd n → (if of_parity own n then bound_count tasks own + 1 else bound_count tasks own) ≡ bound_count (one_more tasks odd) own
@@ -137,18 +137,18 @@ bind_keeps tasks least members task member parent desc odd h st may near = recor
   near = λ t is.
       elim (cases_Bool (task == t)) [
         | inl new ↦
-            let e : epoch t (Create task member parent desc ∷ h) ≡ epoch_of_child parent h = subst (λ (u : ℕ). epoch u (Create task member parent desc ∷ h) ≡ epoch_of_child parent h) (is_equal task t new) (new_epoch task member parent desc h) in
+            let e : epoch t (Create task member parent desc ∷ h) ≡ epoch_of_child parent h = subst (λ (u : ℕ). epoch u (Create task member parent desc ∷ h) ≡ epoch_of_child parent h) (is_equal task t new) (epoch_of_new task member parent desc h) in
             rw e near
-        | inr old ↦ rw (old_epoch t task member parent desc h old) (st.near t (old_created t task h may.number old is.0, is.1))
+        | inr old ↦ rw (epoch_of_old t task member parent desc h old) (st.near t (old_created t task h may.number old is.0, is.1))
       ];
   unborn = λ t lt. st.unborn t (omega (arith, lt));
 }
   where
     at : (own : Bool) → open_bound own (Create (suc (tasks_created h)) member parent desc ∷ h) ≡ bound_count (one_more tasks odd) own
     at own =
-        let new : epoch (suc (tasks_created h)) (Create (suc (tasks_created h)) member parent desc ∷ h) ≡ epoch_of_child parent h = new_epoch (suc (tasks_created h)) member parent desc h in
+        let new : epoch (suc (tasks_created h)) (Create (suc (tasks_created h)) member parent desc ∷ h) ≡ epoch_of_child parent h = epoch_of_new (suc (tasks_created h)) member parent desc h in
         let more = open_created (λ t. of_parity own (epoch t h)) (λ t. of_parity own (epoch t (Create (suc (tasks_created h)) member parent desc ∷ h))) member parent desc h (st.unborn (suc (tasks_created h)) (omega arith))
-        (λ t le. ap (of_parity own) (old_epoch t (suc (tasks_created h)) member parent desc h (other_number (suc (tasks_created h)) t (λ same. omega (arith, same, le))))) in
+        (λ t le. ap (of_parity own) (epoch_of_old t (suc (tasks_created h)) member parent desc h (other_number (suc (tasks_created h)) t (λ same. omega (arith, same, le))))) in
         more ∙ subst (λ (n : ℕ). (if of_parity own n then open_bound own h + 1 else open_bound own h) ≡ bound_count (one_more tasks odd) own) (sym new)
         (subst (λ (n : ℕ). (if of_parity own (epoch_of_child parent h) then n + 1 else n) ≡ bound_count (one_more tasks odd) own) (sym (st.counted own)) (count_more tasks odd own (epoch_of_child parent h) may.parity))
 
@@ -161,8 +161,8 @@ count_less tasks true false n now e is = sym (rw (← e) at is)
 count_less tasks false true n now e is = sym (rw (← e) at is)
 count_less tasks false false n now e is = let more : tasks.even ≡ now + 1 = rw (← e) at is in omega (arith, more)
 
-released : (own : Bool) (task member : ℕ) (h : List Event) → IsOpen task h → open_bound own h ≡ (if of_parity own (epoch task h) then open_bound own (Done task member ∷ h) + 1 else open_bound own (Done task member ∷ h))
-released own task member h is =
+released_count : (own : Bool) (task member : ℕ) (h : List Event) → IsOpen task h → open_bound own h ≡ (if of_parity own (epoch task h) then open_bound own (Done task member ∷ h) + 1 else open_bound own (Done task member ∷ h))
+released_count own task member h is =
     elim (cases_Bool (of_parity own (epoch task h))) [
       | inl counted ↦ rw counted (open_done (λ t. of_parity own (epoch t h)) task member h is.0 counted is.1)
       | inr not_counted ↦ rw not_counted (open_done_other (λ t. of_parity own (epoch t h)) task member h not_counted)
@@ -170,7 +170,7 @@ released own task member h is =
 
 pub release_keeps : (tasks : BoundTasks) (least task member : ℕ) (odd : Bool) (h : List Event) → TasksStand tasks least h → MayRelease task odd h → TasksStand (one_less tasks odd) least (Done task member ∷ h)
 release_keeps tasks least task member odd h st may = record {
-  counted = λ own. count_less tasks odd own (epoch task h) (open_bound own (Done task member ∷ h)) may.parity (sym (st.counted own) ∙ released own task member h may.is_open);
+  counted = λ own. count_less tasks odd own (epoch task h) (open_bound own (Done task member ∷ h)) may.parity (sym (st.counted own) ∙ released_count own task member h may.is_open);
   near = λ t is. st.near t (is.0, or_false (task == t) (is_complete t h) is.1);
   unborn = λ t lt.
       let high = created_high task h may.is_open.0 in

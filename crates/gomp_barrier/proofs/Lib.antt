@@ -4,3 +4,4 @@ pub mod BarrierSteps
 pub mod Laws
 mod BoundKeeps
 mod RegionEnds
+pub mod TaskExamples

@@ -11,8 +11,8 @@ use Rattle.gomp_types.specs.Arrivals.{ArrivalRule}
 use Rattle.gomp_types.proofs.Booleans.{which_branch, and_left, and_right, and_false, or_tells, or_left, or_right, is_equal, same_number}
 
 -- a later arrival has the barrier's tag
-tag_stays : (members g : ℕ) (tag : Tag) (barrier member : ℕ) (other : Tag) (earlier : List Event) → ArrivalRule members (Arrive barrier member other) earlier → tag_at g earlier ≡ Some tag → tag_at g (Arrive barrier member other ∷ earlier) ≡ Some tag
-tag_stays members g tag barrier member other earlier rule at =
+tag_kept : (members g : ℕ) (tag : Tag) (barrier member : ℕ) (other : Tag) (earlier : List Event) → ArrivalRule members (Arrive barrier member other) earlier → tag_at g earlier ≡ Some tag → tag_at g (Arrive barrier member other ∷ earlier) ≡ Some tag
+tag_kept members g tag barrier member other earlier rule at =
     elim (cases_Bool (barrier == g)) [
       | inl here ↦ rw here (let same : tag ≡ other = rule.same tag (rw (is_equal barrier g here) at) in rw same refl)
       | inr away ↦ rw away at
@@ -24,7 +24,7 @@ arrival_tag members g m tag [] all at = absurd (cc)
 arrival_tag members g m tag (Arrive barrier member other ∷ earlier) all at =
     elim (which_branch (barrier == g && member == m) (Some other) (arrival g m earlier) (Some tag) at) [
       | inl own ↦ rw (and_left (barrier == g) (member == m) own.0) own.1
-      | inr old ↦ tag_stays members g tag barrier member other earlier all.0 (arrival_tag members g m tag earlier all.1 old.1)
+      | inr old ↦ tag_kept members g tag barrier member other earlier all.0 (arrival_tag members g m tag earlier all.1 old.1)
     ]
 arrival_tag members g m tag (_ ∷ earlier) all at = arrival_tag members g m tag earlier all.1 at
 
@@ -141,7 +141,7 @@ end_barrier members m (Arrive barrier member tag ∷ earlier) all e =
         },
       )
       | inr old ↦ let (g, first, was) = end_barrier members m earlier all.1 old in
-          (g, first, record { here = tag_stays members g first barrier member tag earlier all.0 was.here; ends = was.ends; near = was.near })
+          (g, first, record { here = tag_kept members g first barrier member tag earlier all.0 was.here; ends = was.ends; near = was.near })
     ]
 end_barrier members m (Pass barrier member ∷ earlier) all e =
     let (g, tag, was) = end_barrier members m earlier all.1 e in
