@@ -17,7 +17,7 @@ use Rattle.gomp_types.specs.TaskRules.{TaskRule, MayCreate, MayEnd, MayOpen, May
 use Rattle.gomp_types.proofs.Booleans.{same_number, other_number, is_equal, not_both}
 use Rattle.gomp_types.proofs.OpenTasks.{open_done, open_done_other, open_created, closed_all, all_closed, created_low, created_high}
 use Rattle.gomp_types.proofs.Suspended.{current_open}
-use Rattle.gomp_types.proofs.TaskRoom.{unborn}
+use Rattle.gomp_types.proofs.TaskRoom.{uncreated_not_started}
 use Rattle.gomp_groups.specs.declared.rows.GroupRow.{GroupRow}
 use Rattle.gomp_groups.specs.declared.rows.Seat.{Seat}
 use Rattle.gomp_groups.specs.declared.rows.TaskRow.{TaskRow}
@@ -209,7 +209,7 @@ create_keeps groups tasks members parent groups_now tasks_now members_now h m de
     row = record { parent = parent; seat = record { children = 0; around = (seat_at tasks members parent).last; last = (seat_at tasks members parent).last } }
 
     incomplete : is_complete (suc (tasks_created h)) h ≡ false
-    incomplete = (unborn (length members) h st.rule (suc (tasks_created h)) (omega arith)).1
+    incomplete = (uncreated_not_started (length members) h st.rule (suc (tasks_created h)) (omega arith)).1
 
     place : length tasks_now ≡ tasks_created h
     place = re.tasks_len ∙ sym st.created

@@ -63,7 +63,7 @@ states_told = (record { started = refl; complete = refl }, record { started = re
 pub state_not_started : IsState 2 states.Ready two_started → ⊥
 state_not_started is = absurd (let on = is.started in cc)
 
--- one that is complete, as if it ran
+-- one that is complete, as if it runner_has_started
 pub state_not_complete : IsState 2 states.Running second_done → ⊥
 state_not_complete is = absurd (let over = is.complete in cc)
 
