@@ -17,6 +17,7 @@ pub mod Sections
 pub mod Seen
 pub mod Shapes
 pub mod Singles
+pub mod TaskExamples
 pub mod TaskLaws
 pub mod TaskRules
 pub mod Tasks
