@@ -22,7 +22,10 @@ pub mod ShapeExamples
 pub mod Suspended
 pub mod TaskDepths
 pub mod TaskEvents
+pub mod TaskExamples
+pub mod TaskLawExamples
 pub mod TaskRoom
+pub mod TaskRuleExamples
 pub mod TaskStacks
 pub mod TasksKeep
 pub mod TestRows
