@@ -29,15 +29,15 @@ one_is_same (Explicit a) = same_number a
 -- Numbers
 
 -- a group that was opened has a number below those to come
-opened_below : (members q n : ℕ) (h : List Event) → Always (TaskRule members) h → Happened (Group q n) h → q < groups_opened h
-opened_below members q n [] all opened = absurd opened
-opened_below members q n (Group group member ∷ earlier) all (inl e) = let here : group ≡ q = cc in let number = all.0.number in omega (arith, here, number)
-opened_below members q n (Group group member ∷ earlier) all (inr opened) = let was = opened_below members q n earlier all.1 opened in omega (arith, was)
-opened_below members q n (_ ∷ earlier) all (inl e) = absurd (cc)
-opened_below members q n (_ ∷ earlier) all (inr opened) = opened_below members q n earlier all.1 opened
+group_opened_below : (members q n : ℕ) (h : List Event) → Always (TaskRule members) h → Happened (Group q n) h → q < groups_opened h
+group_opened_below members q n [] all opened = absurd opened
+group_opened_below members q n (Group group member ∷ earlier) all (inl e) = let here : group ≡ q = cc in let number = all.0.number in omega (arith, here, number)
+group_opened_below members q n (Group group member ∷ earlier) all (inr opened) = let was = group_opened_below members q n earlier all.1 opened in omega (arith, was)
+group_opened_below members q n (_ ∷ earlier) all (inl e) = absurd (cc)
+group_opened_below members q n (_ ∷ earlier) all (inr opened) = group_opened_below members q n earlier all.1 opened
 
 pub opens_once : (members : ℕ) (event : Event) (h : List Event) → TaskRule members event h → Always (TaskRule members) h → OpensOnce event h
-opens_once members (Group q m) h rule all = λ n opened. let below = opened_below members q n h all opened in let number = rule.number in absurd (omega (arith, below, number))
+opens_once members (Group q m) h rule all = λ n opened. let below = group_opened_below members q n h all opened in let number = rule.number in absurd (omega (arith, below, number))
 opens_once members _ h rule all = tt
 
 -- Who opened a group
@@ -107,8 +107,8 @@ open_by members q p (Start t m ∷ earlier) all there =
 open_by members q p (_ ∷ earlier) all there = let was = open_by members q p earlier all.1 there in (was.0, inr was.1, was.2)
 
 -- so its number is below those to come
-open_below : (members q : ℕ) (p : Task) (h : List Event) → Always (TaskRule members) h → contains q (open_groups p h) ≡ true → q < groups_opened h
-open_below members q p h all there = let was = open_by members q p h all there in opened_below members q was.0 h all was.1
+group_open_below : (members q : ℕ) (p : Task) (h : List Event) → Always (TaskRule members) h → contains q (open_groups p h) ≡ true → q < groups_opened h
+group_open_below members q p h all there = let was = open_by members q p h all there in group_opened_below members q was.0 h all was.1
 
 -- a group is open in one task
 open_in_one : (members q : ℕ) (p r : Task) (h : List Event) → Always (TaskRule members) h → contains q (open_groups p h) ≡ true → contains q (open_groups r h) ≡ true → p ≡ r
@@ -117,10 +117,10 @@ open_in_one members q p r (Group g m ∷ earlier) all one other =
     elim (open_before_group q g m p earlier one) [
       | inl new ↦ elim (open_before_group q g m r earlier other) [
         | inl again ↦ sym new.1 ∙ again.1
-        | inr old ↦ absurd (let below = open_below members q r earlier all.1 old in let number = all.0.number in let same = new.0 in omega (arith, below, number, same))
+        | inr old ↦ absurd (let below = group_open_below members q r earlier all.1 old in let number = all.0.number in let same = new.0 in omega (arith, below, number, same))
       ]
       | inr old ↦ elim (open_before_group q g m r earlier other) [
-        | inl new ↦ absurd (let below = open_below members q p earlier all.1 old in let number = all.0.number in let same = new.0 in omega (arith, below, number, same))
+        | inl new ↦ absurd (let below = group_open_below members q p earlier all.1 old in let number = all.0.number in let same = new.0 in omega (arith, below, number, same))
         | inr too ↦ open_in_one members q p r earlier all.1 old too
       ]
     ]
@@ -138,7 +138,7 @@ open_apart members p (Group g m ∷ earlier) all =
     ]
   where
     new : (contains g (open_groups p earlier) ≡ true) ⊎ (contains g (open_groups p earlier) ≡ false) → contains g (open_groups p earlier) ≡ false
-    new (inl there) = absurd (let below = open_below members g p earlier all.1 there in let number = all.0.number in omega (arith, below, number))
+    new (inl there) = absurd (let below = group_open_below members g p earlier all.1 there in let number = all.0.number in omega (arith, below, number))
     new (inr away) = away
 open_apart members p (GroupEnd g m ∷ earlier) all =
     elim (cases_Bool (same_task (executed_task m earlier) p)) [
@@ -157,23 +157,23 @@ first_not_after : (q : ℕ) (outer ts : List ℕ) → ts ≡ q ∷ outer → Apa
 first_not_after q outer ts e all = let both : Apart (q ∷ outer) = subst (λ (xs : List ℕ). Apart xs) e all in rw e both.0
 
 -- the number of a group that was ended is below those to come
-ended_below : (members q n : ℕ) (h : List Event) → Always (TaskRule members) h → Happened (GroupEnd q n) h → q < groups_opened h
-ended_below members q n [] all ended = absurd ended
-ended_below members q n (GroupEnd g m ∷ earlier) all (inl e) =
+group_ended_below : (members q n : ℕ) (h : List Event) → Always (TaskRule members) h → Happened (GroupEnd q n) h → q < groups_opened h
+group_ended_below members q n [] all ended = absurd ended
+group_ended_below members q n (GroupEnd g m ∷ earlier) all (inl e) =
     let here : g ≡ q = cc in
     let there = first_contained g all.0.outer (open_groups (executed_task m earlier) earlier) all.0.last in
-    rw (← here) (open_below members g (executed_task m earlier) earlier all.1 there)
-ended_below members q n (GroupEnd g m ∷ earlier) all (inr ended) = ended_below members q n earlier all.1 ended
-ended_below members q n (Group g m ∷ earlier) all (inr ended) = let was = ended_below members q n earlier all.1 ended in omega (arith, was)
-ended_below members q n (_ ∷ earlier) all (inl e) = absurd (cc)
-ended_below members q n (_ ∷ earlier) all (inr ended) = ended_below members q n earlier all.1 ended
+    rw (← here) (group_open_below members g (executed_task m earlier) earlier all.1 there)
+group_ended_below members q n (GroupEnd g m ∷ earlier) all (inr ended) = group_ended_below members q n earlier all.1 ended
+group_ended_below members q n (Group g m ∷ earlier) all (inr ended) = let was = group_ended_below members q n earlier all.1 ended in omega (arith, was)
+group_ended_below members q n (_ ∷ earlier) all (inl e) = absurd (cc)
+group_ended_below members q n (_ ∷ earlier) all (inr ended) = group_ended_below members q n earlier all.1 ended
 
 -- an open group was not ended
 open_not_ended : (members q n : ℕ) (p : Task) (h : List Event) → Always (TaskRule members) h → contains q (open_groups p h) ≡ true → Happened (GroupEnd q n) h → ⊥
 open_not_ended members q n p [] all there ended = ended
 open_not_ended members q n p (Group g m ∷ earlier) all there (inr ended) =
     elim (open_before_group q g m p earlier there) [
-      | inl new ↦ absurd (let below = ended_below members q n earlier all.1 ended in let number = all.0.number in let same = new.0 in omega (arith, below, number, same))
+      | inl new ↦ absurd (let below = group_ended_below members q n earlier all.1 ended in let number = all.0.number in let same = new.0 in omega (arith, below, number, same))
       | inr old ↦ open_not_ended members q n p earlier all.1 old ended
     ]
 open_not_ended members q n p (GroupEnd g m ∷ earlier) all there (inl e) =

@@ -15,9 +15,9 @@ use Rattle.gomp_types.specs.Laws.{Always, Happened}
 use Rattle.gomp_types.specs.Arrivals.{ArrivalRule}
 use Rattle.gomp_types.specs.TaskRules.{TaskRule}
 use Rattle.gomp_types.specs.TaskLaws.{CreatesLater}
-use Rattle.gomp_types.proofs.Booleans.{and_left, and_right, and_false, same_number, is_equal, not_both, every_tells}
+use Rattle.gomp_types.proofs.Booleans.{and_left, and_right, and_false, same_number, other_number, is_equal, not_both, every_tells}
 use Rattle.gomp_types.proofs.ArrivalsKeep.{passed_met}
-use Rattle.gomp_types.proofs.OpenTasks.{complete_at}
+use Rattle.gomp_types.proofs.OpenTasks.{created_high, complete_at}
 use Rattle.gomp_types.proofs.Suspended.{current_open}
 
 -- Where an arrival leads
@@ -94,10 +94,16 @@ new_later members g n task member (Explicit q) desc h arrivals tasks rule past l
     let is = current_open members member q h tasks (sym rule.current) in
     rw (same_number task) (later q is.0 is.1)
 
+-- another task keeps its barrier
 pub old_epoch : (t task member : ℕ) (p : Task) (desc : TaskDesc) (h : List Event) → (task == t) ≡ false → epoch t (Create task member p desc ∷ h) ≡ epoch t h
 old_epoch t task member (Implicit x) desc h other = rw other refl
 old_epoch t task member (Explicit q) desc h other = rw other refl
 
+-- a task that was created is not the new one
+pub not_new : (s task : ℕ) (h : List Event) → is_created s h ≡ true → task ≡ suc (tasks_created h) → (task == s) ≡ false
+not_new s task h made number = let high = created_high s h made in other_number task s (λ same. omega (arith, same, high, number))
+
+-- a task that is among them with the new one is that one, or was created before
 pub old_created : (t task : ℕ) (h : List Event) → task ≡ suc (tasks_created h) → (task == t) ≡ false → (nat_lt 0 t && nat_le t (suc (tasks_created h))) ≡ true → is_created t h ≡ true
 old_created t task h number other made =
     let low = and_left (nat_lt 0 t) (nat_le t (suc (tasks_created h))) made in

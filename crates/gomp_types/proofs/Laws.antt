@@ -9,11 +9,12 @@ use Rattle.gomp_types.specs.Deals.{IsDealt, schedule}
 use Rattle.gomp_types.specs.Laws.{Always}
 use Rattle.gomp_types.specs.Arrivals.{ArrivalRule, ArrivalLaws}
 use Rattle.gomp_types.specs.TaskRules.{TaskRule}
-use Rattle.gomp_types.specs.TaskLaws.{TaskLaws}
+use Rattle.gomp_types.specs.TaskLaws.{TaskLaws, BoundIsDone}
 use Rattle.gomp_types.proofs.IterationValues.{iteration_at-value_at}
 use Rattle.gomp_types.proofs.Dealing.{pieces_tile_all, schedule_deals}
 use Rattle.gomp_types.proofs.ArrivalsKeep.{arrivals_keep}
 use Rattle.gomp_types.proofs.TasksKeep.{tasks_keep}
+use Rattle.gomp_types.proofs.BoundTasks.{bound_is_done}
 
 -- an iteration's value tells its number
 pub value_tells_its_iteration : (shape : Shape) (k : ℕ) → shape.incr ≢ pos 0 → iteration_at shape (value_at shape k) ≡ k
@@ -36,3 +37,7 @@ arrival_rule_keeps_laws = arrivals_keep
 -- once, only as a descendant of those that its member has not ended, and whoever waits for tasks goes on when they are done
 pub task_rule_keeps_laws : (members : ℕ) (h : List Event) → Always (ArrivalRule members) h → Always (TaskRule members) h → TaskLaws h
 task_rule_keeps_laws = tasks_keep
+
+-- so before a member passes a barrier every task of the whole list that is bound to it, or to an earlier one, is done
+pub bound_tasks_are_done : (h : List Event) → TaskLaws h → BoundIsDone h
+bound_tasks_are_done = bound_is_done

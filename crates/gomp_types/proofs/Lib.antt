@@ -1,6 +1,7 @@
 pub mod Always
 pub mod ArrivalsKeep
 pub mod Booleans
+pub mod BoundTasks
 pub mod Compared
 pub mod Dealing
 pub mod EvenTiling
@@ -20,7 +21,12 @@ pub mod RefusalExamples
 pub mod ShapeExamples
 pub mod Suspended
 pub mod TaskDepths
+pub mod TaskEvents
+pub mod TaskExamples
+pub mod TaskLawExamples
 pub mod TaskRoom
+pub mod TaskRuleExamples
+pub mod TaskStacks
 pub mod TasksKeep
 pub mod TestRows
 pub mod Tiling

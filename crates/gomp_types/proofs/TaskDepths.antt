@@ -1,5 +1,5 @@
 -- Each task that a member has started and not ended lies deeper in the tree than those that it started before, so they are at most 64.
-use Rattle.std.proofs.Common.{◌≡◌, ℕ, ◌+◌, ◌<◌, ◌≤◌, Bool, true, false, List, [], ◌∷◌, refl, sym, subst, arith, suc, inl, inr, length}
+use Rattle.std.proofs.Common.{◌≡◌, ℕ, ◌+◌, ◌<◌, ◌≤◌, Bool, true, false, List, [], ◌∷◌, refl, sym, subst, arith, inl, inr, length}
 use Rattle.std.specs.Prelude.{◌||◌, ◌==◌, if◌then◌else◌}
 use Rattle.std.proofs.lemmas.Bool.{cases_Bool}
 use Rattle.gomp_types.specs.declared.task.Task.{Task}
@@ -8,14 +8,14 @@ use Rattle.gomp_types.specs.declared.task.TaskDesc.{TaskDesc}
 use Rattle.gomp_types.specs.declared.event.Event.{Event}
 use Rattle.gomp_types.specs.declared.event.Event.TheVariants.{Create, Start, Done}
 use Rattle.gomp_types.specs.Events.{at_barrier}
-use Rattle.gomp_types.specs.Tasks.{contains, tasks_created, is_created, task_stack, executed_task, after_first, task_depth, depth_of, is_ancestor, same_task, of_explicit}
+use Rattle.gomp_types.specs.Tasks.{contains, is_created, task_stack, executed_task, after_first, task_depth, depth_of, is_ancestor, same_task, of_explicit}
 use Rattle.gomp_types.specs.Goals.{each_of, is_ready, may_descend, may_start}
 use Rattle.gomp_types.specs.Laws.{Always}
 use Rattle.gomp_types.specs.TaskRules.{TaskRule}
-use Rattle.gomp_types.proofs.Booleans.{and_left, and_right, or_tells, or_right, same_number, other_number, is_equal}
+use Rattle.gomp_types.proofs.Booleans.{and_left, and_right, or_tells, or_right, same_number, is_equal}
 use Rattle.gomp_types.proofs.OpenTasks.{created_low, created_high}
 use Rattle.gomp_types.proofs.Suspended.{startable_is_fresh, tasks_stacked, current_open, created_stays}
-use Rattle.gomp_types.proofs.LaterTasks.{old_created}
+use Rattle.gomp_types.proofs.LaterTasks.{old_created, not_new}
 
 -- Depths
 
@@ -28,10 +28,6 @@ old_depth t task member (Explicit q) desc h other = rw other refl
 pub new_depth : (task member : ℕ) (p : Task) (desc : TaskDesc) (h : List Event) → task_depth task (Create task member p desc ∷ h) ≡ depth_of p h + 1
 new_depth task member (Implicit x) desc h = rw (same_number task) refl
 new_depth task member (Explicit q) desc h = rw (same_number task) refl
-
--- a task that was created is not the new one
-not_new : (s task : ℕ) (h : List Event) → is_created s h ≡ true → task ≡ suc (tasks_created h) → (task == s) ≡ false
-not_new s task h made number = let high = created_high s h made in other_number task s (λ same. omega (arith, same, high, number))
 
 -- so it lies deeper than its ancestors
 new_is_deeper : (members task member : ℕ) (p : Task) (desc : TaskDesc) (h : List Event) → Always (TaskRule members) h → p ≡ executed_task member h → (s : ℕ) → ((q : ℕ) → is_ancestor (Explicit s) q h ≡ true → (is_created s h ≡ true) × (task_depth s h < task_depth q h)) →

@@ -1,5 +1,5 @@
 -- The laws of tasks and groups, each in the words of the promise that it keeps. OpenMP API 5.2, chapter 12 and sections 15.3 to 15.5.
-use Rattle.std.specs.Prelude.{ℕ, ◌<◌, ◌≤◌, ◌≡◌, true, false, List, ◌∷◌, ◌++◌}
+use Rattle.std.specs.Prelude.{ℕ, ◌<◌, ◌≤◌, ◌≡◌, true, false, List, ◌∷◌, ◌++◌, ◌⊎◌}
 use Rattle.gomp_types.specs.declared.task.Task.{Task}
 use Rattle.gomp_types.specs.declared.task.Task.TheVariants.{Implicit, Explicit}
 use Rattle.gomp_types.specs.declared.task.TaskDesc.{TaskDesc}
@@ -42,9 +42,11 @@ StartsDescendant (Start t m) earlier =
     × (at_barrier m earlier ≡ false → is_ancestor (Implicit m) t earlier ≡ true)
 StartsDescendant _ earlier = Unit {0}
 
--- a member ends the task that it executes, which it started, and no task ends twice
+-- Ended once: a member ends a task that it started, and no task ends twice; all others that it has started and that are not done are its ancestors, so it is the innermost one.
 abbrev pub EndsItsOwn : Event → List Event → Type 0
-EndsItsOwn (Done t m) earlier = (executed_task m earlier ≡ Explicit t) × Happened (Start t m) earlier × ((n : ℕ) → Happened (Done t n) earlier → ⊥)
+EndsItsOwn (Done t m) earlier =
+    Happened (Start t m) earlier × ((n : ℕ) → Happened (Done t n) earlier → ⊥)
+    × ((s : ℕ) → Happened (Start s m) earlier → (IsDone s earlier → ⊥) → (s ≡ t) ⊎ (is_ancestor (Explicit s) t earlier ≡ true))
 EndsItsOwn _ earlier = Unit {0}
 
 -- Waits
@@ -78,11 +80,6 @@ abbrev pub CreatesLater : Event → List Event → Type 0
 CreatesLater (Create t m parent desc) earlier = (barrier n : ℕ) → Happened (Pass barrier n) earlier → barrier < epoch t (Create t m parent desc ∷ earlier)
 CreatesLater _ earlier = Unit {0}
 
--- so in the whole list: whatever happens later, every task that is bound to a barrier or to an earlier one is done when a member passes it
-abbrev pub BoundIsDone : List Event → Type 0
-BoundIsDone h =
-    (later earlier : List Event) (barrier m : ℕ) → h ≡ later ++ Pass barrier m ∷ earlier → (t : ℕ) → IsCreated t h → epoch t h ≤ barrier → IsDone t earlier
-
 -- the region's end is passed only if every task is done
 abbrev pub EndsAfterTasks : Event → List Event → Type 0
 EndsAfterTasks (Pass barrier m) earlier = at_region_end m earlier ≡ true → (t : ℕ) → IsCreated t earlier → IsDone t earlier
@@ -100,5 +97,8 @@ pub record TaskLaws (h : List Event) : Type 0 where
   pub groups_ended : Always EndsItsGroup h
   pub passes : Always PassesAfterTasks h
   pub later : Always CreatesLater h
-  pub bound : BoundIsDone h
   pub region : Always EndsAfterTasks h
+
+-- It follows for the whole list: whatever happens later, every task that is bound to a barrier or to an earlier one is done before a member passes it.
+abbrev pub BoundIsDone : List Event → Type 0
+BoundIsDone h = (later earlier : List Event) (barrier m : ℕ) → h ≡ later ++ Pass barrier m ∷ earlier → (t : ℕ) → IsCreated t h → epoch t h ≤ barrier → IsDone t earlier
