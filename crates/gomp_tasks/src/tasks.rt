@@ -233,6 +233,7 @@ impl Tasks {
         ensures known { (h : List Event) × Stands self.old h }
         ensures answer { (h : List Event) → Stands self.old h →
             executed_task member h ≡ task_or_implicit member result }
+        ensures number { IfSome result (λ t. IsNumber t self.new) }
         ensures kept { result ≡ None → self.new ≡ self.old }
         ensures stands { (h : List Event) (t : ℕ) → result ≡ Some t → Stands self.old h →
             Stands self.new (Done t member ∷ h) }
