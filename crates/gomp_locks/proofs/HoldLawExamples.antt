@@ -9,6 +9,7 @@ use Rattle.gomp_types.specs.declared.key.Key.TheVariants.{Critical, Lock, NestLo
 use Rattle.gomp_types.specs.declared.event.Event.{Event}
 use Rattle.gomp_types.specs.declared.event.Event.TheVariants.{Hold, Free, Pass}
 use Rattle.gomp_types.specs.Laws.{Always}
+use Rattle.gomp_locks.specs.Holders.{owner_of}
 use Rattle.gomp_locks.specs.HoldRules.{can_hold, HoldRule}
 use Rattle.gomp_locks.specs.HoldLaws.{holds_left, AtEachMoment, OneOwner, HeldOnce, FreesItsOwn, PassesFree}
 use Rattle.gomp_locks.proofs.BookExamples.{zero_owner, other_owner, task_owner}
@@ -222,3 +223,29 @@ passed_while_another_holds = passes_free_holds 0 0 (after_events handed_over) re
 -- it may have freed what it held
 pub passed_after_release : PassesFree (Pass 0 0) (after_events two_names)
 passed_after_release = passes_free_holds 0 0 (after_events two_names) refl rule_allows_two_names
+
+-- Each clause is of every member and every barrier
+
+-- the first member holds and frees what the second holds
+pub rule_hold_of_seconds_lock : RefusedAfter HoldRule (hold_by 1 (Lock 3) ∷ []) (hold_by 0 (Lock 3))
+rule_hold_of_seconds_lock may = absurd (let free = may.free in cc)
+
+pub rule_free_of_seconds_lock : RefusedAfter HoldRule (hold_by 1 (Lock 3) ∷ []) (free_by 0 (Lock 3))
+rule_free_of_seconds_lock may = absurd (let held = may.held in cc)
+
+pub freed_by_first_member : RefusedAfter FreesItsOwn (hold_by 1 (Lock 3) ∷ []) (free_by 0 (Lock 3))
+freed_by_first_member law = absurd (omega (arith, law))
+
+-- the second and the third hold a lock, and the second alone holds it twice
+pub two_later_owners : Refuses OneOwner (hold_by 1 (Lock 3) ∷ hold_by 2 (Lock 3) ∷ [])
+two_later_owners law = absurd (let one = ap (λ (owner : Owner). owner.member) (law (Lock 3) other_owner (owner_of 2 (Implicit 2)) (omega arith) (omega arith)) in omega (arith, one))
+
+pub lock_held_twice_by_second : Refuses HeldOnce (hold_by 1 (Lock 3) ∷ hold_by 1 (Lock 3) ∷ [])
+lock_held_twice_by_second law = absurd (let once = law (Lock 3) other_owner refl in omega (arith, once))
+
+-- the second member passes with a name, and the first its second barrier
+pub passed_with_name_by_second : RefusedAfter PassesFree (hold_by 1 (Critical short_name) ∷ []) (Pass 0 1)
+passed_with_name_by_second law = absurd (let none = law short_name other_owner refl in omega (arith, none))
+
+pub passed_later_with_name : RefusedAfter PassesFree (hold_by 0 (Critical short_name) ∷ []) (Pass 1 0)
+passed_later_with_name law = absurd (let none = law short_name zero_owner refl in omega (arith, none))
