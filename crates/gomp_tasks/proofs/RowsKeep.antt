@@ -12,7 +12,7 @@ use Rattle.gomp_types.proofs.Lists.{slice_get-set}
 use Rattle.gomp_types.proofs.TaskDepths.{new_depth}
 use Rattle.gomp_tasks.specs.declared.rows.TaskState.TheVariants as states
 use Rattle.gomp_tasks.specs.declared.rows.TaskRow.{TaskRow}
-use Rattle.gomp_tasks.specs.Rows.{IsState, RowStands, started_by, completed}
+use Rattle.gomp_tasks.specs.Rows.{IsState, RowStands}
 use Rattle.gomp_tasks.specs.Calls.{IsAside}
 
 -- An event that creates, starts or ends no task
@@ -31,6 +31,14 @@ aside_row t row _ h is st = record {
 }
 
 -- A task that is started, or ends
+
+-- the row once this member has started the task
+abbrev pub started_by : ℕ → TaskRow → TaskRow
+started_by m row = record row { runner = Some m; state = states.Running }
+
+-- the row once the task is complete
+abbrev pub completed : TaskRow → TaskRow
+completed row = record row { state = states.Done }
 
 pub started_row : (t m : ℕ) (row : TaskRow) (h : List Event) → is_complete t h ≡ false → RowStands t row h → RowStands t (started_by m row) (Start t m ∷ h)
 started_row t m row h open' st = record {

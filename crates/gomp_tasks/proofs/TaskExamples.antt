@@ -13,7 +13,7 @@ use Rattle.gomp_types.specs.Tasks.{task_stack, executed_task, innermost_task}
 use Rattle.gomp_tasks.specs.declared.tasks.TheConstants.{MAX_TASKS}
 use Rattle.gomp_tasks.specs.declared.rows.TaskState.TheVariants as states
 use Rattle.gomp_tasks.specs.declared.rows.TaskRow.{TaskRow}
-use Rattle.gomp_tasks.specs.Rows.{is_started, is_over, Follows, desc_of, started_by, completed, first_of, IsState, IsParent, RowStands}
+use Rattle.gomp_tasks.specs.Rows.{is_started, is_over, Follows, desc_of, first_of, IsState, IsParent, RowStands}
 use Rattle.gomp_tasks.specs.Stands.{TasksView, members_of, count_of, IsNumber, IsTask, Stands, AreSame, AreTasks}
 use Rattle.gomp_tasks.specs.Calls.{MayCreateNext, task_or_implicit, is_under_all, IsAside}
 use Rattle.gomp_tasks.proofs.TasksKeep.{executed_number}
@@ -40,14 +40,6 @@ states_that_do_not = (λ is. is, λ is. is, λ is. is)
 -- what was asked for
 pub desc_of_a_row : desc_of first_running ≡ first_desc
 desc_of_a_row = refl
-
--- a task that the first member starts
-pub row_once_started : started_by 0 (first_with None states.Ready) ≡ first_running
-row_once_started = refl
-
--- and that it ends
-pub row_once_completed : completed first_running ≡ first_with (Some 0) states.Done
-row_once_completed = refl
 
 -- the innermost of two tasks, and of none
 pub first_of_a_stack : (first_of (2 ∷ 1 ∷ []) ≡ Some 2) × (first_of [] ≡ None)

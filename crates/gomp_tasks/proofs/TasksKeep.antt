@@ -18,10 +18,10 @@ use Rattle.gomp_types.proofs.Suspended.{runner_has_started, current_open, starta
 use Rattle.gomp_types.proofs.TaskDepths.{few_suspended}
 use Rattle.gomp_types.proofs.TaskRoom.{uncreated_not_started}
 use Rattle.gomp_tasks.specs.declared.rows.TaskRow.{TaskRow}
-use Rattle.gomp_tasks.specs.Rows.{RowStands, started_by, completed, first_of}
+use Rattle.gomp_tasks.specs.Rows.{RowStands, first_of}
 use Rattle.gomp_tasks.specs.Stands.{TasksView, RowsStand, Stands}
 use Rattle.gomp_tasks.specs.Calls.{IsAside, task_or_implicit}
-use Rattle.gomp_tasks.proofs.RowsKeep.{aside_row, started_row, other_started_row, completed_row, other_completed_row, old_row, new_of, new_row, row_set, row_appended, row_named}
+use Rattle.gomp_tasks.proofs.RowsKeep.{started_by, completed, aside_row, started_row, other_started_row, completed_row, other_completed_row, old_row, new_of, new_row, row_set, row_appended, row_named}
 
 -- the tasks of another value with the same view
 pub tasks_of_view_stand : (view now : TasksView) (h : List Event) → view ≡ now → Stands now h → Stands view h

@@ -32,14 +32,6 @@ Follows _ _ = Unit {0}
 abbrev pub desc_of : TaskRow → TaskDesc
 desc_of row = record { code = row.code; arg = row.arg }
 
--- the task once this member has started it
-abbrev pub started_by : ℕ → TaskRow → TaskRow
-started_by m row = record row { runner = Some m; state = Running }
-
--- the task once it is complete
-abbrev pub completed : TaskRow → TaskRow
-completed row = record row { state = Done }
-
 -- the first of some tasks, if there is one
 abbrev pub first_of : List ℕ → Option ℕ
 first_of [] = None
@@ -52,7 +44,7 @@ pub record IsState (t : ℕ) (state : TaskState) (h : List Event) : Type 0 where
 
 -- the task was created in this one
 pub record IsParent (t : ℕ) (parent : Task) (h : List Event) : Type 0 where
-  -- in no other
+  -- and in no other
   pub children : (p : Task) → is_child p t h ≡ same_task parent p
   -- its ancestors are this one and the ancestors of this one
   pub ancestors : (a : Task) → is_ancestor a t h ≡ (same_task parent a || of_explicit (λ p. is_ancestor a p h) parent)

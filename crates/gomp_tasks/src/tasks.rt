@@ -4,7 +4,7 @@ ghost use Rattle.std.specs.Prelude.{◌≡◌, ◌<◌, ◌≤◌, ◌+◌, ◌-
 ghost use Rattle.gomp_types.specs.declared.event.Event.{Event};
 ghost use Rattle.gomp_types.specs.declared.event.Event.TheVariants.{Create, Start, Done};
 ghost use Rattle.gomp_types.specs.Events.{at_barrier as waits_at_barrier};
-ghost use Rattle.gomp_types.specs.Tasks.{same_task, tasks_created, task_stack, executed_task, depth_of, epoch, is_odd, task_desc, is_ancestor};
+ghost use Rattle.gomp_types.specs.Tasks.{same_task, tasks_created, task_stack, executed_task, depth_of, epoch, is_odd, task_desc, task_runner, is_ancestor};
 ghost use Rattle.gomp_types.specs.Goals.{is_ready, may_descend, may_start};
 ghost use Rattle.gomp_types.specs.TaskRules.{MayStart};
 ghost use Rattle.gomp_tasks.specs.Rows.{IsState, IsParent, RowStands};
@@ -17,7 +17,7 @@ use gomp_types::{Task, TaskDesc};
 use std::alloc::{AllocError, Global};
 use std::marker::Model;
 
-/// The most explicit tasks that a team creates.
+/// The most explicit tasks that a team creates: the largest number that one can have.
 pub const MAX_TASKS: u32 = 4_294_967_295;
 
 /// The explicit tasks of one team, numbered from 1. Only `make` and `reserve` take memory.
@@ -114,6 +114,15 @@ impl Tasks {
         self.row(task).parent
     }
 
+    /// The member that started the task, numbered from 0, if one has.
+    pub fn runner(&self, task: u32) -> Option<u16>
+        requires task { IsNumber task self.now }
+        ensures known { (h : List Event) × Stands self.now h }
+        ensures value { (h : List Event) → Stands self.now h → task_runner task h ≡ result }
+    {
+        self.row(task).runner
+    }
+
     /// What has become of the task.
     pub fn state(&self, task: u32) -> TaskState
         requires task { IsNumber task self.now }
@@ -177,7 +186,8 @@ impl Tasks {
     }
 
     /// The member, numbered from 0, creates a task in the one that it executes. `odd` says whether
-    /// the number of the barrier to which the new task is bound is odd. The answer is its number.
+    /// the number of the barrier to which the new task is bound is odd. There has to be room for it
+    /// (`reserve`), and the rule of tasks has to let the member create it. The answer is its number.
     pub fn create(&mut self, member: u16, odd: bool, desc: TaskDesc) -> u32
         requires room { 0 < self.old.room }
         requires few { count_of self.old < MAX_TASKS }
@@ -207,7 +217,7 @@ impl Tasks {
         task
     }
 
-    /// The member, numbered from 0, starts the task, which it may start.
+    /// The member, numbered from 0, starts the task, which it may start (`may_start`).
     pub fn start(&mut self, member: u16, task: u32)
         requires may { (h : List Event) × Stands self.old h ×
             MayStart (members_of self.old) task member h }

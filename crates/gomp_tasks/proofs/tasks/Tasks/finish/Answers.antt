@@ -2,7 +2,7 @@ use Rattle.std.proofs.Common.{◌≡◌, ◌<◌, ◌-◌, ◌∷◌, length, re
 use Rattle.std.proofs.lemmas.List.{length-set}
 use Rattle.std.proofs.lemmas.Option.{slice_get_read}
 use Rattle.gomp_types.specs.declared.event.Event.TheVariants.{Done}
-use Rattle.gomp_tasks.specs.Rows.{completed}
+use Rattle.gomp_tasks.proofs.RowsKeep.{completed}
 use Rattle.gomp_tasks.specs.Stands.{TasksView, members_of}
 use Rattle.gomp_tasks.specs.Calls.{task_or_implicit}
 use Rattle.gomp_tasks.proofs.TasksKeep.{tasks_of_view_stand, executed_number, task_end_keeps}

@@ -4,7 +4,7 @@ use Rattle.std.proofs.lemmas.Option.{slice_get_read}
 use Rattle.gomp_types.specs.declared.event.Event.{Event}
 use Rattle.gomp_types.specs.declared.event.Event.TheVariants.{Start}
 use Rattle.gomp_types.specs.TaskRules.{MayStart}
-use Rattle.gomp_tasks.specs.Rows.{started_by}
+use Rattle.gomp_tasks.proofs.RowsKeep.{started_by}
 use Rattle.gomp_tasks.specs.Stands.{TasksView, Stands, members_of}
 use Rattle.gomp_tasks.proofs.TasksKeep.{tasks_of_view_stand, fresh_number, stack_room, task_start_keeps}
 use Rattle.gomp_tasks.proofs.tasks.Tasks.start.Goals as goal
