@@ -1,8 +1,8 @@
 -- The counts of open tasks stay in step with the events.
-use Rattle.std.proofs.Common.{◌≡◌, ◌≢◌, ℕ, ◌+◌, ◌-◌, ◌<◌, ◌≤◌, Bool, true, false, not, List, ◌∷◌, refl, ap, ◌∙◌, sym, subst, arith, suc, zero, inl, inr}
+use Rattle.std.proofs.Common.{◌≡◌, ℕ, ◌+◌, ◌<◌, ◌≤◌, Bool, true, false, not, List, ◌∷◌, refl, ap, ◌∙◌, sym, subst, arith, suc, zero, inl, inr}
 use Rattle.std.specs.Prelude.{◌==◌, ◌&&◌, ◌||◌, nat_le, nat_lt, if◌then◌else◌}
 use Rattle.std.proofs.lemmas.Bool.{cases_Bool, cases_lt}
-use Rattle.std.proofs.lemmas.Bool.Decides.{nat_tests, eqb_tells}
+use Rattle.std.proofs.lemmas.Bool.Decides.{nat_tests}
 use Rattle.gomp_types.specs.declared.task.Task.{Task}
 use Rattle.gomp_types.specs.declared.task.Task.TheVariants.{Implicit, Explicit}
 use Rattle.gomp_types.specs.declared.task.TaskDesc.{TaskDesc}
@@ -10,7 +10,7 @@ use Rattle.gomp_types.specs.declared.event.Event.{Event}
 use Rattle.gomp_types.specs.declared.event.Event.TheVariants.{Create, Done}
 use Rattle.gomp_types.specs.Tasks.{tasks_created, is_created, is_complete, all_complete, epoch, epoch_of_child, how_many, open_tasks, is_odd}
 use Rattle.gomp_types.specs.Goals.{bound_complete}
-use Rattle.gomp_types.proofs.Booleans.{and_left, and_right, and_false, same_number, other_number, is_equal, not_both}
+use Rattle.gomp_types.proofs.Booleans.{and_false, same_number, other_number, is_equal}
 use Rattle.gomp_types.proofs.OpenTasks.{how_many_same, none_open, created_low, created_high, open_done, open_done_other, open_created, closed_all, all_closed}
 use Rattle.gomp_types.proofs.LaterTasks.{old_created}
 use Rattle.gomp_barrier.specs.declared.bound.BoundTasks.{BoundTasks}
