@@ -28,7 +28,7 @@ use Rattle.gomp_barrier.specs.Seats.{differ, is_ahead, has_come_to_end, tag_for,
 use Rattle.gomp_barrier.specs.Calls.{barrier_seen, IsParent, MayBind, MayRelease, IsAside}
 use Rattle.gomp_barrier.specs.declared.bound.BoundTasks.{BoundTasks}
 use Rattle.gomp_barrier.specs.Bound.{open_bound, bound_count, one_more, one_less, TasksStand}
-use Rattle.gomp_barrier.specs.Stands.{BarriersView, Stands, MayTurn, members_of}
+use Rattle.gomp_barrier.specs.Stands.{BarriersView, Stands, MayTurn}
 use Rattle.gomp_barrier.proofs.BarrierKeeps.{tag_is, number_is, arrival_keeps_the_front, turn_arrived, pass_keeps_the_front, moves_on, behind_again, there_before, met_by, met_all, not_met_ahead}
 use Rattle.gomp_barrier.proofs.BoundKeeps.{odd_next, front_complete, front_closed, tasks_complete, tasks_closed, tasks_move_on, bind_keeps, release_keeps}
 use Rattle.gomp_barrier.proofs.RegionEnds.{waits_there, comes_to_end, others_end}

@@ -1,6 +1,6 @@
 -- Where a member stands, by the rule of arrivals alone: whether it waits at a barrier, and whether it has come to the region's end.
-use Rattle.std.proofs.Common.{◌≡◌, ℕ, ◌+◌, ◌<◌, ◌≤◌, Bool, true, false, List, [], ◌∷◌, Some, None, refl, ap, sym, ◌∙◌, subst, arith, inl, inr}
-use Rattle.std.specs.Prelude.{◌==◌, ◌&&◌, ◌||◌, Option, is_some, if◌then◌else◌}
+use Rattle.std.proofs.Common.{◌≡◌, ℕ, ◌+◌, ◌<◌, ◌≤◌, Bool, true, false, List, [], ◌∷◌, Some, None, refl, ap, ◌∙◌, subst, arith, inl, inr}
+use Rattle.std.specs.Prelude.{◌==◌, ◌&&◌, ◌||◌, Option, is_some}
 use Rattle.std.proofs.lemmas.Bool.{cases_Bool}
 use Rattle.gomp_types.specs.declared.event.Tag.{Tag}
 use Rattle.gomp_types.specs.declared.event.Event.{Event}
@@ -8,7 +8,7 @@ use Rattle.gomp_types.specs.declared.event.Event.TheVariants.{Arrive, Pass}
 use Rattle.gomp_types.specs.Events.{barriers_passed, arrival, tag_at, at_barrier, is_region_end, was_region_end, at_region_end, has_left_region}
 use Rattle.gomp_types.specs.Laws.{Always}
 use Rattle.gomp_types.specs.Arrivals.{ArrivalRule}
-use Rattle.gomp_types.proofs.Booleans.{which_branch, and_left, and_right, and_false, or_tells, or_left, or_right, is_equal, same_number}
+use Rattle.gomp_types.proofs.Booleans.{which_branch, and_left, and_right, and_false, or_tells, or_right, is_equal, same_number}
 
 -- a later arrival has the barrier's tag
 tag_kept : (members g : ℕ) (tag : Tag) (barrier member : ℕ) (other : Tag) (earlier : List Event) → ArrivalRule members (Arrive barrier member other) earlier → tag_at g earlier ≡ Some tag → tag_at g (Arrive barrier member other ∷ earlier) ≡ Some tag

@@ -1,21 +1,20 @@
 -- What the barriers count of tasks, and what a member waits for: for each line of a definition what it says, and what it alone refuses.
-use Rattle.std.proofs.Common.{◌≡◌, ℕ, ◌+◌, ◌<◌, ◌≤◌, Bool, true, false, List, [], ◌∷◌, Some, None, suc, zero, get_or, refl, arith}
-use Rattle.std.specs.Prelude.{All, is_some}
+use Rattle.std.proofs.Common.{◌≡◌, ℕ, ◌+◌, ◌<◌, ◌≤◌, Bool, true, false, [], ◌∷◌, Some, None, suc, zero, refl, arith}
+use Rattle.std.specs.Prelude.{All}
 use Rattle.gomp_types.specs.declared.task.Task.TheVariants.{Implicit, Explicit}
-use Rattle.gomp_types.specs.declared.event.Event.{Event}
 use Rattle.gomp_types.specs.declared.event.Event.TheVariants.{Pass, Done}
-use Rattle.gomp_types.specs.Tasks.{tasks_created, epoch, is_odd, is_complete}
+use Rattle.gomp_types.specs.Tasks.{epoch, is_complete}
 use Rattle.gomp_types.specs.Goals.{may_pass}
 use Rattle.gomp_types.proofs.Booleans.{other_number}
 use Rattle.gomp_types.proofs.OpenTasks.{created_high}
 use Rattle.gomp_barrier.specs.declared.front.Seat.{Seat}
 use Rattle.gomp_barrier.specs.declared.front.Front.{Front}
-use Rattle.gomp_barrier.specs.declared.bound.BoundTasks.{BoundTasks}
-use Rattle.gomp_barrier.specs.Calls.{IsOpen, IsParent, MayBind, MayRelease}
-use Rattle.gomp_barrier.specs.Seats.{is_ahead, IsThere, has_come_to_end}
+use Rattle.gomp_barrier.specs.Calls.{IsOpen, MayBind, MayRelease}
+use Rattle.gomp_barrier.specs.Seats.{IsThere, has_come_to_end}
 use Rattle.gomp_barrier.specs.Bound.{of_parity, open_bound, bound_count, one_more, one_less, TasksStand}
-use Rattle.gomp_barrier.specs.Stands.{BarriersView, Stands, MayTurn}
-use Rattle.gomp_barrier.specs.Examples.{at_barrier_tag, at_end_tag, both_arrived, second_ahead, creates, two_tasks, tasks_ended, next_task, task_after_end, seat_with, front_with, bound_with, no_tasks, barriers_with, new_seat, new_front, front_there, front_at_end, seat_behind, seat_ahead, seat_at_end, front_between}
+use Rattle.gomp_barrier.specs.Stands.{Stands, MayTurn}
+use Rattle.gomp_barrier.proofs.BarrierSteps.{new_barriers_stand, task_bound, task_released}
+use Rattle.gomp_barrier.specs.Examples.{at_barrier_tag, creates, two_tasks, tasks_ended, next_task, task_after_end, seat_with, front_with, bound_with, no_tasks, barriers_with, new_seat, new_front, front_there, front_at_end, seat_behind, seat_ahead, seat_at_end, front_between}
 
 -- What a member waits for, by the events
 
@@ -126,7 +125,7 @@ pub barriers_passed_before_tasks : Stands (barriers_with (seat_with true None fa
 barriers_passed_before_tasks stands = absurd (let met = stands.rule.0.met in cc)
 
 -- nor those whose region's end was passed while any task was
-pub barriers_left_before_tasks : Stands (barriers_with (seat_with true None true ∷ seat_with true None true ∷ []) front_at_end (bound_with 0 1)) (Pass 0 0 ∷ task_after_end) → ⊥
+pub barriers_left_before_tasks : Stands (barriers_with (seat_with true None true ∷ seat_with true None true ∷ []) (front_with true 1 None None) (bound_with 0 1)) (Pass 0 0 ∷ task_after_end) → ⊥
 barriers_left_before_tasks stands = absurd (let met = stands.rule.0.met in cc)
 
 -- When a member may pass the front, by the seats and the counts
@@ -217,3 +216,12 @@ release_too_early may = absurd (let created = may.is_open.0 in cc)
 -- the third is not bound to the first barrier
 pub release_the_other_parity : MayRelease 3 false next_task → ⊥
 release_the_other_parity may = absurd (let parity = may.parity in cc)
+
+-- the one member of a new team creates a task, and ends it
+pub one_task_stands : Stands (barriers_with (new_seat ∷ []) new_front (bound_with 1 0)) (creates 1 0 (Implicit 0) ∷ [])
+one_task_stands =
+    task_bound (new_seat ∷ []) new_front no_tasks 1 0 (Implicit 0) (record { code = 0; arg = 0 }) false [] (new_barriers_stand (new_seat ∷ []) 1 (omega arith) refl)
+    (record { number = refl; parent_is = omega arith; parity = refl })
+
+pub ended_task_stands : Stands (barriers_with (new_seat ∷ []) new_front no_tasks) (Done 1 0 ∷ creates 1 0 (Implicit 0) ∷ [])
+ended_task_stands = task_released (new_seat ∷ []) new_front (bound_with 1 0) 1 0 false (creates 1 0 (Implicit 0) ∷ []) one_task_stands (record { is_open = (refl, refl); parity = refl })

@@ -1,7 +1,6 @@
-use Rattle.std.proofs.Common.{◌<◌, ◌≤◌, arith, subst, sym}
-use Rattle.gomp_types.specs.declared.task.Task.{Task}
+use Rattle.std.proofs.Common.{arith, subst, sym}
 use Rattle.gomp_barrier.specs.Calls.{MayBind}
-use Rattle.gomp_barrier.specs.Stands.{BarriersView, Stands, members_of}
+use Rattle.gomp_barrier.specs.Stands.{BarriersView, members_of}
 use Rattle.gomp_barrier.proofs.BoundKeeps.{bound_most}
 use Rattle.gomp_barrier.proofs.BarrierSteps.{view_stands_too, task_bound}
 use Rattle.gomp_barrier.proofs.barriers.Barriers.bind.Goals as goal

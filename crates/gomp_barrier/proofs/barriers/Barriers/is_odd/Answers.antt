@@ -1,4 +1,4 @@
-use Rattle.std.proofs.Common.{◌<◌, length, refl, subst, sym, ◌∙◌}
+use Rattle.std.proofs.Common.{◌<◌, length, refl, subst, sym}
 use Rattle.std.proofs.lemmas.Option.{slice_get_read}
 use Rattle.gomp_barrier.specs.Stands.{BarriersView, members_of}
 use Rattle.gomp_barrier.proofs.BarrierSteps.{view_stands_too, odd_is}

@@ -1,11 +1,10 @@
-use Rattle.std.proofs.Common.{◌≡◌, ◌<◌, length, refl, subst, sym, ◌∙◌, ap, Bool, true, false, slice_get, slice_set, Some}
+use Rattle.std.proofs.Common.{◌≡◌, ◌<◌, length, refl, subst, sym, ◌∙◌, ap, true, slice_set}
 use Rattle.std.proofs.lemmas.Option.{slice_get_read}
 use Rattle.std.specs.Prelude.{All, List, IsTrue, ◌↔◌}
-use Rattle.gomp_types.specs.declared.event.Event.{Event}
 use Rattle.gomp_types.specs.Goals.{may_pass}
 use Rattle.gomp_barrier.specs.declared.front.Seat.{Seat}
 use Rattle.gomp_barrier.specs.Seats.{is_ahead, passed_by, next_front}
-use Rattle.gomp_barrier.specs.Stands.{BarriersView, Stands, MayTurn, members_of}
+use Rattle.gomp_barrier.specs.Stands.{BarriersView, MayTurn, members_of}
 use Rattle.gomp_barrier.proofs.BarrierSteps.{view_stands_too, turn_is, turn_keeps}
 use Rattle.gomp_barrier.proofs.barriers.Barriers.turn.Goals as goal
 
