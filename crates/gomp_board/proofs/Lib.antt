@@ -1,0 +1,2 @@
+pub mod StoredKeeps
+pub mod GroupsOpen
