@@ -1,2 +1,3 @@
-pub mod StoredKeeps
 pub mod GroupsOpen
+pub mod OwedKeeps
+pub mod StoredKeeps
