@@ -1,3 +1,5 @@
 pub mod GroupsOpen
 pub mod OwedKeeps
+pub mod RegionLeft
+pub mod RoomKeeps
 pub mod StoredKeeps
