@@ -2,3 +2,4 @@ pub mod Stored
 pub mod Owed
 pub mod Ops
 pub mod ReadyTasks
+pub mod Examples
