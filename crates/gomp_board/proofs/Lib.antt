@@ -1,4 +1,5 @@
 pub mod GroupsOpen
+pub mod OpTestExamples
 pub mod OwedKeeps
 pub mod RegionLeft
 pub mod RoomKeeps
