@@ -1,7 +1,9 @@
 pub mod GroupsOpen
+pub mod OpAnswerExamples
 pub mod OpTestExamples
 pub mod OwedKeeps
 pub mod RegionLeft
 pub mod RoomKeeps
 pub mod StoredExamples
 pub mod StoredKeeps
+pub mod TaskCallExamples
