@@ -5,7 +5,7 @@ use Rattle.gomp_types.specs.declared.shape.Shape.{Shape}
 use Rattle.gomp_types.specs.declared.refusal.Place.TheVariants.{Share, Stopped as AtStop}
 use Rattle.gomp_types.specs.declared.event.Arrival.TheVariants.{Barrier, ShareEnd, RegionEnd}
 use Rattle.gomp_types.specs.declared.event.Event.{Event}
-use Rattle.gomp_types.specs.declared.event.Event.TheVariants.{Enter, Take, Drained, End, HandOn, Part, PartEnd, Put, Got, Arrive, Pass, Hold, Free, Break}
+use Rattle.gomp_types.specs.declared.event.Event.TheVariants.{Enter, Take, Drained, End, HandOn, Part, PartEnd, Put, Got, Arrive, Pass, Hold, Free, Create, Start, Done, Group, GroupEnd, Waited, Break}
 use Rattle.gomp_types.specs.declared.key.Key.TheVariants.{Lock}
 use Rattle.gomp_types.specs.declared.task.Task.TheVariants.{Implicit}
 use Rattle.gomp_types.specs.Singles.{single_shape}
@@ -15,6 +15,7 @@ use Rattle.gomp_types.specs.Values.{value_at, iteration_of}
 use Rattle.gomp_types.specs.Events.{every_member, member_of, shares_entered, open_share, is_inside, open_number, has_drained, last_piece, in_kind, shape_at, has_ended, is_over, has_room, has_iteration, times_taken, turn, holds_piece, next_part, in_part, open_part, payload_at, has_piece, has_words, barriers_passed, arrival, tag_at, all_arrived, at_barrier, at_region_end, has_left_region, clash_of}
 use Rattle.gomp_types.specs.Ordered.{same_piece, has_turn, number_of_piece, last_number, is_ordered, must_wait, is_in_rest, comes_next}
 use Rattle.gomp_types.specs.EventLists.{newest_first, four, wider, at}
+use Rattle.gomp_types.specs.TaskExamples.{one_job}
 
 -- after these events, the oldest first
 abbrev after : List Event → List Event
@@ -267,6 +268,11 @@ pub members_of_events :
     map member_of (Enter 0 1 wider ∷ Take 0 2 0 3 ∷ Drained 0 3 ∷ End 0 4 ∷ HandOn 0 5 0 ∷ Part 0 6 0 ∷ PartEnd 0 7 ∷ Put 0 8 [] ∷ Got 0 9 [] ∷ Arrive 0 10 (at Barrier 0) ∷ Pass 0 11 ∷ Break 12 AtStop ∷ Hold (Lock 0) 13 (Implicit 13) ∷ Free (Lock 0) 14 (Implicit 14) ∷ [])
     ≡ 1 ∷ 2 ∷ 3 ∷ 4 ∷ 5 ∷ 6 ∷ 7 ∷ 8 ∷ 9 ∷ 10 ∷ 11 ∷ 12 ∷ 13 ∷ 14 ∷ []
 members_of_events = refl
+
+-- those of tasks and groups too
+pub members_of_task_events :
+    map member_of (Create 1 2 (Implicit 3) one_job ∷ Start 1 4 ∷ Done 1 5 ∷ Group 0 6 ∷ GroupEnd 0 7 ∷ Waited 8 ∷ []) ≡ 2 ∷ 4 ∷ 5 ∷ 6 ∷ 7 ∷ 8 ∷ []
+members_of_task_events = refl
 
 -- Values
 

@@ -1,10 +1,12 @@
 pub mod Always
 pub mod ArrivalsKeep
 pub mod Booleans
+pub mod BoundTasks
 pub mod Compared
 pub mod Dealing
 pub mod EvenTiling
 pub mod EventExamples
+pub mod GroupsKeep
 pub mod GuidedTiling
 pub mod IterationValues
 pub mod LaterTasks
@@ -19,7 +21,13 @@ pub mod RefusalExamples
 pub mod ShapeExamples
 pub mod Suspended
 pub mod TaskDepths
+pub mod TaskEvents
+pub mod TaskExamples
+pub mod TaskLawExamples
 pub mod TaskRoom
+pub mod TaskRuleExamples
+pub mod TaskStacks
+pub mod TasksKeep
 pub mod TestRows
 pub mod Tiling
 pub mod ValueIn128Bits

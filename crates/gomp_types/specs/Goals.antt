@@ -1,4 +1,4 @@
--- What a wait waits for, and which tasks a member may start meanwhile. OpenMP API 5.2, sections 12.6 and 15.3 to 15.5.
+-- What a wait waits for, and which tasks a member may start meanwhile. OpenMP API 5.2, sections 12.9 and 15.3 to 15.5.
 use Rattle.std.specs.Prelude.{ℕ, ◌&&◌, ◌||◌, not, nat_le, Bool, true, List, [], ◌∷◌}
 use Rattle.gomp_types.specs.declared.task.Task.{Task}
 use Rattle.gomp_types.specs.declared.task.Task.TheVariants.{Implicit, Explicit}

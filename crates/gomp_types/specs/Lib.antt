@@ -18,6 +18,7 @@ pub mod Seen
 pub mod Shapes
 pub mod Singles
 pub mod TaskCalls
+pub mod TaskExamples
 pub mod TaskLaws
 pub mod TaskRules
 pub mod Tasks

@@ -49,7 +49,7 @@ every_task test h = every_member (tasks_created h) (λ k. test (suc k))
 abbrev pub some_task : (ℕ → Bool) → List Event → Bool
 some_task test h = not (every_task (λ t. not (test t)) h)
 
--- The task that a member executes (OpenMP API 5.2, section 12.1)
+-- The task that a member executes (OpenMP API 5.2, section 1.2.5)
 
 -- the explicit tasks that the member has started and not ended, the innermost first: those after the first are suspended
 abbrev pub task_stack : ℕ → List Event → List ℕ

@@ -1,6 +1,6 @@
 //! Tasks, and who holds a name or a lock: a task of a member of a team.
 //!
-//! OpenMP API 5.2, sections 12.1 and 18.9 (a lock is owned by a task, not by a thread).
+//! OpenMP API 5.2, sections 1.2.5 and 18.9 (a lock is owned by a task, not by a thread).
 
 ghost use Rattle.std.specs.Prelude.{◌≡◌};
 ghost use Rattle.gomp_types.specs.Owners.{same_owner, same_member};

@@ -1,0 +1,138 @@
+-- Tasks and groups that keep their rule keep their laws.
+use Rattle.std.proofs.Common.{◌≡◌, ℕ, Bool, true, false, List, [], ◌∷◌, refl, ◌∙◌, sym, arith, inl, inr}
+use Rattle.std.specs.Prelude.{◌||◌, ◌==◌, nat_le, not}
+use Rattle.std.proofs.lemmas.Bool.{cases_Bool}
+use Rattle.std.proofs.lemmas.Bool.Decides.{nat_tests}
+use Rattle.gomp_types.specs.declared.task.Task.{Task}
+use Rattle.gomp_types.specs.declared.task.Task.TheVariants.{Implicit, Explicit}
+use Rattle.gomp_types.specs.declared.event.Event.{Event}
+use Rattle.gomp_types.specs.declared.event.Event.TheVariants.{Create, Start, Done, GroupEnd, Waited, Pass}
+use Rattle.gomp_types.specs.Events.{every_member, barriers_passed, all_arrived, at_barrier, at_region_end}
+use Rattle.gomp_types.specs.Tasks.{is_created, task_stack, executed_task, has_started, is_complete, all_complete, epoch, is_child, is_ancestor}
+use Rattle.gomp_types.specs.Groups.{in_group}
+use Rattle.gomp_types.specs.Goals.{bound_complete, barrier_met, region_met, is_ready, each_of, may_descend}
+use Rattle.gomp_types.specs.Laws.{Always}
+use Rattle.gomp_types.specs.Arrivals.{ArrivalRule}
+use Rattle.gomp_types.specs.TaskRules.{TaskRule}
+use Rattle.gomp_types.specs.TaskLaws.{IsDone, CreatesOnce, CreatesInItsOwn, StartsOnce, StartsDescendant, EndsItsOwn, WaitsForTasks, OpensOnce, EndsItsGroup, PassesAfterTasks, EndsAfterTasks, TaskLaws}
+use Rattle.gomp_types.proofs.Booleans.{and_left, and_right, is_equal, not_both, implied_by}
+use Rattle.gomp_types.proofs.Always.{always_so, both_so}
+use Rattle.gomp_types.proofs.ArrivalsKeep.{passed_met}
+use Rattle.gomp_types.proofs.OpenTasks.{created_high, complete_at}
+use Rattle.gomp_types.proofs.Suspended.{startable_is_fresh, current_open, created_stays}
+use Rattle.gomp_types.proofs.GroupsKeep.{opens_once, ends_its_group}
+use Rattle.gomp_types.proofs.TaskEvents.{complete_is_done, done_is_complete, start_happened, runner_happened, newest_created, was_created, created_happened}
+use Rattle.gomp_types.proofs.TaskStacks.{each_tells, running_in_stack, stack_descends, innermost_descends}
+use Rattle.gomp_types.proofs.LaterTasks.{creates_later}
+
+-- Creation and start
+
+creates_once : (members : ℕ) (event : Event) (h : List Event) → TaskRule members event h → Always (TaskRule members) h → CreatesOnce event h
+creates_once members (Create t m parent desc) h rule all = λ made.
+    let high = created_high t h (was_created members t h all made) in let number = rule.number in absurd (omega (arith, high, number))
+creates_once members _ h rule all = tt
+
+creates_in_its_own : (members : ℕ) (event : Event) (h : List Event) → TaskRule members event h → Always (TaskRule members) h → CreatesInItsOwn event h
+creates_in_its_own members (Create t m parent desc) h rule all = rule.current
+creates_in_its_own members _ h rule all = tt
+
+starts_once : (members : ℕ) (event : Event) (h : List Event) → TaskRule members event h → Always (TaskRule members) h → StartsOnce event h
+starts_once members (Start t m) h rule all =
+    let is = startable_is_fresh m t h rule.may in (
+      created_happened members t h all is.0,
+      (λ n start. not_both (has_started t h) (start_happened t n h start) is.1),
+      (λ done. not_both (is_complete t h) (done_is_complete t done.0 h done.1) is.2),
+    )
+starts_once members _ h rule all = tt
+
+-- a task that was not ended is not complete
+not_done : (t : ℕ) (h : List Event) → (IsDone t h → ⊥) → is_complete t h ≡ false
+not_done t h never = elim (cases_Bool (is_complete t h)) [ inl e ↦ absurd (never (complete_is_done t h e)) | inr e ↦ e ]
+
+or_without : (b c : Bool) → (b || c) ≡ true → b ≡ false → c ≡ true
+or_without true c e away = absurd (cc)
+or_without false c e away = e
+
+starts_descendant : (members : ℕ) (event : Event) (h : List Event) → TaskRule members event h → Always (TaskRule members) h → StartsDescendant event h
+starts_descendant members (Start t m) h rule all =
+    let down = and_right (is_ready t h) (may_descend m t h) rule.may in
+    let each = and_left (each_of (λ s. is_ancestor (Explicit s) t h) (task_stack m h)) (at_barrier m h || is_ancestor (Implicit m) t h) down in
+    let own = and_right (each_of (λ s. is_ancestor (Explicit s) t h) (task_stack m h)) (at_barrier m h || is_ancestor (Implicit m) t h) down in (
+      (λ s start never. each_tells (λ u. is_ancestor (Explicit u) t h) (task_stack m h) s each (running_in_stack members s m h all start (not_done s h never))),
+      (λ away. or_without (at_barrier m h) (is_ancestor (Implicit m) t h) own away),
+    )
+starts_descendant members _ h rule all = tt
+
+ends_its_own : (members : ℕ) (event : Event) (h : List Event) → TaskRule members event h → Always (TaskRule members) h → EndsItsOwn event h
+ends_its_own members (Done t m) h rule all =
+    let is = current_open members m t h all rule.current in (
+      runner_happened t m h is.2,
+      (λ n done. not_both (is_complete t h) (done_is_complete t n h done) is.1),
+      (λ s start never. innermost_descends (λ a u. is_ancestor (Explicit a) u h) m t s (task_stack m h) rule.current (stack_descends members m h all) (running_in_stack members s m h all start (not_done s h never))),
+    )
+ends_its_own members _ h rule all = tt
+
+-- Waits
+
+-- a child was created
+child_is_created : (members : ℕ) (p : Task) (t : ℕ) (h : List Event) → Always (TaskRule members) h → is_child p t h ≡ true → is_created t h ≡ true
+child_is_created members p t [] all e = absurd (cc)
+child_is_created members p t (Create task m parent desc ∷ earlier) all e = elim (cases_Bool (task == t)) [
+  | inl same ↦ newest_created t earlier (let here = is_equal task t same in sym here ∙ all.0.number)
+  | inr other ↦ created_stays t earlier (child_is_created members p t earlier all.1 (rw other at e))
+]
+child_is_created members p t (_ ∷ earlier) all e = child_is_created members p t earlier all.1 e
+
+-- and so was a task in a group
+grouped_is_created : (members q t : ℕ) (h : List Event) → Always (TaskRule members) h → in_group q t h ≡ true → is_created t h ≡ true
+grouped_is_created members q t [] all e = absurd (cc)
+grouped_is_created members q t (Create task m (Implicit x) desc ∷ earlier) all e = elim (cases_Bool (task == t)) [
+  | inl same ↦ newest_created t earlier (let here = is_equal task t same in sym here ∙ all.0.number)
+  | inr other ↦ created_stays t earlier (grouped_is_created members q t earlier all.1 (rw other at e))
+]
+grouped_is_created members q t (Create task m (Explicit p) desc ∷ earlier) all e = elim (cases_Bool (task == t)) [
+  | inl same ↦ newest_created t earlier (let here = is_equal task t same in sym here ∙ all.0.number)
+  | inr other ↦ created_stays t earlier (grouped_is_created members q t earlier all.1 (rw other at e))
+]
+grouped_is_created members q t (_ ∷ earlier) all e = grouped_is_created members q t earlier all.1 e
+
+waits_for_tasks : (members : ℕ) (event : Event) (h : List Event) → TaskRule members event h → Always (TaskRule members) h → WaitsForTasks event h
+waits_for_tasks members (Waited m) h rule all = λ t is.
+    complete_is_done t h (complete_at (λ u. is_child (executed_task m h) u h) h t rule.complete (child_is_created members (executed_task m h) t h all is) is)
+waits_for_tasks members (GroupEnd q m) h rule all = λ t is.
+    complete_is_done t h (complete_at (λ u. in_group q u h) h t rule.complete (grouped_is_created members q t h all is) is)
+waits_for_tasks members _ h rule all = tt
+
+-- Barriers
+
+passes_after_tasks : (members : ℕ) (event : Event) (h : List Event) → ArrivalRule members event h → Always (TaskRule members) h → PassesAfterTasks event h
+passes_after_tasks members (Pass barrier m) h rule all = λ t made early.
+    let bound = and_right (all_arrived members barrier h) (bound_complete barrier h) (passed_met members barrier m h rule) in
+    let within : nat_le (epoch t h) barrier ≡ true = grind (arith, nat_tests, early) in
+    complete_is_done t h (complete_at (λ u. nat_le (epoch u h) barrier) h t bound (was_created members t h all made) within)
+passes_after_tasks members _ h rule all = tt
+
+ends_after_tasks : (members : ℕ) (event : Event) (h : List Event) → ArrivalRule members event h → Always (TaskRule members) h → EndsAfterTasks event h
+ends_after_tasks members (Pass barrier m) h rule all = λ at t made.
+    let met = and_right (barrier_met members (barriers_passed m h) h) (not (at_region_end m h) || region_met members h) rule.met in
+    let over = implied_by (at_region_end m h) (region_met members h) met at in
+    let every = and_right (every_member members (λ x. at_region_end x h)) (all_complete (λ u. true) h) over in
+    complete_is_done t h (complete_at (λ u. true) h t every (was_created members t h all made) refl)
+ends_after_tasks members _ h rule all = tt
+
+-- the laws of tasks and groups, from their rule and that of the arrivals
+pub tasks_keep : (members : ℕ) (h : List Event) → Always (ArrivalRule members) h → Always (TaskRule members) h → TaskLaws h
+tasks_keep members h arrivals tasks =
+    record {
+      created_once = always_so (TaskRule members) CreatesOnce (creates_once members) h tasks;
+      created_in = always_so (TaskRule members) CreatesInItsOwn (creates_in_its_own members) h tasks;
+      started_once = always_so (TaskRule members) StartsOnce (starts_once members) h tasks;
+      descendants = always_so (TaskRule members) StartsDescendant (starts_descendant members) h tasks;
+      ended_once = always_so (TaskRule members) EndsItsOwn (ends_its_own members) h tasks;
+      waits = always_so (TaskRule members) WaitsForTasks (waits_for_tasks members) h tasks;
+      opened_once = always_so (TaskRule members) OpensOnce (opens_once members) h tasks;
+      groups_ended = always_so (TaskRule members) EndsItsGroup (ends_its_group members) h tasks;
+      passes = both_so (ArrivalRule members) (TaskRule members) PassesAfterTasks (passes_after_tasks members) h arrivals tasks;
+      later = creates_later members h arrivals tasks;
+      region = both_so (ArrivalRule members) (TaskRule members) EndsAfterTasks (ends_after_tasks members) h arrivals tasks;
+    }
