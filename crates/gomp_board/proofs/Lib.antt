@@ -1,7 +1,10 @@
+pub mod BarrierNumbers
 pub mod GroupsOpen
+pub mod Joined
 pub mod OpAnswerExamples
 pub mod OpTestExamples
 pub mod OwedKeeps
+pub mod Performed
 pub mod RegionLeft
 pub mod RoomKeeps
 pub mod StoredExamples

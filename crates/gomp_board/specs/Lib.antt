@@ -2,4 +2,5 @@ pub mod Stored
 pub mod Owed
 pub mod Ops
 pub mod ReadyTasks
+pub mod Boards
 pub mod Examples

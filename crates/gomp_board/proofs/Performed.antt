@@ -1,0 +1,46 @@
+-- What an operation does to a board, by the kind of its reply.
+use Rattle.std.proofs.Common.{◌≡◌, ◌≢◌, ℕ, ◌+◌, true, List, ◌++◌, Some, None, length, refl, ap, ◌∙◌, sym, subst, length-set}
+use Rattle.std.specs.Prelude.{IsTrue, slice_set}
+use Rattle.gomp_types.specs.declared.refusal.Refusal.{Refusal}
+use Rattle.gomp_types.specs.declared.refusal.Refusal.TheVariants as refusals
+use Rattle.gomp_types.specs.declared.reply.Reply.{Reply}
+use Rattle.gomp_types.specs.declared.reply.Reply.TheVariants.{Refused}
+use Rattle.gomp_types.specs.declared.event.Event.{Event}
+use Rattle.gomp_board.specs.declared.op.Op.{Op}
+use Rattle.gomp_board.specs.Ops.{op_asks, op_keeps, op_gives, op_after, begun, asks_memory, OpReply}
+use Rattle.gomp_board.specs.Boards.{BoardView, Stands, IsSame, IsAdmitted, Performs, members_of, kept_by, room_after, kept_after}
+use Rattle.gomp_board.proofs.Waiting.{IsReply, answered, after_reply, not_refused}
+
+room_of_reply : (op : Op) (kept room : ℕ) (reply : Reply) → IsReply reply → room_after op kept reply room ≡ room + op_asks op kept
+room_of_reply op kept room (Refused refusal) is = absurd is
+room_of_reply op kept room _ is = refl
+
+kept_of_reply : (op : Op) (m : ℕ) (board : BoardView) (reply : Reply) → IsReply reply → kept_after op m reply board.kept ≡ slice_set board.kept m (op_keeps op (kept_by m board))
+kept_of_reply op m board (Refused refusal) is = absurd is
+kept_of_reply op m board _ is = refl
+
+-- a reply that is no refusal
+pub performed : (op : Op) (m : ℕ) (board after : BoardView) (reply : Reply) → IsReply reply → IsAdmitted op m board → ((h : List Event) → Stands board h → OpReply (members_of board) m op (begun m op h) reply) →
+    ((h : List Event) → Stands board h → Stands after (op_gives m op (begun m op h) reply ++ begun m op h)) → after.limits ≡ board.limits → after.room ≡ board.room + op_asks op (kept_by m board) →
+    after.kept ≡ slice_set board.kept m (op_keeps op (kept_by m board)) → Performs op m board after reply
+performed op m board after reply is admitted answer stands limits room kept = record {
+  answer = λ h st. answered board.limits board.room (kept_by m board) (members_of board) m op h reply is (admitted h st) (answer h st);
+  stands = λ h st. rw (after_reply m op reply h is) (stands h st);
+  limits = limits;
+  members = rw kept (length-set board.kept m (op_keeps op (kept_by m board)));
+  room = rw (room_of_reply op (kept_by m board) board.room reply is) room;
+  kept = rw (kept_of_reply op m board reply is) kept;
+  same = λ refusal e other. absurd (not_refused reply refusal is e);
+}
+
+-- want of memory at an operation that asks for room
+pub out_of_memory : (op : Op) (m : ℕ) (board after : BoardView) → IsAdmitted op m board → IsTrue (asks_memory op (kept_by m board)) → IsSame board after → after.limits ≡ board.limits → Performs op m board after (Refused refusals.NoMemory)
+out_of_memory op m board after admitted asks same limits = record {
+  answer = λ h st. (admitted h st, asks);
+  stands = λ h st. same.stands h st;
+  limits = limits;
+  members = ap length same.kept;
+  room = same.room;
+  kept = same.kept;
+  same = λ refusal e other. same;
+}
