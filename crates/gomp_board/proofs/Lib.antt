@@ -1,0 +1,4 @@
+pub mod Admitted
+pub mod ReadyExamples
+pub mod ReadyKeeps
+pub mod Waiting
