@@ -1,4 +1,9 @@
 pub mod Admitted
+pub mod GroupsOpen
+pub mod OwedKeeps
 pub mod ReadyExamples
 pub mod ReadyKeeps
+pub mod RegionLeft
+pub mod RoomKeeps
+pub mod StoredKeeps
 pub mod Waiting
