@@ -1,18 +1,22 @@
 -- What the calls of the barriers answer and add, and when seats stand for events: for each line of a definition what it says, and what it alone refuses.
-use Rattle.std.proofs.Common.{◌≡◌, ℕ, ◌-◌, ◌<◌, ◌≤◌, ◌^◌, true, false, List, [], ◌∷◌, Some, None, suc, zero, slice_get, refl, subst, ap, arith}
+use Rattle.std.proofs.Common.{◌≡◌, ℕ, Bool, ◌-◌, ◌<◌, ◌≤◌, ◌^◌, true, false, List, [], ◌∷◌, Some, None, suc, zero, slice_get, refl, subst, ap, arith}
 use Rattle.std.specs.Prelude.{◌==◌, get_or, is_some}
 use Rattle.std.proofs.lemmas.Bool.Decides.{nat_tests}
 use Rattle.gomp_types.specs.declared.refusal.Place.{Place}
+use Rattle.gomp_types.specs.declared.key.Key.{Key}
+use Rattle.gomp_types.specs.declared.task.Task.{Task}
+use Rattle.gomp_types.specs.declared.task.TaskDesc.{TaskDesc}
 use Rattle.gomp_types.specs.declared.shape.Shape.{Shape}
 use Rattle.gomp_types.specs.declared.event.Tag.{Tag}
-use Rattle.gomp_types.specs.declared.event.Event.TheVariants.{Enter, Take, Drained, End, HandOn, Part, PartEnd, Put, Got, Arrive, Pass, Break}
+use Rattle.gomp_types.specs.declared.event.Event.TheVariants.{Enter, Take, Drained, End, HandOn, Part, PartEnd, Put, Got, Arrive, Pass, Hold, Free, Create, Start, Done, Group, GroupEnd, Waited, Break}
 use Rattle.gomp_types.specs.declared.event.Event.{Event}
 use Rattle.gomp_types.specs.Events.{arrival, tag_at}
 use Rattle.gomp_types.specs.Tasks.{tasks_created, is_complete}
+use Rattle.gomp_types.proofs.OpenTasks.{created_low, created_high}
 use Rattle.gomp_barrier.specs.declared.front.Seat.{Seat}
 use Rattle.gomp_barrier.specs.Calls.{barrier_seen, arrived_after, turn_after, IsAside}
 use Rattle.gomp_barrier.specs.Seats.{differ, is_ahead, tag_for, number_for, IsThere, arrived_at, passed_by, next_front, barrier_of, SeatStands, FrontStands, SomeBehind}
-use Rattle.gomp_barrier.specs.Bound.{TasksStand}
+use Rattle.gomp_barrier.specs.Bound.{open_bound, bound_count, TasksStand}
 use Rattle.gomp_barrier.specs.Stands.{Stands, members_of}
 use Rattle.gomp_barrier.specs.Examples.{at_barrier_tag, at_end_tag, both_arrived, second_ahead, first_left, seat_with, front_with, bound_with, no_tasks, barriers_with, sees_barrier, new_seat, new_front, seat_behind, seat_ahead, front_between}
 
@@ -60,17 +64,25 @@ pass_adds = refl
 pub refused_pass_adds : turn_after false 0 both_arrived ≡ both_arrived
 refused_pass_adds = refl
 
--- the barriers see arrivals and passes
+-- the barriers see arrivals, passes, and tasks that are created and ended
 pub arrivals_are_seen : (barrier m : ℕ) (tag : Tag) → (IsAside (Arrive barrier m tag) → ⊥) × (IsAside (Pass barrier m) → ⊥)
 arrivals_are_seen barrier m tag = (λ is. is, λ is. is)
+
+-- both events of a task
+pub tasks_are_seen : (task m : ℕ) (parent : Task) (desc : TaskDesc) → (IsAside (Create task m parent desc) → ⊥) × (IsAside (Done task m) → ⊥)
+tasks_are_seen task m parent desc = (λ is. is, λ is. is)
+
+-- not its start, nor what a task waits for
+pub starts_are_aside : (task group m : ℕ) → IsAside (Start task m) × IsAside (Group group m) × IsAside (GroupEnd group m) × IsAside (Waited m)
+starts_are_aside task group m = (tt, tt, tt, tt)
 
 -- and nothing else
 pub shares_are_aside : (share m low high k : ℕ) (shape : Shape) → IsAside (Enter share m shape) × IsAside (Take share m low high) × IsAside (Drained share m) × IsAside (End share m) × IsAside (HandOn share m k) × IsAside (Part share m k) × IsAside (PartEnd share m)
 shares_are_aside share m low high k shape = (tt, tt, tt, tt, tt, tt, tt)
 
--- nor words and a break
-pub words_and_breaks_are_aside : (share m : ℕ) (payload : List ℕ) (place : Place) → IsAside (Put share m payload) × IsAside (Got share m payload) × IsAside (Break m place)
-words_and_breaks_are_aside share m payload place = (tt, tt, tt)
+-- nor words, names and locks, and a break
+pub words_and_breaks_are_aside : (share m : ℕ) (payload : List ℕ) (key : Key) (task : Task) (place : Place) → IsAside (Put share m payload) × IsAside (Got share m payload) × IsAside (Hold key m task) × IsAside (Free key m task) × IsAside (Break m place)
+words_and_breaks_are_aside share m payload key task place = (tt, tt, tt, tt, tt)
 
 -- A member's seat and the front
 
@@ -252,6 +264,10 @@ front_stands = record { parity = refl; number = refl; tag = refl; next = refl; b
     not_later (suc zero) below = absurd (omega arith)
     not_later (suc (suc g)) below = rw (not_the_first g, not_the_next g) refl
 
+-- it has another parity
+pub front_of_another_parity : FrontStands [] (front_with true 0 None None) 0 [] → ⊥
+front_of_another_parity front = absurd (let parity = front.parity in cc)
+
 -- it has another number
 pub front_of_another_number : FrontStands [] (front_with false 1 None None) 0 [] → ⊥
 front_of_another_number front = absurd (let number = front.number in omega arith)
@@ -295,7 +311,15 @@ two_seats P a b first second (suc (suc m)) seat at = absurd (cc)
 
 -- no task was created
 no_tasks_stand : (h : List Event) → tasks_created h ≡ 0 → ((t : ℕ) → is_complete t h ≡ false) → TasksStand no_tasks 0 h
-no_tasks_stand h none never = ?
+no_tasks_stand h none never = record {
+  counted = λ odd. open_none_yet odd;
+  near = λ t is. absurd (let low = created_low t h is.0 in let high = created_high t h is.0 in omega (arith, low, high, none));
+  unborn = λ t lt. never t;
+}
+  where
+    open_none_yet : (odd : Bool) → open_bound odd h ≡ bound_count no_tasks odd
+    open_none_yet true = rw none refl
+    open_none_yet false = rw none refl
 
 -- the barriers of the two members
 pub barriers_stand : Stands (barriers_with (seat_behind ∷ seat_ahead ∷ []) front_between no_tasks) second_ahead

@@ -12,6 +12,7 @@ use Rattle.gomp_types.specs.Tasks.{is_odd}
 use Rattle.gomp_types.specs.Limits.{shown_number}
 use Rattle.gomp_types.proofs.Booleans.{same_number, other_number, every_tells, every_by}
 use Rattle.gomp_types.proofs.Lists.{slice_get-set}
+use Rattle.gomp_barrier.proofs.BoundKeeps.{odd_next}
 use Rattle.gomp_barrier.specs.declared.front.Seat.{Seat}
 use Rattle.gomp_barrier.specs.declared.front.Front.{Front}
 use Rattle.gomp_barrier.specs.Seats.{differ, is_ahead, tag_for, number_for, IsThere, arrived_at, next_front, barrier_of, SeatStands, FrontStands, SomeBehind}
@@ -221,10 +222,6 @@ not_ahead_once_advanced front member e = by member.odd front.odd e
     by false true e = refl
     by false false e = absurd (cc)
 
--- the number after an odd one is even, and the other way round
-pub odd_next : (n : ℕ) → is_odd (n + 1) ≡ not (is_odd n)
-odd_next n = let e : n + 1 ≡ suc n = omega arith in rw e refl
-
 all_at : (front : Front) (members : List Seat) (m : ℕ) (member : Seat) → All (λ x. is_ahead front x ≡ true) members → slice_get members m ≡ Some member → is_ahead front member ≡ true
 all_at front members m member all at = rw (get_or_from_slice_get members m member member at) at (all m member (slice_get_within members m member at))
 
@@ -264,6 +261,18 @@ arrived_at_least front least m member h p = by_ahead (is_ahead front member) ref
     by_ahead : (ahead : Bool) → is_ahead front member ≡ ahead → is_some (arrival least m h) ≡ (ahead || is_some member.arrived)
     by_ahead true e = let same : barrier_of front least member ≡ least + 1 = rw e refl in p.behind least (subst (λ b. least < b) (sym same) (omega arith))
     by_ahead false e = let same : barrier_of front least member ≡ least = rw e refl in ap is_some (subst (λ b. arrival b m h ≡ member.arrived) same p.here)
+
+-- who is at the front has arrived at every barrier up to it
+pub there_before : (front : Front) (least x : ℕ) (member : Seat) (h : List Event) (g : ℕ) → SeatStands front least x member h → IsThere front member → g ≤ least → is_some (arrival g x h) ≡ true
+there_before front least x member h g p there le =
+    elim (eqb_tells g least) [
+      | inl e ↦ ap (λ (n : ℕ). is_some (arrival n x h)) e.1 ∙ arrived_at_least front least x member h p ∙ there
+      | inr e ↦ p.behind g (by (is_ahead front member) (omega (arith, e.1, le)))
+    ]
+  where
+    by : (ahead : Bool) → g < least → g < (if ahead then least + 1 else least)
+    by true lt = omega (arith, lt)
+    by false lt = lt
 
 pub met_by : (members : List Seat) (front : Front) (least : ℕ) (h : List Event) → FrontStands members front least h → All (IsThere front) members → all_arrived (length members) least h ≡ true
 met_by members front least h st all =

@@ -1,31 +1,37 @@
 -- Each call keeps the barriers of a team in step with the events.
-use Rattle.std.proofs.Common.{◌≡◌, ℕ, ◌+◌, ◌<◌, Bool, true, false, List, [], ◌∷◌, Option, Some, None, length, slice_get, slice_set, get_or, replicate, refl, ap, ◌∙◌, sym, subst, arith, suc, zero, ◌⊎◌, inl, inr}
-use Rattle.std.specs.Prelude.{◌||◌, is_some, All, IsTrue}
+use Rattle.std.proofs.Common.{◌≡◌, ℕ, ◌+◌, ◌<◌, ◌≤◌, Bool, true, false, List, [], ◌∷◌, Option, Some, None, length, slice_get, slice_set, get_or, replicate, refl, ap, ◌∙◌, sym, subst, arith, suc, zero, ◌⊎◌, inl, inr}
+use Rattle.std.specs.Prelude.{◌||◌, not, if◌then◌else◌, is_some, All, IsTrue, ◌↔◌}
 use Rattle.std.proofs.lemmas.Bool.{cases_Bool}
 use Rattle.std.proofs.lemmas.List.{length-set, get_or-replicate, length-replicate}
 use Rattle.std.proofs.lemmas.Option.{slice_get-get_or, slice_get_within, get_or_from_slice_get}
 use Rattle.gomp_types.specs.declared.event.Tag.{Tag}
+use Rattle.gomp_types.specs.declared.task.Task.{Task}
+use Rattle.gomp_types.specs.declared.task.Task.TheVariants.{Implicit, Explicit}
+use Rattle.gomp_types.specs.declared.task.TaskDesc.{TaskDesc}
 use Rattle.gomp_types.specs.declared.event.Event.{Event}
 use Rattle.gomp_types.specs.declared.event.Event.TheVariants.{Arrive, Pass, Create, Done}
-use Rattle.gomp_types.specs.Events.{barriers_passed, arrival, tag_at, has_left_region, was_region_end, is_region_end, at_barrier}
-use Rattle.gomp_types.specs.Tasks.{is_created, is_odd}
-use Rattle.gomp_types.specs.Goals.{may_pass}
+use Rattle.gomp_types.specs.Events.{barriers_passed, arrival, tag_at, has_left_region, was_region_end, is_region_end, at_barrier, at_region_end, every_member, all_arrived}
+use Rattle.gomp_types.specs.Tasks.{is_created, epoch_of_child, all_complete, is_odd}
+use Rattle.gomp_types.specs.Goals.{bound_complete, barrier_met, region_met, may_pass}
 use Rattle.gomp_types.specs.Limits.{shown_number}
 use Rattle.gomp_types.specs.Compare.{tag_differs}
 use Rattle.gomp_types.specs.Laws.{Always}
 use Rattle.gomp_types.specs.Arrivals.{ArrivalRule}
-use Rattle.gomp_types.proofs.Booleans.{some_of}
+use Rattle.gomp_types.proofs.Booleans.{some_of, and_left, and_right, or_right, not_both, every_by}
+use Rattle.gomp_types.proofs.OpenTasks.{created_low, created_high}
 use Rattle.gomp_types.proofs.Compared.{same_tags}
 use Rattle.gomp_types.proofs.Lists.{slice_get-set}
 use Rattle.gomp_barrier.specs.declared.front.Seat.{Seat}
 use Rattle.gomp_barrier.specs.declared.front.Front.{Front}
 use Rattle.gomp_barrier.specs.declared.barriers.AtBarrier.{AtBarrier}
-use Rattle.gomp_barrier.specs.Seats.{differ, is_ahead, tag_for, number_for, IsThere, arrived_at, passed_by, next_front, barrier_of, SeatStands, FrontStands, SomeBehind}
-use Rattle.gomp_barrier.specs.Calls.{barrier_seen, IsAside}
+use Rattle.gomp_barrier.specs.Seats.{differ, is_ahead, has_come_to_end, tag_for, number_for, IsThere, arrived_at, passed_by, next_front, barrier_of, SeatStands, FrontStands, SomeBehind}
+use Rattle.gomp_barrier.specs.Calls.{barrier_seen, IsParent, MayBind, MayRelease, IsAside}
 use Rattle.gomp_barrier.specs.declared.bound.BoundTasks.{BoundTasks}
-use Rattle.gomp_barrier.specs.Bound.{open_bound, bound_count, TasksStand}
+use Rattle.gomp_barrier.specs.Bound.{open_bound, bound_count, one_more, one_less, TasksStand}
 use Rattle.gomp_barrier.specs.Stands.{BarriersView, Stands, MayTurn, members_of}
-use Rattle.gomp_barrier.proofs.BarrierKeeps.{tag_is, number_is, arrival_keeps_the_front, turn_arrived, pass_keeps_the_front, moves_on, behind_again}
+use Rattle.gomp_barrier.proofs.BarrierKeeps.{tag_is, number_is, arrival_keeps_the_front, turn_arrived, pass_keeps_the_front, moves_on, behind_again, there_before, met_by, met_all, not_met_ahead}
+use Rattle.gomp_barrier.proofs.BoundKeeps.{odd_next, front_complete, front_closed, tasks_complete, tasks_closed, tasks_move_on, bind_keeps, release_keeps}
+use Rattle.gomp_barrier.proofs.RegionEnds.{waits_there, comes_to_end, others_end}
 
 -- The value of a team's barriers, and their fields
 
@@ -51,22 +57,66 @@ look_is seats front tasks m seat h st at =
     same_look : (n n2 : ℕ) (t t2 a a2 : Option Tag) (l l2 : Bool) → n ≡ n2 → t ≡ t2 → a ≡ a2 → l ≡ l2 → ◌≡◌ {A = AtBarrier} (record { number = n; tag = t; arrived = a; left = l }) (record { number = n2; tag = t2; arrived = a2; left = l2 })
     same_look n n2 t t2 a a2 l l2 e f g i = rw (e, f, g, i) refl
 
+-- the parity of how many barriers the member has passed
+pub odd_is : (seats : List Seat) (front : Front) (tasks : BoundTasks) (m : ℕ) (seat : Seat) (h : List Event) → StandAt seats front tasks h → slice_get seats m ≡ Some seat → seat.odd ≡ is_odd (barriers_passed m h)
+odd_is seats front tasks m seat h st at = by seat.odd front.odd st.barrier.parity (st.barrier.seat m seat at).passed_is
+  where
+    by : (own first : Bool) → first ≡ is_odd st.least → barriers_passed m h ≡ (if differ own first then st.least + 1 else st.least) → own ≡ is_odd (barriers_passed m h)
+    by true true parity passed = parity ∙ ap is_odd (sym passed)
+    by false false parity passed = parity ∙ ap is_odd (sym passed)
+    by true false parity passed = ap not (parity) ∙ sym (odd_next st.least) ∙ ap is_odd (sym passed)
+    by false true parity passed = ap not (parity) ∙ sym (odd_next st.least) ∙ ap is_odd (sym passed)
+
+-- whether the member waits at a barrier
+pub waits_is : (seats : List Seat) (front : Front) (tasks : BoundTasks) (m : ℕ) (seat : Seat) (h : List Event) → StandAt seats front tasks h → slice_get seats m ≡ Some seat → is_some seat.arrived ≡ at_barrier m h
+waits_is seats front tasks m seat h st at =
+    let p = st.barrier.seat m seat at in
+    ap is_some (sym p.here ∙ ap (λ g. arrival g m h) (sym p.passed_is)) ∙ sym (waits_there (length seats) m h st.rule)
+
 -- Aside
 
-aside_place : (front : Front) (least m : ℕ) (seat : Seat) (event : Event) (h : List Event) → IsAside event → SeatStands front least m seat h → SeatStands front least m seat (event ∷ h)
-aside_place front least m seat (Arrive barrier k tag) h is p = absurd is
-aside_place front least m seat (Pass barrier k) h is p = absurd is
-aside_place front least m seat _ h is p = record { passed_is = p.passed_is; here = p.here; behind = p.behind; beyond = p.beyond; left_is = p.left_is }
+-- an event that is no arrival and no pass leaves the seats and the front
+abbrev IsNoArrival : Event → Type 0
+IsNoArrival (Arrive barrier k tag) = ⊥
+IsNoArrival (Pass barrier k) = ⊥
+IsNoArrival _ = Unit {0}
 
-aside_tag : (event : Event) (h : List Event) → IsAside event → (g : ℕ) → tag_at g (event ∷ h) ≡ tag_at g h
+aside_seat : (front : Front) (least m : ℕ) (seat : Seat) (event : Event) (h : List Event) → IsNoArrival event → SeatStands front least m seat h → SeatStands front least m seat (event ∷ h)
+aside_seat front least m seat (Arrive barrier k tag) h is p = absurd is
+aside_seat front least m seat (Pass barrier k) h is p = absurd is
+aside_seat front least m seat _ h is p = record { passed_is = p.passed_is; here = p.here; behind = p.behind; beyond = p.beyond; left_is = p.left_is }
+
+aside_tag : (event : Event) (h : List Event) → IsNoArrival event → (g : ℕ) → tag_at g (event ∷ h) ≡ tag_at g h
 aside_tag (Arrive barrier k tag) h is g = absurd is
 aside_tag (Pass barrier k) h is g = absurd is
 aside_tag _ h is g = refl
 
-aside_rule : (members : ℕ) (event : Event) (h : List Event) → IsAside event → ArrivalRule members event h
+aside_rule : (members : ℕ) (event : Event) (h : List Event) → IsNoArrival event → ArrivalRule members event h
 aside_rule members (Arrive barrier k tag) h is = absurd is
 aside_rule members (Pass barrier k) h is = absurd is
 aside_rule members _ h is = tt
+
+-- so the barriers stand for it, if the counts do
+counts_keep : (seats : List Seat) (front : Front) (tasks after : BoundTasks) (event : Event) (h : List Event) → IsNoArrival event → (st : StandAt seats front tasks h) → TasksStand after st.least (event ∷ h) → StandAt seats front after (event ∷ h)
+counts_keep seats front tasks after event h is st counts = record {
+  least = st.least;
+  barrier = record {
+    parity = st.barrier.parity;
+    number = st.barrier.number;
+    tag = aside_tag event h is st.least ∙ st.barrier.tag;
+    next = aside_tag event h is (st.least + 1) ∙ st.barrier.next;
+    beyond = λ g le. aside_tag event h is g ∙ st.barrier.beyond g le;
+    seat = λ m seat at. aside_seat front st.least m seat event h is (st.barrier.seat m seat at);
+  };
+  tasks = counts;
+  behind = st.behind;
+  rule = (aside_rule (length seats) event h is, st.rule);
+}
+
+no_arrival : (event : Event) → IsAside event → IsNoArrival event
+no_arrival (Arrive barrier k tag) is = is
+no_arrival (Pass barrier k) is = is
+no_arrival _ is = tt
 
 aside_tasks : (tasks : BoundTasks) (least : ℕ) (event : Event) (h : List Event) → IsAside event → TasksStand tasks least h → TasksStand tasks least (event ∷ h)
 aside_tasks tasks least (Create task k parent desc) h is t = absurd is
@@ -74,20 +124,7 @@ aside_tasks tasks least (Done task k) h is t = absurd is
 aside_tasks tasks least _ h is t = record { counted = t.counted; near = t.near; unborn = t.unborn }
 
 pub aside_keeps : (barriers : BarriersView) (h : List Event) (event : Event) → IsAside event → Stands barriers h → Stands barriers (event ∷ h)
-aside_keeps barriers h event is st = record {
-  least = st.least;
-  tasks = aside_tasks barriers.tasks st.least event h is st.tasks;
-  barrier = record {
-    parity = st.barrier.parity;
-    number = st.barrier.number;
-    tag = aside_tag event h is st.least ∙ st.barrier.tag;
-    next = aside_tag event h is (st.least + 1) ∙ st.barrier.next;
-    beyond = λ g le. aside_tag event h is g ∙ st.barrier.beyond g le;
-    seat = λ m seat at. aside_place barriers.front st.least m seat event h is (st.barrier.seat m seat at);
-  };
-  behind = st.behind;
-  rule = (aside_rule (members_of barriers) event h is, st.rule);
-}
+aside_keeps barriers h event is st = counts_keep barriers.seats barriers.front barriers.tasks barriers.tasks event h (no_arrival event is) st (aside_tasks barriers.tasks st.least event h is st.tasks)
 
 -- Arriving
 
@@ -142,10 +179,69 @@ at_least : (seats : List Seat) (front : Front) (tasks : BoundTasks) (m : ℕ) (s
 at_least seats front tasks m seat h st at behind =
     let same : barrier_of front st.least seat ≡ st.least = rw behind refl in (st.barrier.seat m seat at).passed_is ∙ same
 
+-- whether the member has come to the region's end
+come_is : (seats : List Seat) (front : Front) (tasks : BoundTasks) (m : ℕ) (seat : Seat) (h : List Event) → StandAt seats front tasks h → slice_get seats m ≡ Some seat → at_region_end m h ≡ has_come_to_end seat
+come_is seats front tasks m seat h st at =
+    let p = st.barrier.seat m seat at in
+    let here : arrival (barriers_passed m h) m h ≡ seat.arrived = ap (λ g. arrival g m h) p.passed_is ∙ p.here in
+    comes_to_end (length seats) m h st.rule ∙ ap (λ (b : Bool). b || was_region_end (arrival (barriers_passed m h) m h)) p.left_is ∙ ap (λ (tag : Option Tag). seat.left || was_region_end tag) here
+
+-- once all are there, all have come to it with the member
+all_come : (seats : List Seat) (front : Front) (tasks : BoundTasks) (m : ℕ) (seat : Seat) (h : List Event) → StandAt seats front tasks h → slice_get seats m ≡ Some seat → is_ahead front seat ≡ false → All (IsThere front) seats →
+    at_region_end m h ≡ true → every_member (length seats) (λ x. at_region_end x h) ≡ true
+all_come seats front tasks m seat h st at behind all come =
+    every_by (length seats) (λ x. at_region_end x h) (λ x lt.
+    let at_x : slice_get seats x ≡ Some (get_or seats x seat) = slice_get-get_or seats x seat lt in
+    others_end (length seats) m x h st.rule (λ g le. there_before front st.least x (get_or seats x seat) h g (st.barrier.seat x (get_or seats x seat) at_x) (all x seat lt) (subst (λ (n : ℕ). g ≤ n) (at_least seats front tasks m seat h st at behind) le)) come)
+
+-- a member may pass if it may pass the front
+may_now : (seats : List Seat) (front : Front) (tasks : BoundTasks) (m : ℕ) (seat : Seat) (h : List Event) → StandAt seats front tasks h → slice_get seats m ≡ Some seat → MayTurn (record { seats = seats; front = front; tasks = tasks }) seat → may_pass (length seats) m h ≡ true
+may_now seats front tasks m seat h st at may =
+    let number = at_least seats front tasks m seat h st at may.behind in
+    let arrived : all_arrived (length seats) (barriers_passed m h) h ≡ true = rw number (met_by seats front st.least h st.barrier may.there) in
+    let none : bound_count tasks (is_odd st.least) ≡ 0 = rw (← st.barrier.parity) may.bound in
+    let bound : bound_complete (barriers_passed m h) h ≡ true = rw number (front_complete tasks st.least h st.tasks none) in
+    rw (arrived, bound) (elim (cases_Bool (at_region_end m h)) [
+      | inl come ↦
+          let every = all_come seats front tasks m seat h st at may.behind may.there come in
+          let ended = may.ended (sym (come_is seats front tasks m seat h st at) ∙ come) in
+          let complete = tasks_complete tasks st.least h st.tasks front.odd may.bound ended in
+          rw (every, complete) (or_right (not (at_region_end m h)) true refl)
+      | inr not_come ↦ rw not_come refl
+    ])
+
+-- and only then
+must_now : (seats : List Seat) (front : Front) (tasks : BoundTasks) (m : ℕ) (seat : Seat) (h : List Event) → StandAt seats front tasks h → slice_get seats m ≡ Some seat → may_pass (length seats) m h ≡ true → MayTurn (record { seats = seats; front = front; tasks = tasks }) seat
+must_now seats front tasks m seat h st at may =
+    let met : barrier_met (length seats) (barriers_passed m h) h ≡ true = and_left (barrier_met (length seats) (barriers_passed m h) h) (not (at_region_end m h) || region_met (length seats) h) may in
+    let arrived : all_arrived (length seats) (barriers_passed m h) h ≡ true = and_left (all_arrived (length seats) (barriers_passed m h) h) (bound_complete (barriers_passed m h) h) met in
+    let bound : bound_complete (barriers_passed m h) h ≡ true = and_right (all_arrived (length seats) (barriers_passed m h) h) (bound_complete (barriers_passed m h) h) met in
+    elim (cases_Bool (is_ahead front seat)) [
+      | inl ahead ↦ absurd (
+          let next : barriers_passed m h ≡ st.least + 1 = (st.barrier.seat m seat at).passed_is ∙ (let e : barrier_of front st.least seat ≡ st.least + 1 = rw ahead refl in e) in
+          not_both (all_arrived (length seats) (st.least + 1) h) (rw next at arrived) (not_met_ahead seats front st.least h st.barrier st.behind))
+      | inr behind ↦
+          let number = at_least seats front tasks m seat h st at behind in
+          record {
+            behind = behind;
+            there = met_all seats front st.least h st.barrier (rw number at arrived);
+            bound = rw st.barrier.parity (front_closed tasks st.least h st.tasks (rw number at bound));
+            ended = λ come.
+                let come_too : at_region_end m h ≡ true = come_is seats front tasks m seat h st at ∙ come in
+                let ends : (not true || region_met (length seats) h) ≡ true = rw come_too at (and_right (barrier_met (length seats) (barriers_passed m h) h) (not (at_region_end m h) || region_met (length seats) h) may) in
+                tasks_closed tasks st.least h st.tasks (not front.odd) (and_right (every_member (length seats) (λ x. at_region_end x h)) (all_complete (λ t. true) h) ends);
+          }
+    ]
+
 -- the answer of a turn
 pub turn_is : (seats : List Seat) (front : Front) (tasks : BoundTasks) (m : ℕ) (seat : Seat) (h : List Event) (result : Bool) → StandAt seats front tasks h → slice_get seats m ≡ Some seat →
-    (IsTrue result → MayTurn (record { seats = seats; front = front; tasks = tasks }) seat) → (MayTurn (record { seats = seats; front = front; tasks = tasks }) seat → IsTrue result) → result ≡ may_pass (length seats) m h
-turn_is seats front tasks m seat h result st at may must = ?
+    IsTrue result ↔ MayTurn (record { seats = seats; front = front; tasks = tasks }) seat → result ≡ may_pass (length seats) m h
+turn_is seats front tasks m seat h true st at is = sym (may_now seats front tasks m seat h st at (is.0 refl))
+turn_is seats front tasks m seat h false st at is =
+    elim (cases_Bool (may_pass (length seats) m h)) [
+      | inl may ↦ absurd (let no : false ≡ true = is.1 (must_now seats front tasks m seat h st at may) in cc)
+      | inr not_may ↦ sym not_may
+    ]
 
 -- all seats pass a test, or not all do
 decide_all : (test : Seat → Bool) (seats : List Seat) → All (λ p. test p ≡ true) seats ⊎ (All (λ p. test p ≡ true) seats → ⊥)
@@ -164,11 +260,59 @@ decide_all test (x ∷ xs) =
     cons_all (suc k) d e all lt = all k d (omega arith)
 
 -- the front after members have passed
+settle_keeps : (seats : List Seat) (front settled : Front) (tasks : BoundTasks) (m : ℕ) (seat : Seat) (least : ℕ) (h : List Event) → FrontStands seats front least h → TasksStand tasks least h → bound_count tasks front.odd ≡ 0 → slice_get seats m ≡ Some seat → Always (ArrivalRule (length seats)) h →
+    (All (λ p. is_ahead front p ≡ true) seats → settled ≡ next_front front) → ((All (λ p. is_ahead front p ≡ true) seats → ⊥) → settled ≡ front) → StandAt seats settled tasks h
+settle_keeps seats front settled tasks m seat least h st counts none at rule all some =
+    elim (decide_all (is_ahead front) seats) [
+      | inl every ↦ rw (all every) (record { least = least + 1; barrier = moves_on seats front least h st every; tasks = tasks_move_on tasks least h counts (rw (← st.parity) none); behind = behind_again seats front m seat at every; rule = rule })
+      | inr not_every ↦ rw (some not_every) (record { least = least; barrier = st; tasks = counts; behind = not_every; rule = rule })
+    ]
+
+there_tag : (front : Front) (seat : Seat) → is_ahead front seat ≡ false → IsThere front seat → (tag : Tag) × (seat.arrived ≡ Some tag)
+there_tag front seat behind is = some_of seat.arrived (subst (λ b. (b || is_some seat.arrived) ≡ true) behind is)
+
 pub turn_keeps : (seats : List Seat) (front settled : Front) (tasks : BoundTasks) (m : ℕ) (seat : Seat) (h : List Event) → StandAt seats front tasks h → slice_get seats m ≡ Some seat → MayTurn (record { seats = seats; front = front; tasks = tasks }) seat →
     (All (λ p. is_ahead front p ≡ true) (slice_set seats m (passed_by seat (was_region_end seat.arrived))) → settled ≡ next_front front) →
     ((All (λ p. is_ahead front p ≡ true) (slice_set seats m (passed_by seat (was_region_end seat.arrived))) → ⊥) → settled ≡ front) →
     StandAt (slice_set seats m (passed_by seat (was_region_end seat.arrived))) settled tasks (Pass (barriers_passed m h) m ∷ h)
-turn_keeps seats front settled tasks m seat h st at may every some = ?
+turn_keeps seats front settled tasks m seat h st at may every some =
+    let new : Seat = passed_by seat (was_region_end seat.arrived) in
+    let is : IsThere front seat = rw (get_or_from_slice_get seats m seat seat at) at (may.there m seat (slice_get_within seats m seat at)) in
+    let tag = there_tag front seat may.behind is in
+    let number = at_least seats front tasks m seat h st at may.behind in
+    let left : new.left ≡ (seat.left || is_region_end tag.0.kind) = ap (λ t. seat.left || was_region_end t) tag.1 in
+    let moved : FrontStands (slice_set seats m new) front st.least (Pass (barriers_passed m h) m ∷ h) = subst (λ g. FrontStands (slice_set seats m new) front st.least (Pass g m ∷ h)) (sym number) (pass_keeps_the_front seats front st.least m seat new tag.0 h st.barrier at may.behind tag.1 refl refl left) in
+    let counts : TasksStand tasks st.least (Pass (barriers_passed m h) m ∷ h) = record { counted = st.tasks.counted; near = st.tasks.near; unborn = st.tasks.unborn } in
+    let own : slice_get (slice_set seats m new) m ≡ Some new = set_same seats m new (slice_get_within seats m seat at) in
+    settle_keeps (slice_set seats m new) front settled tasks m new st.least (Pass (barriers_passed m h) m ∷ h) moved counts may.bound own
+    (subst (λ n. Always (ArrivalRule n) (Pass (barriers_passed m h) m ∷ h)) (sym (length-set seats m new)) (record { number = refl; met = may_now seats front tasks m seat h st at may }, st.rule)) every some
+  where
+    set_same : (xs : List Seat) (i : ℕ) (x : Seat) → i < length xs → slice_get (slice_set xs i x) i ≡ Some x
+    set_same [] i x lt = absurd (omega arith)
+    set_same (a ∷ xs) zero x lt = refl
+    set_same (a ∷ xs) (suc i) x lt = set_same xs i x (omega arith)
+
+-- Tasks
+
+-- a task that is created now is bound to the front or to the barrier after it
+child_near : (seats : List Seat) (front : Front) (tasks : BoundTasks) (parent : Task) (h : List Event) (st : StandAt seats front tasks h) → IsParent (length seats) parent h → (st.least ≤ epoch_of_child parent h) × (epoch_of_child parent h ≤ st.least + 1)
+child_near seats front tasks (Explicit t) h st is = st.tasks.near t is
+child_near seats front tasks (Implicit m) h st lt =
+    let none : Seat = record { odd = true; arrived = None; left = true } in
+    let at : slice_get seats m ≡ Some (get_or seats m none) = slice_get-get_or seats m none lt in
+    by (is_ahead front (get_or seats m none)) (st.barrier.seat m (get_or seats m none) at).passed_is
+  where
+    by : (ahead : Bool) → barriers_passed m h ≡ (if ahead then st.least + 1 else st.least) → (st.least ≤ barriers_passed m h) × (barriers_passed m h ≤ st.least + 1)
+    by true e = (omega (arith, e), omega (arith, e))
+    by false e = (omega (arith, e), omega (arith, e))
+
+pub task_bound : (seats : List Seat) (front : Front) (tasks : BoundTasks) (task member : ℕ) (parent : Task) (desc : TaskDesc) (odd : Bool) (h : List Event) → StandAt seats front tasks h → MayBind (length seats) task parent odd h → StandAt seats front (one_more tasks odd) (Create task member parent desc ∷ h)
+task_bound seats front tasks task member parent desc odd h st may =
+    counts_keep seats front tasks (one_more tasks odd) (Create task member parent desc) h tt st (bind_keeps tasks st.least (length seats) task member parent desc odd h st.tasks may (child_near seats front tasks parent h st may.parent_is))
+
+pub task_released : (seats : List Seat) (front : Front) (tasks : BoundTasks) (task member : ℕ) (odd : Bool) (h : List Event) → StandAt seats front tasks h → MayRelease task odd h → StandAt seats front (one_less tasks odd) (Done task member ∷ h)
+task_released seats front tasks task member odd h st may =
+    counts_keep seats front tasks (one_less tasks odd) (Done task member) h tt st (release_keeps tasks st.least task member odd h st.tasks may)
 
 -- New barriers stand for no events
 
@@ -179,7 +323,7 @@ new_barriers_stand seats n some e =
     let size : length seats ≡ n = ap length e ∙ length-replicate n new in
     record {
       least = 0;
-      tasks = record { counted = no_counts; near = λ t is. absurd (let none = is.0 in none_created t none); unborn = λ t lt. refl };
+      tasks = record { counted = no_counts; near = λ t is. absurd (none_created t is.0); unborn = λ t lt. refl };
       barrier = record {
         parity = refl;
         number = refl;
@@ -201,7 +345,7 @@ new_barriers_stand seats n some e =
     no_counts false = refl
 
     none_created : (t : ℕ) → is_created t [] ≡ true → ⊥
-    none_created t made = ?
+    none_created t made = let low = created_low t [] made in let high = created_high t [] made in omega (arith, low, high)
 
     one : (m : ℕ) (seat : Seat) → slice_get (replicate n (record { odd = false; arrived = None; left = false })) m ≡ Some seat → record { odd = false; arrived = None; left = false } ≡ seat
     one m seat at =

@@ -2,3 +2,6 @@ pub mod BarrierExamples
 pub mod BarrierKeeps
 pub mod BarrierSteps
 pub mod Laws
+mod BoundKeeps
+mod RegionEnds
+pub mod TaskExamples

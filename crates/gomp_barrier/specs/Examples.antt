@@ -3,7 +3,9 @@ use Rattle.std.specs.Prelude.{ℕ, Bool, true, false, List, [], ◌∷◌, Optio
 use Rattle.gomp_types.specs.declared.event.Arrival.TheVariants.{Barrier, RegionEnd}
 use Rattle.gomp_types.specs.declared.event.Tag.{Tag}
 use Rattle.gomp_types.specs.declared.event.Event.{Event}
-use Rattle.gomp_types.specs.declared.event.Event.TheVariants.{Arrive, Pass}
+use Rattle.gomp_types.specs.declared.task.Task.{Task}
+use Rattle.gomp_types.specs.declared.task.Task.TheVariants.{Implicit, Explicit}
+use Rattle.gomp_types.specs.declared.event.Event.TheVariants.{Arrive, Pass, Create, Done}
 use Rattle.gomp_barrier.specs.declared.barriers.AtBarrier.{AtBarrier}
 use Rattle.gomp_barrier.specs.declared.front.Seat.{Seat}
 use Rattle.gomp_barrier.specs.declared.front.Front.{Front}
@@ -28,6 +30,26 @@ second_ahead = Arrive 1 1 at_end_tag ∷ Pass 0 1 ∷ both_arrived
 -- the first follows, and passes the region's end
 abbrev pub first_left : List Event
 first_left = Pass 1 0 ∷ Arrive 1 0 at_end_tag ∷ Pass 0 0 ∷ second_ahead
+
+-- a member creates a task
+abbrev pub creates : ℕ → ℕ → Task → Event
+creates task member parent = Create task member parent (record { code = 0; arg = 0 })
+
+-- the first member creates a task, and a child of it; then both arrive at the first barrier
+abbrev pub two_tasks : List Event
+two_tasks = Arrive 0 1 at_barrier_tag ∷ Arrive 0 0 at_barrier_tag ∷ creates 2 0 (Explicit 1) ∷ creates 1 0 (Implicit 0) ∷ []
+
+-- both tasks are ended, and the second member passes the barrier
+abbrev pub tasks_ended : List Event
+tasks_ended = Pass 0 1 ∷ Done 2 1 ∷ Done 1 0 ∷ two_tasks
+
+-- it creates a task, which is bound to the next barrier
+abbrev pub next_task : List Event
+next_task = creates 3 1 (Implicit 1) ∷ tasks_ended
+
+-- both arrive at the region's end, and the second member passes it and creates a task
+abbrev pub task_after_end : List Event
+task_after_end = creates 1 1 (Implicit 1) ∷ Pass 0 1 ∷ Arrive 0 1 at_end_tag ∷ Arrive 0 0 at_end_tag ∷ []
 
 abbrev pub seat_with : Bool → Option Tag → Bool → Seat
 seat_with odd arrived left = record { odd = odd; arrived = arrived; left = left }
@@ -55,6 +77,17 @@ new_seat = seat_with false None false
 -- the first barrier, at which nobody has arrived
 abbrev pub new_front : Front
 new_front = front_with false 0 None None
+
+-- and at which both members have arrived
+abbrev pub front_there : Front
+front_there = front_with false 0 (Some at_barrier_tag) None
+
+-- the region's end, if it is the first barrier
+abbrev pub front_at_end : Front
+front_at_end = front_with false 0 (Some at_end_tag) None
+
+abbrev pub seat_at_end : Seat
+seat_at_end = seat_with false (Some at_end_tag) false
 
 -- the seats and the front when the second member is ahead
 abbrev pub seat_behind : Seat

@@ -18,7 +18,7 @@ one_waits = record {
   limits = standard;
   broken = None;
   waiting = Some Barrier ∷ None ∷ [];
-  barriers = record { seats = []; front = record { odd = false; number = 0; tag = None; next = None } };
+  barriers = record { seats = []; front = record { odd = false; number = 0; tag = None; next = None }; tasks = record { even = 0; odd = 0 } };
   payloads = replicate OPEN_SHARES None;
   book = record { names = []; locks = [] };
   shares = 7;

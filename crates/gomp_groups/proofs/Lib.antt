@@ -1,1 +1,5 @@
+pub mod Chains
+pub mod Counting
+pub mod Fields
+pub mod GroupsKeep
 pub mod Laws

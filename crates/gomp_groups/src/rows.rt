@@ -91,12 +91,8 @@ pub(crate) fn add_task(groups: &mut [GroupRow], first: Option<u64>)
 {
     let mut next = first;
     while let Some(group) = next {
-        let place = group as usize;
-        let row = groups[place];
-        groups[place] = GroupRow {
-            outer: row.outer,
-            pending: row.pending + 1,
-        };
+        let row = &mut groups[group as usize];
+        row.pending += 1;
         next = row.outer;
     }
 }
@@ -112,12 +108,8 @@ pub(crate) fn remove_task(groups: &mut [GroupRow], first: Option<u64>)
 {
     let mut next = first;
     while let Some(group) = next {
-        let place = group as usize;
-        let row = groups[place];
-        groups[place] = GroupRow {
-            outer: row.outer,
-            pending: row.pending - 1,
-        };
+        let row = &mut groups[group as usize];
+        row.pending -= 1;
         next = row.outer;
     }
 }

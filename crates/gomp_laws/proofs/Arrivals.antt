@@ -11,7 +11,8 @@ use Rattle.gomp_types.specs.declared.event.Event.{Event}
 use Rattle.gomp_types.specs.declared.event.Event.TheVariants.{End}
 use Rattle.gomp_types.specs.Tests.{Test}
 use Rattle.gomp_types.specs.Compare.{tag_differs, tag_with}
-use Rattle.gomp_types.specs.Events.{shares_entered, open_share, open_number, barriers_passed, tag_at, arrival as arrival_of, barrier_met}
+use Rattle.gomp_types.specs.Events.{shares_entered, open_share, open_number, barriers_passed, tag_at, arrival as arrival_of}
+use Rattle.gomp_types.specs.Goals.{may_pass}
 use Rattle.gomp_types.specs.Laws.{Always}
 use Rattle.gomp_laws.specs.Rules.{TeamRule, MayArriveIn, MayLeave}
 use Rattle.gomp_types.specs.Seen.{seen_of}
@@ -46,7 +47,7 @@ pass_own : (m : ℕ) (h : List Event) (reply : Reply) → AreGiven only_arrives 
 pass_own m h Passed = ((refl, refl, refl), tt)
 pass_own m h _ = tt
 
-pass_keeps : (members m : ℕ) (h : List Event) (reply : Reply) → m < members → holds_critical (asker m h) h ≡ false → Awaits (barrier_met members (barriers_passed m h) h) reply → Always (TeamRule members) h →
+pass_keeps : (members m : ℕ) (h : List Event) (reply : Reply) → m < members → holds_critical (asker m h) h ≡ false → Awaits (may_pass members m h) reply → Always (TeamRule members) h →
     Always (TeamRule members) (passes m h reply ++ h)
 pass_keeps members m h Passed lt free may all = (record { passes = record { number = refl; met = may }; member = lt; free = free }, all)
 pass_keeps members m h _ lt free may all = all
@@ -70,9 +71,9 @@ compared_clean kind false m h = refl
 -- an arrival outside of every share
 pub outside_sound : (kind : Arrival) (memory : Bool) → IsSound (record (arrival_row kind) { by_place = λ limits seen. outside_tests seen; memory = memory })
 outside_sound kind memory = record {
-  decided = λ m p a b x y. one_await (barrier_met p.terms.members (barriers_passed m p.events) p.events) a b x y;
+  decided = λ m p a b x y. one_await (may_pass p.terms.members m p.events) a b x y;
   accepts = λ m p refusal x. x;
-  answered = λ repeated m p ready all. let q = begun_past repeated (arrival_row kind) m p in await_some (barrier_met q.terms.members (barriers_passed m q.events) q.events);
+  answered = λ repeated m p ready all. let q = begun_past repeated (arrival_row kind) m p in await_some (may_pass q.terms.members m q.events);
   counts = λ repeated m p first count ready all may. absurd may;
   begins_own = λ m p. ((refl, refl), tt);
   gives_own = λ m p reply. pass_own m p.events reply;
@@ -83,7 +84,7 @@ outside_sound kind memory = record {
       let free = outside_free ready refl (λ fail. fail.0) in
       pass_keeps p.terms.members m q.events reply ready.member (names_begun repeated m ((arrival_row kind).begins m p) p.events free free) may all;
   still = λ stays m p. absurd (cc);
-  tells = λ arrives m p reply may. await_tells (barrier_met p.terms.members (barriers_passed m p.events) p.events) reply may;
+  tells = λ arrives m p reply may. await_tells (may_pass p.terms.members m p.events) reply may;
   one_pass = λ arrives m p. refl;
   lasts = λ repeated m p ready all may. outside_lasts ready refl refl (λ fail. fail.0) may;
   waits_for = λ key m p holds may. absurd (cc);
@@ -107,9 +108,9 @@ pub record IsEnd (tests : Seen → List Test) : Type 0 where
 
 pub end_arrival_sound : (tests : Seen → List Test) (kind : Arrival) → IsEnd tests → IsSound (ending tests (arrival_row kind))
 end_arrival_sound tests kind is = record {
-  decided = λ m p a b x y. one_await (barrier_met p.terms.members (barriers_passed m p.events) p.events) a b x y;
+  decided = λ m p a b x y. one_await (may_pass p.terms.members m p.events) a b x y;
   accepts = λ m p refusal x. x;
-  answered = λ repeated m p ready all. let q = begun_past repeated (ending tests (arrival_row kind)) m p in await_some (barrier_met q.terms.members (barriers_passed m q.events) q.events);
+  answered = λ repeated m p ready all. let q = begun_past repeated (ending tests (arrival_row kind)) m p in await_some (may_pass q.terms.members m q.events);
   counts = λ repeated m p first count ready all may. absurd may;
   begins_own = λ m p. ((refl, refl), (refl, tt));
   gives_own = λ m p reply. pass_own m p.events reply;
@@ -124,7 +125,7 @@ end_arrival_sound tests kind is = record {
       let free = outside_free ready refl (λ fail. fail.0) in
       pass_keeps p.terms.members m q.events reply ready.member (names_begun repeated m (row.begins m p) p.events free free) may all;
   still = λ stays m p. absurd (cc);
-  tells = λ arrives m p reply may. await_tells (barrier_met p.terms.members (barriers_passed m p.events) p.events) reply may;
+  tells = λ arrives m p reply may. await_tells (may_pass p.terms.members m p.events) reply may;
   one_pass = λ arrives m p. refl;
   lasts = λ repeated m p ready all may. outside_lasts ready refl refl (λ fail. fail.0) may;
   waits_for = λ key m p holds may. absurd (cc);

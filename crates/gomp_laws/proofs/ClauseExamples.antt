@@ -15,6 +15,7 @@ use Rattle.gomp_shares.specs.Laws.{IsOver, TakesNext, TakesWithin, LeavesNothing
 use Rattle.gomp_types.specs.Arrivals.{BarriersOneByOne, SameArrivals, PassesAfterAll, ArrivalLaws}
 use Rattle.gomp_laws.specs.Laws.{ArrivesOnce, ArrivesOutside, ClosesShares, HappensUnbroken, HappensInside, TellsShares, LeavesHandedOn, HandedOnWhereOver, PutsOnce, GetsWhatWasPut, LeavesWithWords}
 use Rattle.gomp_types.specs.Events.{member_of}
+use Rattle.gomp_locks.specs.HoldLaws.{AtEachMoment, OneOwner, HeldOnce, FreesItsOwn, PassesFree}
 use Rattle.gomp_laws.specs.Headline.{Headline}
 use Rattle.gomp_types.specs.EventLists.{newest_first, no_iterations, four, wider, static_four, even_four, at}
 use Rattle.gomp_laws.specs.LawExamples.{Refuses, RefusedAfter}
@@ -364,6 +365,7 @@ pub headline_has : (members : ℕ) (h : List Event) → Headline members h →
     × Always (LeavesHandedOn members) h × HandedOnWhereOver members h × Always PutsOnce h × Always GetsWhatWasPut h × Always LeavesWithWords h
     × SameShares members h × SameArrivals h × Always (ArrivesOnce members) h × Always ArrivesOutside h × Always TellsShares h
     × Always HappensUnbroken h × Always HappensInside h × Always (PassesAfterAll members) h × Always (ClosesShares members) h
+    × AtEachMoment OneOwner h × AtEachMoment HeldOnce h × Always FreesItsOwn h × Always PassesFree h
 headline_has members h laws = (
   laws.taken_once,
   laws.owned,
@@ -383,6 +385,10 @@ headline_has members h laws = (
   laws.in_region,
   laws.passes,
   laws.closes,
+  laws.one_owner,
+  laws.held_once,
+  laws.frees,
+  laws.passes_free,
 )
 
 -- and so have the laws of the shares

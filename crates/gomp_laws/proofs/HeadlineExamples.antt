@@ -5,10 +5,13 @@ use Rattle.gomp_types.specs.declared.refusal.Place.TheVariants.{Stopped as AtSto
 use Rattle.gomp_types.specs.declared.event.Arrival.TheVariants.{Barrier, ShareEnd, RegionEnd}
 use Rattle.gomp_types.specs.declared.event.Tag.{Tag}
 use Rattle.gomp_types.specs.declared.event.Event.TheVariants.{Enter, Take, HandOn}
+use Rattle.gomp_types.specs.declared.key.Key.TheVariants.{Critical, Lock}
+use Rattle.gomp_types.specs.declared.task.Owner.{Owner}
 use Rattle.gomp_types.specs.Pieces.{Piece, pieces_of}
 use Rattle.gomp_types.specs.Laws.{Happened}
 use Rattle.gomp_types.specs.EventLists.{four, static_four, even_four, at}
-use Rattle.gomp_laws.specs.LawExamples.{NeverHappens, taken_twice, taken_ahead, taken_outside, taken_from_another, even_from_another, left_early, nested, left_unentered, ninth_open, two_shapes, part_unordered, part_ahead, part_back, handed_on_open, handed_on_ahead, left_unhanded, put_in_a_loop, given_to_the_executor, left_without_words, passed_alone, arrived_twice, two_tags, stranger, barrier_skipped, share_miscounted, passed_unfinished, arrived_inside, after_a_stop, after_the_end}
+use Rattle.gomp_laws.specs.LawExamples.{NeverHappens, taken_twice, taken_ahead, taken_outside, taken_from_another, even_from_another, left_early, nested, left_unentered, ninth_open, two_shapes, part_unordered, part_ahead, part_back, handed_on_open, handed_on_ahead, left_unhanded, put_in_a_loop, given_to_the_executor, left_without_words, passed_alone, arrived_twice, two_tags, stranger, barrier_skipped, share_miscounted, passed_unfinished, arrived_inside, held_by_two, name_held_twice, freed_by_another, passed_with_name, after_a_stop, after_the_end}
+use Rattle.gomp_locks.proofs.BookExamples.{zero_owner, other_owner}
 
 -- Shares
 
@@ -158,6 +161,25 @@ barrier_passed_unfinished_never_happens laws = elim (laws.closes.0 (at ShareEnd 
 -- a member arrives at the end of a loop that it has not left
 pub arrival_inside_a_loop_never_happens : NeverHappens 1 arrived_inside
 arrival_inside_a_loop_never_happens laws = elim (laws.arrive_outside.0 0 (four false) (inl refl)) [ inl e ↦ absurd (cc) | inr never ↦ never ]
+
+-- Critical names and locks
+
+-- two members hold a lock, until one of them frees it
+pub lock_of_two_owners_never_happens : NeverHappens 2 held_by_two
+lock_of_two_owners_never_happens laws =
+    absurd (let one = ap (λ (owner : Owner). owner.member) (laws.one_owner.1.0 (Lock 3) zero_owner other_owner (omega arith) (omega arith)) in omega (arith, one))
+
+-- a member holds a critical name twice, until it frees it
+pub name_held_twice_never_happens : NeverHappens 1 name_held_twice
+name_held_twice_never_happens laws = absurd (let once = laws.held_once.1.0 (Critical (97 ∷ [])) zero_owner refl in omega (arith, once))
+
+-- a member frees a critical name that another holds
+pub name_freed_by_another_never_happens : NeverHappens 2 freed_by_another
+name_freed_by_another_never_happens laws = absurd (let own = laws.frees.0 in omega (arith, own))
+
+-- a member passes a barrier while it holds a critical name
+pub barrier_passed_with_name_never_happens : NeverHappens 1 passed_with_name
+barrier_passed_with_name_never_happens laws = absurd (let none = laws.passes_free.0 (97 ∷ []) zero_owner refl in omega (arith, none))
 
 -- The team
 

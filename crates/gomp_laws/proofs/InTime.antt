@@ -10,7 +10,7 @@ use Rattle.gomp_types.specs.RefusalTexts.{number_of}
 use Rattle.gomp_types.specs.declared.reply.Reply.{Reply}
 use Rattle.gomp_types.specs.declared.reply.Reply.TheVariants.{Refused}
 use Rattle.gomp_types.specs.declared.event.Event.{Event}
-use Rattle.gomp_types.specs.declared.event.Event.TheVariants.{Arrive, Put, Pass, Hold, Free, Break}
+use Rattle.gomp_types.specs.declared.event.Event.TheVariants.{Arrive, Put, Pass, Hold, Free, Create, Done, Break}
 use Rattle.gomp_types.specs.Tests.{Test}
 use Rattle.gomp_types.specs.Events.{member_of, has_left_region, clash_of}
 use Rattle.gomp_types.specs.Laws.{Always, Happened}
@@ -36,6 +36,8 @@ goes_on : (can : Gives) (m : ℕ) → OwnKeeps can m (SoFar m)
 goes_on can m (Pass barrier n) h own so = absurd own
 goes_on can m (Hold key n task) h own so = absurd own
 goes_on can m (Free key n task) h own so = absurd own
+goes_on can m (Create task n parent desc) h own so = absurd own
+goes_on can m (Done task n) h own so = absurd own
 goes_on can m (Break n place) h own so = absurd own
 goes_on can m (Arrive barrier n tag) h own so = (so.0, so.1, ((so.0, rw own.0 so.1), so.2))
 goes_on can m (Put share n payload) h own so = (so.0, so.1, ((so.0, rw own.0 so.1), so.2))
@@ -45,6 +47,8 @@ last_in_time : (can : Gives) (m : ℕ) (reply : Reply) (event : Event) (h : List
 last_in_time can m reply (Pass barrier n) h own so = (so.0, rw own.0 so.1)
 last_in_time can m reply (Hold key n task) h own so = (so.0, rw own.0 so.1)
 last_in_time can m reply (Free key n task) h own so = (so.0, rw own.0 so.1)
+last_in_time can m reply (Create task n parent desc) h own so = absurd own
+last_in_time can m reply (Done task n) h own so = absurd own
 last_in_time can m reply (Break n place) h own so = (so.0, rw own.0 so.1)
 last_in_time can m reply (Arrive barrier n tag) h own so = (so.0, rw own.0 so.1)
 last_in_time can m reply (Put share n payload) h own so = (so.0, rw own.0 so.1)

@@ -12,6 +12,7 @@ pub mod Headline
 pub mod HeadlineExamples
 pub mod HeldRows
 pub mod HoldReplies
+pub mod HoldReplyExamples
 pub mod InTime
 pub mod Known
 pub mod Laws

@@ -7,7 +7,7 @@ use Rattle.gomp_types.specs.declared.refusal.Refusal.TheVariants.{Mismatch, NoMe
 use Rattle.gomp_types.specs.declared.reply.Reply.{Reply}
 use Rattle.gomp_types.specs.declared.reply.Reply.TheVariants.{Chunk, Passed, Wait, Count, Stopped, Refused}
 use Rattle.gomp_types.specs.declared.event.Event.{Event}
-use Rattle.gomp_types.specs.declared.event.Event.TheVariants.{Arrive, Put, Pass, Hold, Free, Break}
+use Rattle.gomp_types.specs.declared.event.Event.TheVariants.{Arrive, Put, Pass, Hold, Free, Create, Done, Break}
 use Rattle.gomp_types.specs.Tests.{Test}
 use Rattle.gomp_types.specs.Events.{member_of, barriers_passed, arrival}
 use Rattle.gomp_types.specs.Laws.{Always}
@@ -67,13 +67,15 @@ only_holds key = record { arrives = false; puts = false; holds = Some key }
 abbrev pub gives_of : Row → Gives
 gives_of row = record { arrives = is_some row.arrives; puts = row.puts; holds = row.holds }
 
--- an event of the member that neither passes a barrier, nor holds or frees anything, nor breaks the team; it arrives, or puts words, only if its call does
+-- an event of the member that neither passes a barrier, nor holds or frees anything, nor creates or ends a task, nor breaks the team; it arrives, or puts words, only if its call does
 abbrev pub IsOwn : Gives → ℕ → Event → Type 0
 IsOwn can m (Arrive barrier n tag) = (n ≡ m) × (can.arrives ≡ true)
 IsOwn can m (Put share n payload) = (n ≡ m) × (can.puts ≡ true)
 IsOwn can m (Pass barrier n) = ⊥
 IsOwn can m (Hold key n task) = ⊥
 IsOwn can m (Free key n task) = ⊥
+IsOwn can m (Create task n parent desc) = ⊥
+IsOwn can m (Done task n) = ⊥
 IsOwn can m (Break n place) = ⊥
 IsOwn can m event = member_of event ≡ m
 

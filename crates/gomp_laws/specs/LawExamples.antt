@@ -3,7 +3,9 @@ use Rattle.std.specs.Prelude.{ℕ, List, [], ◌∷◌, true, false}
 use Rattle.gomp_types.specs.declared.refusal.Place.TheVariants.{Stopped as AtStop}
 use Rattle.gomp_types.specs.declared.event.Arrival.TheVariants.{Barrier, ShareEnd, RegionEnd}
 use Rattle.gomp_types.specs.declared.event.Event.{Event}
-use Rattle.gomp_types.specs.declared.event.Event.TheVariants.{Enter, Take, Drained, End, HandOn, Part, PartEnd, Put, Got, Arrive, Pass, Break}
+use Rattle.gomp_types.specs.declared.event.Event.TheVariants.{Enter, Take, Drained, End, HandOn, Part, PartEnd, Put, Got, Arrive, Pass, Hold, Free, Break}
+use Rattle.gomp_types.specs.declared.key.Key.TheVariants.{Critical, Lock}
+use Rattle.gomp_types.specs.declared.task.Task.TheVariants.{Implicit}
 use Rattle.gomp_types.specs.Singles.{single_shape}
 use Rattle.gomp_laws.specs.Headline.{Headline}
 use Rattle.gomp_types.specs.EventLists.{newest_first, four, static_four, even_four, at}
@@ -137,6 +139,24 @@ passed_unfinished =
 -- a member arrives at the end of a loop that it has not left
 abbrev pub arrived_inside : List Event
 arrived_inside = Enter 0 0 (four false) ∷ Arrive 0 0 (at ShareEnd 1) ∷ []
+
+-- Critical names and locks
+
+-- two members hold a lock, until one of them frees it
+abbrev pub held_by_two : List Event
+held_by_two = Hold (Lock 3) 0 (Implicit 0) ∷ Hold (Lock 3) 1 (Implicit 1) ∷ Free (Lock 3) 1 (Implicit 1) ∷ []
+
+-- a member holds a critical name twice, until it frees it
+abbrev pub name_held_twice : List Event
+name_held_twice = Hold (Critical (97 ∷ [])) 0 (Implicit 0) ∷ Hold (Critical (97 ∷ [])) 0 (Implicit 0) ∷ Free (Critical (97 ∷ [])) 0 (Implicit 0) ∷ []
+
+-- a member frees a critical name that another holds
+abbrev pub freed_by_another : List Event
+freed_by_another = Hold (Critical (97 ∷ [])) 0 (Implicit 0) ∷ Free (Critical (97 ∷ [])) 1 (Implicit 1) ∷ []
+
+-- a member passes a barrier while it holds a critical name
+abbrev pub passed_with_name : List Event
+passed_with_name = Arrive 0 0 (at Barrier 0) ∷ Hold (Critical (97 ∷ [])) 0 (Implicit 0) ∷ Pass 0 0 ∷ []
 
 -- The team
 

@@ -19,7 +19,7 @@ use Rattle.gomp_types.specs.declared.shape.ShareKind.TheVariants.{Dynamic}
 use Rattle.gomp_types.specs.declared.event.Arrival.{Arrival}
 use Rattle.gomp_types.specs.declared.event.Arrival.TheVariants.{Barrier as BarrierArrival, ShareEnd, RegionEnd as RegionEndArrival}
 use Rattle.gomp_types.specs.declared.event.Event.{Event}
-use Rattle.gomp_types.specs.declared.event.Event.TheVariants.{Enter, Take, Drained, End, HandOn, Part, PartEnd, Put, Got, Arrive, Pass, Hold, Free, Break}
+use Rattle.gomp_types.specs.declared.event.Event.TheVariants.{Enter, Take, Drained, End, HandOn, Part, PartEnd, Put, Got, Arrive, Pass, Hold, Free, Create, Start, Done, Break}
 use Rattle.gomp_types.specs.Events.{shares_entered, barriers_passed}
 use Rattle.gomp_types.specs.Least.{least}
 use Rattle.gomp_types.specs.Sections.{sections_shape}
@@ -30,7 +30,7 @@ use Rattle.gomp_model.specs.Row.{Row, plain_row, at_once, unless_repeated, begun
 use Rattle.gomp_model.specs.Calls.{row_of}
 use Rattle.gomp_model.specs.Loops.{loop_next_row}
 use Rattle.gomp_model.specs.Past.{Past}
-use Rattle.gomp_model.specs.Arrivals.{barrier_row}
+use Rattle.gomp_model.specs.Arrivals.{barrier_row, region_end_row}
 use Rattle.gomp_model.specs.OrderedParts.{ordered_start_row}
 use Rattle.gomp_model.specs.Examples.{MayReplyAfter, lock_answers, share_answers, past_with, past_after_run, ten_by_three, up_to, stopped_waiting}
 use Rattle.gomp_model.specs.HoldExamples.{name_a, name_b, longest_name, long_name}
@@ -395,6 +395,46 @@ first_waits_ahead = refl
 
 pub pass_of_the_first : barrier_row.gives 0 second_arrived Passed ≡ Pass 1 0 ∷ []
 pass_of_the_first = refl
+
+-- Barriers and tasks
+
+-- these members arrive at the first barrier, one after the other, after these events and before those
+abbrev both_at : Arrival → List Event → List Event → Past
+both_at kind before after = past_with 2 (before ++ (Arrive 0 0 (at kind 0) ∷ Arrive 0 1 (at kind 0) ∷ after))
+
+-- a member creates a task in its implicit task
+abbrev creates : ℕ → ℕ → Event
+creates task m = Create task m (Implicit m) (record { code = 5; arg = 9 })
+
+-- a task that is bound to the barrier is open: nobody passes, at a barrier, at the end of a loop and at the region's end
+abbrev task_open : Arrival → Past
+task_open kind = both_at kind (creates 1 0 ∷ []) []
+
+pub waits_for_a_task :
+    barrier_row.may_reply 0 (task_open BarrierArrival) Wait × barrier_row.may_reply 1 (task_open BarrierArrival) Wait
+    × (row_of LoopEnd).may_reply 1 (task_open ShareEnd) Wait × region_end_row.may_reply 1 (task_open RegionEndArrival) Wait
+waits_for_a_task = (refl, refl, refl, refl)
+
+pub passes_no_open_task : (barrier_row.may_reply 1 (task_open BarrierArrival) Passed → ⊥) × (region_end_row.may_reply 1 (task_open RegionEndArrival) Passed → ⊥)
+passes_no_open_task = ((λ may. absurd (cc)), (λ may. absurd (cc)))
+
+-- once it is complete both pass
+abbrev task_ended : Arrival → Past
+task_ended kind = both_at kind (creates 1 0 ∷ []) (Start 1 1 ∷ Done 1 1 ∷ [])
+
+pub passes_after_the_task :
+    barrier_row.may_reply 0 (task_ended BarrierArrival) Passed × (row_of LoopEnd).may_reply 1 (task_ended ShareEnd) Passed × region_end_row.may_reply 1 (task_ended RegionEndArrival) Passed
+passes_after_the_task = (refl, refl, refl)
+
+-- while another is open that is bound to the next barrier, the second passes this one, but not the region's end
+abbrev task_of_the_next : Arrival → Past
+task_of_the_next kind = both_at kind [] (Pass 0 0 ∷ creates 1 0 ∷ [])
+
+pub passes_before_later_tasks : barrier_row.may_reply 1 (task_of_the_next BarrierArrival) Passed × (row_of LoopEnd).may_reply 1 (task_of_the_next ShareEnd) Passed
+passes_before_later_tasks = (refl, refl)
+
+pub ends_after_every_task : region_end_row.may_reply 1 (task_of_the_next RegionEndArrival) Wait × (region_end_row.may_reply 1 (task_of_the_next RegionEndArrival) Passed → ⊥)
+ends_after_every_task = (refl, (λ may. absurd (cc)))
 
 -- Tests
 

@@ -10,7 +10,8 @@ use Rattle.gomp_types.specs.declared.event.Event.{Event}
 use Rattle.gomp_types.specs.declared.event.Event.TheVariants.{Arrive, Pass}
 use Rattle.gomp_types.specs.Tests.{Test}
 use Rattle.gomp_types.specs.Compare.{tag_differs, tag_with}
-use Rattle.gomp_types.specs.Events.{shares_entered, barriers_passed, tag_at, barrier_met}
+use Rattle.gomp_types.specs.Events.{shares_entered, barriers_passed, tag_at}
+use Rattle.gomp_types.specs.Goals.{may_pass}
 use Rattle.gomp_shares.specs.Starts.{leaves}
 use Rattle.gomp_model.specs.Row.{Row, outside_names}
 
@@ -30,13 +31,13 @@ abbrev pub passes : ℕ → List Event → Reply → List Event
 passes m h Passed = Pass (barriers_passed m h) m ∷ []
 passes m h _ = []
 
--- a call that arrives at a barrier, and passes it once all have arrived
+-- a call that arrives at a barrier, and passes it once all have arrived and the tasks bound to it are complete
 abbrev pub arrival_row : Arrival → Row
 arrival_row kind = record outside_names {
   compared = λ repeated m p. compared_arrival kind repeated m p.events;
   arrives = Some kind;
   begins = λ m p. Arrive (barriers_passed m p.events) m (tag_with kind (shares_entered m p.events)) ∷ [];
-  may_reply = λ m p reply. Awaits (barrier_met p.terms.members (barriers_passed m p.events) p.events) reply;
+  may_reply = λ m p reply. Awaits (may_pass p.terms.members m p.events) reply;
   gives = λ m p reply. passes m p.events reply;
 }
 

@@ -10,11 +10,12 @@ use Rattle.gomp_types.specs.declared.seen.Seen.{Seen}
 use Rattle.gomp_types.specs.declared.event.Arrival.{Arrival}
 use Rattle.gomp_types.specs.declared.event.Tag.{Tag}
 use Rattle.gomp_types.specs.declared.event.Event.{Event}
-use Rattle.gomp_types.specs.declared.event.Event.TheVariants.{Put, Arrive, Pass}
+use Rattle.gomp_types.specs.declared.event.Event.TheVariants.{Put, Arrive, Pass, Create, Done}
 use Rattle.gomp_types.specs.declared.refusal.Refusal.TheVariants.{Mismatch}
 use Rattle.gomp_types.specs.Tests.{Test}
 use Rattle.gomp_types.specs.Compare.{tag_with, tag_differs}
-use Rattle.gomp_types.specs.Events.{shares_entered, barriers_passed, tag_at, barrier_met}
+use Rattle.gomp_types.specs.Events.{shares_entered, barriers_passed, tag_at}
+use Rattle.gomp_types.specs.Goals.{may_pass}
 use Rattle.gomp_types.specs.Least.{least, Answers}
 use Rattle.gomp_types.specs.Seen.{seen_of}
 use Rattle.gomp_laws.proofs.WordsToCome.{PutsNone}
@@ -137,6 +138,8 @@ events_given call repeated m p _ may = refl
 last_aloof : (can : Gives) (m : ℕ) (reply : Reply) (event : Event) → can.arrives ≡ false → IsLast can m reply event → BarriersAside event
 last_aloof can m reply (Arrive barrier n tag) none by = absurd (let arrives = by.1 in cc)
 last_aloof can m reply (Pass barrier n) none by = absurd (let arrives = by.1 in cc)
+last_aloof can m reply (Create task n parent desc) none by = absurd by
+last_aloof can m reply (Done task n) none by = absurd by
 last_aloof can m reply _ none by = tt
 
 last_silent : (can : Gives) (m : ℕ) (reply : Reply) (event : Event) → can.puts ≡ false → IsLast can m reply event → PutsNone event
@@ -171,8 +174,8 @@ pub arrival_stood : (P : List Event → Type 0) (m : ℕ) (kind : Arrival) (tag 
 arrival_stood P m kind tag answer h is accepted holds = rw (accepted, is) at holds
 
 -- as many members
-pub awaits_so : (n k m : ℕ) (h : List Event) (reply : Reply) → n ≡ k → Awaits (barrier_met n (barriers_passed m h) h) reply → Awaits (barrier_met k (barriers_passed m h) h) reply
-awaits_so n k m h reply same awaits = subst (λ (i : ℕ). Awaits (barrier_met i (barriers_passed m h) h) reply) same awaits
+pub awaits_so : (n k m : ℕ) (h : List Event) (reply : Reply) → n ≡ k → Awaits (may_pass n m h) reply → Awaits (may_pass k m h) reply
+awaits_so n k m h reply same awaits = subst (λ (i : ℕ). Awaits (may_pass i m h) reply) same awaits
 
 -- the shares do not see one
 pub arrival_aside : (P : List Event → Type 0) → KeepsAside SharesAside P → (kind : Arrival) (repeated : Bool) (m : ℕ) (p : Past) (reply : Reply) → P p.events → P (given_after (arrival_row kind) repeated m p reply)

@@ -7,7 +7,8 @@
 ghost use Rattle.std.specs.Prelude.{◌≡◌, ◌≢◌, ◌<◌, ◌++◌, List, false, true, None};
 ghost use Rattle.gomp_types.specs.declared.event.Event.{Event};
 ghost use Rattle.gomp_types.specs.declared.event.Arrival.TheVariants.{ShareEnd};
-ghost use Rattle.gomp_types.specs.Events.{barriers_passed, barrier_met};
+ghost use Rattle.gomp_types.specs.Events.{barriers_passed};
+ghost use Rattle.gomp_types.specs.Goals.{may_pass};
 ghost use Rattle.gomp_types.specs.declared.reply.Reply.TheVariants.{Wait, Stopped};
 ghost use Rattle.gomp_types.specs.Least.{least};
 ghost use Rattle.gomp_shares.specs.Calls.{CanLeave, EachStands};
@@ -105,8 +106,7 @@ fn pass_or_wait(barriers: &mut Barriers, member: u16) -> Reply
     ensures waits { result ≡ Wait → barriers.new ≡ barriers.old }
     ensures stops { result ≢ Stopped }
     ensures answer { EachStands (BarriersStand barriers.old)
-        (λ h. Awaits
-        (barrier_met (barrier_members barriers.old) (barriers_passed member h) h) result) }
+        (λ h. Awaits (may_pass (barrier_members barriers.old) member h) result) }
     ensures stands { EachStands (BarriersStand barriers.old)
         (λ h. BarriersStand barriers.new (passes member h result ++ h)) }
 {

@@ -1,11 +1,21 @@
 -- What holds of every list of events that the tasks of a team stand for: the laws that the crates above cite.
-use Rattle.std.proofs.Common.{List, ◌∷◌}
+use Rattle.std.proofs.Common.{◌≡◌, ℕ, true, List, ◌∷◌, Some, slice_get, refl, arith, suc}
+use Rattle.std.specs.Prelude.{◌==◌, nat_lt, nat_le}
+use Rattle.std.proofs.lemmas.Bool.Decides.{nat_tests}
 use Rattle.gomp_types.specs.declared.event.Event.{Event}
+use Rattle.gomp_types.specs.declared.event.Event.TheVariants.{Start, Done}
+use Rattle.gomp_types.specs.Tasks.{tasks_created, is_created, has_started, is_complete}
 use Rattle.gomp_types.specs.Laws.{Always}
 use Rattle.gomp_types.specs.TaskRules.{TaskRule}
+use Rattle.gomp_types.proofs.Booleans.{or_right}
+use Rattle.gomp_types.proofs.OpenTasks.{created_low, created_high}
+use Rattle.gomp_tasks.specs.declared.rows.TaskState.{TaskState}
+use Rattle.gomp_tasks.specs.declared.rows.TaskState.TheVariants as states
+use Rattle.gomp_tasks.specs.declared.rows.TaskRow.{TaskRow}
+use Rattle.gomp_tasks.specs.Rows.{IsState, Follows}
 use Rattle.gomp_tasks.specs.Calls.{IsAside}
-use Rattle.gomp_tasks.specs.Stands.{TasksView, Stands, members_of}
-use Rattle.gomp_tasks.proofs.RowsKeep.{aside_keeps}
+use Rattle.gomp_tasks.specs.Stands.{TasksView, Stands, IsNumber, members_of}
+use Rattle.gomp_tasks.proofs.TasksKeep.{aside_keeps_tasks}
 
 -- whatever calls were made, the events keep the rule of tasks
 pub tasks_keep_task_rule : (tasks : TasksView) (h : List Event) → Stands tasks h → Always (TaskRule (members_of tasks)) h
@@ -13,4 +23,41 @@ tasks_keep_task_rule tasks h st = st.rule
 
 -- an event that creates, starts or ends no task changes nothing of the tasks, if the rule lets it happen
 pub events_aside_keep_tasks : (tasks : TasksView) (h : List Event) (event : Event) → IsAside event → TaskRule (members_of tasks) event h → Stands tasks h → Stands tasks (event ∷ h)
-events_aside_keep_tasks tasks h event is rule st = aside_keeps tasks.rows tasks.stacks event h is rule st
+events_aside_keep_tasks tasks h event is rule st = aside_keeps_tasks tasks.rows tasks.stacks event h is rule st
+
+-- the numbers of the tasks are those of the tasks that were created
+pub numbers_are_of_created_tasks : (tasks : TasksView) (h : List Event) (t : ℕ) → Stands tasks h → IsNumber t tasks → is_created t h ≡ true
+numbers_are_of_created_tasks tasks h t st is =
+    let low = is.0 in let high = is.1 in let count = st.count in
+    let some : nat_lt 0 t ≡ true = grind (arith, nat_tests, low) in
+    let few : nat_le t (tasks_created h) ≡ true = grind (arith, nat_tests, high, count) in
+    rw (some, few) refl
+
+pub created_tasks_have_numbers : (tasks : TasksView) (h : List Event) (t : ℕ) → Stands tasks h → is_created t h ≡ true → IsNumber t tasks
+created_tasks_have_numbers tasks h t st made =
+    let high = created_high t h made in let count = st.count in
+    (created_low t h made, omega (arith, high, count))
+
+-- what was started stays so, and what is complete
+started_later : (t : ℕ) (event : Event) (h : List Event) → has_started t h ≡ true → has_started t (event ∷ h) ≡ true
+started_later t (Start task m) h on = or_right (task == t) (has_started t h) on
+started_later t _ h on = on
+
+complete_later : (t : ℕ) (event : Event) (h : List Event) → is_complete t h ≡ true → is_complete t (event ∷ h) ≡ true
+complete_later t (Done task m) h over = or_right (task == t) (is_complete t h) over
+complete_later t _ h over = over
+
+state_follows : (t : ℕ) (old new : TaskState) (event : Event) (h : List Event) → IsState t old h → IsState t new (event ∷ h) → Follows old new
+state_follows t states.Ready new event h before after = tt
+state_follows t states.Running states.Ready event h before after = absurd (let on = started_later t event h before.started in let off = after.started in cc)
+state_follows t states.Running states.Running event h before after = tt
+state_follows t states.Running states.Done event h before after = tt
+state_follows t states.Done states.Ready event h before after = absurd (let on = complete_later t event h before.complete in let off = after.complete in cc)
+state_follows t states.Done states.Running event h before after = absurd (let on = complete_later t event h before.complete in let off = after.complete in cc)
+state_follows t states.Done states.Done event h before after = tt
+
+-- whatever happens, the state of a task moves forward only
+pub states_move_forward : (old new : TasksView) (h : List Event) (event : Event) (k : ℕ) (row later : TaskRow) → Stands old h → Stands new (event ∷ h) →
+    slice_get old.rows k ≡ Some row → slice_get new.rows k ≡ Some later → Follows row.state later.state
+states_move_forward old new h event k row later before after at at_later =
+    state_follows (suc k) row.state later.state event h (before.row k row at).state (after.row k later at_later).state

@@ -1,2 +1,5 @@
 pub mod Laws
 pub mod RowsKeep
+pub mod StartedTasks
+pub mod TaskExamples
+pub mod TasksKeep

@@ -1,11 +1,12 @@
 -- What the calls on a team's tasks ask for and answer. OpenMP API 5.2, chapter 12.
-use Rattle.std.specs.Prelude.{ℕ, ◌≡◌, Bool, true, List, Option, Some, None}
+use Rattle.std.specs.Prelude.{ℕ, ◌≡◌, Bool, List, Option, Some, None}
 use Rattle.std.proofs.Common.{suc}
 use Rattle.gomp_types.specs.declared.task.Task.{Task}
 use Rattle.gomp_types.specs.declared.task.Task.TheVariants.{Implicit, Explicit}
 use Rattle.gomp_types.specs.declared.event.Event.{Event}
 use Rattle.gomp_types.specs.declared.event.Event.TheVariants.{Create, Start, Done}
 use Rattle.gomp_types.specs.Tasks.{executed_task, epoch_of_child, is_odd, is_ancestor}
+use Rattle.gomp_types.specs.Goals.{each_of}
 use Rattle.gomp_types.specs.TaskRules.{MayCreate}
 use Rattle.gomp_tasks.specs.Stands.{TasksView, members_of, count_of}
 
@@ -19,10 +20,9 @@ abbrev pub task_or_implicit : ℕ → Option ℕ → Task
 task_or_implicit m None = Implicit m
 task_or_implicit m (Some t) = Explicit t
 
--- whether the second task descends from the first, if the first is an explicit one
-abbrev pub is_under_explicit : Task → ℕ → List Event → Bool
-is_under_explicit (Implicit m) t h = true
-is_under_explicit (Explicit s) t h = is_ancestor (Explicit s) t h
+-- whether the task descends from all of these
+abbrev pub is_under_all : List ℕ → ℕ → List Event → Bool
+is_under_all ss t h = each_of (λ s. is_ancestor (Explicit s) t h) ss
 
 -- an event that creates, starts or ends no task
 abbrev pub IsAside : Event → Type 0

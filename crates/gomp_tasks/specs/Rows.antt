@@ -1,7 +1,7 @@
 -- What is kept of an explicit task, and when that stands for what a list of events says of it. OpenMP API 5.2, chapter 12.
 use Rattle.std.specs.Prelude.{ℕ, ◌<◌, ◌≡◌, ◌||◌, Bool, true, false, List, [], ◌∷◌, Option, Some, None}
 use Rattle.gomp_types.specs.declared.task.Task.{Task}
-use Rattle.gomp_types.specs.declared.task.Task.TheVariants.{Implicit, Explicit}
+use Rattle.gomp_types.specs.declared.task.Task.TheVariants.{Explicit}
 use Rattle.gomp_types.specs.declared.task.TaskDesc.{TaskDesc}
 use Rattle.gomp_types.specs.declared.event.Event.{Event}
 use Rattle.gomp_types.specs.Tasks.{same_task, of_explicit, has_started, task_runner, is_complete, task_desc, is_child, is_ancestor, task_depth, epoch, is_odd}
@@ -34,11 +34,11 @@ desc_of row = record { code = row.code; arg = row.arg }
 
 -- the task once this member has started it
 abbrev pub started_by : ℕ → TaskRow → TaskRow
-started_by m row = record { code = row.code; arg = row.arg; parent = row.parent; depth = row.depth; odd = row.odd; runner = Some m; state = Running }
+started_by m row = record row { runner = Some m; state = Running }
 
--- the task once it is done
+-- the task once it is complete
 abbrev pub completed : TaskRow → TaskRow
-completed row = record { code = row.code; arg = row.arg; parent = row.parent; depth = row.depth; odd = row.odd; runner = row.runner; state = Done }
+completed row = record row { state = Done }
 
 -- the first of some tasks, if there is one
 abbrev pub first_of : List ℕ → Option ℕ

@@ -48,6 +48,11 @@ pub record RowsStand (rows : List TaskRow) (stacks : List (List ℕ)) (h : List 
 abbrev pub Stands : TasksView → List Event → Type 0
 Stands tasks h = RowsStand tasks.rows tasks.stacks h
 
+-- the same tasks, whatever room there is for more
+pub record AreSame (one other : TasksView) : Type 0 where
+  pub rows : one.rows ≡ other.rows
+  pub stacks : one.stacks ≡ other.stacks
+
 -- they stand for some events, and no number is too large
 abbrev pub AreTasks : TasksView → Type 0
 AreTasks tasks = ((h : List Event) × Stands tasks h) × (count_of tasks ≤ MAX_TASKS)

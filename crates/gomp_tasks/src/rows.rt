@@ -1,7 +1,7 @@
 //! What is kept of an explicit task.
 
 ghost use Rattle.std.specs.Prelude.{◌≡◌};
-ghost use Rattle.gomp_tasks.specs.Rows.{desc_of, started_by, completed};
+ghost use Rattle.gomp_tasks.specs.Rows.{desc_of};
 
 use gomp_types::{Task, TaskDesc};
 
@@ -43,36 +43,6 @@ impl TaskRow {
         TaskDesc {
             code: self.code,
             arg: self.arg,
-        }
-    }
-
-    /// The task once this member, numbered from 0, has started it.
-    pub fn started_by(self, member: u16) -> TaskRow
-        ensures { result ≡ started_by member self }
-    {
-        TaskRow {
-            code: self.code,
-            arg: self.arg,
-            parent: self.parent,
-            depth: self.depth,
-            odd: self.odd,
-            runner: Some(member),
-            state: TaskState::Running,
-        }
-    }
-
-    /// The task once it is complete.
-    pub fn completed(self) -> TaskRow
-        ensures { result ≡ completed self }
-    {
-        TaskRow {
-            code: self.code,
-            arg: self.arg,
-            parent: self.parent,
-            depth: self.depth,
-            odd: self.odd,
-            runner: self.runner,
-            state: TaskState::Done,
         }
     }
 }

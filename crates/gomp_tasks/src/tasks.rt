@@ -1,16 +1,15 @@
 //! The explicit tasks of a team that one thread steps.
 
-ghost use Rattle.std.specs.Prelude.{◌≡◌, ◌<◌, ◌≤◌, ◌+◌, ◌||◌, ℕ, List, [], ◌∷◌, Option, Some, None, IfOk, OnOk, OnErr, length, replicate};
-ghost use Rattle.std.proofs.Common.{suc};
+ghost use Rattle.std.specs.Prelude.{◌≡◌, ◌<◌, ◌≤◌, ◌+◌, ◌-◌, ℕ, List, [], ◌∷◌, Some, None, IfOk, OnOk, OnErr, IfSome, replicate, slice_get};
 ghost use Rattle.gomp_types.specs.declared.event.Event.{Event};
 ghost use Rattle.gomp_types.specs.declared.event.Event.TheVariants.{Create, Start, Done};
 ghost use Rattle.gomp_types.specs.Events.{at_barrier as waits_at_barrier};
-ghost use Rattle.gomp_types.specs.Tasks.{executed_task, depth_of, epoch, is_odd, task_desc, is_ancestor};
-ghost use Rattle.gomp_types.specs.Goals.{may_start};
+ghost use Rattle.gomp_types.specs.Tasks.{same_task, tasks_created, task_stack, executed_task, depth_of, epoch, is_odd, task_desc, is_ancestor};
+ghost use Rattle.gomp_types.specs.Goals.{is_ready, may_descend, may_start};
 ghost use Rattle.gomp_types.specs.TaskRules.{MayStart};
-ghost use Rattle.gomp_tasks.specs.Rows.{IsState, IsParent};
-ghost use Rattle.gomp_tasks.specs.Stands.{RowsStand, Stands, members_of, count_of, IsNumber, IsTask};
-ghost use Rattle.gomp_tasks.specs.Calls.{MayCreateNext, task_or_implicit, is_under_explicit};
+ghost use Rattle.gomp_tasks.specs.Rows.{IsState, IsParent, RowStands};
+ghost use Rattle.gomp_tasks.specs.Stands.{Stands, AreSame, members_of, count_of, IsNumber, IsTask};
+ghost use Rattle.gomp_tasks.specs.Calls.{MayCreateNext, task_or_implicit, is_under_all};
 
 use crate::rows::{TaskRow, TaskState};
 use crate::stack::Stack;
@@ -54,7 +53,8 @@ impl Tasks {
     /// How many tasks were created.
     pub fn count(&self) -> u32
         ensures known { (h : List Event) × Stands self.now h }
-        ensures value { result ≡ count_of self.now }
+        ensures rows { result ≡ count_of self.now }
+        ensures value { (h : List Event) → Stands self.now h → result ≡ tasks_created h }
     {
         self.rows.len() as u32
     }
@@ -67,7 +67,7 @@ impl Tasks {
         ensures value { (h : List Event) → Stands self.now h → result ≡ executed_task member h }
         ensures task { IsTask result self.now }
     {
-        match self.stacks[member as usize].innermost() {
+        match self.innermost(member) {
             Some(task) => Task::Explicit(task),
             None => Task::Implicit(member),
         }
@@ -79,9 +79,10 @@ impl Tasks {
         ensures known { (h : List Event) × Stands self.now h }
         ensures value { (h : List Event) → Stands self.now h → result ≡ depth_of task h }
     {
+        let _ = &self.rows; // opens self
         match task {
             Task::Implicit(_) => 0,
-            Task::Explicit(number) => self.rows[number as usize - 1].depth,
+            Task::Explicit(number) => self.row(number).depth,
         }
     }
 
@@ -91,7 +92,7 @@ impl Tasks {
         ensures known { (h : List Event) × Stands self.now h }
         ensures value { (h : List Event) → Stands self.now h → result ≡ is_odd (epoch task h) }
     {
-        self.rows[task as usize - 1].odd
+        self.row(task).odd
     }
 
     /// What was asked for when the task was created.
@@ -100,7 +101,7 @@ impl Tasks {
         ensures known { (h : List Event) × Stands self.now h }
         ensures value { (h : List Event) → Stands self.now h → task_desc task h ≡ Some result }
     {
-        self.rows[task as usize - 1].desc()
+        self.row(task).desc()
     }
 
     /// The task in which the task was created.
@@ -110,7 +111,7 @@ impl Tasks {
         ensures value { (h : List Event) → Stands self.now h → IsParent task result h }
         ensures task { IsTask result self.now }
     {
-        self.rows[task as usize - 1].parent
+        self.row(task).parent
     }
 
     /// What has become of the task.
@@ -119,7 +120,16 @@ impl Tasks {
         ensures known { (h : List Event) × Stands self.now h }
         ensures value { (h : List Event) → Stands self.now h → IsState task result h }
     {
-        self.rows[task as usize - 1].state
+        self.row(task).state
+    }
+
+    /// Whether nobody has started the task.
+    pub fn is_ready(&self, task: u32) -> bool
+        requires task { IsNumber task self.now }
+        ensures known { (h : List Event) × Stands self.now h }
+        ensures value { (h : List Event) → Stands self.now h → result ≡ is_ready task h }
+    {
+        matches!(self.state(task), TaskState::Ready)
     }
 
     /// Whether the task descends from the one above: that is its parent, or the parent of its
@@ -129,7 +139,14 @@ impl Tasks {
         ensures known { (h : List Event) × Stands self.now h }
         ensures value { (h : List Event) → Stands self.now h → result ≡ is_ancestor above task h }
     {
-        lies_under(&self.rows, above, task)
+        let parent = self.parent(task);
+        if is_same(parent, above) {
+            return true;
+        }
+        match parent {
+            Task::Implicit(_) => false,
+            Task::Explicit(number) => self.is_under(above, number),
+        }
     }
 
     /// Whether the member, numbered from 0, may start the task at a wait, which is at a barrier or
@@ -139,12 +156,10 @@ impl Tasks {
         requires member { member < members_of self.now }
         requires task { IsNumber task self.now }
         ensures known { (h : List Event) × Stands self.now h }
-        ensures value { (h : List Event) → Stands self.now h → at_barrier ≡ waits_at_barrier member h →
-            result ≡ may_start member task h }
+        ensures value { (h : List Event) → Stands self.now h →
+            at_barrier ≡ waits_at_barrier member h → result ≡ may_start member task h }
     {
-        matches!(self.state(task), TaskState::Ready)
-            && self.is_under_innermost(member, task)
-            && (at_barrier || self.is_under(Task::Implicit(member), task))
+        self.is_ready(task) && self.may_descend(member, at_barrier, task)
     }
 
     /// Makes room for one more task. It fails, and nothing changes, if there is none and its memory
@@ -152,9 +167,9 @@ impl Tasks {
     pub fn reserve(&mut self) -> Result<(), AllocError>
         ensures room { OnOk result (0 < self.new.room) }
         ensures grown { self.old.room ≤ self.new.room }
-        ensures rows { self.new.rows ≡ self.old.rows }
-        ensures stacks { self.new.stacks ≡ self.old.stacks }
-        ensures known { (h : List Event) × Stands self.new h }
+        ensures tasks { AreSame self.new self.old }
+        ensures known { (h : List Event) × Stands self.old h }
+        ensures stands { (h : List Event) → Stands self.old h → Stands self.new h }
         ensures kept { OnErr result (self.new ≡ self.old) }
         ensures full { OnErr result (self.old.room ≡ 0) }
     {
@@ -166,16 +181,19 @@ impl Tasks {
     pub fn create(&mut self, member: u16, odd: bool, desc: TaskDesc) -> u32
         requires room { 0 < self.old.room }
         requires few { count_of self.old < MAX_TASKS }
-        requires may { (h : List Event) × Stands self.old h × MayCreateNext self.old member odd h }
+        requires may { (h : List Event) × Stands self.old h ×
+            MayCreateNext self.old member odd h }
         ensures number { result ≡ count_of self.new }
         ensures count { count_of self.new ≡ count_of self.old + 1 }
         ensures room { self.new.room + 1 ≡ self.old.room }
         ensures members { members_of self.new ≡ members_of self.old }
-        ensures stands { (h : List Event) → Stands self.old h → MayCreateNext self.old member odd h →
+        ensures stands { (h : List Event) → Stands self.old h →
+            MayCreateNext self.old member odd h →
             Stands self.new (Create result member (executed_task member h) desc ∷ h) }
     {
         let parent = self.current(member);
         let depth = self.depth(parent) + 1;
+        let task = self.count() + 1;
         let TaskDesc { code, arg } = desc;
         self.rows.push_reserved(TaskRow {
             code,
@@ -186,20 +204,22 @@ impl Tasks {
             runner: None,
             state: TaskState::Ready,
         });
-        self.rows.len() as u32
+        task
     }
 
     /// The member, numbered from 0, starts the task, which it may start.
     pub fn start(&mut self, member: u16, task: u32)
-        requires may { (h : List Event) × Stands self.old h × MayStart (members_of self.old) task member h }
+        requires may { (h : List Event) × Stands self.old h ×
+            MayStart (members_of self.old) task member h }
         ensures room { self.new.room ≡ self.old.room }
         ensures count { count_of self.new ≡ count_of self.old }
         ensures members { members_of self.new ≡ members_of self.old }
         ensures stands { (h : List Event) → Stands self.old h →
             MayStart (members_of self.old) task member h → Stands self.new (Start task member ∷ h) }
     {
-        let place = task as usize - 1;
-        self.rows[place] = self.rows[place].started_by(member);
+        let row = &mut self.rows[task as usize - 1];
+        row.runner = Some(member);
+        row.state = TaskState::Running;
         self.stacks[member as usize].push(task);
     }
 
@@ -217,24 +237,56 @@ impl Tasks {
         ensures stands { (h : List Event) (t : ℕ) → result ≡ Some t → Stands self.old h →
             Stands self.new (Done t member ∷ h) }
     {
-        let Some(task) = self.stacks[member as usize].innermost() else {
+        let Some(task) = self.innermost(member) else {
             return None;
         };
-        let place = task as usize - 1;
-        self.rows[place] = self.rows[place].completed();
+        self.rows[task as usize - 1].state = TaskState::Done;
         self.stacks[member as usize].pop();
         Some(task)
     }
 
-    /// Whether the task descends from the innermost task that the member has started and not ended,
-    /// if there is one.
-    fn is_under_innermost(&self, member: u16, task: u32) -> bool
+    /// What is kept of the task with this number.
+    fn row(&self, task: u32) -> TaskRow
+        requires task { IsNumber task self.now }
+        ensures known { (h : List Event) × Stands self.now h }
+        ensures at { slice_get self.now.rows (task - 1) ≡ Some result }
+        ensures value { (h : List Event) → Stands self.now h → RowStands task result h }
+    {
+        self.rows[task as usize - 1]
+    }
+
+    /// The innermost task that the member has started and not ended, if there is one.
+    fn innermost(&self, member: u16) -> Option<u32>
+        requires member { member < members_of self.now }
+        ensures known { (h : List Event) × Stands self.now h }
+        ensures value { (h : List Event) → Stands self.now h →
+            executed_task member h ≡ task_or_implicit member result }
+        ensures task { IfSome result (λ t. IsNumber t self.now) }
+    {
+        self.stacks[member as usize].innermost()
+    }
+
+    /// Whether the task descends from all tasks that the member has started and not ended, and from
+    /// its implicit one unless it waits at a barrier.
+    fn may_descend(&self, member: u16, at_barrier: bool, task: u32) -> bool
         requires member { member < members_of self.now }
         requires task { IsNumber task self.now }
         ensures value { (h : List Event) → Stands self.now h →
-            result ≡ is_under_explicit (executed_task member h) task h }
+            at_barrier ≡ waits_at_barrier member h → result ≡ may_descend member task h }
     {
-        match self.stacks[member as usize].innermost() {
+        self.is_under_started(member, task)
+            && (at_barrier || self.is_under(Task::Implicit(member), task))
+    }
+
+    /// Whether the task descends from all tasks that the member has started and not ended. They lie
+    /// one above another, so the innermost tells.
+    fn is_under_started(&self, member: u16, task: u32) -> bool
+        requires member { member < members_of self.now }
+        requires task { IsNumber task self.now }
+        ensures value { (h : List Event) → Stands self.now h →
+            result ≡ is_under_all (task_stack member h) task h }
+    {
+        match self.innermost(member) {
             Some(innermost) => self.is_under(Task::Explicit(innermost), task),
             None => true,
         }
@@ -252,18 +304,9 @@ fn empty_stacks(alloc: Global, count: u16) -> Result<Vec<Stack>, AllocError>
     Ok(stacks)
 }
 
-/// Whether the task descends from the one above, by the parents that the rows tell.
-fn lies_under(rows: &[TaskRow], above: Task, task: u32) -> bool
-    requires known { (h : List Event) × (stacks : List (List ℕ)) × RowsStand rows.now stacks h }
-    requires task { (0 < task) × (task ≤ length rows.now) }
-    ensures value { (h : List Event) (stacks : List (List ℕ)) → RowsStand rows.now stacks h → result ≡ is_ancestor above task h }
+/// Whether both are one task.
+fn is_same(task: Task, other: Task) -> bool
+    ensures { result ≡ same_task task other }
 {
-    let parent = rows[task as usize - 1].parent;
-    if parent == above {
-        return true;
-    }
-    match parent {
-        Task::Implicit(_) => false,
-        Task::Explicit(number) => lies_under(rows, above, number),
-    }
+    task == other
 }

@@ -1,4 +1,4 @@
--- What holds of numbers, pieces and arrivals, from the definitions alone: the laws that the crates above cite.
+-- What holds of numbers, pieces, arrivals and tasks, from the definitions alone: the laws that the crates above cite.
 use Rattle.std.proofs.Common.{ℕ, List, ◌<◌, ◌≡◌, ◌≢◌}
 use Rattle.std.specs.Prelude.{pos}
 use Rattle.gomp_types.specs.declared.event.Event.{Event}
@@ -8,9 +8,12 @@ use Rattle.gomp_types.specs.Values.{IsShape, value_at, iteration_at}
 use Rattle.gomp_types.specs.Deals.{IsDealt, schedule}
 use Rattle.gomp_types.specs.Laws.{Always}
 use Rattle.gomp_types.specs.Arrivals.{ArrivalRule, ArrivalLaws}
+use Rattle.gomp_types.specs.TaskRules.{TaskRule}
+use Rattle.gomp_types.specs.TaskLaws.{TaskLaws}
 use Rattle.gomp_types.proofs.IterationValues.{iteration_at-value_at}
 use Rattle.gomp_types.proofs.Dealing.{pieces_tile_all, schedule_deals}
 use Rattle.gomp_types.proofs.ArrivalsKeep.{arrivals_keep}
+use Rattle.gomp_types.proofs.TasksKeep.{tasks_keep}
 
 -- an iteration's value tells its number
 pub value_tells_its_iteration : (shape : Shape) (k : ℕ) → shape.incr ≢ pos 0 → iteration_at shape (value_at shape k) ≡ k
@@ -28,3 +31,8 @@ schedule_deals_fairly members shape team is = schedule_deals members shape team 
 -- another, and none passes before all arrived
 pub arrival_rule_keeps_laws : (members : ℕ) (h : List Event) → Always (ArrivalRule members) h → ArrivalLaws members h
 arrival_rule_keeps_laws = arrivals_keep
+
+-- however tasks and groups are kept, events that keep their rule and that of the arrivals keep their laws: each task is started
+-- once, only as a descendant of those that its member has not ended, and whoever waits for tasks goes on when they are done
+pub task_rule_keeps_laws : (members : ℕ) (h : List Event) → Always (ArrivalRule members) h → Always (TaskRule members) h → TaskLaws h
+task_rule_keeps_laws = tasks_keep

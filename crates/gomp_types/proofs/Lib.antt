@@ -5,6 +5,7 @@ pub mod Compared
 pub mod Dealing
 pub mod EvenTiling
 pub mod EventExamples
+pub mod GroupsKeep
 pub mod GuidedTiling
 pub mod IterationValues
 pub mod LaterTasks
@@ -20,6 +21,7 @@ pub mod ShapeExamples
 pub mod Suspended
 pub mod TaskDepths
 pub mod TaskRoom
+pub mod TasksKeep
 pub mod TestRows
 pub mod Tiling
 pub mod ValueIn128Bits

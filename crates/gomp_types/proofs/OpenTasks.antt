@@ -1,5 +1,5 @@
--- How many tasks are open: the counts that a board keeps.
-use Rattle.std.proofs.Common.{◌≡◌, ◌≢◌, ℕ, ◌+◌, ◌<◌, ◌≤◌, Bool, true, false, List, ◌∷◌, refl, ap, ◌∙◌, sym, arith, suc, zero, inl, inr}
+-- How many tasks are open, and what such a count tells of each: a board keeps these counts.
+use Rattle.std.proofs.Common.{◌≡◌, ◌≢◌, ℕ, ◌+◌, ◌<◌, ◌≤◌, Bool, true, false, List, ◌∷◌, refl, ap, sym, arith, suc, zero, inl, inr}
 use Rattle.std.specs.Prelude.{◌&&◌, ◌||◌, ◌==◌, nat_lt, nat_le, not, if◌then◌else◌}
 use Rattle.std.proofs.lemmas.Bool.{cases_Bool, cases_lt}
 use Rattle.std.proofs.lemmas.Bool.Decides.{nat_tests, eqb_tells}
@@ -7,35 +7,38 @@ use Rattle.gomp_types.specs.declared.task.Task.{Task}
 use Rattle.gomp_types.specs.declared.task.TaskDesc.{TaskDesc}
 use Rattle.gomp_types.specs.declared.event.Event.{Event}
 use Rattle.gomp_types.specs.declared.event.Event.TheVariants.{Create, Done}
-use Rattle.gomp_types.specs.Events.{every_member}
-use Rattle.gomp_types.specs.Tasks.{tasks_created, is_created, is_complete, every_task, all_complete, how_many, open_tasks}
-use Rattle.gomp_types.proofs.Booleans.{and_left, and_right, and_false, every_tells, every_by, same_number, other_number, is_equal}
+use Rattle.gomp_types.specs.Tasks.{tasks_created, is_created, is_complete, all_complete, how_many, open_tasks}
+use Rattle.gomp_types.proofs.Booleans.{and_left, and_right, and_false, every_tells, every_by, same_number, other_number, implied_by}
 
+-- tests that agree on each task count alike
 pub how_many_same : (n : ℕ) (p q : ℕ → Bool) → ((t : ℕ) → 0 < t → t ≤ n → p t ≡ q t) → how_many n p ≡ how_many n q
 how_many_same zero p q same = refl
 how_many_same (suc k) p q same = rw (same (suc k) (omega arith) (omega arith), how_many_same k p q (λ t low high. same t low (omega arith))) refl
 
-pub none_open : (n : ℕ) (p : ℕ → Bool) → how_many n p ≡ 0 → (t : ℕ) → 0 < t → t ≤ n → p t ≡ false
-none_open zero p e t low high = absurd (omega arith)
-none_open (suc k) p e t low high =
+-- if nothing is counted, no task passes the test
+pub none_counted : (n : ℕ) (p : ℕ → Bool) → how_many n p ≡ 0 → (t : ℕ) → 0 < t → t ≤ n → p t ≡ false
+none_counted zero p e t low high = absurd (omega arith)
+none_counted (suc k) p e t low high =
     elim (cases_Bool (p (suc k))) [
       | inl is ↦ absurd (let one : how_many k p + 1 ≡ 0 = rw is at e in omega (arith, one))
       | inr isnt ↦
           let rest : how_many k p ≡ 0 = rw isnt at e in
           elim (cases_lt t (suc k)) [
-            | inl below ↦ none_open k p rest t low (omega arith)
+            | inl below ↦ none_counted k p rest t low (omega arith)
             | inr past ↦ let last : t ≡ suc k = omega arith in rw last isnt
           ]
     ]
 
-pub open_none : (n : ℕ) (p : ℕ → Bool) → ((t : ℕ) → 0 < t → t ≤ n → p t ≡ false) → how_many n p ≡ 0
-open_none zero p each = refl
-open_none (suc k) p each = rw (each (suc k) (omega arith) (omega arith)) (open_none k p (λ t low high. each t low (omega arith)))
+-- and the other way round
+pub counts_none : (n : ℕ) (p : ℕ → Bool) → ((t : ℕ) → 0 < t → t ≤ n → p t ≡ false) → how_many n p ≡ 0
+counts_none zero p each = refl
+counts_none (suc k) p each = rw (each (suc k) (omega arith) (omega arith)) (counts_none k p (λ t low high. each t low (omega arith)))
 
 one_more : (b : Bool) (m n : ℕ) → m ≡ n + 1 → (if b then m + 1 else m) ≡ (if b then n + 1 else n) + 1
 one_more true m n e = ap (λ k. k + 1) e
 one_more false m n e = e
 
+-- if one task alone passes only the first of two tests, that counts one more
 pub one_less : (n x : ℕ) (p q : ℕ → Bool) → 0 < x → x ≤ n → p x ≡ true → q x ≡ false → ((t : ℕ) → t ≢ x → p t ≡ q t) → how_many n p ≡ how_many n q + 1
 one_less zero x p q low high is isnt same = absurd (omega arith)
 one_less (suc k) x p q low high is isnt same =
@@ -51,21 +54,21 @@ one_less (suc k) x p q low high is isnt same =
           rw (in_p, in_q) (ap (λ n. n + 1) rest)
     ]
 
--- a task that was tasks_created, by its number
+-- the number of a task that was created
 pub created_low : (t : ℕ) (h : List Event) → is_created t h ≡ true → 0 < t
 created_low t h e = let low = and_left (nat_lt 0 t) (nat_le t (tasks_created h)) e in grind (arith, nat_tests, low)
 
 pub created_high : (t : ℕ) (h : List Event) → is_created t h ≡ true → t ≤ tasks_created h
 created_high t h e = let high = and_right (nat_lt 0 t) (nat_le t (tasks_created h)) e in grind (arith, nat_tests, high)
 
--- an open task that is done is one less of those that count it
+-- when a task is done, a count that has it falls by one
 pub open_done : (test : ℕ → Bool) (t m : ℕ) (h : List Event) → is_created t h ≡ true → test t ≡ true → is_complete t h ≡ false →
     open_tasks test h ≡ open_tasks test (Done t m ∷ h) + 1
 open_done test t m h made counted incomplete =
     one_less (tasks_created h) t (λ u. test u && not (is_complete u h)) (λ u. test u && not (t == u || is_complete u h)) (created_low t h made) (created_high t h made)
     (rw (counted, incomplete) refl) (rw (same_number t) (and_false (test t) false refl)) (λ u differ. rw (other_number t u (λ e. differ (sym e))) refl)
 
--- and the same for those that do not
+-- and a count that does not have it stays
 pub open_done_other : (test : ℕ → Bool) (t m : ℕ) (h : List Event) → test t ≡ false → open_tasks test h ≡ open_tasks test (Done t m ∷ h)
 open_done_other test t m h not_counted =
     how_many_same (tasks_created h) (λ u. test u && not (is_complete u h)) (λ u. test u && not (t == u || is_complete u h)) (λ u low high.
@@ -74,34 +77,39 @@ open_done_other test t m h not_counted =
       | inr e ↦ rw e.0 refl
     ])
 
--- a new task counts where the test holds of it
+-- a new task is counted if the test holds of it
 pub open_created : (old new : ℕ → Bool) (m : ℕ) (p : Task) (desc : TaskDesc) (h : List Event) → is_complete (suc (tasks_created h)) h ≡ false → ((t : ℕ) → t ≤ tasks_created h → new t ≡ old t) →
     open_tasks new (Create (suc (tasks_created h)) m p desc ∷ h) ≡ (if new (suc (tasks_created h)) then open_tasks old h + 1 else open_tasks old h)
-open_created old new m p desc h fresh same =
+open_created old new m p desc h incomplete same =
     let rest : how_many (tasks_created h) (λ u. new u && not (is_complete u h)) ≡ how_many (tasks_created h) (λ u. old u && not (is_complete u h)) =
     how_many_same (tasks_created h) _ _ (λ t low high. rw (same t high) refl) in
     elim (cases_Bool (new (suc (tasks_created h)))) [
-      | inl e ↦ rw (e, fresh) (ap (λ n. n + 1) rest)
+      | inl e ↦ rw (e, incomplete) (ap (λ n. n + 1) rest)
       | inr e ↦ rw e rest
     ]
 
--- no task of which the test holds is open, where each of these is complete, and the other way round
+each_complete : (test : ℕ → Bool) (h : List Event) (t : ℕ) → all_complete test h ≡ true → 0 < t → t ≤ tasks_created h → (not (test t) || is_complete t h) ≡ true
+each_complete test h zero all low high = absurd (omega arith)
+each_complete test h (suc k) all low high = every_tells (tasks_created h) (λ j. not (test (suc j)) || is_complete (suc j) h) k all (omega arith)
+
+-- a task that passes the test is complete, if all that pass it are
+pub complete_at : (test : ℕ → Bool) (h : List Event) (t : ℕ) → all_complete test h ≡ true → is_created t h ≡ true → test t ≡ true → is_complete t h ≡ true
+complete_at test h t all made is = implied_by (test t) (is_complete t h) (each_complete test h t all (created_low t h made) (created_high t h made)) is
+
+-- if all that pass the test are complete, none of them is open
 pub closed_all : (test : ℕ → Bool) (h : List Event) → all_complete test h ≡ true → open_tasks test h ≡ 0
 closed_all test h all =
-    open_none (tasks_created h) (λ u. test u && not (is_complete u h)) (λ t low high. by (test t) (is_complete t h) (at t low high))
+    counts_none (tasks_created h) (λ u. test u && not (is_complete u h)) (λ t low high. by (test t) (is_complete t h) (each_complete test h t all low high))
   where
     by : (b c : Bool) → (not b || c) ≡ true → (b && not c) ≡ false
     by true true e = refl
     by true false e = absurd (cc)
     by false c e = refl
 
-    at : (t : ℕ) → 0 < t → t ≤ tasks_created h → (not (test t) || is_complete t h) ≡ true
-    at zero low high = absurd (omega arith)
-    at (suc k) low high = every_tells (tasks_created h) (λ k. not (test (suc k)) || is_complete (suc k) h) k all (omega arith)
-
+-- and the other way round
 pub all_closed : (test : ℕ → Bool) (h : List Event) → open_tasks test h ≡ 0 → all_complete test h ≡ true
 all_closed test h none =
-    every_by (tasks_created h) (λ k. not (test (suc k)) || is_complete (suc k) h) (λ k lt. by (test (suc k)) (is_complete (suc k) h) (none_open (tasks_created h) (λ u. test u && not (is_complete u h)) none (suc k) (omega arith) (omega arith)))
+    every_by (tasks_created h) (λ k. not (test (suc k)) || is_complete (suc k) h) (λ k lt. by (test (suc k)) (is_complete (suc k) h) (none_counted (tasks_created h) (λ u. test u && not (is_complete u h)) none (suc k) (omega arith) (omega arith)))
   where
     by : (b c : Bool) → (b && not c) ≡ false → (not b || c) ≡ true
     by true true e = refl

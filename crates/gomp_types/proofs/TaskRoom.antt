@@ -1,7 +1,6 @@
--- The room that tasks ask for is enough: three events a task, and what is not stored yet is still owed.
-use Rattle.std.proofs.Common.{◌≡◌, ◌≢◌, ℕ, ◌+◌, ◌*◌, ◌<◌, ◌≤◌, Bool, true, false, List, [], ◌∷◌, refl, ap, ◌∙◌, sym, subst, arith, suc, zero, inl, inr}
-use Rattle.std.specs.Prelude.{◌&&◌, ◌||◌, ◌==◌, not, if◌then◌else◌}
-use Rattle.std.proofs.lemmas.Bool.{cases_Bool}
+-- Each task has three events, and no more: those that have not happened yet are as many as its state says.
+use Rattle.std.proofs.Common.{◌≡◌, ℕ, ◌+◌, ◌*◌, ◌<◌, ◌≤◌, true, false, List, [], ◌∷◌, refl, sym, arith, suc, inl, inr}
+use Rattle.std.specs.Prelude.{◌&&◌, ◌||◌, ◌==◌, not}
 use Rattle.std.proofs.lemmas.Bool.Decides.{eqb_tells}
 use Rattle.gomp_types.specs.declared.task.Task.{Task}
 use Rattle.gomp_types.specs.declared.task.TaskDesc.{TaskDesc}
@@ -10,34 +9,35 @@ use Rattle.gomp_types.specs.declared.event.Event.TheVariants.{Create, Start, Don
 use Rattle.gomp_types.specs.Tasks.{tasks_created, has_started, is_complete, how_many, open_tasks}
 use Rattle.gomp_types.specs.Laws.{Always}
 use Rattle.gomp_types.specs.TaskRules.{TaskRule}
-use Rattle.gomp_types.proofs.Booleans.{and_false, same_number, other_number}
+use Rattle.gomp_types.proofs.Booleans.{same_number, other_number}
 use Rattle.gomp_types.proofs.OpenTasks.{how_many_same, one_less, open_done, created_low, created_high}
-use Rattle.gomp_types.proofs.Suspended.{fresh, ran, current_open}
+use Rattle.gomp_types.proofs.Suspended.{startable_is_fresh, runner_has_started, current_open}
 
--- no task beyond the last one was started, or is complete
-pub unborn : (members : ℕ) (h : List Event) → Always (TaskRule members) h → (t : ℕ) → tasks_created h < t → (has_started t h ≡ false) × (is_complete t h ≡ false)
-unborn members [] all t lt = (refl, refl)
-unborn members (Start task m ∷ earlier) all t lt =
-    let was = unborn members earlier all.1 t lt in
-    let high = created_high task earlier (fresh m task earlier all.0.may).0 in
+-- a task that was not created is neither started nor complete
+pub uncreated_not_started : (members : ℕ) (h : List Event) → Always (TaskRule members) h → (t : ℕ) → tasks_created h < t → (has_started t h ≡ false) × (is_complete t h ≡ false)
+uncreated_not_started members [] all t lt = (refl, refl)
+uncreated_not_started members (Start task m ∷ earlier) all t lt =
+    let was = uncreated_not_started members earlier all.1 t lt in
+    let high = created_high task earlier (startable_is_fresh m task earlier all.0.may).0 in
     let other : (task == t) ≡ false = other_number task t (λ same. omega (arith, high, lt, same)) in
     (rw other was.0, was.1)
-unborn members (Done task m ∷ earlier) all t lt =
-    let was = unborn members earlier all.1 t lt in
+uncreated_not_started members (Done task m ∷ earlier) all t lt =
+    let was = uncreated_not_started members earlier all.1 t lt in
     let high = created_high task earlier (current_open members m task earlier all.1 all.0.current).0 in
     let other : (task == t) ≡ false = other_number task t (λ same. omega (arith, high, lt, same)) in
     (was.0, rw other was.1)
-unborn members (Create task m p desc ∷ earlier) all t lt = unborn members earlier all.1 t (omega (arith, lt))
-unborn members (_ ∷ earlier) all t lt = unborn members earlier all.1 t lt
+uncreated_not_started members (Create task m p desc ∷ earlier) all t lt = uncreated_not_started members earlier all.1 t (omega (arith, lt))
+uncreated_not_started members (_ ∷ earlier) all t lt = uncreated_not_started members earlier all.1 t lt
 
--- the tasks that are not complete, and those of them that were not started
+-- how many tasks are not complete
 abbrev pub open_all : List Event → ℕ
 open_all h = open_tasks (λ t. true) h
 
+-- and how many of them were not started
 abbrev pub unstarted : List Event → ℕ
 unstarted h = how_many (tasks_created h) (λ t. not (has_started t h) && not (is_complete t h))
 
--- the events of tasks
+-- how many events are of tasks
 abbrev pub task_events : List Event → ℕ
 task_events [] = 0
 task_events (Create task m p desc ∷ earlier) = suc (task_events earlier)
@@ -45,12 +45,14 @@ task_events (Start task m ∷ earlier) = suc (task_events earlier)
 task_events (Done task m ∷ earlier) = suc (task_events earlier)
 task_events (_ ∷ earlier) = task_events earlier
 
+-- a new task is open, and not started
 open_new : (task m : ℕ) (p : Task) (desc : TaskDesc) (h : List Event) → is_complete (suc (tasks_created h)) h ≡ false → open_all (Create task m p desc ∷ h) ≡ open_all h + 1
 open_new task m p desc h incomplete = rw incomplete refl
 
 unstarted_new : (task m : ℕ) (p : Task) (desc : TaskDesc) (h : List Event) → has_started (suc (tasks_created h)) h ≡ false → is_complete (suc (tasks_created h)) h ≡ false → unstarted (Create task m p desc ∷ h) ≡ unstarted h + 1
 unstarted_new task m p desc h off incomplete = rw (off, incomplete) refl
 
+-- a start makes one that was not started less, an end none
 unstarted_start : (task m : ℕ) (h : List Event) → 0 < task → task ≤ tasks_created h → has_started task h ≡ false → is_complete task h ≡ false → unstarted h ≡ unstarted (Start task m ∷ h) + 1
 unstarted_start task m h low high off incomplete =
     one_less (tasks_created h) task (λ u. not (has_started u h) && not (is_complete u h)) (λ u. not (task == u || has_started u h) && not (is_complete u h)) low high
@@ -67,24 +69,24 @@ unstarted_done task m h on =
     both : (u : ℕ) → has_started u h ≡ true → (not (has_started u h) && not (is_complete u h)) ≡ (not (has_started u h) && not (task == u || is_complete u h))
     both u there = rw there refl
 
--- each task's three events are stored, or owed: two while it was not started, one while it runs
-pub paid : (members : ℕ) (h : List Event) → Always (TaskRule members) h → task_events h + open_all h + unstarted h ≡ 3 * tasks_created h
-paid members [] all = refl
-paid members (Create task m p desc ∷ earlier) all =
-    let was = paid members earlier all.1 in
-    let new = unborn members earlier all.1 (suc (tasks_created earlier)) (omega arith) in
-    let open' = open_new task m p desc earlier new.1 in
+-- of each task's three events two are to come while it was not started, and one while it runs
+pub three_events_a_task : (members : ℕ) (h : List Event) → Always (TaskRule members) h → task_events h + open_all h + unstarted h ≡ 3 * tasks_created h
+three_events_a_task members [] all = refl
+three_events_a_task members (Create task m p desc ∷ earlier) all =
+    let was = three_events_a_task members earlier all.1 in
+    let new = uncreated_not_started members earlier all.1 (suc (tasks_created earlier)) (omega arith) in
+    let more = open_new task m p desc earlier new.1 in
     let off = unstarted_new task m p desc earlier new.0 new.1 in
-    omega (arith, was, open', off)
-paid members (Start task m ∷ earlier) all =
-    let was = paid members earlier all.1 in
-    let is = fresh m task earlier all.0.may in
+    omega (arith, was, more, off)
+three_events_a_task members (Start task m ∷ earlier) all =
+    let was = three_events_a_task members earlier all.1 in
+    let is = startable_is_fresh m task earlier all.0.may in
     let off = unstarted_start task m earlier (created_low task earlier is.0) (created_high task earlier is.0) is.1 is.2 in
     omega (arith, was, off)
-paid members (Done task m ∷ earlier) all =
-    let was = paid members earlier all.1 in
+three_events_a_task members (Done task m ∷ earlier) all =
+    let was = three_events_a_task members earlier all.1 in
     let is = current_open members m task earlier all.1 all.0.current in
-    let open' = open_done (λ t. true) task m earlier is.0 refl is.1 in
-    let off = unstarted_done task m earlier (ran task m earlier is.2) in
-    omega (arith, was, open', off)
-paid members (_ ∷ earlier) all = paid members earlier all.1
+    let more = open_done (λ t. true) task m earlier is.0 refl is.1 in
+    let off = unstarted_done task m earlier (runner_has_started task m earlier is.2) in
+    omega (arith, was, more, off)
+three_events_a_task members (_ ∷ earlier) all = three_events_a_task members earlier all.1

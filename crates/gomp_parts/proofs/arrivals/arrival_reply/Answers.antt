@@ -11,6 +11,12 @@ pub returns-then-repeated-clause-answer : goal.returns-then-repeated-clause-answ
 returns-then-repeated-clause-answer g c = λ p size both.
     rw c.if-repeated.true (awaits_so _ p.terms.members c.args.member p.events c.pass_or_wait.result (c.requires.team ∙ sym size) (c.pass_or_wait.ensures.answer p.events both.1))
 
+pub returns-then-repeated-clause-stands : goal.returns-then-repeated-clause-stands
+returns-then-repeated-clause-stands g c = λ p size both. (
+      arrival_aside (g.S.Shares.stands c.args.shares.now) (g.met.S.Shares.aside c.args.shares.now) c.args.kind c.args.repeated c.args.member p c.pass_or_wait.result both.0,
+      rw c.if-repeated.true (c.pass_or_wait.ensures.stands p.events both.1),
+    )
+
 pub unreachable-requires : goal.unreachable-requires
 unreachable-requires g c =
     let (h, both, none) = c.requires.same in

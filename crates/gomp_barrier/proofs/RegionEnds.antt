@@ -1,0 +1,176 @@
+-- Where a member stands, by the rule of arrivals alone: whether it waits at a barrier, and whether it has come to the region's end.
+use Rattle.std.proofs.Common.{◌≡◌, ℕ, ◌+◌, ◌<◌, ◌≤◌, Bool, true, false, List, [], ◌∷◌, Some, None, refl, ap, sym, ◌∙◌, subst, arith, inl, inr}
+use Rattle.std.specs.Prelude.{◌==◌, ◌&&◌, ◌||◌, Option, is_some, if◌then◌else◌}
+use Rattle.std.proofs.lemmas.Bool.{cases_Bool}
+use Rattle.gomp_types.specs.declared.event.Tag.{Tag}
+use Rattle.gomp_types.specs.declared.event.Event.{Event}
+use Rattle.gomp_types.specs.declared.event.Event.TheVariants.{Arrive, Pass}
+use Rattle.gomp_types.specs.Events.{barriers_passed, arrival, tag_at, at_barrier, is_region_end, was_region_end, at_region_end, has_left_region}
+use Rattle.gomp_types.specs.Laws.{Always}
+use Rattle.gomp_types.specs.Arrivals.{ArrivalRule}
+use Rattle.gomp_types.proofs.Booleans.{which_branch, and_left, and_right, and_false, or_tells, or_left, or_right, is_equal, same_number}
+
+-- a later arrival has the barrier's tag
+tag_kept : (members g : ℕ) (tag : Tag) (barrier member : ℕ) (other : Tag) (earlier : List Event) → ArrivalRule members (Arrive barrier member other) earlier → tag_at g earlier ≡ Some tag → tag_at g (Arrive barrier member other ∷ earlier) ≡ Some tag
+tag_kept members g tag barrier member other earlier rule at =
+    elim (cases_Bool (barrier == g)) [
+      | inl here ↦ rw here (let same : tag ≡ other = rule.same tag (rw (is_equal barrier g here) at) in rw same refl)
+      | inr away ↦ rw away at
+    ]
+
+-- so every arrival has it
+arrival_tag : (members g m : ℕ) (tag : Tag) (h : List Event) → Always (ArrivalRule members) h → arrival g m h ≡ Some tag → tag_at g h ≡ Some tag
+arrival_tag members g m tag [] all at = absurd (cc)
+arrival_tag members g m tag (Arrive barrier member other ∷ earlier) all at =
+    elim (which_branch (barrier == g && member == m) (Some other) (arrival g m earlier) (Some tag) at) [
+      | inl own ↦ rw (and_left (barrier == g) (member == m) own.0) own.1
+      | inr old ↦ tag_kept members g tag barrier member other earlier all.0 (arrival_tag members g m tag earlier all.1 old.1)
+    ]
+arrival_tag members g m tag (_ ∷ earlier) all at = arrival_tag members g m tag earlier all.1 at
+
+-- a member arrives at no barrier after its next one
+none_beyond : (members g m : ℕ) (h : List Event) → Always (ArrivalRule members) h → barriers_passed m h < g → arrival g m h ≡ None
+none_beyond members g m [] all lt = refl
+none_beyond members g m (Arrive barrier member tag ∷ earlier) all lt =
+    elim (cases_Bool (barrier == g && member == m)) [
+      | inl own ↦ absurd (
+          let here = is_equal barrier g (and_left (barrier == g) (member == m) own) in
+          let who = is_equal member m (and_right (barrier == g) (member == m) own) in
+          let number : barrier ≡ barriers_passed m earlier = subst (λ (k : ℕ). barrier ≡ barriers_passed k earlier) who all.0.number in
+          omega (arith, lt, here, number))
+      | inr other ↦ rw other (none_beyond members g m earlier all.1 lt)
+    ]
+none_beyond members g m (Pass barrier member ∷ earlier) all lt =
+    elim (cases_Bool (member == m)) [
+      | inl who ↦ none_beyond members g m earlier all.1 (let more : barriers_passed m earlier + 1 < g = rw who at lt in omega (arith, more))
+      | inr other ↦ none_beyond members g m earlier all.1 (rw other at lt)
+    ]
+none_beyond members g m (_ ∷ earlier) all lt = none_beyond members g m earlier all.1 lt
+
+-- what an arrival at the next barrier is, and none is at the one after it
+arrival_now : (members m barrier member : ℕ) (tag : Tag) (h : List Event) → ArrivalRule members (Arrive barrier member tag) h → (member == m) ≡ true → arrival (barriers_passed m h) m (Arrive barrier member tag ∷ h) ≡ Some tag
+arrival_now members m barrier member tag h rule who =
+    let number : barrier ≡ barriers_passed m h = subst (λ (k : ℕ). barrier ≡ barriers_passed k h) (is_equal member m who) rule.number in
+    rw (← number, same_number barrier, who) refl
+
+arrival_then : (members m barrier member : ℕ) (h : List Event) → Always (ArrivalRule members) h → (member == m) ≡ true → arrival (barriers_passed m (Pass barrier member ∷ h)) m h ≡ None
+arrival_then members m barrier member h all who = none_beyond members (barriers_passed m (Pass barrier member ∷ h)) m h all (rw who (omega arith))
+
+arrival_as_before : (m barrier member : ℕ) (h : List Event) → (member == m) ≡ false → arrival (barriers_passed m (Pass barrier member ∷ h)) m h ≡ arrival (barriers_passed m h) m h
+arrival_as_before m barrier member h other = ap (λ (n : ℕ). arrival n m h) (let e : barriers_passed m (Pass barrier member ∷ h) ≡ barriers_passed m h = rw other refl in e)
+
+arrival_of_another : (g m barrier member : ℕ) (tag : Tag) (h : List Event) → (member == m) ≡ false → arrival g m (Arrive barrier member tag ∷ h) ≡ arrival g m h
+arrival_of_another g m barrier member tag h other = rw (and_false (barrier == g) (member == m) other) refl
+
+-- a member waits at a barrier exactly if it has arrived at its next one
+pub waits_there : (members m : ℕ) (h : List Event) → Always (ArrivalRule members) h → at_barrier m h ≡ is_some (arrival (barriers_passed m h) m h)
+waits_there members m [] all = refl
+waits_there members m (Arrive barrier member tag ∷ earlier) all =
+    elim (cases_Bool (member == m)) [
+      | inl who ↦ rw (arrival_now members m barrier member tag earlier all.0 who, who) refl
+      | inr other ↦ rw (arrival_of_another (barriers_passed m earlier) m barrier member tag earlier other, other) (waits_there members m earlier all.1)
+    ]
+waits_there members m (Pass barrier member ∷ earlier) all =
+    elim (cases_Bool (member == m)) [
+      | inl who ↦ rw (arrival_then members m barrier member earlier all.1 who, who) refl
+      | inr other ↦ rw (arrival_as_before m barrier member earlier other, other) (waits_there members m earlier all.1)
+    ]
+waits_there members m (_ ∷ earlier) all = waits_there members m earlier all.1
+
+or_known : (left was is : Bool) → (was ≡ true → is ≡ true) → (is || (left || was)) ≡ (left || is)
+or_known true was true same = refl
+or_known true was false same = refl
+or_known false was true same = refl
+or_known false true false same = absurd (let is = same refl in cc)
+or_known false false false same = refl
+
+or_passed : (left was : Bool) → (left || was) ≡ ((was || left) || false)
+or_passed true true = refl
+or_passed true false = refl
+or_passed false true = refl
+or_passed false false = refl
+
+-- who had arrived at the region's end arrives there again
+still_end : (members m barrier member : ℕ) (tag : Tag) (h : List Event) (own : Option Tag) → ArrivalRule members (Arrive barrier member tag) h → Always (ArrivalRule members) h → (member == m) ≡ true → arrival (barriers_passed m h) m h ≡ own → was_region_end own ≡ true → is_region_end tag.kind ≡ true
+still_end members m barrier member tag h None rule all who at was = absurd (cc)
+still_end members m barrier member tag h (Some other) rule all who at was =
+    let number : barrier ≡ barriers_passed m h = subst (λ (k : ℕ). barrier ≡ barriers_passed k h) (is_equal member m who) rule.number in
+    let there : tag_at barrier h ≡ Some other = rw number (arrival_tag members (barriers_passed m h) m other h all at) in
+    let same : other ≡ tag = rule.same other there in
+    rw (← same) was
+
+-- a member has arrived at the region's end exactly if it has passed it or waits at it
+pub comes_to_end : (members m : ℕ) (h : List Event) → Always (ArrivalRule members) h → at_region_end m h ≡ (has_left_region m h || was_region_end (arrival (barriers_passed m h) m h))
+comes_to_end members m [] all = refl
+comes_to_end members m (Arrive barrier member tag ∷ earlier) all =
+    let before = comes_to_end members m earlier all.1 in
+    elim (cases_Bool (member == m)) [
+      | inl who ↦
+          let known = or_known (has_left_region m earlier) (was_region_end (arrival (barriers_passed m earlier) m earlier)) (is_region_end tag.kind)
+          (still_end members m barrier member tag earlier (arrival (barriers_passed m earlier) m earlier) all.0 all.1 who refl) in
+          rw (arrival_now members m barrier member tag earlier all.0 who, who) (ap (λ (b : Bool). is_region_end tag.kind || b) before ∙ known)
+      | inr other ↦ rw (arrival_of_another (barriers_passed m earlier) m barrier member tag earlier other, other) before
+    ]
+comes_to_end members m (Pass barrier member ∷ earlier) all =
+    let before = comes_to_end members m earlier all.1 in
+    elim (cases_Bool (member == m)) [
+      | inl who ↦
+          let number : barrier ≡ barriers_passed m earlier = subst (λ (k : ℕ). barrier ≡ barriers_passed k earlier) (is_equal member m who) all.0.number in
+          rw (arrival_then members m barrier member earlier all.1 who, who, number) (before ∙ or_passed (has_left_region m earlier) (was_region_end (arrival (barriers_passed m earlier) m earlier)))
+      | inr other ↦ rw (arrival_as_before m barrier member earlier other, other) before
+    ]
+comes_to_end members m (_ ∷ earlier) all = comes_to_end members m earlier all.1
+
+-- who has arrived at the region's end did so at a barrier that it passed, or at its next one
+record EndsAt (g m : ℕ) (tag : Tag) (h : List Event) : Type 0 where
+  here : tag_at g h ≡ Some tag
+  ends : is_region_end tag.kind ≡ true
+  near : g ≤ barriers_passed m h
+
+end_barrier : (members m : ℕ) (h : List Event) → Always (ArrivalRule members) h → at_region_end m h ≡ true → (g : ℕ) × (tag : Tag) × EndsAt g m tag h
+end_barrier members m [] all e = absurd (cc)
+end_barrier members m (Arrive barrier member tag ∷ earlier) all e =
+    elim (or_tells (member == m && is_region_end tag.kind) (at_region_end m earlier) e) [
+      | inl own ↦ (
+        barrier,
+        tag,
+        record {
+          here = rw (same_number barrier) refl;
+          ends = and_right (member == m) (is_region_end tag.kind) own;
+          near = let number : barrier ≡ barriers_passed m earlier = subst (λ (k : ℕ). barrier ≡ barriers_passed k earlier) (is_equal member m (and_left (member == m) (is_region_end tag.kind) own)) all.0.number in omega (arith, number);
+        },
+      )
+      | inr old ↦ let (g, first, was) = end_barrier members m earlier all.1 old in
+          (g, first, record { here = tag_kept members g first barrier member tag earlier all.0 was.here; ends = was.ends; near = was.near })
+    ]
+end_barrier members m (Pass barrier member ∷ earlier) all e =
+    let (g, tag, was) = end_barrier members m earlier all.1 e in
+    (g, tag, record { here = was.here; ends = was.ends; near = elim (cases_Bool (member == m)) [ inl who ↦ rw who (let le = was.near in omega (arith, le)) | inr other ↦ rw other was.near ] })
+end_barrier members m (_ ∷ earlier) all e =
+    let (g, tag, was) = end_barrier members m earlier all.1 e in
+    (g, tag, record { here = was.here; ends = was.ends; near = was.near })
+
+-- who arrived at some barrier with such a tag has arrived at the region's end
+ended_at : (g m : ℕ) (tag : Tag) (h : List Event) → arrival g m h ≡ Some tag → is_region_end tag.kind ≡ true → at_region_end m h ≡ true
+ended_at g m tag [] at ends = absurd (cc)
+ended_at g m tag (Arrive barrier member other ∷ earlier) at ends =
+    elim (which_branch (barrier == g && member == m) (Some other) (arrival g m earlier) (Some tag) at) [
+      | inl own ↦
+          let same : other ≡ tag = let e = own.1 in cc in
+          rw (and_right (barrier == g) (member == m) own.0, same, ends) refl
+      | inr old ↦ or_right (member == m && is_region_end other.kind) (at_region_end m earlier) (ended_at g m tag earlier old.1 ends)
+    ]
+ended_at g m tag (_ ∷ earlier) at ends = ended_at g m tag earlier at ends
+
+-- who has arrived at every barrier up to the next of a member that has come to the region's end has come there too
+pub others_end : (members m x : ℕ) (h : List Event) → Always (ArrivalRule members) h → ((g : ℕ) → g ≤ barriers_passed m h → is_some (arrival g x h) ≡ true) → at_region_end m h ≡ true → at_region_end x h ≡ true
+others_end members m x h all arrived e =
+    let (g, tag, is) = end_barrier members m h all e in
+    by g tag is (arrival g x h) refl (arrived g is.near)
+  where
+    by : (g : ℕ) (tag : Tag) → EndsAt g m tag h → (own : Option Tag) → arrival g x h ≡ own → is_some own ≡ true → at_region_end x h ≡ true
+    by g tag is None at some = absurd (cc)
+    by g tag is (Some other) at some =
+        let there = arrival_tag members g x other h all at in
+        let same : tag ≡ other = let here = is.here in cc in
+        ended_at g x other h at (rw (← same) is.ends)

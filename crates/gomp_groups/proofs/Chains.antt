@@ -1,0 +1,158 @@
+-- Chains of groups: they lead outwards, to groups with smaller numbers, and a new row changes none of them.
+use Rattle.std.proofs.Common.{◌≡◌, ◌≢◌, ℕ, ◌+◌, ◌<◌, ◌≤◌, Bool, true, false, List, [], ◌∷◌, ◌++◌, Option, Some, None, IfSome, length, get_or, refl, ap, ◌∙◌, sym, subst, arith, suc, zero, inl, inr}
+use Rattle.std.specs.Prelude.{◌==◌, ◌||◌, if◌then◌else◌}
+use Rattle.std.proofs.lemmas.Bool.{cases_Bool, cases_lt}
+use Rattle.std.proofs.lemmas.List.{length-append, get_or_append_left, get_or_past, get_or_push}
+use Rattle.gomp_types.specs.declared.task.Task.{Task}
+use Rattle.gomp_types.specs.declared.task.Task.TheVariants.{Implicit, Explicit}
+use Rattle.gomp_types.specs.Tasks.{contains, same_task}
+use Rattle.gomp_types.proofs.Booleans.{or_tells, or_right, same_number, other_number, is_equal, not_both}
+use Rattle.gomp_groups.specs.declared.rows.GroupRow.{GroupRow}
+use Rattle.gomp_groups.specs.declared.rows.Seat.{Seat}
+use Rattle.gomp_groups.specs.declared.rows.TaskRow.{TaskRow}
+use Rattle.gomp_groups.specs.Rows.{no_group, no_seat, no_task, outer_at, pending_at, seat_at, IsSeatedIn, IsChain, IsNested, same_group, own_group}
+use Rattle.gomp_groups.specs.Calls.{first_of}
+
+-- Tasks
+
+pub same_task_self : (p : Task) → same_task p p ≡ true
+same_task_self (Implicit m) = same_number m
+same_task_self (Explicit t) = same_number t
+
+pub same_task_is : (p q : Task) → same_task p q ≡ true → p ≡ q
+same_task_is (Implicit a) (Implicit b) e = ap Implicit (is_equal a b e)
+same_task_is (Explicit a) (Explicit b) e = ap Explicit (is_equal a b e)
+same_task_is (Implicit a) (Explicit b) e = absurd (cc)
+same_task_is (Explicit a) (Implicit b) e = absurd (cc)
+
+-- Chains
+
+pub chain_first : (groups : List GroupRow) (first : Option ℕ) (qs : List ℕ) → IsChain groups first qs → first ≡ first_of qs
+chain_first groups first [] chain = chain
+chain_first groups first (q ∷ qs) chain = chain.0
+
+pub chain_unique : (groups : List GroupRow) (first : Option ℕ) (qs rs : List ℕ) → IsChain groups first qs → IsChain groups first rs → qs ≡ rs
+chain_unique groups first [] [] a b = refl
+chain_unique groups first [] (r ∷ rs) a b = absurd (let e : ◌≡◌ {A = Option ℕ} None (Some r) = sym a ∙ b.0 in cc)
+chain_unique groups first (q ∷ qs) [] a b = absurd (let e : ◌≡◌ {A = Option ℕ} None (Some q) = sym b ∙ a.0 in cc)
+chain_unique groups first (q ∷ qs) (r ∷ rs) a b =
+    let same : q ≡ r = (let e : Some q ≡ Some r = sym a.0 ∙ b.0 in cc) in
+    let rest : qs ≡ rs = chain_unique groups (outer_at groups q) qs rs a.2 (subst (λ (x : ℕ). IsChain groups (outer_at groups x) rs) (sym same) b.2) in
+    cc
+
+-- where the rows of a chain's groups stay, so does the chain
+pub chain_on : (old new : List GroupRow) (first : Option ℕ) (qs : List ℕ) → length old ≤ length new → ((q : ℕ) → q < length old → outer_at new q ≡ outer_at old q) → IsChain old first qs → IsChain new first qs
+chain_on old new first [] longer same chain = chain
+chain_on old new first (q ∷ qs) longer same chain =
+    let lt = chain.1 in
+    let rest = chain_on old new (outer_at old q) qs longer same chain.2 in
+    (chain.0, omega (arith, lt, longer), subst (λ (o : Option ℕ). IsChain new o qs) (sym (same q lt)) rest)
+
+-- a chain that begins below a number stays below it
+pub chain_below : (groups : List GroupRow) (first : Option ℕ) (qs : List ℕ) (n x : ℕ) → IsNested groups → IfSome first (λ q. q < n) → IsChain groups first qs → contains x qs ≡ true → x < n
+chain_below groups first [] n x nested low chain there = absurd (cc)
+chain_below groups first (q ∷ qs) n x nested low chain there =
+    let lt : q < n = subst (λ (o : Option ℕ). IfSome o (λ y. y < n)) chain.0 low in
+    elim (or_tells (q == x) (contains x qs) there) [
+      | inl here ↦ rw (← is_equal q x here) lt
+      | inr further ↦
+          let less : x < q = chain_below groups (outer_at groups q) qs q x nested (nested q) chain.2 further in
+          omega (arith, lt, less)
+    ]
+
+-- so no group stands in it twice
+pub chain_once : (groups : List GroupRow) (first : Option ℕ) (q : ℕ) (qs : List ℕ) → IsNested groups → IsChain groups first (q ∷ qs) → contains q qs ≡ false
+chain_once groups first q qs nested chain =
+    elim (cases_Bool (contains q qs)) [
+      | inl there ↦ absurd (let less = chain_below groups (outer_at groups q) qs q q nested (nested q) chain.2 there in omega (arith, less))
+      | inr away ↦ away
+    ]
+
+pub chain_in : (groups : List GroupRow) (first : Option ℕ) (qs : List ℕ) (x : ℕ) → IsChain groups first qs → contains x qs ≡ true → x < length groups
+chain_in groups first [] x chain there = absurd (cc)
+chain_in groups first (q ∷ qs) x chain there =
+    elim (or_tells (q == x) (contains x qs) there) [
+      | inl here ↦ rw (← is_equal q x here) chain.1
+      | inr further ↦ chain_in groups (outer_at groups q) qs x chain.2 further
+    ]
+
+pub chain_starts : (groups : List GroupRow) (first : Option ℕ) (qs : List ℕ) → IsChain groups first qs → IfSome first (λ q. q < length groups)
+chain_starts groups first [] chain = rw chain tt
+chain_starts groups first (q ∷ qs) chain = rw chain.0 chain.1
+
+pub contains_right : (x : ℕ) (xs ys : List ℕ) → contains x ys ≡ true → contains x (xs ++ ys) ≡ true
+contains_right x [] ys there = there
+contains_right x (y ∷ xs) ys there = or_right (y == x) (contains x (xs ++ ys)) (contains_right x xs ys there)
+
+-- The group that a task has open itself
+
+same_group_self : (a : Option ℕ) → same_group a a ≡ true
+same_group_self None = refl
+same_group_self (Some q) = same_number q
+
+pub own_is : (groups : List GroupRow) (seat : Seat) (own beyond : List ℕ) → IsNested groups → IsChain groups seat.last (own ++ beyond) → IsChain groups seat.around beyond → own_group seat ≡ first_of own
+own_is groups seat [] beyond nested last around =
+    let same : seat.last ≡ seat.around = chain_first groups seat.last beyond last ∙ sym (chain_first groups seat.around beyond around) in
+    rw (same, same_group_self seat.around) refl
+own_is groups seat (q ∷ own) [] nested last around = rw (around, last.0) refl
+own_is groups seat (q ∷ own) (b ∷ beyond) nested last around =
+    let there : contains b (own ++ b ∷ beyond) ≡ true = contains_right b own (b ∷ beyond) (rw (same_number b) refl) in
+    let less : b < q = chain_below groups (outer_at groups q) (own ++ b ∷ beyond) q b nested (nested q) last.2 there in
+    let other : (q == b) ≡ false = other_number q b (λ e. omega (arith, e, less)) in
+    rw (around.0, last.0, other) refl
+
+-- A row more
+
+pub outer_at-push : (groups : List GroupRow) (row : GroupRow) (q : ℕ) → q < length groups → outer_at (groups ++ row ∷ []) q ≡ outer_at groups q
+outer_at-push groups row q lt = ap (λ (r : GroupRow). r.outer) (get_or_append_left groups (row ∷ []) no_group q lt)
+
+pub outer_at-pushed : (groups : List GroupRow) (row : GroupRow) → outer_at (groups ++ row ∷ []) (length groups) ≡ row.outer
+outer_at-pushed groups row = ap (λ (r : GroupRow). r.outer) (get_or_push groups row no_group (length groups) refl)
+
+pub outer_past : (groups : List GroupRow) (q : ℕ) → length groups ≤ q → outer_at groups q ≡ None
+outer_past groups q le = ap (λ (r : GroupRow). r.outer) (get_or_past groups q no_group le)
+
+pub pending_at-push : (groups : List GroupRow) (row : GroupRow) (q : ℕ) → row.pending ≡ 0 → pending_at (groups ++ row ∷ []) q ≡ pending_at groups q
+pending_at-push [] row zero none = none
+pending_at-push [] row (suc q) none = refl
+pending_at-push (first ∷ groups) row zero none = refl
+pending_at-push (first ∷ groups) row (suc q) none = pending_at-push groups row q none
+
+pub nested_push : (groups : List GroupRow) (row : GroupRow) → IsNested groups → IfSome row.outer (λ o. o < length groups) → IsNested (groups ++ row ∷ [])
+nested_push groups row nested low q =
+    elim (cases_lt q (length groups)) [
+      | inl lt ↦ rw (outer_at-push groups row q lt) (nested q)
+      | inr le ↦ elim (cases_lt (length groups) q) [
+        | inl lt ↦ rw (outer_past (groups ++ row ∷ []) q (let size = length-append groups (row ∷ []) in omega (arith, size, lt))) tt
+        | inr ge ↦ let here : q ≡ length groups = omega (arith, le, ge) in rw (here, outer_at-pushed groups row) low
+      ]
+    ]
+
+-- the seat of a task that was not created before
+pub seat_at-push : (tasks : List TaskRow) (members : List Seat) (row : TaskRow) (p : Task) → seat_at (tasks ++ row ∷ []) members p ≡ (if same_task (Explicit (suc (length tasks))) p then row.seat else seat_at tasks members p)
+seat_at-push tasks members row (Implicit m) = refl
+seat_at-push tasks members row (Explicit zero) = let other : (suc (length tasks) == 0) ≡ false = other_number (suc (length tasks)) 0 (λ e. omega (arith, e)) in rw other refl
+seat_at-push tasks members row (Explicit (suc k)) =
+    elim (cases_lt k (length tasks)) [
+      | inl lt ↦
+          let other : (suc (length tasks) == suc k) ≡ false = other_number (suc (length tasks)) (suc k) (λ e. omega (arith, e, lt)) in
+          rw other (ap (λ (r : TaskRow). r.seat) (get_or_append_left tasks (row ∷ []) no_task k lt))
+      | inr le ↦ elim (cases_lt (length tasks) k) [
+        | inl lt ↦
+            let other : (suc (length tasks) == suc k) ≡ false = other_number (suc (length tasks)) (suc k) (λ e. omega (arith, e, lt)) in
+            let size = length-append tasks (row ∷ []) in
+            let past : get_or (tasks ++ row ∷ []) k no_task ≡ get_or tasks k no_task = get_or_past (tasks ++ row ∷ []) k no_task (omega (arith, size, lt)) ∙ sym (get_or_past tasks k no_task le) in
+            rw other (ap (λ (r : TaskRow). r.seat) past)
+        | inr ge ↦
+            let here : k ≡ length tasks = omega (arith, le, ge) in
+            let same : (suc (length tasks) == suc k) ≡ true = rw here (same_number (suc (length tasks))) in
+            rw same (ap (λ (r : TaskRow). r.seat) (get_or_push tasks row no_task k (sym here)))
+      ]
+    ]
+
+-- and its row
+pub row-push : (tasks : List TaskRow) (row : TaskRow) (k : ℕ) → k < length tasks → get_or (tasks ++ row ∷ []) k no_task ≡ get_or tasks k no_task
+row-push tasks row k lt = get_or_append_left tasks (row ∷ []) no_task k lt
+
+pub row-pushed : (tasks : List TaskRow) (row : TaskRow) → get_or (tasks ++ row ∷ []) (length tasks) no_task ≡ row
+row-pushed tasks row = get_or_push tasks row no_task (length tasks) refl

@@ -1,0 +1,228 @@
+-- What the fields of the groups say of the events, as the calls read and write them.
+use Rattle.std.proofs.Common.{◌≡◌, ℕ, ◌+◌, ◌-◌, ◌<◌, ◌≤◌, Bool, true, false, List, [], ◌∷◌, ◌++◌, Option, Some, None, IfSome, length, get_or, take, drop, replicate, refl, ap, ◌∙◌, sym, subst, arith, suc, zero, inl, inr}
+use Rattle.std.specs.Prelude.{◌==◌, ◌&&◌, not, if◌then◌else◌}
+use Rattle.std.proofs.Math.Seq.{take-append_seam}
+use Rattle.std.proofs.lemmas.List.{get_or_read, get_or_past}
+use Rattle.std.proofs.lemmas.Bool.{cases_lt}
+use Rattle.gomp_types.specs.declared.task.Task.{Task}
+use Rattle.gomp_types.specs.declared.task.Task.TheVariants.{Implicit, Explicit}
+use Rattle.gomp_types.specs.declared.task.TaskDesc.{TaskDesc}
+use Rattle.gomp_types.specs.declared.event.Event.{Event}
+use Rattle.gomp_types.specs.declared.event.Event.TheVariants.{Create, Done, Group, GroupEnd}
+use Rattle.gomp_types.specs.Tasks.{same_task, contains, how_many, open_tasks, tasks_created, is_created, is_complete, is_child, executed_task}
+use Rattle.gomp_types.specs.Groups.{open_groups, groups_around, in_group, group_complete}
+use Rattle.gomp_types.specs.Goals.{children_complete}
+use Rattle.gomp_types.specs.TaskRules.{MayEnd}
+use Rattle.gomp_types.proofs.OpenTasks.{open_done, created_low, created_high}
+use Rattle.gomp_types.proofs.Suspended.{current_open}
+use Rattle.gomp_groups.specs.declared.rows.GroupRow.{GroupRow}
+use Rattle.gomp_groups.specs.declared.rows.Seat.{Seat}
+use Rattle.gomp_groups.specs.declared.rows.TaskRow.{TaskRow}
+use Rattle.gomp_groups.specs.Rows.{no_group, no_seat, no_task, outer_at, pending_at, seat_at, IsSeatedIn, IsChain, same_group, own_group, CountsOneMore}
+use Rattle.gomp_groups.specs.Stands.{GroupsView, GroupsStand, Stands, groups_beyond}
+use Rattle.gomp_groups.specs.Calls.{last_open, Executes, MayClose, MayCreateIn}
+use Rattle.gomp_groups.proofs.Chains.{same_task_self, chain_starts, own_is}
+use Rattle.gomp_groups.proofs.GroupsKeep.{Reseats, done_is, child_is, open_keeps, close_keeps, create_keeps, complete_keeps}
+
+-- the value stands for what the fields do
+pub view_stands : (view now : GroupsView) (h : List Event) → view ≡ now → Stands now h → Stands view h
+view_stands view now h e st = subst (λ (v : GroupsView). Stands v h) (sym e) st
+
+-- New groups stand for no events
+
+all_new : (n m : ℕ) → get_or (replicate n no_seat) m no_seat ≡ no_seat
+all_new zero m = refl
+all_new (suc n) zero = refl
+all_new (suc n) (suc m) = all_new n m
+
+new_seat : (n : ℕ) (p : Task) → seat_at [] (replicate n no_seat) p ≡ no_seat
+new_seat n (Implicit m) = all_new n m
+new_seat n (Explicit zero) = refl
+new_seat n (Explicit (suc k)) = refl
+
+none_beyond : (p : Task) → groups_beyond p [] ≡ []
+none_beyond (Implicit m) = refl
+none_beyond (Explicit t) = refl
+
+new_stands : (n : ℕ) → GroupsStand [] [] (replicate n no_seat) []
+new_stands n = record {
+  opened = refl;
+  created = refl;
+  nested = λ q. tt;
+  pending = λ q. refl;
+  parent = λ k lt p. absurd (omega arith);
+  children = λ p. rw (new_seat n p) refl;
+  around = λ p. rw (new_seat n p, none_beyond p) refl;
+  last = λ p. rw (new_seat n p, none_beyond p) refl;
+  rule = tt;
+}
+
+pub made_stands : (groups : List GroupRow) (tasks : List TaskRow) (members : List Seat) (n : ℕ) → groups ≡ [] → tasks ≡ [] → members ≡ replicate n no_seat → GroupsStand groups tasks members []
+made_stands groups tasks members n a b c = rw (a, b, c) (new_stands n)
+
+-- What is read
+
+pub seated_at : (at tasks : List TaskRow) (seats members : List Seat) (task : Task) → at ≡ tasks → seats ≡ members → IsSeatedIn tasks members task → IsSeatedIn at seats task
+seated_at at tasks seats members task a b is = rw (a, b) is
+
+pub seat_read : (at tasks : List TaskRow) (seats members : List Seat) (task : Task) (seat : Seat) → at ≡ tasks → seats ≡ members → seat ≡ seat_at at seats task → seat ≡ seat_at tasks members task
+seat_read at tasks seats members task seat a b is = is ∙ rw (a, b) refl
+
+pub children_read : (groups : List GroupRow) (tasks : List TaskRow) (members : List Seat) (task : Task) (seat : Seat) (h : List Event) → GroupsStand groups tasks members h → seat ≡ seat_at tasks members task → (seat.children == 0) ≡ children_complete task h
+children_read groups tasks members task seat h st is = ap (λ (n : ℕ). n == 0) (ap (λ (s : Seat). s.children) is ∙ sym (st.children task)) ∙ done_is (λ t. is_child task t h) h
+
+pub done_read : (groups : List GroupRow) (tasks : List TaskRow) (members : List Seat) (q : ℕ) (row : GroupRow) (h : List Event) → GroupsStand groups tasks members h → q < length groups → row ≡ get_or groups q row → (row.pending == 0) ≡ group_complete q h
+done_read groups tasks members q row h st lt is = ap (λ (n : ℕ). n == 0) (ap (λ (r : GroupRow). r.pending) (get_or_read groups q row lt is no_group) ∙ sym (st.pending q)) ∙ done_is (λ t. in_group q t h) h
+
+pub open_read : (groups : List GroupRow) (tasks : List TaskRow) (members : List Seat) (task : Task) (seat : Seat) (h : List Event) → GroupsStand groups tasks members h → seat ≡ seat_at tasks members task → own_group seat ≡ last_open task h
+open_read groups tasks members task seat h st is = ap own_group is ∙ own_is groups (seat_at tasks members task) (open_groups task h) (groups_beyond task h) st.nested (st.last task) (st.around task)
+
+pub open_within : (groups : List GroupRow) (tasks : List TaskRow) (members : List Seat) (task : Task) (seat : Seat) (h : List Event) → GroupsStand groups tasks members h → seat ≡ seat_at tasks members task → IfSome (own_group seat) (λ q. q < length groups)
+open_within groups tasks members task seat h st is =
+    subst (λ (s : Seat). IfSome (own_group s) (λ q. q < length groups)) (sym is)
+    (by (same_group (seat_at tasks members task).last (seat_at tasks members task).around) (chain_starts groups (seat_at tasks members task).last (open_groups task h ++ groups_beyond task h) (st.last task)))
+  where
+    by : (b : Bool) → IfSome (seat_at tasks members task).last (λ q. q < length groups) → IfSome (if b then None else (seat_at tasks members task).last) (λ q. q < length groups)
+    by true low = tt
+    by false low = low
+
+-- What is written
+
+pub written : {A : Type 0} → (new old : List A) (n : ℕ) → length new ≡ length old → n ≡ length old → take n (new ++ drop (length new) old) ≡ new
+written new old n same size = rw (size ∙ sym same) (take-append_seam new (drop (length new) old))
+
+pub reseated : (at tasks new : List TaskRow) (seats members others : List Seat) (n k : ℕ) (task : Task) (seat : Seat) → at ≡ tasks → seats ≡ members → length new ≡ length at → length others ≡ length seats → n ≡ length tasks → k ≡ length members →
+    ((p : Task) → seat_at new others p ≡ (if same_task task p then seat else seat_at at seats p)) → ((i : ℕ) → (get_or new i no_task).parent ≡ (get_or at i no_task).parent) →
+    Reseats tasks members task seat (take n (new ++ drop (length new) tasks)) (take k (others ++ drop (length others) members))
+reseated at tasks new seats members others n k task seat a b same_tasks same_members tasks_size members_size seat_is parents =
+    subst (λ (xs : List TaskRow). Reseats tasks members task seat xs (take k (others ++ drop (length others) members))) (sym (written new tasks n (same_tasks ∙ ap length a) tasks_size))
+    (subst (λ (xs : List Seat). Reseats tasks members task seat new xs) (sym (written others members k (same_members ∙ ap length b) members_size))
+    (record { tasks_len = same_tasks ∙ ap length a; members_len = same_members ∙ ap length b; seat_is = λ p. seat_is p ∙ rw (a, b) refl; parents = λ i. parents i ∙ rw a refl }))
+
+-- a group that was opened
+pub open_writes : (groups pushed : List GroupRow) (tasks : List TaskRow) (members : List Seat) (task : Task) (seat : Seat) (group : ℕ) (tasks_now : List TaskRow) (members_now : List Seat) (h : List Event) (m : ℕ) → GroupsStand groups tasks members h → Executes (length members) m task h →
+    seat ≡ seat_at tasks members task → group ≡ length groups → pushed ≡ groups ++ record { outer = seat.last; pending = 0 } ∷ [] →
+    Reseats tasks members task (record { children = seat.children; around = seat.around; last = Some group }) tasks_now members_now →
+    GroupsStand pushed tasks_now members_now (Group group m ∷ h)
+open_writes groups pushed tasks members task seat group tasks_now members_now h m st executes is number pushed_is re =
+    rw (pushed_is, number, is) (open_keeps groups tasks members task tasks_now members_now h m st executes
+    (subst (λ (s : Seat). Reseats tasks members task (record { children = s.children; around = s.around; last = Some (length groups) }) tasks_now members_now) is
+    (subst (λ (n : ℕ). Reseats tasks members task (record { children = seat.children; around = seat.around; last = Some n }) tasks_now members_now) number re)))
+
+-- and one that was ended: the one that its task's children are in
+pub close_first : (groups : List GroupRow) (tasks : List TaskRow) (members : List Seat) (task : Task) (h : List Event) (q m n : ℕ) → GroupsStand groups tasks members h → MayClose n q m task h → ((seat_at tasks members task).last ≡ Some q) × (q < length groups)
+close_first groups tasks members task h q m n st may =
+    let open' : open_groups task h ≡ q ∷ may.rule.outer = rw (← may.current) may.rule.last in
+    let chain = rw open' at (st.last task) in
+    (chain.0, chain.1)
+
+pub close_writes : (groups : List GroupRow) (tasks : List TaskRow) (members : List Seat) (task : Task) (seat : Seat) (group : ℕ) (row : GroupRow) (tasks_now : List TaskRow) (members_now : List Seat) (h : List Event) (q m : ℕ) → GroupsStand groups tasks members h → MayClose (length members) q m task h →
+    seat ≡ seat_at tasks members task → seat.last ≡ Some group → row ≡ get_or groups group row →
+    Reseats tasks members task (record { children = seat.children; around = seat.around; last = row.outer }) tasks_now members_now →
+    GroupsStand groups tasks_now members_now (GroupEnd q m ∷ h)
+close_writes groups tasks members task seat group row tasks_now members_now h q m st may is last row_is re =
+    let first = close_first groups tasks members task h q m (length members) st may in
+    let found : (seat_at tasks members task).last ≡ Some group = rw (← is) last in
+    let same : q ≡ group = (let e : Some q ≡ Some group = sym first.0 ∙ found in cc) in
+    let read : row ≡ get_or groups group no_group = get_or_read groups group row (rw (← same) first.1) row_is no_group in
+    close_keeps groups tasks members task group tasks_now members_now h q m st may found
+    (subst (λ (s : Seat). Reseats tasks members task (record { children = s.children; around = s.around; last = outer_at groups group }) tasks_now members_now) is
+    (subst (λ (r : GroupRow). Reseats tasks members task (record { children = seat.children; around = seat.around; last = r.outer }) tasks_now members_now) read re))
+
+-- a task that was created
+how_many_most : (n : ℕ) (test : ℕ → Bool) → how_many n test ≤ n
+how_many_most zero test = omega arith
+how_many_most (suc n) test = by (test (suc n)) (how_many_most n test)
+  where
+    by : (b : Bool) → how_many n test ≤ n → (if b then how_many n test + 1 else how_many n test) ≤ suc n
+    by true le = omega (arith, le)
+    by false le = omega (arith, le)
+
+pub pending_most : (groups : List GroupRow) (tasks : List TaskRow) (members : List Seat) (h : List Event) (q : ℕ) → GroupsStand groups tasks members h → pending_at groups q ≤ length tasks
+pending_most groups tasks members h q st = rw (← st.pending q, ← st.created) (how_many_most (tasks_created h) (λ t. in_group q t h && not (is_complete t h)))
+
+pub children_most : (groups : List GroupRow) (tasks : List TaskRow) (members : List Seat) (h : List Event) (p : Task) → GroupsStand groups tasks members h → (seat_at tasks members p).children ≤ length tasks
+children_most groups tasks members h p st = rw (← st.children p, ← st.created) (how_many_most (tasks_created h) (λ t. is_child p t h && not (is_complete t h)))
+
+pub create_writes : (groups groups_new : List GroupRow) (tasks pushed : List TaskRow) (members : List Seat) (parent : Task) (seat : Seat) (n : ℕ) (tasks_now : List TaskRow) (members_now : List Seat) (h : List Event) (m : ℕ) (desc : TaskDesc) → GroupsStand groups tasks members h → MayCreateIn (length members) m parent h →
+    seat ≡ seat_at tasks members parent → n ≡ length groups →
+    ((qs : List ℕ) → IsChain groups seat.last qs → CountsOneMore qs groups groups_new) →
+    pushed ≡ tasks_now ++ record { parent = parent; seat = record { children = 0; around = seat.last; last = seat.last } } ∷ [] →
+    Reseats tasks members parent (record { children = seat.children + 1; around = seat.around; last = seat.last }) tasks_now members_now →
+    GroupsStand (take n (groups_new ++ drop (length groups_new) groups)) pushed members_now (Create (suc (tasks_created h)) m parent desc ∷ h)
+create_writes groups groups_new tasks pushed members parent seat n tasks_now members_now h m desc st may is size counts pushed_is re =
+    let chain : IsChain groups seat.last (open_groups parent h ++ groups_beyond parent h) = rw is (st.last parent) in
+    let counted = counts (open_groups parent h ++ groups_beyond parent h) chain in
+    rw (written groups_new groups n counted.len size, pushed_is, is) (create_keeps groups tasks members parent groups_new tasks_now members_now h m desc st may counted
+    (subst (λ (s : Seat). Reseats tasks members parent (record { children = s.children + 1; around = s.around; last = s.last }) tasks_now members_now) is re))
+
+-- a task that was ended
+
+-- it has a row
+pub row_there : (groups : List GroupRow) (tasks : List TaskRow) (members : List Seat) (t : ℕ) (h : List Event) (m n : ℕ) → GroupsStand groups tasks members h → MayEnd n t m h → (0 < t) × (t - 1 < length tasks)
+row_there groups tasks members t h m n st may =
+    let made = (current_open (length members) m t h st.rule may.current).0 in
+    let low = created_low t h made in
+    let high = created_high t h made in
+    let count = st.created in
+    (low, omega (arith, low, high, count))
+
+-- and what that says
+pub record RowSays (groups : List GroupRow) (tasks : List TaskRow) (members : List Seat) (t : ℕ) (row : TaskRow) (h : List Event) : Type 0 where
+  pub parent_is : (get_or tasks (t - 1) no_task).parent ≡ row.parent
+  -- its groups, in each of which it is open
+  pub around : IsChain groups row.seat.around (groups_around t h)
+  pub some : (q : ℕ) → (if contains q (groups_around t h) then 1 else 0) ≤ pending_at groups q
+  -- its parent, of which it is an open child
+  pub child : 1 ≤ (seat_at tasks members row.parent).children
+
+pub row_says : (groups : List GroupRow) (tasks : List TaskRow) (members : List Seat) (t : ℕ) (row : TaskRow) (h : List Event) (m n : ℕ) → GroupsStand groups tasks members h → MayEnd n t m h → row ≡ get_or tasks (t - 1) row → RowSays groups tasks members t row h
+row_says groups tasks members t row h m n st may is =
+    let there = row_there groups tasks members t h m n st may in
+    let read : row ≡ get_or tasks (t - 1) no_task = get_or_read tasks (t - 1) row there.1 is no_task in
+    let low = there.0 in
+    let place : suc (t - 1) ≡ t = omega (arith, low) in
+    let seat : seat_at tasks members (Explicit t) ≡ row.seat = subst (λ (x : ℕ). seat_at tasks members (Explicit x) ≡ row.seat) place (ap (λ (r : TaskRow). r.seat) (sym read)) in
+    let parent : (get_or tasks (t - 1) no_task).parent ≡ row.parent = ap (λ (r : TaskRow). r.parent) (sym read) in
+    let own = current_open (length members) m t h st.rule may.current in
+    record {
+      parent_is = parent;
+      around = rw (← seat) (st.around (Explicit t));
+      some = λ q. in_each own.0 own.1 q (contains q (groups_around t h)) refl;
+      child =
+          let done = open_done (λ u. is_child row.parent u h) t m h own.0 (child_is groups tasks members t h row.parent st own.0 parent row.parent ∙ same_task_self row.parent) own.1 in
+          let was = st.children row.parent in
+          omega (arith, done, was);
+    }
+  where
+    in_each : is_created t h ≡ true → is_complete t h ≡ false → (q : ℕ) (b : Bool) → contains q (groups_around t h) ≡ b → (if b then 1 else 0) ≤ pending_at groups q
+    in_each made incomplete q true there =
+        let done = open_done (λ u. in_group q u h) t m h made there incomplete in
+        let was = st.pending q in
+        omega (arith, done, was)
+    in_each made incomplete q false away = omega arith
+
+-- who has an open child has a seat
+pub parent_seated : (tasks : List TaskRow) (members : List Seat) (p : Task) → 1 ≤ (seat_at tasks members p).children → IsSeatedIn tasks members p
+parent_seated tasks members (Implicit x) some =
+    elim (cases_lt x (length members)) [
+      | inl lt ↦ lt
+      | inr past ↦ absurd (let none : (get_or members x no_seat).children ≡ 0 = ap (λ (s : Seat). s.children) (get_or_past members x no_seat past) in omega (arith, none, some))
+    ]
+parent_seated tasks members (Explicit zero) some = absurd (omega (arith, some))
+parent_seated tasks members (Explicit (suc k)) some =
+    elim (cases_lt k (length tasks)) [
+      | inl lt ↦ (omega arith, omega (arith, lt))
+      | inr past ↦ absurd (let none : (get_or tasks k no_task).seat.children ≡ 0 = ap (λ (r : TaskRow). r.seat.children) (get_or_past tasks k no_task past) in omega (arith, none, some))
+    ]
+
+pub complete_writes : (groups groups_new : List GroupRow) (tasks : List TaskRow) (members : List Seat) (t : ℕ) (row : TaskRow) (parent : Seat) (n : ℕ) (tasks_now : List TaskRow) (members_now : List Seat) (h : List Event) (m : ℕ) → GroupsStand groups tasks members h → MayEnd (length members) t m h →
+    row ≡ get_or tasks (t - 1) row → parent ≡ seat_at tasks members row.parent → n ≡ length groups →
+    ((qs : List ℕ) → IsChain groups row.seat.around qs → CountsOneMore qs groups_new groups) →
+    Reseats tasks members row.parent (record { children = parent.children - 1; around = parent.around; last = parent.last }) tasks_now members_now →
+    GroupsStand (take n (groups_new ++ drop (length groups_new) groups)) tasks_now members_now (Done t m ∷ h)
+complete_writes groups groups_new tasks members t row parent n tasks_now members_now h m st may row_is parent_is size counts re =
+    let says = row_says groups tasks members t row h m (length members) st may row_is in
+    let counted = counts (groups_around t h) says.around in
+    rw (written groups_new groups n (sym counted.len) size) (complete_keeps groups tasks members t groups_new tasks_now members_now h m row.parent st may says.parent_is counted
+    (subst (λ (s : Seat). Reseats tasks members row.parent (record { children = s.children - 1; around = s.around; last = s.last }) tasks_now members_now) parent_is re))

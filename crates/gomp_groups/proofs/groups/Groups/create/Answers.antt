@@ -1,0 +1,57 @@
+use Rattle.std.proofs.Common.{ℕ, ◌+◌, ◌<◌, ◌≤◌, ◌^◌, List, ◌∷◌, length, ap, sym, subst, arith, suc}
+use Rattle.gomp_types.specs.declared.task.TaskDesc.{TaskDesc}
+use Rattle.gomp_types.specs.declared.event.Event.{Event}
+use Rattle.gomp_types.specs.declared.event.Event.TheVariants.{Create}
+use Rattle.gomp_types.specs.Tasks.{tasks_created}
+use Rattle.gomp_groups.specs.declared.rows.GroupRow.{GroupRow}
+use Rattle.gomp_groups.specs.declared.rows.Seat.{Seat}
+use Rattle.gomp_groups.specs.Rows.{pending_at, IsChain, CountsOneMore}
+use Rattle.gomp_groups.specs.Stands.{GroupsView, Stands, members_of}
+use Rattle.gomp_groups.specs.Calls.{MayCreateIn}
+use Rattle.gomp_groups.proofs.GroupsKeep.{executed_seated}
+use Rattle.gomp_groups.proofs.Fields.{view_stands, seated_at, seat_read, reseated, pending_most, children_most, create_writes}
+use Rattle.gomp_groups.proofs.groups.Groups.create.Goals as goal
+
+pub seat_of-seat-requires : goal.seat_of-seat-requires
+seat_of-seat-requires c =
+    let may = subst (λ (v : GroupsView). (h : List Event) × (m : ℕ) × Stands v h × MayCreateIn (members_of v) m c.args.parent h) (sym c.self.view_is) c.requires.may in
+    let seated = executed_seated c.self.inside.groups.items c.self.inside.tasks.items c.self.inside.members.items may.0 may.1 c.args.parent may.2 may.3.member (sym may.3.current) in
+    record { seated = seated_at _ _ _ _ c.args.parent c.deref.ensures.value c.deref-2.ensures.value seated }
+
+pub add_task-requires-clause-room : goal.add_task-requires-clause-room
+add_task-requires-clause-room c = λ q.
+    let (h, st) = c.self.invariant in
+    let most = pending_most c.self.inside.groups.items c.self.inside.tasks.items c.self.inside.members.items h q st in
+    let here = ap (λ (xs : List GroupRow). pending_at xs q) c.deref_mut.ensures.value in
+    let ok = c.self.inside.tasks.ok in
+    let small = c.self.inside.tasks.small in
+    omega (arith, most, here, ok, small)
+
+pub overflow_add-with_child : goal.overflow_add-with_child
+overflow_add-with_child c =
+    let (h, st) = c.self.invariant in
+    let most = children_most c.self.inside.groups.items c.self.inside.tasks.items c.self.inside.members.items h c.args.parent st in
+    let seat = ap (λ (s : Seat). s.children) (seat_read _ _ _ _ c.args.parent _ c.deref.ensures.value c.deref-2.ensures.value c.seat_of-seat.ensures.value) in
+    let ok = c.self.inside.tasks.ok in
+    let small = c.self.inside.tasks.small in
+    omega (arith, most, seat, ok, small)
+
+pub put_seat-requires : goal.put_seat-requires
+put_seat-requires c =
+    let may = subst (λ (v : GroupsView). (h : List Event) × (m : ℕ) × Stands v h × MayCreateIn (members_of v) m c.args.parent h) (sym c.self.view_is) c.requires.may in
+    let seated = executed_seated c.self.inside.groups.items c.self.inside.tasks.items c.self.inside.members.items may.0 may.1 c.args.parent may.2 may.3.member (sym may.3.current) in
+    record { seated = seated_at _ _ _ _ c.args.parent c.deref_mut-2.ensures.value c.deref_mut-3.ensures.value seated }
+
+pub returns-clause-stands : goal.returns-clause-stands
+returns-clause-stands c = λ h m desc st may.
+    let seat = seat_read _ _ _ _ c.args.parent _ c.deref.ensures.value c.deref-2.ensures.value c.seat_of-seat.ensures.value in
+    let re = reseated _ c.self.inside.tasks.items _ _ c.self.inside.members.items _ _ _ c.args.parent _ c.deref_mut-2.ensures.value c.deref_mut-3.ensures.value c.put_seat.auto.tasks c.put_seat.auto.members c.self.inside.tasks.ok.0 c.self.inside.members.ok.0 c.put_seat.ensures.seat c.put_seat.ensures.parents in
+    let counts = subst (λ (xs : List GroupRow). (qs : List ℕ) → IsChain xs c.seat_of-seat.result.last qs → CountsOneMore qs xs c.add_task.new.groups) c.deref_mut.ensures.value c.add_task.ensures.counts in
+    create_writes c.self.inside.groups.items _ c.self.inside.tasks.items _ c.self.inside.members.items c.args.parent _ _ _ _ h m desc (view_stands _ _ h c.self.view_is st)
+    (subst (λ (v : GroupsView). MayCreateIn (members_of v) m c.args.parent h) (sym c.self.view_is) may) seat c.self.inside.groups.ok.0 counts c.push_reserved.ensures.items re
+
+pub invariant_of-self : goal.invariant_of-self
+invariant_of-self c =
+    let may : (h : List Event) × (m : ℕ) × Stands c.args.self.now h × MayCreateIn (members_of c.args.self.now) m c.args.parent h = c.requires.may in
+    let desc : TaskDesc = record { code = 0; arg = 0 } in
+    (Create (suc (tasks_created may.0)) may.1 c.args.parent desc ∷ may.0, returns-clause-stands c may.0 may.1 desc may.2 may.3)

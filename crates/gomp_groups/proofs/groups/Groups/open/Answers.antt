@@ -1,0 +1,32 @@
+use Rattle.std.proofs.Common.{ℕ, List, ◌∷◌, ◌∙◌, sym, subst}
+use Rattle.gomp_types.specs.declared.event.Event.{Event}
+use Rattle.gomp_types.specs.declared.event.Event.TheVariants.{Group}
+use Rattle.gomp_groups.specs.Stands.{GroupsView, Stands, members_of}
+use Rattle.gomp_groups.specs.Calls.{Executes}
+use Rattle.gomp_groups.proofs.GroupsKeep.{executed_seated}
+use Rattle.gomp_groups.proofs.Fields.{view_stands, seated_at, seat_read, reseated, open_writes}
+use Rattle.gomp_groups.proofs.groups.Groups.open.Goals as goal
+
+pub seat_of-seat-requires : goal.seat_of-seat-requires
+seat_of-seat-requires c =
+    let may = subst (λ (v : GroupsView). (h : List Event) × (m : ℕ) × Stands v h × Executes (members_of v) m c.args.task h) (sym c.self.view_is) c.requires.may in
+    let seated = executed_seated c.self.inside.groups.items c.self.inside.tasks.items c.self.inside.members.items may.0 may.1 c.args.task may.2 may.3.member may.3.current in
+    record { seated = seated_at _ _ _ _ c.args.task c.deref.ensures.value c.deref-2.ensures.value seated }
+
+pub put_seat-requires : goal.put_seat-requires
+put_seat-requires c =
+    let may = subst (λ (v : GroupsView). (h : List Event) × (m : ℕ) × Stands v h × Executes (members_of v) m c.args.task h) (sym c.self.view_is) c.requires.may in
+    let seated = executed_seated c.self.inside.groups.items c.self.inside.tasks.items c.self.inside.members.items may.0 may.1 c.args.task may.2 may.3.member may.3.current in
+    record { seated = seated_at _ _ _ _ c.args.task c.deref_mut.ensures.value c.deref_mut-2.ensures.value seated }
+
+pub returns-clause-stands : goal.returns-clause-stands
+returns-clause-stands c = λ h m st executes.
+    let seat = seat_read _ _ _ _ c.args.task _ c.deref.ensures.value c.deref-2.ensures.value c.seat_of-seat.ensures.value in
+    let re = reseated _ c.self.inside.tasks.items _ _ c.self.inside.members.items _ _ _ c.args.task _ c.deref_mut.ensures.value c.deref_mut-2.ensures.value c.put_seat.auto.tasks c.put_seat.auto.members c.self.inside.tasks.ok.0 c.self.inside.members.ok.0 c.put_seat.ensures.seat c.put_seat.ensures.parents in
+    open_writes c.self.inside.groups.items _ c.self.inside.tasks.items c.self.inside.members.items c.args.task _ _ _ _ h m (view_stands _ _ h c.self.view_is st)
+    (subst (λ (v : GroupsView). Executes (members_of v) m c.args.task h) (sym c.self.view_is) executes) seat (c.len-group.ensures ∙ c.self.inside.groups.ok.0) c.push_reserved.ensures.items re
+
+pub invariant_of-self : goal.invariant_of-self
+invariant_of-self c =
+    let may : (h : List Event) × (m : ℕ) × Stands c.args.self.now h × Executes (members_of c.args.self.now) m c.args.task h = c.requires.may in
+    (Group c.len-group.result may.1 ∷ may.0, returns-clause-stands c may.0 may.1 may.2 may.3)

@@ -1,0 +1,119 @@
+-- The tasks that a member has started and not ended lie one above another: what descends from the innermost descends from all.
+use Rattle.std.proofs.Common.{◌≡◌, ℕ, ◌-◌, ◌<◌, ◌≤◌, Bool, true, false, List, [], ◌∷◌, Some, length, slice_get, refl, ◌∙◌, sym, subst, arith, suc, zero, inl, inr}
+use Rattle.std.specs.Prelude.{◌==◌, ◌||◌, if◌then◌else◌}
+use Rattle.std.proofs.lemmas.Bool.{cases_Bool}
+use Rattle.gomp_types.specs.declared.task.Task.{Task}
+use Rattle.gomp_types.specs.declared.task.Task.TheVariants.{Implicit, Explicit}
+use Rattle.gomp_types.specs.declared.event.Event.{Event}
+use Rattle.gomp_types.specs.declared.event.Event.TheVariants.{Create, Start, Done}
+use Rattle.gomp_types.specs.Events.{at_barrier}
+use Rattle.gomp_types.specs.Tasks.{task_stack, executed_task, innermost_task, after_first, contains, same_task, of_explicit, is_ancestor}
+use Rattle.gomp_types.specs.Goals.{each_of, is_ready, may_descend, may_start}
+use Rattle.gomp_types.specs.Laws.{Always}
+use Rattle.gomp_types.specs.TaskRules.{TaskRule}
+use Rattle.gomp_types.proofs.Booleans.{and_left, and_right, or_tells, or_right, same_number, other_number, is_equal}
+use Rattle.gomp_types.proofs.OpenTasks.{created_high}
+use Rattle.gomp_types.proofs.Suspended.{tasks_stacked}
+use Rattle.gomp_tasks.specs.declared.rows.TaskRow.{TaskRow}
+use Rattle.gomp_tasks.specs.Stands.{RowsStand}
+use Rattle.gomp_tasks.specs.Calls.{is_under_all}
+use Rattle.gomp_tasks.proofs.TasksKeep.{task_row_of}
+
+-- An ancestor of an ancestor is an ancestor
+
+has_row : (rows : List TaskRow) (k : ℕ) → k < length rows → (row : TaskRow) × (slice_get rows k ≡ Some row)
+has_row [] k lt = absurd (omega arith)
+has_row (row ∷ rows) zero lt = (row, refl)
+has_row (row ∷ rows) (suc k) lt = has_row rows k (omega arith)
+
+-- what is above the task s is above each parent that s is, or that lies below s
+over_parent : (a : Task) (s t : ℕ) (h : List Event) → is_ancestor a s h ≡ true → ((q : ℕ) → 0 < q → q < t → is_ancestor (Explicit s) q h ≡ true → is_ancestor a q h ≡ true) → (p : Task) → ((q : ℕ) → p ≡ Explicit q → (0 < q) × (q < t)) →
+    (same_task p (Explicit s) || of_explicit (λ q. is_ancestor (Explicit s) q h) p) ≡ true → (same_task p a || of_explicit (λ q. is_ancestor a q h) p) ≡ true
+over_parent a s t h top through (Implicit x) older far = absurd (cc)
+over_parent a s t h top through (Explicit q) older far =
+    let is = older q refl in
+    or_right (same_task (Explicit q) a) (is_ancestor a q h) (elim (or_tells (q == s) (is_ancestor (Explicit s) q h) far) [
+      | inl same ↦ subst (λ (x : ℕ). is_ancestor a x h ≡ true) (sym (is_equal q s same)) top
+      | inr further ↦ through q is.0 is.1 further
+    ])
+
+-- so it is above each task below s; tasks up to `most` are looked through
+through_parent : (rows : List TaskRow) (stacks : List (List ℕ)) (h : List Event) → RowsStand rows stacks h → (a : Task) (s : ℕ) → is_ancestor a s h ≡ true → (most t : ℕ) → t < most → 0 < t → t ≤ length rows → is_ancestor (Explicit s) t h ≡ true → is_ancestor a t h ≡ true
+through_parent rows stacks h st a s top zero t lt low high e = absurd (omega arith)
+through_parent rows stacks h st a s top (suc most) t lt low high e =
+    let found = has_row rows (t - 1) (omega (arith, low, high)) in
+    let is = (task_row_of rows stacks t found.0 h st low found.1).parent in
+    is.ancestors a ∙ over_parent a s t h top (λ q some older far. through_parent rows stacks h st a s top most q (omega (arith, lt, older)) some (omega (arith, high, older)) far) found.0.parent is.older (sym (is.ancestors (Explicit s)) ∙ e)
+
+-- The started tasks of a member
+
+-- each of them descends from those before it
+abbrev Chained : (ℕ → ℕ → Bool) → List ℕ → Type 0
+Chained under [] = Unit {0}
+Chained under (t ∷ ts) = (each_of (λ s. under s t) ts ≡ true) × Chained under ts
+
+each_same : (one other : ℕ → Bool) (ts : List ℕ) → ((t : ℕ) → other t ≡ one t) → each_of one ts ≡ true → each_of other ts ≡ true
+each_same one other [] same e = refl
+each_same one other (t ∷ ts) same e =
+    rw (same t, and_left (one t) (each_of one ts) e) (each_same one other ts same (and_right (one t) (each_of one ts) e))
+
+chained_same : (one other : ℕ → ℕ → Bool) (ts : List ℕ) → ((s t : ℕ) → contains t ts ≡ true → other s t ≡ one s t) → Chained one ts → Chained other ts
+chained_same one other [] same all = tt
+chained_same one other (t ∷ ts) same all =
+    (each_same (λ s. one s t) (λ s. other s t) ts (λ s. same s t (rw (same_number t) refl)) all.0, chained_same one other ts (λ s u there. same s u (or_right (t == u) (contains u ts) there)) all.1)
+
+chained_rest : (under : ℕ → ℕ → Bool) (ts : List ℕ) → Chained under ts → (b : Bool) → Chained under (if b then after_first ts else ts)
+chained_rest under [] all true = tt
+chained_rest under (t ∷ ts) all true = all.1
+chained_rest under ts all false = all
+
+chained_more : (m task member : ℕ) (h : List Event) → may_start member task h ≡ true → Chained (λ s t. is_ancestor (Explicit s) t h) (task_stack m h) → (b : Bool) → (member == m) ≡ b →
+    Chained (λ s t. is_ancestor (Explicit s) t h) (if b then task ∷ task_stack m h else task_stack m h)
+chained_more m task member h may all false e = all
+chained_more m task member h may all true e =
+    let down = and_right (is_ready task h) (may_descend member task h) may in
+    let each = and_left (is_under_all (task_stack member h) task h) (at_barrier member h || is_ancestor (Implicit member) task h) down in
+    (subst (λ (x : ℕ). is_under_all (task_stack x h) task h ≡ true) (is_equal member m e) each, all)
+
+started_chained : (members m : ℕ) (h : List Event) → Always (TaskRule members) h → Chained (λ s t. is_ancestor (Explicit s) t h) (task_stack m h)
+started_chained members m [] all = tt
+started_chained members m (Start task member ∷ earlier) all = chained_more m task member earlier all.0.may (started_chained members m earlier all.1) (member == m) refl
+started_chained members m (Done task member ∷ earlier) all = chained_rest (λ s t. is_ancestor (Explicit s) t earlier) (task_stack m earlier) (started_chained members m earlier all.1) (member == m)
+started_chained members m (Create task member p desc ∷ earlier) all =
+    chained_same (λ s t. is_ancestor (Explicit s) t earlier) (λ s t. is_ancestor (Explicit s) t (Create task member p desc ∷ earlier)) (task_stack m earlier)
+    (λ s t there.
+    let high = created_high t earlier (((tasks_stacked members earlier all.1) m).1 t there).0 in
+    let number = all.0.number in
+    let old : (task == t) ≡ false = other_number task t (λ same. omega (arith, high, number, same)) in rw old refl)
+    (started_chained members m earlier all.1)
+started_chained members m (_ ∷ earlier) all = started_chained members m earlier all.1
+
+-- what descends from one descends from all that this one descends from
+under_rest : (rows : List TaskRow) (stacks : List (List ℕ)) (t s : ℕ) (ss : List ℕ) (h : List Event) → RowsStand rows stacks h → 0 < t → t ≤ length rows → is_ancestor (Explicit s) t h ≡ true → is_under_all ss s h ≡ true → is_under_all ss t h ≡ true
+under_rest rows stacks t s [] h st low high far each = refl
+under_rest rows stacks t s (u ∷ us) h st low high far each =
+    rw (through_parent rows stacks h st (Explicit u) s (and_left (is_ancestor (Explicit u) s h) (is_under_all us s h) each) (suc t) t (omega arith) low high far)
+    (under_rest rows stacks t s us h st low high far (and_right (is_ancestor (Explicit u) s h) (is_under_all us s h) each))
+
+-- the innermost tells
+pub under_all_of : (rows : List TaskRow) (stacks : List (List ℕ)) (t s : ℕ) (ss : List ℕ) (h : List Event) → RowsStand rows stacks h → 0 < t → t ≤ length rows → Chained (λ u v. is_ancestor (Explicit u) v h) (s ∷ ss) → is_under_all (s ∷ ss) t h ≡ is_ancestor (Explicit s) t h
+under_all_of rows stacks t s ss h st low high all =
+    elim (cases_Bool (is_ancestor (Explicit s) t h)) [
+      | inl far ↦ rw far (under_rest rows stacks t s ss h st low high far all.0)
+      | inr not_under ↦ rw not_under refl
+    ]
+
+pub under_started : (rows : List TaskRow) (stacks : List (List ℕ)) (m t s : ℕ) (h : List Event) → RowsStand rows stacks h → 0 < t → t ≤ length rows → executed_task m h ≡ Explicit s → is_under_all (task_stack m h) t h ≡ is_ancestor (Explicit s) t h
+under_started rows stacks m t s h st low high top = by (task_stack m h) (started_chained (length stacks) m h st.rule) top
+  where
+    by : (ts : List ℕ) → Chained (λ u v. is_ancestor (Explicit u) v h) ts → innermost_task m ts ≡ Explicit s → is_under_all ts t h ≡ is_ancestor (Explicit s) t h
+    by [] all e = absurd (cc)
+    by (x ∷ xs) all e = let same : x ≡ s = cc in subst (λ (y : ℕ). is_under_all (x ∷ xs) t h ≡ is_ancestor (Explicit y) t h) same (under_all_of rows stacks t x xs h st low high all)
+
+-- a member that has started no task that it has not ended
+pub under_none : (m t : ℕ) (h : List Event) → executed_task m h ≡ Implicit m → is_under_all (task_stack m h) t h ≡ true
+under_none m t h top = by (task_stack m h) top
+  where
+    by : (ts : List ℕ) → innermost_task m ts ≡ Implicit m → is_under_all ts t h ≡ true
+    by [] e = refl
+    by (x ∷ xs) e = absurd (cc)

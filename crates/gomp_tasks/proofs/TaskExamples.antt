@@ -1,0 +1,289 @@
+-- When rows and stacks stand for events, and what the calls ask for: for each line of a definition what it says, and what it alone refuses.
+use Rattle.std.proofs.Common.{◌≡◌, ℕ, ◌<◌, true, false, List, [], ◌∷◌, Option, Some, None, slice_get, refl, subst, ap, arith, suc, zero}
+use Rattle.gomp_types.specs.declared.refusal.Place.{Place}
+use Rattle.gomp_types.specs.declared.shape.Shape.{Shape}
+use Rattle.gomp_types.specs.declared.key.Key.{Key}
+use Rattle.gomp_types.specs.declared.event.Tag.{Tag}
+use Rattle.gomp_types.specs.declared.event.Arrival.TheVariants as arrivals
+use Rattle.gomp_types.specs.declared.task.Task.{Task}
+use Rattle.gomp_types.specs.declared.task.Task.TheVariants.{Implicit, Explicit}
+use Rattle.gomp_types.specs.declared.task.TaskDesc.{TaskDesc}
+use Rattle.gomp_types.specs.declared.event.Event.TheVariants.{Enter, Take, Drained, End, HandOn, Part, PartEnd, Put, Got, Arrive, Pass, Hold, Free, Create, Start, Done, Group, GroupEnd, Waited, Break}
+use Rattle.gomp_types.specs.Tasks.{task_stack, executed_task, innermost_task}
+use Rattle.gomp_tasks.specs.declared.tasks.TheConstants.{MAX_TASKS}
+use Rattle.gomp_tasks.specs.declared.rows.TaskState.TheVariants as states
+use Rattle.gomp_tasks.specs.declared.rows.TaskRow.{TaskRow}
+use Rattle.gomp_tasks.specs.Rows.{is_started, is_over, Follows, desc_of, started_by, completed, first_of, IsState, IsParent, RowStands}
+use Rattle.gomp_tasks.specs.Stands.{TasksView, members_of, count_of, IsNumber, IsTask, Stands, AreSame, AreTasks}
+use Rattle.gomp_tasks.specs.Calls.{MayCreateNext, task_or_implicit, is_under_all, IsAside}
+use Rattle.gomp_tasks.proofs.TasksKeep.{executed_number}
+use Rattle.gomp_tasks.specs.Examples.{first_desc, one_created, two_created, two_started, second_done, first_with, second_with, first_running, second_running, tasks_with, both_running}
+
+-- What is kept of a task
+
+-- a task that runs was started, and one that is complete too
+pub states_started : (is_started states.Ready ≡ false) × (is_started states.Running ≡ true) × (is_started states.Done ≡ true)
+states_started = (refl, refl, refl)
+
+-- only the latter is complete
+pub states_over : (is_over states.Ready ≡ false) × (is_over states.Running ≡ false) × (is_over states.Done ≡ true)
+states_over = (refl, refl, refl)
+
+-- a state stays, or moves forward
+pub states_that_follow : Follows states.Ready states.Ready × Follows states.Ready states.Running × Follows states.Ready states.Done × Follows states.Running states.Running × Follows states.Running states.Done × Follows states.Done states.Done
+states_that_follow = (tt, tt, tt, tt, tt, tt)
+
+-- and never back
+pub states_that_do_not : (Follows states.Running states.Ready → ⊥) × (Follows states.Done states.Ready → ⊥) × (Follows states.Done states.Running → ⊥)
+states_that_do_not = (λ is. is, λ is. is, λ is. is)
+
+-- what was asked for
+pub desc_of_a_row : desc_of first_running ≡ first_desc
+desc_of_a_row = refl
+
+-- a task that the first member starts
+pub row_once_started : started_by 0 (first_with None states.Ready) ≡ first_running
+row_once_started = refl
+
+-- and that it ends
+pub row_once_completed : completed first_running ≡ first_with (Some 0) states.Done
+row_once_completed = refl
+
+-- the innermost of two tasks, and of none
+pub first_of_a_stack : (first_of (2 ∷ 1 ∷ []) ≡ Some 2) × (first_of [] ≡ None)
+first_of_a_stack = (refl, refl)
+
+-- When a state does
+
+-- a task that nobody has started, one that runs, one that is complete
+pub states_told : IsState 2 states.Ready two_created × IsState 2 states.Running two_started × IsState 2 states.Done second_done
+states_told = (record { started = refl; complete = refl }, record { started = refl; complete = refl }, record { started = refl; complete = refl })
+
+-- a task that runs, as if nobody had started it
+pub state_not_started : IsState 2 states.Ready two_started → ⊥
+state_not_started is = absurd (let on = is.started in cc)
+
+-- one that is complete, as if it runner_has_started
+pub state_not_complete : IsState 2 states.Running second_done → ⊥
+state_not_complete is = absurd (let over = is.complete in cc)
+
+-- When a parent does
+
+-- the second task was created in the first
+first_is_parent : IsParent 2 (Explicit 1) two_started
+first_is_parent = record {
+  children = λ p. refl;
+  ancestors = λ a. refl;
+  older = λ p e. let same : 1 ≡ p = cc in (omega (arith, same), omega (arith, same));
+}
+
+-- and the first in an implicit one
+implicit_is_parent : IsParent 1 (Implicit 0) two_started
+implicit_is_parent = record { children = λ p. refl; ancestors = λ a. refl; older = λ p e. absurd (cc) }
+
+pub parents_told : IsParent 2 (Explicit 1) two_started × IsParent 1 (Implicit 0) two_started
+parents_told = (first_is_parent, implicit_is_parent)
+
+-- another task with the same ancestors: two that were created in each other, against the rule
+pub parent_of_another : IsParent 3 (Explicit 1) (Create 3 0 (Explicit 2) first_desc ∷ Create 2 0 (Explicit 1) first_desc ∷ Create 1 0 (Explicit 2) first_desc ∷ Create 2 0 (Explicit 1) first_desc ∷ []) → ⊥
+parent_of_another is = absurd (let other = is.children (Explicit 2) in cc)
+
+-- an ancestor that the parent has no more: it was created twice, against the rule
+pub parent_of_other_ancestors : IsParent 2 (Explicit 1) (Create 1 1 (Implicit 1) first_desc ∷ Create 2 0 (Explicit 1) first_desc ∷ Create 1 0 (Implicit 0) first_desc ∷ []) → ⊥
+parent_of_other_ancestors is = absurd (let other = is.ancestors (Implicit 0) in cc)
+
+-- a parent that is younger
+pub parent_is_younger : IsParent 1 (Explicit 2) (Create 1 0 (Explicit 2) first_desc ∷ []) → ⊥
+parent_is_younger is = absurd (let older = (is.older 2 refl).1 in omega arith)
+
+-- one whose number is none
+pub parent_is_none : IsParent 1 (Explicit 0) (Create 1 0 (Explicit 0) first_desc ∷ []) → ⊥
+parent_is_none is = absurd (let some = (is.older 0 refl).0 in omega arith)
+
+-- When a row does
+
+first_row_stands : RowStands 1 first_running two_started
+first_row_stands = record { desc = refl; parent = implicit_is_parent; depth = refl; odd = refl; runner = refl; state = record { started = refl; complete = refl } }
+
+second_row_stands : RowStands 2 second_running two_started
+second_row_stands = record { desc = refl; parent = first_is_parent; depth = refl; odd = refl; runner = refl; state = record { started = refl; complete = refl } }
+
+-- the rows of both tasks
+pub rows_stand : RowStands 1 first_running two_started × RowStands 2 second_running two_started
+rows_stand = (first_row_stands, second_row_stands)
+
+-- on what a task does its work, if there is one
+abbrev arg_or_zero : Option TaskDesc → ℕ
+arg_or_zero None = 0
+arg_or_zero (Some desc) = desc.arg
+
+-- with the argument of another task
+pub row_of_another_desc : RowStands 2 (record second_running { arg = 3 }) two_started → ⊥
+row_of_another_desc row = absurd (let arg : 4 ≡ 3 = ap arg_or_zero row.desc in omega (arith, arg))
+
+-- with the parent of its parent
+pub row_of_another_parent : RowStands 2 (record second_running { parent = Implicit 0 }) two_started → ⊥
+row_of_another_parent row = absurd (let other = row.parent.children (Implicit 0) in cc)
+
+-- as deep as its parent
+pub row_of_another_depth : RowStands 2 (record second_running { depth = 1 }) two_started → ⊥
+row_of_another_depth row = absurd (let depth = row.depth in omega arith)
+
+-- bound to the barrier before
+pub row_of_another_barrier : RowStands 2 (record second_running { odd = false }) two_started → ⊥
+row_of_another_barrier row = absurd (let odd = row.odd in cc)
+
+-- started by another member
+pub row_of_another_runner : RowStands 2 (record second_running { runner = Some 1 }) two_started → ⊥
+row_of_another_runner row = absurd (let runner = row.runner in cc)
+
+-- done while it runs
+pub row_of_another_state : RowStands 2 (record second_running { state = states.Done }) two_started → ⊥
+row_of_another_state row = absurd (let over = row.state.complete in cc)
+
+-- When all do
+
+of_two_rows : (P : ℕ → TaskRow → Type 0) (a b : TaskRow) → P 0 a → P 1 b → (k : ℕ) (row : TaskRow) → slice_get (a ∷ b ∷ []) k ≡ Some row → P k row
+of_two_rows P a b first second zero row at = let same : a ≡ row = cc in subst (P 0) same first
+of_two_rows P a b first second (suc zero) row at = let same : b ≡ row = cc in subst (P 1) same second
+of_two_rows P a b first second (suc (suc k)) row at = absurd (cc)
+
+of_two_stacks : (P : ℕ → List ℕ → Type 0) (a b : List ℕ) → P 0 a → P 1 b → (m : ℕ) (ts : List ℕ) → slice_get (a ∷ b ∷ []) m ≡ Some ts → P m ts
+of_two_stacks P a b first second zero ts at = let same : a ≡ ts = cc in subst (P 0) same first
+of_two_stacks P a b first second (suc zero) ts at = let same : b ≡ ts = cc in subst (P 1) same second
+of_two_stacks P a b first second (suc (suc m)) ts at = absurd (cc)
+
+-- the tasks of two members, of which the first runs two
+pub tasks_stand : Stands both_running two_started
+tasks_stand = record {
+  count = refl;
+  row = of_two_rows (λ k row. RowStands (suc k) row two_started) first_running second_running first_row_stands second_row_stands;
+  stack = of_two_stacks (λ m ts. task_stack m two_started ≡ ts) (2 ∷ 1 ∷ []) [] refl refl;
+  rule = (
+    record { member = omega arith; may = refl },
+    (
+      record { member = omega arith; number = refl; current = refl; away = λ e. refl; shallow = omega arith },
+      (
+        record { member = omega arith; may = refl },
+        (record { member = omega arith; number = refl; current = refl; away = λ e. refl; shallow = omega arith }, (tt, tt)),
+      ),
+    ),
+  );
+}
+
+-- whatever room there is
+pub tasks_stand_in_any_room : (room : ℕ) → Stands (tasks_with (first_running ∷ second_running ∷ []) (2 ∷ 1 ∷ []) [] room) two_started
+tasks_stand_in_any_room room = tasks_stand
+
+-- they are two members and two tasks
+pub tasks_counted : (members_of both_running ≡ 2) × (count_of both_running ≡ 2)
+tasks_counted = (refl, refl)
+
+-- a task that was created has no row
+pub tasks_without_a_row : Stands (tasks_with [] [] [] 3) one_created → ⊥
+tasks_without_a_row stands = absurd (let count = stands.count in omega arith)
+
+-- a row that does not stand for the events
+pub tasks_of_another_row : Stands (tasks_with (first_running ∷ second_with None states.Ready ∷ []) (2 ∷ 1 ∷ []) [] 3) two_started → ⊥
+tasks_of_another_row stands = absurd (let row = stands.row 1 (second_with None states.Ready) refl in let runner = row.runner in cc)
+
+-- the oldest task as the innermost
+pub tasks_of_another_order : Stands (tasks_with (first_running ∷ second_running ∷ []) (1 ∷ 2 ∷ []) [] 3) two_started → ⊥
+tasks_of_another_order stands = absurd (let stack = stands.stack 0 (1 ∷ 2 ∷ []) refl in let same = ap first_of stack in cc)
+
+-- a started task on no member
+pub tasks_on_no_member : Stands (tasks_with (first_running ∷ second_running ∷ []) (1 ∷ []) [] 3) two_started → ⊥
+tasks_on_no_member stands = absurd (let stack = stands.stack 0 (1 ∷ []) refl in let same = ap first_of stack in cc)
+
+-- a task that two members started
+pub tasks_started_twice : Stands (tasks_with (first_with (Some 1) states.Running ∷ []) (1 ∷ []) (1 ∷ []) 3) (Start 1 1 ∷ Start 1 0 ∷ one_created) → ⊥
+tasks_started_twice stands = absurd (let may = stands.rule.0.may in cc)
+
+-- Numbers
+
+-- the numbers of two tasks
+pub numbers_of_two : IsNumber 1 both_running × IsNumber 2 both_running
+numbers_of_two = ((omega arith, omega arith), (omega arith, omega arith))
+
+-- 0 is none, nor is that of the next task
+pub numbers_of_no_task : (IsNumber 0 both_running → ⊥) × (IsNumber 3 both_running → ⊥)
+numbers_of_no_task = ((λ is. absurd (let some = is.0 in omega arith)), (λ is. absurd (let few = is.1 in omega arith)))
+
+-- an implicit task is one, and an explicit one if its number is
+pub tasks_by_number : IsTask (Implicit 5) both_running × IsTask (Explicit 2) both_running × (IsTask (Explicit 3) both_running → ⊥)
+tasks_by_number = (tt, numbers_of_two.1, numbers_of_no_task.1)
+
+-- the same tasks with more room
+pub same_in_more_room : AreSame (tasks_with [] [] [] 3) (tasks_with [] [] [] 0)
+same_in_more_room = record { rows = refl; stacks = refl }
+
+-- another row
+pub not_the_same_rows : AreSame (tasks_with (first_running ∷ []) [] [] 3) (tasks_with [] [] [] 3) → ⊥
+not_the_same_rows same = absurd (let rows = same.rows in cc)
+
+-- another started task
+pub not_the_same_stacks : AreSame (tasks_with [] (1 ∷ []) [] 3) (tasks_with [] [] [] 3) → ⊥
+not_the_same_stacks same = absurd (let stacks = same.stacks in cc)
+
+-- tasks that stand for some events
+pub are_tasks : AreTasks both_running
+are_tasks = ((two_started, tasks_stand), omega arith)
+
+-- for none: the task that runs is on no member
+pub are_no_tasks : AreTasks (tasks_with [] (1 ∷ []) [] 3) → ⊥
+are_no_tasks are = let h = are.0.0 in let st = are.0.1 in absurd (
+    let top : executed_task 0 h ≡ Explicit 1 = ap (innermost_task 0) (st.stack 0 (1 ∷ []) refl) in
+    let number = executed_number [] ((1 ∷ []) ∷ [] ∷ []) 0 1 h st top in
+    let high = number.1 in omega arith)
+
+-- more than there are numbers
+pub are_too_many_tasks : (tasks : TasksView) → MAX_TASKS < count_of tasks → AreTasks tasks → ⊥
+are_too_many_tasks tasks more are = absurd (let few = are.1 in omega (arith, more, few))
+
+-- What the calls ask for
+
+-- the first member creates a task in the second one
+pub next_in_a_task : MayCreateNext both_running 0 true two_started
+next_in_a_task = record {
+  rule = record { member = omega arith; number = refl; current = refl; away = λ e. refl; shallow = omega arith };
+  odd_is = refl;
+}
+
+-- the second member in its implicit one, which is bound to the barrier before
+pub next_in_an_implicit_task : MayCreateNext both_running 1 false two_started
+next_in_an_implicit_task = record {
+  rule = record { member = omega arith; number = refl; current = refl; away = λ e. refl; shallow = omega arith };
+  odd_is = refl;
+}
+
+-- there not while it waits at the barrier
+pub next_at_a_barrier : MayCreateNext both_running 1 false (Arrive 0 1 (record { kind = arrivals.Barrier; shares = 0 }) ∷ two_started) → ⊥
+next_at_a_barrier may = absurd (let away = may.rule.away refl in cc)
+
+-- bound to another barrier
+pub next_of_another_barrier : MayCreateNext both_running 0 false two_started → ⊥
+next_of_another_barrier may = absurd (let odd = may.odd_is in cc)
+
+-- the task that a member executes, by the answer of a call
+pub task_by_answer : (task_or_implicit 4 (Some 2) ≡ Explicit 2) × (task_or_implicit 4 None ≡ Implicit 4)
+task_by_answer = (refl, refl)
+
+-- the second task lies under the first, and any task under all of none
+pub under_the_first : (is_under_all (1 ∷ []) 2 two_started ≡ true) × (is_under_all [] 1 two_started ≡ true)
+under_the_first = (refl, refl)
+
+-- the first does not lie under the second, nor the second under itself
+pub not_under_all : (is_under_all (2 ∷ []) 1 two_started ≡ false) × (is_under_all (2 ∷ 1 ∷ []) 2 two_started ≡ false)
+not_under_all = (refl, refl)
+
+-- the tasks see what creates, starts and ends one
+pub tasks_are_seen : (t m : ℕ) (parent : Task) (desc : TaskDesc) → (IsAside (Create t m parent desc) → ⊥) × (IsAside (Start t m) → ⊥) × (IsAside (Done t m) → ⊥)
+tasks_are_seen t m parent desc = (λ is. is, λ is. is, λ is. is)
+
+-- and nothing of the shares
+pub shares_are_not_seen : (share m low high k : ℕ) (shape : Shape) (payload : List ℕ) → IsAside (Enter share m shape) × IsAside (Take share m low high) × IsAside (Drained share m) × IsAside (End share m) × IsAside (HandOn share m k) × IsAside (Part share m k) × IsAside (PartEnd share m) × IsAside (Put share m payload) × IsAside (Got share m payload)
+shares_are_not_seen share m low high k shape payload = (tt, tt, tt, tt, tt, tt, tt, tt, tt)
+
+-- nor of barriers, names, locks, groups and waits
+pub others_are_not_seen : (g m : ℕ) (tag : Tag) (key : Key) (task : Task) (place : Place) → IsAside (Arrive g m tag) × IsAside (Pass g m) × IsAside (Hold key m task) × IsAside (Free key m task) × IsAside (Group g m) × IsAside (GroupEnd g m) × IsAside (Waited m) × IsAside (Break m place)
+others_are_not_seen g m tag key task place = (tt, tt, tt, tt, tt, tt, tt, tt)

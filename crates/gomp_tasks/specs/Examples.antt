@@ -1,0 +1,55 @@
+-- Events, and the tasks of a team that stand for them or do not, that the examples share. Each list has the newest event first. (own)
+use Rattle.std.specs.Prelude.{ℕ, true, List, [], ◌∷◌, Option, Some}
+use Rattle.gomp_types.specs.declared.task.Task.TheVariants.{Implicit, Explicit}
+use Rattle.gomp_types.specs.declared.task.TaskDesc.{TaskDesc}
+use Rattle.gomp_types.specs.declared.event.Event.{Event}
+use Rattle.gomp_types.specs.declared.event.Event.TheVariants.{Create, Start, Done, Pass}
+use Rattle.gomp_tasks.specs.declared.rows.TaskState.{TaskState}
+use Rattle.gomp_tasks.specs.declared.rows.TaskState.TheVariants as states
+use Rattle.gomp_tasks.specs.declared.rows.TaskRow.{TaskRow}
+use Rattle.gomp_tasks.specs.Stands.{TasksView}
+
+-- two tasks as the program asks for them
+abbrev pub first_desc : TaskDesc
+first_desc = record { code = 7; arg = 3 }
+
+abbrev pub second_desc : TaskDesc
+second_desc = record { code = 7; arg = 4 }
+
+-- the first member has passed a barrier, and creates a task
+abbrev pub one_created : List Event
+one_created = Create 1 0 (Implicit 0) first_desc ∷ Pass 0 0 ∷ []
+
+-- it starts the task, and creates another in it
+abbrev pub two_created : List Event
+two_created = Create 2 0 (Explicit 1) second_desc ∷ Start 1 0 ∷ one_created
+
+-- it starts that as well
+abbrev pub two_started : List Event
+two_started = Start 2 0 ∷ two_created
+
+-- and ends it
+abbrev pub second_done : List Event
+second_done = Done 2 0 ∷ two_started
+
+-- what is kept of the first task, and of the second
+abbrev pub first_with : Option ℕ → TaskState → TaskRow
+first_with runner state = record { code = 7; arg = 3; parent = Implicit 0; depth = 1; odd = true; runner = runner; state = state }
+
+abbrev pub second_with : Option ℕ → TaskState → TaskRow
+second_with runner state = record { code = 7; arg = 4; parent = Explicit 1; depth = 2; odd = true; runner = runner; state = state }
+
+-- while both run
+abbrev pub first_running : TaskRow
+first_running = first_with (Some 0) states.Running
+
+abbrev pub second_running : TaskRow
+second_running = second_with (Some 0) states.Running
+
+-- the tasks of two members, with room for this many more
+abbrev pub tasks_with : List TaskRow → List ℕ → List ℕ → ℕ → TasksView
+tasks_with rows first second room = record { rows = rows; stacks = first ∷ second ∷ []; room = room }
+
+-- while both run
+abbrev pub both_running : TasksView
+both_running = tasks_with (first_running ∷ second_running ∷ []) (2 ∷ 1 ∷ []) [] 3
