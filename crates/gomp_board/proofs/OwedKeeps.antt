@@ -21,8 +21,8 @@ use Rattle.gomp_types.specs.TaskRules.{TaskRule, MayEndGroup}
 use Rattle.gomp_types.specs.TaskCalls.{task_room, group_room, arrival_room, first_room}
 use Rattle.gomp_types.proofs.Booleans.{same_number, other_number}
 use Rattle.gomp_types.proofs.OpenTasks.{how_many_same, one_less, open_done, created_low, created_high}
-use Rattle.gomp_types.proofs.Suspended.{fresh, ran, current_open}
-use Rattle.gomp_types.proofs.TaskRoom.{unborn}
+use Rattle.gomp_types.proofs.Suspended.{startable_is_fresh, runner_has_started, current_open}
+use Rattle.gomp_types.proofs.TaskRoom.{uncreated_not_started}
 use Rattle.gomp_board.specs.Owed.{owed_by_tasks, has_group_ended, count_below, owed_by_groups, owed_by_member, owed_by_members, owed_for_break, owed}
 use Rattle.gomp_board.specs.Ops.{arrival_asks, arrival_keeps}
 use Rattle.gomp_board.proofs.GroupsOpen.{next_not_ended, last_not_ended}
@@ -58,12 +58,12 @@ members_owe_other (suc m) x a b g h low same here =
 
 created_owes : (members m task : ℕ) (p : Task) (desc : TaskDesc) (h : List Event) → Always (TaskRule members) h → owed_by_tasks (Create task m p desc ∷ h) ≡ owed_by_tasks h + 2
 created_owes members m task p desc h all =
-    let new = unborn members h all (suc (tasks_created h)) (omega arith) in
+    let new = uncreated_not_started members h all (suc (tasks_created h)) (omega arith) in
     rw (new.0, new.1) (omega arith)
 
 started_owes : (m task : ℕ) (h : List Event) → may_start m task h ≡ true → owed_by_tasks (Start task m ∷ h) + 1 ≡ owed_by_tasks h
 started_owes m task h may =
-    let is = fresh m task h may in
+    let is = startable_is_fresh m task h may in
     let unstarted =
         one_less (tasks_created h) task (λ u. not (has_started u h) && not (is_complete u h)) (λ u. not (task == u || has_started u h) && not (is_complete u h)) (created_low task h is.0) (created_high task h is.0)
         (rw (is.1, is.2) refl) (rw (same_number task) refl) (λ u differ. rw (other_number task u (λ e. differ (sym e))) refl) in
@@ -83,7 +83,7 @@ done_owes : (members m task : ℕ) (h : List Event) → Always (TaskRule members
 done_owes members m task h all current =
     let is = current_open members m task h all current in
     let fewer = open_done (λ t. true) task m h is.0 refl is.1 in
-    let same = still_counted task h (ran task m h is.2) in
+    let same = still_counted task h (runner_has_started task m h is.2) in
     omega (arith, fewer, same)
 
 -- Groups

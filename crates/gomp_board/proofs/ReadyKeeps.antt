@@ -15,8 +15,8 @@ use Rattle.gomp_types.specs.Goals.{is_ready, may_start, some_startable}
 use Rattle.gomp_types.specs.TaskRules.{TaskRule}
 use Rattle.gomp_types.proofs.Booleans.{and_left, and_false, or_tells, or_right, same_number, other_number, is_equal, not_both, every_by}
 use Rattle.gomp_types.proofs.OpenTasks.{created_low, created_high}
-use Rattle.gomp_types.proofs.Suspended.{ran, current_open}
-use Rattle.gomp_types.proofs.TaskRoom.{unborn}
+use Rattle.gomp_types.proofs.Suspended.{runner_has_started, current_open}
+use Rattle.gomp_types.proofs.TaskRoom.{uncreated_not_started}
 use Rattle.gomp_board.specs.ReadyTasks.{Apart, AreReady}
 
 -- Lists of numbers
@@ -125,7 +125,7 @@ new_ready t u m p desc ids h number new was =
 
 pub created_ready : (members t m : ℕ) (p : Task) (desc : TaskDesc) (ids : List ℕ) (h : List Event) → Always (TaskRule members) h → t ≡ suc (tasks_created h) → AreReady ids h → AreReady (ids ++ t ∷ []) (Create t m p desc ∷ h)
 created_ready members t m p desc ids h all number are =
-    let new = unborn members h all t (omega (arith, number)) in
+    let new = uncreated_not_started members h all t (omega (arith, number)) in
     let not_yet : is_ready t h ≡ false = rw (made_later t (tasks_created h) number) refl in
     record { ready = λ u. new_ready t u m p desc ids h number new (are.ready u); apart = apart_push t ids are.apart (are.ready t ∙ not_yet) }
 
@@ -150,7 +150,7 @@ ended_ready t m ids h on are = record { ready = each; apart = are.apart }
     ]
 
 pub done_ready : (members t m : ℕ) (ids : List ℕ) (h : List Event) → Always (TaskRule members) h → executed_task m h ≡ Explicit t → AreReady ids h → AreReady ids (Done t m ∷ h)
-done_ready members t m ids h all current are = ended_ready t m ids h (ran t m h (current_open members m t h all current).2) are
+done_ready members t m ids h all current are = ended_ready t m ids h (runner_has_started t m h (current_open members m t h all current).2) are
 
 -- an event that creates, starts or ends no task
 abbrev pub IsAside : Event → Type 0
