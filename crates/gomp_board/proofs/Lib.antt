@@ -1,3 +1,4 @@
+pub mod Admitted
 pub mod BarrierNumbers
 pub mod GroupsOpen
 pub mod Joined
@@ -5,8 +6,11 @@ pub mod OpAnswerExamples
 pub mod OpTestExamples
 pub mod OwedKeeps
 pub mod Performed
+pub mod ReadyExamples
+pub mod ReadyKeeps
 pub mod RegionLeft
 pub mod RoomKeeps
 pub mod StoredExamples
 pub mod StoredKeeps
 pub mod TaskCallExamples
+pub mod Waiting
