@@ -14,3 +14,4 @@ pub mod StoredExamples
 pub mod StoredKeeps
 pub mod TaskCallExamples
 pub mod Waiting
+pub mod TaskEvents
