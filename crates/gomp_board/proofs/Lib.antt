@@ -15,3 +15,4 @@ pub mod StoredKeeps
 pub mod TaskCallExamples
 pub mod Waiting
 pub mod TaskEvents
+pub mod Startables

@@ -1,6 +1,6 @@
 -- A board after an event of tasks or groups: for what it stands, and that it is a board then.
 use Rattle.std.proofs.Common.{◌≡◌, ℕ, ◌+◌, ◌<◌, ◌≤◌, Bool, true, false, List, [], ◌∷◌, ◌++◌, Option, Some, None, length, refl, ap, ◌∙◌, sym, subst, arith, suc, zero, slice_get}
-use Rattle.std.specs.Prelude.{reverse, sum, slice_index_or, slice_set}
+use Rattle.std.specs.Prelude.{reverse, sum, slice_index_or, slice_set, Result, Ok, Err, OnOk, is_err}
 use Rattle.std.specs.List.{remove}
 use Rattle.gomp_types.specs.declared.task.Task.{Task}
 use Rattle.gomp_types.specs.declared.task.Task.TheVariants.{Implicit, Explicit}
@@ -191,3 +191,22 @@ pub set_same : (xs : List ℕ) (i : ℕ) → slice_set xs i (slice_index_or xs i
 set_same [] i = refl
 set_same (x ∷ xs) zero = refl
 set_same (x ∷ xs) (suc i) = ap (λ ys. x ∷ ys) (set_same xs i)
+
+-- the rule of tasks, for the size of the board's team
+pub rule_of : (b : BoardView) (h : List Event) → HasMembers b → Stands b h → Always (TaskRule (members_of b)) h
+rule_of b h has st = subst (λ (n : ℕ). Always (TaskRule n) h) has.tasks st.tasks.rule
+
+-- what memory was made changes nothing of what parts stand for
+pub more_group_room : (old new : GroupsView) (h : List Event) → new ≡ record old { group_room = new.group_room } → GroupsStand old h → GroupsStand new h
+more_group_room old new h e st = subst (λ (v : GroupsView). GroupsStand v h) (sym e) st
+
+pub more_task_room : (old new : GroupsView) (h : List Event) → new ≡ record old { task_room = new.task_room } → GroupsStand old h → GroupsStand new h
+more_task_room old new h e st = subst (λ (v : GroupsView). GroupsStand v h) (sym e) st
+
+pub more_room : (old new : TasksView) (h : List Event) → new ≡ record old { room = new.room } → TasksStand old h → TasksStand new h
+more_room old new h e st = subst (λ (v : TasksView). TasksStand v h) (sym e) st
+
+-- what holds if nothing failed
+pub at_ok : {A E : Type 0} (r : Result A E) (P : Type 0) → is_err r ≡ false → OnOk r P → P
+at_ok (Ok x) P e holds = holds
+at_ok (Err x) P e holds = absurd (cc)

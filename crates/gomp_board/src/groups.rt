@@ -1,6 +1,6 @@
 //! Groups of tasks. OpenMP API 5.2, section 15.4.
 
-ghost use Rattle.std.specs.Prelude.{◌≡◌, ◌<◌, ◌≤◌, ◌+◌, ◌++◌, ◌∷◌, List, true, OnOk};
+ghost use Rattle.std.specs.Prelude.{◌≡◌, ◌<◌, ◌≤◌, ◌+◌, ◌++◌, ◌∷◌, List, true, OnOk, reverse};
 ghost use Rattle.std.specs.Vec.{vec_len, vec_capacity};
 ghost use Rattle.gomp_types.specs.declared.event.Event.{Event as Happening};
 ghost use Rattle.gomp_types.specs.Tasks.{executed_task};
@@ -53,6 +53,7 @@ impl Board {
     /// false if none is open.
     fn last_group_is_done(&self, member: u16) -> bool
         requires member { member < members_of self.now }
+        ensures known { Stands self.now (reverse self.now.history) }
         ensures value { (h : List Happening) → Stands self.now h →
             result ≡ last_complete (open_groups (executed_task member h) h) h }
     {

@@ -1,11 +1,11 @@
 //! Waits at which a member executes tasks. OpenMP API 5.2, sections 12.6 and 15.5.
 
-ghost use Rattle.std.specs.Prelude.{◌≡◌, ◌<◌, ◌++◌, List, MatchOption};
+ghost use Rattle.std.specs.Prelude.{◌≡◌, ◌<◌, ◌++◌, List, MatchOption, reverse};
 ghost use Rattle.gomp_types.specs.declared.event.Event.{Event};
 ghost use Rattle.gomp_types.specs.Tasks.{executed_task};
 ghost use Rattle.gomp_types.specs.Goals.{children_complete};
 ghost use Rattle.gomp_types.specs.TaskCalls.{starts_task};
-ghost use Rattle.gomp_board.specs.Boards.{IsAdmitted, Performs, RunsOrWaits, Stands, members_of};
+ghost use Rattle.gomp_board.specs.Boards.{IsAdmitted, Performs, RunsOrWaits, Stands, HasMembers, members_of};
 ghost use Rattle.gomp_board.specs.Startable.{MayStartAt, MayStartNone};
 ghost use Rattle.gomp_board.specs.declared.op.Op.TheVariants.{AwaitChildren};
 
@@ -33,6 +33,7 @@ impl Board {
         ensures stands { (h : List Event) → Stands self.old h →
             Stands self.new (starts_task member result ++ h) }
         ensures limits { self.new.limits ≡ self.old.limits }
+        ensures members { members_of self.new ≡ members_of self.old }
         ensures room { self.new.room ≡ self.old.room }
         ensures kept { self.new.kept ≡ self.old.kept }
     {
@@ -45,6 +46,8 @@ impl Board {
     /// Whether the children of the task that the member executes are complete.
     fn children_done(&self, member: u16) -> bool
         requires member { member < members_of self.now }
+        ensures known { Stands self.now (reverse self.now.history) }
+        ensures members { HasMembers self.now }
         ensures value { (h : List Event) → Stands self.now h →
             result ≡ children_complete (executed_task member h) h }
     {
