@@ -16,3 +16,4 @@ pub mod TaskCallExamples
 pub mod Waiting
 pub mod TaskEvents
 pub mod Startables
+pub mod TaskSteps
