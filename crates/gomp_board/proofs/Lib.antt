@@ -17,3 +17,4 @@ pub mod Waiting
 pub mod TaskEvents
 pub mod Startables
 pub mod TaskSteps
+pub mod RefusalOrder

@@ -15,7 +15,7 @@ use gomp_types::{Event, Refusal, Reply};
 use std::alloc::AllocError;
 
 /// The room that a group asks for: it is opened and ended.
-const GROUP_ROOM: u32 = 2;
+pub(crate) const GROUP_ROOM: u32 = 2;
 
 impl Board {
     /// The member opens a group in the task that it executes.

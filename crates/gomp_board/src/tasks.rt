@@ -15,7 +15,7 @@ use gomp_types::{Event, Refusal, Reply, Task, TaskDesc};
 use std::alloc::AllocError;
 
 /// The room that a task asks for: it is created, started and ended.
-const TASK_ROOM: u32 = 3;
+pub(crate) const TASK_ROOM: u32 = 3;
 
 impl Board {
     /// The member creates a task in the one that it executes.
