@@ -16,3 +16,7 @@ pub mod StoredExamples
 pub mod StoredKeeps
 pub mod TaskCallExamples
 pub mod Waiting
+pub mod TaskEvents
+pub mod Startables
+pub mod TaskSteps
+pub mod RefusalOrder

@@ -43,15 +43,15 @@ pub runs_unmet : (m : ℕ) (met : Bool) (h : List Event) (reply : Reply) → met
 runs_unmet m met h reply unmet runs = subst (λ (b : Bool). AwaitsTasks m b h reply) (sym unmet) runs
 
 -- the reply gives the start of the task alone
-waited_runs : (m : ℕ) (h : List Event) (reply : Reply) → AwaitsTasks m false h reply → waited m reply ≡ starts_task m reply
+pub waited_runs : (m : ℕ) (h : List Event) (reply : Reply) → AwaitsTasks m false h reply → waited m reply ≡ starts_task m reply
 waited_runs m h Passed runs = absurd (cc)
 waited_runs m h _ runs = refl
 
-ended_runs : (m : ℕ) (h : List Event) (reply : Reply) → AwaitsTasks m false h reply → ends_group m h reply ≡ starts_task m reply
+pub ended_runs : (m : ℕ) (h : List Event) (reply : Reply) → AwaitsTasks m false h reply → ends_group m h reply ≡ starts_task m reply
 ended_runs m h Passed runs = absurd (cc)
 ended_runs m h _ runs = refl
 
-passed_runs : (m : ℕ) (h : List Event) (reply : Reply) → AwaitsTasks m false h reply → passes_barrier m h reply ≡ starts_task m reply
+pub passed_runs : (m : ℕ) (h : List Event) (reply : Reply) → AwaitsTasks m false h reply → passes_barrier m h reply ≡ starts_task m reply
 passed_runs m h Passed runs = absurd (cc)
 passed_runs m h _ runs = refl
 

@@ -4,3 +4,4 @@ pub mod Ops
 pub mod ReadyTasks
 pub mod Boards
 pub mod Examples
+pub mod Startable

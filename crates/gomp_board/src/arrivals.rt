@@ -131,7 +131,7 @@ impl Board {
 
 /// The room that an arrival asks for if its member has kept so much: none at the region's end, and
 /// none at the end of a share that has kept it.
-fn arrival_asks(kind: Arrival, kept: u32) -> u32
+pub(crate) fn arrival_asks(kind: Arrival, kept: u32) -> u32
     ensures { result ≡ arrival_asks kind kept }
 {
     match kind {
