@@ -1,10 +1,12 @@
 pub mod Admitted
+pub mod AdmittedArrivals
 pub mod BarrierNumbers
 pub mod GroupsOpen
 pub mod Joined
 pub mod OpAnswerExamples
 pub mod OpTestExamples
 pub mod OwedKeeps
+pub mod Passing
 pub mod Performed
 pub mod ReadyExamples
 pub mod ReadyKeeps

@@ -1,13 +1,15 @@
 -- What an operation does to a board, by the kind of its reply.
-use Rattle.std.proofs.Common.{◌≡◌, ◌≢◌, ℕ, ◌+◌, true, List, ◌++◌, Some, None, length, refl, ap, ◌∙◌, sym, subst, length-set}
+use Rattle.std.proofs.Common.{◌≡◌, ◌≢◌, ℕ, ◌+◌, true, List, ◌∷◌, ◌++◌, Some, None, length, refl, ap, ◌∙◌, sym, subst, length-set}
 use Rattle.std.specs.Prelude.{IsTrue, slice_set}
 use Rattle.gomp_types.specs.declared.refusal.Refusal.{Refusal}
 use Rattle.gomp_types.specs.declared.refusal.Refusal.TheVariants as refusals
 use Rattle.gomp_types.specs.declared.reply.Reply.{Reply}
 use Rattle.gomp_types.specs.declared.reply.Reply.TheVariants.{Refused}
+use Rattle.gomp_types.specs.declared.refusal.Place.{Place}
 use Rattle.gomp_types.specs.declared.event.Event.{Event}
+use Rattle.gomp_types.specs.declared.event.Event.TheVariants.{Break}
 use Rattle.gomp_board.specs.declared.op.Op.{Op}
-use Rattle.gomp_board.specs.Ops.{op_asks, op_keeps, op_gives, op_after, begun, asks_memory, OpReply}
+use Rattle.gomp_board.specs.Ops.{op_asks, op_keeps, op_gives, op_after, op_place, op_refusal, begun, asks_memory, OpReply}
 use Rattle.gomp_board.specs.Boards.{BoardView, Stands, IsSame, IsAdmitted, Performs, members_of, kept_by, room_after, kept_after}
 use Rattle.gomp_board.proofs.Waiting.{IsReply, answered, after_reply, not_refused}
 
@@ -43,4 +45,18 @@ out_of_memory op m board after admitted asks same limits = record {
   room = same.room;
   kept = same.kept;
   same = λ refusal e other. same;
+}
+
+-- a construct that differs breaks the team there
+pub broke : (op : Op) (m : ℕ) (place : Place) (board after : BoardView) → ((h : List Event) → Stands board h → op_refusal board.limits board.room (kept_by m board) m op h ≡ Some refusals.Mismatch) →
+    ((h : List Event) → Stands board h → place ≡ op_place m op h) → ((h : List Event) → Stands board h → Stands after (Break m place ∷ h)) → after.limits ≡ board.limits → after.room ≡ board.room → after.kept ≡ board.kept →
+    Performs op m board after (Refused refusals.Mismatch)
+broke op m place board after differs there stands limits room kept = record {
+  answer = λ h st. differs h st;
+  stands = λ h st. subst (λ (p : Place). Stands after (Break m p ∷ h)) (there h st) (stands h st);
+  limits = limits;
+  members = ap length kept;
+  room = room;
+  kept = kept;
+  same = λ refusal e other. absurd (let is : refusals.Mismatch ≡ refusal = cc in other (sym is));
 }

@@ -16,6 +16,15 @@ room_with members room asked old_sum new_sum history after event more owes enoug
     let within : length history + 1 + owed members (event ∷ reverse history) + new_sum ≤ room + asked = omega (arith, owes, enough) in
     (omega (arith, within), rw (reverse_with history after event more, longer) within)
 
+-- if room was asked for it before, there is memory for the event, and the rest stays enough
+pub room_within : (members room more old_sum new_sum : ℕ) (history after : List Event) (event : Event) → after ≡ history ++ event ∷ [] →
+    owed members (event ∷ reverse history) + 1 + new_sum ≤ owed members (reverse history) + more + old_sum → length history + owed members (reverse history) + old_sum + more ≤ room →
+    (length history < room) × (length after + owed members (reverse after) + new_sum ≤ room)
+room_within members room more old_sum new_sum history after event longer owes enough =
+    let size : length after ≡ length history + 1 = rw longer (length_push history event) in
+    let within : length history + 1 + owed members (event ∷ reverse history) + new_sum ≤ room = omega (arith, owes, enough) in
+    (omega (arith, within), rw (reverse_with history after event longer, size) within)
+
 -- what all members keep, if one keeps otherwise
 pub sum_with : (kept : List ℕ) (m n : ℕ) → m < length kept → sum (slice_set kept m n) + slice_index_or kept m 0 ≡ sum kept + n
 sum_with kept m n low = sum_by-set (λ k. k) kept m n 0 low

@@ -1,11 +1,11 @@
 //! Barriers, and breaks of the team. OpenMP API 5.2, section 15.3.
 
-ghost use Rattle.std.specs.Prelude.{◌≡◌, ◌<◌, ◌++◌, List, [], ◌∷◌, Some, None, slice_set};
+ghost use Rattle.std.specs.Prelude.{◌≡◌, ◌<◌, ◌++◌, List, ◌∷◌, Some, None, reverse, slice_set};
 ghost use Rattle.gomp_types.specs.declared.refusal.Place.{Place as AnyPlace};
 ghost use Rattle.gomp_types.specs.declared.event.Event.{Event as AnyEvent};
 ghost use Rattle.gomp_types.specs.declared.event.Event.TheVariants.{Break as BreakEvent};
 ghost use Rattle.gomp_types.specs.declared.refusal.Refusal.TheVariants.{Mismatch};
-ghost use Rattle.gomp_types.specs.Events.{at_barrier, barriers_passed};
+ghost use Rattle.gomp_types.specs.Events.{clash_of};
 ghost use Rattle.gomp_types.specs.Goals.{may_pass};
 ghost use Rattle.gomp_types.specs.TaskCalls.{AwaitsTasks};
 ghost use Rattle.gomp_board.specs.Ops.{arrival_asks, arrival_keeps, op_refusal, op_place, begun, passes_barrier};
@@ -27,11 +27,13 @@ impl Board {
         ensures performs { Performs (Arrive tag) member self.old self.new result }
     {
         let asked = arrival_asks(tag.kind, self.kept[member as usize]);
-        if self.make_room(asked).is_err() {
-            return Reply::Refused(Refusal::NoMemory);
+        match self.make_room(asked) {
+            Err(_) => Reply::Refused(Refusal::NoMemory),
+            Ok(()) => {
+                self.note_arrival(member, tag);
+                self.await_pass(member)
+            }
         }
-        self.note_arrival(member, tag);
-        self.await_pass(member)
     }
 
     /// The member waits on at the barrier at which it has arrived.
@@ -93,10 +95,10 @@ impl Board {
         });
     }
 
-    /// The member, which waits at a barrier, passes it if it may; else it executes a task, or waits.
+    /// The member passes the barrier at which it waits if it may; else it executes a task, or waits.
     fn await_pass(&mut self, member: u16) -> Reply
         requires member { member < members_of self.old }
-        requires there { (h : List AnyEvent) → Stands self.old h → at_barrier member h ≡ true }
+        ensures known { Stands self.old (reverse self.old.history) }
         ensures answer { (h : List AnyEvent) → Stands self.old h →
             AwaitsTasks member (may_pass (members_of self.old) member h) h result }
         ensures stands { (h : List AnyEvent) → Stands self.old h →
@@ -115,7 +117,7 @@ impl Board {
 
     /// The team, which was not broken, is broken there by the member.
     fn note_break(&mut self, member: u16, place: Place)
-        requires whole { self.old.clash ≡ None }
+        requires whole { (h : List AnyEvent) → Stands self.old h → clash_of h ≡ None }
         ensures stands { (h : List AnyEvent) → Stands self.old h →
             Stands self.new (BreakEvent member place ∷ h) }
         ensures limits { self.new.limits ≡ self.old.limits }

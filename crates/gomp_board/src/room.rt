@@ -16,11 +16,14 @@ impl Board {
         requires admitted { IsAdmitted (Reserve more) member self.old }
         ensures performs { Performs (Reserve more) member self.old self.new result }
     {
-        if self.make_room(more).is_err() {
-            return Reply::Refused(Refusal::NoMemory);
+        let kept = self.kept[member as usize];
+        match self.make_room(more) {
+            Err(_) => Reply::Refused(Refusal::NoMemory),
+            Ok(()) => {
+                self.kept[member as usize] = kept + more;
+                Reply::Finished
+            }
         }
-        self.kept[member as usize] += more;
-        Reply::Finished
     }
 
     /// Asks for room for so many events more than before. It fails, and nothing changes, if their
