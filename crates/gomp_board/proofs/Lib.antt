@@ -20,3 +20,4 @@ pub mod TaskEvents
 pub mod Startables
 pub mod TaskSteps
 pub mod RefusalOrder
+pub mod NewBoard
