@@ -1,5 +1,6 @@
 pub mod Admitted
 pub mod AdmittedArrivals
+pub mod ArrivalPerformed
 pub mod BarrierNumbers
 pub mod GroupsOpen
 pub mod Joined
@@ -10,13 +11,13 @@ pub mod Passing
 pub mod Performed
 pub mod ReadyExamples
 pub mod ReadyKeeps
+pub mod RefusalOrder
 pub mod RegionLeft
 pub mod RoomKeeps
+pub mod Startables
 pub mod StoredExamples
 pub mod StoredKeeps
 pub mod TaskCallExamples
-pub mod Waiting
 pub mod TaskEvents
-pub mod Startables
 pub mod TaskSteps
-pub mod RefusalOrder
+pub mod Waiting
