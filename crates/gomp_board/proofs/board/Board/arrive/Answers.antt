@@ -8,10 +8,10 @@ use Rattle.gomp_board.specs.declared.op.Op.TheVariants.{Arrive}
 use Rattle.gomp_board.specs.Ops.{arrival_asks, arrival_keeps, begun}
 use Rattle.gomp_board.specs.Boards.{BoardView, Stands, IsAdmitted, HasSpare, ArrivesFirst, members_of, kept_by}
 use Rattle.gomp_board.specs.contracts.board.Board.{the_view}
-use Rattle.gomp_board.proofs.Waiting.{IsReply}
-use Rattle.gomp_board.proofs.Joined.{stands_before, roomy_stands}
-use Rattle.gomp_board.proofs.AdmittedArrivals.{arrives_of, arrival_stays_small, awaits_is_reply}
-use Rattle.gomp_board.proofs.Performed.{performed, out_of_memory}
+use Rattle.gomp_board.proofs.Joined.{stands_before}
+use Rattle.gomp_board.proofs.AdmittedArrivals.{arrives_of, arrival_stays_small}
+use Rattle.gomp_board.proofs.Performed.{nothing_made}
+use Rattle.gomp_board.proofs.ArrivalPerformed.{arrival_performed}
 use Rattle.gomp_board.proofs.board.Board.arrive.Goals as goal
 
 pub make_room-requires : goal.make_room-requires
@@ -42,10 +42,28 @@ note_arrival-requires c =
     }
 
 pub await_pass-requires : goal.await_pass-requires
-await_pass-requires c = ?
+await_pass-requires c =
+    let made = ap (λ (v : BoardView). length v.kept) c.in-Ok.ensures.room in
+    record { member = rw (c.note_arrival.ensures.kept, length-set c.make_room.new.self.kept c.args.member (arrival_keeps c.args.tag.kind (kept_by c.args.member c.make_room.new.self)), made) c.requires.member }
 
 pub returns-in-Err : goal.returns-in-Err
-returns-in-Err c = ?
+returns-in-Err c =
+    let now = c.args.self.now in
+    let low = subst (λ (v : BoardView). c.args.member < members_of v) (sym c.self.view_is) c.requires.member in
+    let kept : kept_by c.args.member (the_view c.self.inside) ≡ kept_by c.args.member now = ap (λ (v : BoardView). kept_by c.args.member v) c.self.view_is in
+    let asked : c.arrival_asks-asked.result ≡ arrival_asks c.args.tag.kind (kept_by c.args.member now) =
+        c.arrival_asks-asked.ensures ∙ ap (arrival_asks c.args.tag.kind) (c.index.ensures ∙ get_or_default c.self.inside.kept.items c.args.member _ 0 low ∙ kept) in
+    record { performs = nothing_made (Arrive c.args.tag) c.args.member now c.make_room.new.self c.arrival_asks-asked.result asked c.requires.admitted c.in-Err.ensures.err c.in-Err.ensures.there }
 
 pub returns-in-Ok : goal.returns-in-Ok
-returns-in-Ok c = ?
+returns-in-Ok c =
+    let now = c.args.self.now in
+    let more = c.arrival_asks-asked.result in
+    let low = subst (λ (v : BoardView). c.args.member < members_of v) (sym c.self.view_is) c.requires.member in
+    let kept : kept_by c.args.member (the_view c.self.inside) ≡ kept_by c.args.member now = ap (λ (v : BoardView). kept_by c.args.member v) c.self.view_is in
+    let asked : more ≡ arrival_asks c.args.tag.kind (kept_by c.args.member now) =
+        c.arrival_asks-asked.ensures ∙ ap (arrival_asks c.args.tag.kind) (c.index.ensures ∙ get_or_default c.self.inside.kept.items c.args.member _ 0 low ∙ kept) in
+    let made : c.make_room.new.self ≡ record now { room = now.room + more } = c.in-Ok.ensures.room in
+    record { performs = arrival_performed c.args.tag c.args.member more now c.make_room.new.self c.note_arrival.new.self c.await_pass.new.self c.await_pass.result c.requires.admitted asked made
+        c.note_arrival.ensures.stands c.note_arrival.ensures.limits c.note_arrival.ensures.room c.note_arrival.ensures.kept
+        c.await_pass.ensures.known c.await_pass.ensures.answer c.await_pass.ensures.stands c.await_pass.ensures.limits c.await_pass.ensures.room c.await_pass.ensures.kept }

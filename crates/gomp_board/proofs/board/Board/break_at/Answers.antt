@@ -18,5 +18,5 @@ note_break-requires c =
 
 pub returns : goal.returns
 returns c = record { performs =
-    let there : (h : List Event) → Stands c.args.self.now h → c.match-op.place ≡ op_place c.args.member c.args.op h = λ h st0. let st = stands_too _ _ h c.self.view_is st0 in ? in
+    let there : (h : List Event) → Stands c.args.self.now h → c.match-op.place ≡ op_place c.args.member c.args.op h = λ h st0. let st = stands_too _ _ h c.self.view_is st0 in elim c.match-op.branch [ in-Break w ↦ let is = w.in-Break.is in ? | in_default w ↦ let is = w.in_default in ? ] in
     broke c.args.op c.args.member c.match-op.place c.args.self.now c.note_break.new.self c.requires.differs there c.note_break.ensures.stands c.note_break.ensures.limits c.note_break.ensures.room c.note_break.ensures.kept }

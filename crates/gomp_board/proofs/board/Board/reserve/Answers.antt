@@ -6,9 +6,9 @@ use Rattle.gomp_types.specs.declared.reply.Reply.TheVariants.{Finished}
 use Rattle.gomp_board.specs.declared.op.Op.TheVariants.{Reserve}
 use Rattle.gomp_board.specs.Boards.{BoardView, Stands, IsAdmitted, HasSpare, members_of, kept_by}
 use Rattle.gomp_board.specs.contracts.board.Board.{the_view}
-use Rattle.gomp_board.proofs.Joined.{keeping_board, keeping_stands}
+use Rattle.gomp_board.proofs.Joined.{keeping_board}
 use Rattle.gomp_board.proofs.AdmittedArrivals.{reserve_stays_small}
-use Rattle.gomp_board.proofs.Performed.{performed, out_of_memory}
+use Rattle.gomp_board.proofs.Performed.{nothing_made, reserve_performed}
 use Rattle.gomp_board.proofs.board.Board.reserve.Goals as goal
 
 pub make_room-requires : goal.make_room-requires
@@ -20,10 +20,26 @@ make_room-requires c = record { few =
     omega (arith, small, room) }
 
 pub invariant_of-self : goal.invariant_of-self
-invariant_of-self c = ?
+invariant_of-self c =
+    let now = c.args.self.now in
+    let b = the_view c.self-2.inside in
+    let made : b ≡ record now { room = now.room + c.args.more } = c.self-2.view_is ∙ c.in-Ok.ensures.room in
+    let low : c.args.member < members_of b = subst (λ (v : BoardView). c.args.member < members_of v) (sym made) c.requires.member in
+    let low0 = subst (λ (v : BoardView). c.args.member < members_of v) (sym c.self.view_is) c.requires.member in
+    let kept : c.index-kept.result.now ≡ kept_by c.args.member b =
+        c.index-kept.ensures ∙ get_or_default c.self.inside.kept.items c.args.member _ 0 low0 ∙ ap (λ (v : BoardView). kept_by c.args.member v) (c.self.view_is) ∙ ap (λ (v : BoardView). kept_by c.args.member v) (sym made) in
+    let spare = subst (λ (v : BoardView). HasSpare c.args.more v) (sym c.self-2.view_is) c.in-Ok.ensures.spare in
+    rw kept (keeping_board _ c.args.member c.args.more b c.self-2.invariant low spare)
 
 pub returns-in-Err : goal.returns-in-Err
-returns-in-Err c = ?
+returns-in-Err c = record { performs = nothing_made (Reserve c.args.more) c.args.member c.args.self.now c.make_room.new.self c.args.more refl c.requires.admitted c.in-Err.ensures.err c.in-Err.ensures.there }
 
 pub returns-in-Ok : goal.returns-in-Ok
-returns-in-Ok c = ?
+returns-in-Ok c =
+    let now = c.args.self.now in
+    let b = the_view c.self-2.inside in
+    let made : b ≡ record now { room = now.room + c.args.more } = c.self-2.view_is ∙ c.in-Ok.ensures.room in
+    let low0 = subst (λ (v : BoardView). c.args.member < members_of v) (sym c.self.view_is) c.requires.member in
+    let kept : c.index-kept.result.now ≡ kept_by c.args.member now =
+        c.index-kept.ensures ∙ get_or_default c.self.inside.kept.items c.args.member _ 0 low0 ∙ ap (λ (v : BoardView). kept_by c.args.member v) c.self.view_is in
+    record { performs = reserve_performed c.args.member c.args.more now b (c.index-kept.result.now + c.args.more) c.requires.admitted made (ap (λ (n : ℕ). n + c.args.more) kept) }
