@@ -2,3 +2,6 @@ pub mod Stored
 pub mod Owed
 pub mod Ops
 pub mod ReadyTasks
+pub mod Boards
+pub mod Examples
+pub mod Startable

@@ -42,8 +42,3 @@ owed_for_break h = if is_some (clash_of h) then 0 else 1
 -- of all
 abbrev pub owed : ℕ → List Event → ℕ
 owed members h = owed_by_tasks h + owed_by_groups h + owed_by_members members h + owed_for_break h
-
--- what each member keeps for the ends of its shares
-abbrev pub sum : List ℕ → ℕ
-sum [] = 0
-sum (n ∷ ns) = n + sum ns

@@ -1,0 +1,79 @@
+-- What is known of a member whose operation no test refuses.
+use Rattle.std.proofs.Common.{◌≡◌, ℕ, ◌+◌, ◌<◌, ◌≤◌, Bool, true, false, List, [], ◌∷◌, ◌++◌, None, refl, ap, suc}
+use Rattle.std.specs.Prelude.{◌&&◌}
+use Rattle.std.proofs.lemmas.Bool.{ltb-false, leb-false}
+use Rattle.gomp_types.specs.declared.task.Task.TheVariants.{Implicit, Explicit}
+use Rattle.gomp_types.specs.declared.task.TaskDesc.{TaskDesc}
+use Rattle.gomp_types.specs.declared.limits.Limits.{Limits}
+use Rattle.gomp_types.specs.declared.limits.TheConstants.{MAX_TASK_DEPTH}
+use Rattle.gomp_types.specs.declared.event.Event.{Event}
+use Rattle.gomp_types.specs.Events.{at_barrier, barriers_passed}
+use Rattle.gomp_types.specs.Tasks.{tasks_created, task_stack, innermost_task, executed_task, in_task, depth_of, epoch, epoch_of_child}
+use Rattle.gomp_types.specs.TaskRules.{MayCreate}
+use Rattle.gomp_types.specs.TaskCalls.{group_is_open, task_room, group_room}
+use Rattle.gomp_types.proofs.Booleans.{not_false}
+use Rattle.gomp_types.proofs.LeastTests.{AllFail, all_fail, fail_later}
+use Rattle.gomp_board.specs.declared.op.Op.{Op}
+use Rattle.gomp_board.specs.declared.op.Op.TheVariants.{Create, EndTask, OpenGroup, EndGroup}
+use Rattle.gomp_board.specs.Ops.{member_tests, op_tests, op_refusal, awaits_barrier}
+
+-- The task that a member executes
+
+-- the implicit one is its own
+own_of : (m x : ℕ) (ts : List ℕ) → innermost_task m ts ≡ Implicit x → x ≡ m
+own_of m x [] e = cc
+own_of m x (t ∷ ts) e = absurd (cc)
+
+pub implicit_is_own : (m x : ℕ) (h : List Event) → executed_task m h ≡ Implicit x → x ≡ m
+implicit_is_own m x h e = own_of m x (task_stack m h) e
+
+pub out_of_tasks : (m x : ℕ) (h : List Event) → executed_task m h ≡ Implicit x → in_task m h ≡ false
+out_of_tasks m x h e = rw e refl
+
+pub within_task : (m t : ℕ) (h : List Event) → executed_task m h ≡ Explicit t → in_task m h ≡ true
+within_task m t h e = rw e refl
+
+-- to which barrier its children are bound
+pub own_epoch : (m x : ℕ) (h : List Event) → executed_task m h ≡ Implicit x → epoch_of_child (executed_task m h) h ≡ barriers_passed m h
+own_epoch m x h e = rw e (ap (λ n. barriers_passed n h) (implicit_is_own m x h e))
+
+pub task_epoch : (m t : ℕ) (h : List Event) → executed_task m h ≡ Explicit t → epoch_of_child (executed_task m h) h ≡ epoch t h
+task_epoch m t h e = rw e refl
+
+-- What the tests tell
+
+-- those of an operation that none refuses fail
+pub tests_fail : (limits : Limits) (room kept m : ℕ) (op : Op) (h : List Event) → op_refusal limits room kept m op h ≡ None → AllFail (op_tests limits room kept m op h)
+tests_fail limits room kept m op h fine = fail_later (member_tests m h) (op_tests limits room kept m op h) (all_fail (member_tests m h ++ op_tests limits room kept m op h) fine)
+
+-- a member that waits at a barrier executes a task there
+not_waiting : (m : ℕ) (h : List Event) → awaits_barrier m h ≡ false → in_task m h ≡ false → at_barrier m h ≡ false
+not_waiting m h fails out = away (at_barrier m h) (rw out at fails)
+  where
+    away : (b : Bool) → (b && true) ≡ false → b ≡ false
+    away true e = e
+    away false e = e
+
+-- the member creates a task
+pub create_may : (limits : Limits) (room kept members m : ℕ) (desc : TaskDesc) (h : List Event) → m < members → op_refusal limits room kept m (Create desc) h ≡ None → MayCreate members (suc (tasks_created h)) m (executed_task m h) h
+create_may limits room kept members m desc h lt fine =
+    let fails = tests_fail limits room kept m (Create desc) h fine in
+    record { member = lt; number = refl; current = refl; away = not_waiting m h fails.0; shallow = leb-false MAX_TASK_DEPTH (depth_of (executed_task m h) h) fails.1.0 }
+
+pub create_few : (limits : Limits) (room kept m : ℕ) (desc : TaskDesc) (h : List Event) → op_refusal limits room kept m (Create desc) h ≡ None → tasks_created h < limits.tasks
+create_few limits room kept m desc h fine = leb-false limits.tasks (tasks_created h) (tests_fail limits room kept m (Create desc) h fine).1.1.0
+
+pub create_room : (limits : Limits) (room kept m : ℕ) (desc : TaskDesc) (h : List Event) → op_refusal limits room kept m (Create desc) h ≡ None → room + task_room ≤ limits.events
+create_room limits room kept m desc h fine = ltb-false limits.events (room + task_room) (tests_fail limits room kept m (Create desc) h fine).1.1.1.0
+
+-- it ends one
+pub end_within : (limits : Limits) (room kept m : ℕ) (h : List Event) → op_refusal limits room kept m EndTask h ≡ None → in_task m h ≡ true
+end_within limits room kept m h fine = not_false (in_task m h) (tests_fail limits room kept m EndTask h fine).1.0
+
+-- it opens a group
+pub open_room : (limits : Limits) (room kept m : ℕ) (h : List Event) → op_refusal limits room kept m OpenGroup h ≡ None → room + group_room ≤ limits.events
+open_room limits room kept m h fine = ltb-false limits.events (room + group_room) (tests_fail limits room kept m OpenGroup h fine).1.0
+
+-- it ends one
+pub end_open : (limits : Limits) (room kept m : ℕ) (h : List Event) → op_refusal limits room kept m EndGroup h ≡ None → group_is_open m h ≡ true
+end_open limits room kept m h fine = not_false (group_is_open m h) (tests_fail limits room kept m EndGroup h fine).1.0

@@ -1,0 +1,99 @@
+-- What the tests of an arrival, of the wait after it, of a reservation and of a break tell.
+use Rattle.std.proofs.Common.{◌≡◌, ◌≢◌, ℕ, ◌+◌, ◌<◌, ◌≤◌, Bool, true, false, List, [], ◌∷◌, ◌++◌, Option, Some, None, refl, arith, suc, zero}
+use Rattle.std.specs.Prelude.{min, reverse}
+use Rattle.std.proofs.lemmas.Bool.{ltb-false}
+use Rattle.gomp_types.specs.declared.limits.Limits.{Limits}
+use Rattle.gomp_types.specs.declared.refusal.Clash.{Clash}
+use Rattle.gomp_types.specs.declared.refusal.Refusal.{Refusal}
+use Rattle.gomp_types.specs.declared.refusal.Refusal.TheVariants.{Ended, Broken, Mismatch}
+use Rattle.gomp_types.specs.declared.reply.Reply.{Reply}
+use Rattle.gomp_types.specs.declared.reply.Reply.TheVariants.{Refused}
+use Rattle.gomp_types.specs.declared.event.Tag.{Tag}
+use Rattle.gomp_types.specs.declared.event.Event.{Event}
+use Rattle.gomp_types.specs.Limits.{capped_limits}
+use Rattle.gomp_types.specs.Events.{clash_of}
+use Rattle.gomp_types.specs.Laws.{Always}
+use Rattle.gomp_types.specs.Arrivals.{ArrivalRule}
+use Rattle.gomp_types.specs.Tests.{Test}
+use Rattle.gomp_types.specs.Least.{least}
+use Rattle.gomp_types.specs.TaskCalls.{lacks_room, AwaitsTasks}
+use Rattle.gomp_types.proofs.LeastTests.{AllFail, all_fail, fail_first, fail_later, lesser_low}
+use Rattle.gomp_board.specs.declared.op.Op.{Op}
+use Rattle.gomp_board.specs.declared.op.Op.TheVariants.{Arrive, Reserve}
+use Rattle.gomp_board.specs.Ops.{arrival_asks, broken_tests, member_tests, end_tests, op_tests, op_refusal}
+use Rattle.gomp_barrier.specs.Stands.{members_of as barrier_members}
+use Rattle.gomp_board.specs.Boards.{BoardView, Stands, IsBoard, IsAdmitted, ArrivesFirst, kept_by}
+use Rattle.gomp_board.proofs.Admitted.{tests_fail}
+use Rattle.gomp_board.proofs.RegionLeft.{arrives_first}
+use Rattle.gomp_board.proofs.Waiting.{IsReply}
+
+-- the tests of the member and the team fail
+member_fails : (limits : Limits) (room kept m : ℕ) (op : Op) (h : List Event) → op_refusal limits room kept m op h ≡ None → AllFail (member_tests m h)
+member_fails limits room kept m op h fine = fail_first (member_tests m h) (op_tests limits room kept m op h) (all_fail (member_tests m h ++ op_tests limits room kept m op h) fine)
+
+unbroken : (clash : Option Clash) → AllFail (broken_tests clash) → clash ≡ None
+unbroken None fails = refl
+unbroken (Some clash) fails = absurd (let broken : true ≡ false = fails.0 in cc)
+
+-- a team that lets an operation in is not broken
+pub admitted_unbroken : (limits : Limits) (room kept m : ℕ) (op : Op) (h : List Event) → op_refusal limits room kept m op h ≡ None → clash_of h ≡ None
+admitted_unbroken limits room kept m op h fine = unbroken (clash_of h) (member_fails limits room kept m op h fine).1
+
+-- nor is one in which a construct differs
+differing_unbroken_by : (left : Bool) (clash : Option Clash) (rest : List Test) → least ((left, Ended) ∷ (broken_tests clash ++ rest)) ≡ Some Mismatch → clash ≡ None
+differing_unbroken_by left None rest e = refl
+differing_unbroken_by true (Some clash) rest e = absurd (omega (arith, lesser_low Ended Mismatch (least (broken_tests (Some clash) ++ rest)) e))
+differing_unbroken_by false (Some clash) rest e = absurd (omega (arith, lesser_low (Broken clash) Mismatch (least rest) e))
+
+pub differing_unbroken : (limits : Limits) (room kept m : ℕ) (op : Op) (h : List Event) → op_refusal limits room kept m op h ≡ Some Mismatch → clash_of h ≡ None
+differing_unbroken limits room kept m op h e = differing_unbroken_by _ (clash_of h) (op_tests limits room kept m op h) e
+
+-- an arrival that is let in comes first
+pub admitted_arrives : (limits : Limits) (members room kept m : ℕ) (tag : Tag) (h : List Event) → Always (ArrivalRule members) h → op_refusal limits room kept m (Arrive tag) h ≡ None → ArrivesFirst m tag h
+admitted_arrives limits members room kept m tag h rule fine =
+    let left = (member_fails limits room kept m (Arrive tag) h fine).0 in
+    let fails = tests_fail limits room kept m (Arrive tag) h fine in
+    let last = fail_later (end_tests tag.kind m h) _ fails.1.1 in
+    let first = arrives_first members m h rule left fails.0 fails.1.0 in
+    record { away = first.0; before = first.1; alike = last.0 }
+
+-- for which there is room
+pub arrival_has_room : (limits : Limits) (room kept m : ℕ) (tag : Tag) (h : List Event) → op_refusal limits room kept m (Arrive tag) h ≡ None → lacks_room limits.events room (arrival_asks tag.kind kept) ≡ false
+arrival_has_room limits room kept m tag h fine = (fail_later (end_tests tag.kind m h) _ (tests_fail limits room kept m (Arrive tag) h fine).1.1).1.0
+
+-- so for a reservation
+pub reserve_has_room : (limits : Limits) (room kept m more : ℕ) (h : List Event) → op_refusal limits room kept m (Reserve more) h ≡ None → lacks_room limits.events room more ≡ false
+reserve_has_room limits room kept m more h fine = (tests_fail limits room kept m (Reserve more) h fine).1.1.0
+
+-- and the room asked for stays small
+pub room_stays_small : (limits : Limits) (room more : ℕ) → capped_limits limits ≡ limits → room < 4294967296 → lacks_room limits.events room more ≡ false → room + more < 4294967296
+room_stays_small limits room zero capped small fits = omega (arith, small)
+room_stays_small limits room (suc more) capped small fits =
+    let within = ltb-false limits.events (room + suc more) fits in
+    let low : limits.events ≤ 16777216 = events_low limits capped in
+    omega (arith, within, low)
+  where
+    events_low : (l : Limits) → capped_limits l ≡ l → l.events ≤ 16777216
+    events_low l e = let same : min l.events 16777216 ≡ l.events = cc in omega (arith, same)
+
+-- the answer at a wait is no refusal
+pub awaits_is_reply : (m : ℕ) (met : Bool) (h : List Event) (reply : Reply) → AwaitsTasks m met h reply → IsReply reply
+awaits_is_reply m met h (Refused refusal) is = is
+awaits_is_reply m met h _ is = tt
+
+-- Of a board that admits an operation
+
+pub unbroken_of : (op : Op) (m : ℕ) (board : BoardView) → IsAdmitted op m board → (h : List Event) → Stands board h → clash_of h ≡ None
+unbroken_of op m board admitted h st = admitted_unbroken board.limits board.room (kept_by m board) m op h (admitted h st)
+
+pub arrives_of : (tag : Tag) (m : ℕ) (board : BoardView) → IsAdmitted (Arrive tag) m board → (h : List Event) → Stands board h → ArrivesFirst m tag h
+arrives_of tag m board admitted h st = admitted_arrives board.limits (barrier_members board.barriers) board.room (kept_by m board) m tag h st.barriers.rule (admitted h st)
+
+-- its room stays small
+pub arrival_stays_small : (space m : ℕ) (tag : Tag) (board : BoardView) → IsBoard space board → board.room < 4294967296 → IsAdmitted (Arrive tag) m board → board.room + arrival_asks tag.kind (kept_by m board) < 4294967296
+arrival_stays_small space m tag board is small admitted =
+    room_stays_small board.limits board.room (arrival_asks tag.kind (kept_by m board)) is.limits small (arrival_has_room board.limits board.room (kept_by m board) m tag (reverse board.history) (admitted (reverse board.history) is.stands))
+
+pub reserve_stays_small : (space m more : ℕ) (board : BoardView) → IsBoard space board → board.room < 4294967296 → IsAdmitted (Reserve more) m board → board.room + more < 4294967296
+reserve_stays_small space m more board is small admitted =
+    room_stays_small board.limits board.room more is.limits small (reserve_has_room board.limits board.room (kept_by m board) m more (reverse board.history) (admitted (reverse board.history) is.stands))

@@ -1,0 +1,218 @@
+-- What each operation is answered: an answer that is right, and wrong ones that the definitions refuse.
+use Rattle.std.proofs.Common.{◌≡◌, ℕ, true, false, List, [], ◌∷◌, ◌++◌, Some, None, refl, rules}
+use Rattle.std.specs.Prelude.{map}
+use Rattle.gomp_types.specs.declared.task.Task.TheVariants.{Implicit}
+use Rattle.gomp_types.specs.declared.refusal.Place.TheVariants.{Share, Barrier as AtBarrier, Stopped as AtStop}
+use Rattle.gomp_types.specs.declared.refusal.Refusal.TheVariants.{Ended, Broken, Waiting, InsideTask, NotInTask, NotInside, NoGroup, GroupOpen, TooDeep, TooManyTasks, Mismatch, TraceFull, NoMemory}
+use Rattle.gomp_types.specs.declared.reply.Reply.{Reply}
+use Rattle.gomp_types.specs.declared.reply.Reply.TheVariants.{NoChunk, Finished, Passed, Wait, Created, Run, TaskDone, Stopped, Refused}
+use Rattle.gomp_types.specs.declared.event.Arrival.TheVariants.{Barrier, ShareEnd, RegionEnd}
+use Rattle.gomp_types.specs.declared.event.Event.TheVariants.{Arrive, Pass, Create, Start, Group}
+use Rattle.gomp_types.specs.EventLists.{at}
+use Rattle.gomp_board.specs.declared.op.Op.TheVariants.{Create as CreateTask, EndTask, AwaitChildren, OpenGroup, EndGroup, Arrive as ArriveAt, AwaitBarrier, Reserve, Break as BreakAt}
+use Rattle.gomp_board.specs.Ops.{OpAnswer}
+use Rattle.gomp_board.specs.Examples.{seven, eight, creates_root, one_ready, one_runs, one_done, other_runs, group_empty, group_ready, group_done, first_waits, both_wait, runs_there, second_ends, both_end, first_left, stopped, limits_of, usual_limits, Allows, Excludes, ExcludesEach}
+
+-- Tasks
+
+-- a new task has the next number
+pub creation_answer : Allows (CreateTask seven) one_done (Created 2)
+creation_answer = search rules
+
+pub wrong_creation_answers : ExcludesEach (CreateTask seven) one_done (Created 1 ∷ Created 3 ∷ Finished ∷ Wait ∷ [])
+wrong_creation_answers = search rules
+
+-- the end of a task names it
+pub task_end_answer : Allows EndTask one_runs (TaskDone 1 true)
+task_end_answer = search rules
+
+pub wrong_task_end_answers : ExcludesEach EndTask one_runs (TaskDone 2 true ∷ TaskDone 1 false ∷ Finished ∷ [])
+wrong_task_end_answers = search rules
+
+-- Taskwaits
+
+-- passed if all children are complete
+pub taskwait_passed : Allows AwaitChildren one_done Passed
+taskwait_passed = search rules
+
+pub wrong_at_passed_taskwait : ExcludesEach AwaitChildren one_done (Wait ∷ Run 1 7 9 false ∷ Finished ∷ [])
+wrong_at_passed_taskwait = search rules
+
+-- else a task that may be started is run
+pub taskwait_runs : Allows AwaitChildren one_ready (Run 1 7 9 false)
+taskwait_runs = search rules
+
+pub wrong_at_running_taskwait :
+    ExcludesEach AwaitChildren one_ready (Passed ∷ Wait ∷ Run 2 7 9 false ∷ Run 1 8 9 false ∷ Run 1 7 8 false ∷ Run 1 7 9 true ∷ [])
+wrong_at_running_taskwait = search rules
+
+-- or, if another member runs it, the member waits
+pub taskwait_waits : Allows AwaitChildren other_runs Wait
+taskwait_waits = search rules
+
+pub wrong_at_waiting_taskwait : ExcludesEach AwaitChildren other_runs (Passed ∷ Run 1 7 9 false ∷ [])
+wrong_at_waiting_taskwait = search rules
+
+-- a task of another member does not count
+pub taskwait_of_another : Allows AwaitChildren (Create 1 1 (Implicit 1) seven ∷ []) Passed
+taskwait_of_another = search rules
+
+-- Groups
+
+-- a group that is opened
+pub group_answer : Allows OpenGroup one_runs Finished
+group_answer = search rules
+
+pub wrong_group_answers : ExcludesEach OpenGroup one_runs (Passed ∷ Wait ∷ [])
+wrong_group_answers = search rules
+
+-- its end is passed if all its tasks are complete
+pub group_end_passed : Allows EndGroup group_done Passed
+group_end_passed = search rules
+
+pub wrong_at_passed_group : ExcludesEach EndGroup group_done (Wait ∷ Finished ∷ Run 1 7 9 false ∷ [])
+wrong_at_passed_group = search rules
+
+-- else a task is run
+pub group_end_runs : Allows EndGroup group_ready (Run 1 7 9 false)
+group_end_runs = search rules
+
+pub wrong_at_running_group : ExcludesEach EndGroup group_ready (Passed ∷ Wait ∷ Run 1 7 9 true ∷ Run 1 9 7 false ∷ [])
+wrong_at_running_group = search rules
+
+-- or the member waits
+pub group_end_waits : Allows EndGroup (Start 1 1 ∷ group_ready) Wait
+group_end_waits = search rules
+
+pub wrong_at_waiting_group : ExcludesEach EndGroup (Start 1 1 ∷ group_ready) (Passed ∷ Run 1 7 9 false ∷ [])
+wrong_at_waiting_group = search rules
+
+-- a task that was created before the group does not count
+pub group_end_beside_a_task : Allows EndGroup (Group 0 0 ∷ one_ready) Passed
+group_end_beside_a_task = search rules
+
+-- Barriers
+
+-- the last to arrive passes at once
+pub last_arrival_passes : Allows (ArriveAt (at RegionEnd 0)) second_ends Passed
+last_arrival_passes = search rules
+
+pub wrong_at_last_arrival : ExcludesEach (ArriveAt (at RegionEnd 0)) second_ends (Wait ∷ Finished ∷ Run 1 7 9 false ∷ [])
+wrong_at_last_arrival = search rules
+
+-- the first one waits, and so does the last while a task of the barrier is not done
+pub first_arrival_waits : Allows (ArriveAt (at Barrier 0)) [] Wait
+first_arrival_waits = search rules
+
+pub wrong_at_first_arrival : ExcludesEach (ArriveAt (at Barrier 0)) [] (Passed ∷ Finished ∷ [])
+wrong_at_first_arrival = search rules
+
+-- or runs a task
+pub arrival_runs : Allows (ArriveAt (at Barrier 0)) one_ready (Run 1 7 9 false)
+arrival_runs = search rules
+
+pub wrong_at_running_arrival : ExcludesEach (ArriveAt (at Barrier 0)) one_ready (Passed ∷ Wait ∷ Run 1 7 9 true ∷ [])
+wrong_at_running_arrival = search rules
+
+-- at the wait once all have arrived, and no task is left
+pub barrier_passed : Allows AwaitBarrier both_wait Passed
+barrier_passed = search rules
+
+pub wrong_at_passed_barrier : ExcludesEach AwaitBarrier both_wait (Wait ∷ Finished ∷ [])
+wrong_at_passed_barrier = search rules
+
+-- before that the member waits
+pub barrier_waits : Allows AwaitBarrier first_waits Wait
+barrier_waits = search rules
+
+pub wrong_at_waiting_barrier : ExcludesEach AwaitBarrier first_waits (Passed ∷ Finished ∷ [])
+wrong_at_waiting_barrier = search rules
+
+-- a barrier is not passed while a task that is bound to it runs
+pub barrier_waits_for_tasks : Allows AwaitBarrier (both_wait ++ other_runs) Wait
+barrier_waits_for_tasks = search rules
+
+pub wrong_while_a_task_runs : ExcludesEach AwaitBarrier (both_wait ++ other_runs) (Passed ∷ Run 1 7 9 false ∷ [])
+wrong_while_a_task_runs = search rules
+
+-- Room, and breaks
+
+pub reserve_answer : Allows (Reserve 2) [] Finished
+reserve_answer = search rules
+
+pub wrong_reserve_answers : ExcludesEach (Reserve 2) [] (Passed ∷ Wait ∷ [])
+wrong_reserve_answers = search rules
+
+pub stop_answer : Allows (BreakAt AtStop) first_waits Stopped
+stop_answer = search rules
+
+pub wrong_stop_answers : ExcludesEach (BreakAt AtStop) first_waits (Finished ∷ Refused Mismatch ∷ [])
+wrong_stop_answers = search rules
+
+-- Refusals
+
+-- the one whose test holds, and nothing else
+pub refusal_answer : Allows EndTask one_ready (Refused NotInTask)
+refusal_answer = search rules
+
+pub wrong_refusals : ExcludesEach EndTask one_ready (Refused GroupOpen ∷ Refused Waiting ∷ TaskDone 1 true ∷ [])
+wrong_refusals = search rules
+
+-- of two the one with the lesser number
+pub lesser_refusal_answer : Allows EndTask first_waits (Refused Waiting)
+lesser_refusal_answer = search rules
+
+pub greater_refusal_is_wrong : Excludes EndTask first_waits (Refused NotInTask)
+greater_refusal_is_wrong = search rules
+
+-- none if no test holds
+pub refusals_without_a_test : ExcludesEach EndTask one_runs (Refused NotInTask ∷ Refused GroupOpen ∷ Refused Ended ∷ [])
+refusals_without_a_test = search rules
+
+-- a construct that differs
+pub mismatch_answer : Allows (ArriveAt (at Barrier 0)) second_ends (Refused Mismatch) × Allows (BreakAt (Share 2)) [] (Refused Mismatch)
+mismatch_answer = search rules
+
+pub differing_arrival_let_in : ExcludesEach (ArriveAt (at Barrier 0)) second_ends (Wait ∷ Passed ∷ Refused TraceFull ∷ [])
+differing_arrival_let_in = search rules
+
+pub differing_share_let_in : Excludes (BreakAt (Share 2)) [] Stopped
+differing_share_let_in = search rules
+
+-- Want of memory
+
+-- at operations that ask for room
+pub no_memory_for_room :
+    Allows (CreateTask seven) [] (Refused NoMemory) × Allows OpenGroup [] (Refused NoMemory) × Allows (ArriveAt (at Barrier 0)) [] (Refused NoMemory) × Allows (Reserve 1) [] (Refused NoMemory)
+    × Allows (ArriveAt (at ShareEnd 0)) [] (Refused NoMemory)
+no_memory_for_room = search rules
+
+-- at no other
+pub no_memory_at_task_end : Excludes EndTask one_runs (Refused NoMemory)
+no_memory_at_task_end = search rules
+
+pub no_memory_at_taskwait : Excludes AwaitChildren one_ready (Refused NoMemory)
+no_memory_at_taskwait = search rules
+
+pub no_memory_at_group_end : Excludes EndGroup group_ready (Refused NoMemory)
+no_memory_at_group_end = search rules
+
+pub no_memory_at_region_end : Excludes (ArriveAt (at RegionEnd 0)) [] (Refused NoMemory)
+no_memory_at_region_end = search rules
+
+pub no_memory_at_barrier : Excludes AwaitBarrier first_waits (Refused NoMemory)
+no_memory_at_barrier = search rules
+
+pub no_memory_for_no_room : Excludes (Reserve 0) [] (Refused NoMemory)
+no_memory_for_no_room = search rules
+
+pub no_memory_at_stop : Excludes (BreakAt AtStop) [] (Refused NoMemory)
+no_memory_at_stop = search rules
+
+-- not at the end of a share whose room was kept
+pub no_memory_with_room_kept : OpAnswer usual_limits 5 2 2 0 (ArriveAt (at ShareEnd 0)) [] (Refused NoMemory) → ⊥
+no_memory_with_room_kept = search rules
+
+-- and not beside a test that holds
+pub no_memory_beside_a_test : Excludes (CreateTask seven) first_waits (Refused NoMemory) × Excludes (ArriveAt (at Barrier 0)) second_ends (Refused NoMemory)
+no_memory_beside_a_test = search rules

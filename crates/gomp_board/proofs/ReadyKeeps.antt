@@ -1,0 +1,192 @@
+-- The list of the tasks that may be started after each event of tasks, and what it tells of them.
+use Rattle.std.proofs.Common.{◌≡◌, ℕ, ◌<◌, ◌≤◌, Bool, true, false, List, [], ◌∷◌, ◌++◌, Some, refl, ap, ◌∙◌, sym, subst, arith, suc, zero, inl, inr, length, slice_get}
+use Rattle.std.specs.Prelude.{◌&&◌, ◌||◌, ◌==◌, nat_lt, nat_le, not, slice_index_or}
+use Rattle.std.specs.List.{remove}
+use Rattle.std.proofs.lemmas.Bool.{cases_Bool, or_parts}
+use Rattle.std.proofs.lemmas.Bool.Decides.{nat_tests, eqb_tells}
+use Rattle.gomp_types.specs.declared.task.Task.{Task}
+use Rattle.gomp_types.specs.declared.task.Task.TheVariants.{Explicit}
+use Rattle.gomp_types.specs.declared.task.TaskDesc.{TaskDesc}
+use Rattle.gomp_types.specs.declared.event.Event.{Event}
+use Rattle.gomp_types.specs.declared.event.Event.TheVariants.{Create, Start, Done}
+use Rattle.gomp_types.specs.Laws.{Always}
+use Rattle.gomp_types.specs.Tasks.{contains, tasks_created, executed_task, is_created, has_started, is_complete}
+use Rattle.gomp_types.specs.Goals.{is_ready, may_start, some_startable}
+use Rattle.gomp_types.specs.TaskRules.{TaskRule}
+use Rattle.gomp_types.proofs.Booleans.{and_left, and_false, or_tells, or_right, same_number, other_number, is_equal, not_both, every_by}
+use Rattle.gomp_types.proofs.OpenTasks.{created_low, created_high}
+use Rattle.gomp_types.proofs.Suspended.{runner_has_started, current_open}
+use Rattle.gomp_types.proofs.TaskRoom.{uncreated_not_started}
+use Rattle.gomp_board.specs.ReadyTasks.{Apart, AreReady}
+
+-- Lists of numbers
+
+and_true : (b : Bool) → (b && true) ≡ b
+and_true true = refl
+and_true false = refl
+
+or_nothing : (b : Bool) → (b || false) ≡ b
+or_nothing true = refl
+or_nothing false = refl
+
+or_assoc : (a b c : Bool) → (a || (b || c)) ≡ ((a || b) || c)
+or_assoc true b c = refl
+or_assoc false b c = refl
+
+-- what a list with one more at its end has
+contains_push : (u t : ℕ) (ids : List ℕ) → contains u (ids ++ t ∷ []) ≡ (contains u ids || (t == u))
+contains_push u t [] = or_nothing (t == u)
+contains_push u t (x ∷ xs) = ap (λ b. x == u || b) (contains_push u t xs) ∙ or_assoc (x == u) (contains u xs) (t == u)
+
+apart_push : (t : ℕ) (ids : List ℕ) → Apart ids → contains t ids ≡ false → Apart (ids ++ t ∷ [])
+apart_push t [] apart new = (refl, tt)
+apart_push t (x ∷ xs) apart new =
+    let parts = or_parts (x == t) (contains t xs) new in
+    (
+      contains_push x t xs ∙ (rw (apart.0, other_number t x (λ same. not_both (x == t) (rw same (same_number x)) parts.0)) refl),
+      apart_push t xs apart.1 parts.1,
+    )
+
+-- a list has what stands at a place of it, and what it has stands at some place
+pub contains_at : (ids : List ℕ) (place t : ℕ) → slice_get ids place ≡ Some t → contains t ids ≡ true
+contains_at [] place t at = absurd (cc)
+contains_at (x ∷ xs) zero t at = let same : x ≡ t = cc in rw (same, same_number t) refl
+contains_at (x ∷ xs) (suc place) t at = or_right (x == t) (contains t xs) (contains_at xs place t at)
+
+pub place_of : (t : ℕ) (ids : List ℕ) → contains t ids ≡ true → (place : ℕ) × (place < length ids) × (slice_index_or ids place 0 ≡ t)
+place_of t [] there = absurd (cc)
+place_of t (x ∷ xs) there =
+    elim (or_tells (x == t) (contains t xs) there) [
+      | inl same ↦ (0, omega arith, is_equal x t same)
+      | inr rest ↦ let found = place_of t xs rest in (suc found.0, omega (arith, found.1), found.2)
+    ]
+
+-- what a list has without what stood at a place of it
+contains_remove : (u t : ℕ) (ids : List ℕ) (place : ℕ) → Apart ids → slice_get ids place ≡ Some t → contains u (remove ids place) ≡ (contains u ids && not (t == u))
+contains_remove u t [] place apart at = absurd (cc)
+contains_remove u t (x ∷ xs) zero apart at =
+    let first : x ≡ t = cc in
+    elim (eqb_tells t u) [
+      | inl same ↦
+          let gone : contains u xs ≡ false = subst (λ (n : ℕ). contains n xs ≡ false) (first ∙ same.1) apart.0 in
+          rw (same.0, gone) (sym (and_false (x == u || false) false refl))
+      | inr other ↦
+          let away : (x == u) ≡ false = rw first other.0 in
+          rw (other.0, away) (sym (and_true (contains u xs)))
+    ]
+contains_remove u t (x ∷ xs) (suc place) apart at =
+    let rest = contains_remove u t xs place apart.1 at in
+    elim (eqb_tells x u) [
+      | inl here ↦
+          let stays : (t == u) ≡ false = other_number t u (λ same. not_both (contains t xs) (contains_at xs place t at) (subst (λ (n : ℕ). contains n xs ≡ false) (here.1 ∙ sym same) apart.0)) in
+          rw (here.0, stays) refl
+      | inr away ↦ rw away.0 rest
+    ]
+
+apart_remove : (t : ℕ) (ids : List ℕ) (place : ℕ) → Apart ids → slice_get ids place ≡ Some t → Apart (remove ids place)
+apart_remove t [] place apart at = absurd (cc)
+apart_remove t (x ∷ xs) zero apart at = apart.1
+apart_remove t (x ∷ xs) (suc place) apart at = (
+  contains_remove x t xs place apart.1 at ∙ rw apart.0 refl,
+  apart_remove t xs place apart.1 at,
+)
+
+-- After each event
+
+-- no task may be started at the beginning
+no_number : (t : ℕ) → (nat_lt 0 t && nat_le t 0) ≡ false
+no_number t = grind (arith, nat_tests)
+
+pub none_ready : AreReady [] []
+none_ready = record { ready = λ t. sym (rw (no_number t) refl); apart = tt }
+
+-- a task that is created is ready, the last one
+made_last : (u n : ℕ) → u ≡ suc n → (nat_lt 0 u && nat_le u (suc n)) ≡ true
+made_last u n e = grind (arith, nat_tests, e)
+
+made_later : (u n : ℕ) → u ≡ suc n → (nat_lt 0 u && nat_le u n) ≡ false
+made_later u n e = grind (arith, nat_tests, e)
+
+made_before : (u n : ℕ) → (suc n == u) ≡ false → (nat_lt 0 u && nat_le u (suc n)) ≡ (nat_lt 0 u && nat_le u n)
+made_before u n other = grind (arith, nat_tests, other)
+
+new_ready : (t u m : ℕ) (p : Task) (desc : TaskDesc) (ids : List ℕ) (h : List Event) → t ≡ suc (tasks_created h) → (has_started t h ≡ false) × (is_complete t h ≡ false) → contains u ids ≡ is_ready u h → contains u (ids ++ t ∷ []) ≡ is_ready u (Create t m p desc ∷ h)
+new_ready t u m p desc ids h number new was =
+    elim (eqb_tells t u) [
+      | inl same ↦
+          let last : (nat_lt 0 u && nat_le u (suc (tasks_created h))) ≡ true = made_last u (tasks_created h) (sym same.1 ∙ number) in
+          let off : has_started u h ≡ false = subst (λ (n : ℕ). has_started n h ≡ false) same.1 new.0 in
+          let incomplete : is_complete u h ≡ false = subst (λ (n : ℕ). is_complete n h ≡ false) same.1 new.1 in
+          contains_push u t ids ∙ rw (same.0, last, off, incomplete) (or_right (contains u ids) true refl)
+      | inr other ↦
+          let before = made_before u (tasks_created h) (subst (λ (n : ℕ). (n == u) ≡ false) number other.0) in
+          contains_push u t ids ∙ rw (other.0, before) (or_nothing (contains u ids) ∙ was)
+    ]
+
+pub created_ready : (members t m : ℕ) (p : Task) (desc : TaskDesc) (ids : List ℕ) (h : List Event) → Always (TaskRule members) h → t ≡ suc (tasks_created h) → AreReady ids h → AreReady (ids ++ t ∷ []) (Create t m p desc ∷ h)
+created_ready members t m p desc ids h all number are =
+    let new = uncreated_not_started members h all t (omega (arith, number)) in
+    let not_yet : is_ready t h ≡ false = rw (made_later t (tasks_created h) number) refl in
+    record { ready = λ u. new_ready t u m p desc ids h number new (are.ready u); apart = apart_push t ids are.apart (are.ready t ∙ not_yet) }
+
+-- a task that is started no longer is
+pub started_ready : (t m : ℕ) (ids : List ℕ) (place : ℕ) (h : List Event) → slice_get ids place ≡ Some t → AreReady ids h → AreReady (remove ids place) (Start t m ∷ h)
+started_ready t m ids place h at are = record { ready = each; apart = apart_remove t ids place are.apart at }
+  where
+    each : (u : ℕ) → contains u (remove ids place) ≡ is_ready u (Start t m ∷ h)
+    each u = contains_remove u t ids place are.apart at ∙ elim (cases_Bool (t == u)) [
+      | inl same ↦ rw same (and_false (contains u ids) false refl ∙ sym (and_false (is_created u h) false refl))
+      | inr other ↦ rw other (and_true (contains u ids) ∙ are.ready u)
+    ]
+
+-- a task that is ended was not
+pub ended_ready : (t m : ℕ) (ids : List ℕ) (h : List Event) → has_started t h ≡ true → AreReady ids h → AreReady ids (Done t m ∷ h)
+ended_ready t m ids h on are = record { ready = each; apart = are.apart }
+  where
+    each : (u : ℕ) → contains u ids ≡ is_ready u (Done t m ∷ h)
+    each u = are.ready u ∙ elim (eqb_tells t u) [
+      | inl same ↦ let there : has_started u h ≡ true = subst (λ (n : ℕ). has_started n h ≡ true) same.1 on in rw there refl
+      | inr other ↦ rw other.0 refl
+    ]
+
+pub done_ready : (members t m : ℕ) (ids : List ℕ) (h : List Event) → Always (TaskRule members) h → executed_task m h ≡ Explicit t → AreReady ids h → AreReady ids (Done t m ∷ h)
+done_ready members t m ids h all current are = ended_ready t m ids h (runner_has_started t m h (current_open members m t h all current).2) are
+
+-- an event that creates, starts or ends no task
+abbrev pub IsAside : Event → Type 0
+IsAside (Create t m parent desc) = ⊥
+IsAside (Start t m) = ⊥
+IsAside (Done t m) = ⊥
+IsAside _ = Unit {0}
+
+-- changes nothing
+same_ready : (event : Event) (u : ℕ) (h : List Event) → IsAside event → is_ready u h ≡ is_ready u (event ∷ h)
+same_ready (Create t m parent desc) u h is = absurd is
+same_ready (Start t m) u h is = absurd is
+same_ready (Done t m) u h is = absurd is
+same_ready _ u h is = refl
+
+pub aside_ready : (event : Event) (ids : List ℕ) (h : List Event) → IsAside event → AreReady ids h → AreReady ids (event ∷ h)
+aside_ready event ids h is are = record { ready = λ u. are.ready u ∙ same_ready event u h is; apart = are.apart }
+
+-- What the list tells
+
+-- a task at a place of the list is ready
+pub ready_at : (ids : List ℕ) (place t : ℕ) (h : List Event) → AreReady ids h → slice_get ids place ≡ Some t → is_ready t h ≡ true
+ready_at ids place t h are at = sym (are.ready t) ∙ contains_at ids place t at
+
+-- so it was created
+pub ready_created : (t : ℕ) (h : List Event) → is_ready t h ≡ true → (0 < t) × (t ≤ tasks_created h)
+ready_created t h ready =
+    let made = and_left (is_created t h) (not (has_started t h) && not (is_complete t h)) ready in
+    (created_low t h made, created_high t h made)
+
+-- if the member may start none of them, it may start no task
+pub none_startable : (m : ℕ) (ids : List ℕ) (h : List Event) → AreReady ids h → ((place : ℕ) → place < length ids → may_start m (slice_index_or ids place 0) h ≡ false) → some_startable m h ≡ false
+none_startable m ids h are none = rw (every_by (tasks_created h) (λ k. not (may_start m (suc k) h)) (λ k lt. rw (each (suc k)) refl)) refl
+  where
+    each : (t : ℕ) → may_start m t h ≡ false
+    each t = elim (cases_Bool (contains t ids)) [
+      | inl there ↦ let found = place_of t ids there in subst (λ (u : ℕ). may_start m u h ≡ false) found.2 (none found.0 found.1)
+      | inr away ↦ rw (sym (are.ready t) ∙ away) refl
+    ]

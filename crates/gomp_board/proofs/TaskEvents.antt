@@ -1,0 +1,212 @@
+-- A board after an event of tasks or groups: for what it stands, and that it is a board then.
+use Rattle.std.proofs.Common.{◌≡◌, ℕ, ◌+◌, ◌<◌, ◌≤◌, Bool, true, false, List, [], ◌∷◌, ◌++◌, Option, Some, None, length, refl, ap, ◌∙◌, sym, subst, arith, suc, zero, slice_get}
+use Rattle.std.specs.Prelude.{reverse, sum, slice_index_or, slice_set, Result, Ok, Err, OnOk, is_err}
+use Rattle.std.specs.List.{remove}
+use Rattle.gomp_types.specs.declared.task.Task.{Task}
+use Rattle.gomp_types.specs.declared.task.Task.TheVariants.{Implicit, Explicit}
+use Rattle.gomp_types.specs.declared.task.TaskDesc.{TaskDesc}
+use Rattle.gomp_types.specs.declared.event.Event.{Event}
+use Rattle.gomp_types.specs.declared.event.Event.TheVariants.{Create, Start, Done, Group, GroupEnd, Waited}
+use Rattle.gomp_types.specs.Limits.{IsTeamSize}
+use Rattle.gomp_types.specs.Laws.{Always}
+use Rattle.gomp_types.specs.Tasks.{tasks_created, executed_task, is_created, is_complete}
+use Rattle.gomp_types.specs.Groups.{groups_opened, open_groups}
+use Rattle.gomp_types.specs.Goals.{may_start, children_complete}
+use Rattle.gomp_types.specs.TaskRules.{TaskRule, MayEndGroup}
+use Rattle.gomp_types.specs.TaskCalls.{task_room, group_room}
+use Rattle.gomp_types.proofs.Suspended.{startable_is_fresh, current_open}
+use Rattle.gomp_tasks.specs.Stands.{TasksView, Stands as TasksStand, members_of as task_members, IsNumber}
+use Rattle.gomp_tasks.proofs.Laws.{events_aside_keep_tasks, created_tasks_have_numbers}
+use Rattle.gomp_groups.specs.Stands.{GroupsView, Stands as GroupsStand, members_of as group_members}
+use Rattle.gomp_groups.proofs.Laws.{events_aside_keep_groups}
+use Rattle.gomp_barrier.specs.Calls.{IsParent}
+use Rattle.gomp_barrier.specs.Stands.{BarriersView, Stands as BarriersStand, members_of as barrier_members}
+use Rattle.gomp_barrier.proofs.Laws.{events_aside_keep_barriers}
+use Rattle.gomp_board.specs.Owed.{owed}
+use Rattle.gomp_board.specs.Boards.{BoardView, Stands, HasMembers, IsBoard, members_of}
+use Rattle.gomp_board.specs.Startable.{MayStartAt}
+use Rattle.gomp_board.proofs.Admitted.{implicit_is_own}
+use Rattle.gomp_board.proofs.OwedKeeps.{create_owes, start_owes, end_owes, group_owes, group_end_owes}
+use Rattle.gomp_board.proofs.ReadyKeeps.{created_ready, started_ready, done_ready, aside_ready}
+use Rattle.gomp_board.proofs.RoomKeeps.{room_with}
+use Rattle.gomp_board.proofs.StoredKeeps.{stored_with, stored_aside, history_after}
+
+-- The parts
+
+-- each part has as many members as before
+pub members_with : (b after : BoardView) → HasMembers b → members_of after ≡ members_of b → task_members after.tasks ≡ task_members b.tasks → group_members after.groups ≡ group_members b.groups → barrier_members after.barriers ≡ barrier_members b.barriers → HasMembers after
+members_with b after has all tasks groups barriers = record {
+  size = subst IsTeamSize (sym all) has.size;
+  tasks = tasks ∙ has.tasks ∙ sym all;
+  groups = groups ∙ has.groups ∙ sym all;
+  barriers = barriers ∙ has.barriers ∙ sym all;
+}
+
+-- a member of the team is one in each part
+pub task_member : (b : BoardView) (m : ℕ) → HasMembers b → m < members_of b → m < task_members b.tasks
+task_member b m has low = let e = has.tasks in omega (arith, low, e)
+
+pub group_member : (b : BoardView) (m : ℕ) → HasMembers b → m < members_of b → m < group_members b.groups
+group_member b m has low = let e = has.groups in omega (arith, low, e)
+
+pub barrier_member : (b : BoardView) (m : ℕ) → HasMembers b → m < members_of b → m < barrier_members b.barriers
+barrier_member b m has low = let e = has.barriers in omega (arith, low, e)
+
+-- after a stored event, if its operation asks for so much room
+module _ (space new_space asked : ℕ) (b : BoardView) (event : Event) (is : IsBoard space b) (owes : owed (members_of b) (event ∷ reverse b.history) + 1 ≡ owed (members_of b) (reverse b.history) + asked) where
+  -- there was memory for it
+  pub memory_asked : b.room + asked ≤ new_space → length b.history < new_space
+  memory_asked grown = let room = is.room in omega (arith, owes, room, grown)
+
+  -- and it is a board
+  pub board_asked : (after : BoardView) → after.history ≡ b.history ++ event ∷ [] → Stands after (event ∷ reverse b.history) → HasMembers after → after.kept ≡ b.kept → after.limits ≡ b.limits → after.room ≡ b.room + asked → b.room + asked ≤ new_space → IsBoard new_space after
+  board_asked after longer st has kept limits room grown =
+      let all : sum after.kept ≡ sum b.kept = ap sum kept in
+      let enough = room_with (members_of b) b.room asked (sum b.kept) (sum after.kept) b.history after.history event longer (omega (arith, owes, all)) is.room in
+      record {
+        stands = history_after (λ h. Stands after h) b.history after.history event longer st;
+        members = has;
+        room = rw (ap {A = List ℕ} length kept, room) enough.1;
+        space = rw room grown;
+        limits = rw limits is.limits;
+      }
+
+-- the same of one that asks for none
+module _ (space : ℕ) (b : BoardView) (event : Event) (is : IsBoard space b) (owes : owed (members_of b) (event ∷ reverse b.history) + 1 ≡ owed (members_of b) (reverse b.history)) where
+  pub memory_for : length b.history < space
+  memory_for = let room = is.room in let within = is.space in omega (arith, owes, room, within)
+
+  pub board_after : (new_space : ℕ) (after : BoardView) → after.history ≡ b.history ++ event ∷ [] → Stands after (event ∷ reverse b.history) → HasMembers after → after.kept ≡ b.kept → after.limits ≡ b.limits → after.room ≡ b.room → space ≤ new_space → IsBoard new_space after
+  board_after new_space after longer st has kept limits room grows =
+      let within = is.space in
+      board_asked space new_space 0 b event is (omega (arith, owes)) after longer st has kept limits (omega (arith, room)) (omega (arith, within, grows))
+
+-- A task is started
+
+get_index : (xs : List ℕ) (i x : ℕ) → slice_get xs i ≡ Some x → slice_index_or xs i 0 ≡ x
+get_index [] i x e = absurd (cc)
+get_index (y ∷ ys) zero x e = cc
+get_index (y ∷ ys) (suc i) x e = get_index ys i x e
+
+pub may_there : (now b : BoardView) (m place t : ℕ) (h : List Event) → b ≡ now → MayStartAt m place now → slice_get b.ready place ≡ Some t → Stands now h → may_start m t h ≡ true
+may_there now b m place t h e may at st =
+    let here : slice_index_or now.ready place 0 ≡ t = get_index now.ready place t (subst (λ (v : BoardView). slice_get v.ready place ≡ Some t) e at) in
+    subst (λ (x : ℕ). may_start m x h ≡ true) here (may.may h st)
+
+pub may_own : (now b : BoardView) (space m place t : ℕ) → b ≡ now → IsBoard space b → MayStartAt m place now → slice_get b.ready place ≡ Some t → may_start m t (reverse b.history) ≡ true
+may_own now b space m place t e is may at = may_there now b m place t (reverse b.history) e may at (subst (λ (v : BoardView). Stands v (reverse b.history)) e is.stands)
+
+pub startable_number : (b : BoardView) (m t : ℕ) (h : List Event) → Stands b h → may_start m t h ≡ true → IsNumber t b.tasks
+startable_number b m t h st may = created_tasks_have_numbers b.tasks h t st.tasks (startable_is_fresh m t h may).0
+
+pub started_stands : (b : BoardView) (history : List Event) (tasks : TasksView) (ready : List ℕ) (place t m : ℕ) (h : List Event) → HasMembers b → m < members_of b → history ≡ b.history ++ Start t m ∷ [] → ready ≡ remove b.ready place → slice_get b.ready place ≡ Some t → may_start m t h ≡ true →
+    TasksStand tasks (Start t m ∷ h) → Stands b h → Stands (record b { history = history; tasks = tasks; ready = ready }) (Start t m ∷ h)
+started_stands b history tasks ready place t m h has low longer less at may next st = record {
+  tasks = next;
+  groups = events_aside_keep_groups b.groups h (Start t m) tt (record { member = group_member b m has low; may = may }) st.groups;
+  barriers = events_aside_keep_barriers b.barriers h (Start t m) tt st.barriers;
+  ready = rw less (started_ready t m b.ready place h at st.ready);
+  clash = st.clash;
+  history = stored_with b.history history (Start t m) h refl longer st.history;
+}
+
+-- A task is created
+
+pub created_stands : (b : BoardView) (history : List Event) (room : ℕ) (tasks : TasksView) (groups : GroupsView) (barriers : BarriersView) (ready : List ℕ) (t m : ℕ) (p : Task) (desc : TaskDesc) (h : List Event) → history ≡ b.history ++ Create t m p desc ∷ [] → ready ≡ b.ready ++ t ∷ [] → t ≡ suc (tasks_created h) →
+    TasksStand tasks (Create t m p desc ∷ h) → GroupsStand groups (Create t m p desc ∷ h) → BarriersStand barriers (Create t m p desc ∷ h) → Stands b h →
+    Stands (record b { history = history; room = room; tasks = tasks; groups = groups; barriers = barriers; ready = ready }) (Create t m p desc ∷ h)
+created_stands b history room tasks groups barriers ready t m p desc h longer more number next_tasks next_groups next_barriers st = record {
+  tasks = next_tasks;
+  groups = next_groups;
+  barriers = next_barriers;
+  ready = rw more (created_ready (task_members b.tasks) t m p desc b.ready h st.tasks.rule number st.ready);
+  clash = st.clash;
+  history = stored_with b.history history (Create t m p desc) h refl longer st.history;
+}
+
+-- the task that a member executes may have children
+parent_so : (members n m : ℕ) (p : Task) (h : List Event) → Always (TaskRule n) h → m < members → p ≡ executed_task m h → IsParent members p h
+parent_so members n m (Implicit x) h all low e = rw (implicit_is_own m x h (sym e)) low
+parent_so members n m (Explicit t) h all low e = let is = current_open n m t h all (sym e) in (is.0, is.1)
+
+pub parent_is : (b : BoardView) (m : ℕ) (p : Task) (h : List Event) → HasMembers b → m < members_of b → p ≡ executed_task m h → Stands b h → IsParent (barrier_members b.barriers) p h
+parent_is b m p h has low e st = parent_so (barrier_members b.barriers) (task_members b.tasks) m p h st.tasks.rule (barrier_member b m has low) e
+
+-- A task is ended
+
+pub ended_stands : (b : BoardView) (history : List Event) (tasks : TasksView) (groups : GroupsView) (barriers : BarriersView) (t m : ℕ) (h : List Event) → history ≡ b.history ++ Done t m ∷ [] → executed_task m h ≡ Explicit t →
+    TasksStand tasks (Done t m ∷ h) → GroupsStand groups (Done t m ∷ h) → BarriersStand barriers (Done t m ∷ h) → Stands b h →
+    Stands (record b { history = history; tasks = tasks; groups = groups; barriers = barriers }) (Done t m ∷ h)
+ended_stands b history tasks groups barriers t m h longer current next_tasks next_groups next_barriers st = record {
+  tasks = next_tasks;
+  groups = next_groups;
+  barriers = next_barriers;
+  ready = done_ready (task_members b.tasks) t m b.ready h st.tasks.rule current st.ready;
+  clash = st.clash;
+  history = stored_with b.history history (Done t m) h refl longer st.history;
+}
+
+pub executed_open : (b : BoardView) (m t : ℕ) (h : List Event) → Stands b h → executed_task m h ≡ Explicit t → (is_created t h ≡ true) × (is_complete t h ≡ false)
+executed_open b m t h st current = let is = current_open (task_members b.tasks) m t h st.tasks.rule current in (is.0, is.1)
+
+-- A group is opened and ended
+
+pub opened_stands : (b : BoardView) (history : List Event) (room : ℕ) (groups : GroupsView) (q m : ℕ) (h : List Event) → HasMembers b → m < members_of b → history ≡ b.history ++ Group q m ∷ [] → q ≡ groups_opened h →
+    GroupsStand groups (Group q m ∷ h) → Stands b h → Stands (record b { history = history; room = room; groups = groups }) (Group q m ∷ h)
+opened_stands b history room groups q m h has low longer number next st = record {
+  tasks = events_aside_keep_tasks b.tasks h (Group q m) tt (record { member = task_member b m has low; number = number }) st.tasks;
+  groups = next;
+  barriers = events_aside_keep_barriers b.barriers h (Group q m) tt st.barriers;
+  ready = aside_ready (Group q m) b.ready h tt st.ready;
+  clash = st.clash;
+  history = stored_with b.history history (Group q m) h refl longer st.history;
+}
+
+pub closed_stands : (b : BoardView) (history : List Event) (groups : GroupsView) (q m : ℕ) (h : List Event) → MayEndGroup (task_members b.tasks) q m h → history ≡ b.history ++ GroupEnd q m ∷ [] →
+    GroupsStand groups (GroupEnd q m ∷ h) → Stands b h → Stands (record b { history = history; groups = groups }) (GroupEnd q m ∷ h)
+closed_stands b history groups q m h may longer next st = record {
+  tasks = events_aside_keep_tasks b.tasks h (GroupEnd q m) tt may st.tasks;
+  groups = next;
+  barriers = events_aside_keep_barriers b.barriers h (GroupEnd q m) tt st.barriers;
+  ready = aside_ready (GroupEnd q m) b.ready h tt st.ready;
+  clash = st.clash;
+  history = stored_with b.history history (GroupEnd q m) h refl longer st.history;
+}
+
+-- A taskwait is passed
+
+pub waited_stands : (b : BoardView) (m : ℕ) (h : List Event) → HasMembers b → m < members_of b → children_complete (executed_task m h) h ≡ true → Stands b h → Stands b (Waited m ∷ h)
+waited_stands b m h has low complete st = record {
+  tasks = events_aside_keep_tasks b.tasks h (Waited m) tt (record { member = task_member b m has low; complete = complete }) st.tasks;
+  groups = events_aside_keep_groups b.groups h (Waited m) tt (record { member = group_member b m has low; complete = complete }) st.groups;
+  barriers = events_aside_keep_barriers b.barriers h (Waited m) tt st.barriers;
+  ready = aside_ready (Waited m) b.ready h tt st.ready;
+  clash = st.clash;
+  history = stored_aside b.history (Waited m) h refl st.history;
+}
+
+-- What a member keeps
+
+pub set_same : (xs : List ℕ) (i : ℕ) → slice_set xs i (slice_index_or xs i 0) ≡ xs
+set_same [] i = refl
+set_same (x ∷ xs) zero = refl
+set_same (x ∷ xs) (suc i) = ap (λ ys. x ∷ ys) (set_same xs i)
+
+-- the rule of tasks, for the size of the board's team
+pub rule_of : (b : BoardView) (h : List Event) → HasMembers b → Stands b h → Always (TaskRule (members_of b)) h
+rule_of b h has st = subst (λ (n : ℕ). Always (TaskRule n) h) has.tasks st.tasks.rule
+
+-- what memory was made changes nothing of what parts stand for
+pub more_group_room : (old new : GroupsView) (h : List Event) → new ≡ record old { group_room = new.group_room } → GroupsStand old h → GroupsStand new h
+more_group_room old new h e st = subst (λ (v : GroupsView). GroupsStand v h) (sym e) st
+
+pub more_task_room : (old new : GroupsView) (h : List Event) → new ≡ record old { task_room = new.task_room } → GroupsStand old h → GroupsStand new h
+more_task_room old new h e st = subst (λ (v : GroupsView). GroupsStand v h) (sym e) st
+
+pub more_room : (old new : TasksView) (h : List Event) → new ≡ record old { room = new.room } → TasksStand old h → TasksStand new h
+more_room old new h e st = subst (λ (v : TasksView). TasksStand v h) (sym e) st
+
+-- what holds if nothing failed
+pub at_ok : {A E : Type 0} (r : Result A E) (P : Type 0) → is_err r ≡ false → OnOk r P → P
+at_ok (Ok x) P e holds = holds
+at_ok (Err x) P e holds = absurd (cc)

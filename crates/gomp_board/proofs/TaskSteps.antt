@@ -1,0 +1,65 @@
+-- What the parts of a board ask for when a task is created or ended, and a group opened or ended.
+use Rattle.std.proofs.Common.{◌≡◌, ℕ, ◌+◌, ◌<◌, ◌≤◌, Bool, true, false, List, [], ◌∷◌, Option, Some, None, refl, ap, ◌∙◌, sym, subst, arith, suc}
+use Rattle.gomp_types.specs.declared.task.Task.{Task}
+use Rattle.gomp_types.specs.declared.task.Task.TheVariants.{Implicit, Explicit}
+use Rattle.gomp_types.specs.declared.task.TaskDesc.{TaskDesc}
+use Rattle.gomp_types.specs.declared.event.Event.{Event}
+use Rattle.gomp_types.specs.Tasks.{tasks_created, executed_task, in_task, after_first, is_odd, epoch, epoch_of_child}
+use Rattle.gomp_types.specs.Groups.{open_groups, group_complete}
+use Rattle.gomp_types.specs.TaskRules.{MayCreate, MayEndGroup}
+use Rattle.gomp_types.specs.TaskCalls.{last_complete}
+use Rattle.gomp_types.proofs.Booleans.{not_both}
+use Rattle.gomp_tasks.specs.Calls.{MayCreateNext, task_or_implicit}
+use Rattle.gomp_tasks.specs.Stands.{TasksView, Stands as TasksStand, members_of as task_members, count_of}
+use Rattle.gomp_groups.specs.Calls.{first_of, last_open, Executes, MayClose}
+use Rattle.gomp_barrier.specs.Calls.{MayBind, MayRelease}
+use Rattle.gomp_barrier.specs.Stands.{members_of as barrier_members}
+use Rattle.gomp_board.specs.declared.op.Op.TheVariants.{Create, EndTask}
+use Rattle.gomp_board.specs.Boards.{BoardView, Stands, HasMembers, IsAdmitted, members_of, kept_by}
+use Rattle.gomp_board.proofs.Admitted.{create_may, create_few, end_within, out_of_tasks}
+use Rattle.gomp_board.proofs.TaskEvents.{task_member, barrier_member, parent_is, executed_open}
+
+-- A task is created
+
+pub creates_so : (now b : BoardView) (m n : ℕ) (desc : TaskDesc) (h : List Event) → b ≡ now → IsAdmitted (Create desc) m now → m < n → Stands b h → MayCreate n (suc (tasks_created h)) m (executed_task m h) h
+creates_so now b m n desc h e admitted low st = create_may now.limits now.room (kept_by m now) n m desc h low (admitted h (subst (λ (v : BoardView). Stands v h) e st))
+
+pub creates_next : (now b : BoardView) (tasks : TasksView) (m : ℕ) (odd : Bool) (desc : TaskDesc) (h : List Event) → b ≡ now → IsAdmitted (Create desc) m now → m < task_members tasks → TasksStand tasks h → odd ≡ is_odd (epoch_of_child (executed_task m h) h) → Stands b h →
+    MayCreateNext tasks m odd h
+creates_next now b tasks m odd desc h e admitted low next parity st = record {
+  rule = subst (λ (n : ℕ). MayCreate (task_members tasks) (suc n) m (executed_task m h) h) next.count (creates_so now b m (task_members tasks) desc h e admitted low st);
+  odd_is = parity;
+}
+
+pub binds : (b : BoardView) (m : ℕ) (p : Task) (odd : Bool) (h : List Event) → HasMembers b → m < members_of b → p ≡ executed_task m h → odd ≡ is_odd (epoch_of_child (executed_task m h) h) → Stands b h → MayBind (barrier_members b.barriers) (suc (tasks_created h)) p odd h
+binds b m p odd h has low current parity st = record { number = refl; parent_is = parent_is b m p h has low current st; parity = rw current parity }
+
+-- its number
+pub next_number : (tasks after : TasksView) (t : ℕ) (h : List Event) → TasksStand tasks h → t ≡ count_of after → count_of after ≡ count_of tasks + 1 → t ≡ suc (tasks_created h)
+next_number tasks after t h st number more = let count = st.count in omega (arith, count, number, more)
+
+-- A task is ended
+
+-- the member executes an explicit task
+pub never_implicit : (now b : BoardView) (m : ℕ) (found : Option ℕ) (h : List Event) → b ≡ now → IsAdmitted EndTask m now → Stands b h → executed_task m h ≡ task_or_implicit m found → found ≡ None → ⊥
+never_implicit now b m found h e admitted st current none =
+    let fine = admitted h (subst (λ (v : BoardView). Stands v h) e st) in
+    not_both (in_task m h) (end_within now.limits now.room (kept_by m now) m h fine) (out_of_tasks m m h (current ∙ ap (task_or_implicit m) none))
+
+pub executes : (m t : ℕ) (found : Option ℕ) (h : List Event) → executed_task m h ≡ task_or_implicit m found → found ≡ Some t → executed_task m h ≡ Explicit t
+executes m t found h current some = current ∙ ap (task_or_implicit m) some
+
+pub releases : (b : BoardView) (m t : ℕ) (odd : Bool) (h : List Event) → Stands b h → executed_task m h ≡ Explicit t → odd ≡ is_odd (epoch t h) → MayRelease t odd h
+releases b m t odd h st current parity = record { is_open = executed_open b m t h st current; parity = parity }
+
+-- A group is ended
+
+first_is : (q : ℕ) (qs : List ℕ) → first_of qs ≡ Some q → qs ≡ q ∷ after_first qs
+first_is q [] e = absurd (cc)
+first_is q (x ∷ xs) e = let same : x ≡ q = cc in rw same refl
+
+pub may_end_group : (n m q : ℕ) (task : Task) (found : Option ℕ) (h : List Event) → m < n → task ≡ executed_task m h → found ≡ last_open task h → found ≡ Some q → last_complete (open_groups (executed_task m h) h) h ≡ true → MayEndGroup n q m h
+may_end_group n m q task found h low current last some done =
+    let first : last_open (executed_task m h) h ≡ Some q = subst (λ (p : Task). last_open p h ≡ Some q) current (sym last ∙ some) in
+    let all : open_groups (executed_task m h) h ≡ q ∷ after_first (open_groups (executed_task m h) h) = first_is q (open_groups (executed_task m h) h) first in
+    record { member = low; outer = after_first (open_groups (executed_task m h) h); last = all; complete = subst (λ (qs : List ℕ). last_complete qs h ≡ true) all done }

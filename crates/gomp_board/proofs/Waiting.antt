@@ -1,0 +1,86 @@
+-- What a member is answered at a wait, by its goal: passed if that is met, and else a task to execute, or to wait.
+use Rattle.std.proofs.Common.{◌≡◌, ℕ, Bool, false, List, ◌++◌, None, refl, ap, ◌∙◌, sym, subst}
+use Rattle.gomp_types.specs.declared.limits.Limits.{Limits}
+use Rattle.gomp_types.specs.declared.refusal.Refusal.{Refusal}
+use Rattle.gomp_types.specs.declared.reply.Reply.{Reply}
+use Rattle.gomp_types.specs.declared.reply.Reply.TheVariants.{Passed, Refused}
+use Rattle.gomp_types.specs.declared.event.Tag.{Tag}
+use Rattle.gomp_types.specs.declared.event.Event.{Event}
+use Rattle.gomp_types.specs.Tasks.{executed_task}
+use Rattle.gomp_types.specs.Groups.{open_groups}
+use Rattle.gomp_types.specs.Goals.{children_complete, may_pass}
+use Rattle.gomp_types.specs.TaskCalls.{AwaitsTasks, starts_task, waited, ends_group, last_complete}
+use Rattle.gomp_board.specs.declared.op.Op.{Op}
+use Rattle.gomp_board.specs.declared.op.Op.TheVariants.{AwaitChildren, EndGroup, Arrive, AwaitBarrier}
+use Rattle.gomp_board.specs.Ops.{op_refusal, op_after, op_gives, begun, passes_barrier, OpReply, OpAnswer}
+
+-- a reply that is no refusal
+abbrev pub IsReply : Reply → Type 0
+IsReply (Refused refusal) = ⊥
+IsReply _ = Unit {0}
+
+-- is the operation's if no test refuses that
+pub answered : (limits : Limits) (room kept members m : ℕ) (op : Op) (h : List Event) (reply : Reply) → IsReply reply → op_refusal limits room kept m op h ≡ None → OpReply members m op (begun m op h) reply → OpAnswer limits room kept members m op h reply
+answered limits room kept members m op h (Refused refusal) is fine may = absurd is
+answered limits room kept members m op h _ is fine may = (fine, may)
+
+-- and gives the operation's events
+pub after_reply : (m : ℕ) (op : Op) (reply : Reply) (h : List Event) → IsReply reply → op_after m op reply h ≡ op_gives m op (begun m op h) reply ++ begun m op h
+after_reply m op (Refused refusal) h is = absurd is
+after_reply m op _ h is = refl
+
+pub not_refused : (reply : Reply) (refusal : Refusal) → IsReply reply → reply ≡ Refused refusal → ⊥
+not_refused reply refusal is e = subst IsReply e is
+
+-- The goal is not met
+
+pub runs_is_reply : (m : ℕ) (h : List Event) (reply : Reply) → AwaitsTasks m false h reply → IsReply reply
+runs_is_reply m h (Refused refusal) runs = runs
+runs_is_reply m h _ runs = tt
+
+-- whatever the goal is
+pub runs_unmet : (m : ℕ) (met : Bool) (h : List Event) (reply : Reply) → met ≡ false → AwaitsTasks m false h reply → AwaitsTasks m met h reply
+runs_unmet m met h reply unmet runs = subst (λ (b : Bool). AwaitsTasks m b h reply) (sym unmet) runs
+
+-- the reply gives the start of the task alone
+pub waited_runs : (m : ℕ) (h : List Event) (reply : Reply) → AwaitsTasks m false h reply → waited m reply ≡ starts_task m reply
+waited_runs m h Passed runs = absurd (cc)
+waited_runs m h _ runs = refl
+
+pub ended_runs : (m : ℕ) (h : List Event) (reply : Reply) → AwaitsTasks m false h reply → ends_group m h reply ≡ starts_task m reply
+ended_runs m h Passed runs = absurd (cc)
+ended_runs m h _ runs = refl
+
+pub passed_runs : (m : ℕ) (h : List Event) (reply : Reply) → AwaitsTasks m false h reply → passes_barrier m h reply ≡ starts_task m reply
+passed_runs m h Passed runs = absurd (cc)
+passed_runs m h _ runs = refl
+
+-- at a taskwait
+module _ (limits : Limits) (room kept members m : ℕ) (h : List Event) (reply : Reply) (runs : AwaitsTasks m false h reply) where
+  pub children_answered : op_refusal limits room kept m AwaitChildren h ≡ None → children_complete (executed_task m h) h ≡ false → OpAnswer limits room kept members m AwaitChildren h reply
+  children_answered fine unmet = answered limits room kept members m AwaitChildren h reply (runs_is_reply m h reply runs) fine (runs_unmet m (children_complete (executed_task m h) h) h reply unmet runs)
+
+  pub group_answered : op_refusal limits room kept m EndGroup h ≡ None → last_complete (open_groups (executed_task m h) h) h ≡ false → OpAnswer limits room kept members m EndGroup h reply
+  group_answered fine unmet = answered limits room kept members m EndGroup h reply (runs_is_reply m h reply runs) fine (runs_unmet m (last_complete (open_groups (executed_task m h) h) h) h reply unmet runs)
+
+  pub barrier_answered : op_refusal limits room kept m AwaitBarrier h ≡ None → may_pass members m h ≡ false → OpAnswer limits room kept members m AwaitBarrier h reply
+  barrier_answered fine unmet = answered limits room kept members m AwaitBarrier h reply (runs_is_reply m h reply runs) fine (runs_unmet m (may_pass members m h) h reply unmet runs)
+
+-- the events after it
+module _ (m : ℕ) (h : List Event) (reply : Reply) (runs : AwaitsTasks m false h reply) where
+  pub after_children : op_after m AwaitChildren reply h ≡ starts_task m reply ++ h
+  after_children = after_reply m AwaitChildren reply h (runs_is_reply m h reply runs) ∙ ap (λ es. es ++ h) (waited_runs m h reply runs)
+
+  pub after_group : op_after m EndGroup reply h ≡ starts_task m reply ++ h
+  after_group = after_reply m EndGroup reply h (runs_is_reply m h reply runs) ∙ ap (λ es. es ++ h) (ended_runs m h reply runs)
+
+  pub after_barrier : op_after m AwaitBarrier reply h ≡ starts_task m reply ++ h
+  after_barrier = after_reply m AwaitBarrier reply h (runs_is_reply m h reply runs) ∙ ap (λ es. es ++ h) (passed_runs m h reply runs)
+
+-- at an arrival, whose own event comes first
+module _ (limits : Limits) (room kept members m : ℕ) (tag : Tag) (h : List Event) (reply : Reply) (runs : AwaitsTasks m false (begun m (Arrive tag) h) reply) where
+  pub arrival_answered : op_refusal limits room kept m (Arrive tag) h ≡ None → may_pass members m (begun m (Arrive tag) h) ≡ false → OpAnswer limits room kept members m (Arrive tag) h reply
+  arrival_answered fine unmet = answered limits room kept members m (Arrive tag) h reply (runs_is_reply m (begun m (Arrive tag) h) reply runs) fine (runs_unmet m (may_pass members m (begun m (Arrive tag) h)) (begun m (Arrive tag) h) reply unmet runs)
+
+  pub after_arrival : op_after m (Arrive tag) reply h ≡ starts_task m reply ++ begun m (Arrive tag) h
+  after_arrival = after_reply m (Arrive tag) reply h (runs_is_reply m (begun m (Arrive tag) h) reply runs) ∙ ap (λ es. es ++ begun m (Arrive tag) h) (passed_runs m (begun m (Arrive tag) h) reply runs)

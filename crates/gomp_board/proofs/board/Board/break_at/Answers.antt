@@ -1,0 +1,22 @@
+use Rattle.std.proofs.Common.{◌≡◌, ◌∷◌, refl, ◌∙◌, ap, sym, subst, Some}
+use Rattle.std.specs.Prelude.{List}
+use Rattle.gomp_types.specs.declared.refusal.Place.{Place}
+use Rattle.gomp_types.specs.declared.event.Event.{Event}
+use Rattle.gomp_types.specs.declared.event.Event.TheVariants.{Break as BreakEvent}
+use Rattle.gomp_board.specs.Ops.{op_place}
+use Rattle.gomp_board.specs.Boards.{BoardView, Stands, kept_by}
+use Rattle.gomp_board.proofs.Joined.{stands_too}
+use Rattle.gomp_board.proofs.AdmittedArrivals.{differing_unbroken}
+use Rattle.gomp_board.proofs.Performed.{broke}
+use Rattle.gomp_board.proofs.board.Board.break_at.Goals as goal
+use Rattle.gomp_board.proofs.board.Board.break_at.Goals.{in-Break, in_default}
+
+pub note_break-requires : goal.note_break-requires
+note_break-requires c =
+    let b = c.args.self.now in
+    record { whole = λ h st. differing_unbroken b.limits b.room (kept_by c.args.member b) c.args.member c.args.op h (c.requires.differs h st) }
+
+pub returns : goal.returns
+returns c = record { performs =
+    let there : (h : List Event) → Stands c.args.self.now h → c.match-op.place ≡ op_place c.args.member c.args.op h = λ h st0. let st = stands_too _ _ h c.self.view_is st0 in elim c.match-op.branch [ in-Break w ↦ let is = w.in-Break.is in ? | in_default w ↦ let is = w.in_default in ? ] in
+    broke c.args.op c.args.member c.match-op.place c.args.self.now c.note_break.new.self c.requires.differs there c.note_break.ensures.stands c.note_break.ensures.limits c.note_break.ensures.room c.note_break.ensures.kept }

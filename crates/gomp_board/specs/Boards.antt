@@ -1,0 +1,122 @@
+-- When a board stands for a list of all events of its team. (own)
+use Rattle.std.specs.Prelude.{ℕ, ◌+◌, ◌≤◌, ◌≡◌, ◌≢◌, Bool, true, false, List, [], ◌∷◌, ◌++◌, Option, None, length, reverse, sum, slice_index_or, slice_set}
+use Rattle.gomp_types.specs.declared.limits.Limits.{Limits}
+use Rattle.gomp_types.specs.declared.refusal.Clash.{Clash}
+use Rattle.gomp_types.specs.declared.reply.Reply.{Reply}
+use Rattle.gomp_types.specs.declared.reply.Reply.TheVariants.{Refused}
+use Rattle.gomp_types.specs.declared.event.Event.{Event}
+use Rattle.gomp_types.specs.Limits.{capped_limits, IsTeamSize}
+use Rattle.gomp_types.specs.declared.event.Tag.{Tag}
+use Rattle.gomp_types.specs.Compare.{tag_differs}
+use Rattle.gomp_types.specs.Events.{barriers_passed, tag_at, at_barrier, at_region_end, clash_of}
+use Rattle.gomp_types.specs.TaskCalls.{AwaitsTasks}
+use Rattle.gomp_types.specs.declared.refusal.Refusal.{Refusal}
+use Rattle.gomp_types.specs.declared.refusal.Refusal.TheVariants.{Mismatch}
+use Rattle.gomp_tasks.specs.Stands.{TasksView, Stands as TasksStand, members_of as task_members}
+use Rattle.gomp_groups.specs.Stands.{GroupsView, Stands as GroupsStand, members_of as group_members}
+use Rattle.gomp_barrier.specs.Stands.{BarriersView, Stands as BarriersStand, members_of as barrier_members}
+use Rattle.gomp_board.specs.declared.op.Op.{Op}
+use Rattle.gomp_board.specs.Ops.{op_asks, op_keeps, op_refusal, op_after, OpAnswer}
+use Rattle.gomp_board.specs.ReadyTasks.{AreReady}
+use Rattle.gomp_board.specs.Stored.{stored}
+use Rattle.gomp_board.specs.Owed.{owed}
+
+-- a board, as data
+pub record BoardView : Type 0 where
+  pub limits : Limits
+  -- the stored events, the oldest first
+  pub history : List Event
+  -- for so many events room was asked, these and those still to come
+  pub room : ℕ
+  -- so much of it each member keeps for the ends of its shares
+  pub kept : List ℕ
+  pub clash : Option Clash
+  pub tasks : TasksView
+  pub groups : GroupsView
+  pub barriers : BarriersView
+  -- the tasks that nobody has started, the oldest first
+  pub ready : List ℕ
+
+-- how many members the team has
+abbrev pub members_of : BoardView → ℕ
+members_of board = length board.kept
+
+-- what a member keeps for the ends of its shares
+abbrev pub kept_by : ℕ → BoardView → ℕ
+kept_by m board = slice_index_or board.kept m 0
+
+-- each part stands for the events, and the history has those of them that are stored
+pub record Stands (board : BoardView) (h : List Event) : Type 0 where
+  pub tasks : TasksStand board.tasks h
+  pub groups : GroupsStand board.groups h
+  pub barriers : BarriersStand board.barriers h
+  pub ready : AreReady board.ready h
+  pub clash : clash_of h ≡ board.clash
+  pub history : stored h ≡ reverse board.history
+
+-- one place for each member in every part
+pub record HasMembers (board : BoardView) : Type 0 where
+  pub size : IsTeamSize (members_of board)
+  pub tasks : task_members board.tasks ≡ members_of board
+  pub groups : group_members board.groups ≡ members_of board
+  pub barriers : barrier_members board.barriers ≡ members_of board
+
+-- the room asked for is enough for the history, for what is still to come, and for what members keep
+abbrev pub HasRoom : BoardView → Type 0
+HasRoom board = length board.history + owed (members_of board) (reverse board.history) + sum board.kept ≤ board.room
+
+-- and for so many events more
+abbrev pub HasSpare : ℕ → BoardView → Type 0
+HasSpare more board = length board.history + owed (members_of board) (reverse board.history) + sum board.kept + more ≤ board.room
+
+-- what holds of every board, whose history has memory for so many events: it stands for its own history
+pub record IsBoard (capacity : ℕ) (board : BoardView) : Type 0 where
+  pub stands : Stands board (reverse board.history)
+  pub members : HasMembers board
+  pub room : HasRoom board
+  pub space : board.room ≤ capacity
+  -- no limit is above the standard one
+  pub limits : capped_limits board.limits ≡ board.limits
+
+-- nothing that a list of events says has changed, nor the room that was asked for; there may be more memory
+pub record IsSame (board after : BoardView) : Type 0 where
+  pub history : after.history ≡ board.history
+  pub room : after.room ≡ board.room
+  pub kept : after.kept ≡ board.kept
+  pub stands : (h : List Event) → Stands board h → Stands after h
+
+-- the room that is asked for, and what the member keeps of it: a refused operation keeps none
+abbrev pub room_after : Op → ℕ → Reply → ℕ → ℕ
+room_after op kept (Refused refusal) room = room
+room_after op kept reply room = room + op_asks op kept
+
+abbrev pub kept_after : Op → ℕ → Reply → List ℕ → List ℕ
+kept_after op m (Refused refusal) kept = kept
+kept_after op m reply kept = slice_set kept m (op_keeps op (slice_index_or kept m 0))
+
+-- no test refuses the operation
+abbrev pub IsAdmitted : Op → ℕ → BoardView → Type 0
+IsAdmitted op m board = (h : List Event) → Stands board h → op_refusal board.limits board.room (kept_by m board) m op h ≡ None
+
+-- what an operation of a member does to a board, and what it is answered
+pub record Performs (op : Op) (m : ℕ) (board after : BoardView) (reply : Reply) : Type 0 where
+  -- the answer is that of the definitions, on every list of events for which the board stands
+  pub answer : (h : List Event) → Stands board h → OpAnswer board.limits board.room (kept_by m board) (members_of board) m op h reply
+  -- and the board stands for the events with those that operation and reply give
+  pub stands : (h : List Event) → Stands board h → Stands after (op_after m op reply h)
+  pub limits : after.limits ≡ board.limits
+  pub members : members_of after ≡ members_of board
+  pub room : after.room ≡ room_after op (kept_by m board) reply board.room
+  pub kept : after.kept ≡ kept_after op m reply board.kept
+  -- a refusal changes nothing, save that a mismatch breaks the team
+  pub same : (refusal : Refusal) → reply ≡ Refused refusal → refusal ≢ Mismatch → IsSame board after
+
+-- an arrival that comes first: the member waits at no barrier, has not arrived at the region's end, and nobody has arrived at its barrier with another tag
+pub record ArrivesFirst (m : ℕ) (tag : Tag) (h : List Event) : Type 0 where
+  pub away : at_barrier m h ≡ false
+  pub before : at_region_end m h ≡ false
+  pub alike : tag_differs tag (tag_at (barriers_passed m h) h) ≡ false
+
+-- what a member is answered at a wait whose goal is not met: a task to execute, or to wait
+abbrev pub RunsOrWaits : ℕ → List Event → Reply → Type 0
+RunsOrWaits m h reply = AwaitsTasks m false h reply

@@ -1,0 +1,153 @@
+//! Barriers, and breaks of the team. OpenMP API 5.2, section 15.3.
+
+ghost use Rattle.std.specs.Prelude.{◌≡◌, ◌<◌, ◌++◌, List, ◌∷◌, Some, None, reverse, slice_set};
+ghost use Rattle.gomp_types.specs.declared.refusal.Place.{Place as AnyPlace};
+ghost use Rattle.gomp_types.specs.declared.event.Event.{Event as AnyEvent};
+ghost use Rattle.gomp_types.specs.declared.event.Event.TheVariants.{Break as BreakEvent};
+ghost use Rattle.gomp_types.specs.declared.refusal.Refusal.TheVariants.{Mismatch};
+ghost use Rattle.gomp_types.specs.Events.{clash_of};
+ghost use Rattle.gomp_types.specs.Goals.{may_pass};
+ghost use Rattle.gomp_types.specs.TaskCalls.{AwaitsTasks};
+ghost use Rattle.gomp_board.specs.Ops.{arrival_asks, arrival_keeps, op_refusal, op_place, begun, passes_barrier};
+ghost use Rattle.gomp_board.specs.Boards.{HasSpare, ArrivesFirst, IsAdmitted, Performs, Stands, members_of, kept_by};
+ghost use Rattle.gomp_board.specs.declared.op.Op.TheVariants.{Arrive, AwaitBarrier, Break};
+
+use crate::board::Board;
+use crate::op::Op;
+use gomp_types::{Arrival, Clash, Event, Place, Refusal, Reply, Tag};
+
+/// The events that an arrival asks room for: itself and the pass.
+const ARRIVAL_ROOM: u32 = 2;
+
+impl Board {
+    /// The member arrives at its next barrier.
+    pub(crate) fn arrive(&mut self, member: u16, tag: Tag) -> Reply
+        requires member { member < members_of self.old }
+        requires admitted { IsAdmitted (Arrive tag) member self.old }
+        ensures performs { Performs (Arrive tag) member self.old self.new result }
+    {
+        let asked = arrival_asks(tag.kind, self.kept[member as usize]);
+        match self.make_room(asked) {
+            Err(_) => Reply::Refused(Refusal::NoMemory),
+            Ok(()) => {
+                self.note_arrival(member, tag);
+                self.await_pass(member)
+            }
+        }
+    }
+
+    /// The member waits on at the barrier at which it has arrived.
+    pub(crate) fn await_barrier(&mut self, member: u16) -> Reply
+        requires member { member < members_of self.old }
+        requires admitted { IsAdmitted AwaitBarrier member self.old }
+        ensures performs { Performs AwaitBarrier member self.old self.new result }
+    {
+        self.await_pass(member)
+    }
+
+    /// The member stops the team.
+    pub(crate) fn stop(&mut self, member: u16, place: Place) -> Reply
+        requires member { member < members_of self.old }
+        requires admitted { IsAdmitted (Break place) member self.old }
+        ensures performs { Performs (Break place) member self.old self.new result }
+    {
+        self.note_break(member, place);
+        Reply::Stopped
+    }
+
+    /// The member breaks the team: its construct differs.
+    pub(crate) fn break_at(&mut self, member: u16, op: Op) -> Reply
+        requires member { member < members_of self.old }
+        requires differs { (h : List AnyEvent) → Stands self.old h →
+            op_refusal self.old.limits self.old.room (kept_by member self.old) member op h ≡ Some Mismatch }
+        ensures performs { Performs op member self.old self.new result }
+    {
+        let place = match op {
+            Op::Break(place) => place,
+            _ => Place::Barrier(self.barriers.look(member).number),
+        };
+        self.note_break(member, place);
+        Reply::Refused(Refusal::Mismatch)
+    }
+
+    /// The member's arrival comes to the history.
+    fn note_arrival(&mut self, member: u16, tag: Tag)
+        requires member { member < members_of self.old }
+        requires first { (h : List AnyEvent) → Stands self.old h → ArrivesFirst member tag h }
+        requires spare { HasSpare (arrival_asks tag.kind (kept_by member self.old)) self.old }
+        ensures stands { (h : List AnyEvent) → Stands self.old h →
+            Stands self.new (begun member (Arrive tag) h) }
+        ensures limits { self.new.limits ≡ self.old.limits }
+        ensures room { self.new.room ≡ self.old.room }
+        ensures kept { self.new.kept ≡
+            slice_set self.old.kept member (arrival_keeps tag.kind (kept_by member self.old)) }
+    {
+        let barrier = self.barriers.look(member).number;
+        if !self.barriers.arrive(member, tag) {
+            unreachable!();
+        }
+        let place = member as usize;
+        self.kept[place] = arrival_keeps(tag.kind, self.kept[place]);
+        self.history.push_reserved(Event::Arrive {
+            barrier,
+            member,
+            tag,
+        });
+    }
+
+    /// The member passes the barrier at which it waits if it may; else it executes a task, or waits.
+    fn await_pass(&mut self, member: u16) -> Reply
+        requires member { member < members_of self.old }
+        ensures known { Stands self.old (reverse self.old.history) }
+        ensures answer { (h : List AnyEvent) → Stands self.old h →
+            AwaitsTasks member (may_pass (members_of self.old) member h) h result }
+        ensures stands { (h : List AnyEvent) → Stands self.old h →
+            Stands self.new (passes_barrier member h result ++ h) }
+        ensures limits { self.new.limits ≡ self.old.limits }
+        ensures room { self.new.room ≡ self.old.room }
+        ensures kept { self.new.kept ≡ self.old.kept }
+    {
+        let barrier = self.barriers.look(member).number;
+        if !self.barriers.turn(member) {
+            return self.run_or_wait(member);
+        }
+        self.history.push_reserved(Event::Pass { barrier, member });
+        Reply::Passed
+    }
+
+    /// The team, which was not broken, is broken there by the member.
+    fn note_break(&mut self, member: u16, place: Place)
+        requires whole { (h : List AnyEvent) → Stands self.old h → clash_of h ≡ None }
+        ensures stands { (h : List AnyEvent) → Stands self.old h →
+            Stands self.new (BreakEvent member place ∷ h) }
+        ensures limits { self.new.limits ≡ self.old.limits }
+        ensures room { self.new.room ≡ self.old.room }
+        ensures kept { self.new.kept ≡ self.old.kept }
+    {
+        self.clash = Some(Clash { member, place });
+        self.history.push_reserved(Event::Break { member, place });
+    }
+}
+
+/// The room that an arrival asks for if its member has kept so much: none at the region's end, and
+/// none at the end of a share that has kept it.
+pub(crate) fn arrival_asks(kind: Arrival, kept: u32) -> u32
+    ensures { result ≡ arrival_asks kind kept }
+{
+    match kind {
+        Arrival::Barrier => ARRIVAL_ROOM,
+        Arrival::ShareEnd if kept >= ARRIVAL_ROOM => 0,
+        Arrival::ShareEnd => ARRIVAL_ROOM,
+        Arrival::RegionEnd => 0,
+    }
+}
+
+/// What its member keeps after it: the end of a share uses what was kept.
+fn arrival_keeps(kind: Arrival, kept: u32) -> u32
+    ensures { result ≡ arrival_keeps kind kept }
+{
+    match kind {
+        Arrival::ShareEnd if kept >= ARRIVAL_ROOM => kept - ARRIVAL_ROOM,
+        _ => kept,
+    }
+}

@@ -1,0 +1,128 @@
+//! The board: what it keeps, and how an operation is answered.
+
+ghost use Rattle.std.specs.Prelude.{◌≡◌, ◌<◌, List, [], IfOk, replicate, reverse};
+ghost use Rattle.gomp_types.specs.declared.event.Event.{Event};
+ghost use Rattle.gomp_types.specs.Laws.{Always};
+ghost use Rattle.gomp_types.specs.Arrivals.{ArrivalRule};
+ghost use Rattle.gomp_types.specs.Limits.{capped_limits, IsTeamSize};
+ghost use Rattle.gomp_types.specs.Tasks.{executed_task};
+ghost use Rattle.gomp_types.specs.TaskCalls.{first_room};
+ghost use Rattle.gomp_types.specs.TaskRules.{TaskRule};
+ghost use Rattle.gomp_board.specs.Ops.{op_refusal};
+ghost use Rattle.gomp_board.specs.Boards.{Stands, IsAdmitted, Performs, members_of, kept_by};
+
+use crate::op::Op;
+use gomp_barrier::Barriers;
+use gomp_groups::Groups;
+use gomp_ready::Ready;
+use gomp_tasks::Tasks;
+use gomp_types::{Clash, Event, Limits, Refusal, Reply, Task};
+use std::alloc::{AllocError, Global};
+use std::marker::Model;
+
+/// The board of one team of 1 to 64 members, numbered from 0.
+///
+/// Only `new`, and operations that ask for room for events (`Create`, `OpenGroup`, `Arrive` at a
+/// barrier, `Reserve`), take memory.
+#[derive(Debug, Drop)]
+pub struct Board {
+    pub(crate) limits: Limits,
+    pub(crate) history: Vec<Event>,
+    pub(crate) room: u32,
+    pub(crate) kept: Vec<u32>,
+    pub(crate) clash: Option<Clash>,
+    pub(crate) tasks: Tasks,
+    pub(crate) groups: Groups,
+    pub(crate) barriers: Barriers,
+    pub(crate) ready: Ready,
+}
+
+impl Model for Board {
+    ghost use Rattle.std.specs.Vec.{vec_capacity};
+    ghost use Rattle.gomp_board.specs.Boards.{BoardView, IsBoard};
+
+    ghost Value = { BoardView };
+
+    ghost view = { λ b. record { limits = b.limits; history = b.history.items; room = b.room; kept = b.kept.items; clash = b.clash; tasks = b.tasks; groups = b.groups; barriers = b.barriers; ready = b.ready.ids } };
+
+    ghost invariant = { λ b. IsBoard (vec_capacity b.history) (record { limits = b.limits; history = b.history.items; room = b.room; kept = b.kept.items; clash = b.clash; tasks = b.tasks; groups = b.groups; barriers = b.barriers; ready = b.ready.ids }) };
+}
+
+impl Board {
+    /// The board of a new team of `count` members, 1 to 64, with these limits, each lowered to the
+    /// standard one if it is larger. It fails if its memory is refused.
+    pub fn new(alloc: Global, count: u16, limits: Limits) -> Result<Board, AllocError>
+        requires size { IsTeamSize count }
+        ensures members { IfOk result (λ board. members_of board ≡ count) }
+        ensures limits { IfOk result (λ board. board.limits ≡ capped_limits limits) }
+        ensures room { IfOk result (λ board. board.room ≡ first_room count) }
+        ensures kept { IfOk result (λ board. board.kept ≡ replicate count 0) }
+        ensures stands { IfOk result (λ board. Stands board []) }
+    {
+        let room = 2 * count as u32 + 1;
+        Ok(Board {
+            limits: limits.capped_limits(),
+            history: Vec::with_capacity(alloc, room as usize)?,
+            room,
+            kept: vec![in alloc; 0; count as usize]?,
+            clash: None,
+            tasks: Tasks::make(alloc, count)?,
+            groups: Groups::make(alloc, count)?,
+            barriers: Barriers::make(alloc, count)?,
+            ready: Ready::new(alloc),
+        })
+    }
+
+    /// Answers an operation of the member, numbered from 0. A refusal has the least number of those
+    /// whose tests hold.
+    pub fn step(&mut self, member: u16, op: Op) -> Reply
+        requires member { member < members_of self.old }
+        ensures performs { Performs op member self.old self.new result }
+    {
+        match self.first_refusal(member, &op) {
+            None => self.perform(member, op),
+            Some(Refusal::Mismatch) => self.break_at(member, op),
+            Some(refusal) => Reply::Refused(refusal),
+        }
+    }
+
+    /// Answers an operation that no test refuses ([`first_refusal`](Board::first_refusal) finds
+    /// none).
+    pub fn perform(&mut self, member: u16, op: Op) -> Reply
+        requires member { member < members_of self.old }
+        requires admitted { IsAdmitted op member self.old }
+        ensures performs { Performs op member self.old self.new result }
+    {
+        match op {
+            Op::Create(desc) => self.create(member, desc),
+            Op::EndTask => self.end_task(member),
+            Op::AwaitChildren => self.await_children(member),
+            Op::OpenGroup => self.open_group(member),
+            Op::EndGroup => self.end_group(member),
+            Op::Arrive(tag) => self.arrive(member, tag),
+            Op::AwaitBarrier => self.await_barrier(member),
+            Op::Reserve(more) => self.reserve(member, more),
+            Op::Break(place) => self.stop(member, place),
+        }
+    }
+
+    /// The task that the member, numbered from 0, executes.
+    pub fn current(&self, member: u16) -> Task
+        requires member { member < members_of self.now }
+        ensures known { Stands self.now (reverse self.now.history) }
+        ensures value { (h : List Event) → Stands self.now h → result ≡ executed_task member h }
+    {
+        self.tasks.current(member)
+    }
+
+    /// The stored events, the oldest first. They keep the rules of tasks and of barriers, whoever
+    /// made the calls.
+    pub fn history(&self) -> &[Event]
+        ensures value { result.now ≡ self.now.history }
+        ensures known { Stands self.now (reverse result.now) }
+        ensures tasks { Always (TaskRule (members_of self.now)) (reverse result.now) }
+        ensures arrivals { Always (ArrivalRule (members_of self.now)) (reverse result.now) }
+    {
+        self.history.as_slice()
+    }
+}

@@ -1,0 +1,96 @@
+//! Groups of tasks. OpenMP API 5.2, section 15.4.
+
+ghost use Rattle.std.specs.Prelude.{◌≡◌, ◌<◌, ◌≤◌, ◌+◌, ◌++◌, ◌∷◌, List, true, OnOk, reverse};
+ghost use Rattle.std.specs.Vec.{vec_len, vec_capacity};
+ghost use Rattle.gomp_types.specs.declared.event.Event.{Event as Happening};
+ghost use Rattle.gomp_types.specs.Tasks.{executed_task};
+ghost use Rattle.gomp_types.specs.Groups.{open_groups};
+ghost use Rattle.gomp_types.specs.TaskCalls.{last_complete, ends_first};
+ghost use Rattle.gomp_board.specs.Boards.{IsAdmitted, Performs, Stands, members_of};
+ghost use Rattle.gomp_board.specs.declared.op.Op.TheVariants.{OpenGroup, EndGroup};
+
+use crate::board::Board;
+use gomp_groups::Groups;
+use gomp_types::{Event, Refusal, Reply};
+use std::alloc::AllocError;
+
+/// The room that a group asks for: it is opened and ended.
+pub(crate) const GROUP_ROOM: u32 = 2;
+
+impl Board {
+    /// The member opens a group in the task that it executes.
+    pub(crate) fn open_group(&mut self, member: u16) -> Reply
+        requires member { member < members_of self.old }
+        requires admitted { IsAdmitted OpenGroup member self.old }
+        ensures performs { Performs OpenGroup member self.old self.new result }
+    {
+        let task = self.current(member);
+        let space = (self.room + GROUP_ROOM) as usize - self.history.len();
+        if reserve_group(&mut self.history, space, &mut self.groups).is_err() {
+            return Reply::Refused(Refusal::NoMemory);
+        }
+        let group = self.groups.open(task);
+        self.history.push_reserved(Event::Group { group, member });
+        self.room += GROUP_ROOM;
+        Reply::Finished
+    }
+
+    /// The member ends the last open group of that task, or waits for the group's tasks.
+    pub(crate) fn end_group(&mut self, member: u16) -> Reply
+        requires member { member < members_of self.old }
+        requires admitted { IsAdmitted EndGroup member self.old }
+        ensures performs { Performs EndGroup member self.old self.new result }
+    {
+        if self.last_group_is_done(member) {
+            self.close_group(member);
+            Reply::Passed
+        } else {
+            self.run_or_wait(member)
+        }
+    }
+
+    /// Whether all tasks of the last open group of the task that the member executes are complete;
+    /// false if none is open.
+    fn last_group_is_done(&self, member: u16) -> bool
+        requires member { member < members_of self.now }
+        ensures known { Stands self.now (reverse self.now.history) }
+        ensures value { (h : List Happening) → Stands self.now h →
+            result ≡ last_complete (open_groups (executed_task member h) h) h }
+    {
+        match self.groups.last_open(self.tasks.current(member)) {
+            Some(group) => self.groups.is_done(group),
+            None => false,
+        }
+    }
+
+    /// The member ends that group, whose tasks are complete.
+    fn close_group(&mut self, member: u16)
+        requires member { member < members_of self.old }
+        requires done { (h : List Happening) → Stands self.old h →
+            last_complete (open_groups (executed_task member h) h) h ≡ true }
+        ensures stands { (h : List Happening) → Stands self.old h →
+            Stands self.new (ends_first (open_groups (executed_task member h) h) member ++ h) }
+        ensures limits { self.new.limits ≡ self.old.limits }
+        ensures room { self.new.room ≡ self.old.room }
+        ensures kept { self.new.kept ≡ self.old.kept }
+    {
+        let task = self.tasks.current(member);
+        let Some(group) = self.groups.last_open(task) else {
+            unreachable!()
+        };
+        self.groups.close(task);
+        self.history.push_reserved(Event::GroupEnd { group, member });
+    }
+}
+
+/// Makes memory for so many more events, and for one more group.
+fn reserve_group(history: &mut Vec<Event>, space: usize, groups: &mut Groups) -> Result<(), AllocError>
+    ensures history { history.new.items ≡ history.old.items }
+    ensures grows { vec_capacity history.old ≤ vec_capacity history.new }
+    ensures space { OnOk result (vec_len history.old + space ≤ vec_capacity history.new) }
+    ensures groups { groups.new ≡ record groups.old { group_room = groups.new.group_room } }
+    ensures room { OnOk result (0 < groups.new.group_room) }
+{
+    history.reserve(space)?;
+    groups.reserve_group()
+}

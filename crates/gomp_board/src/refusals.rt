@@ -1,0 +1,232 @@
+//! Why an operation is refused.
+
+ghost use Rattle.std.specs.Prelude.{◌≡◌, ◌<◌, List, [], ◌∷◌, ◌++◌, Option, Some, None, if◌then◌else◌, nat_le};
+ghost use Rattle.gomp_types.specs.declared.event.Event.{Event};
+ghost use Rattle.gomp_types.specs.declared.limits.TheConstants.{MAX_TASK_DEPTH};
+ghost use Rattle.gomp_types.specs.declared.refusal.Refusal.TheVariants.{Mismatch};
+ghost use Rattle.gomp_types.specs.Compare.{tag_differs};
+ghost use Rattle.gomp_types.specs.Events.{barriers_passed, tag_at};
+ghost use Rattle.gomp_types.specs.Tasks.{executed_task, in_task, depth_of, tasks_created};
+ghost use Rattle.gomp_types.specs.Tests.{Test, first_refusal};
+ghost use Rattle.gomp_types.specs.TaskCalls.{group_is_open, lacks_room, create_tests, end_task_tests, end_group_tests, outside_tasks_tests, room_tests, task_room, group_room};
+ghost use Rattle.gomp_board.specs.Ops.{op_refusal, op_tests, busy_tests, end_tests, arrival_asks, awaits_barrier};
+ghost use Rattle.gomp_board.specs.Boards.{Stands, members_of, kept_by};
+
+use crate::arrivals::arrival_asks;
+use crate::board::Board;
+use crate::groups::GROUP_ROOM;
+use crate::op::Op;
+use crate::tasks::TASK_ROOM;
+use gomp_types::{Arrival, MAX_TASK_DEPTH, Place, Refusal, Tag, Task};
+
+impl Board {
+    /// Why the operation of the member, numbered from 0, is refused, want of memory aside: of the
+    /// tests that hold the one whose refusal has the least number.
+    pub fn first_refusal(&self, member: u16, op: &Op) -> Option<Refusal>
+        requires member { member < members_of self.now }
+        ensures value { (h : List Event) → Stands self.now h →
+            result ≡ op_refusal self.now.limits self.now.room (kept_by member self.now) member op.now h }
+    {
+        if self.barriers.look(member).left {
+            return Some(Refusal::Ended);
+        }
+        if let Some(clash) = self.clash {
+            return Some(Refusal::Broken(clash));
+        }
+        self.test_refusal(member, op)
+    }
+
+    /// Why the tests of the operation itself refuse it.
+    fn test_refusal(&self, member: u16, op: &Op) -> Option<Refusal>
+        requires member { member < members_of self.now }
+        ensures value { (h : List Event) → Stands self.now h → result ≡ first_refusal
+            (op_tests self.now.limits self.now.room (kept_by member self.now) member op.now h) }
+    {
+        match op {
+            Op::Create(_) => self.create_refusal(member),
+            Op::EndTask => self.end_task_refusal(member),
+            Op::AwaitChildren => first(self.awaits_barrier(member), Refusal::Waiting, None),
+            Op::OpenGroup => self.open_group_refusal(member),
+            Op::EndGroup => self.end_group_refusal(member),
+            Op::Arrive(tag) => self.arrival_refusal(member, *tag),
+            Op::AwaitBarrier => first(!self.awaits_barrier(member), Refusal::NotInside, None),
+            Op::Reserve(more) => self.reserve_refusal(member, *more),
+            Op::Break(place) => {
+                first(!matches!(place, Place::Stopped), Refusal::Mismatch, None)
+            }
+        }
+    }
+
+    /// Why a task is not created.
+    fn create_refusal(&self, member: u16) -> Option<Refusal>
+        requires member { member < members_of self.now }
+        ensures value { (h : List Event) → Stands self.now h → result ≡ first_refusal
+            (busy_tests member h ++ (create_tests self.now.limits member h
+            ++ room_tests self.now.limits self.now.room task_room)) }
+    {
+        let full = first(self.lacks_room(TASK_ROOM), Refusal::TraceFull, None);
+        let many = first(self.has_all_tasks(), Refusal::TooManyTasks, full);
+        let deep = first(self.is_deepest(member), Refusal::TooDeep, many);
+        first(self.awaits_barrier(member), Refusal::Waiting, deep)
+    }
+
+    /// Why a task is not ended.
+    fn end_task_refusal(&self, member: u16) -> Option<Refusal>
+        requires member { member < members_of self.now }
+        ensures value { (h : List Event) → Stands self.now h →
+            result ≡ first_refusal (busy_tests member h ++ end_task_tests member h) }
+    {
+        let open = first(self.has_group_open(member), Refusal::GroupOpen, None);
+        let outside = first(!self.in_task(member), Refusal::NotInTask, open);
+        first(self.awaits_barrier(member), Refusal::Waiting, outside)
+    }
+
+    /// Why a group is not opened.
+    fn open_group_refusal(&self, member: u16) -> Option<Refusal>
+        requires member { member < members_of self.now }
+        ensures value { (h : List Event) → Stands self.now h → result ≡ first_refusal
+            (busy_tests member h ++ room_tests self.now.limits self.now.room group_room) }
+    {
+        let full = first(self.lacks_room(GROUP_ROOM), Refusal::TraceFull, None);
+        first(self.awaits_barrier(member), Refusal::Waiting, full)
+    }
+
+    /// Why a group is not ended.
+    fn end_group_refusal(&self, member: u16) -> Option<Refusal>
+        requires member { member < members_of self.now }
+        ensures value { (h : List Event) → Stands self.now h →
+            result ≡ first_refusal (busy_tests member h ++ end_group_tests member h) }
+    {
+        let closed = first(!self.has_group_open(member), Refusal::NoGroup, None);
+        first(self.awaits_barrier(member), Refusal::Waiting, closed)
+    }
+
+    /// Why an arrival is not accepted.
+    fn arrival_refusal(&self, member: u16, tag: Tag) -> Option<Refusal>
+        requires member { member < members_of self.now }
+        ensures value { (h : List Event) → Stands self.now h → result ≡ first_refusal
+            (busy_tests member h ++ (outside_tasks_tests member h ++ (end_tests tag.kind member h
+            ++ ((tag_differs tag (tag_at (barriers_passed member h) h), Mismatch)
+            ∷ room_tests self.now.limits self.now.room
+            (arrival_asks tag.kind (kept_by member self.now)))))) }
+    {
+        let asked = self.arrival_room(member, tag.kind);
+        let full = first(self.lacks_room(asked), Refusal::TraceFull, None);
+        let other = first(self.differs(member, tag), Refusal::Mismatch, full);
+        let open = self.end_refusal(member, tag.kind, other);
+        let inside = first(self.in_task(member), Refusal::InsideTask, open);
+        first(self.awaits_barrier(member), Refusal::Waiting, inside)
+    }
+
+    /// Why a member does not arrive at the region's end, and else the other refusal.
+    fn end_refusal(&self, member: u16, kind: Arrival, other: Option<Refusal>) -> Option<Refusal>
+        requires member { member < members_of self.now }
+        ensures value { (h : List Event) (tests : List Test) → Stands self.now h →
+            other ≡ first_refusal tests → result ≡ first_refusal (end_tests kind member h ++ tests) }
+    {
+        match kind {
+            Arrival::RegionEnd => first(self.has_group_open(member), Refusal::GroupOpen, other),
+            Arrival::Barrier => other,
+            Arrival::ShareEnd => other,
+        }
+    }
+
+    /// The room that an arrival of the member asks for.
+    fn arrival_room(&self, member: u16, kind: Arrival) -> u32
+        requires member { member < members_of self.now }
+        ensures { result ≡ arrival_asks kind (kept_by member self.now) }
+    {
+        arrival_asks(kind, self.kept[member as usize])
+    }
+
+    /// Why no room is kept.
+    fn reserve_refusal(&self, member: u16, more: u32) -> Option<Refusal>
+        requires member { member < members_of self.now }
+        ensures value { (h : List Event) → Stands self.now h → result ≡ first_refusal
+            (busy_tests member h ++ (outside_tasks_tests member h
+            ++ room_tests self.now.limits self.now.room more)) }
+    {
+        let full = first(self.lacks_room(more), Refusal::TraceFull, None);
+        let inside = first(self.in_task(member), Refusal::InsideTask, full);
+        first(self.awaits_barrier(member), Refusal::Waiting, inside)
+    }
+
+    /// Whether the member executes an explicit task.
+    fn in_task(&self, member: u16) -> bool
+        requires member { member < members_of self.now }
+        ensures value { (h : List Event) → Stands self.now h → result ≡ in_task member h }
+    {
+        match self.tasks.current(member) {
+            Task::Implicit(_) => false,
+            Task::Explicit(_) => true,
+        }
+    }
+
+    /// Whether the member waits at a barrier itself, and does not execute a task there.
+    fn awaits_barrier(&self, member: u16) -> bool
+        requires member { member < members_of self.now }
+        ensures value { (h : List Event) → Stands self.now h → result ≡ awaits_barrier member h }
+    {
+        let waits = self.barriers.at_barrier(member);
+        let inside = self.in_task(member);
+        waits && !inside
+    }
+
+    /// Whether the task that the member executes lies as deep as a task may.
+    fn is_deepest(&self, member: u16) -> bool
+        requires member { member < members_of self.now }
+        ensures value { (h : List Event) → Stands self.now h →
+            result ≡ nat_le MAX_TASK_DEPTH (depth_of (executed_task member h) h) }
+    {
+        let depth = self.tasks.depth(self.tasks.current(member));
+        MAX_TASK_DEPTH <= depth
+    }
+
+    /// Whether as many tasks were created as the team may create.
+    fn has_all_tasks(&self) -> bool
+        ensures value { (h : List Event) → Stands self.now h →
+            result ≡ nat_le self.now.limits.tasks (tasks_created h) }
+    {
+        let count = self.tasks.count();
+        self.limits.tasks <= count
+    }
+
+    /// Whether that task has opened a group and not ended it.
+    fn has_group_open(&self, member: u16) -> bool
+        requires member { member < members_of self.now }
+        ensures value { (h : List Event) → Stands self.now h → result ≡ group_is_open member h }
+    {
+        match self.groups.last_open(self.tasks.current(member)) {
+            Some(_) => true,
+            None => false,
+        }
+    }
+
+    /// Whether a member has arrived at this one's next barrier with another tag.
+    fn differs(&self, member: u16, tag: Tag) -> bool
+        requires member { member < members_of self.now }
+        ensures value { (h : List Event) → Stands self.now h →
+            result ≡ tag_differs tag (tag_at (barriers_passed member h) h) }
+    {
+        match self.barriers.look(member).tag {
+            Some(other) => !other.is_same(&tag),
+            None => false,
+        }
+    }
+
+    /// Whether so much more room is asked for than the limit allows.
+    fn lacks_room(&self, more: u32) -> bool
+        ensures { result ≡ lacks_room self.now.limits.events self.now.room more }
+    {
+        let limit = self.limits.events as u64;
+        let wanted = self.room as u64 + more as u64;
+        more > 0 && limit < wanted
+    }
+}
+
+/// The refusal if the test holds, and else the other one.
+fn first(holds: bool, refusal: Refusal, other: Option<Refusal>) -> Option<Refusal>
+    ensures { result ≡ (if holds then Some refusal else other) }
+{
+    if holds { Some(refusal) } else { other }
+}
