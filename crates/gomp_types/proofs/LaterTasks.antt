@@ -26,7 +26,7 @@ use Rattle.gomp_types.proofs.Suspended.{current_open}
 abbrev Beyond : ℕ → ℕ → List Event → Type 0
 Beyond g x h = (g < barriers_passed x h) ⊎ ((g ≡ barriers_passed x h) × (at_barrier x h ≡ true))
 
--- who arrived at a barrier has passed it, or waits there
+-- a member that arrived at a barrier has passed it, or waits there
 arrived_is_beyond : (members g x : ℕ) (h : List Event) → Always (ArrivalRule members) h → is_some (arrival g x h) ≡ true → Beyond g x h
 arrived_is_beyond members g x [] all e = absurd (cc)
 arrived_is_beyond members g x (Arrive barrier member tag ∷ earlier) all e =

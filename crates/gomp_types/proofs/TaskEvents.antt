@@ -33,7 +33,7 @@ done_is_complete t m (Done task member ∷ earlier) (inr done) = or_right (task 
 done_is_complete t m (_ ∷ earlier) (inl e) = absurd (cc)
 done_is_complete t m (_ ∷ earlier) (inr done) = done_is_complete t m earlier done
 
--- a task that happened to be started has started
+-- a task of which a start happened has started
 pub start_happened : (t m : ℕ) (h : List Event) → Happened (Start t m) h → has_started t h ≡ true
 start_happened t m [] start = absurd start
 start_happened t m (Start task member ∷ earlier) (inl e) = let here : task ≡ t = cc in rw (here, same_number t) refl
