@@ -45,9 +45,9 @@ pub record BeginsWith (groups : List GroupRow) (q : ℕ) (left : List ℕ) : Typ
   pub rest_is : IsChain groups (outer_at groups q) rest
   pub once : contains q rest ≡ false
 
-begins : (groups : List GroupRow) (q : ℕ) (left : List ℕ) → IsNested groups → IsChain groups (Some q) left → BeginsWith groups q left
-begins groups q [] nested chain = absurd (cc)
-begins groups q (x ∷ rest) nested chain =
+chain_begins : (groups : List GroupRow) (q : ℕ) (left : List ℕ) → IsNested groups → IsChain groups (Some q) left → BeginsWith groups q left
+chain_begins groups q [] nested chain = absurd (cc)
+chain_begins groups q (x ∷ rest) nested chain =
     let same : x ≡ q = (let e = chain.0 in cc) in
     record { rest = rest; is = ap (λ y. y ∷ rest) same; within = rw (← same) chain.1; rest_is = rw (← same) chain.2; once = rw (← same) (chain_once groups (Some q) x rest nested chain) }
 
@@ -75,7 +75,7 @@ other_left groups q x left n m begin other e = rw (begin.is, other) at e
 pub adds_next : (first : Option ℕ) (was now : List GroupRow) (q : ℕ) → IsNested was → IsLeft first (Some q) was now was now → (q < length now) × (pending_at now q ≤ pending_at was q) ×
     IsLeft first (outer_at now q) was (set now q (record { outer = outer_at now q; pending = pending_at now q + 1 })) was (set now q (record { outer = outer_at now q; pending = pending_at now q + 1 }))
 adds_next first was now q nested is =
-    let left = begins now q is.left (nested_now was now is.outer nested) is.left_is in (
+    let left = chain_begins now q is.left (nested_now was now is.outer nested) is.left_is in (
       left.within,
       few left,
       record {
@@ -105,7 +105,7 @@ adds_next first was now q nested is =
 pub removes_next : (first : Option ℕ) (was now : List GroupRow) (q : ℕ) → IsNested was → ((qs : List ℕ) → IsChain was first qs → (x : ℕ) → (if contains x qs then 1 else 0) ≤ pending_at was x) → IsLeft first (Some q) was now now was → (q < length now) × (1 ≤ pending_at now q) ×
     IsLeft first (outer_at now q) was (set now q (record { outer = outer_at now q; pending = pending_at now q - 1 })) (set now q (record { outer = outer_at now q; pending = pending_at now q - 1 })) was
 removes_next first was now q nested some is =
-    let left = begins now q is.left (nested_now was now is.outer nested) is.left_is in (
+    let left = chain_begins now q is.left (nested_now was now is.outer nested) is.left_is in (
       left.within,
       enough left,
       record {

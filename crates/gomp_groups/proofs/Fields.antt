@@ -77,8 +77,8 @@ done_read groups tasks members q row h st lt is = ap (λ (n : ℕ). n == 0) (ap 
 pub open_read : (groups : List GroupRow) (tasks : List TaskRow) (members : List Seat) (task : Task) (seat : Seat) (h : List Event) → GroupsStand groups tasks members h → seat ≡ seat_at tasks members task → own_group seat ≡ last_open task h
 open_read groups tasks members task seat h st is = ap own_group is ∙ own_is groups (seat_at tasks members task) (open_groups task h) (groups_beyond task h) st.nested (st.last task) (st.around task)
 
-pub open_within : (groups : List GroupRow) (tasks : List TaskRow) (members : List Seat) (task : Task) (seat : Seat) (h : List Event) → GroupsStand groups tasks members h → seat ≡ seat_at tasks members task → IfSome (own_group seat) (λ q. q < length groups)
-open_within groups tasks members task seat h st is =
+pub own_within : (groups : List GroupRow) (tasks : List TaskRow) (members : List Seat) (task : Task) (seat : Seat) (h : List Event) → GroupsStand groups tasks members h → seat ≡ seat_at tasks members task → IfSome (own_group seat) (λ q. q < length groups)
+own_within groups tasks members task seat h st is =
     subst (λ (s : Seat). IfSome (own_group s) (λ q. q < length groups)) (sym is)
     (by (same_group (seat_at tasks members task).last (seat_at tasks members task).around) (chain_starts groups (seat_at tasks members task).last (open_groups task h ++ groups_beyond task h) (st.last task)))
   where
@@ -88,15 +88,15 @@ open_within groups tasks members task seat h st is =
 
 -- What is written
 
-pub written : {A : Type 0} → (new old : List A) (n : ℕ) → length new ≡ length old → n ≡ length old → take n (new ++ drop (length new) old) ≡ new
-written new old n same size = rw (size ∙ sym same) (take-append_seam new (drop (length new) old))
+pub slice_written : {A : Type 0} → (new old : List A) (n : ℕ) → length new ≡ length old → n ≡ length old → take n (new ++ drop (length new) old) ≡ new
+slice_written new old n same size = rw (size ∙ sym same) (take-append_seam new (drop (length new) old))
 
-pub reseated : (at tasks new : List TaskRow) (seats members others : List Seat) (n k : ℕ) (task : Task) (seat : Seat) → at ≡ tasks → seats ≡ members → length new ≡ length at → length others ≡ length seats → n ≡ length tasks → k ≡ length members →
+pub seat_written : (at tasks new : List TaskRow) (seats members others : List Seat) (n k : ℕ) (task : Task) (seat : Seat) → at ≡ tasks → seats ≡ members → length new ≡ length at → length others ≡ length seats → n ≡ length tasks → k ≡ length members →
     ((p : Task) → seat_at new others p ≡ (if same_task task p then seat else seat_at at seats p)) → ((i : ℕ) → (get_or new i no_task).parent ≡ (get_or at i no_task).parent) →
     Reseats tasks members task seat (take n (new ++ drop (length new) tasks)) (take k (others ++ drop (length others) members))
-reseated at tasks new seats members others n k task seat a b same_tasks same_members tasks_size members_size seat_is parents =
-    subst (λ (xs : List TaskRow). Reseats tasks members task seat xs (take k (others ++ drop (length others) members))) (sym (written new tasks n (same_tasks ∙ ap length a) tasks_size))
-    (subst (λ (xs : List Seat). Reseats tasks members task seat new xs) (sym (written others members k (same_members ∙ ap length b) members_size))
+seat_written at tasks new seats members others n k task seat a b same_tasks same_members tasks_size members_size seat_is parents =
+    subst (λ (xs : List TaskRow). Reseats tasks members task seat xs (take k (others ++ drop (length others) members))) (sym (slice_written new tasks n (same_tasks ∙ ap length a) tasks_size))
+    (subst (λ (xs : List Seat). Reseats tasks members task seat new xs) (sym (slice_written others members k (same_members ∙ ap length b) members_size))
     (record { tasks_len = same_tasks ∙ ap length a; members_len = same_members ∙ ap length b; seat_is = λ p. seat_is p ∙ rw (a, b) refl; parents = λ i. parents i ∙ rw a refl }))
 
 -- a group that was opened
@@ -153,7 +153,7 @@ pub create_writes : (groups groups_new : List GroupRow) (tasks pushed : List Tas
 create_writes groups groups_new tasks pushed members parent seat n tasks_now members_now h m desc st may is size counts pushed_is re =
     let chain : IsChain groups seat.last (open_groups parent h ++ groups_beyond parent h) = rw is (st.last parent) in
     let counted = counts (open_groups parent h ++ groups_beyond parent h) chain in
-    rw (written groups_new groups n counted.len size, pushed_is, is) (create_keeps groups tasks members parent groups_new tasks_now members_now h m desc st may counted
+    rw (slice_written groups_new groups n counted.len size, pushed_is, is) (create_keeps groups tasks members parent groups_new tasks_now members_now h m desc st may counted
     (subst (λ (s : Seat). Reseats tasks members parent (record { children = s.children + 1; around = s.around; last = s.last }) tasks_now members_now) is re))
 
 -- a task that was ended
@@ -224,5 +224,5 @@ pub complete_writes : (groups groups_new : List GroupRow) (tasks : List TaskRow)
 complete_writes groups groups_new tasks members t row parent n tasks_now members_now h m st may row_is parent_is size counts re =
     let says = row_says groups tasks members t row h m (length members) st may row_is in
     let counted = counts (groups_around t h) says.around in
-    rw (written groups_new groups n (sym counted.len) size) (complete_keeps groups tasks members t groups_new tasks_now members_now h m row.parent st may says.parent_is counted
+    rw (slice_written groups_new groups n (sym counted.len) size) (complete_keeps groups tasks members t groups_new tasks_now members_now h m row.parent st may says.parent_is counted
     (subst (λ (s : Seat). Reseats tasks members row.parent (record { children = s.children - 1; around = s.around; last = s.last }) tasks_now members_now) parent_is re))

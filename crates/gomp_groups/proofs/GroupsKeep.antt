@@ -59,8 +59,8 @@ pub record Reseats (tasks : List TaskRow) (members : List Seat) (task : Task) (s
   pub parents : (k : ℕ) → (get_or tasks_now k no_task).parent ≡ (get_or tasks k no_task).parent
 
 -- what two seats have in common, all have
-same_of : {A : Type 0} → (f : Seat → A) (tasks : List TaskRow) (members : List Seat) (task : Task) (seat : Seat) (tasks_now : List TaskRow) (members_now : List Seat) → Reseats tasks members task seat tasks_now members_now → f seat ≡ f (seat_at tasks members task) → (p : Task) → f (seat_at tasks_now members_now p) ≡ f (seat_at tasks members p)
-same_of f tasks members task seat tasks_now members_now re same p =
+fields_same : {A : Type 0} → (f : Seat → A) (tasks : List TaskRow) (members : List Seat) (task : Task) (seat : Seat) (tasks_now : List TaskRow) (members_now : List Seat) → Reseats tasks members task seat tasks_now members_now → f seat ≡ f (seat_at tasks members task) → (p : Task) → f (seat_at tasks_now members_now p) ≡ f (seat_at tasks members p)
+fields_same f tasks members task seat tasks_now members_now re same p =
     elim (cases_Bool (same_task task p)) [
       | inl here ↦ ap f (rw here at (re.seat_is p)) ∙ rw (← same_task_is task p here) same
       | inr away ↦ ap f (rw away at (re.seat_is p))
@@ -88,8 +88,8 @@ open_keeps groups tasks members task tasks_now members_now h m st executes re =
       nested = nested_push groups row st.nested (chain_starts groups (seat_at tasks members task).last _ (st.last task));
       pending = λ q. st.pending q ∙ sym (pending_at-push groups row q refl);
       parent = λ k lt p. st.parent k (rw re.tasks_len at lt) p ∙ ap (λ x. same_task x p) (sym (re.parents k));
-      children = λ p. st.children p ∙ sym (same_of (λ s. s.children) tasks members task seat tasks_now members_now re refl p);
-      around = λ p. rw (beyond_opened p (length groups) m h, same_of (λ s. s.around) tasks members task seat tasks_now members_now re refl p) (stays (seat_at tasks members p).around (groups_beyond p h) (st.around p));
+      children = λ p. st.children p ∙ sym (fields_same (λ s. s.children) tasks members task seat tasks_now members_now re refl p);
+      around = λ p. rw (beyond_opened p (length groups) m h, fields_same (λ s. s.around) tasks members task seat tasks_now members_now re refl p) (stays (seat_at tasks members p).around (groups_beyond p h) (st.around p));
       last = λ p. rw (beyond_opened p (length groups) m h, executes.current, re.seat_is p) (last_now p (same_task task p) refl);
       rule = subst (λ (n : ℕ). Always (TaskRule n) (Group (length groups) m ∷ h)) (sym re.members_len) (record { member = executes.member; number = sym st.opened }, st.rule);
     }
@@ -120,8 +120,8 @@ close_keeps groups tasks members task group tasks_now members_now h q m st may i
       nested = st.nested;
       pending = st.pending;
       parent = λ k lt p. st.parent k (rw re.tasks_len at lt) p ∙ ap (λ x. same_task x p) (sym (re.parents k));
-      children = λ p. st.children p ∙ sym (same_of (λ s. s.children) tasks members task seat tasks_now members_now re refl p);
-      around = λ p. rw (beyond_closed p q m h, same_of (λ s. s.around) tasks members task seat tasks_now members_now re refl p) (st.around p);
+      children = λ p. st.children p ∙ sym (fields_same (λ s. s.children) tasks members task seat tasks_now members_now re refl p);
+      around = λ p. rw (beyond_closed p q m h, fields_same (λ s. s.around) tasks members task seat tasks_now members_now re refl p) (st.around p);
       last = λ p. rw (beyond_closed p q m h, may.current, re.seat_is p) (last_now p (same_task task p) refl);
       rule = subst (λ (n : ℕ). Always (TaskRule n) (GroupEnd q m ∷ h)) (sym re.members_len) (may.rule, st.rule);
     }
@@ -163,9 +163,9 @@ no_chain : (groups : List GroupRow) (qs rs : List ℕ) → IsChain groups None (
 no_chain groups [] rs chain = refl
 no_chain groups (q ∷ qs) rs chain = absurd (let e : ◌≡◌ {A = Option ℕ} None (Some q) = chain.0 in cc)
 
-not_new : (tasks : List TaskRow) (members : List Seat) (parent : Task) (n : ℕ) → n ≡ length tasks → IsSeatedIn tasks members parent → same_task parent (Explicit (suc n)) ≡ false
-not_new tasks members (Implicit x) n count seated = refl
-not_new tasks members (Explicit p) n count seated = let le = seated.1 in other_number p (suc n) (λ e. omega (arith, e, le, count))
+not_the_next_task : (tasks : List TaskRow) (members : List Seat) (parent : Task) (n : ℕ) → n ≡ length tasks → IsSeatedIn tasks members parent → same_task parent (Explicit (suc n)) ≡ false
+not_the_next_task tasks members (Implicit x) n count seated = refl
+not_the_next_task tasks members (Explicit p) n count seated = let le = seated.1 in other_number p (suc n) (λ e. omega (arith, e, le, count))
 
 plus_if : (b : Bool) (n : ℕ) → (if b then n + 1 else n) ≡ n + (if b then 1 else 0)
 plus_if true n = refl
@@ -218,7 +218,7 @@ create_keeps groups tasks members parent groups_now tasks_now members_now h m de
     seat_now p = seat_at-push tasks_now members_now row p ∙ rw (place, re.seat_is p) refl
 
     away : same_task parent (Explicit (suc (tasks_created h))) ≡ false
-    away = not_new tasks members parent (tasks_created h) st.created (executed_seated groups tasks members h m parent st may.member (sym may.current))
+    away = not_the_next_task tasks members parent (tasks_created h) st.created (executed_seated groups tasks members h m parent st may.member (sym may.current))
 
     stays : (first : Option ℕ) (qs : List ℕ) → IsChain groups first qs → IsChain groups_now first qs
     stays first qs chain = chain_on groups groups_now first qs (let len = counts.len in omega (arith, len)) (λ q lt. counts.outer q) chain
@@ -293,8 +293,8 @@ complete_keeps groups tasks members t groups_now tasks_now members_now h m paren
       pending = λ q. pending_now q (contains q (groups_around t h)) refl;
       parent = λ k lt p. st.parent k (rw re.tasks_len at lt) p ∙ ap (λ x. same_task x p) (sym (re.parents k));
       children = λ p. children_now p (same_task parent p) refl;
-      around = λ p. rw (beyond_done p t m h, same_of (λ s. s.around) tasks members parent less tasks_now members_now re refl p) (stays (seat_at tasks members p).around (groups_beyond p h) (st.around p));
-      last = λ p. rw (beyond_done p t m h, same_of (λ s. s.last) tasks members parent less tasks_now members_now re refl p) (stays (seat_at tasks members p).last (open_groups p h ++ groups_beyond p h) (st.last p));
+      around = λ p. rw (beyond_done p t m h, fields_same (λ s. s.around) tasks members parent less tasks_now members_now re refl p) (stays (seat_at tasks members p).around (groups_beyond p h) (st.around p));
+      last = λ p. rw (beyond_done p t m h, fields_same (λ s. s.last) tasks members parent less tasks_now members_now re refl p) (stays (seat_at tasks members p).last (open_groups p h ++ groups_beyond p h) (st.last p));
       rule = subst (λ (n : ℕ). Always (TaskRule n) (Done t m ∷ h)) (sym re.members_len) (may, st.rule);
     }
   where

@@ -1,5 +1,6 @@
 pub mod Chains
 pub mod Counting
 pub mod Fields
+pub mod GroupExamples
 pub mod GroupsKeep
 pub mod Laws

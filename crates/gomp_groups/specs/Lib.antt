@@ -1,3 +1,4 @@
 pub mod Rows
 pub mod Stands
 pub mod Calls
+pub mod Examples

@@ -66,7 +66,8 @@ impl Groups {
     /// Makes room for one more task. It fails, and nothing changes, if the memory is refused.
     pub fn reserve_task(&mut self) -> Result<(), AllocError>
         ensures room { OnOk result (0 < self.new.task_room) }
-        ensures kept { OnOk result (self.new ≡ record self.old { task_room = self.new.task_room }) }
+        ensures kept { OnOk result
+            (self.new ≡ record self.old { task_room = self.new.task_room }) }
         ensures grows { self.old.task_room ≤ self.new.task_room }
         ensures there { 0 < self.old.task_room → IsOk result }
         ensures err { OnErr result (self.new ≡ self.old) }
@@ -77,7 +78,8 @@ impl Groups {
     /// Makes room for one more group. It fails, and nothing changes, if the memory is refused.
     pub fn reserve_group(&mut self) -> Result<(), AllocError>
         ensures room { OnOk result (0 < self.new.group_room) }
-        ensures kept { OnOk result (self.new ≡ record self.old { group_room = self.new.group_room }) }
+        ensures kept { OnOk result
+            (self.new ≡ record self.old { group_room = self.new.group_room }) }
         ensures grows { self.old.group_room ≤ self.new.group_room }
         ensures there { 0 < self.old.group_room → IsOk result }
         ensures err { OnErr result (self.new ≡ self.old) }

@@ -10,7 +10,7 @@ use Rattle.gomp_groups.specs.declared.rows.Seat.{Seat}
 use Rattle.gomp_groups.specs.Rows.{pending_at, IsChain, CountsOneMore}
 use Rattle.gomp_groups.specs.Stands.{GroupsView, Stands, members_of}
 use Rattle.gomp_groups.proofs.Chains.{chain_unique}
-use Rattle.gomp_groups.proofs.Fields.{view_stands, seated_at, seat_read, reseated, row_there, row_says, parent_seated, complete_writes}
+use Rattle.gomp_groups.proofs.Fields.{view_stands, seated_at, seat_read, seat_written, row_there, row_says, parent_seated, complete_writes}
 use Rattle.gomp_groups.proofs.groups.Groups.complete.Goals as goal
 
 pub overflow_sub-task : goal.overflow_sub-task
@@ -61,7 +61,7 @@ put_seat-requires c =
 pub returns-clause-stands : goal.returns-clause-stands
 returns-clause-stands c = λ h m st may.
     let seat = seat_read _ _ _ _ c.index-row.result.now.parent _ c.deref.ensures.value c.deref-2.ensures.value c.seat_of-parent.ensures.value in
-    let re = reseated _ c.self.inside.tasks.items _ _ c.self.inside.members.items _ _ _ c.index-row.result.now.parent _ c.deref_mut-2.ensures.value c.deref_mut-3.ensures.value c.put_seat.auto.tasks c.put_seat.auto.members c.self.inside.tasks.ok.0 c.self.inside.members.ok.0 c.put_seat.ensures.seat c.put_seat.ensures.parents in
+    let re = seat_written _ c.self.inside.tasks.items _ _ c.self.inside.members.items _ _ _ c.index-row.result.now.parent _ c.deref_mut-2.ensures.value c.deref_mut-3.ensures.value c.put_seat.auto.tasks c.put_seat.auto.members c.self.inside.tasks.ok.0 c.self.inside.members.ok.0 c.put_seat.ensures.seat c.put_seat.ensures.parents in
     let counts = subst (λ (xs : List GroupRow). (qs : List ℕ) → IsChain xs c.index-row.result.now.seat.around qs → CountsOneMore qs c.remove_task.new.groups xs) c.deref_mut.ensures.value c.remove_task.ensures.counts in
     complete_writes c.self.inside.groups.items _ c.self.inside.tasks.items c.self.inside.members.items c.args.task c.index-row.result.now _ _ _ _ h m (view_stands _ _ h c.self.view_is st)
     (subst (λ (v : GroupsView). MayEnd (members_of v) c.args.task m h) (sym c.self.view_is) may) c.index-row.ensures seat c.self.inside.groups.ok.0 counts re

@@ -9,7 +9,7 @@ use Rattle.gomp_groups.specs.Rows.{pending_at, IsChain, CountsOneMore}
 use Rattle.gomp_groups.specs.Stands.{GroupsView, Stands, members_of}
 use Rattle.gomp_groups.specs.Calls.{MayCreateIn}
 use Rattle.gomp_groups.proofs.GroupsKeep.{executed_seated}
-use Rattle.gomp_groups.proofs.Fields.{view_stands, seated_at, seat_read, reseated, pending_most, children_most, create_writes}
+use Rattle.gomp_groups.proofs.Fields.{view_stands, seated_at, seat_read, seat_written, pending_most, children_most, create_writes}
 use Rattle.gomp_groups.proofs.groups.Groups.create.Goals as goal
 
 pub seat_of-seat-requires : goal.seat_of-seat-requires
@@ -45,7 +45,7 @@ put_seat-requires c =
 pub returns-clause-stands : goal.returns-clause-stands
 returns-clause-stands c = λ h m desc st may.
     let seat = seat_read _ _ _ _ c.args.parent _ c.deref.ensures.value c.deref-2.ensures.value c.seat_of-seat.ensures.value in
-    let re = reseated _ c.self.inside.tasks.items _ _ c.self.inside.members.items _ _ _ c.args.parent _ c.deref_mut-2.ensures.value c.deref_mut-3.ensures.value c.put_seat.auto.tasks c.put_seat.auto.members c.self.inside.tasks.ok.0 c.self.inside.members.ok.0 c.put_seat.ensures.seat c.put_seat.ensures.parents in
+    let re = seat_written _ c.self.inside.tasks.items _ _ c.self.inside.members.items _ _ _ c.args.parent _ c.deref_mut-2.ensures.value c.deref_mut-3.ensures.value c.put_seat.auto.tasks c.put_seat.auto.members c.self.inside.tasks.ok.0 c.self.inside.members.ok.0 c.put_seat.ensures.seat c.put_seat.ensures.parents in
     let counts = subst (λ (xs : List GroupRow). (qs : List ℕ) → IsChain xs c.seat_of-seat.result.last qs → CountsOneMore qs xs c.add_task.new.groups) c.deref_mut.ensures.value c.add_task.ensures.counts in
     create_writes c.self.inside.groups.items _ c.self.inside.tasks.items _ c.self.inside.members.items c.args.parent _ _ _ _ h m desc (view_stands _ _ h c.self.view_is st)
     (subst (λ (v : GroupsView). MayCreateIn (members_of v) m c.args.parent h) (sym c.self.view_is) may) seat c.self.inside.groups.ok.0 counts c.push_reserved.ensures.items re

@@ -4,7 +4,7 @@ use Rattle.gomp_types.specs.declared.event.Event.TheVariants.{Group}
 use Rattle.gomp_groups.specs.Stands.{GroupsView, Stands, members_of}
 use Rattle.gomp_groups.specs.Calls.{Executes}
 use Rattle.gomp_groups.proofs.GroupsKeep.{executed_seated}
-use Rattle.gomp_groups.proofs.Fields.{view_stands, seated_at, seat_read, reseated, open_writes}
+use Rattle.gomp_groups.proofs.Fields.{view_stands, seated_at, seat_read, seat_written, open_writes}
 use Rattle.gomp_groups.proofs.groups.Groups.open.Goals as goal
 
 pub seat_of-seat-requires : goal.seat_of-seat-requires
@@ -22,7 +22,7 @@ put_seat-requires c =
 pub returns-clause-stands : goal.returns-clause-stands
 returns-clause-stands c = λ h m st executes.
     let seat = seat_read _ _ _ _ c.args.task _ c.deref.ensures.value c.deref-2.ensures.value c.seat_of-seat.ensures.value in
-    let re = reseated _ c.self.inside.tasks.items _ _ c.self.inside.members.items _ _ _ c.args.task _ c.deref_mut.ensures.value c.deref_mut-2.ensures.value c.put_seat.auto.tasks c.put_seat.auto.members c.self.inside.tasks.ok.0 c.self.inside.members.ok.0 c.put_seat.ensures.seat c.put_seat.ensures.parents in
+    let re = seat_written _ c.self.inside.tasks.items _ _ c.self.inside.members.items _ _ _ c.args.task _ c.deref_mut.ensures.value c.deref_mut-2.ensures.value c.put_seat.auto.tasks c.put_seat.auto.members c.self.inside.tasks.ok.0 c.self.inside.members.ok.0 c.put_seat.ensures.seat c.put_seat.ensures.parents in
     open_writes c.self.inside.groups.items _ c.self.inside.tasks.items c.self.inside.members.items c.args.task _ _ _ _ h m (view_stands _ _ h c.self.view_is st)
     (subst (λ (v : GroupsView). Executes (members_of v) m c.args.task h) (sym c.self.view_is) executes) seat (c.len-group.ensures ∙ c.self.inside.groups.ok.0) c.push_reserved.ensures.items re
 

@@ -1,0 +1,372 @@
+-- What the rows of groups and tasks say, and when they stand for events: for each line of a definition what it says, and what it alone refuses.
+use Rattle.std.proofs.Common.{◌≡◌, ℕ, ◌+◌, ◌<◌, ◌≤◌, true, false, List, [], ◌∷◌, ◌++◌, Some, None, suc, zero, refl, ap, arith}
+use Rattle.std.specs.Prelude.{◌==◌, if◌then◌else◌, slice_index_or}
+use Rattle.gomp_types.specs.declared.refusal.Place.{Place}
+use Rattle.gomp_types.specs.declared.key.Key.{Key}
+use Rattle.gomp_types.specs.declared.shape.Shape.{Shape}
+use Rattle.gomp_types.specs.declared.task.Task.{Task}
+use Rattle.gomp_types.specs.declared.task.Task.TheVariants.{Implicit, Explicit}
+use Rattle.gomp_types.specs.declared.event.Tag.{Tag}
+use Rattle.gomp_types.specs.declared.event.Event.TheVariants.{Enter, Take, Drained, End, HandOn, Part, PartEnd, Put, Got, Arrive, Pass, Hold, Free, Create, Start, Done, Group, GroupEnd, Waited, Break}
+use Rattle.gomp_types.specs.Laws.{Always}
+use Rattle.gomp_types.specs.Tasks.{open_tasks, is_child, same_task, contains}
+use Rattle.gomp_types.specs.Groups.{in_group, open_groups}
+use Rattle.gomp_types.specs.TaskRules.{TaskRule}
+use Rattle.gomp_types.proofs.Booleans.{other_number}
+use Rattle.gomp_groups.specs.declared.rows.GroupRow.{GroupRow}
+use Rattle.gomp_groups.specs.declared.rows.Seat.{Seat}
+use Rattle.gomp_groups.specs.declared.rows.TaskRow.{TaskRow}
+use Rattle.gomp_groups.specs.Rows.{no_seat, no_task, outer_at, pending_at, seat_at, IsSeatedIn, IsChain, IsNested, same_group, own_group, CountsOneMore}
+use Rattle.gomp_groups.specs.Stands.{GroupsStand, groups_beyond}
+use Rattle.gomp_groups.specs.Calls.{first_of, last_open, Executes, MayClose, MayCreateIn, IsAside}
+use Rattle.gomp_groups.specs.Examples.{some_desc, group_with, seat_with, task_with, one_in_group, one_nested, grandchild, one_group, one_task, one_member, three_groups, three_tasks, two_members}
+
+-- Rows and seats
+
+-- the group around the last one, and how many tasks are open in it
+pub outer_of_the_last : outer_at three_groups 2 ≡ Some 1
+outer_of_the_last = refl
+
+pub pending_of_the_last : pending_at three_groups 2 ≡ 1
+pending_of_the_last = refl
+
+-- a group that was not opened is in no other, and has no task
+pub outer_of_no_group : outer_at three_groups 3 ≡ None
+outer_of_no_group = refl
+
+pub pending_of_no_group : pending_at three_groups 3 ≡ 0
+pending_of_no_group = refl
+
+-- the seat of a member, and of a task: these are numbered from 1
+pub seat_of_a_member : seat_at three_tasks two_members (Implicit 0) ≡ seat_with 2 None (Some 1)
+seat_of_a_member = refl
+
+pub seat_of_a_task : seat_at three_tasks two_members (Explicit 2) ≡ seat_with 1 (Some 1) (Some 2)
+seat_of_a_task = refl
+
+-- no task has the number 0, and none beyond the last has a seat
+pub seat_of_no_task : seat_at three_tasks two_members (Explicit 0) ≡ no_seat
+seat_of_no_task = refl
+
+pub seat_beyond_the_tasks : seat_at three_tasks two_members (Explicit 4) ≡ no_seat
+seat_beyond_the_tasks = refl
+
+pub seat_beyond_the_members : seat_at three_tasks two_members (Implicit 2) ≡ no_seat
+seat_beyond_the_members = refl
+
+-- who is seated
+pub member_is_seated : IsSeatedIn three_tasks two_members (Implicit 1)
+member_is_seated = omega arith
+
+pub task_is_seated : IsSeatedIn three_tasks two_members (Explicit 3)
+task_is_seated = (omega arith, omega arith)
+
+-- and who is not
+pub other_member_is_not_seated : IsSeatedIn three_tasks two_members (Implicit 2) → ⊥
+other_member_is_not_seated is = absurd (omega (arith, is))
+
+pub task_zero_is_not_seated : IsSeatedIn three_tasks two_members (Explicit 0) → ⊥
+task_zero_is_not_seated is = absurd (let low = is.0 in omega (arith, low))
+
+pub later_task_is_not_seated : IsSeatedIn three_tasks two_members (Explicit 4) → ⊥
+later_task_is_not_seated is = absurd (let high = is.1 in omega (arith, high))
+
+-- Chains
+
+-- the groups from the last one outwards
+pub chain_of_three : IsChain three_groups (Some 2) (2 ∷ 1 ∷ 0 ∷ [])
+chain_of_three = (refl, omega arith, (refl, omega arith, (refl, omega arith, refl)))
+
+-- a chain that begins elsewhere
+pub chain_elsewhere : IsChain three_groups (Some 1) (2 ∷ 1 ∷ 0 ∷ []) → ⊥
+chain_elsewhere chain = absurd (let first = chain.0 in cc)
+
+-- one that leaves a group out
+pub chain_with_a_gap : IsChain three_groups (Some 2) (2 ∷ 0 ∷ []) → ⊥
+chain_with_a_gap chain = absurd (let next = chain.2.0 in cc)
+
+-- one that ends too early
+pub chain_too_short : IsChain three_groups (Some 2) (2 ∷ 1 ∷ []) → ⊥
+chain_too_short chain = absurd (let end = chain.2.2 in cc)
+
+-- one to a group that was not opened
+pub chain_to_no_group : IsChain three_groups (Some 3) (3 ∷ []) → ⊥
+chain_to_no_group chain = absurd (let within = chain.1 in omega (arith, within))
+
+-- groups lie in earlier ones
+pub three_are_nested : IsNested three_groups
+three_are_nested zero = tt
+three_are_nested (suc zero) = omega arith
+three_are_nested (suc (suc zero)) = omega arith
+three_are_nested (suc (suc (suc q))) = tt
+
+-- a group in itself
+pub not_in_itself : IsNested (group_with None 0 ∷ group_with (Some 1) 0 ∷ []) → ⊥
+not_in_itself nested = absurd (let lt = nested 1 in omega (arith, lt))
+
+-- The group that a task has open itself
+
+pub same_groups : (same_group None None ≡ true) × (same_group (Some 3) (Some 3) ≡ true)
+same_groups = (refl, refl)
+
+pub other_groups : (same_group (Some 3) (Some 4) ≡ false) × (same_group (Some 3) None ≡ false) × (same_group None (Some 3) ≡ false)
+other_groups = (refl, refl, refl)
+
+-- a group of an implicit task, and one that a child opened
+pub own_of_a_member : own_group (seat_with 2 None (Some 1)) ≡ Some 1
+own_of_a_member = refl
+
+pub own_of_a_child : own_group (seat_with 1 (Some 1) (Some 2)) ≡ Some 2
+own_of_a_child = refl
+
+-- a task that is in a group has not opened it
+pub none_of_its_own : own_group (seat_with 0 (Some 2) (Some 2)) ≡ None
+none_of_its_own = refl
+
+pub none_at_all : own_group no_seat ≡ None
+none_at_all = refl
+
+-- the last open group is the one that was opened last
+pub last_of_the_member : last_open (Implicit 0) grandchild ≡ Some 1
+last_of_the_member = refl
+
+pub last_of_the_child : last_open (Explicit 2) grandchild ≡ Some 2
+last_of_the_child = refl
+
+pub last_of_the_grandchild : last_open (Explicit 3) grandchild ≡ None
+last_of_the_grandchild = refl
+
+-- once it is ended, the one before it
+pub last_after_an_end : last_open (Implicit 0) (GroupEnd 1 0 ∷ Group 1 0 ∷ one_in_group) ≡ Some 0
+last_after_an_end = refl
+
+-- the groups that wait for a task: those of its parent, and those that wait for that
+pub beyond_the_grandchild : groups_beyond (Explicit 3) grandchild ≡ 2 ∷ 1 ∷ 0 ∷ []
+beyond_the_grandchild = refl
+
+-- no group waits for an implicit task
+pub beyond_the_member : groups_beyond (Implicit 0) grandchild ≡ []
+beyond_the_member = refl
+
+-- Counts
+
+-- no later number is that of one of three groups or tasks
+not_zero : (n : ℕ) → (0 == suc n) ≡ false
+not_zero n = other_number 0 (suc n) (λ e. omega (arith, e))
+
+not_one : (n : ℕ) → (1 == suc (suc n)) ≡ false
+not_one n = other_number 1 (suc (suc n)) (λ e. omega (arith, e))
+
+not_two : (n : ℕ) → (2 == suc (suc (suc n))) ≡ false
+not_two n = other_number 2 (suc (suc (suc n))) (λ e. omega (arith, e))
+
+not_three : (n : ℕ) → (3 == suc (suc (suc (suc n)))) ≡ false
+not_three n = other_number 3 (suc (suc (suc (suc n)))) (λ e. omega (arith, e))
+
+-- a task in the outer two of three groups
+pub counts_in_two : CountsOneMore (1 ∷ 0 ∷ []) three_groups (group_with None 4 ∷ group_with (Some 0) 3 ∷ group_with (Some 1) 1 ∷ [])
+counts_in_two = record { len = refl; outer = outer; pending = pending }
+  where
+    outer : (q : ℕ) → outer_at (group_with None 4 ∷ group_with (Some 0) 3 ∷ group_with (Some 1) 1 ∷ []) q ≡ outer_at three_groups q
+    outer zero = refl
+    outer (suc zero) = refl
+    outer (suc (suc zero)) = refl
+    outer (suc (suc (suc q))) = refl
+
+    pending : (q : ℕ) → pending_at (group_with None 4 ∷ group_with (Some 0) 3 ∷ group_with (Some 1) 1 ∷ []) q ≡ pending_at three_groups q + (if contains q (1 ∷ 0 ∷ []) then 1 else 0)
+    pending zero = refl
+    pending (suc zero) = refl
+    pending (suc (suc zero)) = refl
+    pending (suc (suc (suc q))) = rw (not_one (suc q), not_zero (suc (suc q))) refl
+
+-- a group is lost
+pub counts_fewer_groups : CountsOneMore [] one_group [] → ⊥
+counts_fewer_groups counts = absurd (let len = counts.len in omega (arith, len))
+
+-- a group lies in another one
+pub counts_another_outer : CountsOneMore [] (group_with None 0 ∷ group_with None 0 ∷ []) (group_with None 0 ∷ group_with (Some 0) 0 ∷ []) → ⊥
+counts_another_outer counts = absurd (let outer = counts.outer 1 in cc)
+
+-- a group is counted in which the task is not
+pub counts_another_group : CountsOneMore [] one_group (group_with None 2 ∷ []) → ⊥
+counts_another_group counts = absurd (let pending = counts.pending 0 in omega (arith, pending))
+
+-- one in which it is is not counted
+pub counts_no_group : CountsOneMore (0 ∷ []) one_group one_group → ⊥
+counts_no_group counts = absurd (let pending = counts.pending 0 in omega (arith, pending))
+
+-- When rows stand for events
+
+-- the rows of the grandchild's list: it is counted in all three groups, and is a child of the task that created it alone
+pub grandchild_stands : GroupsStand three_groups three_tasks two_members grandchild
+grandchild_stands = record { opened = refl; created = refl; nested = three_are_nested; pending = pending; parent = parent; children = children; around = around; last = last; rule = rule }
+  where
+    pending : (q : ℕ) → open_tasks (λ t. in_group q t grandchild) grandchild ≡ pending_at three_groups q
+    pending zero = refl
+    pending (suc zero) = refl
+    pending (suc (suc zero)) = refl
+    pending (suc (suc (suc q))) = rw (not_two q, not_one (suc q), not_zero (suc (suc q))) refl
+
+    parent : (k : ℕ) → k < 3 → (p : Task) → is_child p (suc k) grandchild ≡ same_task (slice_index_or three_tasks k no_task).parent p
+    parent zero lt p = refl
+    parent (suc zero) lt p = refl
+    parent (suc (suc zero)) lt p = refl
+    parent (suc (suc (suc k))) lt p = absurd (omega (arith, lt))
+
+    children : (p : Task) → open_tasks (λ t. is_child p t grandchild) grandchild ≡ (seat_at three_tasks two_members p).children
+    children (Implicit zero) = refl
+    children (Implicit (suc zero)) = refl
+    children (Implicit (suc (suc m))) = rw (not_zero (suc m)) refl
+    children (Explicit zero) = refl
+    children (Explicit (suc zero)) = refl
+    children (Explicit (suc (suc zero))) = refl
+    children (Explicit (suc (suc (suc zero)))) = refl
+    children (Explicit (suc (suc (suc (suc t))))) = rw (not_two (suc t)) refl
+
+    around : (p : Task) → IsChain three_groups (seat_at three_tasks two_members p).around (groups_beyond p grandchild)
+    around (Implicit zero) = refl
+    around (Implicit (suc zero)) = refl
+    around (Implicit (suc (suc m))) = refl
+    around (Explicit zero) = refl
+    around (Explicit (suc zero)) = (refl, omega arith, refl)
+    around (Explicit (suc (suc zero))) = (refl, omega arith, (refl, omega arith, refl))
+    around (Explicit (suc (suc (suc zero)))) = chain_of_three
+    around (Explicit (suc (suc (suc (suc t))))) = rw (not_three t, not_two (suc t), not_one (suc (suc t))) refl
+
+    last : (p : Task) → IsChain three_groups (seat_at three_tasks two_members p).last (open_groups p grandchild ++ groups_beyond p grandchild)
+    last (Implicit zero) = (refl, omega arith, (refl, omega arith, refl))
+    last (Implicit (suc zero)) = refl
+    last (Implicit (suc (suc m))) = rw (not_zero (suc m)) refl
+    last (Explicit zero) = refl
+    last (Explicit (suc zero)) = (refl, omega arith, refl)
+    last (Explicit (suc (suc zero))) = chain_of_three
+    last (Explicit (suc (suc (suc zero)))) = chain_of_three
+    last (Explicit (suc (suc (suc (suc t))))) = rw (not_two (suc t), not_three t, not_one (suc (suc t))) refl
+
+    rule : Always (TaskRule 2) grandchild
+    rule = (
+      record { member = omega arith; number = refl; current = refl; away = λ free. refl; shallow = omega arith },
+      (
+        record { member = omega arith; number = refl },
+        (
+          record { member = omega arith; may = refl },
+          (
+            record { member = omega arith; number = refl; current = refl; away = λ free. refl; shallow = omega arith },
+            (
+              record { member = omega arith; number = refl },
+              (record { member = omega arith; number = refl; current = refl; away = λ free. refl; shallow = omega arith }, (record { member = omega arith; number = refl }, tt)),
+            ),
+          ),
+        ),
+      ),
+    )
+
+-- a group that nobody opened
+pub row_of_no_group : GroupsStand (group_with None 0 ∷ []) [] [] [] → ⊥
+row_of_no_group stands = absurd (let opened = stands.opened in omega (arith, opened))
+
+-- a task without its row
+pub task_without_a_row : GroupsStand [] [] (seat_with 1 None None ∷ []) (Create 1 0 (Implicit 0) some_desc ∷ []) → ⊥
+task_without_a_row stands = absurd (let created = stands.created in omega (arith, created))
+
+-- a group that was ended, in a later one
+pub group_in_a_later_one : GroupsStand (group_with (Some 1) 0 ∷ []) [] (no_seat ∷ []) (GroupEnd 0 0 ∷ Group 0 0 ∷ []) → ⊥
+group_in_a_later_one stands = absurd (let lt = stands.nested 0 in omega (arith, lt))
+
+-- a group whose task is not counted
+pub group_of_no_task : GroupsStand (group_with None 0 ∷ []) one_task one_member one_in_group → ⊥
+group_of_no_task stands = absurd (let pending = stands.pending 0 in omega (arith, pending))
+
+-- the grandchild counted in its own group alone
+pub grandchild_in_one_group : GroupsStand (group_with None 2 ∷ group_with (Some 0) 1 ∷ group_with (Some 1) 1 ∷ []) three_tasks two_members grandchild → ⊥
+grandchild_in_one_group stands = absurd (let pending = stands.pending 0 in omega (arith, pending))
+
+-- a task that another one created
+pub task_of_another_parent : GroupsStand one_group (task_with (Implicit 1) (seat_with 0 (Some 0) (Some 0)) ∷ []) one_member one_in_group → ⊥
+task_of_another_parent stands = absurd (let parent = stands.parent 0 (omega arith) (Implicit 1) in cc)
+
+-- a child that is not counted, and one of the other member that is
+pub child_not_counted : GroupsStand one_group one_task (seat_with 0 None (Some 0) ∷ seat_with 0 None None ∷ []) one_in_group → ⊥
+child_not_counted stands = absurd (let children = stands.children (Implicit 0) in omega (arith, children))
+
+pub child_of_the_other_member : GroupsStand one_group one_task (seat_with 1 None (Some 0) ∷ seat_with 1 None None ∷ []) one_in_group → ⊥
+child_of_the_other_member stands = absurd (let children = stands.children (Implicit 1) in omega (arith, children))
+
+-- the grandchild counted as a child of its grandparent
+pub grandchild_as_a_child : GroupsStand three_groups three_tasks (seat_with 3 None (Some 1) ∷ seat_with 0 None None ∷ []) grandchild → ⊥
+grandchild_as_a_child stands = absurd (let children = stands.children (Implicit 0) in omega (arith, children))
+
+-- a task that is in no group, as if it had opened its parent's
+pub task_in_no_group : GroupsStand one_group (task_with (Implicit 0) (seat_with 0 None (Some 0)) ∷ []) one_member one_in_group → ⊥
+task_in_no_group stands = absurd (let around = stands.around (Explicit 1) in let first = around.0 in cc)
+
+-- a task whose children are in no group
+pub child_in_no_group : GroupsStand one_group (task_with (Implicit 0) (seat_with 0 (Some 0) None) ∷ []) one_member one_in_group → ⊥
+child_in_no_group stands = absurd (let last = stands.last (Explicit 1) in let first = last.0 in cc)
+
+-- a member whose last group is the first that it opened
+pub first_group_as_the_last : GroupsStand (group_with None 0 ∷ group_with (Some 0) 0 ∷ []) [] (seat_with 0 None (Some 0) ∷ []) (Group 1 0 ∷ Group 0 0 ∷ []) → ⊥
+first_group_as_the_last stands = absurd (let last = stands.last (Implicit 0) in let first = last.0 in cc)
+
+-- a group in which the one around it was forgotten
+pub outer_forgotten : GroupsStand (group_with None 0 ∷ group_with None 0 ∷ []) [] (seat_with 0 None (Some 1) ∷ []) (Group 1 0 ∷ Group 0 0 ∷ []) → ⊥
+outer_forgotten stands = absurd (let last = stands.last (Implicit 0) in let next = last.2.0 in cc)
+
+-- a task that was started before it was created
+pub started_before_created : GroupsStand [] [] (no_seat ∷ []) (Start 1 0 ∷ []) → ⊥
+started_before_created stands = absurd (let may = stands.rule.0.may in cc)
+
+-- a group that was ended while a grandchild was open
+pub ended_with_a_grandchild : GroupsStand (group_with None 1 ∷ []) [] [] (GroupEnd 0 0 ∷ Create 2 0 (Explicit 1) some_desc ∷ Start 1 0 ∷ one_in_group) → ⊥
+ended_with_a_grandchild stands = absurd (let complete = stands.rule.0.complete in cc)
+
+-- Calls
+
+-- member 0 executes its task, and may end its last group only
+pub executes_its_task : Executes 2 0 (Explicit 2) grandchild
+executes_its_task = record { member = omega arith; current = refl }
+
+pub other_executes_another : Executes 2 1 (Explicit 2) grandchild → ⊥
+other_executes_another executes = absurd (let current = executes.current in cc)
+
+pub no_member_executes : Executes 2 2 (Implicit 2) grandchild → ⊥
+no_member_executes executes = absurd (let member = executes.member in omega (arith, member))
+
+pub closes_its_group : MayClose 2 0 0 (Implicit 0) (Group 0 0 ∷ [])
+closes_its_group = record { current = refl; rule = record { member = omega arith; outer = []; last = refl; complete = refl } }
+
+-- not a group of another task
+pub closes_for_another : MayClose 2 0 0 (Implicit 1) (Group 0 0 ∷ []) → ⊥
+closes_for_another may = absurd (let current = may.current in cc)
+
+-- nor one with an open task
+pub closes_with_a_task : MayClose 2 0 0 (Implicit 0) one_in_group → ⊥
+closes_with_a_task may = absurd (let complete = may.rule.complete in cc)
+
+-- nor the first that it opened
+pub closes_the_first : MayClose 2 0 0 (Implicit 0) (Group 1 0 ∷ Group 0 0 ∷ []) → ⊥
+closes_the_first may = absurd (let last = may.rule.last in cc)
+
+-- the next task is created in the task that the member executes
+pub creates_in_its_task : MayCreateIn 2 0 (Explicit 2) grandchild
+creates_in_its_task = record { member = omega arith; number = refl; current = refl; away = λ free. refl; shallow = omega arith }
+
+pub creates_in_another : MayCreateIn 2 0 (Implicit 0) grandchild → ⊥
+creates_in_another may = absurd (let current = may.current in cc)
+
+-- tasks that are created or ended, and groups, are seen
+pub tasks_are_seen : (t m : ℕ) (parent : Task) → (IsAside (Create t m parent some_desc) → ⊥) × (IsAside (Done t m) → ⊥)
+tasks_are_seen t m parent = (λ is. is, λ is. is)
+
+pub groups_are_seen : (q m : ℕ) → (IsAside (Group q m) → ⊥) × (IsAside (GroupEnd q m) → ⊥)
+groups_are_seen q m = (λ is. is, λ is. is)
+
+-- a start and a wait are not, nor is what shares, barriers and locks see
+pub starts_are_aside : (t m : ℕ) → IsAside (Start t m) × IsAside (Waited m)
+starts_are_aside t m = (tt, tt)
+
+pub share_events_are_aside : (share m low high k : ℕ) (shape : Shape) → IsAside (Enter share m shape) × IsAside (Take share m low high) × IsAside (Drained share m) × IsAside (End share m) × IsAside (HandOn share m k) × IsAside (Part share m k) × IsAside (PartEnd share m)
+share_events_are_aside share m low high k shape = (tt, tt, tt, tt, tt, tt, tt)
+
+pub the_others_are_aside : (n m : ℕ) (payload : List ℕ) (tag : Tag) (key : Key) (task : Task) (place : Place) → IsAside (Put n m payload) × IsAside (Got n m payload) × IsAside (Arrive n m tag) × IsAside (Pass n m) × IsAside (Hold key m task) × IsAside (Free key m task) × IsAside (Break m place)
+the_others_are_aside n m payload tag key task place = (tt, tt, tt, tt, tt, tt, tt)

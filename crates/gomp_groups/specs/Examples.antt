@@ -1,0 +1,57 @@
+-- Events, and the rows of groups and tasks that stand for them or do not, that the examples share. Each list has the newest event first. (own)
+use Rattle.std.specs.Prelude.{ℕ, List, [], ◌∷◌, Option, Some, None}
+use Rattle.gomp_types.specs.declared.task.Task.{Task}
+use Rattle.gomp_types.specs.declared.task.Task.TheVariants.{Implicit, Explicit}
+use Rattle.gomp_types.specs.declared.task.TaskDesc.{TaskDesc}
+use Rattle.gomp_types.specs.declared.event.Event.{Event}
+use Rattle.gomp_types.specs.declared.event.Event.TheVariants.{Create, Start, Done, Group, GroupEnd}
+use Rattle.gomp_groups.specs.declared.rows.GroupRow.{GroupRow}
+use Rattle.gomp_groups.specs.declared.rows.Seat.{Seat}
+use Rattle.gomp_groups.specs.declared.rows.TaskRow.{TaskRow}
+
+-- what some task does
+abbrev pub some_desc : TaskDesc
+some_desc = record { code = 1; arg = 2 }
+
+abbrev pub group_with : Option ℕ → ℕ → GroupRow
+group_with outer pending = record { outer = outer; pending = pending }
+
+abbrev pub seat_with : ℕ → Option ℕ → Option ℕ → Seat
+seat_with children around last = record { children = children; around = around; last = last }
+
+abbrev pub task_with : Task → Seat → TaskRow
+task_with parent seat = record { parent = parent; seat = seat }
+
+-- member 0 opens a group and creates a task in it
+abbrev pub one_in_group : List Event
+one_in_group = Create 1 0 (Implicit 0) some_desc ∷ Group 0 0 ∷ []
+
+-- it opens a group in that one, and creates another task
+abbrev pub one_nested : List Event
+one_nested = Create 2 0 (Implicit 0) some_desc ∷ Group 1 0 ∷ one_in_group
+
+-- it starts the second task, which opens a group and creates a task in it: a grandchild of the implicit task, in all three groups
+abbrev pub grandchild : List Event
+grandchild = Create 3 0 (Explicit 2) some_desc ∷ Group 2 0 ∷ Start 2 0 ∷ one_nested
+
+-- the rows of one_in_group, of a team of two
+abbrev pub one_group : List GroupRow
+one_group = group_with None 1 ∷ []
+
+abbrev pub one_task : List TaskRow
+one_task = task_with (Implicit 0) (seat_with 0 (Some 0) (Some 0)) ∷ []
+
+abbrev pub one_member : List Seat
+one_member = seat_with 1 None (Some 0) ∷ seat_with 0 None None ∷ []
+
+-- and those of the grandchild's list
+abbrev pub three_groups : List GroupRow
+three_groups = group_with None 3 ∷ group_with (Some 0) 2 ∷ group_with (Some 1) 1 ∷ []
+
+abbrev pub three_tasks : List TaskRow
+three_tasks =
+    task_with (Implicit 0) (seat_with 0 (Some 0) (Some 0)) ∷ task_with (Implicit 0) (seat_with 1 (Some 1) (Some 2))
+    ∷ task_with (Explicit 2) (seat_with 0 (Some 2) (Some 2)) ∷ []
+
+abbrev pub two_members : List Seat
+two_members = seat_with 2 None (Some 1) ∷ seat_with 0 None None ∷ []

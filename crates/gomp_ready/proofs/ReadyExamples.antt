@@ -1,0 +1,49 @@
+-- A list of tasks: what a put and a take leave, and when a task stands twice.
+use Rattle.std.proofs.Common.{◌≡◌, ℕ, List, [], ◌∷◌, ◌++◌, Some, None, slice_get, refl}
+use Rattle.std.specs.List.{remove}
+use Rattle.gomp_ready.specs.Ready.{AreOnce}
+
+-- two tasks, and three
+abbrev two : List ℕ
+two = 4 ∷ 7 ∷ []
+
+abbrev three : List ℕ
+three = 4 ∷ 7 ∷ 9 ∷ []
+
+-- a task is put behind the others
+pub put_at_the_end : two ++ 9 ∷ [] ≡ three
+put_at_the_end = refl
+
+-- the second is taken, and the others keep their order
+pub second_is_taken : slice_get three 1 ≡ Some 7
+second_is_taken = refl
+
+pub others_in_order : remove three 1 ≡ 4 ∷ 9 ∷ []
+others_in_order = refl
+
+-- the last and the first
+pub without_the_last : remove three 2 ≡ 4 ∷ 7 ∷ []
+without_the_last = refl
+
+pub without_the_first : remove three 0 ≡ 7 ∷ 9 ∷ []
+without_the_first = refl
+
+-- of a task that was put twice one is taken
+pub one_of_two : remove {X = ℕ} (4 ∷ 7 ∷ 4 ∷ []) 0 ≡ 7 ∷ 4 ∷ []
+one_of_two = refl
+
+-- three tasks
+pub three_once : AreOnce three
+three_once = (refl, (refl, (refl, tt)))
+
+-- no task
+pub none_once : AreOnce []
+none_once = tt
+
+-- the first stands twice
+pub first_twice : AreOnce (4 ∷ 7 ∷ 4 ∷ []) → ⊥
+first_twice once = absurd (let none = once.0 in cc)
+
+-- a later one does
+pub later_twice : AreOnce (4 ∷ 7 ∷ 7 ∷ []) → ⊥
+later_twice once = absurd (let none = once.1.0 in cc)
