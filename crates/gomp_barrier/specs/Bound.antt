@@ -19,11 +19,12 @@ abbrev pub bound_count : BoundTasks → Bool → ℕ
 bound_count tasks true = tasks.odd
 bound_count tasks false = tasks.even
 
--- the counts with one task more, or less, that is bound to a barrier of this parity
+-- the counts with one task more that is bound to a barrier of this parity
 abbrev pub one_more : BoundTasks → Bool → BoundTasks
 one_more tasks true = record { even = tasks.even; odd = tasks.odd + 1 }
 one_more tasks false = record { even = tasks.even + 1; odd = tasks.odd }
 
+-- and with one less
 abbrev pub one_less : BoundTasks → Bool → BoundTasks
 one_less tasks true = record { even = tasks.even; odd = tasks.odd - 1 }
 one_less tasks false = record { even = tasks.even - 1; odd = tasks.odd }

@@ -1,5 +1,5 @@
-//! The barriers of a team: who has arrived where, with which tag, which tasks are open, and who may
-//! go on.
+//! The barriers of a team: who has arrived where, with which tag, how many open tasks are bound to
+//! each, and who may go on.
 //!
 //! A `barrier` construct, the end of a work-share and the end of the region are arrivals; a member's
 //! barriers are numbered from 0 as it passes them. [`Barriers`] stands for a list of events, the

@@ -13,9 +13,9 @@ returns-then-repeated-clause-answer g c = λ p size both.
 
 pub returns-then-repeated-clause-stands : goal.returns-then-repeated-clause-stands
 returns-then-repeated-clause-stands g c = λ p size both. (
-      arrival_aside (g.S.Shares.stands c.args.shares.now) (g.met.S.Shares.aside c.args.shares.now) c.args.kind c.args.repeated c.args.member p c.pass_or_wait.result both.0,
-      rw c.if-repeated.true (c.pass_or_wait.ensures.stands p.events both.1),
-    )
+  arrival_aside (g.S.Shares.stands c.args.shares.now) (g.met.S.Shares.aside c.args.shares.now) c.args.kind c.args.repeated c.args.member p c.pass_or_wait.result both.0,
+  rw c.if-repeated.true (c.pass_or_wait.ensures.stands p.events both.1),
+)
 
 pub unreachable-requires : goal.unreachable-requires
 unreachable-requires g c =
