@@ -1,0 +1,21 @@
+use Rattle.std.proofs.Common.{◌≡◌, refl, sym, ◌∙◌, arith}
+use Rattle.gomp_types.specs.Limits.{capped_limits}
+use Rattle.gomp_board.proofs.NewBoard.{new_stands, new_board, capped_twice}
+use Rattle.gomp_board.proofs.OwedKeeps.{first_room_is}
+use Rattle.gomp_board.proofs.board.Board.new.Goals as goal
+
+pub invariant_of-result : goal.invariant_of-result
+invariant_of-result c =
+    let exact = c.in_ok-with_capacity.ensures.exact in
+    let zeros = c.in_ok-vec.ensures.items_if_clones_equal (λ y e. e) in
+    new_board c.args.count _ _ c.capped_limits.result c.in_ok-with_capacity.field-0.items c.in_ok-vec.field-0.items c.in_ok-make.field-0 c.in_ok-make-2.field-0 c.in_ok-make-3.field-0 c.new.result.ids
+    c.in_ok-make.ensures.stands c.in_ok-make-2.ensures.stands c.in_ok-make-3.ensures.stands c.new.ensures c.in_ok-with_capacity.ensures.items
+    c.requires.size zeros c.in_ok-make.ensures.members c.in_ok-make-2.ensures.members c.in_ok-make-3.ensures.members refl (omega (arith, exact)) (rw c.capped_limits.ensures (capped_twice c.args.limits))
+
+pub returns-clause-room : goal.returns-clause-room
+returns-clause-room c = sym (first_room_is c.args.count)
+
+pub returns-clause-stands : goal.returns-clause-stands
+returns-clause-stands c =
+    new_stands c.args.count _ 0 c.capped_limits.result c.in_ok-with_capacity.field-0.items c.in_ok-vec.field-0.items c.in_ok-make.field-0 c.in_ok-make-2.field-0 c.in_ok-make-3.field-0 c.new.result.ids
+    c.in_ok-make.ensures.stands c.in_ok-make-2.ensures.stands c.in_ok-make-3.ensures.stands c.new.ensures c.in_ok-with_capacity.ensures.items
