@@ -13,6 +13,7 @@ pub mod Performed
 pub mod ReadyExamples
 pub mod ReadyKeeps
 pub mod RefusalOrder
+pub mod Refused
 pub mod RegionLeft
 pub mod RoomKeeps
 pub mod Startables

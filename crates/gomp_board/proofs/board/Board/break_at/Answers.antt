@@ -1,13 +1,14 @@
-use Rattle.std.proofs.Common.{◌≡◌, ◌∷◌, refl, ◌∙◌, ap, sym, subst, Some}
+use Rattle.std.proofs.Common.{◌≡◌, ◌∙◌, ap, sym}
 use Rattle.std.specs.Prelude.{List}
-use Rattle.gomp_types.specs.declared.refusal.Place.{Place}
+use Rattle.gomp_types.specs.declared.refusal.Place.TheVariants.{Barrier}
 use Rattle.gomp_types.specs.declared.event.Event.{Event}
-use Rattle.gomp_types.specs.declared.event.Event.TheVariants.{Break as BreakEvent}
 use Rattle.gomp_board.specs.Ops.{op_place}
-use Rattle.gomp_board.specs.Boards.{BoardView, Stands, kept_by}
+use Rattle.gomp_board.specs.Boards.{Stands, kept_by}
 use Rattle.gomp_board.proofs.Joined.{stands_too}
 use Rattle.gomp_board.proofs.AdmittedArrivals.{differing_unbroken}
+use Rattle.gomp_barrier.specs.declared.barriers.AtBarrier.{AtBarrier}
 use Rattle.gomp_board.proofs.Performed.{broke}
+use Rattle.gomp_board.proofs.Refused.{place_of_others}
 use Rattle.gomp_board.proofs.board.Board.break_at.Goals as goal
 use Rattle.gomp_board.proofs.board.Board.break_at.Goals.{in-Break, in_default}
 
@@ -18,5 +19,10 @@ note_break-requires c =
 
 pub returns : goal.returns
 returns c = record { performs =
-    let there : (h : List Event) → Stands c.args.self.now h → c.match-op.place ≡ op_place c.args.member c.args.op h = λ h st0. let st = stands_too _ _ h c.self.view_is st0 in elim c.match-op.branch [ in-Break w ↦ let is = w.in-Break.is in ? | in_default w ↦ let is = w.in_default in ? ] in
+    let there : (h : List Event) → Stands c.args.self.now h → c.match-op.place ≡ op_place c.args.member c.args.op h = λ h st0.
+        let st = stands_too _ _ h c.self.view_is st0 in
+        elim c.match-op.branch [
+          | in-Break w ↦ rw w.in-Break.is w.place-is
+          | in_default w ↦ w.place-is ∙ ap (λ (s : AtBarrier). Barrier s.number) (w.look.ensures.value h st.barriers) ∙ sym (place_of_others c.args.op c.args.member h w.in_default.not-Break)
+        ] in
     broke c.args.op c.args.member c.match-op.place c.args.self.now c.note_break.new.self c.requires.differs there c.note_break.ensures.stands c.note_break.ensures.limits c.note_break.ensures.room c.note_break.ensures.kept }

@@ -1,0 +1,102 @@
+-- A refusal by a test is the answer, and changes nothing, unless a construct differs.
+use Rattle.std.proofs.Common.{◌≡◌, ◌≢◌, ℕ, ◌<◌, Bool, true, false, List, [], ◌∷◌, ◌++◌, Option, Some, None, refl, ap, sym, arith, ◌⊎◌, inl, inr}
+use Rattle.std.specs.Prelude.{nat_le, reverse}
+use Rattle.std.proofs.lemmas.Bool.{cases_Bool}
+use Rattle.gomp_types.specs.declared.limits.Limits.{Limits}
+use Rattle.gomp_types.specs.declared.refusal.Clash.{Clash}
+use Rattle.gomp_types.specs.declared.refusal.Place.{Place}
+use Rattle.gomp_types.specs.declared.refusal.Place.TheVariants.{Barrier as AtBarrier}
+use Rattle.gomp_types.specs.declared.refusal.Refusal.{Refusal}
+use Rattle.gomp_types.specs.declared.refusal.Refusal.TheVariants.{Mismatch, NoMemory}
+use Rattle.gomp_types.specs.declared.reply.Reply.TheVariants.{Refused}
+use Rattle.gomp_types.specs.declared.event.Arrival.{Arrival}
+use Rattle.gomp_types.specs.declared.event.Arrival.TheVariants.{Barrier, ShareEnd, RegionEnd}
+use Rattle.gomp_types.specs.declared.event.Event.{Event}
+use Rattle.gomp_types.specs.RefusalTexts.{number_of}
+use Rattle.gomp_types.specs.Limits.{shown_number}
+use Rattle.gomp_types.specs.Events.{barriers_passed, clash_of}
+use Rattle.gomp_types.specs.Tests.{Test}
+use Rattle.gomp_types.specs.Least.{lesser, least}
+use Rattle.gomp_board.specs.declared.op.Op.{Op}
+use Rattle.gomp_board.specs.declared.op.Op.TheVariants.{Create, EndTask, AwaitChildren, OpenGroup, EndGroup, Arrive, AwaitBarrier, Reserve, Break}
+use Rattle.gomp_board.specs.Ops.{broken_tests, member_tests, end_tests, op_tests, op_refusal, op_place, refusal_gives, op_after, OpAnswer}
+use Rattle.gomp_board.specs.Boards.{BoardView, Stands, Performs, members_of, kept_by}
+
+-- No test is for want of memory
+
+-- the numbers of these tests' refusals are lower than that of want of memory
+abbrev AreLow : List Test → Type 0
+AreLow [] = Unit {0}
+AreLow (test ∷ tests) = (number_of test.1 < 37) × AreLow tests
+
+low_of_both : (tests more : List Test) → AreLow tests → AreLow more → AreLow (tests ++ more)
+low_of_both [] more all rest = rest
+low_of_both (test ∷ tests) more all rest = (all.0, low_of_both tests more all.1 rest)
+
+lesser_is_one : (one found : Refusal) (other : Option Refusal) → lesser (Some one) other ≡ Some found → (one ≡ found) ⊎ (other ≡ Some found)
+lesser_is_one one found None e = inl (cc)
+lesser_is_one one found (Some other) e =
+    elim (cases_Bool (nat_le (number_of one) (number_of other))) [
+      | inl below ↦ inl (let same : Some one ≡ Some found = rw below at e in cc)
+      | inr above ↦ inr (rw above at e)
+    ]
+
+least_is_low : (tests : List Test) (found : Refusal) → AreLow tests → least tests ≡ Some found → number_of found < 37
+least_is_low [] found all e = absurd (cc)
+least_is_low ((true, refusal) ∷ tests) found all e =
+    elim (lesser_is_one refusal found (least tests) e) [
+      | inl same ↦ rw (← same) all.0
+      | inr later ↦ least_is_low tests found all.1 later
+    ]
+least_is_low ((false, refusal) ∷ tests) found all e = least_is_low tests found all.1 e
+
+broken_is_low : (clash : Option Clash) → AreLow (broken_tests clash)
+broken_is_low None = tt
+broken_is_low (Some clash) = (omega arith, tt)
+
+end_is_low : (kind : Arrival) (m : ℕ) (h : List Event) → AreLow (end_tests kind m h)
+end_is_low Barrier m h = tt
+end_is_low ShareEnd m h = tt
+end_is_low RegionEnd m h = (omega arith, tt)
+
+own_are_low : (limits : Limits) (room kept m : ℕ) (op : Op) (h : List Event) → AreLow (op_tests limits room kept m op h)
+own_are_low limits room kept m (Create desc) h = (omega arith, (omega arith, (omega arith, (omega arith, tt))))
+own_are_low limits room kept m EndTask h = (omega arith, (omega arith, (omega arith, tt)))
+own_are_low limits room kept m AwaitChildren h = (omega arith, tt)
+own_are_low limits room kept m OpenGroup h = (omega arith, (omega arith, tt))
+own_are_low limits room kept m EndGroup h = (omega arith, (omega arith, tt))
+own_are_low limits room kept m (Arrive tag) h = (omega arith, (omega arith, low_of_both (end_tests tag.kind m h) _ (end_is_low tag.kind m h) (omega arith, (omega arith, tt))))
+own_are_low limits room kept m AwaitBarrier h = (omega arith, tt)
+own_are_low limits room kept m (Reserve more) h = (omega arith, (omega arith, (omega arith, tt)))
+own_are_low limits room kept m (Break place) h = (omega arith, tt)
+
+refusal_is_low : (limits : Limits) (room kept m : ℕ) (op : Op) (h : List Event) (found : Refusal) → op_refusal limits room kept m op h ≡ Some found → number_of found < 37
+refusal_is_low limits room kept m op h found e =
+    least_is_low (member_tests m h ++ op_tests limits room kept m op h) found (omega arith, low_of_both (broken_tests (clash_of h)) (op_tests limits room kept m op h) (broken_is_low (clash_of h)) (own_are_low limits room kept m op h)) e
+
+-- so a refusal by a test is an answer
+refusal_answers : (limits : Limits) (room kept members m : ℕ) (op : Op) (h : List Event) (found : Refusal) → op_refusal limits room kept m op h ≡ Some found → OpAnswer limits room kept members m op h (Refused found)
+refusal_answers limits room kept members m op h NoMemory e = absurd (omega (arith, refusal_is_low limits room kept m op h NoMemory e))
+refusal_answers limits room kept members m op h _ e = e
+
+-- What a refusal changes
+
+gives_nothing : (m : ℕ) (place : Place) (found : Refusal) → found ≢ Mismatch → refusal_gives m place found ≡ []
+gives_nothing m place Mismatch other = absurd (other refl)
+gives_nothing m place _ other = refl
+
+pub refused : (op : Op) (m : ℕ) (board : BoardView) (found : Refusal) → ((h : List Event) → Stands board h → op_refusal board.limits board.room (kept_by m board) m op h ≡ Some found) → found ≢ Mismatch → Performs op m board board (Refused found)
+refused op m board found refuses other = record {
+  answer = λ h st. refusal_answers board.limits board.room (kept_by m board) (members_of board) m op h found (refuses h st);
+  stands = λ h st. rw (gives_nothing m (op_place m op h) found other) st;
+  limits = refl;
+  members = refl;
+  room = refl;
+  kept = refl;
+  same = λ refusal e differs. record { history = refl; room = refl; kept = refl; stands = λ h st. st };
+}
+
+-- the place of any operation but a break
+pub place_of_others : (op : Op) (m : ℕ) (h : List Event) → ((place : Place) → op ≡ Break place → ⊥) → op_place m op h ≡ AtBarrier (shown_number (barriers_passed m h))
+place_of_others (Break place) m h differs = absurd (differs place refl)
+place_of_others _ m h differs = refl
