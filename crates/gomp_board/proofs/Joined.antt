@@ -157,7 +157,7 @@ arrived_board space new_space m barrier tag b history barriers is low first spar
     let same : length (slice_set b.kept m (arrival_keeps tag.kind (kept_by m b))) ≡ length b.kept = length-set b.kept m (arrival_keeps tag.kind (kept_by m b)) in
     let within = is.space in
     let places : HasMembers (record b { history = history; barriers = barriers; kept = slice_set b.kept m (arrival_keeps tag.kind (kept_by m b)) }) =
-        record { size = rw same is.members.size; tasks = rw same is.members.tasks; groups = rw same is.members.groups; barriers = rw same (size ∙ is.members.barriers) } in
+    record { size = rw same is.members.size; tasks = rw same is.members.tasks; groups = rw same is.members.groups; barriers = rw same (size ∙ is.members.barriers) } in
     board_with space (arrival_asks tag.kind (kept_by m b)) new_space b (record b { history = history; barriers = barriers; kept = slice_set b.kept m (arrival_keeps tag.kind (kept_by m b)) }) (Arrive barrier m tag) is more
     (arrived_stands b history barriers (slice_set b.kept m (arrival_keeps tag.kind (kept_by m b))) m barrier tag (reverse b.history) more next is.stands) places same refl refl (omega (arith, owes, kept)) spare (omega (arith, within, memory))
 

@@ -65,8 +65,8 @@ started_owes : (m task : ℕ) (h : List Event) → may_start m task h ≡ true �
 started_owes m task h may =
     let is = startable_is_fresh m task h may in
     let unstarted =
-        one_less (tasks_created h) task (λ u. not (has_started u h) && not (is_complete u h)) (λ u. not (task == u || has_started u h) && not (is_complete u h)) (created_low task h is.0) (created_high task h is.0)
-        (rw (is.1, is.2) refl) (rw (same_number task) refl) (λ u differ. rw (other_number task u (λ e. differ (sym e))) refl) in
+    one_less (tasks_created h) task (λ u. not (has_started u h) && not (is_complete u h)) (λ u. not (task == u || has_started u h) && not (is_complete u h)) (created_low task h is.0) (created_high task h is.0)
+    (rw (is.1, is.2) refl) (rw (same_number task) refl) (λ u differ. rw (other_number task u (λ e. differ (sym e))) refl) in
     omega (arith, unstarted)
 
 -- a task that was started is counted among those that were not neither before nor after its end

@@ -41,8 +41,7 @@ contains_push u t (x ∷ xs) = ap (λ b. x == u || b) (contains_push u t xs) ∙
 apart_push : (t : ℕ) (ids : List ℕ) → Apart ids → contains t ids ≡ false → Apart (ids ++ t ∷ [])
 apart_push t [] apart new = (refl, tt)
 apart_push t (x ∷ xs) apart new =
-    let parts = or_parts (x == t) (contains t xs) new in
-    (
+    let parts = or_parts (x == t) (contains t xs) new in (
       contains_push x t xs ∙ (rw (apart.0, other_number t x (λ same. not_both (x == t) (rw same (same_number x)) parts.0)) refl),
       apart_push t xs apart.1 parts.1,
     )

@@ -92,14 +92,16 @@ left_or_waits members m (_ ∷ earlier) all came =
 -- what the tests of an arrival tell: the member waits at no barrier, and has not arrived at the region's end
 pub arrives_first : (members m : ℕ) (h : List Event) → Always (ArrivalRule members) h → has_left_region m h ≡ false → awaits_barrier m h ≡ false → in_task m h ≡ false → (at_barrier m h ≡ false) × (at_region_end m h ≡ false)
 arrives_first members m h all stays idle outside =
-    let away = by (at_barrier m h) (in_task m h) idle outside in
-    (away, elim (cases_Bool (at_region_end m h)) [
-      | inl came ↦ elim (left_or_waits members m h all came) [
-        | inl left ↦ absurd (not_both (has_left_region m h) left stays)
-        | inr waits ↦ absurd (not_both (at_barrier m h) waits.there away)
-      ]
-      | inr never ↦ never
-    ])
+    let away = by (at_barrier m h) (in_task m h) idle outside in (
+      away,
+      elim (cases_Bool (at_region_end m h)) [
+        | inl came ↦ elim (left_or_waits members m h all came) [
+          | inl left ↦ absurd (not_both (has_left_region m h) left stays)
+          | inr waits ↦ absurd (not_both (at_barrier m h) waits.there away)
+        ]
+        | inr never ↦ never
+      ],
+    )
   where
     by : (a b : Bool) → (a && not b) ≡ false → b ≡ false → a ≡ false
     by true true e is = absurd (cc)

@@ -55,6 +55,20 @@ impl Board {
         Reply::Stopped
     }
 
+    /// Answers an operation of the member that is refused: nothing changes, unless its construct
+    /// differs.
+    pub(crate) fn refuse(&mut self, member: u16, op: Op, refusal: Refusal) -> Reply
+        requires member { member < members_of self.old }
+        requires refused { (h : List AnyEvent) → Stands self.old h →
+            op_refusal self.old.limits self.old.room (kept_by member self.old) member op h ≡ Some refusal }
+        ensures performs { Performs op member self.old self.new result }
+    {
+        match refusal {
+            Refusal::Mismatch => self.break_at(member, op),
+            refusal => Reply::Refused(refusal),
+        }
+    }
+
     /// The member breaks the team: its construct differs.
     pub(crate) fn break_at(&mut self, member: u16, op: Op) -> Reply
         requires member { member < members_of self.old }

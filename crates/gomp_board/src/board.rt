@@ -81,8 +81,7 @@ impl Board {
     {
         match self.first_refusal(member, &op) {
             None => self.perform(member, op),
-            Some(Refusal::Mismatch) => self.break_at(member, op),
-            Some(refusal) => Reply::Refused(refusal),
+            Some(refusal) => self.refuse(member, op, refusal),
         }
     }
 

@@ -79,12 +79,17 @@ impl Board {
             unreachable!()
         };
         self.groups.close(task);
-        self.history.push_reserved(Event::GroupEnd { group, member });
+        self.history
+            .push_reserved(Event::GroupEnd { group, member });
     }
 }
 
 /// Makes memory for so many more events, and for one more group.
-fn reserve_group(history: &mut Vec<Event>, space: usize, groups: &mut Groups) -> Result<(), AllocError>
+fn reserve_group(
+    history: &mut Vec<Event>,
+    space: usize,
+    groups: &mut Groups,
+) -> Result<(), AllocError>
     ensures history { history.new.items ≡ history.old.items }
     ensures grows { vec_capacity history.old ≤ vec_capacity history.new }
     ensures space { OnOk result (vec_len history.old + space ≤ vec_capacity history.new) }

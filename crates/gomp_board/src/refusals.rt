@@ -51,9 +51,7 @@ impl Board {
             Op::Arrive(tag) => self.arrival_refusal(member, *tag),
             Op::AwaitBarrier => first(!self.awaits_barrier(member), Refusal::NotInside, None),
             Op::Reserve(more) => self.reserve_refusal(member, *more),
-            Op::Break(place) => {
-                first(!matches!(place, Place::Stopped), Refusal::Mismatch, None)
-            }
+            Op::Break(place) => { first(!matches!(place, Place::Stopped), Refusal::Mismatch, None) }
         }
     }
 

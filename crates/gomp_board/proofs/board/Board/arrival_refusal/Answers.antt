@@ -9,8 +9,10 @@ use Rattle.gomp_board.specs.Ops.{arrival_asks}
 use Rattle.gomp_board.proofs.board.Board.arrival_refusal.Goals as goal
 
 pub returns : goal.returns
-returns c = record { value = λ h st.
-    let now = c.args.self.now in let m = c.args.member in let tag = c.args.tag in
-    let other : c.first-other.result ≡ first_refusal ((tag_differs tag (tag_at (barriers_passed m h) h), Mismatch) ∷ room_tests now.limits now.room (arrival_asks tag.kind (kept_by m now))) =
-    rw (c.first-other.ensures, c.first-full.ensures, c.differs.ensures.value h st, c.lacks_room.ensures, c.arrival_room-asked.ensures) refl in
-    rw (c.first.ensures, c.first-inside.ensures, c.end_refusal-open.ensures.value h ((tag_differs tag (tag_at (barriers_passed m h) h), Mismatch) ∷ room_tests now.limits now.room (arrival_asks tag.kind (kept_by m now))) st other, c.awaits_barrier.ensures.value h st, c.in_task.ensures.value h st) refl }
+returns c = record {
+  value = λ h st.
+      let now = c.args.self.now in let m = c.args.member in let tag = c.args.tag in
+      let other : c.first-other.result ≡ first_refusal ((tag_differs tag (tag_at (barriers_passed m h) h), Mismatch) ∷ room_tests now.limits now.room (arrival_asks tag.kind (kept_by m now))) =
+      rw (c.first-other.ensures, c.first-full.ensures, c.differs.ensures.value h st, c.lacks_room.ensures, c.arrival_room-asked.ensures) refl in
+      rw (c.first.ensures, c.first-inside.ensures, c.end_refusal-open.ensures.value h ((tag_differs tag (tag_at (barriers_passed m h) h), Mismatch) ∷ room_tests now.limits now.room (arrival_asks tag.kind (kept_by m now))) st other, c.awaits_barrier.ensures.value h st, c.in_task.ensures.value h st) refl;
+}

@@ -15,15 +15,17 @@ use Rattle.gomp_board.proofs.ArrivalPerformed.{arrival_performed}
 use Rattle.gomp_board.proofs.board.Board.arrive.Goals as goal
 
 pub make_room-requires : goal.make_room-requires
-make_room-requires c = record { few =
-    let b = the_view c.self.inside in
-    let low = subst (λ (v : BoardView). c.args.member < members_of v) (sym c.self.view_is) c.requires.member in
-    let admitted = subst (λ (v : BoardView). IsAdmitted (Arrive c.args.tag) c.args.member v) (sym c.self.view_is) c.requires.admitted in
-    let asked : c.arrival_asks-asked.result ≡ arrival_asks c.args.tag.kind (kept_by c.args.member b) =
-        c.arrival_asks-asked.ensures ∙ ap (arrival_asks c.args.tag.kind) (c.index.ensures ∙ get_or_default c.self.inside.kept.items c.args.member _ 0 low) in
-    let small = arrival_stays_small _ c.args.member c.args.tag b c.self.invariant (omega arith) admitted in
-    let room : c.args.self.now.room ≡ b.room = ap (λ (v : BoardView). v.room) (sym c.self.view_is) in
-    omega (arith, small, room, asked) }
+make_room-requires c = record {
+  few =
+      let b = the_view c.self.inside in
+      let low = subst (λ (v : BoardView). c.args.member < members_of v) (sym c.self.view_is) c.requires.member in
+      let admitted = subst (λ (v : BoardView). IsAdmitted (Arrive c.args.tag) c.args.member v) (sym c.self.view_is) c.requires.admitted in
+      let asked : c.arrival_asks-asked.result ≡ arrival_asks c.args.tag.kind (kept_by c.args.member b) =
+      c.arrival_asks-asked.ensures ∙ ap (arrival_asks c.args.tag.kind) (c.index.ensures ∙ get_or_default c.self.inside.kept.items c.args.member _ 0 low) in
+      let small = arrival_stays_small _ c.args.member c.args.tag b c.self.invariant (omega arith) admitted in
+      let room : c.args.self.now.room ≡ b.room = ap (λ (v : BoardView). v.room) (sym c.self.view_is) in
+      omega (arith, small, room, asked);
+}
 
 pub note_arrival-requires : goal.note_arrival-requires
 note_arrival-requires c =
@@ -32,7 +34,7 @@ note_arrival-requires c =
     let low = subst (λ (v : BoardView). c.args.member < members_of v) (sym c.self.view_is) c.requires.member in
     let kept : kept_by c.args.member (the_view c.self.inside) ≡ kept_by c.args.member now = ap (λ (v : BoardView). kept_by c.args.member v) c.self.view_is in
     let asked : more ≡ arrival_asks c.args.tag.kind (kept_by c.args.member now) =
-        c.arrival_asks-asked.ensures ∙ ap (arrival_asks c.args.tag.kind) (c.index.ensures ∙ get_or_default c.self.inside.kept.items c.args.member _ 0 low ∙ kept) in
+    c.arrival_asks-asked.ensures ∙ ap (arrival_asks c.args.tag.kind) (c.index.ensures ∙ get_or_default c.self.inside.kept.items c.args.member _ 0 low ∙ kept) in
     let made : c.make_room.new.self ≡ record now { room = now.room + more } = c.in-Ok.ensures.room in
     record {
       member = rw made c.requires.member;
@@ -52,7 +54,7 @@ returns-in-Err c =
     let low = subst (λ (v : BoardView). c.args.member < members_of v) (sym c.self.view_is) c.requires.member in
     let kept : kept_by c.args.member (the_view c.self.inside) ≡ kept_by c.args.member now = ap (λ (v : BoardView). kept_by c.args.member v) c.self.view_is in
     let asked : c.arrival_asks-asked.result ≡ arrival_asks c.args.tag.kind (kept_by c.args.member now) =
-        c.arrival_asks-asked.ensures ∙ ap (arrival_asks c.args.tag.kind) (c.index.ensures ∙ get_or_default c.self.inside.kept.items c.args.member _ 0 low ∙ kept) in
+    c.arrival_asks-asked.ensures ∙ ap (arrival_asks c.args.tag.kind) (c.index.ensures ∙ get_or_default c.self.inside.kept.items c.args.member _ 0 low ∙ kept) in
     record { performs = nothing_made (Arrive c.args.tag) c.args.member now c.make_room.new.self c.arrival_asks-asked.result asked c.requires.admitted c.in-Err.ensures.err c.in-Err.ensures.there }
 
 pub returns-in-Ok : goal.returns-in-Ok
@@ -62,8 +64,10 @@ returns-in-Ok c =
     let low = subst (λ (v : BoardView). c.args.member < members_of v) (sym c.self.view_is) c.requires.member in
     let kept : kept_by c.args.member (the_view c.self.inside) ≡ kept_by c.args.member now = ap (λ (v : BoardView). kept_by c.args.member v) c.self.view_is in
     let asked : more ≡ arrival_asks c.args.tag.kind (kept_by c.args.member now) =
-        c.arrival_asks-asked.ensures ∙ ap (arrival_asks c.args.tag.kind) (c.index.ensures ∙ get_or_default c.self.inside.kept.items c.args.member _ 0 low ∙ kept) in
+    c.arrival_asks-asked.ensures ∙ ap (arrival_asks c.args.tag.kind) (c.index.ensures ∙ get_or_default c.self.inside.kept.items c.args.member _ 0 low ∙ kept) in
     let made : c.make_room.new.self ≡ record now { room = now.room + more } = c.in-Ok.ensures.room in
-    record { performs = arrival_performed c.args.tag c.args.member more now c.make_room.new.self c.note_arrival.new.self c.await_pass.new.self c.await_pass.result c.requires.admitted asked made
-        c.note_arrival.ensures.stands c.note_arrival.ensures.limits c.note_arrival.ensures.room c.note_arrival.ensures.kept
-        c.await_pass.ensures.known c.await_pass.ensures.answer c.await_pass.ensures.stands c.await_pass.ensures.limits c.await_pass.ensures.room c.await_pass.ensures.kept }
+    record {
+      performs = arrival_performed c.args.tag c.args.member more now c.make_room.new.self c.note_arrival.new.self c.await_pass.new.self c.await_pass.result c.requires.admitted asked made
+          c.note_arrival.ensures.stands c.note_arrival.ensures.limits c.note_arrival.ensures.room c.note_arrival.ensures.kept
+          c.await_pass.ensures.known c.await_pass.ensures.answer c.await_pass.ensures.stands c.await_pass.ensures.limits c.await_pass.ensures.room c.await_pass.ensures.kept;
+    }

@@ -18,11 +18,13 @@ note_break-requires c =
     record { whole = λ h st. differing_unbroken b.limits b.room (kept_by c.args.member b) c.args.member c.args.op h (c.requires.differs h st) }
 
 pub returns : goal.returns
-returns c = record { performs =
-    let there : (h : List Event) → Stands c.args.self.now h → c.match-op.place ≡ op_place c.args.member c.args.op h = λ h st0.
-        let st = stands_too _ _ h c.self.view_is st0 in
-        elim c.match-op.branch [
-          | in-Break w ↦ rw w.in-Break.is w.place-is
-          | in_default w ↦ w.place-is ∙ ap (λ (s : AtBarrier). Barrier s.number) (w.look.ensures.value h st.barriers) ∙ sym (place_of_others c.args.op c.args.member h w.in_default.not-Break)
-        ] in
-    broke c.args.op c.args.member c.match-op.place c.args.self.now c.note_break.new.self c.requires.differs there c.note_break.ensures.stands c.note_break.ensures.limits c.note_break.ensures.room c.note_break.ensures.kept }
+returns c = record {
+  performs =
+      let there : (h : List Event) → Stands c.args.self.now h → c.match-op.place ≡ op_place c.args.member c.args.op h = λ h st0.
+      let st = stands_too _ _ h c.self.view_is st0 in
+      elim c.match-op.branch [
+        | in-Break w ↦ rw w.in-Break.is w.place-is
+        | in_default w ↦ w.place-is ∙ ap (λ (s : AtBarrier). Barrier s.number) (w.look.ensures.value h st.barriers) ∙ sym (place_of_others c.args.op c.args.member h w.in_default.not-Break)
+      ] in
+      broke c.args.op c.args.member c.match-op.place c.args.self.now c.note_break.new.self c.requires.differs there c.note_break.ensures.stands c.note_break.ensures.limits c.note_break.ensures.room c.note_break.ensures.kept;
+}

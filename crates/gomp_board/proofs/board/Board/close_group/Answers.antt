@@ -16,10 +16,18 @@ close-requires c =
     let low = subst (λ (v : BoardView). m < members_of v) (sym c.self.view_is) c.requires.member in
     let current = c.current-task.ensures.value own st.tasks in
     let done = c.requires.done own (subst (λ (v : BoardView). Stands v own) c.self.view_is st) in
-    record { may = (own, c.in-Some.group, m, st.groups, record {
-      current = sym current;
-      rule = may_end_group _ m c.in-Some.group c.current-task.result c.last_open.result own (group_member b m c.self.invariant.members low) current (c.last_open.ensures.value own st.groups) c.in-Some.is done;
-    }) }
+    record {
+      may = (
+        own,
+        c.in-Some.group,
+        m,
+        st.groups,
+        record {
+          current = sym current;
+          rule = may_end_group _ m c.in-Some.group c.current-task.result c.last_open.result own (group_member b m c.self.invariant.members low) current (c.last_open.ensures.value own st.groups) c.in-Some.is done;
+        },
+      );
+    }
 
 pub push_reserved-requires : goal.push_reserved-requires
 push_reserved-requires c =

@@ -64,24 +64,26 @@ returns c =
     let longer = c.push_reserved.ensures.items ∙ ap (λ (es : List Event). es ++ Create t m p desc ∷ []) c.reserve_task.ensures.history in
     let more = c.put.ensures.ids ∙ ap (λ (ids : List ℕ). ids ++ t ∷ []) (ap (λ (v : ReadyView). v.ids) c.reserve_task.ensures.ready) in
     let room : b.room ≡ now.room = ap (λ (v : BoardView). v.room) c.self.view_is in
-    record { performs = performed (CreateOp desc) m now _ (Created t) tt c.requires.admitted
-    (λ h now_st.
-    let st = subst (λ (v : BoardView). Stands v h) (sym c.self.view_is) now_st in
-    let tasks = more_room c.self.inside.tasks c.reserve_task.new.tasks h c.reserve_task.ensures.tasks st.tasks in
-    ap Created (next_number c.reserve_task.new.tasks c.create-task.new.self t h tasks c.create-task.ensures.number c.create-task.ensures.count))
-    (λ h now_st.
-    let st = subst (λ (v : BoardView). Stands v h) (sym c.self.view_is) now_st in
-    let current = c.current-parent.ensures.value h now_st in let parity = c.child_is_odd-odd.ensures.value h now_st in
-    let tasks = more_room c.self.inside.tasks c.reserve_task.new.tasks h c.reserve_task.ensures.tasks st.tasks in
-    let groups = more_task_room c.self.inside.groups c.reserve_task.new.groups h c.reserve_task.ensures.groups st.groups in
-    let number = next_number c.reserve_task.new.tasks c.create-task.new.self t h tasks c.create-task.ensures.number c.create-task.ensures.count in
-    let next = c.create-task.ensures.stands h tasks (creates_next now b c.reserve_task.new.tasks m c.child_is_odd-odd.result desc h c.self.view_is c.requires.admitted (omega (arith, in_tasks, same_tasks)) tasks parity st) in
-    let may = creates_so now b m (group_members c.reserve_task.new.groups) desc h c.self.view_is c.requires.admitted (omega (arith, in_groups, same_groups)) st in
-    let next_groups = c.create.ensures.stands h m desc groups (subst (λ (q : Task). MayCreate (group_members c.reserve_task.new.groups) (suc (tasks_created h)) m q h) (sym current) may) in
-    let next_barriers = c.bind.ensures.stands h (suc (tasks_created h)) m p desc st.barriers (binds b m p c.child_is_odd-odd.result h c.self.invariant.members low current parity st) in
-    let stands = created_stands b c.push_reserved.new.self.items (c.self.inside.room + 3) c.create-task.new.self c.create.new.self c.bind.new.self c.put.new.self.ids t m p desc h longer more number
-    (subst (λ (q : Task). TasksStand c.create-task.new.self (Create t m q desc ∷ h)) (sym current) next)
-    (subst (λ (n : ℕ). GroupsStand c.create.new.self (Create n m p desc ∷ h)) (sym number) next_groups)
-    (subst (λ (n : ℕ). BarriersStand c.bind.new.self (Create n m p desc ∷ h)) (sym number) next_barriers) st in
-    rw (← number, ← current) stands)
-    (ap (λ (v : BoardView). v.limits) c.self.view_is) (ap (λ (n : ℕ). n + 3) room) (ap (λ (v : BoardView). v.kept) c.self.view_is ∙ sym (set_same now.kept m)) }
+    record {
+      performs = performed (CreateOp desc) m now _ (Created t) tt c.requires.admitted
+          (λ h now_st.
+          let st = subst (λ (v : BoardView). Stands v h) (sym c.self.view_is) now_st in
+          let tasks = more_room c.self.inside.tasks c.reserve_task.new.tasks h c.reserve_task.ensures.tasks st.tasks in
+          ap Created (next_number c.reserve_task.new.tasks c.create-task.new.self t h tasks c.create-task.ensures.number c.create-task.ensures.count))
+          (λ h now_st.
+          let st = subst (λ (v : BoardView). Stands v h) (sym c.self.view_is) now_st in
+          let current = c.current-parent.ensures.value h now_st in let parity = c.child_is_odd-odd.ensures.value h now_st in
+          let tasks = more_room c.self.inside.tasks c.reserve_task.new.tasks h c.reserve_task.ensures.tasks st.tasks in
+          let groups = more_task_room c.self.inside.groups c.reserve_task.new.groups h c.reserve_task.ensures.groups st.groups in
+          let number = next_number c.reserve_task.new.tasks c.create-task.new.self t h tasks c.create-task.ensures.number c.create-task.ensures.count in
+          let next = c.create-task.ensures.stands h tasks (creates_next now b c.reserve_task.new.tasks m c.child_is_odd-odd.result desc h c.self.view_is c.requires.admitted (omega (arith, in_tasks, same_tasks)) tasks parity st) in
+          let may = creates_so now b m (group_members c.reserve_task.new.groups) desc h c.self.view_is c.requires.admitted (omega (arith, in_groups, same_groups)) st in
+          let next_groups = c.create.ensures.stands h m desc groups (subst (λ (q : Task). MayCreate (group_members c.reserve_task.new.groups) (suc (tasks_created h)) m q h) (sym current) may) in
+          let next_barriers = c.bind.ensures.stands h (suc (tasks_created h)) m p desc st.barriers (binds b m p c.child_is_odd-odd.result h c.self.invariant.members low current parity st) in
+          let stands = created_stands b c.push_reserved.new.self.items (c.self.inside.room + 3) c.create-task.new.self c.create.new.self c.bind.new.self c.put.new.self.ids t m p desc h longer more number
+          (subst (λ (q : Task). TasksStand c.create-task.new.self (Create t m q desc ∷ h)) (sym current) next)
+          (subst (λ (n : ℕ). GroupsStand c.create.new.self (Create n m p desc ∷ h)) (sym number) next_groups)
+          (subst (λ (n : ℕ). BarriersStand c.bind.new.self (Create n m p desc ∷ h)) (sym number) next_barriers) st in
+          rw (← number, ← current) stands)
+          (ap (λ (v : BoardView). v.limits) c.self.view_is) (ap (λ (n : ℕ). n + 3) room) (ap (λ (v : BoardView). v.kept) c.self.view_is ∙ sym (set_same now.kept m));
+    }

@@ -64,16 +64,18 @@ returns c =
     let now = c.args.self.now in let b = the_view c.self.inside in let m = c.args.member in let t = c.in-Some.task in
     let low = subst (λ (v : BoardView). m < members_of v) (sym c.self.view_is) c.requires.member in
     let room : b.room ≡ now.room = ap (λ (v : BoardView). v.room) c.self.view_is in
-    record { performs = performed EndTask m now _ (TaskDone t true) tt c.requires.admitted
-    (λ h now_st.
-    let st = subst (λ (v : BoardView). Stands v h) (sym c.self.view_is) now_st in
-    let current = executes m t c.finish.result h (c.finish.ensures.answer h st.tasks) c.in-Some.is in
-    subst (λ (p : Task). EndsTask p (TaskDone t true)) (sym current) refl)
-    (λ h now_st.
-    let st = subst (λ (v : BoardView). Stands v h) (sym c.self.view_is) now_st in
-    let current = executes m t c.finish.result h (c.finish.ensures.answer h st.tasks) c.in-Some.is in
-    let next = c.finish.ensures.stands h t c.in-Some.is st.tasks in
-    let groups = c.complete.ensures.stands h m st.groups (record { member = group_member b m c.self.invariant.members low; current = current }) in
-    let barriers = c.release.ensures.stands h t m st.barriers (releases b m t c.is_odd-odd.result h st current (c.is_odd-odd.ensures.value (Done t m ∷ h) next)) in
-    ended_stands b c.push_reserved.new.self.items c.finish.new.self c.complete.new.self c.release.new.self t m h c.push_reserved.ensures.items current next groups barriers st)
-    (ap (λ (v : BoardView). v.limits) c.self.view_is) (omega (arith, room)) (ap (λ (v : BoardView). v.kept) c.self.view_is ∙ sym (set_same now.kept m)) }
+    record {
+      performs = performed EndTask m now _ (TaskDone t true) tt c.requires.admitted
+          (λ h now_st.
+          let st = subst (λ (v : BoardView). Stands v h) (sym c.self.view_is) now_st in
+          let current = executes m t c.finish.result h (c.finish.ensures.answer h st.tasks) c.in-Some.is in
+          subst (λ (p : Task). EndsTask p (TaskDone t true)) (sym current) refl)
+          (λ h now_st.
+          let st = subst (λ (v : BoardView). Stands v h) (sym c.self.view_is) now_st in
+          let current = executes m t c.finish.result h (c.finish.ensures.answer h st.tasks) c.in-Some.is in
+          let next = c.finish.ensures.stands h t c.in-Some.is st.tasks in
+          let groups = c.complete.ensures.stands h m st.groups (record { member = group_member b m c.self.invariant.members low; current = current }) in
+          let barriers = c.release.ensures.stands h t m st.barriers (releases b m t c.is_odd-odd.result h st current (c.is_odd-odd.ensures.value (Done t m ∷ h) next)) in
+          ended_stands b c.push_reserved.new.self.items c.finish.new.self c.complete.new.self c.release.new.self t m h c.push_reserved.ensures.items current next groups barriers st)
+          (ap (λ (v : BoardView). v.limits) c.self.view_is) (omega (arith, room)) (ap (λ (v : BoardView). v.kept) c.self.view_is ∙ sym (set_same now.kept m));
+    }

@@ -27,7 +27,7 @@ invariant_of-self c =
     let arrived = subst (λ (b : Bool). BarriersStand c.arrive.new.self (arrived_after b c.args.member c.args.tag (reverse c.self.inside.history.items))) c.if-not-arrive.false (c.arrive.ensures.stands _ c.self.invariant.stands.barriers) in
     let next = subst (λ (g : ℕ). BarriersStand c.arrive.new.self (Arrive g c.args.member c.args.tag ∷ reverse c.self.inside.history.items)) (sym number) arrived in
     let kept : c.arrival_keeps.result ≡ arrival_keeps c.args.tag.kind (slice_index_or c.self.inside.kept.items c.args.member 0) =
-        c.arrival_keeps.ensures ∙ ap (arrival_keeps c.args.tag.kind) (c.index.ensures ∙ get_or_default c.self.inside.kept.items c.args.member _ 0 member) in
+    c.arrival_keeps.ensures ∙ ap (arrival_keeps c.args.tag.kind) (c.index.ensures ∙ get_or_default c.self.inside.kept.items c.args.member _ 0 member) in
     rw kept (arrived_board _ _ c.args.member c.look-barrier.result.number c.args.tag _ _ _ c.self.invariant member (first _ c.self.invariant.stands) spare c.push_reserved.ensures.items c.arrive.ensures.members next c.push_reserved.ensures.capacity)
 
 pub returns-clause-stands : goal.returns-clause-stands

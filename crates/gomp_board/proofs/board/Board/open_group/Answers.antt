@@ -35,11 +35,13 @@ returns c =
     let inside = group_member b m c.self.invariant.members low in
     let longer = c.push_reserved.ensures.items ∙ ap (λ (es : List Event). es ++ Group c.open-group.result m ∷ []) c.reserve_group.ensures.history in
     let room : b.room ≡ now.room = ap (λ (v : BoardView). v.room) c.self.view_is in
-    record { performs = performed OpenGroup m now _ Finished tt c.requires.admitted (λ h now_st. refl)
-    (λ h now_st.
-    let st = subst (λ (v : BoardView). Stands v h) (sym c.self.view_is) now_st in
-    let groups = more_group_room c.self.inside.groups c.reserve_group.new.groups h c.reserve_group.ensures.groups st.groups in
-    let next = c.open-group.ensures.stands h m groups (record { member = omega (arith, inside, same); current = sym (c.current-task.ensures.value h now_st) }) in
-    let number = c.open-group.ensures.number h groups in
-    rw (← number) (opened_stands b c.push_reserved.new.self.items (c.self.inside.room + 2) c.open-group.new.self c.open-group.result m h c.self.invariant.members low longer number next st))
-    (ap (λ (v : BoardView). v.limits) c.self.view_is) (ap (λ (n : ℕ). n + 2) room) (ap (λ (v : BoardView). v.kept) c.self.view_is ∙ sym (set_same now.kept m)) }
+    record {
+      performs = performed OpenGroup m now _ Finished tt c.requires.admitted (λ h now_st. refl)
+          (λ h now_st.
+          let st = subst (λ (v : BoardView). Stands v h) (sym c.self.view_is) now_st in
+          let groups = more_group_room c.self.inside.groups c.reserve_group.new.groups h c.reserve_group.ensures.groups st.groups in
+          let next = c.open-group.ensures.stands h m groups (record { member = omega (arith, inside, same); current = sym (c.current-task.ensures.value h now_st) }) in
+          let number = c.open-group.ensures.number h groups in
+          rw (← number) (opened_stands b c.push_reserved.new.self.items (c.self.inside.room + 2) c.open-group.new.self c.open-group.result m h c.self.invariant.members low longer number next st))
+          (ap (λ (v : BoardView). v.limits) c.self.view_is) (ap (λ (n : ℕ). n + 2) room) (ap (λ (v : BoardView). v.kept) c.self.view_is ∙ sym (set_same now.kept m));
+    }

@@ -12,12 +12,14 @@ use Rattle.gomp_board.proofs.Performed.{nothing_made, reserve_performed}
 use Rattle.gomp_board.proofs.board.Board.reserve.Goals as goal
 
 pub make_room-requires : goal.make_room-requires
-make_room-requires c = record { few =
-    let b = the_view c.self.inside in
-    let admitted = subst (λ (v : BoardView). IsAdmitted (Reserve c.args.more) c.args.member v) (sym c.self.view_is) c.requires.admitted in
-    let small = reserve_stays_small _ c.args.member c.args.more b c.self.invariant (omega arith) admitted in
-    let room : c.args.self.now.room ≡ b.room = ap (λ (v : BoardView). v.room) (sym c.self.view_is) in
-    omega (arith, small, room) }
+make_room-requires c = record {
+  few =
+      let b = the_view c.self.inside in
+      let admitted = subst (λ (v : BoardView). IsAdmitted (Reserve c.args.more) c.args.member v) (sym c.self.view_is) c.requires.admitted in
+      let small = reserve_stays_small _ c.args.member c.args.more b c.self.invariant (omega arith) admitted in
+      let room : c.args.self.now.room ≡ b.room = ap (λ (v : BoardView). v.room) (sym c.self.view_is) in
+      omega (arith, small, room);
+}
 
 pub invariant_of-self : goal.invariant_of-self
 invariant_of-self c =
@@ -27,7 +29,7 @@ invariant_of-self c =
     let low : c.args.member < members_of b = subst (λ (v : BoardView). c.args.member < members_of v) (sym made) c.requires.member in
     let low0 = subst (λ (v : BoardView). c.args.member < members_of v) (sym c.self.view_is) c.requires.member in
     let kept : c.index-kept.result.now ≡ kept_by c.args.member b =
-        c.index-kept.ensures ∙ get_or_default c.self.inside.kept.items c.args.member _ 0 low0 ∙ ap (λ (v : BoardView). kept_by c.args.member v) (c.self.view_is) ∙ ap (λ (v : BoardView). kept_by c.args.member v) (sym made) in
+    c.index-kept.ensures ∙ get_or_default c.self.inside.kept.items c.args.member _ 0 low0 ∙ ap (λ (v : BoardView). kept_by c.args.member v) (c.self.view_is) ∙ ap (λ (v : BoardView). kept_by c.args.member v) (sym made) in
     let spare = subst (λ (v : BoardView). HasSpare c.args.more v) (sym c.self-2.view_is) c.in-Ok.ensures.spare in
     rw kept (keeping_board _ c.args.member c.args.more b c.self-2.invariant low spare)
 
@@ -41,5 +43,5 @@ returns-in-Ok c =
     let made : b ≡ record now { room = now.room + c.args.more } = c.self-2.view_is ∙ c.in-Ok.ensures.room in
     let low0 = subst (λ (v : BoardView). c.args.member < members_of v) (sym c.self.view_is) c.requires.member in
     let kept : c.index-kept.result.now ≡ kept_by c.args.member now =
-        c.index-kept.ensures ∙ get_or_default c.self.inside.kept.items c.args.member _ 0 low0 ∙ ap (λ (v : BoardView). kept_by c.args.member v) c.self.view_is in
+    c.index-kept.ensures ∙ get_or_default c.self.inside.kept.items c.args.member _ 0 low0 ∙ ap (λ (v : BoardView). kept_by c.args.member v) c.self.view_is in
     record { performs = reserve_performed c.args.member c.args.more now b (c.index-kept.result.now + c.args.more) c.requires.admitted made (ap (λ (n : ℕ). n + c.args.more) kept) }

@@ -16,8 +16,10 @@ may_start-requires-clause-task c =
 pub returns-then-may_start : goal.returns-then-may_start
 returns-then-may_start c =
     let some = c.loop-place-test.true in let few = c.loop-place.auto.place in
-    record { cases = startable_at c.args.self.now (the_view c.self.inside) c.args.member (c.loop-place.place - 1) c.as_slice-ids.result.now c.self.view_is c.as_slice-ids.ensures (omega (arith, some, few))
-    (λ h st. sym (c.may_start.ensures.value h st.tasks (c.at_barrier-waits.ensures.value h st.barriers)) ∙ c.if-may_start.true) }
+    record {
+      cases = startable_at c.args.self.now (the_view c.self.inside) c.args.member (c.loop-place.place - 1) c.as_slice-ids.result.now c.self.view_is c.as_slice-ids.ensures (omega (arith, some, few))
+          (λ h st. sym (c.may_start.ensures.value h st.tasks (c.at_barrier-waits.ensures.value h st.barriers)) ∙ c.if-may_start.true);
+    }
 
 pub loop-place-preserved : goal.loop-place-preserved
 loop-place-preserved c = λ h st.

@@ -11,7 +11,9 @@ pub note_break-requires : goal.note_break-requires
 note_break-requires c = record { whole = λ h st. unbroken_of (Break c.args.place) c.args.member c.args.self.now c.requires.admitted h st }
 
 pub returns : goal.returns
-returns c = record { performs =
-    let room = c.note_break.ensures.room in
-    performed (Break c.args.place) c.args.member c.args.self.now c.note_break.new.self Stopped tt c.requires.admitted (λ h st. refl) c.note_break.ensures.stands c.note_break.ensures.limits (omega (arith, room))
-    (c.note_break.ensures.kept ∙ sym (set-get_or c.args.self.now.kept c.args.member 0)) }
+returns c = record {
+  performs =
+      let room = c.note_break.ensures.room in
+      performed (Break c.args.place) c.args.member c.args.self.now c.note_break.new.self Stopped tt c.requires.admitted (λ h st. refl) c.note_break.ensures.stands c.note_break.ensures.limits (omega (arith, room))
+      (c.note_break.ensures.kept ∙ sym (set-get_or c.args.self.now.kept c.args.member 0));
+}
