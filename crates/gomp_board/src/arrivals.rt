@@ -1,14 +1,13 @@
 //! Barriers, and breaks of the team. OpenMP API 5.2, section 15.3.
 
 ghost use Rattle.std.specs.Prelude.{◌≡◌, ◌<◌, ◌++◌, List, ◌∷◌, Some, None, reverse, slice_set};
-ghost use Rattle.gomp_types.specs.declared.refusal.Place.{Place as AnyPlace};
 ghost use Rattle.gomp_types.specs.declared.event.Event.{Event as AnyEvent};
 ghost use Rattle.gomp_types.specs.declared.event.Event.TheVariants.{Break as BreakEvent};
 ghost use Rattle.gomp_types.specs.declared.refusal.Refusal.TheVariants.{Mismatch};
 ghost use Rattle.gomp_types.specs.Events.{clash_of};
 ghost use Rattle.gomp_types.specs.Goals.{may_pass};
 ghost use Rattle.gomp_types.specs.TaskCalls.{AwaitsTasks};
-ghost use Rattle.gomp_board.specs.Ops.{arrival_asks, arrival_keeps, op_refusal, op_place, begun, passes_barrier};
+ghost use Rattle.gomp_board.specs.Ops.{arrival_asks, arrival_keeps, op_refusal, begun, passes_barrier};
 ghost use Rattle.gomp_board.specs.Boards.{HasSpare, ArrivesFirst, IsAdmitted, Performs, Stands, members_of, kept_by};
 ghost use Rattle.gomp_board.specs.declared.op.Op.TheVariants.{Arrive, AwaitBarrier, Break};
 

@@ -8,15 +8,14 @@ ghost use Rattle.gomp_types.specs.Limits.{capped_limits, IsTeamSize};
 ghost use Rattle.gomp_types.specs.Tasks.{executed_task};
 ghost use Rattle.gomp_types.specs.TaskCalls.{first_room};
 ghost use Rattle.gomp_types.specs.TaskRules.{TaskRule};
-ghost use Rattle.gomp_board.specs.Ops.{op_refusal};
-ghost use Rattle.gomp_board.specs.Boards.{Stands, IsAdmitted, Performs, members_of, kept_by};
+ghost use Rattle.gomp_board.specs.Boards.{Stands, IsAdmitted, Performs, members_of};
 
 use crate::op::Op;
 use gomp_barrier::Barriers;
 use gomp_groups::Groups;
 use gomp_ready::Ready;
 use gomp_tasks::Tasks;
-use gomp_types::{Clash, Event, Limits, Refusal, Reply, Task};
+use gomp_types::{Clash, Event, Limits, Reply, Task};
 use std::alloc::{AllocError, Global};
 use std::marker::Model;
 
