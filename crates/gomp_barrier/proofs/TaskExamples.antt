@@ -81,15 +81,15 @@ one_of_three P one two three (suc (suc zero)) is = two is
 one_of_three P one two three (suc (suc (suc zero))) is = three is
 one_of_three P one two three (suc (suc (suc (suc t)))) is = absurd (let high = created_high (suc (suc (suc (suc t)))) next_task is.0 in omega (arith, high))
 
-not_done : (t : ℕ) → 3 < t → is_complete t next_task ≡ false
-not_done t lt = rw (other_number 2 t (λ same. omega (arith, same, lt)), other_number 1 t (λ same. omega (arith, same, lt))) refl
+not_done_yet : (t : ℕ) → 3 < t → is_complete t next_task ≡ false
+not_done_yet t lt = rw (other_number 2 t (λ same. omega (arith, same, lt)), other_number 1 t (λ same. omega (arith, same, lt))) refl
 
 -- two tasks are complete, and one is bound to the barrier after the front
 pub counts_stand : TasksStand (bound_with 0 1) 0 next_task
 counts_stand = record {
   counted = both_counts (λ odd. open_bound odd next_task ≡ bound_count (bound_with 0 1) odd) refl refl;
   near = one_of_three (λ t. (0 ≤ epoch t next_task) × (epoch t next_task ≤ 0 + 1)) (λ is. absurd (let open' = is.1 in cc)) (λ is. absurd (let open' = is.1 in cc)) (λ is. (omega arith, omega arith));
-  unborn = not_done;
+  unborn = not_done_yet;
 }
 
 -- a complete task is counted as open

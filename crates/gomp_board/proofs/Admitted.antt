@@ -75,5 +75,5 @@ pub open_room : (limits : Limits) (room kept m : ℕ) (h : List Event) → op_re
 open_room limits room kept m h fine = ltb-false limits.events (room + group_room) (tests_fail limits room kept m OpenGroup h fine).1.0
 
 -- it ends one
-pub end_open : (limits : Limits) (room kept m : ℕ) (h : List Event) → op_refusal limits room kept m EndGroup h ≡ None → group_is_open m h ≡ true
-end_open limits room kept m h fine = not_false (group_is_open m h) (tests_fail limits room kept m EndGroup h fine).1.0
+pub end_finds_group_open : (limits : Limits) (room kept m : ℕ) (h : List Event) → op_refusal limits room kept m EndGroup h ≡ None → group_is_open m h ≡ true
+end_finds_group_open limits room kept m h fine = not_false (group_is_open m h) (tests_fail limits room kept m EndGroup h fine).1.0

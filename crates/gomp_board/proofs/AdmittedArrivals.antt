@@ -31,13 +31,13 @@ use Rattle.gomp_board.proofs.Waiting.{IsReply}
 member_fails : (limits : Limits) (room kept m : ℕ) (op : Op) (h : List Event) → op_refusal limits room kept m op h ≡ None → AllFail (member_tests m h)
 member_fails limits room kept m op h fine = fail_first (member_tests m h) (op_tests limits room kept m op h) (all_fail (member_tests m h ++ op_tests limits room kept m op h) fine)
 
-unbroken : (clash : Option Clash) → AllFail (broken_tests clash) → clash ≡ None
-unbroken None fails = refl
-unbroken (Some clash) fails = absurd (let broken : true ≡ false = fails.0 in cc)
+team_unbroken : (clash : Option Clash) → AllFail (broken_tests clash) → clash ≡ None
+team_unbroken None fails = refl
+team_unbroken (Some clash) fails = absurd (let broken : true ≡ false = fails.0 in cc)
 
 -- a team that lets an operation in is not broken
 pub admitted_unbroken : (limits : Limits) (room kept m : ℕ) (op : Op) (h : List Event) → op_refusal limits room kept m op h ≡ None → clash_of h ≡ None
-admitted_unbroken limits room kept m op h fine = unbroken (clash_of h) (member_fails limits room kept m op h fine).1
+admitted_unbroken limits room kept m op h fine = team_unbroken (clash_of h) (member_fails limits room kept m op h fine).1
 
 -- nor is one in which a construct differs
 differing_unbroken_by : (left : Bool) (clash : Option Clash) (rest : List Test) → least ((left, Ended) ∷ (broken_tests clash ++ rest)) ≡ Some Mismatch → clash ≡ None

@@ -12,7 +12,7 @@ use Rattle.gomp_board.specs.Boards.{BoardView, Stands, IsAdmitted, Performs, mem
 use Rattle.gomp_board.proofs.Waiting.{IsReply}
 use Rattle.gomp_board.proofs.Joined.{roomy_stands}
 use Rattle.gomp_board.proofs.AdmittedArrivals.{awaits_is_reply}
-use Rattle.gomp_board.proofs.Performed.{performed}
+use Rattle.gomp_board.proofs.Performed.{op_performed}
 
 pub arrival_performed : (tag : Tag) (m more : ℕ) (old made noted after : BoardView) (reply : Reply) → IsAdmitted (Arrive tag) m old → more ≡ arrival_asks tag.kind (kept_by m old) → made ≡ record old { room = old.room + more } →
     ((h : List Event) → Stands made h → Stands noted (begun m (Arrive tag) h)) → noted.limits ≡ made.limits → noted.room ≡ made.room → noted.kept ≡ slice_set made.kept m (arrival_keeps tag.kind (kept_by m made)) →
@@ -24,7 +24,7 @@ arrival_performed tag m more old made noted after reply admitted asks room_made 
     let size : members_of noted ≡ members_of old = ap length kept_is ∙ length-set old.kept m (arrival_keeps tag.kind (kept_by m old)) in
     let arrived : (h : List Event) → Stands old h → Stands noted (begun m (Arrive tag) h) = λ h st. notes h (subst (λ (v : BoardView). Stands v h) (sym room_made) (roomy_stands old (old.room + more) h st)) in
     let reply_is : IsReply reply = awaits_is_reply m (may_pass (members_of noted) m (reverse noted.history)) (reverse noted.history) reply (answer (reverse noted.history) own) in
-    performed (Arrive tag) m old after reply reply_is admitted
+    op_performed (Arrive tag) m old after reply reply_is admitted
     (λ h st. subst (λ (n : ℕ). AwaitsTasks m (may_pass n m (begun m (Arrive tag) h)) (begun m (Arrive tag) h) reply) size (answer (begun m (Arrive tag) h) (arrived h st)))
     (λ h st. passes (begun m (Arrive tag) h) (arrived h st)) (limits ∙ limits_noted ∙ ap (λ (v : BoardView). v.limits) room_made)
     (room ∙ room_noted ∙ ap (λ (v : BoardView). v.room) room_made ∙ ap (λ (n : ℕ). old.room + n) asks) (kept ∙ kept_is)

@@ -1,4 +1,4 @@
--- A group that is open was not ended, and is open in one task alone.
+-- A group that is open was not group_ended_once, and is open in one task alone.
 use Rattle.std.proofs.Common.{◌≡◌, ◌≢◌, ℕ, ◌+◌, ◌<◌, Bool, true, false, List, [], ◌∷◌, Some, refl, ap, sym, ◌∙◌, arith, inl, inr}
 use Rattle.std.specs.Prelude.{◌||◌, ◌==◌, if◌then◌else◌, Option, None}
 use Rattle.std.proofs.lemmas.Bool.{cases_Bool}
@@ -14,7 +14,7 @@ use Rattle.gomp_types.proofs.Booleans.{or_tells, same_number, other_number, is_e
 use Rattle.gomp_board.specs.ReadyTasks.{Apart}
 use Rattle.gomp_board.specs.Owed.{has_group_ended}
 
--- the task that opened the group
+-- the task that group_opened_before the group
 abbrev opener_of : ℕ → List Event → Option Task
 opener_of q [] = None
 opener_of q (Group group member ∷ earlier) = if group == q then Some (executed_task member earlier) else opener_of q earlier
@@ -28,7 +28,7 @@ record IsOpenIn (p : Task) (q : ℕ) (h : List Event) : Type 0 where
 
 -- and of the groups of all tasks
 record AreOpen (h : List Event) : Type 0 where
-  ended : (q : ℕ) → has_group_ended q h ≡ true → q < groups_opened h
+  group_ended_once : (q : ℕ) → has_group_ended q h ≡ true → q < groups_opened h
   each : (p : Task) (q : ℕ) → contains q (open_groups p h) ≡ true → IsOpenIn p q h
   apart : (p : Task) → Apart (open_groups p h)
 
@@ -42,14 +42,14 @@ false_unless : (b : Bool) → (b ≡ true → ⊥) → b ≡ false
 false_unless true never = absurd (never refl)
 false_unless false never = refl
 
--- a group that was not opened is in no list, and was not ended
-not_ended : (q : ℕ) (h : List Event) → AreOpen h → (q < groups_opened h → ⊥) → has_group_ended q h ≡ false
-not_ended q h known new = false_unless (has_group_ended q h) (λ is. new (known.ended q is))
+-- a group that was not group_opened_before is in no list, and was not group_ended_once
+group_not_ended : (q : ℕ) (h : List Event) → AreOpen h → (q < groups_opened h → ⊥) → has_group_ended q h ≡ false
+group_not_ended q h known new = false_unless (has_group_ended q h) (λ is. new (known.ended q is))
 
 not_open : (p : Task) (q : ℕ) (h : List Event) → AreOpen h → (q < groups_opened h → ⊥) → contains q (open_groups p h) ≡ false
 not_open p q h known new = false_unless (contains q (open_groups p h)) (λ is. new (known.each p q is).number)
 
--- after a group was opened
+-- after a group was group_opened_before
 opened_each : (p : Task) (q group member : ℕ) (h : List Event) → AreOpen h → group ≡ groups_opened h → (b : Bool) → same_task (executed_task member h) p ≡ b →
     contains q (if b then group ∷ open_groups p h else open_groups p h) ≡ true → IsOpenIn p q (Group group member ∷ h)
 opened_each p q group member h known number b is there =
@@ -71,7 +71,7 @@ opened_each p q group member h known number b is there =
     mine : (b : Bool) → same_task (executed_task member h) p ≡ b → contains q (if b then group ∷ open_groups p h else open_groups p h) ≡ true → group ≡ q → (group == q) ≡ true → IsOpenIn p q (Group group member ∷ h)
     mine true is within e same = record {
       number = omega (arith, e, number);
-      lasting = not_ended q h known (λ low. omega (arith, e, number, low));
+      lasting = group_not_ended q h known (λ low. omega (arith, e, number, low));
       opener = rw same (ap Some (one_task (executed_task member h) p is));
     }
     mine false is within e same = absurd (not_both (contains q (open_groups p h)) within (not_open p q h known (λ low. omega (arith, e, number, low))))
@@ -80,21 +80,21 @@ opened_apart : (p : Task) (group : ℕ) (h : List Event) → AreOpen h → group
 opened_apart p group h known number true = (not_open p group h known (λ low. omega (arith, number, low)), known.apart p)
 opened_apart p group h known number false = known.apart p
 
-opened : (group member : ℕ) (h : List Event) → AreOpen h → group ≡ groups_opened h → AreOpen (Group group member ∷ h)
-opened group member h known number = record {
+group_opened_before : (group member : ℕ) (h : List Event) → AreOpen h → group ≡ groups_opened h → AreOpen (Group group member ∷ h)
+group_opened_before group member h known number = record {
   ended = λ q is. let low = known.ended q is in omega (arith, low);
   each = λ p q there. opened_each p q group member h known number (same_task (executed_task member h) p) refl there;
   apart = λ p. opened_apart p group h known number (same_task (executed_task member h) p);
 }
 
--- after one was ended
+-- after one was group_ended_once
 rest_apart : (qs : List ℕ) → Apart qs → Apart (after_first qs)
 rest_apart [] all = tt
 rest_apart (q ∷ qs) all = all.1
 
-in_rest : (q : ℕ) (qs : List ℕ) → contains q (after_first qs) ≡ true → contains q qs ≡ true
-in_rest q [] e = e
-in_rest q (x ∷ xs) e = elim (cases_Bool (x == q)) [ inl same ↦ rw same refl | inr other ↦ rw other e ]
+in_outer_groups : (q : ℕ) (qs : List ℕ) → contains q (after_first qs) ≡ true → contains q qs ≡ true
+in_outer_groups q [] e = e
+in_outer_groups q (x ∷ xs) e = elim (cases_Bool (x == q)) [ inl same ↦ rw same refl | inr other ↦ rw other e ]
 
 head_open : (q : ℕ) (outer qs : List ℕ) → qs ≡ q ∷ outer → contains q qs ≡ true
 head_open q outer qs e = rw (e, same_number q) refl
@@ -112,7 +112,7 @@ ended_each p q group member outer h known last b is there =
     ]
   where
     older : (b : Bool) → contains q (if b then after_first (open_groups p h) else open_groups p h) ≡ true → contains q (open_groups p h) ≡ true
-    older true within = in_rest q (open_groups p h) within
+    older true within = in_outer_groups q (open_groups p h) within
     older false within = within
 
     gone : (b : Bool) → same_task (executed_task member h) p ≡ b → contains q (if b then after_first (open_groups p h) else open_groups p h) ≡ true → group ≡ q → ⊥
@@ -135,8 +135,8 @@ ended_apart : (p : Task) (h : List Event) → AreOpen h → (b : Bool) → Apart
 ended_apart p h known true = rest_apart (open_groups p h) (known.apart p)
 ended_apart p h known false = known.apart p
 
-ended : (group member : ℕ) (outer : List ℕ) (h : List Event) → AreOpen h → open_groups (executed_task member h) h ≡ group ∷ outer → AreOpen (GroupEnd group member ∷ h)
-ended group member outer h known last = record {
+group_ended_once : (group member : ℕ) (outer : List ℕ) (h : List Event) → AreOpen h → open_groups (executed_task member h) h ≡ group ∷ outer → AreOpen (GroupEnd group member ∷ h)
+group_ended_once group member outer h known last = record {
   ended = λ q is. elim (or_tells (group == q) (has_group_ended q h) is) [
     | inl same ↦ rw (← is_equal group q same) (known.each (executed_task member h) group (head_open group outer (open_groups (executed_task member h) h) last)).number
     | inr before ↦ known.ended q before
@@ -147,17 +147,17 @@ ended group member outer h known last = record {
 
 groups_open : (members : ℕ) (h : List Event) → Always (TaskRule members) h → AreOpen h
 groups_open members [] all = record { ended = λ q is. absurd (cc); each = λ p q there. absurd (cc); apart = λ p. tt }
-groups_open members (Group group member ∷ earlier) all = opened group member earlier (groups_open members earlier all.1) all.0.number
-groups_open members (GroupEnd group member ∷ earlier) all = ended group member all.0.outer earlier (groups_open members earlier all.1) all.0.last
+groups_open members (Group group member ∷ earlier) all = group_opened_before group member earlier (groups_open members earlier all.1) all.0.number
+groups_open members (GroupEnd group member ∷ earlier) all = group_ended_once group member all.0.outer earlier (groups_open members earlier all.1) all.0.last
 groups_open members (_ ∷ earlier) all =
     let was = groups_open members earlier all.1 in
     record { ended = was.ended; each = λ p q there. let is = was.each p q there in record { number = is.number; lasting = is.lasting; opener = is.opener }; apart = was.apart }
 
--- the group that is opened next was not ended
+-- the group that is group_opened_before next was not group_ended_once
 pub next_not_ended : (members : ℕ) (h : List Event) → Always (TaskRule members) h → has_group_ended (groups_opened h) h ≡ false
-next_not_ended members h all = not_ended (groups_opened h) h (groups_open members h all) (λ low. omega (arith, low))
+next_not_ended members h all = group_not_ended (groups_opened h) h (groups_open members h all) (λ low. omega (arith, low))
 
--- the last open group of a task was opened, and not ended
+-- the last open group of a task was group_opened_before, and not group_ended_once
 pub last_not_ended : (members q : ℕ) (p : Task) (outer : List ℕ) (h : List Event) → Always (TaskRule members) h → open_groups p h ≡ q ∷ outer → (q < groups_opened h) × (has_group_ended q h ≡ false)
 last_not_ended members q p outer h all last =
     let is = (groups_open members h all).each p q (head_open q outer (open_groups p h) last) in (is.number, is.lasting)

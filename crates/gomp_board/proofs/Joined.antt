@@ -30,8 +30,8 @@ pub stands_too : (view now : BoardView) (h : List Event) → view ≡ now → St
 stands_too view now h e st = subst (λ (v : BoardView). Stands v h) (sym e) st
 
 -- the task that a member executes is one of those that the groups know
-pub executed_seated : (space : ℕ) (board : BoardView) (m : ℕ) (task : Task) → IsBoard space board → m < members_of board → task ≡ executed_task m (reverse board.history) → IsSeated board.groups task
-executed_seated space board m task is low executes =
+pub executed_task_seated : (space : ℕ) (board : BoardView) (m : ℕ) (task : Task) → IsBoard space board → m < members_of board → task ≡ executed_task m (reverse board.history) → IsSeated board.groups task
+executed_task_seated space board m task is low executes =
     let members = is.members.groups in
     rw executes (executed_is_seated board.groups (reverse board.history) m (omega (arith, low, members)) is.stands.groups)
 
@@ -59,8 +59,8 @@ keeping_board space m more b is low spare =
     }
 
 -- the number that a member sees of its next barrier is that number itself
-pub number_is : (space m : ℕ) (b : BoardView) (seen : AtBarrier) (h : List Event) → IsBoard space b → b.room < 4294967296 → ((g : List Event) → BarriersStand b.barriers g → seen ≡ barrier_seen m g) → Stands b h → seen.number ≡ barriers_passed m h
-number_is space m b seen h is small sees st =
+pub barrier_number_is : (space m : ℕ) (b : BoardView) (seen : AtBarrier) (h : List Event) → IsBoard space b → b.room < 4294967296 → ((g : List Event) → BarriersStand b.barriers g → seen ≡ barrier_seen m g) → Stands b h → seen.number ≡ barriers_passed m h
+barrier_number_is space m b seen h is small sees st =
     let few = passed_within m (reverse b.history) in
     let size = length-reverse b.history in
     let enough = is.room in

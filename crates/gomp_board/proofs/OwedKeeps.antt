@@ -92,17 +92,17 @@ count_same : (n : ℕ) (p q : ℕ → Bool) → ((k : ℕ) → k < n → p k ≡
 count_same zero p q same = refl
 count_same (suc k) p q same = rw (same k (omega arith), count_same k p q (λ j low. same j (omega (arith, low)))) refl
 
-one_more : (b : Bool) (m n : ℕ) → m ≡ n + 1 → (if b then m + 1 else m) ≡ (if b then n + 1 else n) + 1
-one_more true m n e = ap (λ k. k + 1) e
-one_more false m n e = e
+counts_one_more : (b : Bool) (m n : ℕ) → m ≡ n + 1 → (if b then m + 1 else m) ≡ (if b then n + 1 else n) + 1
+counts_one_more true m n e = ap (λ k. k + 1) e
+counts_one_more false m n e = e
 
-count_less : (n x : ℕ) (p q : ℕ → Bool) → x < n → p x ≡ true → q x ≡ false → ((k : ℕ) → k ≢ x → p k ≡ q k) → count_below n p ≡ count_below n q + 1
-count_less zero x p q low is isnt same = absurd (omega arith)
-count_less (suc k) x p q low is isnt same =
+owed_count_less : (n x : ℕ) (p q : ℕ → Bool) → x < n → p x ≡ true → q x ≡ false → ((k : ℕ) → k ≢ x → p k ≡ q k) → count_below n p ≡ count_below n q + 1
+owed_count_less zero x p q low is isnt same = absurd (omega arith)
+owed_count_less (suc k) x p q low is isnt same =
     elim (cases_lt x k) [
       | inl below ↦
           let here : p k ≡ q k = same k (λ e. omega (arith, e, below)) in
-          rw here (one_more (q k) (count_below k p) (count_below k q) (count_less k x p q below is isnt same))
+          rw here (counts_one_more (q k) (count_below k p) (count_below k q) (owed_count_less k x p q below is isnt same))
       | inr past ↦
           let last : k ≡ x = omega (arith, past, low) in
           let in_p : p k ≡ true = rw last is in
@@ -117,7 +117,7 @@ opened_owes members m q h all = rw (add-one, next_not_ended members h all) refl
 ended_owes : (members m q : ℕ) (p : Task) (outer : List ℕ) (h : List Event) → Always (TaskRule members) h → open_groups p h ≡ q ∷ outer → owed_by_groups (GroupEnd q m ∷ h) + 1 ≡ owed_by_groups h
 ended_owes members m q p outer h all last =
     let is = last_not_ended members q p outer h all last in
-    sym (count_less (groups_opened h) q (λ k. not (has_group_ended k h)) (λ k. not (q == k || has_group_ended k h)) is.0
+    sym (owed_count_less (groups_opened h) q (λ k. not (has_group_ended k h)) (λ k. not (q == k || has_group_ended k h)) is.0
     (rw is.1 refl) (rw (same_number q) refl) (λ k differ. rw (other_number q k (λ e. differ (sym e))) refl))
 
 -- All

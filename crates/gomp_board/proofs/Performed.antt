@@ -14,7 +14,7 @@ use Rattle.gomp_board.specs.declared.op.Op.TheVariants.{Reserve}
 use Rattle.gomp_board.specs.Ops.{op_asks, op_keeps, op_gives, op_after, op_place, op_refusal, begun, asks_memory, OpReply}
 use Rattle.gomp_board.specs.Boards.{BoardView, Stands, IsSame, IsAdmitted, Performs, members_of, kept_by, room_after, kept_after}
 use Rattle.gomp_board.proofs.Joined.{keeping_stands}
-use Rattle.gomp_board.proofs.Waiting.{IsReply, answered, after_reply, not_refused}
+use Rattle.gomp_board.proofs.Waiting.{IsReply, op_answered, after_reply, not_refused}
 
 room_of_reply : (op : Op) (kept room : ℕ) (reply : Reply) → IsReply reply → room_after op kept reply room ≡ room + op_asks op kept
 room_of_reply op kept room (Refused refusal) is = absurd is
@@ -25,11 +25,11 @@ kept_of_reply op m board (Refused refusal) is = absurd is
 kept_of_reply op m board _ is = refl
 
 -- a reply that is no refusal
-pub performed : (op : Op) (m : ℕ) (board after : BoardView) (reply : Reply) → IsReply reply → IsAdmitted op m board → ((h : List Event) → Stands board h → OpReply (members_of board) m op (begun m op h) reply) →
+pub op_performed : (op : Op) (m : ℕ) (board after : BoardView) (reply : Reply) → IsReply reply → IsAdmitted op m board → ((h : List Event) → Stands board h → OpReply (members_of board) m op (begun m op h) reply) →
     ((h : List Event) → Stands board h → Stands after (op_gives m op (begun m op h) reply ++ begun m op h)) → after.limits ≡ board.limits → after.room ≡ board.room + op_asks op (kept_by m board) →
     after.kept ≡ slice_set board.kept m (op_keeps op (kept_by m board)) → Performs op m board after reply
-performed op m board after reply is admitted answer stands limits room kept = record {
-  answer = λ h st. answered board.limits board.room (kept_by m board) (members_of board) m op h reply is (admitted h st) (answer h st);
+op_performed op m board after reply is admitted answer stands limits room kept = record {
+  answer = λ h st. op_answered board.limits board.room (kept_by m board) (members_of board) m op h reply is (admitted h st) (answer h st);
   stands = λ h st. rw (after_reply m op reply h is) (stands h st);
   limits = limits;
   members = rw kept (length-set board.kept m (op_keeps op (kept_by m board)));
@@ -51,10 +51,10 @@ out_of_memory op m board after admitted asks same limits = record {
 }
 
 -- a construct that differs breaks the team there
-pub broke : (op : Op) (m : ℕ) (place : Place) (board after : BoardView) → ((h : List Event) → Stands board h → op_refusal board.limits board.room (kept_by m board) m op h ≡ Some refusals.Mismatch) →
+pub team_broke : (op : Op) (m : ℕ) (place : Place) (board after : BoardView) → ((h : List Event) → Stands board h → op_refusal board.limits board.room (kept_by m board) m op h ≡ Some refusals.Mismatch) →
     ((h : List Event) → Stands board h → place ≡ op_place m op h) → ((h : List Event) → Stands board h → Stands after (Break m place ∷ h)) → after.limits ≡ board.limits → after.room ≡ board.room → after.kept ≡ board.kept →
     Performs op m board after (Refused refusals.Mismatch)
-broke op m place board after differs there stands limits room kept = record {
+team_broke op m place board after differs there stands limits room kept = record {
   answer = λ h st. differs h st;
   stands = λ h st. subst (λ (p : Place). Stands after (Break m p ∷ h)) (there h st) (stands h st);
   limits = limits;
@@ -65,13 +65,13 @@ broke op m place board after differs there stands limits room kept = record {
 }
 
 -- room that is not made, so some was asked for
-positive : (n : ℕ) → (n ≡ 0 → false ≡ true) → nat_lt 0 n ≡ true
-positive zero never = absurd (let none : false ≡ true = never refl in cc)
-positive (suc n) never = grind (arith, nat_tests)
+asks_positive : (n : ℕ) → (n ≡ 0 → false ≡ true) → nat_lt 0 n ≡ true
+asks_positive zero never = absurd (let none : false ≡ true = never refl in cc)
+asks_positive (suc n) never = grind (arith, nat_tests)
 
-pub nothing_made : (op : Op) (m : ℕ) (board after : BoardView) (more : ℕ) → more ≡ op_asks op (kept_by m board) → IsAdmitted op m board → after ≡ board → (more ≡ 0 → false ≡ true) → Performs op m board after (Refused refusals.NoMemory)
-nothing_made op m board after more asks admitted same some =
-    let much : IsTrue (asks_memory op (kept_by m board)) = positive (op_asks op (kept_by m board)) (λ none. some (asks ∙ none)) in
+pub nothing_performed : (op : Op) (m : ℕ) (board after : BoardView) (more : ℕ) → more ≡ op_asks op (kept_by m board) → IsAdmitted op m board → after ≡ board → (more ≡ 0 → false ≡ true) → Performs op m board after (Refused refusals.NoMemory)
+nothing_performed op m board after more asks admitted same some =
+    let much : IsTrue (asks_memory op (kept_by m board)) = asks_positive (op_asks op (kept_by m board)) (λ none. some (asks ∙ none)) in
     out_of_memory op m board after admitted much
     (record { history = ap (λ (b : BoardView). b.history) same; room = ap (λ (b : BoardView). b.room) same; kept = ap (λ (b : BoardView). b.kept) same; stands = λ h st. subst (λ (b : BoardView). Stands b h) (sym same) st })
     (ap (λ (b : BoardView). b.limits) same)
@@ -80,6 +80,6 @@ nothing_made op m board after more asks admitted same some =
 pub reserve_performed : (m more : ℕ) (old made : BoardView) (n : ℕ) → IsAdmitted (Reserve more) m old → made ≡ record old { room = old.room + more } → n ≡ kept_by m old + more →
     Performs (Reserve more) m old (record made { kept = slice_set made.kept m n }) Finished
 reserve_performed m more old made n admitted room_made is =
-    performed (Reserve more) m old (record made { kept = slice_set made.kept m n }) Finished tt admitted (λ h st. refl)
+    op_performed (Reserve more) m old (record made { kept = slice_set made.kept m n }) Finished tt admitted (λ h st. refl)
     (λ h st. subst (λ (v : BoardView). Stands (record v { kept = slice_set v.kept m n }) h) (sym room_made) (keeping_stands old (old.room + more) (slice_set old.kept m n) h st))
     (ap (λ (v : BoardView). v.limits) room_made) (ap (λ (v : BoardView). v.room) room_made) (ap (λ (v : BoardView). slice_set v.kept m n) room_made ∙ ap (λ (k : ℕ). slice_set old.kept m k) is)

@@ -54,11 +54,11 @@ order_is_free = record { ready = λ t. turned (2 == t) (1 == t) ∙ both_are_rea
 pub second_is_left : AreReady (2 ∷ []) one_started
 second_is_left = started_ready 1 0 (1 ∷ 2 ∷ []) 0 two_created refl both_are_ready
 
-pub second_stays : AreReady (2 ∷ []) one_done
-second_stays = ended_ready 1 0 (2 ∷ []) one_started refl second_is_left
+pub second_task_stays : AreReady (2 ∷ []) one_done
+second_task_stays = ended_ready 1 0 (2 ∷ []) one_started refl second_is_left
 
 pub second_stays_in_a_break : AreReady (2 ∷ []) (Break 1 Stopped ∷ one_done)
-second_stays_in_a_break = aside_ready (Break 1 Stopped) (2 ∷ []) one_done tt second_stays
+second_stays_in_a_break = aside_ready (Break 1 Stopped) (2 ∷ []) one_done tt second_task_stays
 
 -- It has no task that was not created, and no number that is none
 pub not_created_is_in : AreReady (1 ∷ []) [] → ⊥

@@ -85,8 +85,8 @@ gives_nothing : (m : ℕ) (place : Place) (found : Refusal) → found ≢ Mismat
 gives_nothing m place Mismatch other = absurd (other refl)
 gives_nothing m place _ other = refl
 
-pub refused : (op : Op) (m : ℕ) (board : BoardView) (found : Refusal) → ((h : List Event) → Stands board h → op_refusal board.limits board.room (kept_by m board) m op h ≡ Some found) → found ≢ Mismatch → Performs op m board board (Refused found)
-refused op m board found refuses other = record {
+pub op_refused : (op : Op) (m : ℕ) (board : BoardView) (found : Refusal) → ((h : List Event) → Stands board h → op_refusal board.limits board.room (kept_by m board) m op h ≡ Some found) → found ≢ Mismatch → Performs op m board board (Refused found)
+op_refused op m board found refuses other = record {
   answer = λ h st. refusal_answers board.limits board.room (kept_by m board) (members_of board) m op h found (refuses h st);
   stands = λ h st. rw (gives_nothing m (op_place m op h) found other) st;
   limits = refl;

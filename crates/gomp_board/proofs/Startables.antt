@@ -18,8 +18,8 @@ get_at (x ∷ xs) zero low = refl
 get_at (x ∷ xs) (suc i) low = get_at xs i (omega arith)
 
 -- each number of the list is that of a task
-pub number_at : (b : BoardView) (ids : List ℕ) (place : ℕ) (h : List Event) → Stands b h → ids ≡ b.ready → place < length ids → IsNumber (slice_index_or ids place 0) b.tasks
-number_at b ids place h st same low =
+pub ready_number_at : (b : BoardView) (ids : List ℕ) (place : ℕ) (h : List Event) → Stands b h → ids ≡ b.ready → place < length ids → IsNumber (slice_index_or ids place 0) b.tasks
+ready_number_at b ids place h st same low =
     let at = get_at b.ready place (subst (λ (xs : List ℕ). place < length xs) same low) in
     let ready = ready_at b.ready place (slice_index_or b.ready place 0) h st.ready at in
     let t = slice_index_or b.ready place 0 in
@@ -40,14 +40,14 @@ NoneFrom m from ids h = (place : ℕ) → from ≤ place → place < length ids 
 pub none_at_end : (m : ℕ) (ids : List ℕ) (h : List Event) → NoneFrom m (length ids) ids h
 none_at_end m ids h = λ place low high. absurd (omega (arith, low, high))
 
-pub none_before : (m from : ℕ) (ids : List ℕ) (h : List Event) → 0 < from → NoneFrom m from ids h → may_start m (slice_index_or ids (from - 1) 0) h ≡ false → NoneFrom m (from - 1) ids h
-none_before m from ids h some rest here = λ place low high.
+pub none_ready_before : (m from : ℕ) (ids : List ℕ) (h : List Event) → 0 < from → NoneFrom m from ids h → may_start m (slice_index_or ids (from - 1) 0) h ≡ false → NoneFrom m (from - 1) ids h
+none_ready_before m from ids h some rest here = λ place low high.
     elim (cases_lt place from) [
       | inl below ↦ let same : place ≡ from - 1 = omega (arith, some, low, below) in rw same here
       | inr past ↦ rest place past high
     ]
 
-pub none_at_all : (now b : BoardView) (m from : ℕ) (ids : List ℕ) → b ≡ now → ids ≡ b.ready → from ≤ 0 → ((h : List Event) → Stands now h → NoneFrom m from ids h) → MayStartNone m now
-none_at_all now b m from ids e same zero-from none = λ h st.
+pub none_ready_at_all : (now b : BoardView) (m from : ℕ) (ids : List ℕ) → b ≡ now → ids ≡ b.ready → from ≤ 0 → ((h : List Event) → Stands now h → NoneFrom m from ids h) → MayStartNone m now
+none_ready_at_all now b m from ids e same zero-from none = λ h st.
     let own = subst (λ (v : BoardView). Stands v h) (sym e) st in
     none_startable m b.ready h own.ready (λ place low. subst (λ (xs : List ℕ). may_start m (slice_index_or xs place 0) h ≡ false) same (none h st place (omega (arith, zero-from)) (subst (λ (xs : List ℕ). place < length xs) (sym same) low)))

@@ -23,9 +23,9 @@ tested_outside_tasks = refl
 pub lists_with_some : map has_some ([] ∷ (0 ∷ []) ∷ (2 ∷ 1 ∷ []) ∷ []) ≡ false ∷ true ∷ true ∷ []
 lists_with_some = refl
 
-pub groups_that_are_open :
+pub open_groups_are_told :
     map (group_is_open 0) ([] ∷ group_empty ∷ (GroupEnd 0 0 ∷ group_empty) ∷ (Start 1 0 ∷ group_ready) ∷ group_done ∷ (Group 0 1 ∷ []) ∷ []) ≡ false ∷ true ∷ false ∷ false ∷ true ∷ false ∷ []
-groups_that_are_open = refl
+open_groups_are_told = refl
 
 pub tested_for_open_groups : map (λ h. least (group_open_tests 0 h)) ([] ∷ group_empty ∷ []) ≡ None ∷ Some GroupOpen ∷ []
 tested_for_open_groups = refl

@@ -31,26 +31,26 @@ creates_next now b tasks m odd desc h e admitted low next parity st = record {
   odd_is = parity;
 }
 
-pub binds : (b : BoardView) (m : ℕ) (p : Task) (odd : Bool) (h : List Event) → HasMembers b → m < members_of b → p ≡ executed_task m h → odd ≡ is_odd (epoch_of_child (executed_task m h) h) → Stands b h → MayBind (barrier_members b.barriers) (suc (tasks_created h)) p odd h
-binds b m p odd h has low current parity st = record { number = refl; parent_is = parent_is b m p h has low current st; parity = rw current parity }
+pub create_binds : (b : BoardView) (m : ℕ) (p : Task) (odd : Bool) (h : List Event) → HasMembers b → m < members_of b → p ≡ executed_task m h → odd ≡ is_odd (epoch_of_child (executed_task m h) h) → Stands b h → MayBind (barrier_members b.barriers) (suc (tasks_created h)) p odd h
+create_binds b m p odd h has low current parity st = record { number = refl; parent_is = parent_is b m p h has low current st; parity = rw current parity }
 
 -- its number
-pub next_number : (tasks after : TasksView) (t : ℕ) (h : List Event) → TasksStand tasks h → t ≡ count_of after → count_of after ≡ count_of tasks + 1 → t ≡ suc (tasks_created h)
-next_number tasks after t h st number more = let count = st.count in omega (arith, count, number, more)
+pub next_task_number : (tasks after : TasksView) (t : ℕ) (h : List Event) → TasksStand tasks h → t ≡ count_of after → count_of after ≡ count_of tasks + 1 → t ≡ suc (tasks_created h)
+next_task_number tasks after t h st number more = let count = st.count in omega (arith, count, number, more)
 
 -- A task is ended
 
--- the member executes an explicit task
-pub never_implicit : (now b : BoardView) (m : ℕ) (found : Option ℕ) (h : List Event) → b ≡ now → IsAdmitted EndTask m now → Stands b h → executed_task m h ≡ task_or_implicit m found → found ≡ None → ⊥
-never_implicit now b m found h e admitted st current none =
+-- the member member_executes an explicit task
+pub never_the_implicit_task : (now b : BoardView) (m : ℕ) (found : Option ℕ) (h : List Event) → b ≡ now → IsAdmitted EndTask m now → Stands b h → executed_task m h ≡ task_or_implicit m found → found ≡ None → ⊥
+never_the_implicit_task now b m found h e admitted st current none =
     let fine = admitted h (subst (λ (v : BoardView). Stands v h) e st) in
     not_both (in_task m h) (end_within now.limits now.room (kept_by m now) m h fine) (out_of_tasks m m h (current ∙ ap (task_or_implicit m) none))
 
-pub executes : (m t : ℕ) (found : Option ℕ) (h : List Event) → executed_task m h ≡ task_or_implicit m found → found ≡ Some t → executed_task m h ≡ Explicit t
-executes m t found h current some = current ∙ ap (task_or_implicit m) some
+pub member_executes : (m t : ℕ) (found : Option ℕ) (h : List Event) → executed_task m h ≡ task_or_implicit m found → found ≡ Some t → executed_task m h ≡ Explicit t
+member_executes m t found h current some = current ∙ ap (task_or_implicit m) some
 
-pub releases : (b : BoardView) (m t : ℕ) (odd : Bool) (h : List Event) → Stands b h → executed_task m h ≡ Explicit t → odd ≡ is_odd (epoch t h) → MayRelease t odd h
-releases b m t odd h st current parity = record { is_open = executed_open b m t h st current; parity = parity }
+pub end_releases : (b : BoardView) (m t : ℕ) (odd : Bool) (h : List Event) → Stands b h → executed_task m h ≡ Explicit t → odd ≡ is_odd (epoch t h) → MayRelease t odd h
+end_releases b m t odd h st current parity = record { is_open = executed_open b m t h st current; parity = parity }
 
 -- A group is ended
 

@@ -1,4 +1,4 @@
--- What a member is answered at a wait, by its goal: passed if that is met, and else a task to execute, or to wait.
+-- What a member is op_answered at a wait, by its goal: passed if that is met, and else a task to execute, or to wait.
 use Rattle.std.proofs.Common.{◌≡◌, ℕ, Bool, false, List, ◌++◌, None, refl, ap, ◌∙◌, sym, subst}
 use Rattle.gomp_types.specs.declared.limits.Limits.{Limits}
 use Rattle.gomp_types.specs.declared.refusal.Refusal.{Refusal}
@@ -20,9 +20,9 @@ IsReply (Refused refusal) = ⊥
 IsReply _ = Unit {0}
 
 -- is the operation's if no test refuses that
-pub answered : (limits : Limits) (room kept members m : ℕ) (op : Op) (h : List Event) (reply : Reply) → IsReply reply → op_refusal limits room kept m op h ≡ None → OpReply members m op (begun m op h) reply → OpAnswer limits room kept members m op h reply
-answered limits room kept members m op h (Refused refusal) is fine may = absurd is
-answered limits room kept members m op h _ is fine may = (fine, may)
+pub op_answered : (limits : Limits) (room kept members m : ℕ) (op : Op) (h : List Event) (reply : Reply) → IsReply reply → op_refusal limits room kept m op h ≡ None → OpReply members m op (begun m op h) reply → OpAnswer limits room kept members m op h reply
+op_answered limits room kept members m op h (Refused refusal) is fine may = absurd is
+op_answered limits room kept members m op h _ is fine may = (fine, may)
 
 -- and gives the operation's events
 pub after_reply : (m : ℕ) (op : Op) (reply : Reply) (h : List Event) → IsReply reply → op_after m op reply h ≡ op_gives m op (begun m op h) reply ++ begun m op h
@@ -58,13 +58,13 @@ passed_runs m h _ runs = refl
 -- at a taskwait
 module _ (limits : Limits) (room kept members m : ℕ) (h : List Event) (reply : Reply) (runs : AwaitsTasks m false h reply) where
   pub children_answered : op_refusal limits room kept m AwaitChildren h ≡ None → children_complete (executed_task m h) h ≡ false → OpAnswer limits room kept members m AwaitChildren h reply
-  children_answered fine unmet = answered limits room kept members m AwaitChildren h reply (runs_is_reply m h reply runs) fine (runs_unmet m (children_complete (executed_task m h) h) h reply unmet runs)
+  children_answered fine unmet = op_answered limits room kept members m AwaitChildren h reply (runs_is_reply m h reply runs) fine (runs_unmet m (children_complete (executed_task m h) h) h reply unmet runs)
 
   pub group_answered : op_refusal limits room kept m EndGroup h ≡ None → last_complete (open_groups (executed_task m h) h) h ≡ false → OpAnswer limits room kept members m EndGroup h reply
-  group_answered fine unmet = answered limits room kept members m EndGroup h reply (runs_is_reply m h reply runs) fine (runs_unmet m (last_complete (open_groups (executed_task m h) h) h) h reply unmet runs)
+  group_answered fine unmet = op_answered limits room kept members m EndGroup h reply (runs_is_reply m h reply runs) fine (runs_unmet m (last_complete (open_groups (executed_task m h) h) h) h reply unmet runs)
 
   pub barrier_answered : op_refusal limits room kept m AwaitBarrier h ≡ None → may_pass members m h ≡ false → OpAnswer limits room kept members m AwaitBarrier h reply
-  barrier_answered fine unmet = answered limits room kept members m AwaitBarrier h reply (runs_is_reply m h reply runs) fine (runs_unmet m (may_pass members m h) h reply unmet runs)
+  barrier_answered fine unmet = op_answered limits room kept members m AwaitBarrier h reply (runs_is_reply m h reply runs) fine (runs_unmet m (may_pass members m h) h reply unmet runs)
 
 -- the events after it
 module _ (m : ℕ) (h : List Event) (reply : Reply) (runs : AwaitsTasks m false h reply) where
@@ -80,7 +80,7 @@ module _ (m : ℕ) (h : List Event) (reply : Reply) (runs : AwaitsTasks m false 
 -- at an arrival, whose own event comes first
 module _ (limits : Limits) (room kept members m : ℕ) (tag : Tag) (h : List Event) (reply : Reply) (runs : AwaitsTasks m false (begun m (Arrive tag) h) reply) where
   pub arrival_answered : op_refusal limits room kept m (Arrive tag) h ≡ None → may_pass members m (begun m (Arrive tag) h) ≡ false → OpAnswer limits room kept members m (Arrive tag) h reply
-  arrival_answered fine unmet = answered limits room kept members m (Arrive tag) h reply (runs_is_reply m (begun m (Arrive tag) h) reply runs) fine (runs_unmet m (may_pass members m (begun m (Arrive tag) h)) (begun m (Arrive tag) h) reply unmet runs)
+  arrival_answered fine unmet = op_answered limits room kept members m (Arrive tag) h reply (runs_is_reply m (begun m (Arrive tag) h) reply runs) fine (runs_unmet m (may_pass members m (begun m (Arrive tag) h)) (begun m (Arrive tag) h) reply unmet runs)
 
   pub after_arrival : op_after m (Arrive tag) reply h ≡ starts_task m reply ++ begun m (Arrive tag) h
   after_arrival = after_reply m (Arrive tag) reply h (runs_is_reply m (begun m (Arrive tag) h) reply runs) ∙ ap (λ es. es ++ begun m (Arrive tag) h) (passed_runs m (begun m (Arrive tag) h) reply runs)

@@ -59,7 +59,8 @@ impl Board {
     pub(crate) fn refuse(&mut self, member: u16, op: Op, refusal: Refusal) -> Reply
         requires member { member < members_of self.old }
         requires refused { (h : List AnyEvent) → Stands self.old h →
-            op_refusal self.old.limits self.old.room (kept_by member self.old) member op h ≡ Some refusal }
+            op_refusal self.old.limits self.old.room (kept_by member self.old) member op h
+            ≡ Some refusal }
         ensures performs { Performs op member self.old self.new result }
     {
         match refusal {
@@ -72,7 +73,8 @@ impl Board {
     pub(crate) fn break_at(&mut self, member: u16, op: Op) -> Reply
         requires member { member < members_of self.old }
         requires differs { (h : List AnyEvent) → Stands self.old h →
-            op_refusal self.old.limits self.old.room (kept_by member self.old) member op h ≡ Some Mismatch }
+            op_refusal self.old.limits self.old.room (kept_by member self.old) member op h
+            ≡ Some Mismatch }
         ensures performs { Performs op member self.old self.new result }
     {
         let place = match op {

@@ -9,6 +9,7 @@ ghost use Rattle.gomp_types.specs.Events.{barriers_passed, tag_at};
 ghost use Rattle.gomp_types.specs.Tasks.{executed_task, in_task, depth_of, tasks_created};
 ghost use Rattle.gomp_types.specs.Tests.{Test, first_refusal};
 ghost use Rattle.gomp_types.specs.TaskCalls.{group_is_open, lacks_room, create_tests, end_task_tests, end_group_tests, outside_tasks_tests, room_tests, task_room, group_room};
+ghost use Rattle.gomp_board.specs.declared.op.Op.TheVariants.{Arrive};
 ghost use Rattle.gomp_board.specs.Ops.{op_refusal, op_tests, busy_tests, end_tests, arrival_asks, awaits_barrier};
 ghost use Rattle.gomp_board.specs.Boards.{Stands, members_of, kept_by};
 
@@ -24,8 +25,8 @@ impl Board {
     /// tests that hold the one whose refusal has the least number.
     pub fn first_refusal(&self, member: u16, op: &Op) -> Option<Refusal>
         requires member { member < members_of self.now }
-        ensures value { (h : List Event) → Stands self.now h →
-            result ≡ op_refusal self.now.limits self.now.room (kept_by member self.now) member op.now h }
+        ensures value { (h : List Event) → Stands self.now h → result ≡ op_refusal
+            self.now.limits self.now.room (kept_by member self.now) member op.now h }
     {
         if self.barriers.look(member).left {
             return Some(Refusal::Ended);
@@ -103,10 +104,7 @@ impl Board {
     fn arrival_refusal(&self, member: u16, tag: Tag) -> Option<Refusal>
         requires member { member < members_of self.now }
         ensures value { (h : List Event) → Stands self.now h → result ≡ first_refusal
-            (busy_tests member h ++ (outside_tasks_tests member h ++ (end_tests tag.kind member h
-            ++ ((tag_differs tag (tag_at (barriers_passed member h) h), Mismatch)
-            ∷ room_tests self.now.limits self.now.room
-            (arrival_asks tag.kind (kept_by member self.now)))))) }
+            (op_tests self.now.limits self.now.room (kept_by member self.now) member (Arrive tag) h) }
     {
         let asked = self.arrival_room(member, tag.kind);
         let full = first(self.lacks_room(asked), Refusal::TraceFull, None);
@@ -120,7 +118,8 @@ impl Board {
     fn end_refusal(&self, member: u16, kind: Arrival, other: Option<Refusal>) -> Option<Refusal>
         requires member { member < members_of self.now }
         ensures value { (h : List Event) (tests : List Test) → Stands self.now h →
-            other ≡ first_refusal tests → result ≡ first_refusal (end_tests kind member h ++ tests) }
+            other ≡ first_refusal tests →
+            result ≡ first_refusal (end_tests kind member h ++ tests) }
     {
         match kind {
             Arrival::RegionEnd => first(self.has_group_open(member), Refusal::GroupOpen, other),

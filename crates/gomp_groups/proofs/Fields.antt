@@ -40,9 +40,9 @@ new_seat n (Implicit m) = all_new n m
 new_seat n (Explicit zero) = refl
 new_seat n (Explicit (suc k)) = refl
 
-none_beyond : (p : Task) → groups_beyond p [] ≡ []
-none_beyond (Implicit m) = refl
-none_beyond (Explicit t) = refl
+no_group_beyond : (p : Task) → groups_beyond p [] ≡ []
+no_group_beyond (Implicit m) = refl
+no_group_beyond (Explicit t) = refl
 
 new_stands : (n : ℕ) → GroupsStand [] [] (replicate n no_seat) []
 new_stands n = record {
@@ -52,8 +52,8 @@ new_stands n = record {
   pending = λ q. refl;
   parent = λ k lt p. absurd (omega arith);
   children = λ p. rw (new_seat n p) refl;
-  around = λ p. rw (new_seat n p, none_beyond p) refl;
-  last = λ p. rw (new_seat n p, none_beyond p) refl;
+  around = λ p. rw (new_seat n p, no_group_beyond p) refl;
+  last = λ p. rw (new_seat n p, no_group_beyond p) refl;
   rule = tt;
 }
 
@@ -130,19 +130,19 @@ close_writes groups tasks members task seat group row tasks_now members_now h q 
     (subst (λ (r : GroupRow). Reseats tasks members task (record { children = seat.children; around = seat.around; last = r.outer }) tasks_now members_now) read re))
 
 -- a task that was created
-how_many_most : (n : ℕ) (test : ℕ → Bool) → how_many n test ≤ n
-how_many_most zero test = omega arith
-how_many_most (suc n) test = by (test (suc n)) (how_many_most n test)
+group_count_most : (n : ℕ) (test : ℕ → Bool) → how_many n test ≤ n
+group_count_most zero test = omega arith
+group_count_most (suc n) test = by (test (suc n)) (group_count_most n test)
   where
     by : (b : Bool) → how_many n test ≤ n → (if b then how_many n test + 1 else how_many n test) ≤ suc n
     by true le = omega (arith, le)
     by false le = omega (arith, le)
 
 pub pending_most : (groups : List GroupRow) (tasks : List TaskRow) (members : List Seat) (h : List Event) (q : ℕ) → GroupsStand groups tasks members h → pending_at groups q ≤ length tasks
-pending_most groups tasks members h q st = rw (← st.pending q, ← st.created) (how_many_most (tasks_created h) (λ t. in_group q t h && not (is_complete t h)))
+pending_most groups tasks members h q st = rw (← st.pending q, ← st.created) (group_count_most (tasks_created h) (λ t. in_group q t h && not (is_complete t h)))
 
 pub children_most : (groups : List GroupRow) (tasks : List TaskRow) (members : List Seat) (h : List Event) (p : Task) → GroupsStand groups tasks members h → (seat_at tasks members p).children ≤ length tasks
-children_most groups tasks members h p st = rw (← st.children p, ← st.created) (how_many_most (tasks_created h) (λ t. is_child p t h && not (is_complete t h)))
+children_most groups tasks members h p st = rw (← st.children p, ← st.created) (group_count_most (tasks_created h) (λ t. is_child p t h && not (is_complete t h)))
 
 pub create_writes : (groups groups_new : List GroupRow) (tasks pushed : List TaskRow) (members : List Seat) (parent : Task) (seat : Seat) (n : ℕ) (tasks_now : List TaskRow) (members_now : List Seat) (h : List Event) (m : ℕ) (desc : TaskDesc) → GroupsStand groups tasks members h → MayCreateIn (length members) m parent h →
     seat ≡ seat_at tasks members parent → n ≡ length groups →

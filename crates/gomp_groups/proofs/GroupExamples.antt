@@ -123,8 +123,8 @@ own_of_a_child = refl
 pub none_of_its_own : own_group (seat_with 0 (Some 2) (Some 2)) ≡ None
 none_of_its_own = refl
 
-pub none_at_all : own_group no_seat ≡ None
-none_at_all = refl
+pub no_groups_at_all : own_group no_seat ≡ None
+no_groups_at_all = refl
 
 -- the last open group is the one that was opened last
 pub last_of_the_member : last_open (Implicit 0) grandchild ≡ Some 1
@@ -355,15 +355,15 @@ pub creates_in_another : MayCreateIn 2 0 (Implicit 0) grandchild → ⊥
 creates_in_another may = absurd (let current = may.current in cc)
 
 -- tasks that are created or ended, and groups, are seen
-pub tasks_are_seen : (t m : ℕ) (parent : Task) → (IsAside (Create t m parent some_desc) → ⊥) × (IsAside (Done t m) → ⊥)
-tasks_are_seen t m parent = (λ is. is, λ is. is)
+pub group_tasks_are_seen : (t m : ℕ) (parent : Task) → (IsAside (Create t m parent some_desc) → ⊥) × (IsAside (Done t m) → ⊥)
+group_tasks_are_seen t m parent = (λ is. is, λ is. is)
 
 pub groups_are_seen : (q m : ℕ) → (IsAside (Group q m) → ⊥) × (IsAside (GroupEnd q m) → ⊥)
 groups_are_seen q m = (λ is. is, λ is. is)
 
 -- a start and a wait are not, nor is what shares, barriers and locks see
-pub starts_are_aside : (t m : ℕ) → IsAside (Start t m) × IsAside (Waited m)
-starts_are_aside t m = (tt, tt)
+pub starts_change_no_group : (t m : ℕ) → IsAside (Start t m) × IsAside (Waited m)
+starts_change_no_group t m = (tt, tt)
 
 pub share_events_are_aside : (share m low high k : ℕ) (shape : Shape) → IsAside (Enter share m shape) × IsAside (Take share m low high) × IsAside (Drained share m) × IsAside (End share m) × IsAside (HandOn share m k) × IsAside (Part share m k) × IsAside (PartEnd share m)
 share_events_are_aside share m low high k shape = (tt, tt, tt, tt, tt, tt, tt)

@@ -37,13 +37,13 @@ done_is test h =
     ]
 
 -- the task that a member executes has a seat
-pub executed_seated : (groups : List GroupRow) (tasks : List TaskRow) (members : List Seat) (h : List Event) (m : ℕ) (task : Task) → GroupsStand groups tasks members h → m < length members → executed_task m h ≡ task → IsSeatedIn tasks members task
-executed_seated groups tasks members h m (Implicit x) st member current = let same : m ≡ x = own (task_stack m h) current in rw (← same) member
+pub executed_task_has_seat : (groups : List GroupRow) (tasks : List TaskRow) (members : List Seat) (h : List Event) (m : ℕ) (task : Task) → GroupsStand groups tasks members h → m < length members → executed_task m h ≡ task → IsSeatedIn tasks members task
+executed_task_has_seat groups tasks members h m (Implicit x) st member current = let same : m ≡ x = own (task_stack m h) current in rw (← same) member
   where
     own : (ts : List ℕ) → innermost_task m ts ≡ Implicit x → m ≡ x
     own [] e = cc
     own (t ∷ ts) e = absurd (cc)
-executed_seated groups tasks members h m (Explicit t) st member current =
+executed_task_has_seat groups tasks members h m (Explicit t) st member current =
     let made = (current_open (length members) m t h st.rule current).0 in
     let count = st.created in
     let high = created_high t h made in
@@ -218,7 +218,7 @@ create_keeps groups tasks members parent groups_now tasks_now members_now h m de
     seat_now p = seat_at-push tasks_now members_now row p ∙ rw (place, re.seat_is p) refl
 
     away : same_task parent (Explicit (suc (tasks_created h))) ≡ false
-    away = not_the_next_task tasks members parent (tasks_created h) st.created (executed_seated groups tasks members h m parent st may.member (sym may.current))
+    away = not_the_next_task tasks members parent (tasks_created h) st.created (executed_task_has_seat groups tasks members h m parent st may.member (sym may.current))
 
     stays : (first : Option ℕ) (qs : List ℕ) → IsChain groups first qs → IsChain groups_now first qs
     stays first qs chain = chain_on groups groups_now first qs (let len = counts.len in omega (arith, len)) (λ q lt. counts.outer q) chain

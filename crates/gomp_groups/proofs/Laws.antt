@@ -10,7 +10,7 @@ use Rattle.gomp_types.specs.TaskRules.{TaskRule}
 use Rattle.gomp_groups.specs.Rows.{seat_at, IsChain}
 use Rattle.gomp_groups.specs.Calls.{IsAside}
 use Rattle.gomp_groups.specs.Stands.{GroupsView, Stands, IsSeated, members_of, groups_beyond}
-use Rattle.gomp_groups.proofs.GroupsKeep.{executed_seated}
+use Rattle.gomp_groups.proofs.GroupsKeep.{executed_task_has_seat}
 
 beyond_aside : (p : Task) (event : Event) (h : List Event) → IsAside event → groups_beyond p (event ∷ h) ≡ groups_beyond p h
 beyond_aside (Implicit x) event h is = refl
@@ -39,4 +39,4 @@ events_aside_keep_groups groups h event is rule st =
 
 -- the task that a member executes is one of the team's
 pub executed_is_seated : (groups : GroupsView) (h : List Event) (m : ℕ) → m < members_of groups → Stands groups h → IsSeated groups (executed_task m h)
-executed_is_seated groups h m member st = executed_seated groups.groups groups.tasks groups.members h m (executed_task m h) st member refl
+executed_is_seated groups h m member st = executed_task_has_seat groups.groups groups.tasks groups.members h m (executed_task m h) st member refl

@@ -97,8 +97,8 @@ pub counts_the_ended : RefusesReply TellsHolds nest_twice (asks 0 (UnsetNest 0))
 counts_the_ended law = absurd (let told = law (NestLock 0) refl in omega (arith, told))
 
 -- or frees the lock at once
-pub counts_none : RefusesReply TellsHolds nest_twice (asks 0 (UnsetNest 0)) (Count 0)
-counts_none law = absurd (let told = law (NestLock 0) refl in omega (arith, told))
+pub holds_count_none : RefusesReply TellsHolds nest_twice (asks 0 (UnsetNest 0)) (Count 0)
+holds_count_none law = absurd (let told = law (NestLock 0) refl in omega (arith, told))
 
 -- Every reply of a record
 

@@ -52,15 +52,15 @@ abbrev Chained : (ℕ → ℕ → Bool) → List ℕ → Type 0
 Chained under [] = Unit {0}
 Chained under (t ∷ ts) = (each_of (λ s. under s t) ts ≡ true) × Chained under ts
 
-each_same : (one other : ℕ → Bool) (ts : List ℕ) → ((t : ℕ) → other t ≡ one t) → each_of one ts ≡ true → each_of other ts ≡ true
-each_same one other [] same e = refl
-each_same one other (t ∷ ts) same e =
-    rw (same t, and_left (one t) (each_of one ts) e) (each_same one other ts same (and_right (one t) (each_of one ts) e))
+each_stack_same : (one other : ℕ → Bool) (ts : List ℕ) → ((t : ℕ) → other t ≡ one t) → each_of one ts ≡ true → each_of other ts ≡ true
+each_stack_same one other [] same e = refl
+each_stack_same one other (t ∷ ts) same e =
+    rw (same t, and_left (one t) (each_of one ts) e) (each_stack_same one other ts same (and_right (one t) (each_of one ts) e))
 
 chained_same : (one other : ℕ → ℕ → Bool) (ts : List ℕ) → ((s t : ℕ) → contains t ts ≡ true → other s t ≡ one s t) → Chained one ts → Chained other ts
 chained_same one other [] same all = tt
 chained_same one other (t ∷ ts) same all =
-    (each_same (λ s. one s t) (λ s. other s t) ts (λ s. same s t (rw (same_number t) refl)) all.0, chained_same one other ts (λ s u there. same s u (or_right (t == u) (contains u ts) there)) all.1)
+    (each_stack_same (λ s. one s t) (λ s. other s t) ts (λ s. same s t (rw (same_number t) refl)) all.0, chained_same one other ts (λ s u there. same s u (or_right (t == u) (contains u ts) there)) all.1)
 
 chained_rest : (under : ℕ → ℕ → Bool) (ts : List ℕ) → Chained under ts → (b : Bool) → Chained under (if b then after_first ts else ts)
 chained_rest under [] all true = tt

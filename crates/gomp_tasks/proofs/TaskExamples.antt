@@ -269,8 +269,8 @@ pub not_under_all : (is_under_all (2 ∷ []) 1 two_started ≡ false) × (is_und
 not_under_all = (refl, refl)
 
 -- the tasks see what creates, starts and ends one
-pub tasks_are_seen : (t m : ℕ) (parent : Task) (desc : TaskDesc) → (IsAside (Create t m parent desc) → ⊥) × (IsAside (Start t m) → ⊥) × (IsAside (Done t m) → ⊥)
-tasks_are_seen t m parent desc = (λ is. is, λ is. is, λ is. is)
+pub tasks_are_found : (t m : ℕ) (parent : Task) (desc : TaskDesc) → (IsAside (Create t m parent desc) → ⊥) × (IsAside (Start t m) → ⊥) × (IsAside (Done t m) → ⊥)
+tasks_are_found t m parent desc = (λ is. is, λ is. is, λ is. is)
 
 -- and nothing of the shares
 pub shares_are_not_seen : (share m low high k : ℕ) (shape : Shape) (payload : List ℕ) → IsAside (Enter share m shape) × IsAside (Take share m low high) × IsAside (Drained share m) × IsAside (End share m) × IsAside (HandOn share m k) × IsAside (Part share m k) × IsAside (PartEnd share m) × IsAside (Put share m payload) × IsAside (Got share m payload)

@@ -171,8 +171,8 @@ task_create_keeps rows stacks m t depth odd p desc h st rule deep odd_is =
 
 -- New tasks
 
-pub no_tasks_stand : (members : ℕ) (stacks : List (List ℕ)) → stacks ≡ replicate members [] → RowsStand [] stacks []
-no_tasks_stand members stacks e = record {
+pub no_rows_stand : (members : ℕ) (stacks : List (List ℕ)) → stacks ≡ replicate members [] → RowsStand [] stacks []
+no_rows_stand members stacks e = record {
   count = refl;
   row = λ k row at. absurd (cc);
   stack = λ m ts at. sym (empty members m ts (subst (λ (xs : List (List ℕ)). slice_get xs m ≡ Some ts) e at));

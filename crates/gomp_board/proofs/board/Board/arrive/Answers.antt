@@ -10,7 +10,7 @@ use Rattle.gomp_board.specs.Boards.{BoardView, Stands, IsAdmitted, HasSpare, Arr
 use Rattle.gomp_board.specs.contracts.board.Board.{the_view}
 use Rattle.gomp_board.proofs.Joined.{stands_before}
 use Rattle.gomp_board.proofs.AdmittedArrivals.{arrives_of, arrival_stays_small}
-use Rattle.gomp_board.proofs.Performed.{nothing_made}
+use Rattle.gomp_board.proofs.Performed.{nothing_performed}
 use Rattle.gomp_board.proofs.ArrivalPerformed.{arrival_performed}
 use Rattle.gomp_board.proofs.board.Board.arrive.Goals as goal
 
@@ -55,7 +55,7 @@ returns-in-Err c =
     let kept : kept_by c.args.member (the_view c.self.inside) ≡ kept_by c.args.member now = ap (λ (v : BoardView). kept_by c.args.member v) c.self.view_is in
     let asked : c.arrival_asks-asked.result ≡ arrival_asks c.args.tag.kind (kept_by c.args.member now) =
     c.arrival_asks-asked.ensures ∙ ap (arrival_asks c.args.tag.kind) (c.index.ensures ∙ get_or_default c.self.inside.kept.items c.args.member _ 0 low ∙ kept) in
-    record { performs = nothing_made (Arrive c.args.tag) c.args.member now c.make_room.new.self c.arrival_asks-asked.result asked c.requires.admitted c.in-Err.ensures.err c.in-Err.ensures.there }
+    record { performs = nothing_performed (Arrive c.args.tag) c.args.member now c.make_room.new.self c.arrival_asks-asked.result asked c.requires.admitted c.in-Err.ensures.err c.in-Err.ensures.there }
 
 pub returns-in-Ok : goal.returns-in-Ok
 returns-in-Ok c =

@@ -3,7 +3,7 @@ use Rattle.gomp_types.specs.declared.reply.Reply.TheVariants.{Passed}
 use Rattle.gomp_types.specs.Tasks.{executed_task}
 use Rattle.gomp_types.specs.Goals.{children_complete}
 use Rattle.gomp_board.specs.declared.op.Op.TheVariants.{AwaitChildren}
-use Rattle.gomp_board.proofs.Performed.{performed}
+use Rattle.gomp_board.proofs.Performed.{op_performed}
 use Rattle.gomp_board.proofs.TaskEvents.{waited_stands, set_same}
 use Rattle.gomp_board.proofs.Waiting.{runs_is_reply, runs_unmet, waited_runs}
 use Rattle.gomp_board.proofs.board.Board.await_children.Goals as goal
@@ -12,7 +12,7 @@ pub returns-then-children_done : goal.returns-then-children_done
 returns-then-children_done c =
     let now = c.args.self.now in let m = c.args.member in
     record {
-      performs = performed AwaitChildren m now now Passed tt c.requires.admitted
+      performs = op_performed AwaitChildren m now now Passed tt c.requires.admitted
           (λ h st. sym (c.children_done.ensures.value h st) ∙ c.if-children_done.true)
           (λ h st. waited_stands now m h c.children_done.ensures.members c.requires.member (sym (c.children_done.ensures.value h st) ∙ c.if-children_done.true) st)
           refl (omega arith) (sym (set_same now.kept m));
@@ -23,7 +23,7 @@ returns-else-children_done c =
     let now = c.args.self.now in let m = c.args.member in let reply = c.run_or_wait.result in let room = c.run_or_wait.ensures.room in
     let own = c.run_or_wait.ensures.answer (reverse now.history) c.children_done.ensures.known in
     record {
-      performs = performed AwaitChildren m now c.run_or_wait.new.self reply (runs_is_reply m (reverse now.history) reply own) c.requires.admitted
+      performs = op_performed AwaitChildren m now c.run_or_wait.new.self reply (runs_is_reply m (reverse now.history) reply own) c.requires.admitted
           (λ h st. runs_unmet m (children_complete (executed_task m h) h) h reply (sym (c.children_done.ensures.value h st) ∙ c.if-children_done.false) (c.run_or_wait.ensures.answer h st))
           (λ h st. rw (waited_runs m h reply (c.run_or_wait.ensures.answer h st)) (c.run_or_wait.ensures.stands h st))
           c.run_or_wait.ensures.limits (omega (arith, room)) (c.run_or_wait.ensures.kept ∙ sym (set_same now.kept m));

@@ -8,7 +8,7 @@ use Rattle.gomp_barrier.specs.Calls.{turn_after}
 use Rattle.gomp_barrier.specs.Stands.{BarriersView, Stands as BarriersStand, members_of as barrier_members}
 use Rattle.gomp_board.specs.Boards.{BoardView, Stands, IsBoard, members_of}
 use Rattle.gomp_board.specs.contracts.board.Board.{the_view}
-use Rattle.gomp_board.proofs.Joined.{stands_too, number_is, passed_stands_next, passed_board, pass_fits}
+use Rattle.gomp_board.proofs.Joined.{stands_too, barrier_number_is, passed_stands_next, passed_board, pass_fits}
 use Rattle.gomp_board.proofs.Passing.{passes_where_it_waits}
 use Rattle.gomp_board.proofs.Waiting.{runs_unmet}
 use Rattle.gomp_board.proofs.board.Board.await_pass.Goals as goal
@@ -32,7 +32,7 @@ invariant_of-self-2 c =
     let member = subst (λ (b : BoardView). c.args.member < members_of b) (sym c.self.view_is) c.requires.member in
     let places = c.self.invariant.members.barriers in
     let there = passes_where_it_waits _ c.args.member own c.self.invariant.stands.barriers.rule (omega (arith, member, places)) (sym (c.turn.ensures.answer own c.self.invariant.stands.barriers) ∙ c.if-not-turn.false) in
-    let number = number_is _ c.args.member _ _ own c.self.invariant (omega arith) c.look-barrier.ensures.value c.self.invariant.stands in
+    let number = barrier_number_is _ c.args.member _ _ own c.self.invariant (omega arith) c.look-barrier.ensures.value c.self.invariant.stands in
     let passed = subst (λ (b : Bool). BarriersStand c.turn.new.self (turn_after b c.args.member own)) c.if-not-turn.false (c.turn.ensures.stands _ c.self.invariant.stands.barriers) in
     let next = subst (λ (g : ℕ). BarriersStand c.turn.new.self (Pass g c.args.member ∷ own)) (sym number) passed in
     passed_board _ _ c.args.member c.look-barrier.result.number _ _ _ c.self.invariant member there c.push_reserved.ensures.items c.turn.ensures.members next c.push_reserved.ensures.capacity
@@ -55,7 +55,7 @@ returns-then-not-turn-clause-answer c = λ h st0.
 pub returns-clause-stands : goal.returns-clause-stands
 returns-clause-stands c = λ h st0.
     let st = stands_too _ _ h c.self.view_is st0 in
-    let number = number_is _ c.args.member _ _ h c.self.invariant (omega arith) c.look-barrier.ensures.value st in
+    let number = barrier_number_is _ c.args.member _ _ h c.self.invariant (omega arith) c.look-barrier.ensures.value st in
     let passed = subst (λ (b : Bool). BarriersStand c.turn.new.self (turn_after b c.args.member h)) c.if-not-turn.false (c.turn.ensures.stands _ st.barriers) in
     passed_stands_next _ _ _ c.args.member c.look-barrier.result.number h number c.push_reserved.ensures.items passed st
 

@@ -7,7 +7,7 @@ use Rattle.gomp_board.specs.Boards.{Stands, kept_by}
 use Rattle.gomp_board.proofs.Joined.{stands_too}
 use Rattle.gomp_board.proofs.AdmittedArrivals.{differing_unbroken}
 use Rattle.gomp_barrier.specs.declared.barriers.AtBarrier.{AtBarrier}
-use Rattle.gomp_board.proofs.Performed.{broke}
+use Rattle.gomp_board.proofs.Performed.{team_broke}
 use Rattle.gomp_board.proofs.Refused.{place_of_others}
 use Rattle.gomp_board.proofs.board.Board.break_at.Goals as goal
 use Rattle.gomp_board.proofs.board.Board.break_at.Goals.{in-Break, in_default}
@@ -26,5 +26,5 @@ returns c = record {
         | in-Break w ↦ rw w.in-Break.is w.place-is
         | in_default w ↦ w.place-is ∙ ap (λ (s : AtBarrier). Barrier s.number) (w.look.ensures.value h st.barriers) ∙ sym (place_of_others c.args.op c.args.member h w.in_default.not-Break)
       ] in
-      broke c.args.op c.args.member c.match-op.place c.args.self.now c.note_break.new.self c.requires.differs there c.note_break.ensures.stands c.note_break.ensures.limits c.note_break.ensures.room c.note_break.ensures.kept;
+      team_broke c.args.op c.args.member c.match-op.place c.args.self.now c.note_break.new.self c.requires.differs there c.note_break.ensures.stands c.note_break.ensures.limits c.note_break.ensures.room c.note_break.ensures.kept;
 }

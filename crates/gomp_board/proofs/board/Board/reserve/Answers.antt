@@ -8,7 +8,7 @@ use Rattle.gomp_board.specs.Boards.{BoardView, Stands, IsAdmitted, HasSpare, mem
 use Rattle.gomp_board.specs.contracts.board.Board.{the_view}
 use Rattle.gomp_board.proofs.Joined.{keeping_board}
 use Rattle.gomp_board.proofs.AdmittedArrivals.{reserve_stays_small}
-use Rattle.gomp_board.proofs.Performed.{nothing_made, reserve_performed}
+use Rattle.gomp_board.proofs.Performed.{nothing_performed, reserve_performed}
 use Rattle.gomp_board.proofs.board.Board.reserve.Goals as goal
 
 pub make_room-requires : goal.make_room-requires
@@ -34,7 +34,7 @@ invariant_of-self c =
     rw kept (keeping_board _ c.args.member c.args.more b c.self-2.invariant low spare)
 
 pub returns-in-Err : goal.returns-in-Err
-returns-in-Err c = record { performs = nothing_made (Reserve c.args.more) c.args.member c.args.self.now c.make_room.new.self c.args.more refl c.requires.admitted c.in-Err.ensures.err c.in-Err.ensures.there }
+returns-in-Err c = record { performs = nothing_performed (Reserve c.args.more) c.args.member c.args.self.now c.make_room.new.self c.args.more refl c.requires.admitted c.in-Err.ensures.err c.in-Err.ensures.there }
 
 pub returns-in-Ok : goal.returns-in-Ok
 returns-in-Ok c =

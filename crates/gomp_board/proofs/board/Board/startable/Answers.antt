@@ -2,7 +2,7 @@ use Rattle.std.proofs.Common.{◌≡◌, ◌-◌, ◌<◌, List, length, reverse
 use Rattle.gomp_types.specs.declared.event.Event.{Event}
 use Rattle.gomp_board.specs.Boards.{BoardView, Stands}
 use Rattle.gomp_board.specs.contracts.board.Board.{the_view}
-use Rattle.gomp_board.proofs.Startables.{number_at, startable_at, none_at_end, none_before, none_at_all}
+use Rattle.gomp_board.proofs.Startables.{ready_number_at, startable_at, none_at_end, none_ready_before, none_ready_at_all}
 use Rattle.gomp_board.proofs.board.Board.startable.Goals as goal
 
 pub loop-place-init : goal.loop-place-init
@@ -11,7 +11,7 @@ loop-place-init c = λ h st. none_at_end c.args.member c.as_slice-ids.result.now
 pub may_start-requires-clause-task : goal.may_start-requires-clause-task
 may_start-requires-clause-task c =
     let some = c.loop-place-test.true in let few = c.loop-place.auto.place in
-    number_at (the_view c.self.inside) c.as_slice-ids.result.now (c.loop-place.place - 1) (reverse c.self.inside.history.items) c.self.invariant.stands c.as_slice-ids.ensures (omega (arith, some, few))
+    ready_number_at (the_view c.self.inside) c.as_slice-ids.result.now (c.loop-place.place - 1) (reverse c.self.inside.history.items) c.self.invariant.stands c.as_slice-ids.ensures (omega (arith, some, few))
 
 pub returns-then-may_start : goal.returns-then-may_start
 returns-then-may_start c =
@@ -24,8 +24,8 @@ returns-then-may_start c =
 pub loop-place-preserved : goal.loop-place-preserved
 loop-place-preserved c = λ h st.
     let own = subst (λ (v : BoardView). Stands v h) (sym c.self.view_is) st in
-    none_before c.args.member c.loop-place.place c.as_slice-ids.result.now h c.loop-place-test.true (c.loop-place.invariant h st)
+    none_ready_before c.args.member c.loop-place.place c.as_slice-ids.result.now h c.loop-place-test.true (c.loop-place.invariant h st)
     (sym (c.may_start.ensures.value h own.tasks (c.at_barrier-waits.ensures.value h own.barriers)) ∙ c.if-may_start.false)
 
 pub returns : goal.returns
-returns c = record { cases = none_at_all c.args.self.now (the_view c.self.inside) c.args.member c.loop-place.place c.as_slice-ids.result.now c.self.view_is c.as_slice-ids.ensures c.loop-place-test.false c.loop-place.invariant }
+returns c = record { cases = none_ready_at_all c.args.self.now (the_view c.self.inside) c.args.member c.loop-place.place c.as_slice-ids.result.now c.self.view_is c.as_slice-ids.ensures c.loop-place-test.false c.loop-place.invariant }

@@ -4,7 +4,7 @@ use Rattle.gomp_board.specs.declared.op.Op.TheVariants.{Break}
 use Rattle.gomp_types.specs.declared.reply.Reply.TheVariants.{Stopped}
 use Rattle.gomp_board.specs.Boards.{kept_by}
 use Rattle.gomp_board.proofs.AdmittedArrivals.{unbroken_of}
-use Rattle.gomp_board.proofs.Performed.{performed}
+use Rattle.gomp_board.proofs.Performed.{op_performed}
 use Rattle.gomp_board.proofs.board.Board.stop.Goals as goal
 
 pub note_break-requires : goal.note_break-requires
@@ -14,6 +14,6 @@ pub returns : goal.returns
 returns c = record {
   performs =
       let room = c.note_break.ensures.room in
-      performed (Break c.args.place) c.args.member c.args.self.now c.note_break.new.self Stopped tt c.requires.admitted (λ h st. refl) c.note_break.ensures.stands c.note_break.ensures.limits (omega (arith, room))
+      op_performed (Break c.args.place) c.args.member c.args.self.now c.note_break.new.self Stopped tt c.requires.admitted (λ h st. refl) c.note_break.ensures.stands c.note_break.ensures.limits (omega (arith, room))
       (c.note_break.ensures.kept ∙ sym (set-get_or c.args.self.now.kept c.args.member 0));
 }

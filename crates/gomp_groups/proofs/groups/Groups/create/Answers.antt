@@ -8,14 +8,14 @@ use Rattle.gomp_groups.specs.declared.rows.Seat.{Seat}
 use Rattle.gomp_groups.specs.Rows.{pending_at, IsChain, CountsOneMore}
 use Rattle.gomp_groups.specs.Stands.{GroupsView, Stands, members_of}
 use Rattle.gomp_groups.specs.Calls.{MayCreateIn}
-use Rattle.gomp_groups.proofs.GroupsKeep.{executed_seated}
+use Rattle.gomp_groups.proofs.GroupsKeep.{executed_task_has_seat}
 use Rattle.gomp_groups.proofs.Fields.{view_stands, seated_at, seat_read, seat_written, pending_most, children_most, create_writes}
 use Rattle.gomp_groups.proofs.groups.Groups.create.Goals as goal
 
 pub seat_of-seat-requires : goal.seat_of-seat-requires
 seat_of-seat-requires c =
     let may = subst (λ (v : GroupsView). (h : List Event) × (m : ℕ) × Stands v h × MayCreateIn (members_of v) m c.args.parent h) (sym c.self.view_is) c.requires.may in
-    let seated = executed_seated c.self.inside.groups.items c.self.inside.tasks.items c.self.inside.members.items may.0 may.1 c.args.parent may.2 may.3.member (sym may.3.current) in
+    let seated = executed_task_has_seat c.self.inside.groups.items c.self.inside.tasks.items c.self.inside.members.items may.0 may.1 c.args.parent may.2 may.3.member (sym may.3.current) in
     record { seated = seated_at _ _ _ _ c.args.parent c.deref.ensures.value c.deref-2.ensures.value seated }
 
 pub add_task-requires-clause-room : goal.add_task-requires-clause-room
@@ -39,7 +39,7 @@ overflow_add-with_child c =
 pub put_seat-requires : goal.put_seat-requires
 put_seat-requires c =
     let may = subst (λ (v : GroupsView). (h : List Event) × (m : ℕ) × Stands v h × MayCreateIn (members_of v) m c.args.parent h) (sym c.self.view_is) c.requires.may in
-    let seated = executed_seated c.self.inside.groups.items c.self.inside.tasks.items c.self.inside.members.items may.0 may.1 c.args.parent may.2 may.3.member (sym may.3.current) in
+    let seated = executed_task_has_seat c.self.inside.groups.items c.self.inside.tasks.items c.self.inside.members.items may.0 may.1 c.args.parent may.2 may.3.member (sym may.3.current) in
     record { seated = seated_at _ _ _ _ c.args.parent c.deref_mut-2.ensures.value c.deref_mut-3.ensures.value seated }
 
 pub returns-clause-stands : goal.returns-clause-stands

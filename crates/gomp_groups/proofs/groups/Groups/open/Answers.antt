@@ -3,20 +3,20 @@ use Rattle.gomp_types.specs.declared.event.Event.{Event}
 use Rattle.gomp_types.specs.declared.event.Event.TheVariants.{Group}
 use Rattle.gomp_groups.specs.Stands.{GroupsView, Stands, members_of}
 use Rattle.gomp_groups.specs.Calls.{Executes}
-use Rattle.gomp_groups.proofs.GroupsKeep.{executed_seated}
+use Rattle.gomp_groups.proofs.GroupsKeep.{executed_task_has_seat}
 use Rattle.gomp_groups.proofs.Fields.{view_stands, seated_at, seat_read, seat_written, open_writes}
 use Rattle.gomp_groups.proofs.groups.Groups.open.Goals as goal
 
 pub seat_of-seat-requires : goal.seat_of-seat-requires
 seat_of-seat-requires c =
     let may = subst (λ (v : GroupsView). (h : List Event) × (m : ℕ) × Stands v h × Executes (members_of v) m c.args.task h) (sym c.self.view_is) c.requires.may in
-    let seated = executed_seated c.self.inside.groups.items c.self.inside.tasks.items c.self.inside.members.items may.0 may.1 c.args.task may.2 may.3.member may.3.current in
+    let seated = executed_task_has_seat c.self.inside.groups.items c.self.inside.tasks.items c.self.inside.members.items may.0 may.1 c.args.task may.2 may.3.member may.3.current in
     record { seated = seated_at _ _ _ _ c.args.task c.deref.ensures.value c.deref-2.ensures.value seated }
 
 pub put_seat-requires : goal.put_seat-requires
 put_seat-requires c =
     let may = subst (λ (v : GroupsView). (h : List Event) × (m : ℕ) × Stands v h × Executes (members_of v) m c.args.task h) (sym c.self.view_is) c.requires.may in
-    let seated = executed_seated c.self.inside.groups.items c.self.inside.tasks.items c.self.inside.members.items may.0 may.1 c.args.task may.2 may.3.member may.3.current in
+    let seated = executed_task_has_seat c.self.inside.groups.items c.self.inside.tasks.items c.self.inside.members.items may.0 may.1 c.args.task may.2 may.3.member may.3.current in
     record { seated = seated_at _ _ _ _ c.args.task c.deref_mut.ensures.value c.deref_mut-2.ensures.value seated }
 
 pub returns-clause-stands : goal.returns-clause-stands
