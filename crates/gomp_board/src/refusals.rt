@@ -103,8 +103,9 @@ impl Board {
     /// Why an arrival is not accepted.
     fn arrival_refusal(&self, member: u16, tag: Tag) -> Option<Refusal>
         requires member { member < members_of self.now }
-        ensures value { (h : List Event) → Stands self.now h → result ≡ first_refusal
-            (op_tests self.now.limits self.now.room (kept_by member self.now) member (Arrive tag) h) }
+        ensures value { (h : List Event) → Stands self.now h →
+            result ≡ first_refusal (op_tests self.now.limits self.now.room
+            (kept_by member self.now) member (Arrive tag) h) }
     {
         let asked = self.arrival_room(member, tag.kind);
         let full = first(self.lacks_room(asked), Refusal::TraceFull, None);
