@@ -69,10 +69,12 @@ const MEMBERS: &[(u16, &str)] = &[
 ];
 
 /// The refusals that say no more than their number and name.
-const REFUSALS: [(Refusal, &str); 26] = [
+const REFUSALS: [(Refusal, &str); 33] = [
     (Refusal::BadMember, "E1 BadMember"),
     (Refusal::Ended, "E2 Ended"),
     (Refusal::Waiting, "E4 Waiting"),
+    (Refusal::InsideTask, "E6 InsideTask"),
+    (Refusal::NotInTask, "E7 NotInTask"),
     (Refusal::InsideShare, "E8 InsideShare"),
     (Refusal::OutsideShare, "E9 OutsideShare"),
     (Refusal::InOrdered, "E10 InOrdered"),
@@ -87,6 +89,10 @@ const REFUSALS: [(Refusal, &str); 26] = [
     (Refusal::NotOrdered, "E20 NotOrdered"),
     (Refusal::OrderedBackwards, "E21 OrderedBackwards"),
     (Refusal::NotInside, "E22 NotInside"),
+    (Refusal::NoGroup, "E24 NoGroup"),
+    (Refusal::GroupOpen, "E25 GroupOpen"),
+    (Refusal::TooDeep, "E26 TooDeep"),
+    (Refusal::TooManyTasks, "E27 TooManyTasks"),
     (Refusal::NameTooLong, "E29 NameTooLong"),
     (Refusal::AlreadyHeld, "E30 AlreadyHeld"),
     (Refusal::NotHolder, "E31 NotHolder"),
@@ -94,6 +100,7 @@ const REFUSALS: [(Refusal, &str); 26] = [
     (Refusal::CountTooLarge, "E33 CountTooLarge"),
     (Refusal::TooManyShares, "E34 TooManyShares"),
     (Refusal::Mismatch, "E35 Mismatch"),
+    (Refusal::TraceFull, "E36 TraceFull"),
     (Refusal::NoMemory, "E37 NoMemory"),
     (Refusal::BadTeam, "E38 BadTeam"),
 ];

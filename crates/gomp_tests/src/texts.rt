@@ -352,6 +352,37 @@ fn prints_locks(rt: &impl Abort, alloc: Global) -> Result<(), Fail> {
     print_so(rt, alloc, &replies, expected, 0)
 }
 
+/// That the replies on tasks are printed, with the least numbers and the largest.
+fn prints_tasks(rt: &impl Abort, alloc: Global) -> Result<(), Fail> {
+    let replies = [
+        Reply::Created(1),
+        Reply::Created(u32::MAX),
+        Reply::Run {
+            task: 1,
+            code: 0,
+            arg: u64::MAX,
+            own: false,
+        },
+        Reply::Run {
+            task: u32::MAX,
+            code: u64::MAX,
+            arg: 0,
+            own: true,
+        },
+        Reply::TaskDone {
+            task: 1,
+            waiting: true,
+        },
+        Reply::TaskDone {
+            task: u32::MAX,
+            waiting: false,
+        },
+    ];
+    let expected = "created 1\ncreated 4294967295\nrun 1 0 18446744073709551615\n\
+run 4294967295 18446744073709551615 0 own\ntask_done 1 waiting\ntask_done 4294967295 free\n";
+    print_so(rt, alloc, &replies, expected, 0)
+}
+
 /// That bad lines of this number are printed, with each fault.
 fn prints_faults(rt: &impl Abort, alloc: Global, line: u64, written: &str) -> Result<(), Fail> {
     for (why, fault) in FAULTS {
@@ -401,6 +432,7 @@ fn prints_payload(rt: &impl Abort, alloc: Global, words: usize) -> Result<(), Fa
 #[test]
 fn replies_and_faults_print(rt: HostRuntime) -> Result<(), Fail> {
     prints_locks(&rt, rt.alloc())?;
+    prints_tasks(&rt, rt.alloc())?;
     for count in SIZES {
         prints_sections(&rt, rt.alloc(), *count)?;
     }
