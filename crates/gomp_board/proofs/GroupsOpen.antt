@@ -1,4 +1,4 @@
--- A group that is open was not group_ended_once, and is open in one task alone.
+-- A group that is open was not ended, and is open in one task alone.
 use Rattle.std.proofs.Common.{◌≡◌, ◌≢◌, ℕ, ◌+◌, ◌<◌, Bool, true, false, List, [], ◌∷◌, Some, refl, ap, sym, ◌∙◌, arith, inl, inr}
 use Rattle.std.specs.Prelude.{◌||◌, ◌==◌, if◌then◌else◌, Option, None}
 use Rattle.std.proofs.lemmas.Bool.{cases_Bool}
@@ -14,7 +14,7 @@ use Rattle.gomp_types.proofs.Booleans.{or_tells, same_number, other_number, is_e
 use Rattle.gomp_board.specs.ReadyTasks.{Apart}
 use Rattle.gomp_board.specs.Owed.{has_group_ended}
 
--- the task that group_opened_before the group
+-- the task that opened the group
 abbrev opener_of : ℕ → List Event → Option Task
 opener_of q [] = None
 opener_of q (Group group member ∷ earlier) = if group == q then Some (executed_task member earlier) else opener_of q earlier
@@ -28,7 +28,7 @@ record IsOpenIn (p : Task) (q : ℕ) (h : List Event) : Type 0 where
 
 -- and of the groups of all tasks
 record AreOpen (h : List Event) : Type 0 where
-  group_ended_once : (q : ℕ) → has_group_ended q h ≡ true → q < groups_opened h
+  ended : (q : ℕ) → has_group_ended q h ≡ true → q < groups_opened h
   each : (p : Task) (q : ℕ) → contains q (open_groups p h) ≡ true → IsOpenIn p q h
   apart : (p : Task) → Apart (open_groups p h)
 
@@ -42,14 +42,14 @@ false_unless : (b : Bool) → (b ≡ true → ⊥) → b ≡ false
 false_unless true never = absurd (never refl)
 false_unless false never = refl
 
--- a group that was not group_opened_before is in no list, and was not group_ended_once
+-- a group that was not opened is in no list, and was not ended
 group_not_ended : (q : ℕ) (h : List Event) → AreOpen h → (q < groups_opened h → ⊥) → has_group_ended q h ≡ false
 group_not_ended q h known new = false_unless (has_group_ended q h) (λ is. new (known.ended q is))
 
 not_open : (p : Task) (q : ℕ) (h : List Event) → AreOpen h → (q < groups_opened h → ⊥) → contains q (open_groups p h) ≡ false
 not_open p q h known new = false_unless (contains q (open_groups p h)) (λ is. new (known.each p q is).number)
 
--- after a group was group_opened_before
+-- after a group was opened
 opened_each : (p : Task) (q group member : ℕ) (h : List Event) → AreOpen h → group ≡ groups_opened h → (b : Bool) → same_task (executed_task member h) p ≡ b →
     contains q (if b then group ∷ open_groups p h else open_groups p h) ≡ true → IsOpenIn p q (Group group member ∷ h)
 opened_each p q group member h known number b is there =
@@ -87,7 +87,7 @@ group_opened_before group member h known number = record {
   apart = λ p. opened_apart p group h known number (same_task (executed_task member h) p);
 }
 
--- after one was group_ended_once
+-- after one was ended
 rest_apart : (qs : List ℕ) → Apart qs → Apart (after_first qs)
 rest_apart [] all = tt
 rest_apart (q ∷ qs) all = all.1
@@ -153,11 +153,11 @@ groups_open members (_ ∷ earlier) all =
     let was = groups_open members earlier all.1 in
     record { ended = was.ended; each = λ p q there. let is = was.each p q there in record { number = is.number; lasting = is.lasting; opener = is.opener }; apart = was.apart }
 
--- the group that is group_opened_before next was not group_ended_once
+-- the group that is opened next was not ended
 pub next_not_ended : (members : ℕ) (h : List Event) → Always (TaskRule members) h → has_group_ended (groups_opened h) h ≡ false
 next_not_ended members h all = group_not_ended (groups_opened h) h (groups_open members h all) (λ low. omega (arith, low))
 
--- the last open group of a task was group_opened_before, and not group_ended_once
+-- the last open group of a task was opened, and not ended
 pub last_not_ended : (members q : ℕ) (p : Task) (outer : List ℕ) (h : List Event) → Always (TaskRule members) h → open_groups p h ≡ q ∷ outer → (q < groups_opened h) × (has_group_ended q h ≡ false)
 last_not_ended members q p outer h all last =
     let is = (groups_open members h all).each p q (head_open q outer (open_groups p h) last) in (is.number, is.lasting)

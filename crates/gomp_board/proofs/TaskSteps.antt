@@ -40,7 +40,7 @@ next_task_number tasks after t h st number more = let count = st.count in omega 
 
 -- A task is ended
 
--- the member member_executes an explicit task
+-- the member executes an explicit task
 pub never_the_implicit_task : (now b : BoardView) (m : ℕ) (found : Option ℕ) (h : List Event) → b ≡ now → IsAdmitted EndTask m now → Stands b h → executed_task m h ≡ task_or_implicit m found → found ≡ None → ⊥
 never_the_implicit_task now b m found h e admitted st current none =
     let fine = admitted h (subst (λ (v : BoardView). Stands v h) e st) in

@@ -1,4 +1,4 @@
--- What a member is op_answered at a wait, by its goal: passed if that is met, and else a task to execute, or to wait.
+-- What a member is answered at a wait, by its goal: passed if that is met, and else a task to execute, or to wait.
 use Rattle.std.proofs.Common.{◌≡◌, ℕ, Bool, false, List, ◌++◌, None, refl, ap, ◌∙◌, sym, subst}
 use Rattle.gomp_types.specs.declared.limits.Limits.{Limits}
 use Rattle.gomp_types.specs.declared.refusal.Refusal.{Refusal}
