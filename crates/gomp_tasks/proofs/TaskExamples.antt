@@ -177,7 +177,7 @@ tasks_without_a_row stands = absurd (let count = stands.count in omega arith)
 
 -- a row that does not stand for the events
 pub tasks_of_another_row : Stands (tasks_with (first_running ∷ second_with None states.Ready ∷ []) (2 ∷ 1 ∷ []) [] 3) two_started → ⊥
-tasks_of_another_row stands = absurd (let row = stands.row 1 (second_with None states.Ready) refl in let runner = row.runner in cc)
+tasks_of_another_row stands = absurd (let row = stands.row (1) (second_with None states.Ready) refl in let runner = row.runner in cc)
 
 -- the oldest task as the innermost
 pub tasks_of_another_order : Stands (tasks_with (first_running ∷ second_running ∷ []) (1 ∷ 2 ∷ []) [] 3) two_started → ⊥
