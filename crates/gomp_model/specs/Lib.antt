@@ -13,4 +13,5 @@ pub mod Sections
 pub mod ShareExamples
 pub mod Singles
 pub mod Starts
+pub mod Tasks
 pub mod Team
