@@ -14,6 +14,7 @@ use Rattle.gomp_types.specs.declared.reply.Reply.TheVariants.{Finished, Refused}
 use Rattle.gomp_types.specs.declared.event.Arrival.{Arrival}
 use Rattle.gomp_types.specs.declared.event.Event.{Event}
 use Rattle.gomp_types.specs.declared.event.Event.TheVariants.{Break}
+use Rattle.gomp_types.specs.declared.task.TaskDesc.{TaskDesc}
 use Rattle.gomp_types.specs.Tests.{Test}
 use Rattle.gomp_types.specs.Limits.{shown_number}
 use Rattle.gomp_types.specs.Events.{barriers_passed}
@@ -45,6 +46,8 @@ pub record Row : Type 1 where
   pub stays : Bool
   -- at what kind of barrier it arrives
   pub arrives : Option Arrival
+  -- which task it creates, by what is asked for, if one
+  pub creates : Option TaskDesc
   -- whether it puts words for the other members
   pub puts : Bool
   -- whether the book of names and locks answers it, and not the shares and the barriers
@@ -75,6 +78,7 @@ plain_row = record {
   starts = None;
   stays = false;
   arrives = None;
+  creates = None;
   puts = false;
   asks_book = false;
   holds = None;

@@ -1,5 +1,5 @@
 -- The rows of the calls on tasks and groups. OpenMP API 5.2, chapter 12 and sections 15.4 and 15.5.
-use Rattle.std.specs.Prelude.{true}
+use Rattle.std.specs.Prelude.{true, Some}
 use Rattle.gomp_types.specs.declared.task.TaskDesc.{TaskDesc}
 use Rattle.gomp_types.specs.Tasks.{executed_task}
 use Rattle.gomp_types.specs.TaskCalls.{create_tests, end_task_tests, end_group_tests, task_room, group_room, CreatesTask, EndsTask, AwaitsChildren, AwaitsGroup, creates, ends_task, waited, opens_group, ends_group}
@@ -13,6 +13,7 @@ task_create_row desc = record plain_row {
   by_task = λ m p. create_tests p.terms.limits m p.events;
   room = task_room;
   memory = true;
+  creates = Some desc;
   begins = λ m p. creates m desc p.events;
   may_reply = λ m p reply. CreatesTask p.events reply;
 }
