@@ -4,6 +4,7 @@ pub mod ArrivalPerformed
 pub mod BarrierNumbers
 pub mod GroupsOpen
 pub mod Joined
+pub mod Laws
 pub mod NewBoard
 pub mod OpAnswerExamples
 pub mod OpTestExamples
