@@ -1,19 +1,21 @@
 -- Each clause of the rule and of each law of names and locks by itself refuses an event after some others: one hold too many, a
 -- release by another, a pass too early. Only that clause refuses it, and it is computed; and what is allowed. OpenMP API 5.2,
 -- sections 15.2 and 18.9.
-use Rattle.std.proofs.Common.{◌≡◌, ℕ, true, false, List, [], ◌∷◌, None, refl, ap, arith}
+use Rattle.std.proofs.Common.{◌≡◌, ℕ, true, false, List, [], ◌∷◌, ◌++◌, None, refl, ap, arith, rules}
 use Rattle.gomp_types.specs.declared.task.Task.{Task}
 use Rattle.gomp_types.specs.declared.task.Task.TheVariants.{Implicit, Explicit}
 use Rattle.gomp_types.specs.declared.task.Owner.{Owner}
 use Rattle.gomp_types.specs.declared.key.Key.TheVariants.{Critical, Lock, NestLock}
 use Rattle.gomp_types.specs.declared.event.Event.{Event}
-use Rattle.gomp_types.specs.declared.event.Event.TheVariants.{Hold, Free, Pass}
+use Rattle.gomp_types.specs.declared.event.Event.TheVariants.{Hold, Free, Arrive, Pass, Start, Done}
+use Rattle.gomp_types.specs.declared.event.Arrival.TheVariants.{Barrier}
+use Rattle.gomp_types.specs.EventLists.{at}
 use Rattle.gomp_types.specs.Laws.{Always}
 use Rattle.gomp_locks.specs.Holders.{owner_of}
 use Rattle.gomp_locks.specs.HoldRules.{can_hold, HoldRule}
 use Rattle.gomp_locks.specs.HoldLaws.{holds_left, AtEachMoment, OneOwner, HeldOnce, FreesItsOwn, PassesFree}
 use Rattle.gomp_locks.proofs.BookExamples.{zero_owner, other_owner, task_owner}
-use Rattle.gomp_locks.proofs.HoldsKeep.{passes_free_holds}
+use Rattle.gomp_locks.proofs.NamesKeep.{passes_free_holds}
 use Rattle.gomp_locks.proofs.HolderExamples.{short_name, longer_name, other_name, hold_by, free_by, held_so, after_events, nest_thrice, freed_by}
 
 -- a law refuses these events
@@ -217,12 +219,12 @@ pub passed_with_lock : PassesFree (Pass 0 0) (after_events (hold_by 0 (Lock 3) �
 passed_with_lock name owner own = refl
 
 -- and another member may hold a name
-pub passed_while_another_holds : PassesFree (Pass 0 0) (after_events handed_over)
-passed_while_another_holds = passes_free_holds 0 0 (after_events handed_over) refl rule_allows_next_holder
+pub passed_while_another_holds : PassesFree (Pass 0 0) (after_events (handed_over ++ Arrive 0 0 (at Barrier 0) ∷ []))
+passed_while_another_holds = passes_free_holds 0 0 (after_events (handed_over ++ Arrive 0 0 (at Barrier 0) ∷ [])) refl refl (tt, rule_allows_next_holder) (search rules)
 
 -- it may have freed what it held
-pub passed_after_release : PassesFree (Pass 0 0) (after_events two_names)
-passed_after_release = passes_free_holds 0 0 (after_events two_names) refl rule_allows_two_names
+pub passed_after_release : PassesFree (Pass 0 0) (after_events (two_names ++ Arrive 0 0 (at Barrier 0) ∷ []))
+passed_after_release = passes_free_holds 0 0 (after_events (two_names ++ Arrive 0 0 (at Barrier 0) ∷ [])) refl refl (tt, rule_allows_two_names) (search rules)
 
 -- Each clause is of every member and every barrier
 

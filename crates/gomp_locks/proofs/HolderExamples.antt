@@ -1,6 +1,6 @@
 -- Worked examples of who holds which name and which lock by what happened, computed. OpenMP API 5.2, sections 15.2 and 18.9.
 use Rattle.std.proofs.Common.{◌≡◌, ℕ, true, false, List, [], ◌∷◌, Option, Some, None, refl}
-use Rattle.std.specs.Prelude.{map}
+use Rattle.std.specs.Prelude.{map, ◌++◌}
 use Rattle.gomp_types.specs.declared.task.Task.TheVariants.{Implicit, Explicit}
 use Rattle.gomp_types.specs.declared.task.Owner.{Owner}
 use Rattle.gomp_types.specs.declared.lock.Held.{Held}
@@ -9,9 +9,9 @@ use Rattle.gomp_types.specs.declared.lock.LockKind.TheVariants.{Simple, Nest}
 use Rattle.gomp_types.specs.declared.key.Key.{Key}
 use Rattle.gomp_types.specs.declared.key.Key.TheVariants.{Critical, Lock, NestLock}
 use Rattle.gomp_types.specs.declared.event.Event.{Event}
-use Rattle.gomp_types.specs.declared.event.Event.TheVariants.{Hold, Free, Pass}
+use Rattle.gomp_types.specs.declared.event.Event.TheVariants.{Hold, Free, Pass, Start, Done}
 use Rattle.gomp_types.specs.EventLists.{newest_first}
-use Rattle.gomp_locks.specs.Holders.{same_key, is_nestable, key_of, owner_of, current_task, asker, held_once_more, held_once_less, holder, holding_owner, own_part, without_name, held_names, holds_critical, found_lock, found_any_lock}
+use Rattle.gomp_locks.specs.Holders.{same_key, is_nestable, key_of, owner_of, asker, held_once_more, held_once_less, holder, holding_owner, own_part, without_name, held_names, holds_critical, found_lock, found_any_lock}
 use Rattle.gomp_locks.proofs.BookExamples.{zero_owner, other_owner, task_owner}
 
 -- What the examples are made of
@@ -72,9 +72,21 @@ keys_of_kinds = (refl, refl)
 pub owners_of_tasks : (owner_of 0 (Implicit 0) ≡ zero_owner) × (owner_of 1 (Implicit 1) ≡ other_owner) × (owner_of 0 (Explicit 1) ≡ task_owner)
 owners_of_tasks = (refl, refl, refl)
 
--- a member asks as its implicit task, whatever happened
-pub askers_of_calls : (asker 1 [] ≡ other_owner) × (asker 1 (after_events (hold_by 0 (Lock 0) ∷ hold_by 1 (Lock 1) ∷ [])) ≡ other_owner) × (current_task 1 [] ≡ Implicit 1)
-askers_of_calls = (refl, refl, refl)
+-- a member that has started no task asks as its implicit one, whatever it holds
+pub askers_of_calls : (asker 1 [] ≡ other_owner) × (asker 1 (after_events (hold_by 0 (Lock 0) ∷ hold_by 1 (Lock 1) ∷ [])) ≡ other_owner)
+askers_of_calls = (refl, refl)
+
+-- the first member starts task 1, and in it task 2
+abbrev pub started_twice : List Event
+started_twice = Start 1 0 ∷ Start 2 0 ∷ []
+
+-- one that executes an explicit task asks as that one, the innermost that it has started, until it ends it; another member asks as before
+pub askers_in_tasks :
+    map (λ events. asker 0 (after_events events)) ((Start 1 0 ∷ []) ∷ started_twice ∷ (started_twice ++ Done 2 0 ∷ []) ∷ (started_twice ++ Done 2 0 ∷ Done 1 0 ∷ []) ∷ []) ≡ task_owner ∷ record task_owner { task = 2 } ∷ task_owner ∷ zero_owner ∷ []
+askers_in_tasks = refl
+
+pub askers_beside_tasks : (asker 1 (after_events started_twice) ≡ other_owner) × (asker 0 (after_events (Start 1 1 ∷ [])) ≡ zero_owner)
+askers_beside_tasks = (refl, refl)
 
 -- Holders
 

@@ -17,19 +17,23 @@ use Rattle.gomp_types.specs.declared.event.Event.{Event}
 use Rattle.gomp_types.specs.declared.event.Event.TheVariants.{Pass}
 use Rattle.gomp_types.specs.declared.reply.Reply.{Reply}
 use Rattle.gomp_types.specs.declared.reply.Reply.TheVariants.{Lock as LockMade}
+use Rattle.gomp_types.specs.Events.{at_barrier}
+use Rattle.gomp_types.specs.Tasks.{in_task}
 use Rattle.gomp_types.specs.Laws.{Always}
 use Rattle.gomp_types.specs.Owners.{same_owner}
 use Rattle.gomp_types.proofs.Always.{always_so}
 use Rattle.gomp_locks.specs.declared.lock.Lock.{Lock}
 use Rattle.gomp_locks.specs.Book.{BookView, name_owner, owned_by, names_held, open_holds, held_by}
 use Rattle.gomp_locks.specs.Locks.{count_for}
-use Rattle.gomp_locks.specs.Holders.{asker, holder, holds_critical}
+use Rattle.gomp_locks.specs.Holders.{holder, holds_critical}
 use Rattle.gomp_locks.specs.HoldRules.{HoldRule}
+use Rattle.gomp_locks.specs.NameRules.{NameRule}
 use Rattle.gomp_locks.specs.HoldLaws.{holds_left, AtEachMoment, OneOwner, HeldOnce, FreesItsOwn, PassesFree}
 use Rattle.gomp_locks.proofs.BookCalls.{BookCall, CallAnswered, after_call, holds_gained, holds_lost, IsInOrder, make_lock}
 use Rattle.gomp_locks.proofs.CallLemmas.{barred_stays, no_fewer_locks, another_owners_name}
 use Rattle.gomp_locks.proofs.CountLemmas.{some_are_held}
-use Rattle.gomp_locks.proofs.HoldsKeep.{name_is_held, critical_name_held, holds_left_is_count, one_owner_holds, held_once_holds, frees_its_own, passes_free_holds}
+use Rattle.gomp_locks.proofs.HoldsKeep.{name_is_held, critical_name_held, holds_left_is_count, one_owner_holds, held_once_holds, frees_its_own}
+use Rattle.gomp_locks.proofs.NamesKeep.{passes_free_holds}
 use Rattle.gomp_locks.proofs.OpenHolds.{holds_move}
 use Rattle.gomp_locks.proofs.OrderLemmas.{new_in_order, call_keeps_order}
 use Rattle.gomp_locks.proofs.OwnerLemmas.{one_that_is_held}
@@ -101,14 +105,15 @@ held_once_at_each_moment = held_once_holds
 pub each_frees_its_own : (h : List Event) → Always HoldRule h → Always FreesItsOwn h
 each_frees_its_own = always_so HoldRule FreesItsOwn frees_its_own
 
--- a member that holds no critical name as it asks holds none in any of its tasks: so it may pass a barrier
-pub passes_without_names : (barrier m : ℕ) (earlier : List Event) → holds_critical (asker m earlier) earlier ≡ false → Always HoldRule earlier → PassesFree (Pass barrier m) earlier
-passes_without_names = passes_free_holds
-
--- and it holds a critical name exactly if it is the holder of one
+-- an owner holds a critical name exactly if it is the holder of one
 pub holder_of_names_by_events : (owner : Owner) (h : List Event) → Always HoldRule h → IsTrue (holds_critical owner h) ↔ ((name : List ℕ) × (held_by owner (holder (Critical name) h) ≡ true))
 holder_of_names_by_events owner h all = (critical_name_held owner h all, (λ held. name_is_held owner held.0 h all held.1))
 
 -- an owner has as many open holds of a name or a lock as it is held by it
 pub open_holds_by_events : (owner : Owner) (key : Key) (h : List Event) → Always HoldRule h → holds_left owner key h ≡ count_for owner (holder key h)
 open_holds_by_events = holds_left_is_count
+
+-- With the rule of critical names too (specs/NameRules.antt): a member that waits at a barrier holds no critical name in any of its
+-- tasks, those that it ended before and those that it executed meanwhile among them, once it executes none: so it may pass
+pub passes_without_names : (barrier m : ℕ) (earlier : List Event) → in_task m earlier ≡ false → at_barrier m earlier ≡ true → Always HoldRule earlier → Always NameRule earlier → PassesFree (Pass barrier m) earlier
+passes_without_names = passes_free_holds
