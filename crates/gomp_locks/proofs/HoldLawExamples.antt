@@ -30,6 +30,10 @@ RefusedAfter Law events event = Law event (after_events events) → ⊥
 never_implicit : (m number : ℕ) → ◌≡◌ {A = Task} (Explicit number) (Implicit m) → ⊥
 never_implicit m number e = absurd (cc)
 
+-- nor another one
+other_task : (one other : ℕ) → (one ≡ other → ⊥) → ◌≡◌ {A = Task} (Explicit one) (Explicit other) → ⊥
+other_task one other differ e = differ (let same : one ≡ other = cc in same)
+
 -- Whether an owner may hold it once more
 
 -- a name and a simple lock: while nobody holds it
@@ -120,6 +124,45 @@ handed_over = hold_by 0 (Critical short_name) ∷ free_by 0 (Critical short_name
 pub rule_allows_next_holder : Always HoldRule (after_events handed_over)
 rule_allows_next_holder =
     (record { current = refl; free = refl }, (record { current = refl; free = refl }, (record { current = refl; free = refl }, (record { current = refl; held = refl }, (record { current = refl; free = refl }, tt)))))
+
+-- Two tasks of one member
+
+-- a member holds in the task that it executes, and in the next one that it starts; then each frees its own, the inner one first
+abbrev two_tasks : List Event
+two_tasks = hold_by 0 (Lock 0) ∷ Start 1 0 ∷ Hold (NestLock 3) 0 (Explicit 1) ∷ Start 2 0 ∷ Hold (Lock 1) 0 (Explicit 2) ∷ []
+
+abbrev both_free : List Event
+both_free = Free (Lock 1) 0 (Explicit 2) ∷ Done 2 0 ∷ Free (NestLock 3) 0 (Explicit 1) ∷ Done 1 0 ∷ free_by 0 (Lock 0) ∷ []
+
+pub rule_allows_two_tasks : Always HoldRule (after_events (two_tasks ++ both_free))
+rule_allows_two_tasks = search rules
+
+-- the inner one may not hold what the suspended one holds, be it a nestable lock, nor free it
+pub rule_hold_of_suspended : RefusedAfter HoldRule two_tasks (Hold (NestLock 3) 0 (Explicit 2))
+rule_hold_of_suspended may = absurd (let free = may.free in cc)
+
+pub rule_free_of_suspended : RefusedAfter HoldRule two_tasks (Free (NestLock 3) 0 (Explicit 2))
+rule_free_of_suspended may = absurd (let held = may.held in cc)
+
+-- nor what the implicit task holds
+pub rule_hold_of_implicit : RefusedAfter HoldRule two_tasks (Hold (Lock 0) 0 (Explicit 2))
+rule_hold_of_implicit may = absurd (let free = may.free in cc)
+
+pub rule_free_of_implicit : RefusedAfter HoldRule two_tasks (Free (Lock 0) 0 (Explicit 2))
+rule_free_of_implicit may = absurd (let held = may.held in cc)
+
+-- the suspended ones neither hold once more nor free what they hold, until the inner one has ended
+pub rule_hold_while_suspended : RefusedAfter HoldRule two_tasks (Hold (NestLock 3) 0 (Explicit 1))
+rule_hold_while_suspended may = other_task 1 2 (λ same. absurd (omega (arith, same))) may.current
+
+pub rule_free_while_suspended : RefusedAfter HoldRule two_tasks (Free (NestLock 3) 0 (Explicit 1))
+rule_free_while_suspended may = other_task 1 2 (λ same. absurd (omega (arith, same))) may.current
+
+pub rule_free_in_implicit : RefusedAfter HoldRule two_tasks (free_by 0 (Lock 0))
+rule_free_in_implicit may = absurd (let current = may.current in cc)
+
+pub rule_allows_hold_after_end : HoldRule (Hold (NestLock 3) 0 (Explicit 1)) (after_events (two_tasks ++ Done 2 0 ∷ []))
+rule_allows_hold_after_end = record { current = refl; free = refl }
 
 -- Open holds
 

@@ -1,7 +1,7 @@
 -- Each clause of the rule of critical names by itself refuses an event after some others, which every other clause and the rule of holds
 -- allow, and a pass beside it shows what that clause is for. OpenMP API 5.2, section 15.2.
-use Rattle.std.proofs.Common.{◌≡◌, ℕ, ◌<◌, true, false, List, [], ◌∷◌, ◌++◌, refl, arith, rules}
-use Rattle.gomp_types.specs.declared.task.Task.TheVariants.{Implicit, Explicit}
+use Rattle.std.proofs.Common.{◌≡◌, List, [], ◌∷◌, ◌++◌, refl, arith, rules}
+use Rattle.gomp_types.specs.declared.task.Task.TheVariants.{Explicit}
 use Rattle.gomp_types.specs.declared.key.Key.TheVariants.{Critical, Lock}
 use Rattle.gomp_types.specs.declared.event.Arrival.TheVariants.{Barrier}
 use Rattle.gomp_types.specs.declared.event.Event.{Event}
@@ -21,12 +21,12 @@ abbrev AllowedTo : List Event → Event → Type 0
 AllowedTo events event = Always HoldRule (event ∷ after_events events) × Always NameRule (after_events events)
 
 -- the rule of critical names alone refuses it
-abbrev RefusedAlone : List Event → Event → Type 0
-RefusedAlone events event = (NameRule event (after_events events) → ⊥) × AllowedTo events event
+abbrev RefusedByNames : List Event → Event → Type 0
+RefusedByNames events event = (NameRule event (after_events events) → ⊥) × AllowedTo events event
 
 -- it allows it too
-abbrev AllowedAfter : List Event → Event → Type 0
-AllowedAfter events event = NameRule event (after_events events) × AllowedTo events event
+abbrev AllowedByNames : List Event → Event → Type 0
+AllowedByNames events event = NameRule event (after_events events) × AllowedTo events event
 
 -- a pass of the first member that holds the name 'a' in one of its tasks
 abbrev PassesHolding : List Event → Type 0
@@ -46,35 +46,35 @@ task_frees = Free (Critical short_name) 0 (Explicit 1)
 -- A member arrives
 
 -- while it holds a name
-abbrev in_region : List Event
-in_region = hold_by 0 (Critical short_name) ∷ []
+abbrev held_region : List Event
+held_region = hold_by 0 (Critical short_name) ∷ []
 
-pub names_arrive_in_region : RefusedAlone in_region arrives
+pub names_arrive_in_region : RefusedByNames held_region arrives
 names_arrive_in_region = (λ may. absurd (let free = may.free in cc), (search rules, search rules))
 
-pub pass_of_arrived_in_region : PassesHolding (in_region ++ arrives ∷ [])
+pub pass_of_arrived_in_region : PassesHolding (held_region ++ arrives ∷ [])
 pass_of_arrived_in_region law = absurd (let none = law short_name zero_owner refl in omega (arith, none))
 
 -- also if it freed another
-pub names_arrive_in_one_of_two : RefusedAlone (hold_by 0 (Critical short_name) ∷ hold_by 0 (Critical longer_name) ∷ free_by 0 (Critical longer_name) ∷ []) arrives
+pub names_arrive_in_one_of_two : RefusedByNames (hold_by 0 (Critical short_name) ∷ hold_by 0 (Critical longer_name) ∷ free_by 0 (Critical longer_name) ∷ []) arrives
 names_arrive_in_one_of_two = (λ may. absurd (let free = may.free in cc), (search rules, search rules))
 
 -- in an explicit task, which holds none, though the implicit one does
 abbrev in_task_of_region : List Event
 in_task_of_region = hold_by 0 (Critical short_name) ∷ Start 1 0 ∷ []
 
-pub names_arrive_in_task : RefusedAlone in_task_of_region arrives
+pub names_arrive_in_task : RefusedByNames in_task_of_region arrives
 names_arrive_in_task = (λ may. absurd (let outside = may.outside in cc), (search rules, search rules))
 
 pub pass_of_arrived_in_task : PassesHolding (in_task_of_region ++ arrives ∷ Done 1 0 ∷ [])
 pass_of_arrived_in_task law = absurd (let none = law short_name zero_owner refl in omega (arith, none))
 
 -- it may hold a lock, and another member a name
-pub names_arrive_with_lock : AllowedAfter (hold_by 0 (Lock 3) ∷ hold_by 1 (Critical short_name) ∷ Start 1 1 ∷ []) arrives
+pub names_arrive_with_lock : AllowedByNames (hold_by 0 (Lock 3) ∷ hold_by 1 (Critical short_name) ∷ Start 1 1 ∷ []) arrives
 names_arrive_with_lock = (search rules, (search rules, search rules))
 
 -- once it has left the region and ended the task
-pub names_arrive_after_region : AllowedAfter (in_task_of_region ++ Done 1 0 ∷ free_by 0 (Critical short_name) ∷ []) arrives
+pub names_arrive_after_region : AllowedByNames (in_task_of_region ++ Done 1 0 ∷ free_by 0 (Critical short_name) ∷ []) arrives
 names_arrive_after_region = (search rules, (search rules, search rules))
 
 -- A task ends
@@ -83,51 +83,51 @@ names_arrive_after_region = (search rules, (search rules, search rules))
 abbrev task_in_region : List Event
 task_in_region = arrives ∷ Start 1 0 ∷ task_holds ∷ []
 
-pub names_end_in_region : RefusedAlone task_in_region (Done 1 0)
-names_end_in_region = (λ may. absurd (let free = may.free in cc), (search rules, search rules))
+pub names_end_in_region : RefusedByNames task_in_region (Done 1 0)
+names_end_in_region = (λ may. absurd (let left = may.left in cc), (search rules, search rules))
 
 pub pass_of_ended_in_region : PassesHolding (task_in_region ++ Done 1 0 ∷ [])
 pass_of_ended_in_region law = absurd (let none = law short_name task_owner refl in omega (arith, none))
 
 -- once it has left it
-pub names_end_after_region : AllowedAfter (task_in_region ++ task_frees ∷ []) (Done 1 0)
+pub names_end_after_region : AllowedByNames (task_in_region ++ task_frees ∷ []) (Done 1 0)
 names_end_after_region = (search rules, (search rules, search rules))
 
 -- with a lock
-pub names_end_with_lock : AllowedAfter (Start 1 0 ∷ Hold (Lock 3) 0 (Explicit 1) ∷ []) (Done 1 0)
+pub names_end_with_lock : AllowedByNames (Start 1 0 ∷ Hold (Lock 3) 0 (Explicit 1) ∷ []) (Done 1 0)
 names_end_with_lock = (search rules, (search rules, search rules))
 
 -- in the region of a task that it suspends
-pub names_end_within_region : AllowedAfter (hold_by 0 (Critical short_name) ∷ Start 1 0 ∷ []) (Done 1 0)
+pub names_end_within_region : AllowedByNames (hold_by 0 (Critical short_name) ∷ Start 1 0 ∷ []) (Done 1 0)
 names_end_within_region = (search rules, (search rules, search rules))
 
 -- A task holds
 
 -- a member that waits at a barrier, in its implicit task: a name or a lock
-pub names_hold_at_barrier : RefusedAlone (arrives ∷ []) (hold_by 0 (Critical short_name))
+pub names_hold_at_barrier : RefusedByNames (arrives ∷ []) (hold_by 0 (Critical short_name))
 names_hold_at_barrier = (λ may. absurd (let away = may.away refl in cc), (search rules, search rules))
 
-pub names_lock_at_barrier : RefusedAlone (arrives ∷ []) (hold_by 0 (Lock 3))
+pub names_lock_at_barrier : RefusedByNames (arrives ∷ []) (hold_by 0 (Lock 3))
 names_lock_at_barrier = (λ may. absurd (let away = may.away refl in cc), (search rules, search rules))
 
 pub pass_of_held_at_barrier : PassesHolding (arrives ∷ hold_by 0 (Critical short_name) ∷ [])
 pass_of_held_at_barrier law = absurd (let none = law short_name zero_owner refl in omega (arith, none))
 
 -- in the task that it executes there
-pub names_hold_in_task_at_barrier : AllowedAfter (arrives ∷ Start 1 0 ∷ []) task_holds
+pub names_hold_in_task_at_barrier : AllowedByNames (arrives ∷ Start 1 0 ∷ []) task_holds
 names_hold_in_task_at_barrier = (record { away = λ outside. absurd (cc) }, (search rules, search rules))
 
 -- another member, and the same once it has passed
-pub names_hold_beside_barrier : AllowedAfter (arrives ∷ []) (hold_by 1 (Critical short_name))
+pub names_hold_beside_barrier : AllowedByNames (arrives ∷ []) (hold_by 1 (Critical short_name))
 names_hold_beside_barrier = (search rules, (search rules, search rules))
 
-pub names_hold_past_barrier : AllowedAfter (arrives ∷ Pass 0 0 ∷ []) (hold_by 0 (Critical short_name))
+pub names_hold_past_barrier : AllowedByNames (arrives ∷ Pass 0 0 ∷ []) (hold_by 0 (Critical short_name))
 names_hold_past_barrier = (search rules, (search rules, search rules))
 
 -- A task starts
 
 -- by the number of an implicit one
-pub names_start_numbered_zero : RefusedAlone [] (Start 0 0)
+pub names_start_numbered_zero : RefusedByNames [] (Start 0 0)
 names_start_numbered_zero = (λ may. absurd (let number = may.number in omega (arith, number)), (search rules, search rules))
 
 -- since it would be one owner with its member's implicit task, and free what that holds
@@ -135,7 +135,7 @@ pub task_zero_is_implicit : (asker 0 (after_events (Start 0 0 ∷ [])) ≡ zero_
 task_zero_is_implicit = (refl, record { current = refl; held = refl })
 
 -- by the number 1
-pub names_start_first : AllowedAfter [] (Start 1 0)
+pub names_start_first : AllowedByNames [] (Start 1 0)
 names_start_first = (record { number = omega arith }, (search rules, search rules))
 
 -- The whole

@@ -1,12 +1,10 @@
 -- What the rules of holds and of critical names keep: which tasks of a member may hold a critical name, and that none does as it passes.
 use Rattle.std.proofs.Common.{◌≡◌, ℕ, ◌-◌, Bool, true, false, List, [], ◌∷◌, Option, Some, None, refl, ap, ◌∙◌, arith, inl, inr}
-use Rattle.std.specs.Prelude.{if◌then◌else◌, ◌&&◌, ◌||◌, ◌==◌, not}
+use Rattle.std.specs.Prelude.{if◌then◌else◌, ◌&&◌, ◌||◌, ◌==◌, ◌⊎◌, not}
 use Rattle.std.proofs.lemmas.Bool.{cases_Bool}
-use Rattle.gomp_types.specs.declared.task.Task.{Task}
 use Rattle.gomp_types.specs.declared.task.Task.TheVariants.{Implicit}
 use Rattle.gomp_types.specs.declared.task.Owner.{Owner}
 use Rattle.gomp_types.specs.declared.lock.Held.{Held}
-use Rattle.gomp_types.specs.declared.key.Key.{Key}
 use Rattle.gomp_types.specs.declared.key.Key.TheVariants.{Critical}
 use Rattle.gomp_types.specs.declared.event.Event.{Event}
 use Rattle.gomp_types.specs.declared.event.Event.TheVariants.{Hold, Free, Arrive, Pass, Start, Done}
@@ -14,8 +12,8 @@ use Rattle.gomp_types.specs.Events.{at_barrier}
 use Rattle.gomp_types.specs.Tasks.{contains, after_first, task_stack, innermost_task, executed_task, of_explicit, in_task}
 use Rattle.gomp_types.specs.Laws.{Always}
 use Rattle.gomp_types.specs.Owners.{same_owner}
-use Rattle.gomp_types.proofs.Booleans.{is_equal, and_left, and_false, not_both, or_left, or_right, or_tells, other_number, same_number}
-use Rattle.gomp_locks.specs.Book.{held_by, held_times}
+use Rattle.gomp_types.proofs.Booleans.{is_equal, and_left, and_right, not_both, or_left, or_right, or_tells, other_number, same_number}
+use Rattle.gomp_locks.specs.Book.{held_times}
 use Rattle.gomp_locks.specs.Locks.{count_for}
 use Rattle.gomp_locks.specs.Holders.{same_key, task_number, owner_of, asker, held_once_less, holder, holds_critical}
 use Rattle.gomp_locks.specs.HoldRules.{HoldRule}
@@ -74,25 +72,25 @@ asker_within m h within all = innermost_above_zero m (task_stack m h) (stack_abo
 -- Which tasks may hold a name
 
 -- whether the task of this number may: one that the member has started and not ended, and its implicit one unless it waits at a barrier
-abbrev may_own : ℕ → List ℕ → Bool → Bool
-may_own number ts waits = (number == 0 && not waits) || contains number ts
+abbrev can_own : ℕ → List ℕ → Bool → Bool
+can_own number ts waits = (number == 0 && not waits) || contains number ts
 
 -- nobody holds it, or such a task of its member
 abbrev IsOwned : (ℕ → List ℕ) → (ℕ → Bool) → Option Held → Type 0
 IsOwned stack waits None = Unit {0}
-IsOwned stack waits (Some held) = (held.owner.team ≡ 0) × (may_own held.owner.task (stack held.owner.member) (waits held.owner.member) ≡ true)
+IsOwned stack waits (Some held) = (held.owner.team ≡ 0) × (can_own held.owner.task (stack held.owner.member) (waits held.owner.member) ≡ true)
 
 -- the same after these events
 abbrev IsOwnedAfter : List Event → Option Held → Type 0
 IsOwnedAfter h found = IsOwned (λ m. task_stack m h) (λ m. at_barrier m h) found
 
 -- the task that a member executes may, if it takes nothing itself while it waits
-own_innermost : (m : ℕ) (ts : List ℕ) (waits : Bool) → (of_explicit (λ t. true) (innermost_task m ts) ≡ false → waits ≡ false) → may_own (task_number (innermost_task m ts)) ts waits ≡ true
+own_innermost : (m : ℕ) (ts : List ℕ) (waits : Bool) → (of_explicit (λ t. true) (innermost_task m ts) ≡ false → waits ≡ false) → can_own (task_number (innermost_task m ts)) ts waits ≡ true
 own_innermost m [] waits away = rw (away refl) refl
 own_innermost m (t ∷ ts) waits away = or_right (t == 0 && not waits) (t == t || contains t ts) (or_left (t == t) (contains t ts) (same_number t))
 
 -- one that may still does once another is started
-own_started : (number task : ℕ) (ts : List ℕ) (waits b : Bool) → may_own number ts waits ≡ true → may_own number (if b then task ∷ ts else ts) waits ≡ true
+own_started : (number task : ℕ) (ts : List ℕ) (waits b : Bool) → can_own number ts waits ≡ true → can_own number (if b then task ∷ ts else ts) waits ≡ true
 own_started number task ts waits false may = may
 own_started number task ts waits true may = elim (or_tells (number == 0 && not waits) (contains number ts) may) [
   | inl implicit ↦ or_left (number == 0 && not waits) (task == number || contains number ts) implicit
@@ -100,34 +98,35 @@ own_started number task ts waits true may = elim (or_tells (number == 0 && not w
 ]
 
 -- and once another is ended
-own_ended : (m number : ℕ) (ts : List ℕ) (waits : Bool) → (task_number (innermost_task m ts) ≡ number → ⊥) → may_own number ts waits ≡ true → may_own number (after_first ts) waits ≡ true
+own_ended : (m number : ℕ) (ts : List ℕ) (waits : Bool) → (task_number (innermost_task m ts) ≡ number → ⊥) → can_own number ts waits ≡ true → can_own number (after_first ts) waits ≡ true
 own_ended m number [] waits another may = may
 own_ended m number (t ∷ ts) waits another may = let apart : (t == number) ≡ false = other_number t number another in rw apart at may
 
 -- and once a barrier is passed
-own_passed : (number : ℕ) (ts : List ℕ) (waits b : Bool) → may_own number ts waits ≡ true → may_own number ts (if b then false else waits) ≡ true
+own_passed : (number : ℕ) (ts : List ℕ) (waits b : Bool) → can_own number ts waits ≡ true → can_own number ts (if b then false else waits) ≡ true
 own_passed number ts waits false may = may
 own_passed number ts waits true may = elim (or_tells (number == 0 && not waits) (contains number ts) may) [
   | inl implicit ↦ rw (and_left (number == 0) (not waits) implicit) refl
   | inr started ↦ or_right (number == 0 && true) (contains number ts) started
 ]
 
--- a member that has ended all that it has started holds as its implicit task alone, and as no task while it waits
-own_alone : (number : ℕ) (ts : List ℕ) (waits : Bool) → ts ≡ [] → may_own number ts waits ≡ true → (number == 0) ≡ true
-own_alone number ts waits empty may = elim (or_tells (number == 0 && not waits) (contains number ts) may) [
-  | inl implicit ↦ and_left (number == 0) (not waits) implicit
-  | inr started ↦ absurd (let never : false ≡ true = rw empty at started in cc)
+-- one that may is the implicit one or not ended
+own_tells : (number : ℕ) (ts : List ℕ) (waits : Bool) → can_own number ts waits ≡ true → (number ≡ 0) ⊎ (contains number ts ≡ true)
+own_tells number ts waits may = elim (or_tells (number == 0 && not waits) (contains number ts) may) [
+  | inl implicit ↦ inl (is_equal number 0 (and_left (number == 0) (not waits) implicit))
+  | inr started ↦ inr started
 ]
 
-own_none : (number : ℕ) (ts : List ℕ) (waits : Bool) → ts ≡ [] → waits ≡ true → may_own number ts waits ≡ true → ⊥
-own_none number ts waits empty at_it may = let never : (number == 0 && false) ≡ true = own_left (rw (empty, at_it) at may) in not_both (number == 0 && false) never (and_false (number == 0) false refl)
-  where
-    own_left : (number == 0 && false || false) ≡ true → (number == 0 && false) ≡ true
-    own_left e = elim (or_tells (number == 0 && false) false e) [ inl left ↦ left | inr right ↦ absurd (cc) ]
+-- and not the implicit one at a barrier
+own_waiting : (number : ℕ) (ts : List ℕ) (waits : Bool) → waits ≡ true → can_own number ts waits ≡ true → contains number ts ≡ true
+own_waiting number ts waits at_it may = elim (or_tells (number == 0 && not waits) (contains number ts) may) [
+  | inl implicit ↦ absurd (not_both (not waits) (and_right (number == 0) (not waits) implicit) (rw at_it refl))
+  | inr started ↦ started
+]
 
 -- What the events keep
 
--- who may hold it may hold it once less
+-- a release
 owned_less : (stack : ℕ → List ℕ) (waits : ℕ → Bool) (found : Option Held) → IsOwned stack waits found → IsOwned stack waits (held_once_less found)
 owned_less stack waits None may = tt
 owned_less stack waits (Some held) may = by_count (held.count - 1 == 0) refl
@@ -136,10 +135,12 @@ owned_less stack waits (Some held) may = by_count (held.count - 1 == 0) refl
     by_count true e = rw e tt
     by_count false e = rw e may
 
+-- a start
 owned_started : (task m : ℕ) (h : List Event) (found : Option Held) → IsOwnedAfter h found → IsOwnedAfter (Start task m ∷ h) found
 owned_started task m h None may = tt
 owned_started task m h (Some held) may = (may.0, own_started held.owner.task task (task_stack held.owner.member h) (at_barrier held.owner.member h) (m == held.owner.member) may.1)
 
+-- a pass
 owned_passed : (barrier m : ℕ) (h : List Event) (found : Option Held) → IsOwnedAfter h found → IsOwnedAfter (Pass barrier m ∷ h) found
 owned_passed barrier m h None may = tt
 owned_passed barrier m h (Some held) may = (may.0, own_passed held.owner.task (task_stack held.owner.member h) (at_barrier held.owner.member h) (m == held.owner.member) may.1)
@@ -150,18 +151,18 @@ not_asker name held h all free is team which =
     let same : same_owner held.owner (asker held.owner.member h) ≡ true = rw (team, which, same_number held.owner.member, same_number held.owner.task) refl in
     not_both (holds_critical (asker held.owner.member h) h) (name_is_held (asker held.owner.member h) name h all (rw is same)) free
 
--- so it may end its task
+-- so the end of its task
 owned_ended : (task m : ℕ) (name : List ℕ) (h : List Event) → Always HoldRule h → holds_critical (asker m h) h ≡ false → (found : Option Held) → holder (Critical name) h ≡ found → IsOwnedAfter h found → IsOwnedAfter (Done task m ∷ h) found
 owned_ended task m name h all free None is may = tt
 owned_ended task m name h all free (Some held) is may = (may.0, by_member (m == held.owner.member) refl)
   where
-    by_member : (b : Bool) → (m == held.owner.member) ≡ b → may_own held.owner.task (if b then after_first (task_stack held.owner.member h) else task_stack held.owner.member h) (at_barrier held.owner.member h) ≡ true
+    by_member : (b : Bool) → (m == held.owner.member) ≡ b → can_own held.owner.task (if b then after_first (task_stack held.owner.member h) else task_stack held.owner.member h) (at_barrier held.owner.member h) ≡ true
     by_member false e = may.1
     by_member true e =
         own_ended held.owner.member held.owner.task (task_stack held.owner.member h) (at_barrier held.owner.member h)
         (not_asker name held h all (rw (is_equal m held.owner.member e) at free) is may.0) may.1
 
--- or arrive, in its implicit task
+-- and its arrival
 owned_arrived : (m : ℕ) (name : List ℕ) (h : List Event) → Always HoldRule h → in_task m h ≡ false → holds_critical (asker m h) h ≡ false → (found : Option Held) → holder (Critical name) h ≡ found → IsOwnedAfter h found → IsOwned (λ k. task_stack k h) (λ k. if m == k then true else at_barrier k h) found
 owned_arrived m name h all outside free None is may = tt
 owned_arrived m name h all outside free (Some held) is may = (may.0, by_member (m == held.owner.member) refl)
@@ -169,19 +170,21 @@ owned_arrived m name h all outside free (Some held) is may = (may.0, by_member (
     nobody : m ≡ held.owner.member → ⊥
     nobody who =
         let empty : task_stack held.owner.member h ≡ [] = no_task_outside held.owner.member h (rw who at outside) in
-        let zero : held.owner.task ≡ 0 = is_equal held.owner.task 0 (own_alone held.owner.task (task_stack held.owner.member h) (at_barrier held.owner.member h) empty may.1) in
-        not_asker name held h all (rw who at free) is may.0 (rw (empty, zero) refl)
+        elim (own_tells held.owner.task (task_stack held.owner.member h) (at_barrier held.owner.member h) may.1) [
+          | inl zero ↦ not_asker name held h all (rw who at free) is may.0 (rw (empty, zero) refl)
+          | inr started ↦ let never : false ≡ true = rw empty at started in absurd (cc)
+        ]
 
-    by_member : (b : Bool) → (m == held.owner.member) ≡ b → may_own held.owner.task (task_stack held.owner.member h) (if b then true else at_barrier held.owner.member h) ≡ true
+    by_member : (b : Bool) → (m == held.owner.member) ≡ b → can_own held.owner.task (task_stack held.owner.member h) (if b then true else at_barrier held.owner.member h) ≡ true
     by_member false e = may.1
     by_member true e = absurd (nobody (is_equal m held.owner.member e))
 
 -- who holds a critical name is a task that its member has not ended, and at a barrier not the implicit one
-pub name_owner_may_hold : (name : List ℕ) (h : List Event) → Always HoldRule h → Always NameRule h → IsOwnedAfter h (holder (Critical name) h)
+name_owner_may_hold : (name : List ℕ) (h : List Event) → Always HoldRule h → Always NameRule h → IsOwnedAfter h (holder (Critical name) h)
 name_owner_may_hold name [] holds names = tt
 name_owner_may_hold name (Hold other m task ∷ earlier) holds names = by_key (same_key other (Critical name)) refl (name_owner_may_hold name earlier holds.1 names.1)
   where
-    may : may_own (task_number task) (task_stack m earlier) (at_barrier m earlier) ≡ true
+    may : can_own (task_number task) (task_stack m earlier) (at_barrier m earlier) ≡ true
     may = rw holds.0.current (own_innermost m (task_stack m earlier) (at_barrier m earlier) names.0.away)
 
     by_key : (b : Bool) → same_key other (Critical name) ≡ b → IsOwnedAfter earlier (holder (Critical name) earlier) → IsOwnedAfter earlier (holder (Critical name) (Hold other m task ∷ earlier))
@@ -195,11 +198,21 @@ name_owner_may_hold name (Free other m task ∷ earlier) holds names = by_key (s
     by_key true e before = rw e (owned_less (λ k. task_stack k earlier) (λ k. at_barrier k earlier) (holder (Critical name) earlier) before)
     by_key false e before = rw e before
 name_owner_may_hold name (Start task m ∷ earlier) holds names = owned_started task m earlier (holder (Critical name) earlier) (name_owner_may_hold name earlier holds.1 names.1)
-name_owner_may_hold name (Done task m ∷ earlier) holds names = owned_ended task m name earlier holds.1 names.0.free (holder (Critical name) earlier) refl (name_owner_may_hold name earlier holds.1 names.1)
+name_owner_may_hold name (Done task m ∷ earlier) holds names = owned_ended task m name earlier holds.1 names.0.left (holder (Critical name) earlier) refl (name_owner_may_hold name earlier holds.1 names.1)
 name_owner_may_hold name (Arrive barrier m tag ∷ earlier) holds names =
     owned_arrived m name earlier holds.1 names.0.outside names.0.free (holder (Critical name) earlier) refl (name_owner_may_hold name earlier holds.1 names.1)
 name_owner_may_hold name (Pass barrier m ∷ earlier) holds names = owned_passed barrier m earlier (holder (Critical name) earlier) (name_owner_may_hold name earlier holds.1 names.1)
 name_owner_may_hold name (_ ∷ earlier) holds names = name_owner_may_hold name earlier holds.1 names.1
+
+-- so it is held by its member's implicit task or by one that the member has started and not ended
+pub name_owner_not_ended : (name : List ℕ) (held : Held) (h : List Event) → Always HoldRule h → Always NameRule h → holder (Critical name) h ≡ Some held → (held.owner.task ≡ 0) ⊎ (contains held.owner.task (task_stack held.owner.member h) ≡ true)
+name_owner_not_ended name held h holds names is =
+    let may = rw is at (name_owner_may_hold name h holds names) in own_tells held.owner.task (task_stack held.owner.member h) (at_barrier held.owner.member h) may.1
+
+-- and while the member waits at a barrier by such a one
+pub name_owner_at_barrier : (name : List ℕ) (held : Held) (h : List Event) → Always HoldRule h → Always NameRule h → at_barrier held.owner.member h ≡ true → holder (Critical name) h ≡ Some held → contains held.owner.task (task_stack held.owner.member h) ≡ true
+name_owner_at_barrier name held h holds names waits is =
+    let may = rw is at (name_owner_may_hold name h holds names) in own_waiting held.owner.task (task_stack held.owner.member h) (at_barrier held.owner.member h) waits may.1
 
 -- At the pass
 
@@ -208,7 +221,9 @@ no_task_holds m owner h None empty waits may own = refl
 no_task_holds m owner h (Some held) empty waits may own = by_owner (same_owner held.owner owner) refl
   where
     nobody : held.owner.member ≡ m → ⊥
-    nobody who = own_none held.owner.task (task_stack held.owner.member h) (at_barrier held.owner.member h) (rw who empty) (rw who waits) may.1
+    nobody who =
+        let started = own_waiting held.owner.task (task_stack held.owner.member h) (at_barrier held.owner.member h) (rw who waits) may.1 in
+        let never : false ≡ true = rw (who, empty) at started in absurd (cc)
 
     by_owner : (b : Bool) → same_owner held.owner owner ≡ b → count_for owner (Some held) ≡ 0
     by_owner true e = absurd (nobody (ap (λ (one : Owner). one.member) (one_owner held.owner owner e) ∙ own))

@@ -12,9 +12,9 @@ pub record ArrivesFree (m : ℕ) (earlier : List Event) : Type 0 where
   pub outside : in_task m earlier ≡ false
   pub free : holds_critical (asker m earlier) earlier ≡ false
 
--- the task that a member ends holds no critical name
+-- the task that a member ends has left each critical region
 pub record EndsFree (m : ℕ) (earlier : List Event) : Type 0 where
-  pub free : holds_critical (asker m earlier) earlier ≡ false
+  pub left : holds_critical (asker m earlier) earlier ≡ false
 
 -- a member that waits at a barrier holds nothing more in its implicit task: only the tasks that it executes meanwhile do
 pub record HoldsAway (m : ℕ) (earlier : List Event) : Type 0 where
