@@ -62,9 +62,9 @@ hold_of_key key other m task h same may = rw (one_key other key same) at may.fre
 free_of_key : (key other : Key) (m : ℕ) (task : Task) (h : List Event) → same_key other key ≡ true → MayFree other m task h → held_by (owner_of m task) (holder key h) ≡ true
 free_of_key key other m task h same may = rw (one_key other key same) at may.held
 
--- What an owner holds, after an event of another
+-- Whether an owner holds it, after an event of another
 
--- the owner of what is held once more is the one that it had, or the one that holds it now
+-- a hold keeps the owner, if there is one
 held_more_by_another : (one owner : Owner) (found : Option Held) → same_owner one owner ≡ false → held_by owner (held_once_more one found) ≡ held_by owner found
 held_more_by_another one owner None other = other
 held_more_by_another one owner (Some held) other = refl
@@ -85,7 +85,7 @@ held_less_by_another one owner (Some held) may other = by_count (held.count - 1 
     by_count true e = rw (e, apart) refl
     by_count false e = rw e refl
 
--- a hold leaves what another owner holds
+-- whether an owner holds it does not change by a hold of another
 pub held_by_another_stays_held : (key x : Key) (owner : Owner) (n : ℕ) (task : Task) (h : List Event) → same_owner (owner_of n task) owner ≡ false → held_by owner (holder x (Hold key n task ∷ h)) ≡ held_by owner (holder x h)
 held_by_another_stays_held key x owner n task h other = by_key (same_key key x) refl
   where
@@ -93,7 +93,7 @@ held_by_another_stays_held key x owner n task h other = by_key (same_key key x) 
     by_key true e = rw e (held_more_by_another (owner_of n task) owner (holder x h) other)
     by_key false e = rw e refl
 
--- and so does a release
+-- nor by a release
 pub held_by_another_stays_freed : (key x : Key) (owner : Owner) (n : ℕ) (task : Task) (h : List Event) → MayFree key n task h → same_owner (owner_of n task) owner ≡ false → held_by owner (holder x (Free key n task ∷ h)) ≡ held_by owner (holder x h)
 held_by_another_stays_freed key x owner n task h may other = by_key (same_key key x) refl
   where

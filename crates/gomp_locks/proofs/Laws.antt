@@ -115,7 +115,7 @@ holder_of_names_by_events owner h all = (critical_name_held owner h all, (λ hel
 pub open_holds_by_events : (owner : Owner) (key : Key) (h : List Event) → Always HoldRule h → holds_left owner key h ≡ count_for owner (holder key h)
 open_holds_by_events = holds_left_is_count
 
--- what an owner holds is left as it is by the hold and the release of any other, also of another task of its member
+-- whether an owner holds it does not change by a hold or a release of another, also of another task of its member
 pub held_stays_as_another_holds : (key other : Key) (owner : Owner) (m : ℕ) (task : Task) (h : List Event) → same_owner (owner_of m task) owner ≡ false → held_by owner (holder key (Hold other m task ∷ h)) ≡ held_by owner (holder key h)
 held_stays_as_another_holds key other = held_by_another_stays_held other key
 
