@@ -1,5 +1,5 @@
 -- What the rules of holds and of critical names keep: which tasks of a member may hold a critical name, and that none does as it passes.
-use Rattle.std.proofs.Common.{◌≡◌, ℕ, ◌-◌, Bool, true, false, List, [], ◌∷◌, Option, Some, None, refl, ap, ◌∙◌, arith, inl, inr}
+use Rattle.std.proofs.Common.{◌≡◌, ℕ, ◌-◌, ◌<◌, Bool, true, false, List, [], ◌∷◌, Option, Some, None, refl, ap, ◌∙◌, arith, inl, inr}
 use Rattle.std.specs.Prelude.{if◌then◌else◌, ◌&&◌, ◌||◌, ◌==◌, ◌⊎◌, not}
 use Rattle.std.proofs.lemmas.Bool.{cases_Bool}
 use Rattle.gomp_types.specs.declared.task.Task.TheVariants.{Implicit}
@@ -18,9 +18,9 @@ use Rattle.gomp_locks.specs.Locks.{count_for}
 use Rattle.gomp_locks.specs.Holders.{same_key, task_number, owner_of, asker, held_once_less, holder, holds_critical}
 use Rattle.gomp_locks.specs.HoldRules.{HoldRule}
 use Rattle.gomp_locks.specs.NameRules.{NameRule}
-use Rattle.gomp_locks.specs.HoldLaws.{PassesFree}
+use Rattle.gomp_locks.specs.HoldLaws.{holds_left, PassesFree}
 use Rattle.gomp_locks.proofs.NameLemmas.{one_owner}
-use Rattle.gomp_locks.proofs.HoldsKeep.{hold_of_key, free_name, holds_left_is_count, name_is_held}
+use Rattle.gomp_locks.proofs.HoldsKeep.{hold_of_key, free_name, holds_left_is_count, name_is_held, critical_name_held, frees_its_own}
 
 -- The task that a member executes
 
@@ -234,3 +234,15 @@ pub passes_free_holds : (barrier m : ℕ) (earlier : List Event) → in_task m e
 passes_free_holds barrier m earlier outside waits holds names = λ name owner own.
     rw (holds_left_is_count owner (Critical name) earlier holds)
     (no_task_holds m owner earlier (holder (Critical name) earlier) (no_task_outside m earlier outside) waits (name_owner_may_hold name earlier holds names) own)
+
+-- nor in the one in which it asks
+pub no_name_at_barrier : (m : ℕ) (h : List Event) → in_task m h ≡ false → at_barrier m h ≡ true → Always HoldRule h → Always NameRule h → holds_critical (asker m h) h ≡ false
+no_name_at_barrier m h outside waits holds names = by_names (holds_critical (asker m h) h) refl
+  where
+    by_names : (b : Bool) → holds_critical (asker m h) h ≡ b → holds_critical (asker m h) h ≡ false
+    by_names false e = e
+    by_names true e =
+        let one = critical_name_held (asker m h) h holds e in
+        let some : 0 < holds_left (asker m h) (Critical one.0) h = frees_its_own (Free (Critical one.0) m (executed_task m h)) h (record { current = refl; held = one.1 }) holds in
+        let none : holds_left (asker m h) (Critical one.0) h ≡ 0 = passes_free_holds 0 m h outside waits holds names one.0 (asker m h) refl in
+        absurd (omega (arith, some, none))
