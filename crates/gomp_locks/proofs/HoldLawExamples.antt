@@ -128,40 +128,40 @@ rule_allows_next_holder =
 -- Two tasks of one member
 
 -- a member holds in the task that it executes, and in the next one that it starts; then each frees its own, the inner one first
-abbrev two_tasks : List Event
-two_tasks = hold_by 0 (Lock 0) ∷ Start 1 0 ∷ Hold (NestLock 3) 0 (Explicit 1) ∷ Start 2 0 ∷ Hold (Lock 1) 0 (Explicit 2) ∷ []
+abbrev two_task_holds : List Event
+two_task_holds = hold_by 0 (Lock 0) ∷ Start 1 0 ∷ Hold (NestLock 3) 0 (Explicit 1) ∷ Start 2 0 ∷ Hold (Lock 1) 0 (Explicit 2) ∷ []
 
-abbrev both_free : List Event
-both_free = Free (Lock 1) 0 (Explicit 2) ∷ Done 2 0 ∷ Free (NestLock 3) 0 (Explicit 1) ∷ Done 1 0 ∷ free_by 0 (Lock 0) ∷ []
+abbrev two_task_frees : List Event
+two_task_frees = Free (Lock 1) 0 (Explicit 2) ∷ Done 2 0 ∷ Free (NestLock 3) 0 (Explicit 1) ∷ Done 1 0 ∷ free_by 0 (Lock 0) ∷ []
 
-pub rule_allows_two_tasks : Always HoldRule (after_events (two_tasks ++ both_free))
+pub rule_allows_two_tasks : Always HoldRule (after_events (two_task_holds ++ two_task_frees))
 rule_allows_two_tasks = search rules
 
 -- the inner one may not hold what the suspended one holds, be it a nestable lock, nor free it
-pub rule_hold_of_suspended : RefusedAfter HoldRule two_tasks (Hold (NestLock 3) 0 (Explicit 2))
+pub rule_hold_of_suspended : RefusedAfter HoldRule two_task_holds (Hold (NestLock 3) 0 (Explicit 2))
 rule_hold_of_suspended may = absurd (let free = may.free in cc)
 
-pub rule_free_of_suspended : RefusedAfter HoldRule two_tasks (Free (NestLock 3) 0 (Explicit 2))
+pub rule_free_of_suspended : RefusedAfter HoldRule two_task_holds (Free (NestLock 3) 0 (Explicit 2))
 rule_free_of_suspended may = absurd (let held = may.held in cc)
 
 -- nor what the implicit task holds
-pub rule_hold_of_implicit : RefusedAfter HoldRule two_tasks (Hold (Lock 0) 0 (Explicit 2))
+pub rule_hold_of_implicit : RefusedAfter HoldRule two_task_holds (Hold (Lock 0) 0 (Explicit 2))
 rule_hold_of_implicit may = absurd (let free = may.free in cc)
 
-pub rule_free_of_implicit : RefusedAfter HoldRule two_tasks (Free (Lock 0) 0 (Explicit 2))
+pub rule_free_of_implicit : RefusedAfter HoldRule two_task_holds (Free (Lock 0) 0 (Explicit 2))
 rule_free_of_implicit may = absurd (let held = may.held in cc)
 
 -- the suspended ones neither hold once more nor free what they hold, until the inner one has ended
-pub rule_hold_while_suspended : RefusedAfter HoldRule two_tasks (Hold (NestLock 3) 0 (Explicit 1))
+pub rule_hold_while_suspended : RefusedAfter HoldRule two_task_holds (Hold (NestLock 3) 0 (Explicit 1))
 rule_hold_while_suspended may = other_task 1 2 (λ same. absurd (omega (arith, same))) may.current
 
-pub rule_free_while_suspended : RefusedAfter HoldRule two_tasks (Free (NestLock 3) 0 (Explicit 1))
+pub rule_free_while_suspended : RefusedAfter HoldRule two_task_holds (Free (NestLock 3) 0 (Explicit 1))
 rule_free_while_suspended may = other_task 1 2 (λ same. absurd (omega (arith, same))) may.current
 
-pub rule_free_in_implicit : RefusedAfter HoldRule two_tasks (free_by 0 (Lock 0))
+pub rule_free_in_implicit : RefusedAfter HoldRule two_task_holds (free_by 0 (Lock 0))
 rule_free_in_implicit may = absurd (let current = may.current in cc)
 
-pub rule_allows_hold_after_end : HoldRule (Hold (NestLock 3) 0 (Explicit 1)) (after_events (two_tasks ++ Done 2 0 ∷ []))
+pub rule_allows_hold_after_end : HoldRule (Hold (NestLock 3) 0 (Explicit 1)) (after_events (two_task_holds ++ Done 2 0 ∷ []))
 rule_allows_hold_after_end = record { current = refl; free = refl }
 
 -- Open holds
