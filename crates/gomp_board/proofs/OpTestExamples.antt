@@ -1,18 +1,17 @@
 -- What each operation is tested for, what room it asks for, and which events it gives: each line of a definition by an example that it alone decides.
-use Rattle.std.proofs.Common.{◌≡◌, ℕ, true, false, List, [], ◌∷◌, ◌++◌, Some, None, refl}
+use Rattle.std.proofs.Common.{◌≡◌, true, false, List, [], ◌∷◌, ◌++◌, Some, None, refl}
 use Rattle.std.specs.Prelude.{map}
-use Rattle.gomp_types.specs.declared.task.Task.TheVariants.{Implicit, Explicit}
+use Rattle.gomp_types.specs.declared.task.Task.TheVariants.{Explicit}
 use Rattle.gomp_types.specs.declared.refusal.Place.TheVariants.{Share, Barrier as AtBarrier, Stopped as AtStop}
 use Rattle.gomp_types.specs.declared.refusal.Refusal.TheVariants.{Ended, Broken, Waiting, InsideTask, NotInTask, NotInside, NoGroup, GroupOpen, TooDeep, TooManyTasks, Mismatch, TraceFull, NoMemory}
 use Rattle.gomp_types.specs.declared.reply.Reply.TheVariants.{Finished, Passed, Wait, Created, Run, TaskDone, Stopped, Refused}
 use Rattle.gomp_types.specs.declared.event.Arrival.TheVariants.{Barrier, ShareEnd, RegionEnd}
-use Rattle.gomp_types.specs.declared.event.Event.{Event}
 use Rattle.gomp_types.specs.declared.event.Event.TheVariants.{Arrive, Pass, Create, Start, Done, Group, GroupEnd, Waited, Break}
 use Rattle.gomp_types.specs.EventLists.{at}
 use Rattle.gomp_board.specs.declared.op.Op.{Op}
 use Rattle.gomp_board.specs.declared.op.Op.TheVariants.{Create as CreateTask, EndTask, AwaitChildren, OpenGroup, EndGroup, Arrive as ArriveAt, AwaitBarrier, Reserve, Break as BreakAt}
-use Rattle.gomp_board.specs.Ops.{arrival_asks, op_asks, arrival_keeps, op_keeps, awaits_barrier, is_stop, op_refusal, op_begins, begun, op_gives, op_place, op_after, asks_memory}
-use Rattle.gomp_board.specs.Examples.{seven, eight, creates_root, creates_in, one_ready, one_runs, one_done, nested, group_empty, group_ready, group_done, first_waits, both_wait, runs_there, second_ends, both_end, first_left, stopped, limits_of, usual_limits, usual_refusal}
+use Rattle.gomp_board.specs.Ops.{arrival_asks, op_asks, arrival_keeps, op_keeps, awaits_barrier, is_stop, op_refusal, op_begins, begun, op_after, asks_memory}
+use Rattle.gomp_board.specs.Examples.{seven, eight, creates_root, one_ready, one_runs, one_done, nested, group_empty, group_ready, first_waits, both_wait, runs_there, second_ends, both_end, first_left, stopped, limits_of, usual_refusal}
 
 -- Room
 

@@ -11,10 +11,12 @@ mod arrivals;
 pub mod board;
 mod groups;
 pub mod op;
+pub mod payloads;
 mod refusals;
 mod room;
 mod tasks;
 mod waits;
+mod words;
 
 pub use board::Board;
 pub use op::Op;
