@@ -10,6 +10,7 @@ pub mod OpAnswerExamples
 pub mod OpTestExamples
 pub mod OwedKeeps
 pub mod Passing
+pub mod PayloadExamples
 pub mod PayloadsKeep
 pub mod Performed
 pub mod ReadyExamples

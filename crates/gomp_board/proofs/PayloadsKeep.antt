@@ -1,11 +1,12 @@
 -- The places of words after each event: that of newly put words has them, the others stay.
-use Rattle.std.proofs.Common.{◌≡◌, ◌≢◌, ℕ, ◌%◌, ◌<◌, List, [], ◌∷◌, Option, Some, None, length, slice_get, slice_set, replicate, refl, ap, ◌∙◌, sym, arith, suc, zero, inl, inr}
+use Rattle.std.proofs.Common.{◌≡◌, ◌≢◌, ℕ, true, ◌%◌, ◌<◌, List, [], ◌∷◌, Option, Some, None, length, slice_get, slice_set, replicate, refl, ap, ◌∙◌, sym, arith, suc, zero, inl, inr}
 use Rattle.std.specs.Prelude.{◌==◌}
 use Rattle.std.proofs.lemmas.Bool.{cases_Bool}
 use Rattle.std.proofs.lemmas.List.{length-set}
 use Rattle.gomp_types.specs.declared.limits.TheConstants.{OPEN_SHARES}
 use Rattle.gomp_types.specs.declared.event.Event.{Event}
 use Rattle.gomp_types.specs.declared.event.Event.TheVariants.{Put}
+use Rattle.gomp_types.specs.Events.{payload_at}
 use Rattle.gomp_types.proofs.Booleans.{is_equal, unequal_numbers, same_number}
 use Rattle.gomp_types.proofs.Lists.{slice_get-set_same, slice_get-set_other}
 use Rattle.gomp_board.specs.declared.payloads.Put.{Put as Kept}
@@ -55,3 +56,42 @@ payloads_with places share m words h st = record {
 -- its words are the newest of all shares with its rest
 pub words_at_place : (places : List (Option Kept)) (share : ℕ) (h : List Event) → PayloadsStand places h → words_at share (slice_get places (share % OPEN_SHARES)) ≡ words_of share (newest_put (share % OPEN_SHARES) h)
 words_at_place places share h st = ap (words_at share) (st.newest (share % OPEN_SHARES) (omega arith))
+
+-- so they are the words of share i, if they were put in it
+pub newest_words_are_of_share : (i : ℕ) (words : List ℕ) (h : List Event) → words_of i (newest_put (i % OPEN_SHARES) h) ≡ Some words → payload_at i h ≡ Some words
+newest_words_are_of_share i words [] e = absurd (cc)
+newest_words_are_of_share i words (Put share m put ∷ earlier) e =
+    elim (cases_Bool (share == i)) [
+      | inl one ↦
+          let same : share ≡ i = is_equal share i one in
+          let its : share % OPEN_SHARES == i % OPEN_SHARES ≡ true = rw same (same_number (i % OPEN_SHARES)) in
+          let found : Some put ≡ Some words = rw (its, one) at e in
+          rw one found
+      | inr two ↦
+          elim (cases_Bool (share % OPEN_SHARES == i % OPEN_SHARES)) [
+            | inl near ↦ absurd (let found : None ≡ Some words = rw (near, two) at e in cc)
+            | inr far ↦ rw two (newest_words_are_of_share i words earlier (rw far at e))
+          ]
+    ]
+newest_words_are_of_share i words (_ ∷ earlier) e = newest_words_are_of_share i words earlier e
+
+-- and all of them, unless words were put later in another share with its rest
+pub words_of_share_are_newest : (i : ℕ) (h : List Event) → ((j : ℕ) (words : List ℕ) → newest_put (i % OPEN_SHARES) h ≡ Some (record { share = j; words = words }) → j ≢ i → payload_at i h ≡ None) →
+    words_of i (newest_put (i % OPEN_SHARES) h) ≡ payload_at i h
+words_of_share_are_newest i [] never = refl
+words_of_share_are_newest i (Put share m put ∷ earlier) never =
+    elim (cases_Bool (share == i)) [
+      | inl one ↦
+          let same : share ≡ i = is_equal share i one in
+          let its : share % OPEN_SHARES == i % OPEN_SHARES ≡ true = rw same (same_number (i % OPEN_SHARES)) in
+          rw (its, one) refl
+      | inr two ↦
+          let differ : share ≢ i = unequal_numbers share i two in
+          elim (cases_Bool (share % OPEN_SHARES == i % OPEN_SHARES)) [
+            | inl near ↦
+                let none : payload_at i earlier ≡ None = rw two at (never share put (rw near refl) differ) in
+                rw (near, two) (sym none)
+            | inr far ↦ rw (far, two) (words_of_share_are_newest i earlier (λ j words is other. rw two at (never j words (rw far is) other)))
+          ]
+    ]
+words_of_share_are_newest i (_ ∷ earlier) never = words_of_share_are_newest i earlier never

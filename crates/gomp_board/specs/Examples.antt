@@ -91,6 +91,11 @@ first_left = Pass 0 0 ∷ both_end
 abbrev pub stopped : List Event
 stopped = Break 1 AtStop ∷ []
 
+-- Words of a single
+
+abbrev pub words : List ℕ
+words = 7 ∷ 8 ∷ []
+
 -- Operations of the first member of a team of two
 
 -- limits that allow so many tasks and events
