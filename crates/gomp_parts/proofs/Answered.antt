@@ -47,7 +47,7 @@ use Rattle.gomp_board.proofs.Waiting.{IsReply, after_reply, not_refused}
 use Rattle.gomp_parts.specs.Answers.{room_left, PutsInside, PartsStand, KeepsStart, IsReady, SomeReady, EachReady, StandAfter, LeavesBoard, AnswersCall}
 use Rattle.gomp_parts.specs.Serves.{asked_once, KeepsMore, arrival_op, NotesWords, AreShareEvents, GoesOn, SharesServe, GivesShareEvents, left_once}
 use Rattle.gomp_parts.proofs.ShareEvents.{share_events_aside, kept_after_events, puts_stay_inside, once_share_events, behind_entry}
-use Rattle.gomp_parts.proofs.OpAnswers.{op_fine, refused_for_memory, memory_was_asked, own_kept, others_kept, op_leaves_board, room_made, given_events, given_terms, given_room, parts_at, IsCallOp, op_gives_reply, op_stands}
+use Rattle.gomp_parts.proofs.OpAnswers.{op_fine, refused_for_memory, memory_was_asked, own_room_kept, others_kept, op_leaves_board, room_made, given_events, given_terms, given_room, parts_at, IsCallOp, op_gives_reply, op_stands}
 use Rattle.gomp_parts.proofs.CallOps.{made_once, waits_nowhere, tests_of_board, arrival_goes_on, passes_alike, awaits_as_many, not_lower}
 
 -- a reply that is no refusal may be given if the row has it
@@ -129,11 +129,11 @@ end_is_reply repeated m q (Refused NoMemory) may = absurd (cc)
 end_is_reply repeated m q (Refused _) may = may
 end_is_reply repeated m q _ may = tt
 
-end_stands : {S : Type 0} (stands : S → List Event → Type 0) (shares : S) (board : BoardView) (tests : Seen → List Test) (repeated : Bool) (m : ℕ) (p : Past) (reply : Reply) → IsReply reply →
+construct_end_stands : {S : Type 0} (stands : S → List Event → Type 0) (shares : S) (board : BoardView) (tests : Seen → List Test) (repeated : Bool) (m : ℕ) (p : Past) (reply : Reply) → IsReply reply →
     PartsStand stands shares board (past_given (arrival_row ShareEnd) repeated m (left_past repeated m p) reply) → PartsStand stands shares board (past_given (ending tests (arrival_row ShareEnd)) repeated m p reply)
-end_stands stands shares board tests repeated m p (Refused refusal) is st = absurd is
-end_stands stands shares board tests true m p _ is st = st
-end_stands stands shares board tests false m p _ is st = st
+construct_end_stands stands shares board tests repeated m p (Refused refusal) is st = absurd is
+construct_end_stands stands shares board tests true m p _ is st = st
+construct_end_stands stands shares board tests false m p _ is st = st
 
 pub end_answers : {S : Type 0} (stands : S → List Event → Type 0) (shares after : S) → ((h : List Event) (event : Event) → SharesAside event → stands after h → stands after (event ∷ h)) →
     (tests : Seen → List Test) (repeated : Bool) (m : ℕ) (board board_after : BoardView) (reply : Reply) → m < members_of board → SomeReady stands shares board (ending tests (arrival_row ShareEnd)) repeated m →
@@ -154,7 +154,7 @@ end_answers stands shares after aside tests repeated m board board_after reply l
       lacks = λ lack. absurd (not_refused reply NoMemory is lack);
       refuses = λ refusal refused. absurd (not_refused reply refusal is refused);
       answer = λ p parts ready. end_may tests repeated m p reply (given p parts ready);
-      stands_for = λ p parts ready. end_stands stands after board_after tests repeated m p reply is
+      stands_for = λ p parts ready. construct_end_stands stands after board_after tests repeated m p reply is
           (op_stands stands after aside (op p) (arrival_row ShareEnd) repeated m board board_after (left_past repeated m p) low (parts_left stands shares after repeated m board p (left p.events parts.shares_are) parts)
           (end_is_op stands shares tests repeated m board p parts ready (needs p ready)) reply (performs p.events parts.shares_are));
       keeps = λ wait. tt;
@@ -282,8 +282,8 @@ asked_nothing : (repeated : Bool) (room : ℕ) → repeated ≡ true → asked_o
 asked_nothing true room again = refl
 asked_nothing false room again = absurd (cc)
 
-pub goes_on_so : (row : Row) (repeated : Bool) (m : ℕ) (board : BoardView) (p : Past) → IsReady row repeated m board p → GoesOn row repeated m p
-goes_on_so row repeated m board p ready = record { compared = ready.compared; waits = ready.waits }
+pub ready_goes_on : (row : Row) (repeated : Bool) (m : ℕ) (board : BoardView) (p : Past) → IsReady row repeated m board p → GoesOn row repeated m p
+ready_goes_on row repeated m board p ready = record { compared = ready.compared; waits = ready.waits }
 
 served_is_reply : (row : Row) (repeated : Bool) (m : ℕ) (p : Past) (reply : Reply) → ((refusal : Refusal) → MayReply row repeated m p (Refused refusal) → ⊥) → MayReply row repeated m p reply → IsReply reply
 served_is_reply row repeated m p (Refused refusal) accepts may = accepts refusal may
@@ -293,7 +293,7 @@ pub share_answers : {S : Type 0} (stand : List Event → Type 0) (stands : S →
     IfSome row.starts (λ (shape : Shape). share_room shape ≤ row.room) → SomeReady stands shares board row repeated m → KeepsMore (asked_once repeated row.room) m board kept → ((p : Past) → PartsStand stands shares board p → stand p.events) →
     SharesServe stand stands members shares after row m reply → GivesShareEvents row m reply → AnswersCall stands shares after board kept row repeated m reply
 share_answers stand stands members shares after row repeated m board kept reply size fits (p0, parts0, ready0) more known serves events =
-    let may : (p : Past) → PartsStand stands shares board p → IsReady row repeated m board p → MayReply row repeated m p reply = λ p parts ready. serves.answer repeated p (parts.members ∙ size) (known p parts) (goes_on_so row repeated m board p ready) in
+    let may : (p : Past) → PartsStand stands shares board p → IsReady row repeated m board p → MayReply row repeated m p reply = λ p parts ready. serves.answer repeated p (parts.members ∙ size) (known p parts) (ready_goes_on row repeated m board p ready) in
     let is = served_is_reply row repeated m p0 reply (serves.accepts repeated p0) (may p0 parts0 ready0) in
     record {
       leaves = more_leaves (asked_once repeated row.room) m board kept more;
@@ -309,7 +309,7 @@ share_answers stand stands members shares after row repeated m board kept reply 
           let has = start_has_room row repeated m board kept fits more ready.kept in
           let same = parts.room in let made = more.room in
           parts_at stands after kept (past_given row repeated m p reply) p.terms (gives ++ (begins ++ p.events)) (p.room + asked_once repeated row.room) (given_terms row repeated m p reply) (given_events row repeated m p reply is) (given_room row repeated m p reply is)
-          (serves.stands_for repeated p (parts.members ∙ size) (known p parts) (goes_on_so row repeated m board p ready))
+          (serves.stands_for repeated p (parts.members ∙ size) (known p parts) (ready_goes_on row repeated m board p ready))
           (events_aside_keep_board kept (begins ++ p.events) gives (share_events_aside m row.starts gives are_given) (events_aside_keep_board kept p.events begins (share_events_aside m row.starts begins are_begun) (more.stands p.events parts.board_is)))
           (parts.members ∙ sym more.members) (parts.limits ∙ sym more.limits) (omega (arith, same, made))
           (λ k.
@@ -369,7 +369,7 @@ module _ {S : Type 0} (stands : S → List Event → Type 0) (shares after : S) 
       let none = none_asked (kept_by m kept) gift_kept in
       let same = parts.room in let roomy = more.room in
       parts_at stands after board_after (past_given single_copy_start_row repeated m p (Copied words)) p.terms (End n m ∷ Got n m words ∷ (entered_after m p.events)) (p.room + asked_once repeated 1) refl refl (given_room single_copy_start_row repeated m p (Copied words) tt)
-      (serves.stands_for repeated p (parts.members ∙ size) (parts.shares_are, more.stands h parts.board_is, parts.puts) (goes_on_so single_copy_start_row repeated m board p ready))
+      (serves.stands_for repeated p (parts.members ∙ size) (parts.shares_are, more.stands h parts.board_is, parts.puts) (ready_goes_on single_copy_start_row repeated m board p ready))
       gift_board (parts.members ∙ sym more.members ∙ sym performs.members) (parts.limits ∙ sym more.limits ∙ sym performs.limits) (omega (arith, made, none, same, roomy))
       (λ k. left_kept m k n (Got n m words ∷ (entered_after m p.events)) (kept_by k board_after) (λ other.
       let away : (m == k) ≡ false = other_number m k (λ e. other (sym e)) in
@@ -415,7 +415,7 @@ copy_answers stands shares after members repeated m board kept board_after (Copi
       waits = λ again wait. absurd (cc);
       lacks = λ lack. absurd (cc);
       refuses = λ refusal refused. absurd (cc);
-      answer = λ p parts ready. serves.answer repeated p (parts.members ∙ size) (parts.shares_are, more.stands p.events parts.board_is, parts.puts) (goes_on_so single_copy_start_row repeated m board p ready);
+      answer = λ p parts ready. serves.answer repeated p (parts.members ∙ size) (parts.shares_are, more.stands p.events parts.board_is, parts.puts) (ready_goes_on single_copy_start_row repeated m board p ready);
       stands_for = λ p parts ready. let (noted_there, performs_there) = notes p.events parts.shares_are in
           gift_stands stands shares after members repeated m board kept board_after words noted_there low size more serves p parts ready performs_there;
       keeps = λ wait. absurd (cc);

@@ -7,3 +7,5 @@ pub mod Words
 pub mod ShareRows
 pub mod Reserved
 pub mod Answered
+pub mod Laws
+pub mod PartExamples

@@ -63,8 +63,8 @@ kept_list : (op : Op) (m : ℕ) (reply : Reply) (kept : List ℕ) → IsReply re
 kept_list op m (Refused refusal) kept is = absurd is
 kept_list op m _ kept is = refl
 
-pub own_kept : (op : Op) (m : ℕ) (board after : BoardView) (reply : Reply) → m < members_of board → Performs op m board after reply → IsReply reply → kept_by m after ≡ op_keeps op (kept_by m board)
-own_kept op m board after reply low performs is =
+pub own_room_kept : (op : Op) (m : ℕ) (board after : BoardView) (reply : Reply) → m < members_of board → Performs op m board after reply → IsReply reply → kept_by m after ≡ op_keeps op (kept_by m board)
+own_room_kept op m board after reply low performs is =
     ap (λ (kept : List ℕ). slice_index_or kept m 0) (performs.kept ∙ kept_list op m reply board.kept is) ∙ get_or-set_same board.kept m (op_keeps op (kept_by m board)) 0 low
 
 others_in_list : (op : Op) (m k : ℕ) (reply : Reply) (kept : List ℕ) → k ≢ m → slice_index_or (kept_after op m reply kept) k 0 ≡ slice_index_or kept k 0
@@ -156,7 +156,7 @@ module _ {S : Type 0} (stands : S → List Event → Type 0) (shares : S) (aside
 
   op_kept : (reply : Reply) → IsReply reply → Performs op m board after reply → (k : ℕ) → room_left (open_share k p.events) ≤ kept_by k after
   op_kept reply is performs k = elim (cases_eq k m) [
-    | inl same ↦ subst (λ (x : ℕ). room_left (open_share x p.events) ≤ kept_by x after) (sym same) (subst (λ (n : ℕ). room_left (open_share m p.events) ≤ n) (sym (own_kept op m board after reply low performs is)) is_op.own)
+    | inl same ↦ subst (λ (x : ℕ). room_left (open_share x p.events) ≤ kept_by x after) (sym same) (subst (λ (n : ℕ). room_left (open_share m p.events) ≤ n) (sym (own_room_kept op m board after reply low performs is)) is_op.own)
     | inr other ↦ subst (λ (n : ℕ). room_left (open_share k p.events) ≤ n) (sym (others_kept op m k board after reply performs other)) (parts.kept k)
   ]
 

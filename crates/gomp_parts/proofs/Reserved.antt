@@ -19,7 +19,7 @@ use Rattle.gomp_board.specs.Boards.{BoardView, Stands as BoardStands, IsSame, Pe
 use Rattle.gomp_board.proofs.Waiting.{IsReply}
 use Rattle.gomp_parts.specs.Answers.{room_left, PartsStand, IsReady, SomeReady, AnswersCall}
 use Rattle.gomp_parts.specs.Serves.{asked_once, is_finished, KeepsMore}
-use Rattle.gomp_parts.proofs.OpAnswers.{refused_for_memory, memory_was_asked, own_kept, others_kept, room_made, parts_at, positive_once}
+use Rattle.gomp_parts.proofs.OpAnswers.{refused_for_memory, memory_was_asked, own_room_kept, others_kept, room_made, parts_at, positive_once}
 use Rattle.gomp_parts.proofs.CallOps.{tests_of_board, waits_nowhere, ready_op_fine}
 use Rattle.gomp_parts.proofs.ShareRows.{IsShareRow}
 
@@ -38,7 +38,7 @@ reserve_keeps more m board after reply low some performs is =
       members = there.members;
       limits = there.limits;
       room = room_made (Reserve more) m board after Finished there tt;
-      own = own_kept (Reserve more) m board after Finished low there tt;
+      own = own_room_kept (Reserve more) m board after Finished low there tt;
       others = λ k other. others_kept (Reserve more) m k board after Finished there other;
       nothing = λ none. absurd (some none);
     }
