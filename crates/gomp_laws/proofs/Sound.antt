@@ -74,28 +74,34 @@ breaks _ = false
 -- what events a call may give besides
 pub record Gives : Type 0 where
   pub arrives : Bool
+  pub creates : Bool
   pub puts : Bool
   pub holds : Option Key
 
 -- none of them
 abbrev pub quiet : Gives
-quiet = record { arrives = false; puts = false; holds = None }
+quiet = record { arrives = false; creates = false; puts = false; holds = None }
 
 -- an arrival alone
 abbrev pub only_arrives : Gives
-only_arrives = record { arrives = true; puts = false; holds = None }
+only_arrives = record { arrives = true; creates = false; puts = false; holds = None }
+
+-- that a task is created, alone
+abbrev pub only_creates : Gives
+only_creates = record { arrives = false; creates = true; puts = false; holds = None }
 
 -- that this key is held or freed, alone
 abbrev pub only_holds : Key → Gives
-only_holds key = record { arrives = false; puts = false; holds = Some key }
+only_holds key = record { arrives = false; creates = false; puts = false; holds = Some key }
 
 -- what a row allows
 abbrev pub gives_of : Row → Gives
-gives_of row = record { arrives = is_some row.arrives; puts = row.puts; holds = row.holds }
+gives_of row = record { arrives = is_some row.arrives; creates = is_some row.creates; puts = row.puts; holds = row.holds }
 
--- an event of the member that neither passes a barrier, nor holds or frees anything, nor starts or ends a task, nor breaks the team; it arrives, or puts words, only if its call does
+-- an event of the member that neither passes a barrier, nor holds or frees anything, nor starts or ends a task, nor breaks the team; it arrives, creates a task or puts words only if its call does
 abbrev pub IsOwn : Gives → ℕ → Event → Type 0
 IsOwn can m (Arrive barrier n tag) = (n ≡ m) × (can.arrives ≡ true)
+IsOwn can m (Create task n parent desc) = (n ≡ m) × (can.creates ≡ true)
 IsOwn can m (Put share n payload) = (n ≡ m) × (can.puts ≡ true)
 IsOwn can m (Pass barrier n) = ⊥
 IsOwn can m (Hold key n task) = ⊥
@@ -236,10 +242,10 @@ pub record IsSound (row : Row) : Type 0 where
   -- a count is how often the task that asks holds the lock then
   pub tells_count : (key : Key) (repeated : Bool) (m count : ℕ) (p : Past) → row.holds ≡ Some key → Ready row repeated m p → Always (TeamRule p.terms.members) p.events → row.may_reply m (begun_past repeated row m p) (Count count) →
       count ≡ count_for (asker m p.events) (holder key (given_after row repeated m p (Count count)))
-  -- a task that is run may be started, with what was asked for; its call neither stays in its place nor holds anything, and gives its start alone
+  -- a task that is run may be started, with what was asked for; its call neither stays in its place nor holds or creates anything, and gives its start alone
   pub runs : (m : ℕ) (p : Past) (task code arg : ℕ) (own : Bool) → row.may_reply m p (Run task code arg own) →
       (row.stays ≡ false) × (row.holds ≡ None) × (own ≡ false) × (may_start m task p.events ≡ true)
-      × (task_desc task p.events ≡ Some (record { code = code; arg = arg })) × (row.gives m p (Run task code arg own) ≡ Start task m ∷ [])
+      × (task_desc task p.events ≡ Some (record { code = code; arg = arg })) × (row.gives m p (Run task code arg own) ≡ Start task m ∷ []) × (row.creates ≡ None)
   -- a task that is done is the one that its member executes, which was started at a wait; its call gives its end alone
   pub ends : (m : ℕ) (p : Past) (task : ℕ) (waiting : Bool) → row.may_reply m p (TaskDone task waiting) →
       (is_some row.arrives ≡ false) × (waiting ≡ true) × (executed_task m p.events ≡ Explicit task) × (row.gives m p (TaskDone task waiting) ≡ Done task m ∷ [])
