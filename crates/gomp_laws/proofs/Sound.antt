@@ -1,7 +1,7 @@
 -- What the theorems on a team ask of a call's row.
 use Rattle.std.proofs.Common.{◌≡◌, ℕ, Bool, true, false, List, [], ◌∷◌, ◌++◌, Option, Some, None, refl, sym, ◌∙◌}
 use Rattle.gomp_types.specs.declared.key.Key.{Key}
-use Rattle.std.specs.Prelude.{ℤ, ◌⊎◌, ◌<◌, ◌&&◌, not, is_some}
+use Rattle.std.specs.Prelude.{ℤ, ◌⊎◌, ◌<◌, ◌&&◌, ◌||◌, not, is_some}
 use Rattle.gomp_types.specs.declared.refusal.Refusal.{Refusal}
 use Rattle.gomp_types.specs.declared.refusal.Refusal.TheVariants.{Mismatch, NoMemory}
 use Rattle.gomp_types.specs.declared.reply.Reply.{Reply}
@@ -170,6 +170,10 @@ MayGoOn row m = (q : Past) × (reply : Reply) × (goes_on reply ≡ true) × row
 abbrev pub Lasts : Row → ℕ → List Event → Type 0
 Lasts row m h = (is_some row.arrives ≡ true → in_task m h ≡ false) × ((key : Key) → row.holds ≡ Some key → held_by (asker m h) (holder key h) ≡ false) × MayGoOn row m
 
+-- whether a call creates a task, or holds or frees something, and does not arrive: while its member waits at a barrier, only a task that it executes makes such a call
+abbrev pub acts_away : Row → Bool
+acts_away row = not (is_some row.arrives) && (is_some row.creates || is_some row.holds)
+
 -- what the tests of a call have shown, if none of them holds
 pub record Ready (row : Row) (repeated : Bool) (m : ℕ) (p : Past) : Type 0 where
   pub member : m < p.terms.members
@@ -182,8 +186,8 @@ pub record Ready (row : Row) (repeated : Bool) (m : ℕ) (p : Past) : Type 0 whe
   pub compared : AllFail (row.compared repeated m p)
   -- a call that arrives has not arrived there before
   pub first : repeated ≡ false → is_some row.arrives ≡ true → arrival (barriers_passed m p.events) m p.events ≡ None
-  -- and one that does not is made by a member that waits at no barrier, or by a task that it executes
-  pub away : is_some row.arrives ≡ false → in_task m p.events ≡ false → at_barrier m p.events ≡ false
+  -- and one that creates a task, or holds or frees something, is made by a member that waits at no barrier, or by a task that it executes
+  pub away : acts_away row ≡ true → in_task m p.events ≡ false → at_barrier m p.events ≡ false
   -- the words of a single are still to be put while its executor is in it
   pub words : WordsToCome p.events
 
@@ -220,6 +224,8 @@ pub record IsSound (row : Row) : Type 0 where
       Always (TeamRule p.terms.members) (row.gives m (begun_past repeated row m p) reply ++ (begun_past repeated row m p).events)
   -- a call that stays in its place changes nothing while it waits
   pub still : row.stays ≡ true → (m : ℕ) (p : Past) → (row.begins m p ≡ []) × (row.gives m p Wait ≡ [])
+  -- no explicit task makes a call that arrives
+  pub outside : is_some row.arrives ≡ true → (m : ℕ) (p : Past) → AllFail (row.by_task m p) → in_task m p.events ≡ false
   -- a call that arrives passes the barrier, waits, or runs a task
   pub tells : is_some row.arrives ≡ true → (m : ℕ) (p : Past) (reply : Reply) → row.may_reply m p reply → (reply ≡ Passed) ⊎ (goes_on reply ≡ true)
   pub one_pass : is_some row.arrives ≡ true → (m : ℕ) (p : Past) → row.gives m p Passed ≡ Pass (barriers_passed m p.events) m ∷ []
