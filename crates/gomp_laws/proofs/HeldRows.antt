@@ -42,7 +42,7 @@ owner_is_itself owner = rw (same_number owner.team, same_number owner.member, sa
 
 -- What a task does not hold
 
--- what no task of its member holds it does not hold
+-- a task does not hold what none of its member's tasks holds
 pub unheld_by_member : (owner : Owner) (found : Option Held) → owned_by_member owner (holding_owner found) ≡ false → held_by owner found ≡ false
 unheld_by_member owner None unowned = refl
 unheld_by_member owner (Some held) unowned = by_parts (held.owner.team == owner.team) (held.owner.member == owner.member) (held.owner.task == owner.task) unowned
@@ -52,12 +52,12 @@ unheld_by_member owner (Some held) unowned = by_parts (held.owner.team == owner.
     by_parts true false task e = refl
     by_parts false member task e = refl
 
--- and what it does not hold it holds no time
+-- its count of what it does not hold is 0
 pub unheld_counts_none : (owner : Owner) (found : Option Held) → held_by owner found ≡ false → count_for owner found ≡ 0
 unheld_counts_none owner None unheld = refl
 unheld_counts_none owner (Some held) unheld = rw unheld refl
 
--- nor what another task holds
+-- and so is that of what another task holds
 pub another_counts_none : (owner : Owner) (held : Option Held) → held_by_another owner held ≡ true → count_for owner held ≡ 0
 another_counts_none owner None differ = refl
 another_counts_none owner (Some held) differ = by_owner (same_owner held.owner owner) differ
