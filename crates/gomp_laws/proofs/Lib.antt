@@ -29,6 +29,8 @@ pub mod Singles
 pub mod SomeReply
 pub mod Sound
 pub mod Starts
+pub mod TaskClauseExamples
+pub mod TaskReplyExamples
 pub mod TeamKeeps
 pub mod TeamShares
 pub mod WordsToCome
