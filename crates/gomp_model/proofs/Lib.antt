@@ -3,8 +3,10 @@ pub mod LoopLimits
 pub mod RecordExamples
 pub mod RowExamples
 pub mod StepExamples
+pub mod TaskRowExamples
 pub mod TestExamples
 pub mod RunsWithCauses
 pub mod WrongAnswers
 pub mod WrongHoldAnswers
 pub mod WrongShareAnswers
+pub mod WrongTaskAnswers
