@@ -1,7 +1,7 @@
 //! Groups of tasks. OpenMP API 5.2, section 15.4.
 
 ghost use Rattle.std.specs.Prelude.{◌≡◌, ◌<◌, ◌≤◌, ◌+◌, ◌++◌, ◌∷◌, List, true, OnOk, reverse};
-ghost use Rattle.std.specs.Vec.{vec_len, vec_capacity};
+ghost use Rattle.std.specs.Vec.{vec_capacity};
 ghost use Rattle.gomp_types.specs.declared.event.Event.{Event as Happening};
 ghost use Rattle.gomp_types.specs.Tasks.{executed_task};
 ghost use Rattle.gomp_types.specs.Groups.{open_groups};
@@ -10,6 +10,7 @@ ghost use Rattle.gomp_board.specs.Boards.{IsAdmitted, Performs, Stands, members_
 ghost use Rattle.gomp_board.specs.declared.op.Op.TheVariants.{OpenGroup, EndGroup};
 
 use crate::board::Board;
+use crate::room::reserve_events;
 use gomp_groups::Groups;
 use gomp_types::{Event, Refusal, Reply};
 use std::alloc::AllocError;
@@ -25,8 +26,8 @@ impl Board {
         ensures performs { Performs OpenGroup member self.old self.new result }
     {
         let task = self.current(member);
-        let space = (self.room + GROUP_ROOM) as usize - self.history.len();
-        if reserve_group(&mut self.history, space, &mut self.groups).is_err() {
+        let room = self.room + GROUP_ROOM;
+        if reserve_group(&mut self.history, room, &mut self.groups).is_err() {
             return Reply::Refused(Refusal::NoMemory);
         }
         let group = self.groups.open(task);
@@ -84,18 +85,14 @@ impl Board {
     }
 }
 
-/// Makes memory for so many more events, and for one more group.
-fn reserve_group(
-    history: &mut Vec<Event>,
-    space: usize,
-    groups: &mut Groups,
-) -> Result<(), AllocError>
+/// Makes memory for so many events in all, and for one more group.
+fn reserve_group(history: &mut Vec<Event>, room: u32, groups: &mut Groups) -> Result<(), AllocError>
     ensures history { history.new.items ≡ history.old.items }
     ensures grows { vec_capacity history.old ≤ vec_capacity history.new }
-    ensures space { OnOk result (vec_len history.old + space ≤ vec_capacity history.new) }
+    ensures space { OnOk result (room ≤ vec_capacity history.new) }
     ensures groups { groups.new ≡ record groups.old { group_room = groups.new.group_room } }
-    ensures room { OnOk result (0 < groups.new.group_room) }
+    ensures group_room { OnOk result (0 < groups.new.group_room) }
 {
-    history.reserve(space)?;
+    reserve_events(history, room)?;
     groups.reserve_group()
 }

@@ -20,8 +20,8 @@ pub enum Op {
     Arrive(Tag),
     /// Waits on at the barrier at which the member has arrived.
     AwaitBarrier,
-    /// Keeps room for so many events that the member gives later in a share that it starts: those of
-    /// its end, and its words (own).
+    /// Keeps room for so many events that the member gives later in a share that it starts: its
+    /// words, and those of its end (own).
     Reserve(u32),
     /// Puts the words of the executor of this share, a `single`, for the other members (section
     /// 5.7.2).
