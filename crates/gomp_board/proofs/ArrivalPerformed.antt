@@ -1,5 +1,5 @@
 -- What an arrival does to a board, in its three steps: room is made, the arrival is noted, and the member passes, executes a task or waits.
-use Rattle.std.proofs.Common.{◌≡◌, ℕ, ◌+◌, List, ◌++◌, length, length-set, refl, ap, ◌∙◌, sym, subst}
+use Rattle.std.proofs.Common.{◌≡◌, ℕ, ◌+◌, List, ◌++◌, length, length-set, ap, ◌∙◌, sym, subst}
 use Rattle.std.specs.Prelude.{reverse, slice_set}
 use Rattle.gomp_types.specs.declared.reply.Reply.{Reply}
 use Rattle.gomp_types.specs.declared.event.Tag.{Tag}

@@ -1,5 +1,5 @@
 -- What holds of every list of events that a board stands for: the laws that the crates above cite.
-use Rattle.std.proofs.Common.{◌≡◌, ℕ, true, false, List, [], ◌∷◌, ◌++◌, refl, ◌∙◌}
+use Rattle.std.proofs.Common.{◌≡◌, ℕ, false, List, [], ◌∷◌, ◌++◌, refl, ◌∙◌}
 use Rattle.gomp_types.specs.declared.event.Event.{Event}
 use Rattle.gomp_types.specs.declared.event.Event.TheVariants.{Put, Got, Arrive, Pass, Create, Start, Done, Group, GroupEnd, Waited, Break}
 use Rattle.gomp_types.specs.Events.{clash_of}
@@ -14,6 +14,7 @@ use Rattle.gomp_barrier.specs.Calls.{IsAside as BarriersAside}
 use Rattle.gomp_barrier.proofs.Laws.{events_aside_keep_barriers}
 use Rattle.gomp_board.specs.Stored.{is_stored, IsAside, AreAside}
 use Rattle.gomp_board.specs.Boards.{BoardView, Stands}
+use Rattle.gomp_board.proofs.PayloadsKeep.{IsNoPut, payloads_stay}
 use Rattle.gomp_board.proofs.ReadyKeeps.{IsAside as ReadyAside, aside_ready}
 use Rattle.gomp_board.proofs.StoredKeeps.{stored_aside}
 
@@ -46,6 +47,10 @@ unstored_by_ready (Start t m) e = absurd (cc)
 unstored_by_ready (Done t m) e = absurd (cc)
 unstored_by_ready _ e = tt
 
+unstored_by_payloads : (event : Event) → is_stored event ≡ false → IsNoPut event
+unstored_by_payloads (Put share m words) e = absurd (cc)
+unstored_by_payloads _ e = tt
+
 -- nor does it break the team
 unstored_keeps_clash : (event : Event) (h : List Event) → is_stored event ≡ false → clash_of (event ∷ h) ≡ clash_of h
 unstored_keeps_clash (Break m place) h e = absurd (cc)
@@ -59,6 +64,7 @@ event_unstored_keeps_board board event h is tasks groups st = record {
   barriers = events_aside_keep_barriers board.barriers h event (unstored_by_barriers event is) st.barriers;
   ready = aside_ready event board.ready h (unstored_by_ready event is) st.ready;
   clash = unstored_keeps_clash event h is ∙ st.clash;
+  payloads = payloads_stay board.payloads event h (unstored_by_payloads event is) st.payloads;
   history = stored_aside board.history event h is st.history;
 }
 

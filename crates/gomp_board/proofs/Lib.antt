@@ -10,6 +10,8 @@ pub mod OpAnswerExamples
 pub mod OpTestExamples
 pub mod OwedKeeps
 pub mod Passing
+pub mod PayloadExamples
+pub mod PayloadsKeep
 pub mod Performed
 pub mod ReadyExamples
 pub mod ReadyKeeps
@@ -24,3 +26,4 @@ pub mod TaskCallExamples
 pub mod TaskEvents
 pub mod TaskSteps
 pub mod Waiting
+pub mod WordsNoted

@@ -1,8 +1,7 @@
 -- What an operation does to a board, by the kind of its reply.
-use Rattle.std.proofs.Common.{◌≡◌, ◌≢◌, ℕ, ◌+◌, true, false, List, ◌∷◌, ◌++◌, Some, None, length, refl, ap, ◌∙◌, sym, subst, length-set, zero, suc, arith}
+use Rattle.std.proofs.Common.{◌≡◌, ℕ, ◌+◌, true, false, List, ◌∷◌, ◌++◌, Some, length, refl, ap, ◌∙◌, sym, subst, length-set, zero, suc, arith}
 use Rattle.std.proofs.lemmas.Bool.Decides.{nat_tests}
 use Rattle.std.specs.Prelude.{IsTrue, nat_lt, slice_set}
-use Rattle.gomp_types.specs.declared.refusal.Refusal.{Refusal}
 use Rattle.gomp_types.specs.declared.refusal.Refusal.TheVariants as refusals
 use Rattle.gomp_types.specs.declared.reply.Reply.{Reply}
 use Rattle.gomp_types.specs.declared.reply.Reply.TheVariants.{Finished, Refused}
@@ -11,7 +10,7 @@ use Rattle.gomp_types.specs.declared.event.Event.{Event}
 use Rattle.gomp_types.specs.declared.event.Event.TheVariants.{Break}
 use Rattle.gomp_board.specs.declared.op.Op.{Op}
 use Rattle.gomp_board.specs.declared.op.Op.TheVariants.{Reserve}
-use Rattle.gomp_board.specs.Ops.{op_asks, op_keeps, op_gives, op_after, op_place, op_refusal, begun, asks_memory, OpReply}
+use Rattle.gomp_board.specs.Ops.{op_asks, op_keeps, op_gives, op_place, op_refusal, begun, asks_memory, OpReply}
 use Rattle.gomp_board.specs.Boards.{BoardView, Stands, IsSame, IsAdmitted, Performs, members_of, kept_by, room_after, kept_after}
 use Rattle.gomp_board.proofs.Joined.{keeping_stands}
 use Rattle.gomp_board.proofs.Waiting.{IsReply, op_answered, after_reply, not_refused}

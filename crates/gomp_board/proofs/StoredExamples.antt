@@ -8,15 +8,14 @@ use Rattle.gomp_types.specs.declared.task.Task.TheVariants.{Implicit}
 use Rattle.gomp_types.specs.declared.task.TaskDesc.{TaskDesc}
 use Rattle.gomp_types.specs.declared.refusal.Place.{Place}
 use Rattle.gomp_types.specs.declared.refusal.Place.TheVariants.{Stopped as AtStop}
-use Rattle.gomp_types.specs.declared.event.Arrival.TheVariants.{Barrier, RegionEnd}
+use Rattle.gomp_types.specs.declared.event.Arrival.TheVariants.{Barrier}
 use Rattle.gomp_types.specs.declared.event.Tag.{Tag}
-use Rattle.gomp_types.specs.declared.event.Event.{Event}
 use Rattle.gomp_types.specs.declared.event.Event.TheVariants.{Enter, Take, Drained, End, HandOn, Part, PartEnd, Put, Got, Arrive, Pass, Hold, Free, Create, Start, Done, Group, GroupEnd, Waited, Break}
 use Rattle.gomp_types.specs.EventLists.{at, four}
 use Rattle.gomp_types.specs.TaskCalls.{first_room}
 use Rattle.gomp_board.specs.Stored.{is_stored, stored, IsAside, AreAside}
 use Rattle.gomp_board.specs.Owed.{owed_by_tasks, has_group_ended, count_below, owed_by_groups, owed_by_member, owed_by_members, owed_for_break, owed}
-use Rattle.gomp_board.specs.Examples.{creates_root, creates_in, one_ready, one_runs, one_done, other_runs, group_empty, group_done, first_waits, both_wait, second_ends, both_end, first_left, stopped}
+use Rattle.gomp_board.specs.Examples.{creates_root, one_ready, one_runs, one_done, other_runs, group_empty, group_done, first_waits, both_wait, second_ends, both_end, first_left, stopped}
 
 -- Stored events
 

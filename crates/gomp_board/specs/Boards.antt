@@ -1,5 +1,5 @@
 -- When a board stands for a list of all events of its team. (own)
-use Rattle.std.specs.Prelude.{ℕ, ◌+◌, ◌≤◌, ◌≡◌, ◌≢◌, Bool, true, false, List, [], ◌∷◌, ◌++◌, Option, None, length, reverse, sum, slice_index_or, slice_set}
+use Rattle.std.specs.Prelude.{ℕ, ◌+◌, ◌≤◌, ◌≡◌, ◌≢◌, false, List, Option, None, length, reverse, sum, slice_index_or, slice_set}
 use Rattle.gomp_types.specs.declared.limits.Limits.{Limits}
 use Rattle.gomp_types.specs.declared.refusal.Clash.{Clash}
 use Rattle.gomp_types.specs.declared.reply.Reply.{Reply}
@@ -16,8 +16,10 @@ use Rattle.gomp_tasks.specs.Stands.{TasksView, Stands as TasksStand, members_of 
 use Rattle.gomp_groups.specs.Stands.{GroupsView, Stands as GroupsStand, members_of as group_members}
 use Rattle.gomp_barrier.specs.Stands.{BarriersView, Stands as BarriersStand, members_of as barrier_members}
 use Rattle.gomp_board.specs.declared.op.Op.{Op}
+use Rattle.gomp_board.specs.declared.payloads.Put.{Put}
 use Rattle.gomp_board.specs.Ops.{op_asks, op_keeps, op_refusal, op_after, OpAnswer}
 use Rattle.gomp_board.specs.ReadyTasks.{AreReady}
+use Rattle.gomp_board.specs.Payloads.{PayloadsStand}
 use Rattle.gomp_board.specs.Stored.{stored}
 use Rattle.gomp_board.specs.Owed.{owed}
 
@@ -28,7 +30,7 @@ pub record BoardView : Type 0 where
   pub history : List Event
   -- for so many events room was asked, these and those still to come
   pub room : ℕ
-  -- so much of it each member keeps for the ends of its shares
+  -- so much of it each member keeps for its shares: for their ends, and for words
   pub kept : List ℕ
   pub clash : Option Clash
   pub tasks : TasksView
@@ -36,12 +38,14 @@ pub record BoardView : Type 0 where
   pub barriers : BarriersView
   -- the tasks that nobody has started, the oldest first
   pub ready : List ℕ
+  -- the words that executors of singles put, at most one share's at each of eight places
+  pub payloads : List (Option Put)
 
 -- how many members the team has
 abbrev pub members_of : BoardView → ℕ
 members_of board = length board.kept
 
--- what a member keeps for the ends of its shares
+-- what a member keeps for its shares
 abbrev pub kept_by : ℕ → BoardView → ℕ
 kept_by m board = slice_index_or board.kept m 0
 
@@ -51,6 +55,7 @@ pub record Stands (board : BoardView) (h : List Event) : Type 0 where
   pub groups : GroupsStand board.groups h
   pub barriers : BarriersStand board.barriers h
   pub ready : AreReady board.ready h
+  pub payloads : PayloadsStand board.payloads h
   pub clash : clash_of h ≡ board.clash
   pub history : stored h ≡ reverse board.history
 

@@ -1,6 +1,6 @@
 //! What a team asks of its board.
 
-use gomp_types::{Place, Tag, TaskDesc};
+use gomp_types::{Payload, Place, Tag, TaskDesc};
 
 /// One call of a member, as far as it is the board's: the call itself, or the wait that a repeated
 /// call goes on with.
@@ -20,9 +20,14 @@ pub enum Op {
     Arrive(Tag),
     /// Waits on at the barrier at which the member has arrived.
     AwaitBarrier,
-    /// Keeps room for so many events that the member gives later: those of the end of a share that
-    /// it starts (own).
+    /// Keeps room for so many events that the member gives later in a share that it starts: those of
+    /// its end, and its words (own).
     Reserve(u32),
+    /// Puts the words of the executor of this share, a `single`, for the other members (section
+    /// 5.7.2).
+    Put { share: u64, words: Payload },
+    /// Notes that the member is given these words of this share (section 5.7.2).
+    Got { share: u64, words: Payload },
     /// Breaks the team there (own).
     Break(Place),
 }

@@ -10,7 +10,7 @@ ghost use Rattle.gomp_types.specs.Tasks.{executed_task, in_task, depth_of, tasks
 ghost use Rattle.gomp_types.specs.Tests.{Test, first_refusal};
 ghost use Rattle.gomp_types.specs.TaskCalls.{group_is_open, lacks_room, create_tests, end_task_tests, end_group_tests, outside_tasks_tests, room_tests, task_room, group_room};
 ghost use Rattle.gomp_board.specs.declared.op.Op.TheVariants.{Arrive};
-ghost use Rattle.gomp_board.specs.Ops.{op_refusal, op_tests, busy_tests, end_tests, arrival_asks, awaits_barrier};
+ghost use Rattle.gomp_board.specs.Ops.{op_refusal, op_tests, busy_tests, end_tests, arrival_asks, words_ask, awaits_barrier};
 ghost use Rattle.gomp_board.specs.Boards.{Stands, members_of, kept_by};
 
 use crate::arrivals::arrival_asks;
@@ -18,6 +18,7 @@ use crate::board::Board;
 use crate::groups::GROUP_ROOM;
 use crate::op::Op;
 use crate::tasks::TASK_ROOM;
+use crate::words::words_ask;
 use gomp_types::{Arrival, MAX_TASK_DEPTH, Place, Refusal, Tag, Task};
 
 impl Board {
@@ -52,6 +53,8 @@ impl Board {
             Op::Arrive(tag) => self.arrival_refusal(member, *tag),
             Op::AwaitBarrier => first(!self.awaits_barrier(member), Refusal::NotInside, None),
             Op::Reserve(more) => self.reserve_refusal(member, *more),
+            Op::Put { .. } => self.words_refusal(member),
+            Op::Got { .. } => self.words_refusal(member),
             Op::Break(place) => { first(!matches!(place, Place::Stopped), Refusal::Mismatch, None) }
         }
     }
@@ -147,6 +150,16 @@ impl Board {
         let full = first(self.lacks_room(more), Refusal::TraceFull, None);
         let inside = first(self.in_task(member), Refusal::InsideTask, full);
         first(self.awaits_barrier(member), Refusal::Waiting, inside)
+    }
+
+    /// Why no words are put or given.
+    fn words_refusal(&self, member: u16) -> Option<Refusal>
+        requires member { member < members_of self.now }
+        ensures value { (h : List Event) → Stands self.now h → result ≡ first_refusal
+            (busy_tests member h ++ (outside_tasks_tests member h
+            ++ room_tests self.now.limits self.now.room (words_ask (kept_by member self.now)))) }
+    {
+        self.reserve_refusal(member, words_ask(self.kept[member as usize]))
     }
 
     /// Whether the member executes an explicit task.

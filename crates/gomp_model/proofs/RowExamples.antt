@@ -11,9 +11,9 @@ use Rattle.gomp_types.specs.declared.task.Task.TheVariants.{Implicit}
 use Rattle.gomp_types.specs.declared.loop_desc.EndKind.TheVariants.{Wait as WaitEnd}
 use Rattle.gomp_types.specs.declared.refusal.Place.TheVariants.{Share, Barrier as AtBarrier, Stopped as AtStop}
 use Rattle.gomp_types.specs.declared.refusal.Refusal.{Refusal}
-use Rattle.gomp_types.specs.declared.refusal.Refusal.TheVariants.{Ended, Waiting, InsideShare, HoldsCritical, NotDrained, NotInside, NameTooLong, AlreadyHeld, NotHolder, NoLock, TooManyShares, Mismatch, NoMemory}
+use Rattle.gomp_types.specs.declared.refusal.Refusal.TheVariants.{Ended, Waiting, InsideTask, InsideShare, HoldsCritical, NotDrained, NotInside, NoGroup, NameTooLong, AlreadyHeld, NotHolder, NoLock, TooManyShares, Mismatch, TraceFull, NoMemory}
 use Rattle.gomp_types.specs.declared.reply.Reply.{Reply}
-use Rattle.gomp_types.specs.declared.reply.Reply.TheVariants.{Chunk, NoChunk, Section, Executor, Copied, Finished, Passed, Wait, Lock as LockMade, Got as GotLock, Count, Stopped, Refused}
+use Rattle.gomp_types.specs.declared.reply.Reply.TheVariants.{Chunk, NoChunk, Section, Executor, Copied, Finished, Passed, Wait, Run as RunTask, Lock as LockMade, Got as GotLock, Count, Stopped, Refused}
 use Rattle.gomp_types.specs.declared.shape.Shape.{Shape}
 use Rattle.gomp_types.specs.declared.shape.ShareKind.TheVariants.{Dynamic}
 use Rattle.gomp_types.specs.declared.event.Arrival.{Arrival}
@@ -26,7 +26,7 @@ use Rattle.gomp_types.specs.Sections.{sections_shape}
 use Rattle.gomp_types.specs.Singles.{single_shape}
 use Rattle.gomp_types.specs.Tests.{Test}
 use Rattle.gomp_types.specs.EventLists.{even_four, four, at}
-use Rattle.gomp_model.specs.Row.{Row, plain_row, at_once, unless_repeated, begun_past, place_tests, book_tests, row_tests, refusal_gives, events_after, locks_after}
+use Rattle.gomp_model.specs.Row.{Row, plain_row, at_once, unless_repeated, begun_past, place_tests, board_tests, book_tests, row_tests, refusal_gives, events_after, locks_after}
 use Rattle.gomp_model.specs.Calls.{row_of}
 use Rattle.gomp_model.specs.Loops.{loop_next_row}
 use Rattle.gomp_model.specs.Past.{Past}
@@ -391,7 +391,7 @@ pass_of_the_second = refl
 
 -- the first waits at its next one
 pub first_waits_ahead : barrier_row.may_reply 0 second_arrived Wait
-first_waits_ahead = refl
+first_waits_ahead = (refl, refl)
 
 pub pass_of_the_first : barrier_row.gives 0 second_arrived Passed ≡ Pass 1 0 ∷ []
 pass_of_the_first = refl
@@ -406,17 +406,39 @@ both_at kind before after = past_with 2 (before ++ (Arrive 0 0 (at kind 0) ∷ A
 abbrev creates : ℕ → ℕ → Event
 creates task m = Create task m (Implicit m) (record { code = 5; arg = 9 })
 
--- a task that is bound to the barrier is open: nobody passes, at a barrier, at the end of a loop and at the region's end
+-- a task that is bound to the barrier is open, and nobody has started it: whoever waits runs it, at a barrier, at the end of a loop and at the region's end
 abbrev task_open : Arrival → Past
 task_open kind = both_at kind (creates 1 0 ∷ []) []
 
-pub waits_for_a_task :
-    barrier_row.may_reply 0 (task_open BarrierArrival) Wait × barrier_row.may_reply 1 (task_open BarrierArrival) Wait
-    × (row_of LoopEnd).may_reply 1 (task_open ShareEnd) Wait × region_end_row.may_reply 1 (task_open RegionEndArrival) Wait
-waits_for_a_task = (refl, refl, refl, refl)
+pub runs_a_task :
+    barrier_row.may_reply 0 (task_open BarrierArrival) (RunTask 1 5 9 false) × barrier_row.may_reply 1 (task_open BarrierArrival) (RunTask 1 5 9 false)
+    × (row_of LoopEnd).may_reply 1 (task_open ShareEnd) (RunTask 1 5 9 false) × (row_of SectionsEnd).may_reply 0 (task_open ShareEnd) (RunTask 1 5 9 false)
+    × region_end_row.may_reply 1 (task_open RegionEndArrival) (RunTask 1 5 9 false)
+runs_a_task = ((refl, refl, refl, refl), (refl, refl, refl, refl), (refl, refl, refl, refl), (refl, refl, refl, refl), (refl, refl, refl, refl))
 
-pub passes_no_open_task : (barrier_row.may_reply 1 (task_open BarrierArrival) Passed → ⊥) × (region_end_row.may_reply 1 (task_open RegionEndArrival) Passed → ⊥)
-passes_no_open_task = ((λ may. absurd (cc)), (λ may. absurd (cc)))
+-- it does not wait
+pub waits_for_no_startable :
+    (barrier_row.may_reply 0 (task_open BarrierArrival) Wait → ⊥) × ((row_of LoopEnd).may_reply 1 (task_open ShareEnd) Wait → ⊥)
+    × (region_end_row.may_reply 1 (task_open RegionEndArrival) Wait → ⊥)
+waits_for_no_startable = search rules
+
+-- and does not pass
+pub passes_no_open_task :
+    (barrier_row.may_reply 1 (task_open BarrierArrival) Passed → ⊥) × ((row_of LoopEnd).may_reply 0 (task_open ShareEnd) Passed → ⊥)
+    × (region_end_row.may_reply 1 (task_open RegionEndArrival) Passed → ⊥)
+passes_no_open_task = ((λ may. absurd (cc)), (λ may. absurd (cc)), (λ may. absurd (cc)))
+
+-- once another member runs it the first waits
+abbrev task_run : Arrival → Past
+task_run kind = both_at kind (creates 1 0 ∷ []) (Start 1 1 ∷ [])
+
+pub waits_for_a_task :
+    barrier_row.may_reply 0 (task_run BarrierArrival) Wait × (row_of LoopEnd).may_reply 0 (task_run ShareEnd) Wait
+    × (row_of SectionsEnd).may_reply 0 (task_run ShareEnd) Wait × region_end_row.may_reply 0 (task_run RegionEndArrival) Wait
+waits_for_a_task = ((refl, refl), (refl, refl), (refl, refl), (refl, refl))
+
+pub passes_no_running_task : (barrier_row.may_reply 0 (task_run BarrierArrival) Passed → ⊥) × (region_end_row.may_reply 0 (task_run RegionEndArrival) Passed → ⊥)
+passes_no_running_task = ((λ may. absurd (cc)), (λ may. absurd (cc)))
 
 -- once it is complete both pass
 abbrev task_ended : Arrival → Past
@@ -433,38 +455,44 @@ task_of_the_next kind = both_at kind [] (Pass 0 0 ∷ creates 1 0 ∷ [])
 pub passes_before_later_tasks : barrier_row.may_reply 1 (task_of_the_next BarrierArrival) Passed × (row_of LoopEnd).may_reply 1 (task_of_the_next ShareEnd) Passed
 passes_before_later_tasks = (refl, refl)
 
-pub ends_after_every_task : region_end_row.may_reply 1 (task_of_the_next RegionEndArrival) Wait × (region_end_row.may_reply 1 (task_of_the_next RegionEndArrival) Passed → ⊥)
-ends_after_every_task = (refl, (λ may. absurd (cc)))
+pub ends_after_every_task :
+    region_end_row.may_reply 1 (task_of_the_next RegionEndArrival) (RunTask 1 5 9 false) × (region_end_row.may_reply 1 (task_of_the_next RegionEndArrival) Passed → ⊥)
+ends_after_every_task = ((refl, refl, refl, refl), (λ may. absurd (cc)))
 
 -- Tests
 
--- a row with a test of each list, all of which hold
+-- a row with a test of each list, all of which hold, which asks for more room than there is
 abbrev tested : Row
 tested = record plain_row {
   by_place = λ limits seen. (true, NotDrained) ∷ [];
+  by_task = λ m p. (true, NoGroup) ∷ [];
   by_team = λ m p. (true, Waiting) ∷ [];
   missing = λ m p. (true, NoLock) ∷ [];
   compared = λ repeated m p. (repeated, TooManyShares) ∷ (true, Mismatch) ∷ [];
+  room = 16777214;
 }
 
 -- a call makes them all, first those on its place
 pub tests_of_a_call :
-    row_tests false tested 0 (past_with 1 []) ≡ (true, NotDrained) ∷ (false, TooManyShares) ∷ (true, Mismatch) ∷ (true, Waiting) ∷ (true, NoLock) ∷ []
+    row_tests false tested 0 (past_with 1 [])
+    ≡ (true, NotDrained) ∷ (false, TooManyShares) ∷ (true, Mismatch) ∷ (true, NoGroup) ∷ (true, TraceFull) ∷ (true, Waiting) ∷ (true, NoLock) ∷ []
 tests_of_a_call = refl
 
 -- and is refused by the least
 pub refusal_of_a_call : least (row_tests false tested 0 (past_with 1 [])) ≡ Some Waiting
 refusal_of_a_call = refl
 
--- a resume compares, and asks whether the lock is there
+-- a resume compares, and asks whether the lock is there; it asks for no room
 pub tests_of_a_resume : row_tests true tested 0 (past_with 1 []) ≡ (true, TooManyShares) ∷ (true, Mismatch) ∷ (true, NoLock) ∷ []
 tests_of_a_resume = refl
 
--- the tests on the place are apart from those that names and locks decide
+-- the tests on the place are apart from those that tasks decide, and those from the tests that names and locks decide
 pub tests_apart :
-    (place_tests false tested 0 (past_with 1 []) ≡ (true, NotDrained) ∷ (false, TooManyShares) ∷ (true, Mismatch) ∷ []) × (book_tests false tested 0 (past_with 1 []) ≡ (true, Waiting) ∷ (true, NoLock) ∷ [])
-    × (place_tests true tested 0 (past_with 1 []) ≡ (true, TooManyShares) ∷ (true, Mismatch) ∷ []) × (book_tests true tested 0 (past_with 1 []) ≡ (true, NoLock) ∷ [])
-tests_apart = (refl, refl, refl, refl)
+    (place_tests false tested 0 (past_with 1 []) ≡ (true, NotDrained) ∷ (false, TooManyShares) ∷ (true, Mismatch) ∷ [])
+    × (board_tests false tested 0 (past_with 1 []) ≡ (true, NoGroup) ∷ (true, TraceFull) ∷ []) × (book_tests false tested 0 (past_with 1 []) ≡ (true, Waiting) ∷ (true, NoLock) ∷ [])
+    × (place_tests true tested 0 (past_with 1 []) ≡ (true, TooManyShares) ∷ (true, Mismatch) ∷ []) × (board_tests true tested 0 (past_with 1 []) ≡ [])
+    × (book_tests true tested 0 (past_with 1 []) ≡ (true, NoLock) ∷ [])
+tests_apart = (refl, refl, refl, refl, refl, refl)
 
 -- a test on the place, which holds if these are the limits and the shares entered
 abbrev tested_place : Row
@@ -472,8 +500,8 @@ tested_place = record plain_row { by_place = λ limits seen. (limits.shares == 1
 
 -- the tests on the place are by the team's limits, and by what the events say of the member that asks
 pub tests_by_place :
-    (row_tests false tested_place 1 (past_with 2 (Enter 0 1 (four false) ∷ [])) ≡ (true, InsideShare) ∷ [])
-    × (row_tests false tested_place 0 (past_with 2 (Enter 0 1 (four false) ∷ [])) ≡ (false, InsideShare) ∷ [])
+    (row_tests false tested_place 1 (past_with 2 (Enter 0 1 (four false) ∷ [])) ≡ (true, InsideShare) ∷ (false, TraceFull) ∷ [])
+    × (row_tests false tested_place 0 (past_with 2 (Enter 0 1 (four false) ∷ [])) ≡ (false, InsideShare) ∷ (false, TraceFull) ∷ [])
 tests_by_place = (refl, refl)
 
 -- Tests that names and locks decide
@@ -663,12 +691,13 @@ no_share_by_book = refl
 
 -- Rows of which little is said
 
--- what a row leaves as it is: no test, no event, and done at once
+-- what a row leaves as it is: no test that holds, no event, and done at once
 pub plain_says_nothing :
-    (row_tests false plain_row 0 (past_with 1 []) ≡ []) × (row_tests true plain_row 0 (past_with 1 []) ≡ []) × (plain_row.memory ≡ false) × (plain_row.stays ≡ false)
+    (row_tests false plain_row 0 (past_with 1 []) ≡ (false, TraceFull) ∷ []) × (row_tests true plain_row 0 (past_with 1 []) ≡ []) × (plain_row.memory ≡ false) × (plain_row.stays ≡ false)
     × (plain_row.arrives ≡ None) × (plain_row.puts ≡ false) × (plain_row.begins 0 (past_with 1 []) ≡ []) × (plain_row.gives 0 (past_with 1 []) Finished ≡ [])
     × (plain_row.asks_book ≡ false) × (plain_row.holds ≡ None) × (plain_row.locks Finished three_locks ≡ three_locks)
-plain_says_nothing = (refl, refl, refl, refl, refl, refl, refl, refl, refl, refl, refl)
+    × (plain_row.room ≡ 0) × (plain_row.creates ≡ None) × (plain_row.by_task 0 (past_with 1 []) ≡ [])
+plain_says_nothing = (refl, refl, refl, refl, refl, refl, refl, refl, refl, refl, refl, refl, refl, refl)
 
 -- and nothing but done
 pub plain_is_done : (plain_row.may_reply 0 (past_with 1 []) Finished) × (plain_row.may_reply 0 (past_with 1 []) Wait → ⊥) × (plain_row.may_reply 0 (past_with 1 []) (Refused NoMemory) → ⊥)
@@ -676,7 +705,7 @@ plain_is_done = (refl, (λ e. absurd (cc)), (λ e. absurd (cc)))
 
 -- a call that is done at once has its tests, gives its events, and is done
 pub done_at_once :
-    (row_tests false (at_once (λ seen. (seen.in_part, NotDrained) ∷ []) (λ m h. End 0 m ∷ h)) 0 (past_with 1 []) ≡ (false, NotDrained) ∷ (false, HoldsCritical) ∷ [])
+    (row_tests false (at_once (λ seen. (seen.in_part, NotDrained) ∷ []) (λ m h. End 0 m ∷ h)) 0 (past_with 1 []) ≡ (false, NotDrained) ∷ (false, InsideTask) ∷ (false, TraceFull) ∷ (false, HoldsCritical) ∷ [])
     × ((at_once (λ seen. []) (λ m h. End 0 m ∷ h)).begins 3 (past_with 1 (Pass 0 0 ∷ [])) ≡ End 0 3 ∷ Pass 0 0 ∷ [])
     × ((at_once (λ seen. []) (λ m h. [])).may_reply 0 (past_with 1 []) Finished)
 done_at_once = (refl, refl, refl)

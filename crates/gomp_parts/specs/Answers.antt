@@ -5,7 +5,7 @@ use Rattle.gomp_types.specs.declared.shape.Shape.{Shape}
 use Rattle.gomp_types.specs.declared.limits.Limits.{Limits}
 use Rattle.gomp_types.specs.declared.refusal.Refusal.{Refusal}
 use Rattle.gomp_types.specs.declared.reply.Reply.{Reply}
-use Rattle.gomp_types.specs.declared.reply.Reply.TheVariants.{Wait}
+use Rattle.gomp_types.specs.declared.reply.Reply.TheVariants.{Stopped}
 use Rattle.gomp_types.specs.declared.event.Event.{Event}
 use Rattle.gomp_types.specs.declared.event.Arrival.TheVariants.{ShareEnd}
 use Rattle.gomp_types.specs.Events.{open_share, has_left_region, clash_of}
@@ -84,8 +84,8 @@ pub record IsReady (row : Row) (repeated : Bool) (m : ℕ) (board : BoardView) (
   -- the member is in the region, and the team is not broken
   pub inside : has_left_region m p.events ≡ false
   pub whole : clash_of p.events ≡ None
-  -- it waits at a barrier if it repeats a call that arrived there, and only then
-  pub barrier : awaits_barrier m p.events ≡ (repeated && is_some row.arrives)
+  -- it waits at a barrier if it repeats a call that arrived there, and only then, unless it stops the team
+  pub barrier : (row.may_reply m p Stopped → ⊥) → awaits_barrier m p.events ≡ (repeated && is_some row.arrives)
   -- a start that waits has its room
   pub kept : repeated ≡ true → KeepsStart row m board
 

@@ -1,8 +1,6 @@
-use Rattle.std.proofs.Common.{◌≡◌, ◌<◌, ◌∷◌, true, false, ap, ◌∙◌, sym, subst, arith}
-use Rattle.std.specs.Prelude.{ℕ, Bool, List, reverse, vec_capacity}
-use Rattle.gomp_types.specs.declared.event.Event.{Event}
+use Rattle.std.proofs.Common.{◌≡◌, ◌<◌, ◌∷◌, false, ap, ◌∙◌, sym, subst, arith}
+use Rattle.std.specs.Prelude.{ℕ, Bool, reverse, vec_capacity}
 use Rattle.gomp_types.specs.declared.event.Event.TheVariants.{Pass}
-use Rattle.gomp_types.specs.Events.{barriers_passed}
 use Rattle.gomp_types.specs.Goals.{may_pass}
 use Rattle.gomp_barrier.specs.Calls.{turn_after}
 use Rattle.gomp_barrier.specs.Stands.{BarriersView, Stands as BarriersStand, members_of as barrier_members}

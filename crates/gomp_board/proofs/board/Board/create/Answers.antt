@@ -1,9 +1,9 @@
-use Rattle.std.proofs.Common.{◌≡◌, ◌<◌, ◌≤◌, ◌+◌, ◌∷◌, [], ◌++◌, ℕ, suc, reverse, refl, sym, subst, ap, ◌∙◌, arith, true, List}
+use Rattle.std.proofs.Common.{◌≡◌, ◌<◌, ◌+◌, ◌∷◌, [], ◌++◌, ℕ, suc, reverse, refl, sym, subst, ap, ◌∙◌, arith, List}
 use Rattle.gomp_types.specs.declared.event.Event.{Event}
 use Rattle.gomp_types.specs.declared.event.Event.TheVariants.{Create}
 use Rattle.gomp_types.specs.declared.reply.Reply.TheVariants.{Created}
 use Rattle.gomp_types.specs.declared.task.Task.{Task}
-use Rattle.gomp_types.specs.Tasks.{tasks_created, executed_task}
+use Rattle.gomp_types.specs.Tasks.{tasks_created}
 use Rattle.gomp_types.specs.TaskRules.{MayCreate}
 use Rattle.gomp_tasks.specs.Stands.{Stands as TasksStand, members_of as task_members}
 use Rattle.gomp_groups.specs.Stands.{Stands as GroupsStand, members_of as group_members}
@@ -14,7 +14,7 @@ use Rattle.gomp_board.specs.Boards.{BoardView, Stands, members_of}
 use Rattle.gomp_board.specs.contracts.board.Board.{the_view}
 use Rattle.gomp_board.proofs.OwedKeeps.{create_owes}
 use Rattle.gomp_board.proofs.Performed.{op_performed}
-use Rattle.gomp_board.proofs.TaskEvents.{task_member, group_member, barrier_member, board_asked, members_with, rule_of, created_stands, more_task_room, more_room, at_ok, set_same}
+use Rattle.gomp_board.proofs.TaskEvents.{task_member, group_member, board_asked, members_with, rule_of, created_stands, more_task_room, more_room, at_ok, set_same}
 use Rattle.gomp_board.proofs.TaskSteps.{creates_so, creates_next, create_binds, next_task_number}
 use Rattle.gomp_board.proofs.board.Board.create.Goals as goal
 

@@ -1,5 +1,4 @@
-use Rattle.std.proofs.Common.{◌≡◌, ◌<◌, ◌∷◌, ◌++◌, ℕ, reverse, refl, sym, subst, ap, ◌∙◌, arith, true, List}
-use Rattle.gomp_types.specs.declared.event.Event.{Event}
+use Rattle.std.proofs.Common.{◌≡◌, ◌<◌, ◌∷◌, reverse, refl, sym, subst, ap, ◌∙◌, arith, true}
 use Rattle.gomp_types.specs.declared.event.Event.TheVariants.{Done}
 use Rattle.gomp_types.specs.declared.reply.Reply.TheVariants.{TaskDone}
 use Rattle.gomp_types.specs.declared.task.Task.{Task}
@@ -10,7 +9,7 @@ use Rattle.gomp_board.specs.Boards.{BoardView, Stands, members_of}
 use Rattle.gomp_board.specs.contracts.board.Board.{the_view}
 use Rattle.gomp_board.proofs.OwedKeeps.{end_owes}
 use Rattle.gomp_board.proofs.Performed.{op_performed}
-use Rattle.gomp_board.proofs.TaskEvents.{task_member, group_member, memory_for, board_after, members_with, rule_of, ended_stands, executed_open, set_same}
+use Rattle.gomp_board.proofs.TaskEvents.{group_member, memory_for, board_after, members_with, rule_of, ended_stands, executed_open, set_same}
 use Rattle.gomp_board.proofs.TaskSteps.{never_the_implicit_task, member_executes, end_releases}
 use Rattle.gomp_board.proofs.board.Board.end_task.Goals as goal
 

@@ -1,8 +1,8 @@
-use Rattle.std.proofs.Common.{◌≡◌, ◌<◌, ◌≤◌, ◌+◌, ◌∷◌, [], ◌++◌, ℕ, reverse, refl, sym, subst, ap, ◌∙◌, arith, true, List}
+use Rattle.std.proofs.Common.{◌≡◌, ◌<◌, ◌+◌, ◌∷◌, [], ◌++◌, ℕ, reverse, refl, sym, subst, ap, ◌∙◌, arith, List}
 use Rattle.gomp_types.specs.declared.event.Event.{Event}
 use Rattle.gomp_types.specs.declared.event.Event.TheVariants.{Group}
 use Rattle.gomp_types.specs.declared.reply.Reply.TheVariants.{Finished}
-use Rattle.gomp_groups.specs.Stands.{members_of as group_members, GroupsView}
+use Rattle.gomp_groups.specs.Stands.{members_of as group_members}
 use Rattle.gomp_board.specs.declared.op.Op.TheVariants.{OpenGroup}
 use Rattle.gomp_board.specs.Boards.{BoardView, Stands, members_of}
 use Rattle.gomp_board.specs.contracts.board.Board.{the_view}

@@ -1,8 +1,7 @@
-use Rattle.std.proofs.Common.{◌≡◌, refl, ◌∙◌, sym, arith}
+use Rattle.std.proofs.Common.{refl, ◌∙◌, sym, arith}
 use Rattle.std.proofs.lemmas.List.{set-get_or}
 use Rattle.gomp_board.specs.declared.op.Op.TheVariants.{Break}
 use Rattle.gomp_types.specs.declared.reply.Reply.TheVariants.{Stopped}
-use Rattle.gomp_board.specs.Boards.{kept_by}
 use Rattle.gomp_board.proofs.AdmittedArrivals.{unbroken_of}
 use Rattle.gomp_board.proofs.Performed.{op_performed}
 use Rattle.gomp_board.proofs.board.Board.stop.Goals as goal
