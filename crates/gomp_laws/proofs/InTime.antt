@@ -10,7 +10,7 @@ use Rattle.gomp_types.specs.RefusalTexts.{number_of}
 use Rattle.gomp_types.specs.declared.reply.Reply.{Reply}
 use Rattle.gomp_types.specs.declared.reply.Reply.TheVariants.{Refused}
 use Rattle.gomp_types.specs.declared.event.Event.{Event}
-use Rattle.gomp_types.specs.declared.event.Event.TheVariants.{Arrive, Put, Pass, Hold, Free, Start, Done, Break}
+use Rattle.gomp_types.specs.declared.event.Event.TheVariants.{Arrive, Put, Pass, Create, Hold, Free, Start, Done, Break}
 use Rattle.gomp_types.specs.Tests.{Test}
 use Rattle.gomp_types.specs.Events.{member_of, has_left_region, clash_of}
 use Rattle.gomp_types.specs.Laws.{Always, Happened}
@@ -40,6 +40,7 @@ stays_so_far can m (Start task n) h own so = absurd own
 stays_so_far can m (Done task n) h own so = absurd own
 stays_so_far can m (Break n place) h own so = absurd own
 stays_so_far can m (Arrive barrier n tag) h own so = (so.0, so.1, ((so.0, rw own.0 so.1), so.2))
+stays_so_far can m (Create task n parent desc) h own so = (so.0, so.1, ((so.0, rw own.0 so.1), so.2))
 stays_so_far can m (Put share n payload) h own so = (so.0, so.1, ((so.0, rw own.0 so.1), so.2))
 stays_so_far can m _ h own so = (so.0, so.1, ((so.0, rw own so.1), so.2))
 
@@ -51,6 +52,7 @@ last_in_time can m reply (Start task n) h own so = (so.0, rw own.0 so.1)
 last_in_time can m reply (Done task n) h own so = (so.0, rw own.0 so.1)
 last_in_time can m reply (Break n place) h own so = (so.0, rw own.0 so.1)
 last_in_time can m reply (Arrive barrier n tag) h own so = (so.0, rw own.0 so.1)
+last_in_time can m reply (Create task n parent desc) h own so = (so.0, rw own.0 so.1)
 last_in_time can m reply (Put share n payload) h own so = (so.0, rw own.0 so.1)
 last_in_time can m reply _ h own so = (so.0, rw own so.1)
 

@@ -8,90 +8,31 @@ use Rattle.gomp_types.specs.declared.call.Call.TheVariants.{Resume, Stop}
 use Rattle.gomp_types.specs.declared.call.Step.{Step}
 use Rattle.gomp_types.specs.declared.limits.Limits.{Limits}
 use Rattle.gomp_types.specs.declared.refusal.Clash.{Clash}
-use Rattle.gomp_types.specs.declared.refusal.Place.{Place}
 use Rattle.gomp_types.specs.declared.refusal.Refusal.TheVariants.{Mismatch}
 use Rattle.gomp_types.specs.declared.reply.Reply.{Reply}
 use Rattle.gomp_types.specs.declared.reply.Reply.TheVariants.{Passed, Wait, Run, TaskDone, Refused}
 use Rattle.gomp_types.specs.declared.event.Event.{Event}
-use Rattle.gomp_types.specs.declared.event.Event.TheVariants.{Arrive, Put, Pass, Start, Done, Break}
+use Rattle.gomp_types.specs.declared.event.Event.TheVariants.{Arrive, Put, Pass}
 use Rattle.gomp_types.specs.declared.task.Task.TheVariants.{Explicit}
-use Rattle.gomp_types.specs.declared.key.Key.{Key}
 use Rattle.gomp_types.specs.Events.{barriers_passed, arrival, at_barrier, clash_of}
 use Rattle.gomp_types.specs.Laws.{Always}
-use Rattle.gomp_types.specs.Tasks.{of_explicit, innermost_task, task_stack, executed_task, in_task, after_first}
+use Rattle.gomp_types.specs.Tasks.{innermost_task, task_stack, executed_task, in_task, after_first}
 use Rattle.gomp_laws.specs.Rules.{TeamRule}
 use Rattle.gomp_types.specs.Seen.{seen_of}
 use Rattle.gomp_types.proofs.Booleans.{is_equal, same_number, and_left, and_right, false_of_not}
 use Rattle.gomp_types.proofs.LeastTests.{AllFail, all_fail, fail_first, fail_later}
 use Rattle.gomp_laws.proofs.WordsToCome.{WordsToCome, PutsNone, still_to_come}
 use Rattle.gomp_locks.proofs.NamesKeep.{no_task_outside}
-use Rattle.gomp_model.specs.Past.{Terms, Waits, Past}
+use Rattle.gomp_model.specs.Past.{Terms, Past}
 use Rattle.gomp_model.specs.Row.{Row, unless_repeated, begun_past, place_tests, board_tests, book_tests, row_tests, events_after}
 use Rattle.gomp_types.specs.TaskCalls.{room_tests}
 use Rattle.gomp_model.specs.Calls.{stop_row, row_of}
-use Rattle.gomp_model.specs.Team.{Record, call_meant, is_resume, row_at, broken_tests, member_tests, wait_tests, refusal_of, MayAnswer, open_first, waits_after, past_after, before_all, past_of, events, Caused}
-use Rattle.gomp_laws.proofs.Sound.{is_run, goes_on, is_end, shows, MayGoOn, Lasts, acts_away, Ready, outside_of_tasks, IsSound, Gives, gives_of, IsLast}
+use Rattle.gomp_model.specs.Team.{Record, call_meant, is_resume, row_at, broken_tests, member_tests, wait_tests, refusal_of, MayAnswer, waits_after, past_after, before_all, past_of, events, Caused}
+use Rattle.gomp_laws.proofs.Sound.{is_run, goes_on, is_end, shows, Lasts, acts_away, Ready, outside_of_tasks, IsSound, Gives, gives_of, IsLast}
 use Rattle.gomp_laws.proofs.CallsKeep.{step_keeps}
 use Rattle.gomp_laws.proofs.Calls.{row_is_sound}
 use Rattle.gomp_laws.proofs.Places.{seen_other, SameBarriers, barriers_other, barriers_own, was_whole, stack_other, stack_own, stack_begun, lasts_other, lasts_own}
-
--- What is known while a wait is open
-
--- what the tests of a call that stays in its place have shown holds still
-abbrev pub Pending : Limits → ℕ → Option Call → List Event → Type 0
-Pending limits k None h = Unit {0}
-Pending limits k (Some call) h = (row_of call).stays ≡ true → AllFail ((row_of call).by_place limits (seen_of k h))
-
--- what a call that waits for a name or a lock, or outside of every task, relies on holds still
-abbrev pub WaitLasts : ℕ → Option Call → List Event → Type 0
-WaitLasts k None h = Unit {0}
-WaitLasts k (Some call) h = Lasts (row_of call) k h
-
--- What is known of the calls at which a member started its tasks
-
--- there is one for each task that it has started and not ended
-abbrev pub Covers : List Call → List ℕ → Type 0
-Covers [] [] = Unit {0}
-Covers (call ∷ calls) (task ∷ tasks) = Covers calls tasks
-Covers _ _ = ⊥
-
--- such a call does not stay in its place, and holds and frees nothing; one that arrives was made outside of every task; it is a call that may go on
-pub record IsBeneath (k : ℕ) (call : Call) (under : List Call) : Type 0 where
-  pub moves : (row_of call).stays ≡ false
-  pub holds : (row_of call).holds ≡ None
-  pub outside : is_some (row_of call).arrives ≡ true → under ≡ []
-  pub goes_on : MayGoOn (row_of call) k
-
--- each of them is one
-abbrev pub AreBeneath : ℕ → List Call → Type 0
-AreBeneath k [] = Unit {0}
-AreBeneath k (call ∷ calls) = IsBeneath k call calls × AreBeneath k calls
-
--- whether the call that waits has arrived at a barrier
-abbrev pub has_arrived : Option Call → Bool
-has_arrived None = false
-has_arrived (Some call) = is_some (row_of call).arrives
-
--- whether one of these calls has
-abbrev pub some_arrived : List Call → Bool
-some_arrived [] = false
-some_arrived (call ∷ calls) = is_some (row_of call).arrives || some_arrived calls
-
--- a member that waits at no barrier, and has not arrived at its next one
-abbrev pub IsAway : ℕ → List Event → Type 0
-IsAway k h = (arrival (barriers_passed k h) k h ≡ None) × (at_barrier k h ≡ false)
-
--- so is one of whose calls none has arrived, in a team that is not broken
-abbrev pub Fresh : ℕ → Waits → List Event → Type 0
-Fresh k waits h = clash_of h ≡ None → has_arrived waits.open_call ≡ false → some_arrived waits.beneath ≡ false → IsAway k h
-
--- what is known of a member's calls that are not answered whole
-pub record WaitKnown (limits : Limits) (k : ℕ) (waits : Waits) (h : List Event) : Type 0 where
-  pub pending : Pending limits k waits.open_call h
-  pub lasting : WaitLasts k waits.open_call h
-  pub covers : Covers waits.beneath (task_stack k h)
-  pub beneath : AreBeneath k waits.beneath
-  pub fresh : Fresh k waits h
+use Rattle.gomp_laws.proofs.Waiting.{Pending, WaitLasts, Covers, has_arrived, some_arrived, IsAway, Fresh, WaitKnown, neither_holds, covers_none, none_arrived, pending_same, lasts_at_break, started_stack, ended_stack, wait_opens_again}
 
 -- the rule holds, what the calls that wait rely on does, and words are still to come
 pub record Known (p : Past) : Type 0 where
@@ -99,29 +40,8 @@ pub record Known (p : Past) : Type 0 where
   pub each : (k : ℕ) → WaitKnown p.terms.limits k (p.waits k) p.events
   pub words : WordsToCome p.events
 
-neither_holds : (a b : Bool) → (a || b) ≡ false → (a ≡ false) × (b ≡ false)
-neither_holds true b e = absurd (cc)
-neither_holds false b e = (refl, e)
-
--- a member that has started no task has no calls beneath, and the other way round
-covers_none : (calls : List Call) (tasks : List ℕ) → Covers calls tasks → tasks ≡ [] → calls ≡ []
-covers_none [] tasks covers none = refl
-covers_none (call ∷ calls) [] covers none = absurd covers
-covers_none (call ∷ calls) (task ∷ tasks) covers none = absurd (cc)
-
-stack_none : (calls : List Call) (tasks : List ℕ) → Covers calls tasks → calls ≡ [] → tasks ≡ []
-stack_none calls [] covers none = refl
-stack_none [] (task ∷ tasks) covers none = absurd covers
-stack_none (call ∷ calls) (task ∷ tasks) covers none = absurd (cc)
-
-outside_of_none : (k : ℕ) (h : List Event) → task_stack k h ≡ [] → in_task k h ≡ false
-outside_of_none k h none = rw none refl
-
 none_beneath : (k : ℕ) (p : Past) → Known p → in_task k p.events ≡ false → (p.waits k).beneath ≡ []
 none_beneath k p known outside = covers_none (p.waits k).beneath (task_stack k p.events) (known.each k).covers (no_task_outside k p.events outside)
-
-none_arrived : (calls : List Call) → calls ≡ [] → some_arrived calls ≡ false
-none_arrived calls none = rw none refl
 
 -- What the tests of a step have shown
 
@@ -287,10 +207,6 @@ answer_rule p step reply may known =
 
 -- What stays known while a wait is open
 
-pending_same : (limits : Limits) (k : ℕ) (waiting : Option Call) (h now : List Event) → seen_of k now ≡ seen_of k h → Pending limits k waiting h → Pending limits k waiting now
-pending_same limits k None h now same pending = tt
-pending_same limits k (Some call) h now same pending = λ stays. rw same (pending stays)
-
 still_there : (row : Row) → IsSound row → row.stays ≡ true → (repeated : Bool) (m : ℕ) (p : Past) → events_after repeated row m p Wait ≡ p.events
 still_there row sound stays repeated m p = rw ((sound.still stays m (begun_past repeated row m p)).1, (sound.still stays m p).0) refl
 
@@ -301,10 +217,6 @@ shown_first row repeated e = rw e refl
 pending_waiting : (row : Row) → IsSound row → (repeated : Bool) (m : ℕ) (p : Past) → Ready row repeated m p → row.stays ≡ true → AllFail (row.by_place p.terms.limits (seen_of m (events_after repeated row m p Wait)))
 pending_waiting row sound repeated m p ready stays =
     subst (λ (h : List Event). AllFail (row.by_place p.terms.limits (seen_of m h))) (sym (still_there row sound stays repeated m p)) (ready.place (shown_first row repeated stays))
-
-lasts_at_break : (k n : ℕ) (place : Place) (waiting : Option Call) (h : List Event) → WaitLasts k waiting h → WaitLasts k waiting (Break n place ∷ h)
-lasts_at_break k n place None h lasting = tt
-lasts_at_break k n place (Some call) h lasting = lasting
 
 wait_lasts_other : (row : Row) → IsSound row → (repeated : Bool) (members k m : ℕ) (p : Past) (reply : Reply) (waiting : Option Call) → (m == k) ≡ false → Always (TeamRule members) (events_after repeated row m p reply) → WaitLasts k waiting p.events →
     WaitLasts k waiting (events_after repeated row m p reply)
@@ -384,12 +296,6 @@ never_so p step reply arrives may passes waits =
 
 -- Tasks
 
-started_stack : (m task : ℕ) (h : List Event) → task_stack m (Start task m ∷ h) ≡ task ∷ task_stack m h
-started_stack m task h = rw (same_number m) refl
-
-ended_stack : (m task : ℕ) (h : List Event) → task_stack m (Done task m ∷ h) ≡ after_first (task_stack m h)
-ended_stack m task h = rw (same_number m) refl
-
 -- a call that runs a task adds it to its member's
 run_stack : (row : Row) → IsSound row → (repeated : Bool) (m : ℕ) (p : Past) (task code arg : ℕ) (own : Bool) → row.may_reply m (begun_past repeated row m p) (Run task code arg own) →
     task_stack m (events_after repeated row m p (Run task code arg own)) ≡ task ∷ task_stack m p.events
@@ -407,35 +313,17 @@ end_stack row sound repeated m p task waiting may =
     ∙ ended_stack m task q.events ∙ ap after_first (stack_begun row sound repeated m p)
 
 -- which it was
-ended_task : (row : Row) → IsSound row → (repeated : Bool) (m : ℕ) (p : Past) (task : ℕ) (waiting : Bool) → row.may_reply m (begun_past repeated row m p) (TaskDone task waiting) → executed_task m p.events ≡ Explicit task
+pub ended_task : (row : Row) → IsSound row → (repeated : Bool) (m : ℕ) (p : Past) (task : ℕ) (waiting : Bool) → row.may_reply m (begun_past repeated row m p) (TaskDone task waiting) → executed_task m p.events ≡ Explicit task
 ended_task row sound repeated m p task waiting may =
     ap (innermost_task m) (sym (stack_begun row sound repeated m p)) ∙ (sound.ends m (begun_past repeated row m p) task waiting may).2
-
--- the call at which a member started the task that it has ended waits again
-waits_again : (limits : Limits) (k task : ℕ) (now : List Event) (calls : List Call) (tasks : List ℕ) → innermost_task k tasks ≡ Explicit task → Covers calls tasks → AreBeneath k calls → task_stack k now ≡ after_first tasks →
-    (clash_of now ≡ None → some_arrived calls ≡ false → IsAway k now) → WaitKnown limits k (open_first calls) now
-waits_again limits k task now [] [] executed covers beneath stack fresh = absurd (cc)
-waits_again limits k task now [] (t ∷ ts) executed covers beneath stack fresh = absurd covers
-waits_again limits k task now (call ∷ calls) [] executed covers beneath stack fresh = absurd covers
-waits_again limits k task now (call ∷ calls) (t ∷ ts) executed covers beneath stack fresh = record {
-  pending = λ stays. absurd (let both = sym stays ∙ beneath.0.moves in cc);
-  lasting = (
-    (λ arrives. outside_of_none k now (stack ∙ stack_none calls ts covers (beneath.0.outside arrives))),
-    (λ key holds. absurd (let both = sym holds ∙ beneath.0.holds in cc)),
-    beneath.0.goes_on,
-  );
-  covers = subst (λ (tasks : List ℕ). Covers calls tasks) (sym stack) covers;
-  beneath = beneath.1;
-  fresh = λ whole quiet under. fresh whole (rw quiet under);
-}
 
 -- The waits after a step
 
 -- of its member, if the wait is closed
-closed_wait : (p : Past) (step : Step) (reply : Reply) → is_run reply ≡ false → is_end reply ≡ false → Known p →
+known_when_closed : (p : Past) (step : Step) (reply : Reply) → is_run reply ≡ false → is_end reply ≡ false → Known p →
     Fresh step.member (record { open_call = None; beneath = (p.waits step.member).beneath }) (past_after p step reply).events →
     WaitKnown p.terms.limits step.member (record { open_call = None; beneath = (p.waits step.member).beneath }) (past_after p step reply).events
-closed_wait p step reply run end known fresh = record {
+known_when_closed p step reply run end known fresh = record {
   pending = tt;
   lasting = tt;
   covers = subst (λ (tasks : List ℕ). Covers (p.waits step.member).beneath tasks)
@@ -445,8 +333,8 @@ closed_wait p step reply run end known fresh = record {
 }
 
 -- if it waits
-waits_on : (p : Past) (step : Step) → MayAnswer p step Wait → Known p → WaitKnown p.terms.limits step.member (waits_after Wait step.call (p.waits step.member)) (past_after p step Wait).events
-waits_on p step may known =
+known_at_wait : (p : Past) (step : Step) → MayAnswer p step Wait → Known p → WaitKnown p.terms.limits step.member (waits_after Wait step.call (p.waits step.member)) (past_after p step Wait).events
+known_at_wait p step may known =
     let row = row_at p step in
     let repeated = is_resume step.call in
     let s = row_is_sound (call_meant step.call (p.waits step.member).open_call) in
@@ -459,9 +347,9 @@ waits_on p step may known =
     }
 
 -- if it executes a task
-runs_above : (p : Past) (step : Step) (task code arg : ℕ) → MayAnswer p step (Run task code arg false) → Known p →
+known_at_run : (p : Past) (step : Step) (task code arg : ℕ) → MayAnswer p step (Run task code arg false) → Known p →
     WaitKnown p.terms.limits step.member (waits_after (Run task code arg false) step.call (p.waits step.member)) (past_after p step (Run task code arg false)).events
-runs_above p step task code arg may known =
+known_at_run p step task code arg may known =
     let row = row_at p step in
     let repeated = is_resume step.call in
     let m = step.member in
@@ -488,15 +376,15 @@ runs_above p step task code arg may known =
     }
 
 -- if it has ended one
-ends_above : (p : Past) (step : Step) (task : ℕ) → MayAnswer p step (TaskDone task true) → Known p →
+known_at_end : (p : Past) (step : Step) (task : ℕ) → MayAnswer p step (TaskDone task true) → Known p →
     WaitKnown p.terms.limits step.member (waits_after (TaskDone task true) step.call (p.waits step.member)) (past_after p step (TaskDone task true)).events
-ends_above p step task may known =
+known_at_end p step task may known =
     let row = row_at p step in
     let repeated = is_resume step.call in
     let m = step.member in
     let s = row_is_sound (call_meant step.call (p.waits m).open_call) in
     let old = known.each m in
-    waits_again p.terms.limits m task (past_after p step (TaskDone task true)).events (p.waits m).beneath (task_stack m p.events)
+    wait_opens_again p.terms.limits m task (past_after p step (TaskDone task true)).events (p.waits m).beneath (task_stack m p.events)
     (ended_task row s repeated m p task true may.1) old.covers old.beneath (end_stack row s repeated m p task true may.1)
     (λ whole under. not_there p step (TaskDone task true) may.0 may.1 known (s.ends m (begun_past repeated row m p) task true may.1).0 under whole)
 
@@ -510,21 +398,21 @@ answer_known p step (Refused Mismatch) may known =
       fresh = λ whole quiet under. absurd (cc);
     }
 answer_known p step (Refused _) may known = known.each step.member
-answer_known p step Wait may known = waits_on p step may known
-answer_known p step (Run task code arg false) may known = runs_above p step task code arg may known
+answer_known p step Wait may known = known_at_wait p step may known
+answer_known p step (Run task code arg false) may known = known_at_run p step task code arg may known
 answer_known p step (Run task code arg true) may known =
     absurd (let own = ((row_is_sound (call_meant step.call (p.waits step.member).open_call)).runs step.member (begun_past (is_resume step.call) (row_at p step) step.member p) task code arg true may.1).2 in cc)
-answer_known p step (TaskDone task true) may known = ends_above p step task may known
+answer_known p step (TaskDone task true) may known = known_at_end p step task may known
 answer_known p step (TaskDone task false) may known =
     absurd (let waiting = ((row_is_sound (call_meant step.call (p.waits step.member).open_call)).ends step.member (begun_past (is_resume step.call) (row_at p step) step.member p) task false may.1).1 in cc)
 answer_known p step Passed may known =
-    closed_wait p step Passed refl refl known (λ whole quiet under.
+    known_when_closed p step Passed refl refl known (λ whole quiet under.
     elim (cases_Bool (is_some (row_at p step).arrives)) [
       | inl arrives ↦ passed_there p step may.0 known arrives
       | inr silent ↦ not_there p step Passed may.0 may.1 known silent under whole
     ])
 answer_known p step reply may known =
-    closed_wait p step reply refl refl known (λ whole quiet under.
+    known_when_closed p step reply refl refl known (λ whole quiet under.
     elim (cases_Bool (is_some (row_at p step).arrives)) [
       | inl arrives ↦ never_so p step reply arrives may.1 (λ e. cc) refl
       | inr silent ↦ not_there p step reply may.0 may.1 known silent under whole

@@ -1,5 +1,5 @@
 -- A member's place among the shares and at the barriers, and its tasks, are left as they are by another member's call, whatever that is.
-use Rattle.std.proofs.Common.{◌≡◌, ℕ, Bool, false, List, None, refl, ap, ◌∙◌}
+use Rattle.std.proofs.Common.{◌≡◌, ℕ, Bool, false, List, None, refl, ◌∙◌}
 use Rattle.std.specs.Prelude.{◌==◌, is_some}
 use Rattle.gomp_types.specs.declared.reply.Reply.{Reply}
 use Rattle.gomp_types.specs.declared.reply.Reply.TheVariants.{Wait}
