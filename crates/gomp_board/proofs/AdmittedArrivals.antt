@@ -69,7 +69,7 @@ pub put_has_room : (limits : Limits) (room kept m share : ℕ) (words : List ℕ
 put_has_room limits room kept m share words h fine = (tests_fail limits room kept m (Put share words) h fine).1.1.0
 
 pub got_has_room : (limits : Limits) (room kept m share : ℕ) (words : List ℕ) (h : List Event) → op_refusal limits room kept m (Got share words) h ≡ None → lacks_room limits.events room (words_ask kept) ≡ false
-got_has_room limits room kept m share words h fine = (tests_fail limits room kept m (Got share words) h fine).1.1.0
+got_has_room limits room kept m share words h fine = (tests_fail limits room kept m (Got share words) h fine).1.0
 
 -- and the room asked for stays small
 pub room_stays_small : (limits : Limits) (room more : ℕ) → capped_limits limits ≡ limits → room < 4294967296 → lacks_room limits.events room more ≡ false → room + more < 4294967296

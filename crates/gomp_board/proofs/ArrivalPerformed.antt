@@ -27,4 +27,4 @@ arrival_performed tag m more old made noted after reply admitted asks room_made 
     op_performed (Arrive tag) m old after reply reply_is admitted
     (λ h st. subst (λ (n : ℕ). AwaitsTasks m (may_pass n m (begun m (Arrive tag) h)) (begun m (Arrive tag) h) reply) size (answer (begun m (Arrive tag) h) (arrived h st)))
     (λ h st. passes (begun m (Arrive tag) h) (arrived h st)) (limits ∙ limits_noted ∙ ap (λ (v : BoardView). v.limits) room_made)
-    (room ∙ room_noted ∙ ap (λ (v : BoardView). v.room) room_made ∙ ap (λ (n : ℕ). old.room + n) asks) (kept ∙ kept_is)
+    (room ∙ room_noted ∙ ap (λ (v : BoardView). v.room) room_made ∙ ap (λ (n : ℕ). old.room + n) asks) (kept ∙ kept_is) (λ wait goes. absurd (cc))

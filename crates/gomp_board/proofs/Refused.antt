@@ -69,7 +69,7 @@ own_are_low limits room kept m (Arrive tag) h = (omega arith, (omega arith, low_
 own_are_low limits room kept m AwaitBarrier h = (omega arith, tt)
 own_are_low limits room kept m (Reserve more) h = (omega arith, (omega arith, (omega arith, tt)))
 own_are_low limits room kept m (Put share words) h = (omega arith, (omega arith, (omega arith, tt)))
-own_are_low limits room kept m (Got share words) h = (omega arith, (omega arith, (omega arith, tt)))
+own_are_low limits room kept m (Got share words) h = (omega arith, (omega arith, tt))
 own_are_low limits room kept m (Break place) h = (omega arith, tt)
 
 refusal_is_low : (limits : Limits) (room kept m : ℕ) (op : Op) (h : List Event) (found : Refusal) → op_refusal limits room kept m op h ≡ Some found → number_of found < 37
@@ -96,6 +96,7 @@ op_refused op m board found refuses other = record {
   room = refl;
   kept = refl;
   same = λ refusal e differs. record { history = refl; room = refl; kept = refl; stands = λ h st. st };
+  waits = λ wait. absurd (cc);
 }
 
 -- the place of any operation but a break

@@ -85,3 +85,4 @@ words_performed op m more old made noted admitted finishes asks room_made notes 
     (limits ∙ ap (λ (v : BoardView). v.limits) room_made)
     (room ∙ ap (λ (v : BoardView). v.room) room_made ∙ ap (λ (n : ℕ). old.room + n) asks)
     (kept ∙ ap (λ (v : BoardView). slice_set v.kept m (op_keeps op (kept_by m v))) room_made)
+    (λ wait goes. absurd (cc))

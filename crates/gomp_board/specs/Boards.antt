@@ -1,9 +1,9 @@
 -- When a board stands for a list of all events of its team. (own)
-use Rattle.std.specs.Prelude.{ℕ, ◌+◌, ◌≤◌, ◌≡◌, ◌≢◌, false, List, Option, None, length, reverse, sum, slice_index_or, slice_set}
+use Rattle.std.specs.Prelude.{ℕ, ◌+◌, ◌≤◌, ◌≡◌, ◌≢◌, true, false, List, Option, None, length, reverse, sum, slice_index_or, slice_set}
 use Rattle.gomp_types.specs.declared.limits.Limits.{Limits}
 use Rattle.gomp_types.specs.declared.refusal.Clash.{Clash}
 use Rattle.gomp_types.specs.declared.reply.Reply.{Reply}
-use Rattle.gomp_types.specs.declared.reply.Reply.TheVariants.{Refused}
+use Rattle.gomp_types.specs.declared.reply.Reply.TheVariants.{Wait, Refused}
 use Rattle.gomp_types.specs.declared.event.Event.{Event}
 use Rattle.gomp_types.specs.Limits.{capped_limits, IsTeamSize}
 use Rattle.gomp_types.specs.declared.event.Tag.{Tag}
@@ -17,7 +17,7 @@ use Rattle.gomp_groups.specs.Stands.{GroupsView, Stands as GroupsStand, members_
 use Rattle.gomp_barrier.specs.Stands.{BarriersView, Stands as BarriersStand, members_of as barrier_members}
 use Rattle.gomp_board.specs.declared.op.Op.{Op}
 use Rattle.gomp_board.specs.declared.payloads.Put.{Put}
-use Rattle.gomp_board.specs.Ops.{op_asks, op_keeps, op_refusal, op_after, OpAnswer}
+use Rattle.gomp_board.specs.Ops.{op_asks, op_keeps, op_refusal, op_after, goes_on_waiting, OpAnswer}
 use Rattle.gomp_board.specs.ReadyTasks.{AreReady}
 use Rattle.gomp_board.specs.Payloads.{PayloadsStand}
 use Rattle.gomp_board.specs.Stored.{stored}
@@ -115,6 +115,8 @@ pub record Performs (op : Op) (m : ℕ) (board after : BoardView) (reply : Reply
   pub kept : after.kept ≡ kept_after op m reply board.kept
   -- a refusal changes nothing, save that a mismatch breaks the team
   pub same : (refusal : Refusal) → reply ≡ Refused refusal → refusal ≢ Mismatch → IsSame board after
+  -- nor does a wait that goes on
+  pub waits : reply ≡ Wait → goes_on_waiting op ≡ true → after ≡ board
 
 -- an arrival that comes first: the member waits at no barrier, has not arrived at the region's end, and nobody has arrived at its barrier with another tag
 pub record ArrivesFirst (m : ℕ) (tag : Tag) (h : List Event) : Type 0 where

@@ -108,7 +108,7 @@ op_tests limits room kept m (Arrive tag) h =
 op_tests limits room kept m AwaitBarrier h = (not (awaits_barrier m h), NotInside) ∷ []
 op_tests limits room kept m (Reserve more) h = busy_tests m h ++ (outside_tasks_tests m h ++ room_tests limits room more)
 op_tests limits room kept m (Put share words) h = busy_tests m h ++ (outside_tasks_tests m h ++ room_tests limits room (words_ask kept))
-op_tests limits room kept m (Got share words) h = busy_tests m h ++ (outside_tasks_tests m h ++ room_tests limits room (words_ask kept))
+op_tests limits room kept m (Got share words) h = busy_tests m h ++ room_tests limits room (words_ask kept)
 op_tests limits room kept m (Break place) h = (not (is_stop place), Mismatch) ∷ []
 
 -- an operation is refused by that of its tests that hold whose refusal has the least number
@@ -152,6 +152,13 @@ op_gives m (Reserve more) h reply = []
 op_gives m (Put share words) h reply = []
 op_gives m (Got share words) h reply = []
 op_gives m (Break place) h reply = breaks m place reply
+
+-- an operation that goes on with a wait and gives no event before its reply
+abbrev pub goes_on_waiting : Op → Bool
+goes_on_waiting AwaitChildren = true
+goes_on_waiting EndGroup = true
+goes_on_waiting AwaitBarrier = true
+goes_on_waiting _ = false
 
 -- where the member's construct differs
 abbrev pub op_place : ℕ → Op → List Event → Place

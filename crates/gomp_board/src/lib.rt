@@ -13,6 +13,7 @@ pub mod board;
 mod groups;
 pub mod op;
 pub mod payloads;
+mod queries;
 mod refusals;
 mod room;
 mod tasks;

@@ -85,5 +85,5 @@ returns c =
           (subst (λ (n : ℕ). GroupsStand c.create.new.self (Create n m p desc ∷ h)) (sym number) next_groups)
           (subst (λ (n : ℕ). BarriersStand c.bind.new.self (Create n m p desc ∷ h)) (sym number) next_barriers) st in
           rw (← number, ← current) stands)
-          (ap (λ (v : BoardView). v.limits) c.self.view_is) (ap (λ (n : ℕ). n + 3) room) (ap (λ (v : BoardView). v.kept) c.self.view_is ∙ sym (set_same now.kept m));
+          (ap (λ (v : BoardView). v.limits) c.self.view_is) (ap (λ (n : ℕ). n + 3) room) (ap (λ (v : BoardView). v.kept) c.self.view_is ∙ sym (set_same now.kept m)) (λ wait goes. absurd (cc));
     }

@@ -19,7 +19,7 @@ returns-then-last_group_is_done c =
       performs = op_performed EndGroup m now c.close_group.new.self Passed tt c.requires.admitted
           (λ h st. sym (c.last_group_is_done.ensures.value h st) ∙ c.if-last_group_is_done.true)
           c.close_group.ensures.stands
-          c.close_group.ensures.limits (omega (arith, room)) (c.close_group.ensures.kept ∙ sym (set_same now.kept m));
+          c.close_group.ensures.limits (omega (arith, room)) (c.close_group.ensures.kept ∙ sym (set_same now.kept m)) (λ wait goes. absurd (cc));
     }
 
 pub returns-else-last_group_is_done : goal.returns-else-last_group_is_done
@@ -30,5 +30,5 @@ returns-else-last_group_is_done c =
       performs = op_performed EndGroup m now c.run_or_wait.new.self reply (runs_is_reply m (reverse now.history) reply own) c.requires.admitted
           (λ h st. runs_unmet m (last_complete (open_groups (executed_task m h) h) h) h reply (sym (c.last_group_is_done.ensures.value h st) ∙ c.if-last_group_is_done.false) (c.run_or_wait.ensures.answer h st))
           (λ h st. rw (ended_runs m h reply (c.run_or_wait.ensures.answer h st)) (c.run_or_wait.ensures.stands h st))
-          c.run_or_wait.ensures.limits (omega (arith, room)) (c.run_or_wait.ensures.kept ∙ sym (set_same now.kept m));
+          c.run_or_wait.ensures.limits (omega (arith, room)) (c.run_or_wait.ensures.kept ∙ sym (set_same now.kept m)) (λ wait goes. c.run_or_wait.ensures.waits wait);
     }

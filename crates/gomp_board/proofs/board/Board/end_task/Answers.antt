@@ -76,5 +76,5 @@ returns c =
           let groups = c.complete.ensures.stands h m st.groups (record { member = group_member b m c.self.invariant.members low; current = current }) in
           let barriers = c.release.ensures.stands h t m st.barriers (end_releases b m t c.is_odd-odd.result h st current (c.is_odd-odd.ensures.value (Done t m ∷ h) next)) in
           ended_stands b c.push_reserved.new.self.items c.finish.new.self c.complete.new.self c.release.new.self t m h c.push_reserved.ensures.items current next groups barriers st)
-          (ap (λ (v : BoardView). v.limits) c.self.view_is) (omega (arith, room)) (ap (λ (v : BoardView). v.kept) c.self.view_is ∙ sym (set_same now.kept m));
+          (ap (λ (v : BoardView). v.limits) c.self.view_is) (omega (arith, room)) (ap (λ (v : BoardView). v.kept) c.self.view_is ∙ sym (set_same now.kept m)) (λ wait goes. absurd (cc));
     }

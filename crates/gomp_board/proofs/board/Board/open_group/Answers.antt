@@ -43,5 +43,5 @@ returns c =
           let next = c.open-group.ensures.stands h m groups (record { member = omega (arith, inside, same); current = sym (c.current-task.ensures.value h now_st) }) in
           let number = c.open-group.ensures.number h groups in
           rw (← number) (opened_stands b c.push_reserved.new.self.items (c.self.inside.room + 2) c.open-group.new.self c.open-group.result m h c.self.invariant.members low longer number next st))
-          (ap (λ (v : BoardView). v.limits) c.self.view_is) (ap (λ (n : ℕ). n + 2) room) (ap (λ (v : BoardView). v.kept) c.self.view_is ∙ sym (set_same now.kept m));
+          (ap (λ (v : BoardView). v.limits) c.self.view_is) (ap (λ (n : ℕ). n + 2) room) (ap (λ (v : BoardView). v.kept) c.self.view_is ∙ sym (set_same now.kept m)) (λ wait goes. absurd (cc));
     }
