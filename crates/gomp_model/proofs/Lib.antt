@@ -3,7 +3,10 @@ pub mod LoopLimits
 pub mod RecordExamples
 pub mod RowExamples
 pub mod StepExamples
+pub mod TaskCauseExamples
+pub mod TaskRecordExamples
 pub mod TaskRowExamples
+pub mod TaskTestExamples
 pub mod TestExamples
 pub mod RunsWithCauses
 pub mod WrongAnswers
