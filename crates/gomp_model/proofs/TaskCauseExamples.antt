@@ -50,10 +50,10 @@ pub wrong_at_taskwait_with_a_child : AreWrong 2 (take 1 wait_for_children) (asks
 wrong_at_taskwait_with_a_child = search rules
 
 -- one with a child that another member runs, and its resume
-pub wrong_at_waiting_taskwait :
+pub wrong_at_taskwait_that_waits :
     AreWrong 2 (take 2 wait_for_a_running_child) (asks 0 Taskwait) (Passed ∷ RunTask 1 7 70 false ∷ other_runs ++ no_pass)
     × AreWrong 2 (take 3 wait_for_a_running_child) (asks 0 Resume) (Passed ∷ RunTask 1 7 70 false ∷ other_runs ++ no_pass)
-wrong_at_waiting_taskwait = search rules
+wrong_at_taskwait_that_waits = search rules
 
 -- its resume once the child has ended
 pub wrong_at_met_taskwait : AreWrong 2 (take 5 wait_for_a_running_child) (asks 0 Resume) (Wait ∷ RunTask 1 7 70 false ∷ other_runs ++ no_pass)
@@ -72,9 +72,9 @@ pub wrong_at_group_end_with_a_task : AreWrong 2 (take 2 group_with_a_grandchild)
 wrong_at_group_end_with_a_task = search rules
 
 -- of one whose task's child another member runs
-pub wrong_at_waiting_group_end :
+pub wrong_at_group_end_that_waits :
     AreWrong 2 (take 7 group_with_a_grandchild) (asks 0 Resume) (Passed ∷ RunTask 1 7 70 false ∷ RunTask 2 8 80 false ∷ other_runs ++ no_pass)
-wrong_at_waiting_group_end = search rules
+wrong_at_group_end_that_waits = search rules
 
 -- a member at a barrier with a task that may be started
 pub wrong_at_barrier_with_a_task : AreWrong 2 ((asks 0 (TaskCreate one_job), Created 1) ∷ []) (asks 1 Barrier) (Wait ∷ Passed ∷ other_runs ++ no_pass)

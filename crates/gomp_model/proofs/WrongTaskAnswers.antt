@@ -7,7 +7,7 @@ use Rattle.gomp_types.specs.declared.reply.Reply.TheVariants.{Chunk, Finished, P
 use Rattle.gomp_types.specs.TaskExamples.{one_job}
 use Rattle.gomp_model.specs.Team.{MayAnswer, past_of}
 use Rattle.gomp_model.specs.Examples.{IsWrong, AreWrong, run_recorded, past_after_run, asks, ten_by_three}
-use Rattle.gomp_model.specs.HoldExamples.{name_a}
+use Rattle.gomp_model.specs.HoldExamples.{name_a, name_b}
 use Rattle.gomp_model.specs.TaskRuns.{creates_task, tasks_at_barriers, task_at_a_resume, task_at_a_loop_end, children_of_two, wait_for_children, wait_for_a_running_child, down_to, group_of_one, group_with_a_grandchild, group_in_a_group, refused_in_tasks, refused_ends_of_tasks, locks_of_tasks, lock_of_an_ended_task, with_events, one_task, room_for_one_task, no_room_for_another}
 
 -- Creation
@@ -188,6 +188,11 @@ tasks_refused_in_tasks_are_wrong = search rules
 pub names_of_a_suspended_task_are_wrong :
     AreWrong 1 (take 6 refused_ends_of_tasks) (asks 0 (CriticalStart name_a)) (Finished ∷ Wait ∷ Refused NoMemory ∷ []) × IsWrong 1 (take 6 refused_ends_of_tasks) (asks 0 (CriticalEnd name_a)) Finished
 names_of_a_suspended_task_are_wrong = search rules
+
+-- another member enters that name, or is refused as if it held it; it may only wait
+pub name_of_anothers_suspended_task_is_wrong :
+    AreWrong 2 (take 6 refused_ends_of_tasks) (asks 1 (CriticalStart name_a)) (Finished ∷ Refused AlreadyHeld ∷ []) × IsWrong 2 (take 6 refused_ends_of_tasks) (asks 1 (CriticalStart name_b)) Wait
+name_of_anothers_suspended_task_is_wrong = search rules
 
 -- a task does not end for a name of a suspended one
 pub end_refused_for_a_suspended_name_is_wrong : AreWrong 1 (take 6 refused_ends_of_tasks) (asks 0 TaskEnd) (Refused HoldsCritical ∷ [])

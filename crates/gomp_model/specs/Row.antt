@@ -8,9 +8,9 @@ use Rattle.gomp_types.specs.declared.shape.Shape.{Shape}
 use Rattle.gomp_types.specs.declared.refusal.Place.{Place}
 use Rattle.gomp_types.specs.declared.refusal.Place.TheVariants.{Barrier as AtBarrier}
 use Rattle.gomp_types.specs.declared.refusal.Refusal.{Refusal}
-use Rattle.gomp_types.specs.declared.refusal.Refusal.TheVariants.{Mismatch}
+use Rattle.gomp_types.specs.declared.refusal.Refusal.TheVariants.{Mismatch, NoMemory}
 use Rattle.gomp_types.specs.declared.reply.Reply.{Reply}
-use Rattle.gomp_types.specs.declared.reply.Reply.TheVariants.{Finished, Refused}
+use Rattle.gomp_types.specs.declared.reply.Reply.TheVariants.{Finished, Wait, Run, Refused}
 use Rattle.gomp_types.specs.declared.event.Arrival.{Arrival}
 use Rattle.gomp_types.specs.declared.event.Event.{Event}
 use Rattle.gomp_types.specs.declared.event.Event.TheVariants.{Break}
@@ -157,3 +157,27 @@ room_after false row reply room = room + row.room
 abbrev pub locks_after : Row → Reply → List (Option LockKind) → List (Option LockKind)
 locks_after row (Refused refusal) locks = locks
 locks_after row reply locks = row.locks reply locks
+
+-- the past after the call and its reply, but for what waits; a refusal that breaks no team leaves it as it was
+abbrev pub past_given : Row → Bool → ℕ → Past → Reply → Past
+past_given row repeated m p (Refused refusal) = p
+past_given row repeated m p reply = record p {
+  events = given_after row repeated m p reply;
+  room = room_after repeated row reply p.room;
+  locks = locks_after row reply p.locks;
+}
+
+-- whether a call goes on after its reply: it waits, or a task is executed before it is repeated
+abbrev pub goes_on : Reply → Bool
+goes_on Wait = true
+goes_on (Run task code arg own) = true
+goes_on _ = false
+
+-- a call that may go on after a reply
+abbrev pub MayGoOn : Row → ℕ → Type 0
+MayGoOn row m = (q : Past) × (reply : Reply) × (goes_on reply ≡ true) × row.may_reply m q reply
+
+-- a reply is want of memory, of a call that may find none; or it is one that the row has
+abbrev pub MayGive : Row → Bool → ℕ → Past → Reply → Type 0
+MayGive row repeated m p (Refused NoMemory) = row.memory ≡ true
+MayGive row repeated m p reply = MayReply row repeated m p reply
