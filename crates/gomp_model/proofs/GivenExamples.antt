@@ -63,3 +63,7 @@ pub given_by_rows :
     MayGive (row_of Barrier) false 0 (past_with 2 []) (Refused NoMemory) × (MayGive (row_of SingleStart) false 0 (past_with 2 []) (Refused NoMemory) → ⊥)
     × MayGive (row_of Barrier) false 0 (past_with 2 []) Wait × (MayGive (row_of Barrier) false 0 (past_with 2 []) Passed → ⊥) × (MayGive (row_of Barrier) false 0 (past_with 2 []) (Refused InsideTask) → ⊥)
 given_by_rows = (refl, (λ asks. absurd (cc)), (refl, refl), (λ met. absurd (cc)), (λ never. never))
+
+-- a call that is made has begun, one that is repeated begins no second time
+pub replies_once_begun : MayGive (row_of Barrier) false 0 (past_with 1 []) Passed × (MayGive (row_of Barrier) true 0 (past_with 1 []) Passed → ⊥)
+replies_once_begun = (refl, (λ met. absurd (cc)))
