@@ -62,7 +62,8 @@ pub(crate) fn reserve_row<T>(rows: &mut Vec<T>) -> Result<(), AllocError>
     if count < rows.capacity() {
         return Ok(());
     }
-    rows.reserve_exact((count / STEP_PART).max(LEAST_STEP) + 1)
+    let step = (count / STEP_PART).max(LEAST_STEP);
+    rows.reserve_exact(step + 1)
 }
 
 /// What is kept of the task, explicit tasks being numbered from 1.

@@ -53,8 +53,8 @@ impl Ready {
         if count < self.ids.capacity() {
             return Ok(());
         }
-        self.ids
-            .reserve_exact((count / STEP_PART).max(LEAST_STEP) + 1)
+        let step = (count / STEP_PART).max(LEAST_STEP);
+        self.ids.reserve_exact(step + 1)
     }
 
     /// Puts a task at the end. It takes no memory.

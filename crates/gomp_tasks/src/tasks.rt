@@ -194,8 +194,8 @@ impl Tasks {
         if count < self.rows.capacity() {
             return Ok(());
         }
-        self.rows
-            .reserve_exact((count / STEP_PART).max(LEAST_STEP) + 1)
+        let step = (count / STEP_PART).max(LEAST_STEP);
+        self.rows.reserve_exact(step + 1)
     }
 
     /// The member, numbered from 0, creates a task in the one that it executes. `odd` says whether
