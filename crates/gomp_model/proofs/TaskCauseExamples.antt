@@ -1,13 +1,13 @@
 -- To each call on tasks and groups, and to each call at which a task may be run, the answers of other calls, refusals and want of memory that have no cause.
-use Rattle.std.proofs.Common.{◌≡◌, true, false, List, [], ◌∷◌, refl, rules, inl, inr}
+use Rattle.std.proofs.Common.{true, false, List, [], ◌∷◌, refl, rules, inl, inr}
 use Rattle.std.specs.Prelude.{pos, take, ◌++◌}
 use Rattle.gomp_types.specs.declared.call.Call.TheVariants.{LoopEnd, SectionsStart, SectionsNext, SectionsEnd, Barrier, RegionEnd, CriticalStart, TaskCreate, TaskEnd, Taskwait, GroupStart, GroupEnd, Resume}
 use Rattle.gomp_types.specs.declared.loop_desc.EndKind.TheVariants.{Wait as WaitEnd}
-use Rattle.gomp_types.specs.declared.refusal.Refusal.TheVariants.{InsideTask, NoGroup, NoMemory}
+use Rattle.gomp_types.specs.declared.refusal.Refusal.TheVariants.{InsideTask, NoMemory}
 use Rattle.gomp_types.specs.declared.reply.Reply.{Reply}
 use Rattle.gomp_types.specs.declared.reply.Reply.TheVariants.{Chunk, NoChunk, Section, Executor, Copied, Finished, Passed, Wait, Created, Run as RunTask, TaskDone, Stopped, Refused}
 use Rattle.gomp_types.specs.declared.event.Event.TheVariants.{Create, Start, Group}
-use Rattle.gomp_types.specs.declared.task.Task.TheVariants.{Implicit, Explicit}
+use Rattle.gomp_types.specs.declared.task.Task.TheVariants.{Implicit}
 use Rattle.gomp_types.specs.TaskExamples.{one_job, other_job, nested_groups}
 use Rattle.gomp_model.specs.Team.{OneReply}
 use Rattle.gomp_model.specs.Examples.{Run, MayReplyAfter, IsWrongAfter, IsWrong, AreWrong, lock_answers, task_answers, share_answers, all_refusals, asks}

@@ -6,7 +6,7 @@ use Rattle.gomp_types.specs.declared.call.Call.TheVariants.{LoopNext, LoopEnd, L
 use Rattle.gomp_types.specs.declared.event.Event.{Event}
 use Rattle.gomp_types.specs.declared.loop_desc.EndKind.TheVariants.{Wait as WaitEnd, Nowait}
 use Rattle.gomp_types.specs.declared.refusal.Refusal.{Refusal}
-use Rattle.gomp_types.specs.declared.refusal.Refusal.TheVariants.{InsideTask, NotInTask, InsideShare, HoldsCritical, NoGroup, GroupOpen, TooDeep, TooManyTasks, Mismatch, TraceFull, NoMemory, BadSections}
+use Rattle.gomp_types.specs.declared.refusal.Refusal.TheVariants.{InsideTask, NotInTask, InsideShare, HoldsCritical, GroupOpen, TooDeep, TooManyTasks, Mismatch, TraceFull, NoMemory, BadSections}
 use Rattle.gomp_types.specs.declared.reply.Reply.{Reply}
 use Rattle.gomp_types.specs.declared.reply.Reply.TheVariants.{Chunk, NoChunk, Section, Executor, Finished, Passed, Wait, Created, Run as RunTask, TaskDone, Lock, Stopped, Refused}
 use Rattle.gomp_types.specs.Events.{has_left_region, clash_of}
