@@ -1,16 +1,17 @@
 // The context of a thread: which member of which team it is, and its control variables. Outside of every
 // region a thread is a team of one, which has an engine once it meets a construct, and is renewed between
-// constructs before its limit of shares. A region that the thread begins then takes the team's place and its
-// engine, so that the locks stay.
+// constructs before its limit of shares or tasks. A region that the thread begins then takes the team's place
+// and its engine, so that the locks stay.
 #include "context.h"
 
 #include "memory.h"
 #include "message.h"
 #include "region.h"
+#include "task.h"
 
 #include <pthread.h>
 
-enum { SHARES_OF_ONE = 131000 }; // the engine's limit is 131,064
+enum { SHARES_OF_ONE = 131000, TASKS_OF_ONE = 500000 }; // the engine's limits are 131,064 and 2^20
 
 static __thread struct context alone; // the context outside of every region
 static __thread struct context *current;
@@ -53,9 +54,11 @@ struct context *context_at(void *address)
     return context;
 }
 
-static bool is_used_up(const struct member *member)
+static bool is_used_up(const struct team *team)
 {
-    return member->shares >= SHARES_OF_ONE && !member->inside && member->holds == 0;
+    const struct member *member = &team->members[0];
+    bool is_near_limit = member->shares >= SHARES_OF_ONE || team->tasks_made.count >= TASKS_OF_ONE;
+    return is_near_limit && !member_is_engaged(member) && member->holds == 0;
 }
 
 // Sees to it that the team of one stands.
@@ -64,7 +67,7 @@ static void stand_alone(void)
     if (alone.team == NULL) {
         alone.team = team_take(1);
         region_watch_thread_end();
-    } else if (!alone.team->in_use || is_used_up(&alone.team->members[0])) {
+    } else if (!alone.team->in_use || is_used_up(alone.team)) {
         team_renew(alone.team, 1);
     } else {
         return;
@@ -89,11 +92,16 @@ bool context_is_outermost(const struct context *context)
     return outer == NULL || (outer->outer == NULL && outer->team == context->team);
 }
 
-// Makes a call of this member.
+// Makes a call of this member, and executes the tasks that it is given while it would wait.
 struct reply context_call(struct context *context, struct call call)
 {
     call.address = context->address;
-    return team_call(context->team, context->number, &call);
+    struct reply reply = team_call(context->team, context->number, &call);
+    while (reply.kind == REPLY_RUN) {
+        task_execute(context);
+        reply = team_resume(context->team, context->number, &call);
+    }
+    return reply;
 }
 
 // What GOMP_loop_start and its like may ask for besides: memory, whose size stands where its address is to
