@@ -43,14 +43,28 @@ void context_forget(void) { alone.team = NULL; }
 extern const char __ehdr_start[] __attribute__((visibility("hidden")));
 extern const char _end[] __attribute__((visibility("hidden")));
 
+// The explicit task that the member executes, NULL for none.
+struct task *context_task(const struct context *context)
+{
+    return context->team != NULL ? context->team->members[context->number].task : NULL;
+}
+
+// The place of a call that is a jump, since it is the last thing that a task or a region does: its function.
+static void *place_of_jump(const struct context *context, void *address)
+{
+    const struct task *task = context_task(context);
+    if (task != NULL)
+        return task_function(task);
+    return context->region != NULL ? region_function(context->region) : address;
+}
+
 // The context of the calling thread, which called the library from this address of the program. A call that
-// is the last thing that a region does may be a jump: it returns to the library, and the region's function
-// stands for its place.
+// is a jump returns to the library.
 struct context *context_at(void *address)
 {
     struct context *context = context_now();
     bool is_jump = (const char *)address >= __ehdr_start && (const char *)address < _end;
-    context->address = is_jump && context->region != NULL ? region_function(context->region) : address;
+    context->address = is_jump ? place_of_jump(context, address) : address;
     return context;
 }
 

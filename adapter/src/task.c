@@ -40,7 +40,7 @@ static void end_if_not_served(const struct context *context, bool if_clause, uns
 static struct task *task_make(struct context *context, void (*function)(void *), void *data,
                               void (*copy)(void *, void *), size_t size, size_t alignment)
 {
-    const struct task *parent = context->team->members[context->number].task;
+    const struct task *parent = context_task(context);
     struct task *task = malloc(sizeof *task + size + alignment);
     if (task == NULL)
         end_by_fault("no memory for a task");
@@ -77,7 +77,7 @@ EXPORT void GOMP_task(void (*function)(void *), void *data, void (*copy)(void *,
 // Executes the task that the member was given, up to its end.
 void task_execute(struct context *context)
 {
-    struct task *task = context->team->members[context->number].task;
+    struct task *task = context_task(context);
     struct variables variables = context->variables;
     context->variables = task->variables;
     task->function(task->data);

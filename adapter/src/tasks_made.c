@@ -13,6 +13,9 @@
 
 static size_t grown(size_t room) { return room * 2 + 64; }
 
+// An address in a function, in the form of one that a call returns to: one byte behind.
+static void *place_of(void (*function)(void *)) { return (char *)(uintptr_t)function + 1; }
+
 static unsigned long code_of(struct tasks_made *made, void (*function)(void *), int record)
 {
     for (size_t i = 0; i < made->functions_count; i++)
@@ -25,7 +28,7 @@ static unsigned long code_of(struct tasks_made *made, void (*function)(void *), 
             end_by_fault("no memory for a task");
     }
     made->functions[made->functions_count++] = function;
-    record_place(record, "code", made->functions_count, (char *)(uintptr_t)function + 1);
+    record_place(record, "code", made->functions_count, place_of(function));
     return made->functions_count;
 }
 
@@ -75,6 +78,8 @@ void tasks_made_note(struct tasks_made *made, struct task **current, const struc
     if (reply->kind == REPLY_TASK_DONE)
         end(made, current, reply);
 }
+
+void *task_function(const struct task *task) { return place_of(task->function); }
 
 void tasks_made_free(struct tasks_made *made)
 {

@@ -28,5 +28,6 @@ struct tasks_made {
 void tasks_made_add(struct tasks_made *made, struct task *task, int record);
 void tasks_made_note(struct tasks_made *made, struct task **current, const struct reply *reply);
 void tasks_made_free(struct tasks_made *made);
+void *task_function(const struct task *task);
 
 #endif

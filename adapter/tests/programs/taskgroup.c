@@ -64,7 +64,7 @@ int main(void) {
     {
 #pragma omp taskgroup
         grow(2);
-        CHECK(leaves >= 4, "%d leaves", leaves);
+        CHECK(__atomic_load_n(&leaves, __ATOMIC_SEQ_CST) >= 4, "some are not done");
     }
     CHECK(leaves == 4 * asked(), "%d leaves", leaves);
     return told();
