@@ -3,32 +3,41 @@
 // steps: task, task_end
 #include "../check.h"
 
+static int members, tasks, sizes[20];
+
+static void body(int k) {
+    CHECK(omp_get_max_threads() == 3, "%d", omp_get_max_threads());
+    omp_set_num_threads(1 + k % 2);
+#pragma omp parallel
+    {
+        CHECK(omp_get_level() == 2 && omp_get_num_threads() == 1 + k % 2, "%d members", omp_get_num_threads());
+        COUNT(members);
+#pragma omp task
+        COUNT(tasks);
+#pragma omp taskwait
+#pragma omp task
+        COUNT(tasks);
+    }
+    CHECK(omp_get_level() == 1, "level %d", omp_get_level());
+    sizes[k] = omp_get_max_threads();
+}
+
 int main(void) {
-    int members = 0, tasks = 0, sizes[20] = {0};
     omp_set_max_active_levels(2);
 #pragma omp parallel
     {
-        omp_set_num_threads(3);
-#pragma omp single
-        for (int k = 0; k < 20; k++)
-#pragma omp task
+        int before = omp_get_max_threads(), creates = 0;
+#pragma omp single nowait
         {
-            CHECK(omp_get_max_threads() == 3, "%d", omp_get_max_threads());
-            omp_set_num_threads(1 + k % 2);
-#pragma omp parallel
-            {
-                CHECK(omp_get_level() == 2 && omp_get_num_threads() <= 1 + k % 2, "level %d", omp_get_level());
-                COUNT(members);
+            creates = 1;
+            omp_set_num_threads(3);
+            for (int k = 0; k < 20; k++)
 #pragma omp task
-                COUNT(tasks);
-#pragma omp taskwait
-#pragma omp task
-                COUNT(tasks);
-            }
-            CHECK(omp_get_level() == 1, "level %d", omp_get_level());
-            sizes[k] = omp_get_max_threads();
+                body(k);
+            omp_set_num_threads(5);
         }
-        CHECK(omp_get_max_threads() == 3, "%d", omp_get_max_threads());
+#pragma omp barrier
+        CHECK(omp_get_max_threads() == (creates ? 5 : before), "%d", omp_get_max_threads());
     }
     for (int k = 0; k < 20; k++)
         CHECK(sizes[k] == 1 + k % 2, "%d", sizes[k]);
