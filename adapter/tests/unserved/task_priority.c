@@ -1,4 +1,4 @@
-// GOMP_task: tasks.
+// #pragma omp task with a priority above 0: an order of the tasks.
 #include "../check.h"
 
 int main(void) {
@@ -6,10 +6,9 @@ int main(void) {
 #pragma omp parallel
     {
 #pragma omp single
-        for (int k = 0; k < 10; k++) {
-#pragma omp task
+        for (int k = 0; k < 10; k++)
+#pragma omp task priority(k)
             COUNT(count);
-        }
     }
     CHECK(count == 10, "%d", count);
     return told();
