@@ -200,13 +200,13 @@ const ASKS: &[&[Ask]] = &[
     &[Ask::Put],
 ];
 
-/// The stored events of a member, if all this and a barrier come so many times: of a task three, of a group two, of words
-/// three, and two at a barrier; and those at the region's end.
+/// The stored events of a member, if all this, a barrier and the end of a share come so many times: of a task three, of a
+/// group two, of words three, and two at each meeting; and those at the region's end.
 fn events_of(count: usize) -> usize {
-    count.wrapping_mul(10).wrapping_add(2)
+    count.wrapping_mul(12).wrapping_add(2)
 }
 
-/// A team of this size asks all this so many times, meets at as many barriers, and leaves its region.
+/// A team of this size asks all this so many times, meets at as many barriers and ends of shares, and leaves its region.
 fn region(
     rt: &impl Abort,
     alloc: Global,
@@ -224,6 +224,7 @@ fn region(
     }
     for _ in 0..count {
         trial.meet(rt, Arrival::Barrier);
+        trial.meet(rt, Arrival::ShareEnd);
     }
     trial.meet(rt, Arrival::RegionEnd);
     let stored = trial.board.history().len();
@@ -258,15 +259,16 @@ fn boards_give_up_nothing(rt: HostRuntime) -> Result<(), Fail> {
         for count in 0..3 {
             region(&rt, rt.alloc(), members, count, 0)?;
         }
+        parts(&rt, rt.alloc(), members, 2)?;
     }
-    for members in &[0, 1, 64, 65, 255, 256, 65_535] {
+    for members in &[0, 65, 255, 256, 65_535] {
         parts(&rt, rt.alloc(), *members, 0)?;
     }
     Ok(())
 }
 
-/// Each allocation that is refused is asked for again, and the board then has the events that it has if none is refused.
-/// Here none is: `rt try --test --fail-alloc 1..` refuses each in turn, in a run of its own.
+/// An operation that was refused memory is asked again, and at the end the board has the events that it has if no memory
+/// is refused. Here none is: the script `refuse-allocations` refuses each allocation in turn, in a run of its own.
 #[test]
 fn refused_memory_is_asked_for_again(rt: HostRuntime) -> Result<(), Fail> {
     for members in [1, 3] {
