@@ -50,10 +50,10 @@ pub wrong_at_taskwait_with_a_child : AreWrong 2 (take 1 wait_for_children) (asks
 wrong_at_taskwait_with_a_child = search rules
 
 -- one with a child that another member runs, and its resume
-pub wrong_at_waiting_taskwait :
+pub wrong_at_taskwait_that_waits :
     AreWrong 2 (take 2 wait_for_a_running_child) (asks 0 Taskwait) (Passed ∷ RunTask 1 7 70 false ∷ other_runs ++ no_pass)
     × AreWrong 2 (take 3 wait_for_a_running_child) (asks 0 Resume) (Passed ∷ RunTask 1 7 70 false ∷ other_runs ++ no_pass)
-wrong_at_waiting_taskwait = search rules
+wrong_at_taskwait_that_waits = search rules
 
 -- its resume once the child has ended
 pub wrong_at_met_taskwait : AreWrong 2 (take 5 wait_for_a_running_child) (asks 0 Resume) (Wait ∷ RunTask 1 7 70 false ∷ other_runs ++ no_pass)
@@ -72,9 +72,9 @@ pub wrong_at_group_end_with_a_task : AreWrong 2 (take 2 group_with_a_grandchild)
 wrong_at_group_end_with_a_task = search rules
 
 -- of one whose task's child another member runs
-pub wrong_at_waiting_group_end :
+pub wrong_at_group_end_that_waits :
     AreWrong 2 (take 7 group_with_a_grandchild) (asks 0 Resume) (Passed ∷ RunTask 1 7 70 false ∷ RunTask 2 8 80 false ∷ other_runs ++ no_pass)
-wrong_at_waiting_group_end = search rules
+wrong_at_group_end_that_waits = search rules
 
 -- a member at a barrier with a task that may be started
 pub wrong_at_barrier_with_a_task : AreWrong 2 ((asks 0 (TaskCreate one_job), Created 1) ∷ []) (asks 1 Barrier) (Wait ∷ Passed ∷ other_runs ++ no_pass)
@@ -171,23 +171,23 @@ memory_at_a_suspended_name may = absurd (cc)
 
 -- After events that need be no team's, if one part of a cause alone refuses
 
--- no task ends outside of all, if the tests refuse before
+-- no task ends outside of every task, if the tests refuse before
 pub no_task_ended : (MayReplyAfter false 1 [] 0 TaskEnd (TaskDone 0 true) → ⊥) × (MayReplyAfter false 1 [] 0 TaskEnd (TaskDone 1 true) → ⊥) × (MayReplyAfter false 1 [] 0 TaskEnd Finished → ⊥)
 no_task_ended = ((λ never. never), (λ never. never), (λ never. never))
 
--- no group is passed where none is open
+-- no group ends if none is open
 pub no_group_ended : MayReplyAfter false 1 [] 0 GroupEnd Passed → ⊥
 no_group_ended met = absurd (cc)
 
--- a task that was started and never created is not run, nor is one that was never created
+-- a task that was never created is run, also if it was started
 pub uncreated_task_not_run : IsWrongAfter 1 (Start 1 0 ∷ []) 0 Taskwait (RunTask 1 7 70 false) × IsWrongAfter 1 [] 0 Taskwait (RunTask 1 7 70 false)
 uncreated_task_not_run = search rules
 
--- a group is ended, though the task that the member executes has opened none
+-- a group is ended that the parent of the executed task has opened
 pub group_of_another_task : IsWrongAfter 1 (Group 0 0 ∷ Create 1 0 (Implicit 0) one_job ∷ Start 1 0 ∷ []) 0 GroupEnd Passed
 group_of_another_task = search rules
 
--- a wait of the group's first task alone, if the second is open too
+-- one is ended while one of its tasks runs, and the other is not started
 pub group_of_two_tasks : IsWrongAfter 1 (Group 0 0 ∷ Create 1 0 (Implicit 0) one_job ∷ Create 2 0 (Implicit 0) other_job ∷ Start 1 0 ∷ []) 0 GroupEnd Passed
 group_of_two_tasks = search rules
 

@@ -14,6 +14,8 @@ use Rattle.gomp_types.specs.declared.event.Event.{Event}
 use Rattle.gomp_types.specs.declared.event.Event.TheVariants.{Hold, Free, Create, Start, Done, Group, GroupEnd as GroupEnded, Waited}
 use Rattle.gomp_types.specs.Singles.{single_shape}
 use Rattle.gomp_types.specs.Tests.{Test}
+use Rattle.gomp_types.specs.Limits.{standard}
+use Rattle.gomp_types.specs.Seen.{seen_of}
 use Rattle.gomp_types.specs.TaskExamples.{one_job, other_job, nested_groups}
 use Rattle.gomp_model.specs.Row.{Row, plain_row, outside_row, room_after}
 use Rattle.gomp_model.specs.Starts.{end_room, words_room, share_room}
@@ -228,12 +230,13 @@ pub name_of_the_current_task :
     × (by_names (in_a_task ++ Hold (Critical name_b) 0 (Explicit 1) ∷ Free (Critical name_a) 0 (Implicit 0) ∷ Done 1 0 ∷ []) (Barrier ∷ []) ≡ ((false, HoldsCritical) ∷ []) ∷ [])
 name_of_the_current_task = (refl, refl)
 
--- none of these calls asks for a lock, or is compared with other members'
+-- none of these calls has a test on its member's place, asks for a lock, or is compared with other members'
 pub others_of_tasks :
-    (map (λ call. (row_of call).missing 0 (past_with 2 nested_groups)) on_tasks ≡ map (λ call. []) on_tasks)
+    (map (λ call. (row_of call).by_place standard (seen_of 0 in_the_second)) on_tasks ≡ map (λ call. []) on_tasks)
+    × (map (λ call. (row_of call).missing 0 (past_with 2 nested_groups)) on_tasks ≡ map (λ call. []) on_tasks)
     × (map (λ call. (row_of call).compared false 0 (past_with 2 nested_groups)) on_tasks ≡ map (λ call. []) on_tasks)
     × (map (λ call. (row_of call).compared true 0 (past_with 2 nested_groups)) on_tasks ≡ map (λ call. []) on_tasks)
-others_of_tasks = (refl, refl, refl)
+others_of_tasks = (refl, refl, refl, refl)
 
 -- a call on a share or at a barrier has the two tests, on its task and on its names, and no other; that on room is for nothing
 pub tests_of_outside_rows :

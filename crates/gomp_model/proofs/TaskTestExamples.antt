@@ -2,7 +2,7 @@
 use Rattle.std.proofs.Common.{◌≡◌, ℕ, true, false, List, [], ◌∷◌, Some, None, refl, rules}
 use Rattle.std.specs.Prelude.{Option, pos, take, map, ◌++◌}
 use Rattle.gomp_types.specs.declared.call.Call.{Call}
-use Rattle.gomp_types.specs.declared.call.Call.TheVariants.{LoopNext, LoopEnd, LoopEndNowait, SectionsStart, SectionsNext, SectionsEnd, SectionsEndNowait, SingleStart, SingleCopyStart, SingleCopyEnd, OrderedStart, OrderedEnd, Barrier, RegionEnd, CriticalStart, LockInit, NestInit, TaskCreate, TaskEnd, Taskwait, GroupStart, GroupEnd, Resume, Stop}
+use Rattle.gomp_types.specs.declared.call.Call.TheVariants.{LoopNext, LoopEnd, LoopEndNowait, SectionsStart, SectionsNext, SectionsEnd, SectionsEndNowait, SingleStart, SingleCopyStart, SingleCopyEnd, OrderedStart, Barrier, RegionEnd, CriticalStart, LockInit, NestInit, TaskCreate, TaskEnd, Taskwait, GroupStart, GroupEnd, Resume, Stop}
 use Rattle.gomp_types.specs.declared.event.Event.{Event}
 use Rattle.gomp_types.specs.declared.loop_desc.EndKind.TheVariants.{Wait as WaitEnd, Nowait}
 use Rattle.gomp_types.specs.declared.refusal.Refusal.{Refusal}
@@ -20,14 +20,10 @@ use Rattle.gomp_model.specs.Team.{MayAnswer, refusal_of, past_after, before_all,
 use Rattle.gomp_model.specs.Examples.{Run, IsWrong, run_recorded, past_with, past_after_run, team_of, asks, dynamic_loop, one_nowait, ten_by_three, loop_alone, empty_loops}
 use Rattle.gomp_model.specs.ShareExamples.{three_sections, no_sections, ordered_alone}
 use Rattle.gomp_model.specs.HoldExamples.{name_a, holding}
-use Rattle.gomp_model.specs.TaskRuns.{tasks_at_barriers, task_at_a_resume, down_to, group_of_one, with_events, one_task, room_for_one_task, room_for_none, no_room_for_another}
+use Rattle.gomp_model.specs.TaskRuns.{then_in_a_task, tasks_at_barriers, task_at_a_resume, down_to, group_of_one, with_events, one_task, room_for_one_task, room_for_none, no_room_for_another}
 use Rattle.gomp_model.proofs.RowExamples.{nexts, ends, in_team, in_book, others}
 
 -- In a task: no call on a share or at a barrier
-
--- after this run a member alone creates a task, and runs it
-abbrev then_in_a_task : Run → Run
-then_in_a_task run = run ++ (asks 0 (TaskCreate one_job), Created 1) ∷ (asks 0 Taskwait, RunTask 1 7 70 false) ∷ []
 
 -- a loop starts
 pub loop_in_a_task : IsWrong 1 (then_in_a_task []) (asks 0 one_nowait) (Chunk (pos 0) 1)
@@ -75,9 +71,9 @@ sections_nowait_in_a_task = search rules
 pub words_in_a_task : IsWrong 1 (then_in_a_task ((asks 0 SingleCopyStart, Executor true) ∷ [])) (asks 0 (SingleCopyEnd [])) Finished
 words_in_a_task = search rules
 
--- an ordered part begins, and ends
-pub parts_in_a_task : IsWrong 1 (then_in_a_task (take 1 ordered_alone)) (asks 0 (OrderedStart (pos 1))) Finished × IsWrong 1 (then_in_a_task (take 2 ordered_alone)) (asks 0 OrderedEnd) Finished
-parts_in_a_task = search rules
+-- an ordered part begins (its end is in CauseExamples)
+pub part_in_a_task : IsWrong 1 (then_in_a_task (take 1 ordered_alone)) (asks 0 (OrderedStart (pos 1))) Finished
+part_in_a_task = search rules
 
 -- a member arrives at a barrier, and at the region's end
 pub arrivals_in_a_task : IsWrong 1 (then_in_a_task []) (asks 0 Barrier) Wait × IsWrong 1 (then_in_a_task []) (asks 0 RegionEnd) Wait

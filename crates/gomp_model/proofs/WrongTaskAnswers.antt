@@ -2,12 +2,12 @@
 use Rattle.std.proofs.Common.{true, false, [], ◌∷◌, rules}
 use Rattle.std.specs.Prelude.{pos, take, ◌++◌}
 use Rattle.gomp_types.specs.declared.call.Call.TheVariants.{LoopEnd, Barrier, RegionEnd, CriticalStart, CriticalEnd, Set, Test as TestLock, Unset, TestNest, TaskCreate, TaskEnd, Taskwait, GroupEnd, Resume}
-use Rattle.gomp_types.specs.declared.refusal.Refusal.TheVariants.{Waiting, InsideTask, NotInTask, HoldsCritical, NotInside, NoGroup, GroupOpen, TooManyTasks, AlreadyHeld, TraceFull, NoMemory}
+use Rattle.gomp_types.specs.declared.refusal.Refusal.TheVariants.{Waiting, InsideTask, NotInTask, InsideShare, HoldsCritical, NotInside, NoGroup, GroupOpen, TooManyTasks, AlreadyHeld, TraceFull, NoMemory}
 use Rattle.gomp_types.specs.declared.reply.Reply.TheVariants.{Chunk, Finished, Passed, Wait, Created, Run as RunTask, TaskDone, Got, Count, Refused}
 use Rattle.gomp_types.specs.TaskExamples.{one_job}
 use Rattle.gomp_model.specs.Team.{MayAnswer, past_of}
 use Rattle.gomp_model.specs.Examples.{IsWrong, AreWrong, run_recorded, past_after_run, asks, ten_by_three}
-use Rattle.gomp_model.specs.HoldExamples.{name_a}
+use Rattle.gomp_model.specs.HoldExamples.{name_a, name_b}
 use Rattle.gomp_model.specs.TaskRuns.{creates_task, tasks_at_barriers, task_at_a_resume, task_at_a_loop_end, children_of_two, wait_for_children, wait_for_a_running_child, down_to, group_of_one, group_with_a_grandchild, group_in_a_group, refused_in_tasks, refused_ends_of_tasks, locks_of_tasks, lock_of_an_ended_task, with_events, one_task, room_for_one_task, no_room_for_another}
 
 -- Creation
@@ -45,7 +45,7 @@ other_child_run_is_wrong = search rules
 pub anothers_task_run_is_wrong : IsWrong 2 (take 1 wait_for_children) (asks 1 Taskwait) (RunTask 1 7 70 false)
 anothers_task_run_is_wrong = search rules
 
--- one that may be started if nothing is waited for: at a taskwait the child of a child that has ended
+-- one that the member may start, but for which it does not wait: at a taskwait the child of a child that has ended, at the end of a group a task from before it
 pub task_run_at_a_met_wait_is_wrong : IsWrong 2 (take 6 wait_for_children) (asks 0 Resume) (RunTask 2 8 80 false) × IsWrong 1 (take 3 group_in_a_group) (asks 0 GroupEnd) (RunTask 1 7 70 false)
 task_run_at_a_met_wait_is_wrong = search rules
 
@@ -129,7 +129,7 @@ early_ends_are_wrong = search rules
 
 -- Waits that are open
 
--- a task has no wait of its own: a resume in it passes, waits or runs on, and a call is refused for the wait beneath
+-- in a task no wait is open: a resume in it passes, waits or runs on, and a call is refused for the wait beneath
 pub waits_in_a_task_are_wrong :
     AreWrong 2 (take 3 task_at_a_resume) (asks 0 Resume) (Passed ∷ Wait ∷ RunTask 1 7 70 false ∷ Finished ∷ []) × IsWrong 2 (take 3 task_at_a_resume) (asks 0 TaskEnd) (Refused Waiting)
     × IsWrong 2 (take 3 task_at_a_resume) (asks 0 (TaskCreate one_job)) (Refused Waiting)
@@ -156,7 +156,7 @@ groups_at_the_region_end_are_wrong = search rules
 pub barrier_refused_for_a_group_is_wrong : AreWrong 1 (take 2 refused_ends_of_tasks) (asks 0 Barrier) (Refused GroupOpen ∷ Wait ∷ [])
 barrier_refused_for_a_group_is_wrong = search rules
 
--- a task's end is for the group of its parent
+-- the end of a task is refused for the group of its parent
 pub end_refused_for_the_parents_group_is_wrong : IsWrong 1 (take 3 group_of_one) (asks 0 TaskEnd) (Refused GroupOpen)
 end_refused_for_the_parents_group_is_wrong = search rules
 
@@ -164,19 +164,19 @@ end_refused_for_the_parents_group_is_wrong = search rules
 pub end_of_the_parents_group_is_wrong : AreWrong 1 (take 3 group_of_one) (asks 0 GroupEnd) (Passed ∷ Wait ∷ RunTask 1 1 0 false ∷ [])
 end_of_the_parents_group_is_wrong = search rules
 
--- a group is ended where none is open, and refused where one is
+-- a group is ended if none is open, and refused if one is
 pub missing_groups_are_wrong : AreWrong 1 (take 5 group_of_one) (asks 0 GroupEnd) (Passed ∷ Wait ∷ []) × IsWrong 1 (take 2 group_of_one) (asks 0 GroupEnd) (Refused NoGroup)
 missing_groups_are_wrong = search rules
 
--- a task's end is refused as outside of every task, and one outside is for its group
+-- the end of a task is refused as if the member executed none; that of none is refused for a group
 pub ends_refused_otherwise_are_wrong : IsWrong 1 (take 3 group_of_one) (asks 0 TaskEnd) (Refused NotInTask) × IsWrong 1 (take 1 group_of_one) (asks 0 TaskEnd) (Refused GroupOpen)
 ends_refused_otherwise_are_wrong = search rules
 
--- a barrier in a task within a loop is refused for the loop
-pub barrier_refused_for_the_loop_is_wrong : AreWrong 1 (take 11 refused_in_tasks) (asks 0 Barrier) (Passed ∷ Wait ∷ [])
-barrier_refused_for_the_loop_is_wrong = search rules
+-- a barrier in a task within a loop is passed, waited at, or refused for the loop
+pub barriers_in_a_task_are_wrong : AreWrong 1 (take 11 refused_in_tasks) (asks 0 Barrier) (Passed ∷ Wait ∷ Refused InsideShare ∷ [])
+barriers_in_a_task_are_wrong = search rules
 
--- a task may be created and waited for in a task, within a loop and with a name
+-- a creation or a taskwait in a task is refused for the task, or for a name that it holds
 pub tasks_refused_in_tasks_are_wrong :
     AreWrong 1 (take 11 refused_in_tasks) (asks 0 (TaskCreate one_job)) (Refused InsideTask ∷ Refused GroupOpen ∷ []) × IsWrong 1 (take 11 refused_in_tasks) (asks 0 Taskwait) (Refused InsideTask)
     × IsWrong 1 (take 9 refused_ends_of_tasks) (asks 0 (TaskCreate one_job)) (Refused HoldsCritical) × IsWrong 1 (take 9 refused_ends_of_tasks) (asks 0 Taskwait) (Refused HoldsCritical)
@@ -188,6 +188,11 @@ tasks_refused_in_tasks_are_wrong = search rules
 pub names_of_a_suspended_task_are_wrong :
     AreWrong 1 (take 6 refused_ends_of_tasks) (asks 0 (CriticalStart name_a)) (Finished ∷ Wait ∷ Refused NoMemory ∷ []) × IsWrong 1 (take 6 refused_ends_of_tasks) (asks 0 (CriticalEnd name_a)) Finished
 names_of_a_suspended_task_are_wrong = search rules
+
+-- another member enters that name, or is refused as if it held it; it may only wait
+pub name_of_anothers_suspended_task_is_wrong :
+    AreWrong 2 (take 6 refused_ends_of_tasks) (asks 1 (CriticalStart name_a)) (Finished ∷ Refused AlreadyHeld ∷ []) × IsWrong 2 (take 6 refused_ends_of_tasks) (asks 1 (CriticalStart name_b)) Wait
+name_of_anothers_suspended_task_is_wrong = search rules
 
 -- a task does not end for a name of a suspended one
 pub end_refused_for_a_suspended_name_is_wrong : AreWrong 1 (take 6 refused_ends_of_tasks) (asks 0 TaskEnd) (Refused HoldsCritical ∷ [])
@@ -210,7 +215,7 @@ locks_of_ended_tasks_are_wrong = search rules
 
 -- Limits
 
--- a second task in a team that may create one, and the first refused; the refusal for its room, which it has not
+-- a second task in a team that may create one, or its refusal for the room that it lacks too; the first refused
 pub tasks_beyond_the_limit_are_wrong :
     (MayAnswer (past_of one_task (run_recorded (take 1 room_for_one_task) [])) (asks 0 (TaskCreate one_job)) (Created 2) → ⊥)
     × (MayAnswer (past_of one_task (run_recorded (take 1 room_for_one_task) [])) (asks 0 (TaskCreate one_job)) (Refused TraceFull) → ⊥)
