@@ -3,11 +3,12 @@
 ghost use Rattle.std.specs.Prelude.{◌≡◌, ◌<◌, ◌≤◌, ◌+◌, ◌++◌, ◌∷◌, List, true, OnOk, reverse};
 ghost use Rattle.std.specs.Vec.{vec_capacity};
 ghost use Rattle.gomp_types.specs.declared.event.Event.{Event as Happening};
+ghost use Rattle.gomp_types.specs.declared.reply.Reply.TheVariants.{Wait};
 ghost use Rattle.gomp_types.specs.Tasks.{executed_task};
 ghost use Rattle.gomp_types.specs.Groups.{open_groups};
-ghost use Rattle.gomp_types.specs.TaskCalls.{last_complete, ends_first};
+ghost use Rattle.gomp_types.specs.TaskCalls.{last_complete, ends_first, AwaitsGroup, ends_group};
 ghost use Rattle.gomp_board.specs.Boards.{IsAdmitted, Performs, Stands, members_of};
-ghost use Rattle.gomp_board.specs.declared.op.Op.TheVariants.{OpenGroup, EndGroup};
+ghost use Rattle.gomp_board.specs.declared.op.Op.TheVariants.{OpenGroup, EndGroup, AwaitGroup};
 
 use crate::board::Board;
 use crate::room::reserve_events;
@@ -41,6 +42,31 @@ impl Board {
         requires member { member < members_of self.old }
         requires admitted { IsAdmitted EndGroup member self.old }
         ensures performs { Performs EndGroup member self.old self.new result }
+    {
+        self.close_or_wait(member)
+    }
+
+    /// The member waits on for the tasks of that group, and ends it.
+    pub(crate) fn await_group(&mut self, member: u16) -> Reply
+        requires member { member < members_of self.old }
+        requires admitted { IsAdmitted AwaitGroup member self.old }
+        ensures performs { Performs AwaitGroup member self.old self.new result }
+    {
+        self.close_or_wait(member)
+    }
+
+    /// The member ends its last open group if the group's tasks are complete; else it executes a
+    /// task, or waits.
+    fn close_or_wait(&mut self, member: u16) -> Reply
+        requires member { member < members_of self.old }
+        ensures known { Stands self.old (reverse self.old.history) }
+        ensures answer { (h : List Happening) → Stands self.old h → AwaitsGroup member h result }
+        ensures stands { (h : List Happening) → Stands self.old h →
+            Stands self.new (ends_group member h result ++ h) }
+        ensures limits { self.new.limits ≡ self.old.limits }
+        ensures room { self.new.room ≡ self.old.room }
+        ensures kept { self.new.kept ≡ self.old.kept }
+        ensures waits { result ≡ Wait → self.new ≡ self.old }
     {
         if self.last_group_is_done(member) {
             self.close_group(member);

@@ -14,8 +14,10 @@ pub enum Op {
     AwaitChildren,
     /// Opens a group in that task (section 15.4).
     OpenGroup,
-    /// Ends the last open group of that task, or waits on for the group's tasks.
+    /// Ends the last open group of that task, or waits for the group's tasks.
     EndGroup,
+    /// Waits on for these, and ends the group. It is let in if no group is open, and then waits.
+    AwaitGroup,
     /// Arrives with this tag at the member's next barrier (section 15.3).
     Arrive(Tag),
     /// Waits on at the barrier at which the member has arrived.
