@@ -159,8 +159,8 @@ task_by_task = refl
 pub all_together : (owed 2 (Arrive 0 1 (at Barrier 0) ∷ Group 0 0 ∷ one_runs) ≡ 8) × (owed 2 (Break 0 AtStop ∷ Arrive 0 1 (at Barrier 0) ∷ Group 0 0 ∷ one_runs) ≡ 7)
 all_together = (refl, refl)
 
--- the memory of so many events: an eighth more, and at least 64 more
-pub memory_by_steps : map events_memory (0 ∷ 7 ∷ 512 ∷ 519 ∷ 520 ∷ 8000 ∷ []) ≡ 64 ∷ 71 ∷ 576 ∷ 583 ∷ 585 ∷ 9000 ∷ []
+-- the memory of so many events: a sixteenth more, and at least 64 more
+pub memory_by_steps : map events_memory (0 ∷ 7 ∷ 1024 ∷ 1039 ∷ 1040 ∷ 16000 ∷ []) ≡ 64 ∷ 71 ∷ 1088 ∷ 1103 ∷ 1105 ∷ 17000 ∷ []
 memory_by_steps = refl
 
 -- once both have left and the team was stopped, nothing

@@ -43,6 +43,6 @@ owed_for_break h = if is_some (clash_of h) then 0 else 1
 abbrev pub owed : ℕ → List Event → ℕ
 owed members h = owed_by_tasks h + owed_by_groups h + owed_by_members members h + owed_for_break h
 
--- for how many events memory is taken if there is too little for so many: an eighth more, and at least 64 more
+-- for how many events memory is taken if there is too little for so many: a sixteenth more, and at least 64 more
 abbrev pub events_memory : ℕ → ℕ
-events_memory room = room + max (room / 8) 64
+events_memory room = room + max (room / 16) 64

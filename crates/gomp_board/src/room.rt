@@ -12,7 +12,7 @@ use gomp_types::{Event, Refusal, Reply};
 use std::alloc::AllocError;
 
 /// The history grows by this part of the events that are asked for.
-const STEP_PART: usize = 8;
+const STEP_PART: usize = 16;
 
 /// It grows by so many events at least.
 const LEAST_STEP: usize = 64;

@@ -1,7 +1,7 @@
 -- What the theorems on a team ask of a call's row.
 use Rattle.std.proofs.Common.{◌≡◌, ℕ, Bool, true, false, List, [], ◌∷◌, ◌++◌, Option, Some, None, refl, sym, ◌∙◌}
 use Rattle.gomp_types.specs.declared.key.Key.{Key}
-use Rattle.std.specs.Prelude.{ℤ, ◌⊎◌, ◌<◌, ◌&&◌, not, is_some}
+use Rattle.std.specs.Prelude.{ℤ, ◌⊎◌, ◌<◌, ◌&&◌, ◌||◌, not, is_some}
 use Rattle.gomp_types.specs.declared.refusal.Refusal.{Refusal}
 use Rattle.gomp_types.specs.declared.refusal.Refusal.TheVariants.{Mismatch, NoMemory}
 use Rattle.gomp_types.specs.declared.reply.Reply.{Reply}
@@ -25,7 +25,7 @@ use Rattle.gomp_locks.specs.Book.{held_by}
 use Rattle.gomp_locks.specs.Locks.{count_for}
 use Rattle.gomp_locks.specs.Holders.{asker, holder}
 use Rattle.gomp_model.specs.Past.{Past}
-use Rattle.gomp_model.specs.Row.{Row, begun_past, given_after}
+use Rattle.gomp_model.specs.Row.{Row, begun_past, given_after, goes_on, MayGoOn}
 use Rattle.gomp_model.specs.Team.{both_run}
 
 -- whether a refusal is want of memory
@@ -48,12 +48,6 @@ abbrev pub is_run : Reply → Bool
 is_run (Run task code arg own) = true
 is_run _ = false
 
--- whether the call goes on after it: it waits, or a task is executed before it is repeated
-abbrev pub goes_on : Reply → Bool
-goes_on Wait = true
-goes_on (Run task code arg own) = true
-goes_on _ = false
-
 -- whether it ends a task
 abbrev pub is_end : Reply → Bool
 is_end (TaskDone task waiting) = true
@@ -74,28 +68,34 @@ breaks _ = false
 -- what events a call may give besides
 pub record Gives : Type 0 where
   pub arrives : Bool
+  pub creates : Bool
   pub puts : Bool
   pub holds : Option Key
 
 -- none of them
 abbrev pub quiet : Gives
-quiet = record { arrives = false; puts = false; holds = None }
+quiet = record { arrives = false; creates = false; puts = false; holds = None }
 
 -- an arrival alone
 abbrev pub only_arrives : Gives
-only_arrives = record { arrives = true; puts = false; holds = None }
+only_arrives = record { arrives = true; creates = false; puts = false; holds = None }
+
+-- that a task is created, alone
+abbrev pub only_creates : Gives
+only_creates = record { arrives = false; creates = true; puts = false; holds = None }
 
 -- that this key is held or freed, alone
 abbrev pub only_holds : Key → Gives
-only_holds key = record { arrives = false; puts = false; holds = Some key }
+only_holds key = record { arrives = false; creates = false; puts = false; holds = Some key }
 
 -- what a row allows
 abbrev pub gives_of : Row → Gives
-gives_of row = record { arrives = is_some row.arrives; puts = row.puts; holds = row.holds }
+gives_of row = record { arrives = is_some row.arrives; creates = is_some row.creates; puts = row.puts; holds = row.holds }
 
--- an event of the member that neither passes a barrier, nor holds or frees anything, nor starts or ends a task, nor breaks the team; it arrives, or puts words, only if its call does
+-- an event of the member that neither passes a barrier, nor holds or frees anything, nor starts or ends a task, nor breaks the team; it arrives, creates a task or puts words only if its call does
 abbrev pub IsOwn : Gives → ℕ → Event → Type 0
 IsOwn can m (Arrive barrier n tag) = (n ≡ m) × (can.arrives ≡ true)
+IsOwn can m (Create task n parent desc) = (n ≡ m) × (can.creates ≡ true)
 IsOwn can m (Put share n payload) = (n ≡ m) × (can.puts ≡ true)
 IsOwn can m (Pass barrier n) = ⊥
 IsOwn can m (Hold key n task) = ⊥
@@ -161,14 +161,14 @@ abbrev pub shows : Bool → Bool → Bool
 shows true repeated = true
 shows false repeated = not repeated
 
--- it is a call that may wait, or run a task
-abbrev pub MayGoOn : Row → ℕ → Type 0
-MayGoOn row m = (q : Past) × (reply : Reply) × (goes_on reply ≡ true) × row.may_reply m q reply
-
 -- what holds on of a call while it waits: a member that arrived is in no task; the task that waits for a name or a lock does not hold it;
 -- and it is a call that may go on
 abbrev pub Lasts : Row → ℕ → List Event → Type 0
 Lasts row m h = (is_some row.arrives ≡ true → in_task m h ≡ false) × ((key : Key) → row.holds ≡ Some key → held_by (asker m h) (holder key h) ≡ false) × MayGoOn row m
+
+-- whether a call creates a task, or holds or frees something, and does not arrive: while its member waits at a barrier, only a task that it executes makes such a call
+abbrev pub acts_away : Row → Bool
+acts_away row = not (is_some row.arrives) && (is_some row.creates || is_some row.holds)
 
 -- what the tests of a call have shown, if none of them holds
 pub record Ready (row : Row) (repeated : Bool) (m : ℕ) (p : Past) : Type 0 where
@@ -182,8 +182,8 @@ pub record Ready (row : Row) (repeated : Bool) (m : ℕ) (p : Past) : Type 0 whe
   pub compared : AllFail (row.compared repeated m p)
   -- a call that arrives has not arrived there before
   pub first : repeated ≡ false → is_some row.arrives ≡ true → arrival (barriers_passed m p.events) m p.events ≡ None
-  -- and one that does not is made by a member that waits at no barrier, or by a task that it executes
-  pub away : is_some row.arrives ≡ false → in_task m p.events ≡ false → at_barrier m p.events ≡ false
+  -- and one that creates a task, or holds or frees something, is made by a member that waits at no barrier, or by a task that it executes
+  pub away : acts_away row ≡ true → in_task m p.events ≡ false → at_barrier m p.events ≡ false
   -- the words of a single are still to be put while its executor is in it
   pub words : WordsToCome p.events
 
@@ -220,6 +220,8 @@ pub record IsSound (row : Row) : Type 0 where
       Always (TeamRule p.terms.members) (row.gives m (begun_past repeated row m p) reply ++ (begun_past repeated row m p).events)
   -- a call that stays in its place changes nothing while it waits
   pub still : row.stays ≡ true → (m : ℕ) (p : Past) → (row.begins m p ≡ []) × (row.gives m p Wait ≡ [])
+  -- no explicit task makes a call that arrives
+  pub outside : is_some row.arrives ≡ true → (m : ℕ) (p : Past) → AllFail (row.by_task m p) → in_task m p.events ≡ false
   -- a call that arrives passes the barrier, waits, or runs a task
   pub tells : is_some row.arrives ≡ true → (m : ℕ) (p : Past) (reply : Reply) → row.may_reply m p reply → (reply ≡ Passed) ⊎ (goes_on reply ≡ true)
   pub one_pass : is_some row.arrives ≡ true → (m : ℕ) (p : Past) → row.gives m p Passed ≡ Pass (barriers_passed m p.events) m ∷ []
@@ -230,10 +232,10 @@ pub record IsSound (row : Row) : Type 0 where
   -- a count is how often the task that asks holds the lock then
   pub tells_count : (key : Key) (repeated : Bool) (m count : ℕ) (p : Past) → row.holds ≡ Some key → Ready row repeated m p → Always (TeamRule p.terms.members) p.events → row.may_reply m (begun_past repeated row m p) (Count count) →
       count ≡ count_for (asker m p.events) (holder key (given_after row repeated m p (Count count)))
-  -- a task that is run may be started, with what was asked for; its call neither stays in its place nor holds anything, and gives its start alone
+  -- a task that is run may be started, with what was asked for; its call neither stays in its place nor holds or creates anything, and gives its start alone
   pub runs : (m : ℕ) (p : Past) (task code arg : ℕ) (own : Bool) → row.may_reply m p (Run task code arg own) →
       (row.stays ≡ false) × (row.holds ≡ None) × (own ≡ false) × (may_start m task p.events ≡ true)
-      × (task_desc task p.events ≡ Some (record { code = code; arg = arg })) × (row.gives m p (Run task code arg own) ≡ Start task m ∷ [])
+      × (task_desc task p.events ≡ Some (record { code = code; arg = arg })) × (row.gives m p (Run task code arg own) ≡ Start task m ∷ []) × (row.creates ≡ None)
   -- a task that is done is the one that its member executes, which was started at a wait; its call gives its end alone
   pub ends : (m : ℕ) (p : Past) (task : ℕ) (waiting : Bool) → row.may_reply m p (TaskDone task waiting) →
       (is_some row.arrives ≡ false) × (waiting ≡ true) × (executed_task m p.events ≡ Explicit task) × (row.gives m p (TaskDone task waiting) ≡ Done task m ∷ [])

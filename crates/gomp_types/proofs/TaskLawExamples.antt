@@ -199,6 +199,10 @@ end_group_of_the_parent law = absurd (let last = law.1.1 in cc)
 pub end_group_twice : Forbids EndsItsGroup (Group 0 0 ∷ Group 0 0 ∷ GroupEnd 0 0 ∷ []) (GroupEnd 0 0)
 end_group_twice law = law.2 0 (inl refl)
 
+-- by whomever
+pub end_group_ended_by_another : Forbids EndsItsGroup (Group 0 0 ∷ Group 0 1 ∷ GroupEnd 0 1 ∷ []) (GroupEnd 0 0)
+end_group_ended_by_another law = law.2 1 (inl refl)
+
 -- the inner group, then the outer one
 pub end_group_inner : Allows EndsItsGroup (Group 0 0 ∷ Group 1 0 ∷ []) (GroupEnd 1 0)
 end_group_inner = (inl refl, (0 ∷ [], refl), search rules)
@@ -278,6 +282,11 @@ end_all_done ended t made = elim made.3 [
 pub bound_done_late : BoundIsDone (after (Create 1 0 (Implicit 0) one_job ∷ Pass 0 0 ∷ Done 1 0 ∷ [])) → ⊥
 bound_done_late law =
     elim (law (Done 1 0 ∷ []) (Create 1 0 (Implicit 0) one_job ∷ []) 0 0 refl 1 (0, Implicit 0, one_job, inr (inr (inl refl))) (omega arith)).1 [ inl e ↦ absurd (cc) | inr never ↦ never ]
+
+-- or to an earlier one
+pub bound_done_later_still : BoundIsDone (after (Create 1 0 (Implicit 0) one_job ∷ Pass 1 0 ∷ Done 1 0 ∷ [])) → ⊥
+bound_done_later_still law =
+    elim (law (Done 1 0 ∷ []) (Create 1 0 (Implicit 0) one_job ∷ []) 1 0 refl 1 (0, Implicit 0, one_job, inr (inr (inl refl))) (omega arith)).1 [ inl e ↦ absurd (cc) | inr never ↦ never ]
 
 -- or is created after that
 pub bound_created_late : BoundIsDone (after (Pass 0 0 ∷ Create 1 1 (Implicit 1) one_job ∷ Done 1 0 ∷ [])) → ⊥
