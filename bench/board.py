@@ -8,9 +8,12 @@ tasks      one member creates so many tasks, and four members execute them at a 
 tree       a tree of so many tasks, each of which creates two children at most, waits for them and ends
 barriers   four members meet at so many barriers, and no task is created
 
-A step is one operation that the board answers, be it with a wait. The memory is the resident memory at the end and its
-peak, each less that of a run with no task: so capacity that was never written counts nothing. `requested` is what was
-asked of malloc at the peak, capacity included, where there is valgrind."""
+A step is one operation that the board answers, be it with a wait. The instructions and the memory are less those of a
+run with no task. `requested` is what was asked of malloc at the peak, with memory that is taken ahead; `resident` are the
+pages that the program has written at the end, when nothing is given back yet. Instructions and `requested` are valgrind's,
+and are left out without it, and for more than 100,000, where it takes long.
+
+With one word, the path of a program that was built, it runs that one; with `--keep FOLDER` it builds in a folder that stays."""
 
 import os
 import re
@@ -23,6 +26,7 @@ BENCH = os.path.dirname(os.path.abspath(__file__))
 ROOT = os.path.dirname(BENCH)
 KINDS = [("tasks", (1_000, 10_000, 100_000)), ("tree", (1_000, 10_000, 100_000)), ("barriers", (10_000, 100_000, 1_000_000))]
 RUNS = 5
+MOST_COUNTED = 100_000
 SOURCES = ("src", "specs", "proofs")
 
 
@@ -40,7 +44,7 @@ def crates_below(name):
 
 
 def build(folder):
-    """Proves and builds the program in this folder; where it lies."""
+    """Proves and builds the program in this folder, which has nothing yet; where it lies."""
     crates = crates_below("gomp_board")
     for crate in crates:
         for part in SOURCES:
@@ -61,41 +65,56 @@ def build(folder):
 
 
 def run(program, kind, size):
-    """Steps, nanoseconds, and the peak and the resident memory (bytes) at the end of one run."""
+    """Nanoseconds, steps, and the bytes of memory that the program has written at the end of one run."""
     with subprocess.Popen([program, kind, str(size)], stdin=subprocess.PIPE, stdout=subprocess.PIPE, text=True) as child:
         steps, ended, passes, spent = map(int, child.stdout.readline().split())
         with open(f"/proc/{child.pid}/status") as file:
-            status = file.read()
+            written = int(re.search(r"RssAnon:\s+(\d+) kB", file.read())[1]) * 1024
         child.stdin.close()
     expected = (0, 4 * size) if kind == "barriers" else (size, 4)
     if child.returncode != 0 or (ended, passes) != expected:
         sys.exit(f"{kind} {size}: {ended} tasks ended, {passes} barriers passed, status {child.returncode}")
-    return steps, spent, *(int(re.search(rf"{name}:\s+(\d+) kB", status)[1]) * 1024 for name in ("VmHWM", "VmRSS"))
+    return spent, steps, written
 
 
-def requested(program, kind, size):
-    """What was asked of malloc at the peak, in bytes; None without valgrind."""
-    if not shutil.which("valgrind"):
-        return None
-    with tempfile.NamedTemporaryFile() as file:
-        command = ["valgrind", "--tool=massif", f"--massif-out-file={file.name}", program, kind, str(size)]
-        subprocess.run(command, stdin=subprocess.DEVNULL, capture_output=True, check=True)
-        return max(int(found) for found in re.findall(r"mem_heap_B=(\d+)", file.read().decode()))
+def counted(program, kind, size):
+    """Instructions, and bytes asked of malloc at the peak, as valgrind counts them."""
+    with tempfile.NamedTemporaryFile("r") as file:
+        for tool, pattern in (("callgrind", r"^summary: (\d+)"), ("massif", r"^mem_heap_B=(\d+)")):
+            command = ["valgrind", f"--tool={tool}", f"--{tool}-out-file={file.name}", program, kind, str(size)]
+            subprocess.run(command, stdin=subprocess.DEVNULL, capture_output=True, check=True)
+            with open(file.name) as found:
+                yield max(map(int, re.findall(pattern, found.read(), re.M)))
+
+
+def row(program, kind, size, none):
+    """Prints the best of some runs; `none` is what a run with no task has."""
+    spent, steps, written = (min(each) for each in zip(*(run(program, kind, size) for _ in range(RUNS))))
+    line = f"{kind:9} {size:8} {steps:8} {spent / steps:8.0f} {(written - none[0]) / size:9.0f}"
+    if len(none) > 1 and size <= MOST_COUNTED:
+        instructions, asked = counted(program, kind, size)
+        line += f" {(asked - none[2]) / size:10.0f} {(instructions - none[1]) / steps:13.0f}"
+    print(line, flush=True)
+
+
+def measure(program):
+    none = [min(run(program, "tasks", 0)[2] for _ in range(RUNS))]
+    if shutil.which("valgrind"):
+        none += counted(program, "tasks", 0)
+    print("work          size    steps  ns/step  resident  requested  instr./step")
+    for kind, sizes in KINDS:
+        for size in sizes:
+            row(program, kind, size, none)
 
 
 def main():
-    with tempfile.TemporaryDirectory() as folder:
-        program = build(folder)
-        none = run(program, "tasks", 0)
-        print("work          size    steps  ns/step   bytes each: resident   peak  requested")
-        for kind, sizes in KINDS:
-            for size in sizes:
-                runs = [run(program, kind, size) for _ in range(RUNS)]
-                steps, spent = min(runs)[:2]
-                peak, resident = (min(each[at] for each in runs) - none[at] for at in (2, 3))
-                asked = requested(program, kind, size) if size <= 100_000 else None
-                each = f"{resident / size:20.0f} {peak / size:6.0f} {asked / size if asked else 0:10.0f}"
-                print(f"{kind:9} {size:8} {steps:8} {spent / steps:8.0f} {each}")
+    if len(sys.argv) > 2 and sys.argv[1] == "--keep":
+        measure(build(sys.argv[2]))
+    elif len(sys.argv) > 1:
+        measure(sys.argv[1])
+    else:
+        with tempfile.TemporaryDirectory() as folder:
+            measure(build(folder))
 
 
 if __name__ == "__main__":
