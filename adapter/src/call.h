@@ -101,11 +101,11 @@ enum reply_kind {
 
 struct reply {
     enum reply_kind kind;
-    long first;           // of a chunk: the value of its first iteration
-    unsigned long count;  // of a chunk: iterations; the number of a section, a lock or a task; yes or no; a
-                          // copied word; how often a nestable lock is set
+    long first;          // of a chunk: the value of its first iteration
+    unsigned long count; // of a chunk: iterations; the number of a section, a lock or a task; yes or no; a
+                         // copied word; how often a nestable lock is set
     unsigned long code, argument; // of a task that is to be executed
-    char text[LINE_SIZE]; // the line itself, of a refusal
+    char text[LINE_SIZE];         // the line itself, of a refusal
 };
 
 // A text that grows up to its room; what is beyond is dropped.
