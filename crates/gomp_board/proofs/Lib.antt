@@ -2,6 +2,7 @@ pub mod Admitted
 pub mod AdmittedArrivals
 pub mod ArrivalPerformed
 pub mod BarrierNumbers
+pub mod BoardExamples
 pub mod GroupsOpen
 pub mod Joined
 pub mod Laws

@@ -2,12 +2,12 @@
 use Rattle.std.proofs.Common.{true, false, [], ◌∷◌, ◌++◌, rules}
 use Rattle.gomp_types.specs.declared.task.Task.TheVariants.{Implicit}
 use Rattle.gomp_types.specs.declared.refusal.Place.TheVariants.{Share, Stopped as AtStop}
-use Rattle.gomp_types.specs.declared.refusal.Refusal.TheVariants.{Ended, Waiting, InsideTask, NotInTask, GroupOpen, Mismatch, TraceFull, NoMemory}
+use Rattle.gomp_types.specs.declared.refusal.Refusal.TheVariants.{Ended, Waiting, InsideTask, NotInTask, GroupOpen, Mismatch, TraceFull, NoMemory, NoGroup}
 use Rattle.gomp_types.specs.declared.reply.Reply.TheVariants.{Copied, Finished, Passed, Wait, Created, Run, TaskDone, Stopped, Refused}
 use Rattle.gomp_types.specs.declared.event.Arrival.TheVariants.{Barrier, ShareEnd, RegionEnd}
 use Rattle.gomp_types.specs.declared.event.Event.TheVariants.{Create, Start, Group}
 use Rattle.gomp_types.specs.EventLists.{at}
-use Rattle.gomp_board.specs.declared.op.Op.TheVariants.{Create as CreateTask, EndTask, AwaitChildren, OpenGroup, EndGroup, Arrive as ArriveAt, AwaitBarrier, Reserve, Put as PutWords, Got as GiveWords, Break as BreakAt}
+use Rattle.gomp_board.specs.declared.op.Op.TheVariants.{Create as CreateTask, EndTask, AwaitChildren, OpenGroup, EndGroup, AwaitGroup, Arrive as ArriveAt, AwaitBarrier, Reserve, Put as PutWords, Got as GiveWords, Break as BreakAt}
 use Rattle.gomp_board.specs.Ops.{OpAnswer}
 use Rattle.gomp_board.specs.Examples.{seven, one_ready, one_runs, one_done, other_runs, group_ready, group_done, first_waits, both_wait, second_ends, usual_limits, words, Allows, Excludes, ExcludesEach}
 
@@ -85,6 +85,17 @@ group_end_waits = search rules
 pub wrong_at_waiting_group : ExcludesEach EndGroup (Start 1 1 ∷ group_ready) (Passed ∷ Run 1 7 9 false ∷ [])
 wrong_at_waiting_group = search rules
 
+-- so is the wait there
+pub group_wait_answers : Allows AwaitGroup group_done Passed × Allows AwaitGroup group_ready (Run 1 7 9 false) × Allows AwaitGroup (Start 1 1 ∷ group_ready) Wait
+group_wait_answers = search rules
+
+pub wrong_group_waits : ExcludesEach AwaitGroup group_done (Wait ∷ Finished ∷ []) × ExcludesEach AwaitGroup group_ready (Passed ∷ Wait ∷ []) × ExcludesEach AwaitGroup (Start 1 1 ∷ group_ready) (Passed ∷ Refused NoMemory ∷ [])
+wrong_group_waits = search rules
+
+-- with no group open it waits
+pub no_group_waits : Allows AwaitGroup [] Wait × ExcludesEach AwaitGroup [] (Passed ∷ Refused NoGroup ∷ [])
+no_group_waits = search rules
+
 -- a task that was created before the group does not count
 pub group_end_beside_a_task : Allows EndGroup (Group 0 0 ∷ one_ready) Passed
 group_end_beside_a_task = search rules
@@ -151,11 +162,11 @@ wrong_put_answers = search rules
 pub wrong_gift_answers : ExcludesEach (GiveWords 3 words) [] (Passed ∷ Wait ∷ Copied words ∷ Refused InsideTask ∷ Refused TraceFull ∷ [])
 wrong_gift_answers = search rules
 
--- not in a task
-pub words_answer_in_tasks : Allows (PutWords 3 words) one_runs (Refused InsideTask) × Allows (GiveWords 3 words) one_runs (Refused InsideTask)
+-- they are not put in a task; a member may be given some there
+pub words_answer_in_tasks : Allows (PutWords 3 words) one_runs (Refused InsideTask) × Allows (GiveWords 3 words) one_runs Finished
 words_answer_in_tasks = search rules
 
-pub words_let_in_tasks : ExcludesEach (PutWords 3 words) one_runs (Finished ∷ Refused NoMemory ∷ []) × ExcludesEach (GiveWords 3 words) one_runs (Finished ∷ Refused NoMemory ∷ [])
+pub words_let_in_tasks : ExcludesEach (PutWords 3 words) one_runs (Finished ∷ Refused NoMemory ∷ []) × ExcludesEach (GiveWords 3 words) one_runs (Wait ∷ Refused InsideTask ∷ [])
 words_let_in_tasks = search rules
 
 pub stop_answer : Allows (BreakAt AtStop) first_waits Stopped

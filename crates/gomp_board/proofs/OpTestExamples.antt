@@ -9,8 +9,8 @@ use Rattle.gomp_types.specs.declared.event.Arrival.TheVariants.{Barrier, ShareEn
 use Rattle.gomp_types.specs.declared.event.Event.TheVariants.{Put, Got, Arrive, Pass, Create, Start, Done, Group, GroupEnd, Waited, Break}
 use Rattle.gomp_types.specs.EventLists.{at}
 use Rattle.gomp_board.specs.declared.op.Op.{Op}
-use Rattle.gomp_board.specs.declared.op.Op.TheVariants.{Create as CreateTask, EndTask, AwaitChildren, OpenGroup, EndGroup, Arrive as ArriveAt, AwaitBarrier, Reserve, Put as PutWords, Got as GiveWords, Break as BreakAt}
-use Rattle.gomp_board.specs.Ops.{arrival_asks, words_ask, op_asks, arrival_keeps, words_keep, op_keeps, awaits_barrier, is_stop, op_refusal, op_begins, begun, op_after, asks_memory}
+use Rattle.gomp_board.specs.declared.op.Op.TheVariants.{Create as CreateTask, EndTask, AwaitChildren, OpenGroup, EndGroup, AwaitGroup, Arrive as ArriveAt, AwaitBarrier, Reserve, Put as PutWords, Got as GiveWords, Break as BreakAt}
+use Rattle.gomp_board.specs.Ops.{arrival_asks, words_ask, op_asks, arrival_keeps, words_keep, op_keeps, awaits_barrier, is_stop, op_refusal, op_begins, begun, op_after, asks_memory, goes_on_waiting}
 use Rattle.gomp_board.specs.Examples.{seven, eight, creates_root, one_ready, one_runs, one_done, nested, group_empty, group_ready, first_waits, both_wait, runs_there, second_ends, both_end, first_left, stopped, limits_of, usual_refusal, words}
 
 -- Room
@@ -65,12 +65,12 @@ operations_keep_room = refl
 -- Tests of every operation
 
 abbrev all_operations : List Op
-all_operations = CreateTask seven ∷ EndTask ∷ AwaitChildren ∷ OpenGroup ∷ EndGroup ∷ ArriveAt (at Barrier 0) ∷ AwaitBarrier ∷ Reserve 4 ∷ PutWords 3 words ∷ GiveWords 3 words ∷ BreakAt AtStop ∷ []
+all_operations = CreateTask seven ∷ EndTask ∷ AwaitChildren ∷ OpenGroup ∷ EndGroup ∷ AwaitGroup ∷ ArriveAt (at Barrier 0) ∷ AwaitBarrier ∷ Reserve 4 ∷ PutWords 3 words ∷ GiveWords 3 words ∷ BreakAt AtStop ∷ []
 
 -- a member that has left the region
 pub refused_after_the_region :
     map (λ op. usual_refusal op first_left) all_operations
-    ≡ Some Ended ∷ Some Ended ∷ Some Ended ∷ Some Ended ∷ Some Ended ∷ Some Ended ∷ Some Ended ∷ Some Ended ∷ Some Ended ∷ Some Ended ∷ Some Ended ∷ []
+    ≡ Some Ended ∷ Some Ended ∷ Some Ended ∷ Some Ended ∷ Some Ended ∷ Some Ended ∷ Some Ended ∷ Some Ended ∷ Some Ended ∷ Some Ended ∷ Some Ended ∷ Some Ended ∷ []
 refused_after_the_region = refl
 
 -- a team that is broken, by its first break
@@ -80,8 +80,8 @@ pub refused_in_a_broken_team :
 refused_in_a_broken_team = refl
 
 pub each_refused_in_a_broken_team :
-    map (λ op. usual_refusal op stopped) (EndTask ∷ AwaitChildren ∷ OpenGroup ∷ ArriveAt (at Barrier 0) ∷ AwaitBarrier ∷ Reserve 4 ∷ PutWords 3 words ∷ GiveWords 3 words ∷ [])
-    ≡ map (λ op. Some (Broken (record { member = 1; place = AtStop }))) (EndTask ∷ AwaitChildren ∷ OpenGroup ∷ ArriveAt (at Barrier 0) ∷ AwaitBarrier ∷ Reserve 4 ∷ PutWords 3 words ∷ GiveWords 3 words ∷ [])
+    map (λ op. usual_refusal op stopped) (EndTask ∷ AwaitChildren ∷ OpenGroup ∷ AwaitGroup ∷ ArriveAt (at Barrier 0) ∷ AwaitBarrier ∷ Reserve 4 ∷ PutWords 3 words ∷ GiveWords 3 words ∷ [])
+    ≡ map (λ op. Some (Broken (record { member = 1; place = AtStop }))) (EndTask ∷ AwaitChildren ∷ OpenGroup ∷ AwaitGroup ∷ ArriveAt (at Barrier 0) ∷ AwaitBarrier ∷ Reserve 4 ∷ PutWords 3 words ∷ GiveWords 3 words ∷ [])
 each_refused_in_a_broken_team = refl
 
 -- a member that has left is told so, in a broken team too
@@ -99,19 +99,19 @@ waiting_members = (refl, refl)
 -- then only its wait and a stop are let in
 pub refused_while_waiting :
     map (λ op. usual_refusal op first_waits) all_operations
-    ≡ Some Waiting ∷ Some Waiting ∷ Some Waiting ∷ Some Waiting ∷ Some Waiting ∷ Some Waiting ∷ None ∷ Some Waiting ∷ Some Waiting ∷ Some Waiting ∷ None ∷ []
+    ≡ Some Waiting ∷ Some Waiting ∷ Some Waiting ∷ Some Waiting ∷ Some Waiting ∷ Some Waiting ∷ Some Waiting ∷ None ∷ Some Waiting ∷ Some Waiting ∷ Some Waiting ∷ None ∷ []
 refused_while_waiting = refl
 
--- in a task at a barrier what is refused in any task, and else only the wait
+-- in a task at a barrier what is refused in any task, and else only the wait there
 pub let_in_at_a_barrier :
     map (λ op. usual_refusal op runs_there) all_operations
-    ≡ None ∷ None ∷ None ∷ None ∷ Some NoGroup ∷ Some InsideTask ∷ Some NotInside ∷ Some InsideTask ∷ Some InsideTask ∷ Some InsideTask ∷ None ∷ []
+    ≡ None ∷ None ∷ None ∷ None ∷ Some NoGroup ∷ None ∷ Some InsideTask ∷ Some NotInside ∷ Some InsideTask ∷ Some InsideTask ∷ None ∷ None ∷ []
 let_in_at_a_barrier = refl
 
 -- elsewhere what the operation itself is tested for
 pub let_in_at_first :
     map (λ op. usual_refusal op []) all_operations
-    ≡ None ∷ Some NotInTask ∷ None ∷ None ∷ Some NoGroup ∷ None ∷ Some NotInside ∷ None ∷ None ∷ None ∷ None ∷ []
+    ≡ None ∷ Some NotInTask ∷ None ∷ None ∷ Some NoGroup ∷ None ∷ None ∷ Some NotInside ∷ None ∷ None ∷ None ∷ None ∷ []
 let_in_at_first = refl
 
 -- Tests of one operation
@@ -186,7 +186,7 @@ pub refused_reserves :
     × (op_refusal (limits_of 64 0) 5 0 0 (Reserve 0) [] ≡ None)
 refused_reserves = (refl, refl, refl)
 
--- words in a task, and words for which there is no room; none is asked for if it was kept
+-- words that are put in a task, and words for which there is no room; none is asked for if it was kept
 pub refused_puts :
     (map (λ limit. op_refusal (limits_of 64 limit) 5 0 0 (PutWords 3 words) []) (5 ∷ 6 ∷ []) ≡ Some TraceFull ∷ None ∷ []) × (op_refusal (limits_of 64 0) 5 1 0 (PutWords 3 words) [] ≡ None)
     × (usual_refusal (PutWords 3 words) one_runs ≡ Some InsideTask)
@@ -194,11 +194,11 @@ refused_puts = (refl, refl, refl)
 
 pub refused_gifts :
     (map (λ limit. op_refusal (limits_of 64 limit) 5 0 0 (GiveWords 3 words) []) (5 ∷ 6 ∷ []) ≡ Some TraceFull ∷ None ∷ []) × (op_refusal (limits_of 64 0) 5 1 0 (GiveWords 3 words) [] ≡ None)
-    × (usual_refusal (GiveWords 3 words) one_runs ≡ Some InsideTask)
+    × (usual_refusal (GiveWords 3 words) one_runs ≡ None)
 refused_gifts = (refl, refl, refl)
 
 -- of these the task is named before the room
-pub words_refused_by_the_least : map (λ op. op_refusal (limits_of 64 0) 5 0 0 op one_runs) (PutWords 3 words ∷ GiveWords 3 words ∷ []) ≡ Some InsideTask ∷ Some InsideTask ∷ []
+pub words_refused_by_the_least : map (λ op. op_refusal (limits_of 64 0) 5 0 0 op one_runs) (PutWords 3 words ∷ GiveWords 3 words ∷ []) ≡ Some InsideTask ∷ Some TraceFull ∷ []
 words_refused_by_the_least = refl
 
 -- a break that is no stop
@@ -208,12 +208,18 @@ refused_breaks = refl
 pub stops_alone : map is_stop (AtStop ∷ Share 2 ∷ AtBarrier 1 ∷ []) ≡ true ∷ false ∷ false ∷ []
 stops_alone = refl
 
+-- Waits that go on
+
+-- a wait for children, for a group's tasks, and at a barrier, and no other operation
+pub waits_that_go_on : map goes_on_waiting all_operations ≡ false ∷ false ∷ true ∷ false ∷ true ∷ true ∷ false ∷ true ∷ false ∷ false ∷ false ∷ false ∷ []
+waits_that_go_on = refl
+
 -- Events
 
 -- a task's creation, an arrival and words come before the reply, and nothing else
 pub events_at_the_beginning :
     map (λ op. op_begins 0 op (Pass 0 0 ∷ both_wait)) all_operations
-    ≡ (creates_root 1 ∷ []) ∷ [] ∷ [] ∷ [] ∷ [] ∷ (Arrive 1 0 (at Barrier 0) ∷ []) ∷ [] ∷ [] ∷ (Put 3 0 words ∷ []) ∷ (Got 3 0 words ∷ []) ∷ [] ∷ []
+    ≡ (creates_root 1 ∷ []) ∷ [] ∷ [] ∷ [] ∷ [] ∷ [] ∷ (Arrive 1 0 (at Barrier 0) ∷ []) ∷ [] ∷ [] ∷ (Put 3 0 words ∷ []) ∷ (Got 3 0 words ∷ []) ∷ [] ∷ []
 events_at_the_beginning = refl
 
 pub begun_is_added : begun 0 (CreateTask eight) one_runs ≡ Create 2 0 (Explicit 1) eight ∷ one_runs
@@ -237,6 +243,11 @@ pub after_a_group :
     (op_after 0 OpenGroup Finished [] ≡ group_empty) × (op_after 0 OpenGroup Finished group_empty ≡ Group 1 0 ∷ group_empty)
     × (map (λ reply. op_after 0 EndGroup reply (Group 1 0 ∷ group_empty)) (Passed ∷ Run 1 7 9 false ∷ Wait ∷ []) ≡ (GroupEnd 1 0 ∷ Group 1 0 ∷ group_empty) ∷ (Start 1 0 ∷ Group 1 0 ∷ group_empty) ∷ (Group 1 0 ∷ group_empty) ∷ [])
 after_a_group = (refl, refl, refl)
+
+-- so after the wait there
+pub after_a_group_wait :
+    map (λ reply. op_after 0 AwaitGroup reply (Group 1 0 ∷ group_empty)) (Passed ∷ Run 1 7 9 false ∷ Wait ∷ []) ≡ (GroupEnd 1 0 ∷ Group 1 0 ∷ group_empty) ∷ (Start 1 0 ∷ Group 1 0 ∷ group_empty) ∷ (Group 1 0 ∷ group_empty) ∷ []
+after_a_group_wait = refl
 
 -- after an arrival that passes at once, runs a task, or waits
 pub after_an_arrival :

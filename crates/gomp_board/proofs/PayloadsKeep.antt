@@ -1,5 +1,5 @@
 -- The places of words after each event: that of newly put words has them, the others stay.
-use Rattle.std.proofs.Common.{◌≡◌, ◌≢◌, ℕ, true, false, ◌%◌, ◌<◌, List, [], ◌∷◌, Option, Some, None, length, slice_get, slice_set, replicate, refl, ap, ◌∙◌, sym, arith, suc, zero, inl, inr}
+use Rattle.std.proofs.Common.{◌≡◌, ◌≢◌, ℕ, true, ◌%◌, ◌<◌, List, [], ◌∷◌, Option, Some, None, length, slice_get, slice_set, replicate, refl, ap, ◌∙◌, sym, arith, suc, zero, inl, inr}
 use Rattle.std.specs.Prelude.{◌==◌}
 use Rattle.std.proofs.lemmas.Bool.{cases_Bool}
 use Rattle.std.proofs.lemmas.List.{length-set}

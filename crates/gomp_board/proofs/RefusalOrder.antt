@@ -14,7 +14,7 @@ use Rattle.gomp_types.specs.Tests.{first_refusal}
 use Rattle.gomp_types.specs.TaskCalls.{outside_tasks_tests, room_tests}
 use Rattle.gomp_types.proofs.LeastTests.{from, first_is_least}
 use Rattle.gomp_board.specs.declared.op.Op.{Op}
-use Rattle.gomp_board.specs.declared.op.Op.TheVariants.{Create, EndTask, AwaitChildren, OpenGroup, EndGroup, Arrive, AwaitBarrier, Reserve, Put, Got, Break}
+use Rattle.gomp_board.specs.declared.op.Op.TheVariants.{Create, EndTask, AwaitChildren, OpenGroup, EndGroup, AwaitGroup, Arrive, AwaitBarrier, Reserve, Put, Got, Break}
 use Rattle.gomp_board.specs.Ops.{member_tests, broken_tests, busy_tests, end_tests, arrival_asks, op_tests, op_refusal}
 
 -- those of an arrival
@@ -29,6 +29,7 @@ op_order n limits room kept m EndTask h low mid high = rw low refl
 op_order n limits room kept m AwaitChildren h low mid high = rw low refl
 op_order n limits room kept m OpenGroup h low mid high = rw low refl
 op_order n limits room kept m EndGroup h low mid high = rw low refl
+op_order n limits room kept m AwaitGroup h low mid high = rw low refl
 op_order n limits room kept m (Arrive tag) h low mid high = arrival_order n tag.kind limits room (arrival_asks tag.kind kept) m (tag_differs tag (tag_at (barriers_passed m h) h)) h low
 op_order n limits room kept m AwaitBarrier h low mid high = rw mid refl
 op_order n limits room kept m (Reserve more) h low mid high = rw low refl

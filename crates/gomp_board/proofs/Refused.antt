@@ -18,7 +18,7 @@ use Rattle.gomp_types.specs.Events.{barriers_passed, clash_of}
 use Rattle.gomp_types.specs.Tests.{Test}
 use Rattle.gomp_types.specs.Least.{lesser, least}
 use Rattle.gomp_board.specs.declared.op.Op.{Op}
-use Rattle.gomp_board.specs.declared.op.Op.TheVariants.{Create, EndTask, AwaitChildren, OpenGroup, EndGroup, Arrive, AwaitBarrier, Reserve, Put, Got, Break}
+use Rattle.gomp_board.specs.declared.op.Op.TheVariants.{Create, EndTask, AwaitChildren, OpenGroup, EndGroup, AwaitGroup, Arrive, AwaitBarrier, Reserve, Put, Got, Break}
 use Rattle.gomp_board.specs.Ops.{broken_tests, member_tests, end_tests, op_tests, op_refusal, op_place, refusal_gives, OpAnswer}
 use Rattle.gomp_board.specs.Boards.{BoardView, Stands, Performs, members_of, kept_by}
 
@@ -65,6 +65,7 @@ own_are_low limits room kept m EndTask h = (omega arith, (omega arith, (omega ar
 own_are_low limits room kept m AwaitChildren h = (omega arith, tt)
 own_are_low limits room kept m OpenGroup h = (omega arith, (omega arith, tt))
 own_are_low limits room kept m EndGroup h = (omega arith, (omega arith, tt))
+own_are_low limits room kept m AwaitGroup h = (omega arith, tt)
 own_are_low limits room kept m (Arrive tag) h = (omega arith, (omega arith, low_of_both (end_tests tag.kind m h) _ (end_is_low tag.kind m h) (omega arith, (omega arith, tt))))
 own_are_low limits room kept m AwaitBarrier h = (omega arith, tt)
 own_are_low limits room kept m (Reserve more) h = (omega arith, (omega arith, (omega arith, tt)))

@@ -21,7 +21,7 @@ use Rattle.gomp_types.specs.Tasks.{executed_task, in_task}
 use Rattle.gomp_types.specs.Goals.{may_pass}
 use Rattle.gomp_types.specs.TaskCalls.{outside_tasks_tests, group_open_tests, create_tests, end_task_tests, end_group_tests, room_tests, task_room, group_room, arrival_room, AwaitsTasks, CreatesTask, EndsTask, AwaitsChildren, AwaitsGroup, creates, starts_task, ends_task, waited, opens_group, ends_group}
 use Rattle.gomp_board.specs.declared.op.Op.{Op}
-use Rattle.gomp_board.specs.declared.op.Op.TheVariants.{Create, EndTask, AwaitChildren, OpenGroup, EndGroup, Arrive, AwaitBarrier, Reserve, Put, Got, Break}
+use Rattle.gomp_board.specs.declared.op.Op.TheVariants.{Create, EndTask, AwaitChildren, OpenGroup, EndGroup, AwaitGroup, Arrive, AwaitBarrier, Reserve, Put, Got, Break}
 
 -- Room
 
@@ -101,6 +101,7 @@ op_tests limits room kept m EndTask h = busy_tests m h ++ end_task_tests m h
 op_tests limits room kept m AwaitChildren h = busy_tests m h
 op_tests limits room kept m OpenGroup h = busy_tests m h ++ room_tests limits room group_room
 op_tests limits room kept m EndGroup h = busy_tests m h ++ end_group_tests m h
+op_tests limits room kept m AwaitGroup h = busy_tests m h
 op_tests limits room kept m (Arrive tag) h =
     busy_tests m h
     ++ (outside_tasks_tests m h ++ (end_tests tag.kind m h
@@ -146,6 +147,7 @@ op_gives m EndTask h reply = ends_task m reply
 op_gives m AwaitChildren h reply = waited m reply
 op_gives m OpenGroup h reply = opens_group m h reply
 op_gives m EndGroup h reply = ends_group m h reply
+op_gives m AwaitGroup h reply = ends_group m h reply
 op_gives m (Arrive tag) h reply = passes_barrier m h reply
 op_gives m AwaitBarrier h reply = passes_barrier m h reply
 op_gives m (Reserve more) h reply = []
@@ -157,6 +159,7 @@ op_gives m (Break place) h reply = breaks m place reply
 abbrev pub goes_on_waiting : Op → Bool
 goes_on_waiting AwaitChildren = true
 goes_on_waiting EndGroup = true
+goes_on_waiting AwaitGroup = true
 goes_on_waiting AwaitBarrier = true
 goes_on_waiting _ = false
 
@@ -184,6 +187,7 @@ OpReply members m EndTask h reply = EndsTask (executed_task m h) reply
 OpReply members m AwaitChildren h reply = AwaitsChildren m h reply
 OpReply members m OpenGroup h reply = reply ≡ Finished
 OpReply members m EndGroup h reply = AwaitsGroup m h reply
+OpReply members m AwaitGroup h reply = AwaitsGroup m h reply
 OpReply members m (Arrive tag) h reply = AwaitsTasks m (may_pass members m h) h reply
 OpReply members m AwaitBarrier h reply = AwaitsTasks m (may_pass members m h) h reply
 OpReply members m (Reserve more) h reply = reply ≡ Finished

@@ -100,6 +100,7 @@ impl Board {
             Op::AwaitChildren => self.await_children(member),
             Op::OpenGroup => self.open_group(member),
             Op::EndGroup => self.end_group(member),
+            Op::AwaitGroup => self.await_group(member),
             Op::Arrive(tag) => self.arrive(member, tag),
             Op::AwaitBarrier => self.await_barrier(member),
             Op::Reserve(more) => self.reserve(member, more),

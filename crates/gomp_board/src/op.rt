@@ -14,14 +14,16 @@ pub enum Op {
     AwaitChildren,
     /// Opens a group in that task (section 15.4).
     OpenGroup,
-    /// Ends the last open group of that task, or waits on for the group's tasks.
+    /// Ends the last open group of that task, or waits for the group's tasks.
     EndGroup,
+    /// Waits on for these, and ends the group. It is let in if no group is open, and then waits.
+    AwaitGroup,
     /// Arrives with this tag at the member's next barrier (section 15.3).
     Arrive(Tag),
     /// Waits on at the barrier at which the member has arrived.
     AwaitBarrier,
-    /// Keeps room for so many events that the member gives later in a share that it starts: those of
-    /// its end, and its words (own).
+    /// Keeps room for so many events that the member gives later in a share that it starts: its
+    /// words, and those of its end (own).
     Reserve(u32),
     /// Puts the words of the executor of this share, a `single`, for the other members (section
     /// 5.7.2).

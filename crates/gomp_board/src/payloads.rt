@@ -45,7 +45,8 @@ impl Payloads {
         }
     }
 
-    /// The words put in this share; None if none were, or if words of a later share were put over them.
+    /// The words put in this share; None if none were, or if words of another share were put over
+    /// them.
     pub fn at(&self, share: u64) -> Option<&Payload>
         ensures { option_copied result ≡ words_at share (slice_get self.now (share % OPEN_SHARES)) }
     {

@@ -71,7 +71,7 @@ impl Board {
         ensures value { (h : List Event) → Stands self.now h →
             result ≡ least (end_task_tests member h) }
     {
-        let open = first(self.has_group_open(member), Refusal::GroupOpen, None);
+        let open = self.group_open_refusal(member);
         first(!self.in_task(member), Refusal::NotInTask, open)
     }
 

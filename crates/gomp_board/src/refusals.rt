@@ -50,6 +50,7 @@ impl Board {
             Op::AwaitChildren => first(self.awaits_barrier(member), Refusal::Waiting, None),
             Op::OpenGroup => self.open_group_refusal(member),
             Op::EndGroup => self.end_group_refusal(member),
+            Op::AwaitGroup => first(self.awaits_barrier(member), Refusal::Waiting, None),
             Op::Arrive(tag) => self.arrival_refusal(member, *tag),
             Op::AwaitBarrier => first(!self.awaits_barrier(member), Refusal::NotInside, None),
             Op::Reserve(more) => self.reserve_refusal(member, *more),

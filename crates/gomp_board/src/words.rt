@@ -1,6 +1,6 @@
 //! The words that executors of singles hand to the other members. OpenMP API 5.2, section 5.7.2.
 
-ghost use Rattle.std.specs.Prelude.{◌≡◌, ◌<◌, ◌+◌, ◌%◌, List, ◌∷◌, false, OnOk, OnErr, IsOk, option_copied, slice_set};
+ghost use Rattle.std.specs.Prelude.{◌≡◌, ◌<◌, ◌+◌, ◌%◌, List, ◌∷◌, false, OnOk, OnErr, IsOk, option_copied, reverse, slice_set};
 ghost use Rattle.gomp_types.specs.declared.limits.TheConstants.{OPEN_SHARES};
 ghost use Rattle.gomp_types.specs.declared.event.Event.{Event as AnyEvent};
 ghost use Rattle.gomp_types.specs.declared.event.Event.TheVariants.{Put as PutEvent, Got as GotEvent};
@@ -21,6 +21,7 @@ impl Board {
     /// The words that were put in this share. None if none were, or if words were put later in
     /// another share whose number leaves the same rest by OPEN_SHARES.
     pub fn payload(&self, share: u64) -> Option<&Payload>
+        ensures known { Stands self.now (reverse self.now.history) }
         ensures value { (h : List AnyEvent) → Stands self.now h →
             option_copied result ≡ words_of share (newest_put (share % OPEN_SHARES) h) }
     {

@@ -17,9 +17,9 @@ use Rattle.gomp_types.proofs.Booleans.{and_left, not_both, not_false, false_of_n
 use Rattle.gomp_types.proofs.OpenTasks.{created_low, created_high}
 use Rattle.gomp_types.proofs.LaterTasks.{old_created}
 use Rattle.gomp_model.specs.Past.{Past}
-use Rattle.gomp_model.specs.Row.{Row, unless_repeated, begun_past}
+use Rattle.gomp_model.specs.Row.{Row, unless_repeated, begun_past, goes_on}
 use Rattle.gomp_laws.specs.Rules.{TeamRule}
-use Rattle.gomp_laws.proofs.Sound.{goes_on, Same, Gives, AreGiven, Ready}
+use Rattle.gomp_laws.proofs.Sound.{Same, Gives, AreGiven, Ready}
 
 -- Tasks that may be started
 

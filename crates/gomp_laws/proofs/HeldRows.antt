@@ -23,10 +23,10 @@ use Rattle.gomp_locks.specs.HoldRules.{can_hold, HoldRule}
 use Rattle.gomp_locks.proofs.OwnerLemmas.{same_name}
 use Rattle.gomp_laws.specs.Rules.{TeamRule}
 use Rattle.gomp_model.specs.Past.{Past}
-use Rattle.gomp_model.specs.Row.{Row, plain_row}
+use Rattle.gomp_model.specs.Row.{Row, plain_row, goes_on}
 use Rattle.gomp_model.specs.CriticalNames.{is_held, is_freed, held_once, freed_once}
 use Rattle.gomp_laws.proofs.TeamShares.{hold_rules}
-use Rattle.gomp_laws.proofs.Sound.{AreGiven, IsSound, Ready, goes_on, memoryless, only_holds}
+use Rattle.gomp_laws.proofs.Sound.{AreGiven, IsSound, Ready, memoryless, only_holds}
 
 -- Keys and owners
 

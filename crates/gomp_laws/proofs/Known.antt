@@ -24,11 +24,11 @@ use Rattle.gomp_types.proofs.LeastTests.{AllFail, all_fail, fail_first, fail_lat
 use Rattle.gomp_laws.proofs.WordsToCome.{WordsToCome, PutsNone, still_to_come}
 use Rattle.gomp_locks.proofs.NamesKeep.{no_task_outside}
 use Rattle.gomp_model.specs.Past.{Terms, Past}
-use Rattle.gomp_model.specs.Row.{Row, unless_repeated, begun_past, place_tests, board_tests, book_tests, row_tests, events_after}
+use Rattle.gomp_model.specs.Row.{Row, unless_repeated, begun_past, place_tests, board_tests, book_tests, row_tests, events_after, goes_on}
 use Rattle.gomp_types.specs.TaskCalls.{room_tests}
 use Rattle.gomp_model.specs.Calls.{stop_row, row_of}
 use Rattle.gomp_model.specs.Team.{Record, call_meant, is_resume, row_at, broken_tests, member_tests, wait_tests, refusal_of, MayAnswer, waits_after, past_after, before_all, past_of, events, Caused}
-use Rattle.gomp_laws.proofs.Sound.{is_run, goes_on, is_end, shows, Lasts, acts_away, Ready, outside_of_tasks, IsSound, Gives, gives_of, IsLast}
+use Rattle.gomp_laws.proofs.Sound.{is_run, is_end, shows, Lasts, acts_away, Ready, outside_of_tasks, IsSound, Gives, gives_of, IsLast}
 use Rattle.gomp_laws.proofs.CallsKeep.{step_keeps}
 use Rattle.gomp_laws.proofs.Calls.{row_is_sound}
 use Rattle.gomp_laws.proofs.Places.{seen_other, SameBarriers, barriers_other, barriers_own, was_whole, stack_other, stack_own, stack_begun, lasts_other, lasts_own}

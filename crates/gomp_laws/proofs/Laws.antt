@@ -30,11 +30,11 @@ use Rattle.gomp_laws.proofs.TaskReplies.{task_replies}
 -- single put; all members go through the same constructs in the same order; no member passes a barrier
 -- before all arrived, and have left the constructs before it; a critical name and a lock have at most one
 -- owner at a time, which alone releases it, and no member passes a barrier while it holds a critical name; a
--- task is created, started and ended once, by members that execute its parent and itself; at a wait a member
--- starts only a descendant of all tasks that it has started and not ended; a taskwait goes on when the
--- children of its task are done, the end of a group when the tasks of the group are, and a barrier is passed
--- when the tasks bound to it are, the region's end when all are: a task that is bound to a barrier is never
--- created after a member passed it.
+-- task is created once, in the task that its creator executes, started once, and ended once by the member that
+-- started it; a member that waits starts only a descendant of all tasks that it has started and not ended; a
+-- taskwait goes on when the children of its task are done, the end of a group when the tasks of the group are,
+-- and a barrier is passed when the tasks that are bound to it are done, the region's end when all are; after a
+-- member passed a barrier no task is created that is bound to it.
 pub headline_holds : (terms : Terms) → (run : Record) → Caused terms run → Headline terms.members (events terms run)
 headline_holds = headline_of
 

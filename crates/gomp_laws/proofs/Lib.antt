@@ -30,7 +30,9 @@ pub mod Singles
 pub mod SomeReply
 pub mod Sound
 pub mod Starts
+pub mod TaskClauseExamples
 pub mod TaskReplies
+pub mod TaskReplyExamples
 pub mod Tasks
 pub mod TeamKeeps
 pub mod TeamShares

@@ -25,7 +25,7 @@ use Rattle.gomp_locks.specs.Book.{held_by}
 use Rattle.gomp_locks.specs.Locks.{count_for}
 use Rattle.gomp_locks.specs.Holders.{asker, holder}
 use Rattle.gomp_model.specs.Past.{Past}
-use Rattle.gomp_model.specs.Row.{Row, begun_past, given_after}
+use Rattle.gomp_model.specs.Row.{Row, begun_past, given_after, goes_on, MayGoOn}
 use Rattle.gomp_model.specs.Team.{both_run}
 
 -- whether a refusal is want of memory
@@ -47,12 +47,6 @@ is_wait _ = false
 abbrev pub is_run : Reply → Bool
 is_run (Run task code arg own) = true
 is_run _ = false
-
--- whether the call goes on after it: it waits, or a task is executed before it is repeated
-abbrev pub goes_on : Reply → Bool
-goes_on Wait = true
-goes_on (Run task code arg own) = true
-goes_on _ = false
 
 -- whether it ends a task
 abbrev pub is_end : Reply → Bool
@@ -166,10 +160,6 @@ clean_append (test ∷ tests) more one other =
 abbrev pub shows : Bool → Bool → Bool
 shows true repeated = true
 shows false repeated = not repeated
-
--- it is a call that may wait, or run a task
-abbrev pub MayGoOn : Row → ℕ → Type 0
-MayGoOn row m = (q : Past) × (reply : Reply) × (goes_on reply ≡ true) × row.may_reply m q reply
 
 -- what holds on of a call while it waits: a member that arrived is in no task; the task that waits for a name or a lock does not hold it;
 -- and it is a call that may go on

@@ -18,12 +18,12 @@ use Rattle.gomp_types.specs.TaskCalls.{last_complete, EndsTask, AwaitsChildren, 
 use Rattle.gomp_types.proofs.Booleans.{not_both}
 use Rattle.gomp_locks.specs.Holders.{asker, holds_critical}
 use Rattle.gomp_model.specs.Past.{Past}
-use Rattle.gomp_model.specs.Row.{begun_past, given_after}
+use Rattle.gomp_model.specs.Row.{begun_past, given_after, goes_on}
 use Rattle.gomp_model.specs.Tasks.{task_create_row, task_end_row, taskwait_row, group_start_row, group_end_row}
 use Rattle.gomp_laws.specs.Rules.{TeamRule}
 use Rattle.gomp_laws.proofs.Awaits.{one_await, some_await, started_own, started_keeps}
 use Rattle.gomp_laws.proofs.TeamShares.{task_rules}
-use Rattle.gomp_laws.proofs.Sound.{goes_on, Same, AreGiven, Ready, IsSound, quiet, outside_lasts}
+use Rattle.gomp_laws.proofs.Sound.{Same, AreGiven, Ready, IsSound, quiet, outside_lasts}
 
 -- Creation
 

@@ -121,10 +121,13 @@ next_arrival_waits : (members m g : ℕ) (h : List Event) → Always (ArrivalRul
 next_arrival_waits members m g [] all here le = absurd (cc)
 next_arrival_waits members m g (Arrive barrier member tag ∷ earlier) all here le =
     elim (cases_Bool (member == m)) [
-      | inl who ↦ (rw who refl, elim (cases_Bool (barrier == g)) [
-        | inl at ↦ let next : barrier ≡ barriers_passed m earlier = rw (← is_equal member m who) all.0.number in sym (is_equal barrier g at) ∙ next
-        | inr away ↦ (next_arrival_waits members m g earlier all.1 (rw away at here) le).1
-      ])
+      | inl who ↦ (
+        rw who refl,
+        elim (cases_Bool (barrier == g)) [
+          | inl at ↦ let next : barrier ≡ barriers_passed m earlier = rw (← is_equal member m who) all.0.number in sym (is_equal barrier g at) ∙ next
+          | inr away ↦ (next_arrival_waits members m g earlier all.1 (rw away at here) le).1
+        ],
+      )
       | inr other ↦
           let before = next_arrival_waits members m g earlier all.1 (rw (and_false (barrier == g) (member == m) other) at here) le in
           (rw other before.0, before.1)

@@ -23,6 +23,7 @@ use Rattle.gomp_types.specs.declared.reply.Reply.TheVariants.{Chunk, NoChunk, Se
 use Rattle.gomp_model.specs.Examples.{MayReplyAfter, IsReplyAfter, IsWrongAfter, IsWrong, AreWrong, IsNoRun, task_answers, later_answers, share_answers, all_refusals, asks, one_nowait, loop_of_two, loop_alone, eight_ahead}
 use Rattle.gomp_model.specs.ShareExamples.{three_sections, sections_of_two, no_sections, single_of_two, copy_of_three, ordered_of_two, handed_of_two, ordered_alone}
 use Rattle.gomp_model.specs.HoldExamples.{name_a, long_name, holding, both_made, both_set, names_and_locks, destroyed_while_waiting}
+use Rattle.gomp_model.specs.TaskRuns.{then_in_a_task}
 use Rattle.gomp_model.specs.RegionExamples.{copied_at_once, named_in_a_part}
 
 -- The answers of other calls
@@ -725,6 +726,10 @@ part_end_outside = search rules
 -- nor is one while the member holds a critical name
 pub part_end_with_a_name : IsWrong 1 (take 6 named_in_a_part) (asks 0 OrderedEnd) Finished
 part_end_with_a_name = search rules
+
+-- nor while it executes a task
+pub part_end_in_a_task : IsWrong 1 (then_in_a_task (take 2 ordered_alone)) (asks 0 OrderedEnd) Finished
+part_end_in_a_task = search rules
 
 -- the reply that there is to each step is another than want of memory
 pub some_reply_tells : (p : Past) (step : Step) → (some : SomeReply p step) → (some.0 ≢ Refused NoMemory) × MayAnswer p step some.0

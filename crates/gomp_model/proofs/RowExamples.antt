@@ -13,7 +13,7 @@ use Rattle.gomp_types.specs.declared.refusal.Place.TheVariants.{Share, Barrier a
 use Rattle.gomp_types.specs.declared.refusal.Refusal.{Refusal}
 use Rattle.gomp_types.specs.declared.refusal.Refusal.TheVariants.{Ended, Waiting, InsideTask, InsideShare, HoldsCritical, NotDrained, NotInside, NoGroup, NameTooLong, AlreadyHeld, NotHolder, NoLock, TooManyShares, Mismatch, TraceFull, NoMemory}
 use Rattle.gomp_types.specs.declared.reply.Reply.{Reply}
-use Rattle.gomp_types.specs.declared.reply.Reply.TheVariants.{Chunk, NoChunk, Section, Executor, Copied, Finished, Passed, Wait, Run as RunTask, Lock as LockMade, Got as GotLock, Count, Stopped, Refused}
+use Rattle.gomp_types.specs.declared.reply.Reply.TheVariants.{Chunk, NoChunk, Section, Executor, Copied, Finished, Passed, Wait, Created, Run as RunTask, TaskDone, Lock as LockMade, Got as GotLock, Count, Stopped, Refused}
 use Rattle.gomp_types.specs.declared.shape.Shape.{Shape}
 use Rattle.gomp_types.specs.declared.shape.ShareKind.TheVariants.{Dynamic}
 use Rattle.gomp_types.specs.declared.event.Arrival.{Arrival}
@@ -32,47 +32,47 @@ use Rattle.gomp_model.specs.Loops.{loop_next_row}
 use Rattle.gomp_model.specs.Past.{Past}
 use Rattle.gomp_model.specs.Arrivals.{barrier_row, region_end_row}
 use Rattle.gomp_model.specs.OrderedParts.{ordered_start_row}
-use Rattle.gomp_model.specs.Examples.{MayReplyAfter, lock_answers, share_answers, past_with, past_after_run, ten_by_three, up_to, stopped_waiting}
+use Rattle.gomp_model.specs.Examples.{MayReplyAfter, task_answers, later_answers, lock_answers, share_answers, past_with, past_after_run, ten_by_three, up_to, stopped_waiting}
 use Rattle.gomp_model.specs.HoldExamples.{name_a, name_b, longest_name, long_name}
 use Rattle.gomp_model.specs.ShareExamples.{three_sections}
 
 -- Flags
 
--- calls that start a share, or ask for some of it
-abbrev starts : List Call
+-- calls that start a share, or ask for some of it (those on tasks and groups are in TaskRowExamples)
+abbrev pub starts : List Call
 starts = ten_by_three ∷ three_sections ∷ SingleStart ∷ SingleCopyStart ∷ []
 
-abbrev nexts : List Call
+abbrev pub nexts : List Call
 nexts = LoopNext ∷ SectionsNext ∷ OrderedStart (pos 0) ∷ []
 
 -- calls that leave a share, or a part of it, at once
-abbrev ends : List Call
+abbrev pub ends : List Call
 ends = LoopEndNowait ∷ SectionsEndNowait ∷ SingleCopyEnd (7 ∷ []) ∷ OrderedEnd ∷ []
 
 -- calls that arrive at a barrier
-abbrev arrivals : List Call
+abbrev pub arrivals : List Call
 arrivals = LoopEnd ∷ SectionsEnd ∷ Barrier ∷ RegionEnd ∷ []
 
 -- all calls on shares and at barriers
-abbrev in_team : List Call
+abbrev pub in_team : List Call
 in_team = starts ++ nexts ++ ends ++ arrivals
 
 -- those on critical names, and those on locks
-abbrev on_names : List Call
+abbrev pub on_names : List Call
 on_names = CriticalStart name_a ∷ CriticalEnd name_a ∷ []
 
-abbrev on_locks : List Call
+abbrev pub on_locks : List Call
 on_locks = LockInit ∷ NestInit ∷ LockDestroy 0 ∷ Set 0 ∷ TestLock 0 ∷ Unset 0 ∷ SetNest 1 ∷ TestNest 1 ∷ UnsetNest 1 ∷ []
 
-abbrev in_book : List Call
+abbrev pub in_book : List Call
 in_book = on_names ++ on_locks
 
 -- and the others
-abbrev others : List Call
+abbrev pub others : List Call
 others = Resume ∷ Stop ∷ []
 
 -- a flag of these calls
-abbrev flags : (Row → Bool) → List Call → List Bool
+abbrev pub flags : (Row → Bool) → List Call → List Bool
 flags flag calls = map (λ call. flag (row_of call)) calls
 
 -- the starts may find no memory, save that of a single without words
@@ -119,7 +119,7 @@ pub books_asked : (flags (λ row. row.asks_book) in_book ≡ map (λ call. true)
 books_asked = (refl, refl)
 
 -- which name or lock these calls hold or free
-abbrev keys : List Call → List (Option Key)
+abbrev pub keys : List Call → List (Option Key)
 keys calls = map (λ call. (row_of call).holds) calls
 
 pub keys_of_names : keys on_names ≡ Some (Critical name_a) ∷ Some (Critical name_a) ∷ []
@@ -135,7 +135,7 @@ pub keys_of_others : keys (in_team ++ others) ≡ map (λ call. None) (in_team +
 keys_of_others = refl
 
 -- at which kind of barrier these calls arrive
-abbrev kinds : List Call → List (Option Arrival)
+abbrev pub kinds : List Call → List (Option Arrival)
 kinds calls = map (λ call. (row_of call).arrives) calls
 
 pub kinds_of_arrivals : kinds arrivals ≡ Some ShareEnd ∷ Some ShareEnd ∷ Some BarrierArrival ∷ Some RegionEndArrival ∷ []
@@ -151,7 +151,7 @@ kinds_of_book = refl
 -- Places
 
 -- a member has entered two shares, the second of which it is in, and has passed a barrier
-abbrev in_the_second : List Event
+abbrev pub in_the_second : List Event
 in_the_second =
     Enter 0 0 (single_shape false) ∷ Take 0 0 0 1 ∷ End 0 0 ∷ Arrive 0 0 (at BarrierArrival 1) ∷ Pass 0 0 ∷ Enter 1 0 (single_shape true) ∷ Take 1 0 0 1 ∷ []
 
@@ -209,23 +209,27 @@ given call (reply ∷ replies) =
 
 -- replies of other calls than one that asks for iterations
 abbrev no_iterations : List Reply
-no_iterations = Section 0 ∷ Section 1 ∷ Executor true ∷ Executor false ∷ Copied (7 ∷ []) ∷ Finished ∷ Passed ∷ Wait ∷ Stopped ∷ lock_answers
+no_iterations = Section 0 ∷ Section 1 ∷ Executor true ∷ Executor false ∷ Copied (7 ∷ []) ∷ Finished ∷ Passed ∷ Wait ∷ Stopped ∷ later_answers
 
 -- than one that asks for a section
 abbrev no_section : List Reply
-no_section = Chunk (pos 0) 1 ∷ NoChunk ∷ Executor true ∷ Executor false ∷ Copied (7 ∷ []) ∷ Finished ∷ Passed ∷ Wait ∷ Stopped ∷ lock_answers
+no_section = Chunk (pos 0) 1 ∷ NoChunk ∷ Executor true ∷ Executor false ∷ Copied (7 ∷ []) ∷ Finished ∷ Passed ∷ Wait ∷ Stopped ∷ later_answers
 
 -- than a single
 abbrev no_single : List Reply
-no_single = Chunk (pos 0) 1 ∷ NoChunk ∷ Section 0 ∷ Section 1 ∷ Copied (7 ∷ []) ∷ Finished ∷ Passed ∷ Wait ∷ Stopped ∷ lock_answers
+no_single = Chunk (pos 0) 1 ∷ NoChunk ∷ Section 0 ∷ Section 1 ∷ Copied (7 ∷ []) ∷ Finished ∷ Passed ∷ Wait ∷ Stopped ∷ later_answers
 
 -- than one with words
 abbrev no_copy : List Reply
-no_copy = Chunk (pos 0) 1 ∷ NoChunk ∷ Section 0 ∷ Section 1 ∷ Executor false ∷ Finished ∷ Passed ∷ Wait ∷ Stopped ∷ lock_answers
+no_copy = Chunk (pos 0) 1 ∷ NoChunk ∷ Section 0 ∷ Section 1 ∷ Executor false ∷ Finished ∷ Passed ∷ Wait ∷ Stopped ∷ later_answers
 
--- than one that only finishes, passes, or stops
+-- than one that only finishes, passes, runs a task, or stops
 abbrev no_finish : List Reply
-no_finish = Chunk (pos 0) 1 ∷ NoChunk ∷ Section 0 ∷ Section 1 ∷ Executor true ∷ Executor false ∷ Copied (7 ∷ []) ∷ Wait ∷ lock_answers
+no_finish = Chunk (pos 0) 1 ∷ NoChunk ∷ Section 0 ∷ Section 1 ∷ Executor true ∷ Executor false ∷ Copied (7 ∷ []) ∷ Wait ∷ Created 1 ∷ TaskDone 1 true ∷ TaskDone 1 false ∷ lock_answers
+
+-- a task that is run
+abbrev runs : List Reply
+runs = RunTask 1 7 70 false ∷ RunTask 1 7 70 true ∷ []
 
 -- a start that waits enters nothing, and one that is answered as another call gives nothing
 pub none_given_by_starts : given ten_by_three no_iterations ++ given three_sections no_section ++ given SingleStart no_single ++ given SingleCopyStart no_copy ≡ []
@@ -233,42 +237,42 @@ none_given_by_starts = refl
 
 -- nor does a member that waits for its turn hand a piece on, or begin a part
 pub none_given_by_nexts :
-    given LoopNext no_iterations ++ given SectionsNext no_section ++ given (OrderedStart (pos 0)) (Passed ∷ Stopped ∷ no_finish) ≡ []
+    given LoopNext no_iterations ++ given SectionsNext no_section ++ given (OrderedStart (pos 0)) (Passed ∷ Stopped ∷ runs ++ no_finish) ≡ []
 none_given_by_nexts = refl
 
 -- the ends give nothing beside what they have begun with
 pub none_given_by_ends :
-    given LoopEndNowait (Finished ∷ Passed ∷ no_finish) ++ given SectionsEndNowait (Finished ∷ Passed ∷ no_finish)
-    ++ given (SingleCopyEnd []) (Finished ∷ Passed ∷ no_finish) ++ given OrderedEnd (Finished ∷ Passed ∷ no_finish) ≡ []
+    given LoopEndNowait (Finished ∷ Passed ∷ runs ++ no_finish) ++ given SectionsEndNowait (Finished ∷ Passed ∷ runs ++ no_finish)
+    ++ given (SingleCopyEnd []) (Finished ∷ Passed ∷ runs ++ no_finish) ++ given OrderedEnd (Finished ∷ Passed ∷ runs ++ no_finish) ≡ []
 none_given_by_ends = refl
 
--- the arrivals nothing but the pass
+-- the arrivals nothing but the pass, and the start of a task
 pub none_given_by_arrivals :
     given LoopEnd (Finished ∷ Stopped ∷ no_finish) ++ given SectionsEnd (Finished ∷ Stopped ∷ no_finish)
     ++ given Barrier (Finished ∷ Stopped ∷ no_finish) ++ given RegionEnd (Finished ∷ Stopped ∷ no_finish) ≡ []
 none_given_by_arrivals = refl
 
 -- a stop nothing but the break
-pub none_given_by_stop : given Stop (Finished ∷ Passed ∷ no_finish) ++ given Resume (Finished ∷ Passed ∷ Stopped ∷ no_finish) ≡ []
+pub none_given_by_stop : given Stop (Finished ∷ Passed ∷ runs ++ no_finish) ++ given Resume (Finished ∷ Passed ∷ Stopped ∷ runs ++ no_finish) ≡ []
 none_given_by_stop = refl
 
 -- a member that does not get a name or a lock holds nothing, and one that is answered as another call neither
 pub none_held_or_freed :
-    given (CriticalStart name_a) (Passed ∷ Stopped ∷ Wait ∷ GotLock false ∷ Count 0 ∷ LockMade 0 ∷ share_answers) ++ given (Set 0) (Passed ∷ Stopped ∷ Wait ∷ GotLock false ∷ Count 0 ∷ LockMade 0 ∷ share_answers)
-    ++ given (TestLock 0) (Wait ∷ GotLock false ∷ Count 0 ∷ LockMade 0 ∷ share_answers)
-    ++ given (SetNest 1) (Wait ∷ GotLock false ∷ Count 0 ∷ LockMade 0 ∷ share_answers) ++ given (TestNest 1) (Wait ∷ GotLock false ∷ Count 0 ∷ LockMade 0 ∷ share_answers) ≡ []
+    given (CriticalStart name_a) (Passed ∷ Stopped ∷ Wait ∷ GotLock false ∷ Count 0 ∷ LockMade 0 ∷ share_answers ++ task_answers) ++ given (Set 0) (Passed ∷ Stopped ∷ Wait ∷ GotLock false ∷ Count 0 ∷ LockMade 0 ∷ share_answers ++ task_answers)
+    ++ given (TestLock 0) (Wait ∷ GotLock false ∷ Count 0 ∷ LockMade 0 ∷ share_answers ++ task_answers)
+    ++ given (SetNest 1) (Wait ∷ GotLock false ∷ Count 0 ∷ LockMade 0 ∷ share_answers ++ task_answers) ++ given (TestNest 1) (Wait ∷ GotLock false ∷ Count 0 ∷ LockMade 0 ∷ share_answers ++ task_answers) ≡ []
 none_held_or_freed = refl
 
 -- nor does such an answer free any
 pub none_freed :
-    given (CriticalEnd name_a) (Wait ∷ GotLock true ∷ GotLock false ∷ LockMade 0 ∷ share_answers) ++ given (Unset 0) (Wait ∷ GotLock true ∷ GotLock false ∷ LockMade 0 ∷ share_answers)
-    ++ given (UnsetNest 1) (Wait ∷ GotLock true ∷ GotLock false ∷ LockMade 0 ∷ share_answers) ≡ []
+    given (CriticalEnd name_a) (Wait ∷ GotLock true ∷ GotLock false ∷ LockMade 0 ∷ share_answers ++ task_answers) ++ given (Unset 0) (Wait ∷ GotLock true ∷ GotLock false ∷ LockMade 0 ∷ share_answers ++ task_answers)
+    ++ given (UnsetNest 1) (Wait ∷ GotLock true ∷ GotLock false ∷ LockMade 0 ∷ share_answers ++ task_answers) ≡ []
 none_freed = refl
 
 -- a lock that is made or destroyed gives no event
 pub none_given_by_makers :
-    given LockInit (Finished ∷ Wait ∷ lock_answers ++ share_answers) ++ given NestInit (Finished ∷ Wait ∷ lock_answers ++ share_answers)
-    ++ given (LockDestroy 0) (Finished ∷ Wait ∷ lock_answers ++ share_answers) ≡ []
+    given LockInit (Finished ∷ Wait ∷ later_answers ++ share_answers) ++ given NestInit (Finished ∷ Wait ∷ later_answers ++ share_answers)
+    ++ given (LockDestroy 0) (Finished ∷ Wait ∷ later_answers ++ share_answers) ≡ []
 none_given_by_makers = refl
 
 -- ten iterations in chunks of three
@@ -291,8 +295,9 @@ pub given_by_others :
     × (given SectionsNext (Section 2 ∷ Section 0 ∷ []) ≡ Take 0 0 1 2 ∷ Drained 0 0 ∷ [])
     × (given (OrderedStart (pos 1)) (Finished ∷ []) ≡ Part 0 0 1 ∷ [])
     × (given Barrier (Passed ∷ []) ≡ Pass 0 0 ∷ [])
+    × (map (λ call. given call runs) arrivals ≡ map (λ call. Start 1 0 ∷ Start 1 0 ∷ []) arrivals)
     × (given Stop (Stopped ∷ []) ≡ Break 0 AtStop ∷ [])
-given_by_others = (refl, refl, refl, refl, refl, refl)
+given_by_others = (refl, refl, refl, refl, refl, refl, refl)
 
 -- the calls on names
 pub given_by_names :
@@ -315,7 +320,7 @@ given_by_the_second = (refl, refl)
 -- Locks that there are
 
 -- lock 0 is simple, lock 1 nestable, and lock 2 was destroyed
-abbrev three_locks : List (Option LockKind)
+abbrev pub three_locks : List (Option LockKind)
 three_locks = Some Simple ∷ Some Nest ∷ None ∷ []
 
 -- those after each of these replies to a call
@@ -339,7 +344,7 @@ abbrev no_makers : List Call
 no_makers = in_team ++ on_names ++ Set 0 ∷ TestLock 0 ∷ Unset 0 ∷ SetNest 1 ∷ TestNest 1 ∷ UnsetNest 1 ∷ others
 
 pub left_by_others :
-    map (λ call. left_by call (Finished ∷ Wait ∷ lock_answers ++ share_answers)) no_makers ≡ map (λ call. map (λ reply. three_locks) (Finished ∷ Wait ∷ lock_answers ++ share_answers)) no_makers
+    map (λ call. left_by call (Finished ∷ Wait ∷ later_answers ++ share_answers)) no_makers ≡ map (λ call. map (λ reply. three_locks) (Finished ∷ Wait ∷ later_answers ++ share_answers)) no_makers
 left_by_others = refl
 
 -- a row that leaves no lock, whatever is answered
@@ -511,7 +516,7 @@ abbrev past_with_locks : List Event → Past
 past_with_locks happened = record (past_with 2 happened) { locks = three_locks }
 
 -- a member holds a name and both locks
-abbrev all_held_by : ℕ → List Event
+abbrev pub all_held_by : ℕ → List Event
 all_held_by m = Hold (Critical name_a) m (Implicit m) ∷ Hold (Lock 0) m (Implicit m) ∷ Hold (NestLock 1) m (Implicit m) ∷ []
 
 -- these tests of these calls, by the first member

@@ -1,4 +1,1 @@
 pub mod Refused
-pub mod Answered
-pub mod Words
-pub mod PartExamples

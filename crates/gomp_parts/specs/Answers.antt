@@ -1,23 +1,24 @@
 -- What a team knows of a call that no test refuses, and what its parts stand for after the answer. OpenMP API 5.2, chapters 11, 12 and 15, section 5.7.2.
-use Rattle.std.specs.Prelude.{ℕ, ◌≤◌, ◌≡◌, ◌≢◌, ◌&&◌, is_some, not, Bool, true, false, List, [], ◌++◌, Option, Some, None, IfSome, Result, IfOk}
+use Rattle.std.specs.Prelude.{ℕ, ◌≤◌, ◌<◌, ◌≡◌, ◌≢◌, ◌&&◌, is_some, not, Bool, true, false, List, [], ◌++◌, Option, Some, None, IfSome, Result, IfOk}
 use Rattle.std.specs.Result.{result_err}
 use Rattle.gomp_types.specs.declared.shape.Shape.{Shape}
 use Rattle.gomp_types.specs.declared.limits.Limits.{Limits}
 use Rattle.gomp_types.specs.declared.refusal.Refusal.{Refusal}
+use Rattle.gomp_types.specs.declared.refusal.Refusal.TheVariants.{NoMemory}
 use Rattle.gomp_types.specs.declared.reply.Reply.{Reply}
-use Rattle.gomp_types.specs.declared.reply.Reply.TheVariants.{Stopped}
+use Rattle.gomp_types.specs.declared.reply.Reply.TheVariants.{Wait, Refused}
 use Rattle.gomp_types.specs.declared.event.Event.{Event}
-use Rattle.gomp_types.specs.declared.event.Arrival.TheVariants.{ShareEnd}
+use Rattle.gomp_types.specs.declared.event.Event.TheVariants.{Put}
 use Rattle.gomp_types.specs.Events.{open_share, has_left_region, clash_of}
+use Rattle.gomp_types.specs.Laws.{Always}
 use Rattle.gomp_types.specs.Least.{lesser, least}
 use Rattle.gomp_types.specs.declared.seen.Seen.{Seen}
 use Rattle.gomp_types.specs.Seen.{seen_of}
 use Rattle.gomp_shares.specs.Calls.{MayOpenAs}
-use Rattle.gomp_shares.specs.Starts.{leaves}
 use Rattle.gomp_model.specs.Past.{Past}
-use Rattle.gomp_model.specs.Row.{Row, unless_repeated, board_tests, MayGoOn, past_given}
+use Rattle.gomp_model.specs.Row.{Row, board_tests, MayGoOn, MayGive, past_given}
 use Rattle.gomp_model.specs.Starts.{share_room}
-use Rattle.gomp_model.specs.Arrivals.{arrival_row, ending}
+use Rattle.gomp_barrier.specs.Stands.{BarriersView, Stands as BarriersStand}
 use Rattle.gomp_board.specs.Ops.{awaits_barrier}
 use Rattle.gomp_board.specs.Boards.{BoardView, Stands as BoardStands, IsSame, members_of, kept_by}
 
@@ -51,12 +52,21 @@ in_place false repeated = not repeated
 
 -- Parts
 
+-- the shares and the barriers stand for these events
+abbrev pub BothStand : {S : Type 0} → (S → List Event → Type 0) → S → BarriersView → List Event → Type 0
+BothStand stands shares barriers h = stands shares h × BarriersStand barriers h
+
+-- words are put in the share that their member is in
+abbrev pub PutsInside : Event → List Event → Type 0
+PutsInside (Put share m words) earlier = (shape : Shape) × (open_share m earlier ≡ Some (share, shape))
+PutsInside _ earlier = Unit {0}
+
 -- what the board keeps for the share that a member is in, at least: the room that it asked for at its start
 abbrev pub room_left : Option (ℕ × Shape) → ℕ
 room_left None = 0
 room_left (Some (share, shape)) = share_room shape
 
--- the shares and the board stand for a past: for its events and its room, and the board keeps what the members' shares need
+-- the shares and the board stand for a past: for its events and its room, the board keeps what the members' shares need, and words were put by members of their share alone
 pub record PartsStand {S : Type 0} (stands : S → List Event → Type 0) (shares : S) (board : BoardView) (p : Past) : Type 0 where
   pub shares_are : stands shares p.events
   pub board_is : BoardStands board p.events
@@ -64,6 +74,7 @@ pub record PartsStand {S : Type 0} (stands : S → List Event → Type 0) (share
   pub limits : p.terms.limits ≡ board.limits
   pub room : p.room ≡ board.room
   pub kept : (k : ℕ) → room_left (open_share k p.events) ≤ kept_by k board
+  pub puts : Always PutsInside p.events
 
 -- neither changes; there may be more memory
 abbrev pub ArePartsKept : {S : Type 0} → S → BoardView → S → BoardView → Type 0
@@ -84,8 +95,8 @@ pub record IsReady (row : Row) (repeated : Bool) (m : ℕ) (board : BoardView) (
   -- the member is in the region, and the team is not broken
   pub inside : has_left_region m p.events ≡ false
   pub whole : clash_of p.events ≡ None
-  -- it waits at a barrier if it repeats a call that arrived there, and only then, unless it stops the team
-  pub barrier : (row.may_reply m p Stopped → ⊥) → awaits_barrier m p.events ≡ (repeated && is_some row.arrives)
+  -- it waits at a barrier if it repeats a call that arrived there, and only then
+  pub barrier : awaits_barrier m p.events ≡ (repeated && is_some row.arrives)
   -- a start that waits has its room
   pub kept : repeated ≡ true → KeepsStart row m board
 
@@ -111,10 +122,18 @@ pub record LeavesBoard (m : ℕ) (board after : BoardView) : Type 0 where
   pub limits : after.limits ≡ board.limits
   pub others : (k : ℕ) → k ≢ m → kept_by k after ≡ kept_by k board
 
--- the row of a loop's end with a barrier, and of that of sections, but for their tests
-abbrev pub end_of_a_share : Row
-end_of_a_share = ending (λ seen. []) (arrival_row ShareEnd)
-
--- the events after a member has left its share, unless its call is repeated
-abbrev pub left_once : Bool → ℕ → List Event → List Event
-left_once repeated m h = unless_repeated (leaves m h) repeated ++ h
+-- what the parts promise of their reply to a call that is ready, over each such past
+pub record AnswersCall {S : Type 0} (stands : S → List Event → Type 0) (shares shares_after : S) (board board_after : BoardView) (row : Row) (repeated : Bool) (m : ℕ) (reply : Reply) : Type 0 where
+  pub leaves : LeavesBoard m board board_after
+  -- a wait that goes on changes nothing
+  pub waits : repeated ≡ true → reply ≡ Wait → (shares_after ≡ shares) × (board_after ≡ board)
+  -- there is no memory: of a call that asks for room, once, and nothing changes
+  pub lacks : reply ≡ Refused NoMemory → ArePartsKept shares board shares_after board_after × (repeated ≡ false) × (0 < row.room)
+  -- there is no other refusal
+  pub refuses : (refusal : Refusal) → reply ≡ Refused refusal → refusal ≡ NoMemory
+  -- the reply is one that the row has
+  pub answer : EachReady stands shares board row repeated m (λ p. MayGive row repeated m p reply)
+  -- and the parts then stand for the past after it
+  pub stands_for : EachReady stands shares board row repeated m (StandAfter stands shares_after board_after row repeated m reply)
+  -- a start that waits has its room
+  pub keeps : reply ≡ Wait → KeepsStart row m board_after

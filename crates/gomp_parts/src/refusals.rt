@@ -49,7 +49,8 @@ pub fn unless_refused(
 /// The shape of the share that the call starts, if it starts one, unless one of its own tests
 /// refuses it: those on the member's place among the shares, and the comparison with other members'
 /// calls. A call that is repeated (`repeated`) is only compared: its place was tested when it was
-/// made. What names and locks refuse is none of this.
+/// made. What names and locks refuse is none of this, nor what tasks
+/// and groups do ([`task_refusal`](crate::task_refusal)).
 pub fn admit_call<S: Shares>(
     shares: &mut S,
     barriers: &Barriers,
@@ -117,6 +118,11 @@ fn admit_place<S: Shares>(
         Call::OrderedStart(value) => none_started(part_refusal(&seen, *value)),
         Call::OrderedEnd => none_started(part_end_refusal(&seen)),
         Call::Barrier | Call::RegionEnd => none_started(barrier_refusal(&seen)),
+        Call::TaskCreate(_)
+        | Call::TaskEnd
+        | Call::Taskwait
+        | Call::GroupStart
+        | Call::GroupEnd => Ok(None),
         Call::Stop | Call::Resume => Ok(None),
         Call::CriticalStart(_)
         | Call::CriticalEnd(_)
@@ -222,6 +228,11 @@ fn compared_refusal<S: Shares>(
         | Call::SingleCopyEnd(_)
         | Call::OrderedStart(_)
         | Call::OrderedEnd
+        | Call::TaskCreate(_)
+        | Call::TaskEnd
+        | Call::Taskwait
+        | Call::GroupStart
+        | Call::GroupEnd
         | Call::Stop => None,
         Call::CriticalStart(_)
         | Call::CriticalEnd(_)

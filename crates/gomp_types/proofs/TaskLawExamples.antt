@@ -199,6 +199,10 @@ end_group_of_the_parent law = absurd (let last = law.1.1 in cc)
 pub end_group_twice : Forbids EndsItsGroup (Group 0 0 ∷ Group 0 0 ∷ GroupEnd 0 0 ∷ []) (GroupEnd 0 0)
 end_group_twice law = law.2 0 (inl refl)
 
+-- by whomever
+pub end_group_ended_by_another : Forbids EndsItsGroup (Group 0 0 ∷ Group 0 1 ∷ GroupEnd 0 1 ∷ []) (GroupEnd 0 0)
+end_group_ended_by_another law = law.2 1 (inl refl)
+
 -- the inner group, then the outer one
 pub end_group_inner : Allows EndsItsGroup (Group 0 0 ∷ Group 1 0 ∷ []) (GroupEnd 1 0)
 end_group_inner = (inl refl, (0 ∷ [], refl), search rules)

@@ -44,14 +44,14 @@ invariant_of-self-2 c =
     let next_barriers = c.bind.ensures.stands own (suc (tasks_created own)) m p desc st.barriers (create_binds b m p c.child_is_odd-odd.result own c.self.invariant.members low current parity st) in
     let longer = c.push_reserved.ensures.items ∙ ap (λ (es : List Event). es ++ Create t m p desc ∷ []) c.reserve_task.ensures.history in
     let more = c.put.ensures.ids ∙ ap (λ (ids : List ℕ). ids ++ t ∷ []) (ap (λ (v : ReadyView). v.ids) c.reserve_task.ensures.ready) in
-    let capacity = c.push_reserved.ensures.capacity in let len = c.len.ensures in let items = c.self.inside.history.ok.0 in let room = c.self.invariant.room in
+    let capacity = c.push_reserved.ensures.capacity in
     let space = at_ok c.reserve_task.result _ (sym c.is_err.ensures.value ∙ c.if-is_err.false) c.reserve_task.ensures.space in
     board_asked _ _ 3 b (Create t m p desc) c.self.invariant (create_owes (members_of b) m t p desc own (rule_of b own c.self.invariant.members st)) _ longer
     (created_stands b c.push_reserved.new.self.items (c.self.inside.room + 3) c.create-task.new.self c.create.new.self c.bind.new.self c.put.new.self.ids t m p desc own longer more number
     (subst (λ (q : Task). TasksStand c.create-task.new.self (Create t m q desc ∷ own)) (sym current) next)
     (subst (λ (n : ℕ). GroupsStand c.create.new.self (Create n m p desc ∷ own)) (sym number) next_groups)
     (subst (λ (n : ℕ). BarriersStand c.bind.new.self (Create n m p desc ∷ own)) (sym number) next_barriers) st)
-    (members_with b _ c.self.invariant.members refl (c.create-task.ensures.members ∙ same_tasks) (c.create.ensures.members ∙ same_groups) c.bind.ensures.members) refl refl refl (omega (arith, capacity, len, items, room, space))
+    (members_with b _ c.self.invariant.members refl (c.create-task.ensures.members ∙ same_tasks) (c.create.ensures.members ∙ same_groups) c.bind.ensures.members) refl refl refl (omega (arith, capacity, space))
 
 pub returns : goal.returns
 returns c =

@@ -21,11 +21,11 @@ invariant_of-self-2 c =
     let current = c.current-task.ensures.value own (subst (λ (v : BoardView). Stands v own) c.self.view_is st) in
     let next = c.open-group.ensures.stands own m groups (record { member = omega (arith, inside, same); current = sym current }) in
     let longer = c.push_reserved.ensures.items ∙ ap (λ (es : List Event). es ++ Group c.open-group.result m ∷ []) c.reserve_group.ensures.history in
-    let capacity = c.push_reserved.ensures.capacity in let len = c.len.ensures in let items = c.self.inside.history.ok.0 in let room = c.self.invariant.room in
+    let capacity = c.push_reserved.ensures.capacity in
     let space = at_ok c.reserve_group.result _ (sym c.is_err.ensures.value ∙ c.if-is_err.false) c.reserve_group.ensures.space in
     board_asked _ _ 2 b (Group c.open-group.result m) c.self.invariant (group_owes (members_of b) m c.open-group.result own (rule_of b own c.self.invariant.members st)) _ longer
     (opened_stands b c.push_reserved.new.self.items (c.self.inside.room + 2) c.open-group.new.self c.open-group.result m own c.self.invariant.members low longer (c.open-group.ensures.number own groups) next st)
-    (members_with b _ c.self.invariant.members refl refl (c.open-group.ensures.members ∙ same) refl) refl refl refl (omega (arith, capacity, len, items, room, space))
+    (members_with b _ c.self.invariant.members refl refl (c.open-group.ensures.members ∙ same) refl) refl refl refl (omega (arith, capacity, space))
 
 pub returns : goal.returns
 returns c =
