@@ -67,6 +67,11 @@ performed_without_its_event board h st does =
     let before = ap (λ (events : List Event). length events) st.history in
     omega (arith, now, before)
 
+-- and no others in their place
+pub performed_with_another_event : (board : BoardView) (h : List Event) → Stands (record board { history = [] }) h →
+    Leaves (BreakAt AtStop) (record board { history = [] }) (record board { history = Pass 0 0 ∷ [] }) Stopped
+performed_with_another_event board h st does = absurd (let now = (does.stands h st).history in cc)
+
 -- the limits stay
 pub performed_with_other_limits : (board : BoardView) → Leaves AwaitChildren board (record board { limits = record board.limits { tasks = board.limits.tasks + 1 } }) Passed
 performed_with_other_limits board does = let tasks = ap (λ (limits : Limits). limits.tasks) does.limits in omega (arith, tasks)

@@ -5,6 +5,7 @@ ghost use Rattle.std.specs.Prelude.{◌≡◌, ◌<◌, List};
 ghost use Rattle.gomp_types.specs.declared.event.Event.{Event};
 ghost use Rattle.gomp_types.specs.Least.{least};
 ghost use Rattle.gomp_types.specs.TaskCalls.{outside_tasks_tests, group_open_tests, create_tests, end_task_tests, end_group_tests, room_tests};
+ghost use Rattle.gomp_barrier.specs.Stands.{members_of as barrier_members};
 ghost use Rattle.gomp_board.specs.Boards.{Stands, members_of};
 
 use crate::board::Board;
@@ -16,6 +17,7 @@ impl Board {
     /// The team's barriers: who has arrived where.
     pub fn barriers(&self) -> &Barriers
         ensures value { result.now ≡ self.now.barriers }
+        ensures members { barrier_members result.now ≡ members_of self.now }
     {
         &self.barriers
     }

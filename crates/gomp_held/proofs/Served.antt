@@ -118,8 +118,8 @@ never_repeated row m p free ends =
     let over : false ≡ true = sym (ends q reply may) ∙ goes in absurd (cc)
 
 -- one that is done at once is not
-done_at_once : (reply : Reply) → reply ≡ Finished → goes_on reply ≡ false
-done_at_once reply e = ap goes_on e
+held_at_once : (reply : Reply) → reply ≡ Finished → goes_on reply ≡ false
+held_at_once reply e = ap goes_on e
 
 -- a reply tells nothing of the room
 in_room : {after : BookView} {p : Past} → BookStands after p → (room : ℕ) → BookStands after (record p { room = room })
@@ -238,7 +238,7 @@ served_by_start name repeated m task book reply known answer lacks =
     ]
 
 end_serves : (name : List ℕ) (repeated : Bool) (m : ℕ) (task : Task) (book : BookView) → Serves book (after_critical_end name Finished book) (critical_end_row name) repeated m task Finished
-end_serves name true m task book = λ p st asks is. never_repeated (critical_end_row name) m p is (λ q reply may. done_at_once reply may)
+end_serves name true m task book = λ p st asks is. never_repeated (critical_end_row name) m p is (λ q reply may. held_at_once reply may)
 end_serves name false m task book = λ p st asks is.
     let holds = owner_of_a_name_holds (asker m p.events) (holder (Critical name) p.events) (team_fails (critical_end_row name) m p is.free).1.0 in
     let free : holder (Critical name) (Free (Critical name) m (executed_task m p.events) ∷ p.events) ≡ None = rw (same_name name, freed_single (Critical name) (asker m p.events) p.events refl is.rule holds) refl in (
@@ -338,7 +338,7 @@ served_by_test number repeated m task book reply may =
     (settled_reply book (after_test (owner_of m task) number (Got free) book) (test_row number) repeated m task (Got free) refl (test_serves number repeated m task book free (subst (λ (r : Reply). TestsLock (lock_at Simple number book) r) e may)) (tested_names number (owner_of m task) book free))
 
 unset_serves : (number : ℕ) (repeated : Bool) (m : ℕ) (task : Task) (book : BookView) → Serves book (after_unset number Finished book) (unset_row number) repeated m task Finished
-unset_serves number true m task book = λ p st asks is. never_repeated (unset_row number) m p is (λ q reply may. done_at_once reply may)
+unset_serves number true m task book = λ p st asks is. never_repeated (unset_row number) m p is (λ q reply may. held_at_once reply may)
 unset_serves number false m task book = λ p st asks is.
     let at = is_there Simple number p (missing_fails (unset_row number) false m p is.free).0 in
     let executed = executed_task m p.events in

@@ -43,6 +43,10 @@ created_one_job = (asks 0 (TaskCreate one_job), Created 1) ∷ []
 abbrev run_in_wait : Run
 run_in_wait = (asks 0 (TaskCreate one_job), Created 1) ∷ (asks 0 Taskwait, RunTask 1 7 70 false) ∷ []
 
+-- another member ends the task
+abbrev run_ended_by_another : Run
+run_ended_by_another = (asks 0 (TaskCreate one_job), Created 1) ∷ (asks 0 Taskwait, RunTask 1 7 70 false) ∷ (asks 1 TaskEnd, TaskDone 1 true) ∷ []
+
 -- it ends the task, and goes on
 abbrev done_in_wait : Run
 done_in_wait =
@@ -96,6 +100,10 @@ runs_unstarted law = elim law.1 [ inl e ↦ absurd (cc) | inr never ↦ never ]
 pub runs_for_another : RefusesReplyAfter RunsAsAsked (Create 1 0 (Implicit 0) one_job ∷ Start 1 1 ∷ []) (asks 0 GroupStart) (RunTask 1 7 70 false)
 runs_for_another law = elim law.1 [ inl e ↦ absurd (cc) | inr (inl e) ↦ absurd (cc) | inr (inr never) ↦ never ]
 
+-- one that its creator has to execute at once is started no less
+pub runs_own_unstarted : RefusesReply RunsAsAsked created_one_job (asks 0 GroupStart) (RunTask 1 7 70 true)
+runs_own_unstarted law = elim law.1 [ inl e ↦ absurd (cc) | inr never ↦ never ]
+
 -- The task that was executed
 
 -- another one has ended
@@ -105,6 +113,10 @@ returns_from_another law = absurd (let own = law.0 in cc)
 -- the call is none that ends it
 pub returns_undone : RefusesReply ReturnsToItsWait run_in_wait (asks 0 GroupStart) (TaskDone 1 true)
 returns_undone law = elim law.1 [ inl e ↦ absurd (cc) | inr (inl e) ↦ absurd (cc) | inr (inr never) ↦ never ]
+
+-- though another member has ended it
+pub returns_for_another : RefusesReply ReturnsToItsWait run_ended_by_another (asks 0 GroupStart) (TaskDone 1 true)
+returns_for_another law = elim law.1 [ inl e ↦ absurd (cc) | inr (inl e) ↦ absurd (cc) | inr (inr (inl e)) ↦ absurd (cc) | inr (inr (inr never)) ↦ never ]
 
 -- its wait is not told of
 pub returns_without_telling : RefusesReply ReturnsToItsWait run_in_wait (asks 0 TaskEnd) (TaskDone 1 false)

@@ -1,1 +1,9 @@
 pub mod Refused
+pub mod ShareEvents
+pub mod BoardEvents
+pub mod OpAnswers
+pub mod CallOps
+pub mod Words
+pub mod ShareRows
+pub mod Reserved
+pub mod Answered

@@ -6,7 +6,7 @@ use Rattle.gomp_types.specs.declared.limits.Limits.{Limits}
 use Rattle.gomp_types.specs.declared.refusal.Refusal.{Refusal}
 use Rattle.gomp_types.specs.declared.refusal.Refusal.TheVariants.{NoMemory}
 use Rattle.gomp_types.specs.declared.reply.Reply.{Reply}
-use Rattle.gomp_types.specs.declared.reply.Reply.TheVariants.{Wait, Refused}
+use Rattle.gomp_types.specs.declared.reply.Reply.TheVariants.{Wait, Stopped, Refused}
 use Rattle.gomp_types.specs.declared.event.Event.{Event}
 use Rattle.gomp_types.specs.declared.event.Event.TheVariants.{Put}
 use Rattle.gomp_types.specs.Events.{open_share, has_left_region, clash_of}
@@ -95,8 +95,8 @@ pub record IsReady (row : Row) (repeated : Bool) (m : ℕ) (board : BoardView) (
   -- the member is in the region, and the team is not broken
   pub inside : has_left_region m p.events ≡ false
   pub whole : clash_of p.events ≡ None
-  -- it waits at a barrier if it repeats a call that arrived there, and only then
-  pub barrier : awaits_barrier m p.events ≡ (repeated && is_some row.arrives)
+  -- a member that does not stop the team waits at a barrier if it repeats a call that arrived there, and only then
+  pub barrier : ((q : Past) → row.may_reply m q Stopped → ⊥) → awaits_barrier m p.events ≡ (repeated && is_some row.arrives)
   -- a start that waits has its room
   pub kept : repeated ≡ true → KeepsStart row m board
 

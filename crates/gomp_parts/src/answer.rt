@@ -51,7 +51,7 @@ pub fn answer<S: Shares>(
         | Call::Taskwait
         | Call::GroupStart
         | Call::GroupEnd
-        | Call::Stop => task_reply(board, member, call),
+        | Call::Stop => task_reply(board, member, call, repeated),
         Call::SingleCopyStart => start_copy(shares, board, member, repeated),
         Call::LoopStart(_)
         | Call::LoopNext
@@ -103,12 +103,7 @@ fn serve_share<S: Shares>(
 }
 
 /// Answers the start of a `single` with words, once the room is kept that they need.
-fn start_copy<S: Shares>(
-    shares: &mut S,
-    board: &mut Board,
-    member: u16,
-    repeated: bool,
-) -> Reply
+fn start_copy<S: Shares>(shares: &mut S, board: &mut Board, member: u16, repeated: bool) -> Reply
     requires member { member < S.members shares.old }
     requires starts { MayOpenAs (S.seen shares.old member) (single_shape true) }
     requires team { members_of board.old ≡ S.members shares.old }

@@ -118,11 +118,8 @@ fn admit_place<S: Shares>(
         Call::OrderedStart(value) => none_started(part_refusal(&seen, *value)),
         Call::OrderedEnd => none_started(part_end_refusal(&seen)),
         Call::Barrier | Call::RegionEnd => none_started(barrier_refusal(&seen)),
-        Call::TaskCreate(_)
-        | Call::TaskEnd
-        | Call::Taskwait
-        | Call::GroupStart
-        | Call::GroupEnd => Ok(None),
+        Call::TaskCreate(_) | Call::TaskEnd | Call::Taskwait | Call::GroupStart | Call::GroupEnd =>
+            Ok(None),
         Call::Stop | Call::Resume => Ok(None),
         Call::CriticalStart(_)
         | Call::CriticalEnd(_)
@@ -228,12 +225,9 @@ fn compared_refusal<S: Shares>(
         | Call::SingleCopyEnd(_)
         | Call::OrderedStart(_)
         | Call::OrderedEnd
-        | Call::TaskCreate(_)
-        | Call::TaskEnd
-        | Call::Taskwait
-        | Call::GroupStart
-        | Call::GroupEnd
         | Call::Stop => None,
+        Call::TaskCreate(_) | Call::TaskEnd | Call::Taskwait | Call::GroupStart | Call::GroupEnd =>
+            None,
         Call::CriticalStart(_)
         | Call::CriticalEnd(_)
         | Call::LockInit

@@ -7,7 +7,7 @@ ghost use Rattle.gomp_model.specs.Starts.{end_room};
 ghost use Rattle.gomp_board.specs.declared.op.Op.TheVariants.{Reserve};
 ghost use Rattle.gomp_board.specs.Ops.{op_refusal};
 ghost use Rattle.gomp_board.specs.Boards.{Stands as BoardStands, IsSame, members_of, kept_by};
-ghost use Rattle.gomp_parts.specs.Serves.{asked_once, KeepsMore};
+ghost use Rattle.gomp_parts.specs.Serves.{asked_once, is_finished, KeepsMore};
 
 use gomp_board::{Board, Op};
 use gomp_types::{Call, EndKind, Reply};
@@ -71,5 +71,12 @@ pub(crate) fn keep_room(board: &mut Board, member: u16, more: u32) -> bool
     if more == 0 {
         return true;
     }
-    matches!(board.step(member, Op::Reserve(more)), Reply::Finished)
+    is_finished(&board.step(member, Op::Reserve(more)))
+}
+
+/// Whether the reply says that the call is done.
+fn is_finished(reply: &Reply) -> bool
+    ensures { result ≡ is_finished reply.now }
+{
+    matches!(reply, Reply::Finished)
 }

@@ -17,7 +17,7 @@ ghost use Rattle.gomp_model.specs.Calls.{row_of};
 ghost use Rattle.gomp_board.specs.declared.op.Op.TheVariants.{Put};
 ghost use Rattle.gomp_board.specs.Boards.{Stands as BoardStands, Performs, members_of};
 ghost use Rattle.gomp_parts.specs.Answers.{IsPlaced, StartsShare, PutsInside};
-ghost use Rattle.gomp_parts.specs.Serves.{of_shares, SharesServe, NotesWords};
+ghost use Rattle.gomp_parts.specs.Serves.{of_shares, SharesServe, GivesShareEvents, NotesWords};
 
 use gomp_board::{Board, Op};
 use gomp_shares::Shares;
@@ -40,8 +40,9 @@ pub(crate) fn share_reply<S: Shares>(
     requires place { IsPlaced (row_of call.now) (S.seen shares.old member) }
     requires known { (h : List Event) × S.stands shares.old h }
     ensures members { S.members shares.new ≡ S.members shares.old }
-    ensures serves { SharesServe S.stands (S.members shares.old) shares.old shares.new
-        (row_of call.now) member result }
+    ensures serves { SharesServe (S.stands shares.old) S.stands (S.members shares.old)
+        shares.old shares.new (row_of call.now) member result }
+    ensures events { GivesShareEvents (row_of call.now) member result }
 {
     match call {
         Call::LoopStart(_) => {

@@ -11,7 +11,7 @@ ghost use Rattle.gomp_model.specs.Arrivals.{region_end_row};
 ghost use Rattle.gomp_model.specs.Calls.{row_of};
 ghost use Rattle.gomp_board.specs.declared.op.Op.{Op as BoardOp};
 ghost use Rattle.gomp_board.specs.Boards.{Stands as BoardStands, Performs, members_of};
-ghost use Rattle.gomp_parts.specs.Serves.{board_op};
+ghost use Rattle.gomp_parts.specs.Serves.{board_op, group_op};
 
 use crate::room::room_asked;
 use gomp_board::{Board, Op};
@@ -81,7 +81,10 @@ fn region_end_refusal(board: &Board, member: u16) -> Option<Refusal>
     ensures least { (p : Past) → BoardStands board.now p.events →
         result ≡ least (region_end_row.by_task member p) }
 {
-    lesser(board.inside_task_refusal(member), board.group_open_refusal(member))
+    lesser(
+        board.inside_task_refusal(member),
+        board.group_open_refusal(member),
+    )
 }
 
 /// Of two refusals the one with the lesser number.
@@ -102,21 +105,21 @@ fn lesser(one: Option<Refusal>, other: Option<Refusal>) -> Option<Refusal>
 }
 
 /// Answers a call on tasks or groups, or the stop of the team, or goes on with one that waits.
-pub(crate) fn task_reply(board: &mut Board, member: u16, call: &Call) -> Reply
+pub(crate) fn task_reply(board: &mut Board, member: u16, call: &Call, repeated: bool) -> Reply
     requires member { member < members_of board.old }
-    requires served { is_some (board_op call.now) ≡ true }
-    ensures performs { (op : BoardOp) → board_op call.now ≡ Some op →
+    requires served { is_some (board_op repeated call.now) ≡ true }
+    ensures performs { (op : BoardOp) → board_op repeated call.now ≡ Some op →
         Performs op member board.old board.new result }
 {
-    match board_op(call) {
+    match board_op(repeated, call) {
         Some(op) => board.step(member, op),
         None => unreachable!(),
     }
 }
 
-/// How the board alone answers the call, if it does.
-fn board_op(call: &Call) -> Option<Op>
-    ensures { result ≡ board_op call.now }
+/// How the board alone answers the call, or one that waits (`repeated`), if it does.
+fn board_op(repeated: bool, call: &Call) -> Option<Op>
+    ensures { result ≡ board_op repeated call.now }
 {
     match call {
         Call::TaskCreate(TaskDesc { code, arg }) => Some(Op::Create(TaskDesc {
@@ -126,8 +129,19 @@ fn board_op(call: &Call) -> Option<Op>
         Call::TaskEnd => Some(Op::EndTask),
         Call::Taskwait => Some(Op::AwaitChildren),
         Call::GroupStart => Some(Op::OpenGroup),
-        Call::GroupEnd => Some(Op::EndGroup),
+        Call::GroupEnd => Some(group_op(repeated)),
         Call::Stop => Some(Op::Break(Place::Stopped)),
         _ => None,
+    }
+}
+
+/// The end of a group, or the wait for its tasks that goes on (`repeated`).
+fn group_op(repeated: bool) -> Op
+    ensures { result ≡ group_op repeated }
+{
+    if repeated {
+        Op::AwaitGroup
+    } else {
+        Op::EndGroup
     }
 }

@@ -153,6 +153,10 @@ pub barriers_of_tasks :
     × (map (λ t. epoch t (after (Pass 0 0 ∷ Create 1 1 (Implicit 1) one_job ∷ Create 2 0 (Implicit 0) one_job ∷ []))) (1 ∷ 2 ∷ []) ≡ 0 ∷ 1 ∷ [])
 barriers_of_tasks = (refl, refl, refl, refl, refl)
 
+-- whoever creates it there
+pub barrier_of_the_implicit_task : epoch 1 (after (Pass 0 0 ∷ Create 1 1 (Implicit 0) one_job ∷ [])) ≡ 1
+barrier_of_the_implicit_task = refl
+
 -- and so would a new child of each be
 pub barriers_of_new_tasks :
     map (λ p. epoch_of_child p (after across_barrier)) (Implicit 0 ∷ Implicit 1 ∷ Explicit 1 ∷ Explicit 2 ∷ []) ≡ 1 ∷ 0 ∷ 1 ∷ 1 ∷ []
@@ -178,6 +182,10 @@ pub groups_around_tasks :
     × (groups_around 5 (after (nested_groups ++ GroupEnd 2 0 ∷ Create 5 0 (Explicit 2) one_job ∷ [])) ≡ 1 ∷ 0 ∷ [])
     × (groups_around 3 (after (nested_groups ++ GroupEnd 2 0 ∷ [])) ≡ 2 ∷ 1 ∷ 0 ∷ [])
 groups_around_tasks = (refl, refl, refl)
+
+-- whoever creates it there
+pub groups_around_of_the_implicit_task : groups_around 1 (after (Group 0 0 ∷ Create 1 1 (Implicit 0) one_job ∷ [])) ≡ 0 ∷ []
+groups_around_of_the_implicit_task = refl
 
 -- which tasks are in a group
 pub tasks_of_groups :

@@ -283,6 +283,11 @@ pub bound_done_late : BoundIsDone (after (Create 1 0 (Implicit 0) one_job ∷ Pa
 bound_done_late law =
     elim (law (Done 1 0 ∷ []) (Create 1 0 (Implicit 0) one_job ∷ []) 0 0 refl 1 (0, Implicit 0, one_job, inr (inr (inl refl))) (omega arith)).1 [ inl e ↦ absurd (cc) | inr never ↦ never ]
 
+-- or to an earlier one
+pub bound_done_later_still : BoundIsDone (after (Create 1 0 (Implicit 0) one_job ∷ Pass 1 0 ∷ Done 1 0 ∷ [])) → ⊥
+bound_done_later_still law =
+    elim (law (Done 1 0 ∷ []) (Create 1 0 (Implicit 0) one_job ∷ []) 1 0 refl 1 (0, Implicit 0, one_job, inr (inr (inl refl))) (omega arith)).1 [ inl e ↦ absurd (cc) | inr never ↦ never ]
+
 -- or is created after that
 pub bound_created_late : BoundIsDone (after (Pass 0 0 ∷ Create 1 1 (Implicit 1) one_job ∷ Done 1 0 ∷ [])) → ⊥
 bound_created_late law = (law (Done 1 0 ∷ Create 1 1 (Implicit 1) one_job ∷ []) [] 0 0 refl 1 (1, Implicit 1, one_job, inr (inl refl)) (omega arith)).1

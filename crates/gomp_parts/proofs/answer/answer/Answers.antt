@@ -1,0 +1,113 @@
+use Rattle.std.proofs.Common.{◌≡◌, ◌<◌, ◌≤◌, ◌∙◌, ℕ, Option, Some, None, true, false, ap, refl, sym, subst, inl, inr}
+use Rattle.std.specs.Prelude.{not, is_some}
+use Rattle.gomp_types.specs.declared.call.Call.TheVariants.{LoopEnd, SectionsEnd}
+use Rattle.gomp_types.specs.declared.loop_desc.EndKind.TheVariants.{Wait as WaitEnd}
+use Rattle.gomp_types.specs.declared.event.Arrival.TheVariants.{Barrier, ShareEnd, RegionEnd}
+use Rattle.gomp_types.specs.Compare.{tag_with}
+use Rattle.gomp_types.specs.Events.{shares_entered}
+use Rattle.gomp_shares.specs.declared.admission.Construct.TheVariants.{Loop, Sections}
+use Rattle.gomp_shares.specs.Loops.{end_tests}
+use Rattle.gomp_shares.specs.Sections.{sections_end_tests}
+use Rattle.gomp_shares.proofs.Admitted.{end_lets_leave}
+use Rattle.gomp_model.specs.Past.{Past}
+use Rattle.gomp_model.specs.Arrivals.{barrier_row, region_end_row}
+use Rattle.gomp_model.specs.Singles.{single_copy_end_row}
+use Rattle.gomp_model.specs.Calls.{row_of}
+use Rattle.gomp_board.specs.Boards.{members_of}
+use Rattle.gomp_parts.specs.Serves.{arrival_op, board_op}
+use Rattle.gomp_parts.proofs.Refused.{opens_own}
+use Rattle.gomp_parts.proofs.OpAnswers.{op_answers}
+use Rattle.gomp_parts.proofs.CallOps.{made_once, barrier_is_op, region_end_is_op, arrival_goes_on, board_call_answers}
+use Rattle.gomp_parts.proofs.Answered.{end_answers, put_answers, loop_end_needs, sections_end_needs}
+use Rattle.gomp_parts.proofs.answer.answer.Goals as goal
+
+-- The ends of constructs with a barrier
+
+pub end_reply-requires-clause-place : goal.end_reply-requires-clause-place
+end_reply-requires-clause-place g c = λ first.
+    let (p, parts, ready) = c.requires.ready in
+    let own = rw c.in-LoopEnd.is at ready in
+    let e = g.met.S.Shares.agrees c.args.shares.now p.events c.args.member parts.shares_are c.requires.member in
+    end_lets_leave Loop WaitEnd (g.S.Shares.members c.args.shares.now) c.args.member _ p.events (g.met.S.Shares.ruled c.args.shares.now p.events parts.shares_are) e c.requires.member (rw e (own.place (ap not first)))
+
+pub returns-in-LoopEnd-clause-answers : goal.returns-in-LoopEnd-clause-answers
+returns-in-LoopEnd-clause-answers g c =
+    let ready = rw c.in-LoopEnd.is at c.requires.ready in
+    rw c.in-LoopEnd.is (end_answers g.S.Shares.stands c.args.shares.now c.end_reply.new.shares (g.met.S.Shares.aside c.end_reply.new.shares) (end_tests WaitEnd) c.args.repeated c.args.member c.args.board.now c.end_reply.new.board c.end_reply.result
+    (subst (λ (n : ℕ). c.args.member < n) (sym c.requires.team) c.requires.member) ready c.end_reply.ensures.left c.end_reply.ensures.kept c.end_reply.ensures.performs (loop_end_needs c.args.repeated c.args.member c.args.board.now))
+
+pub end_reply-requires-in-SectionsEnd-clause-place : goal.end_reply-requires-in-SectionsEnd-clause-place
+end_reply-requires-in-SectionsEnd-clause-place g c = λ first.
+    let (p, parts, ready) = c.requires.ready in
+    let own = rw c.in-SectionsEnd.is at ready in
+    let e = g.met.S.Shares.agrees c.args.shares.now p.events c.args.member parts.shares_are c.requires.member in
+    end_lets_leave Sections WaitEnd (g.S.Shares.members c.args.shares.now) c.args.member _ p.events (g.met.S.Shares.ruled c.args.shares.now p.events parts.shares_are) e c.requires.member (rw e (own.place (ap not first)))
+
+pub returns-in-SectionsEnd-clause-answers : goal.returns-in-SectionsEnd-clause-answers
+returns-in-SectionsEnd-clause-answers g c =
+    let ready = rw c.in-SectionsEnd.is at c.requires.ready in
+    rw c.in-SectionsEnd.is (end_answers g.S.Shares.stands c.args.shares.now c.end_reply-in-SectionsEnd.new.shares (g.met.S.Shares.aside c.end_reply-in-SectionsEnd.new.shares) (sections_end_tests WaitEnd) c.args.repeated c.args.member c.args.board.now c.end_reply-in-SectionsEnd.new.board c.end_reply-in-SectionsEnd.result
+    (subst (λ (n : ℕ). c.args.member < n) (sym c.requires.team) c.requires.member) ready c.end_reply-in-SectionsEnd.ensures.left c.end_reply-in-SectionsEnd.ensures.kept c.end_reply-in-SectionsEnd.ensures.performs (sections_end_needs c.args.repeated c.args.member c.args.board.now))
+
+-- Barriers
+
+pub returns-in-Barrier-clause-answers : goal.returns-in-Barrier-clause-answers
+returns-in-Barrier-clause-answers g c =
+    let ready = rw c.in-Barrier.is at c.requires.ready in
+    let repeated = c.args.repeated in let m = c.args.member in
+    rw c.in-Barrier.is (op_answers g.S.Shares.stands c.args.shares.now (g.met.S.Shares.aside c.args.shares.now) (λ h. arrival_op repeated (tag_with Barrier (shares_entered m h))) barrier_row repeated m c.args.board.now c.arrival_reply.new.board c.arrival_reply.result
+    (subst (λ (n : ℕ). m < n) (sym c.requires.team) c.requires.member) ready c.arrival_reply.ensures.performs (λ p parts ready_there. barrier_is_op g.S.Shares.stands c.args.shares.now repeated m c.args.board.now p parts ready_there) refl (arrival_goes_on Barrier m repeated))
+
+pub returns-in-RegionEnd-clause-answers : goal.returns-in-RegionEnd-clause-answers
+returns-in-RegionEnd-clause-answers g c =
+    let ready = rw c.in-RegionEnd.is at c.requires.ready in
+    let repeated = c.args.repeated in let m = c.args.member in
+    rw c.in-RegionEnd.is (op_answers g.S.Shares.stands c.args.shares.now (g.met.S.Shares.aside c.args.shares.now) (λ h. arrival_op repeated (tag_with RegionEnd (shares_entered m h))) region_end_row repeated m c.args.board.now c.arrival_reply-in-RegionEnd.new.board c.arrival_reply-in-RegionEnd.result
+    (subst (λ (n : ℕ). m < n) (sym c.requires.team) c.requires.member) ready c.arrival_reply-in-RegionEnd.ensures.performs (λ p parts ready_there. region_end_is_op g.S.Shares.stands c.args.shares.now repeated m c.args.board.now p parts ready_there) refl (arrival_goes_on RegionEnd m repeated))
+
+-- Words
+
+pub put_words-requires-clause-place : goal.put_words-requires-clause-place
+put_words-requires-clause-place g c =
+    let (p, parts, ready) = c.requires.ready in
+    let own = rw c.in-SingleCopyEnd.is at ready in
+    let once = made_once (single_copy_end_row c.in-SingleCopyEnd.words) c.args.repeated c.args.member c.args.board.now p (λ q given may. rw may refl) own in
+    rw (g.met.S.Shares.agrees c.args.shares.now p.events c.args.member parts.shares_are c.requires.member) (own.place (ap not once))
+
+pub returns-in-SingleCopyEnd-clause-answers : goal.returns-in-SingleCopyEnd-clause-answers
+returns-in-SingleCopyEnd-clause-answers g c =
+    let ready = rw c.in-SingleCopyEnd.is at c.requires.ready in
+    rw c.in-SingleCopyEnd.is (put_answers g.S.Shares.stands c.args.shares.now c.put_words.new.shares (g.met.S.Shares.aside c.args.shares.now) c.in-SingleCopyEnd.words c.args.repeated c.args.member c.args.board.now c.put_words.new.board c.put_words.result
+    (subst (λ (n : ℕ). c.args.member < n) (sym c.requires.team) c.requires.member) ready c.put_words.ensures.puts c.put_words.ensures.left)
+
+pub start_copy-requires-clause-starts : goal.start_copy-requires-clause-starts
+start_copy-requires-clause-starts g c = opens_own c.args.starts.now _ _ (rw c.in-SingleCopyStart.is at c.requires.starts.0) c.requires.starts.1
+
+pub start_copy-requires-clause-ready : goal.start_copy-requires-clause-ready
+start_copy-requires-clause-ready g c = rw c.in-SingleCopyStart.is at c.requires.ready
+
+pub returns-in-SingleCopyStart-clause-answers : goal.returns-in-SingleCopyStart-clause-answers
+returns-in-SingleCopyStart-clause-answers g c = rw c.in-SingleCopyStart.is c.start_copy.ensures.answers
+
+-- Tasks and groups
+
+pub returns-in-TaskCreate-clause-answers : goal.returns-in-TaskCreate-clause-answers
+returns-in-TaskCreate-clause-answers g c =
+    let served : is_some (board_op c.args.repeated c.args.call.now) ≡ true = elim c.in-TaskCreate.is [
+      | inl is ↦ rw is.1 refl
+      | inr other ↦ elim other [
+        | inl is ↦ rw is refl
+        | inr other ↦ elim other [
+          | inl is ↦ rw is refl
+          | inr other ↦ elim other [
+            | inl is ↦ rw is refl
+            | inr other ↦ elim other [
+              | inl is ↦ rw is refl
+              | inr is ↦ rw is refl
+            ]
+          ]
+        ]
+      ]
+    ] in
+    board_call_answers g.S.Shares.stands c.args.shares.now (g.met.S.Shares.aside c.args.shares.now) c.args.call.now c.args.repeated c.args.member c.args.board.now c.task_reply.new.board c.task_reply.result
+    (subst (λ (n : ℕ). c.args.member < n) (sym c.requires.team) c.requires.member) c.requires.ready served c.task_reply.ensures.performs
