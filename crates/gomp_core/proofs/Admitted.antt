@@ -20,13 +20,11 @@ use Rattle.gomp_types.proofs.LeastTests.{AllFail, fail_first, fail_later, none_h
 use Rattle.gomp_types.proofs.Booleans.{same_number}
 use Rattle.gomp_types.proofs.TaskDepths.{few_suspended}
 use Rattle.gomp_model.specs.Past.{Terms, Waits, Past}
-use Rattle.gomp_model.specs.Row as rows
-use Rattle.gomp_model.specs.Row.{Row, place_tests, board_tests, book_tests, MayGoOn}
+use Rattle.gomp_model.specs.Row.{place_tests, board_tests, book_tests, row_tests}
 use Rattle.gomp_model.specs.Calls.{row_of}
 use Rattle.gomp_model.specs.Team.{Record, call_meant, is_resume, row_at, broken_tests, refusal_of, MayAnswer, waits_after, past_of, Caused}
 use Rattle.gomp_types.specs.Laws.{Always}
 use Rattle.gomp_locks.specs.HoldRules.{HoldRule}
-use Rattle.gomp_laws.proofs.Sound as sound
 use Rattle.gomp_laws.proofs.Sound.{shows}
 use Rattle.gomp_laws.proofs.TeamShares.{hold_rules, task_rules}
 use Rattle.gomp_laws.proofs.Waiting.{Pending, Covers}
@@ -50,13 +48,6 @@ place_is_shown : (stays repeated : Bool) → in_place stays repeated ≡ true �
 place_is_shown true repeated e = refl
 place_is_shown false repeated e = e
 
--- a call that goes on by what is known of it is one that may go on
-goes_on_so : (reply : Reply) → sound.goes_on reply ≡ true → rows.goes_on reply ≡ true
-goes_on_so reply goes = goes
-
-may_go_on : (row : Row) (m : ℕ) → sound.MayGoOn row m → MayGoOn row m
-may_go_on row m (q, reply, goes, may) = (q, reply, goes_on_so reply goes, may)
-
 -- what happened keeps the rule of names and locks
 pub rule_of_holds : (terms : Terms) (run : Record) → Caused terms run → Always HoldRule (past_of terms run).events
 rule_of_holds terms run caused = hold_rules (past_of terms run).terms.members (past_of terms run).events (known_of terms run caused).rule
@@ -76,7 +67,7 @@ pub unrefused_whole : (p : Past) (step : Step) → refusal_of p step ≡ None �
 unrefused_whole p step none = whole_tests p (unrefused_step_passes p step none).member.1.1
 
 -- the start that is repeated has its room, if each that waits has
-repeated_kept : (m : ℕ) (board : BoardView) (p : Past) (call : Call) (waiting : Option Call) → AllFail (rows.row_tests (is_resume call) (row_of (call_meant call waiting)) m p) → ((other : Call) → waiting ≡ Some other → KeepsStart (row_of other) m board) → is_resume call ≡ true →
+repeated_kept : (m : ℕ) (board : BoardView) (p : Past) (call : Call) (waiting : Option Call) → AllFail (row_tests (is_resume call) (row_of (call_meant call waiting)) m p) → ((other : Call) → waiting ≡ Some other → KeepsStart (row_of other) m board) → is_resume call ≡ true →
     KeepsStart (row_of (call_meant call waiting)) m board
 repeated_kept m board p Resume None fail kept repeated = absurd (let shut = fail.0 in cc)
 repeated_kept m board p Resume (Some call) fail kept repeated = kept call refl
@@ -100,7 +91,7 @@ step_admitted terms run step board caused none kept =
         place = λ e. none_holds (row.by_place p.terms.limits (seen_of m p.events)) (ready.place (place_is_shown row.stays repeated e));
         compared = none_holds (row.compared repeated m p) ready.compared;
         tasks = none_holds (board_tests repeated row m p) (fail_first (board_tests repeated row m p) (book_tests repeated row m p) later);
-        waits = λ again. may_go_on row m (ready.lasting again).2;
+        waits = λ again. (ready.lasting again).2;
         inside = unrefused_inside p step none;
         whole = whole;
         barrier = λ goes. awaits_if_repeated p step none known whole (waits_there terms run caused m) (goes p);
@@ -109,7 +100,7 @@ step_admitted terms run step board caused none kept =
       record {
         free = none_holds (book_tests repeated row m p) (fail_later (board_tests repeated row m p) (book_tests repeated row m p) later);
         lasting = λ again. (ready.lasting again).1;
-        waits = λ again. may_go_on row m (ready.lasting again).2;
+        waits = λ again. (ready.lasting again).2;
         rule = rule_of_holds terms run caused;
       },
     )

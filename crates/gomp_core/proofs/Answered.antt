@@ -195,3 +195,21 @@ pub answer_takes : {S : Type 0} (stands : S → List Event → Type 0) (team : T
 answer_takes stands team shares board book before step reply answers lacks =
     let takes = answers.memory lacks in
     takes_itself step.call ((past team before).waits step.member).open_call takes.0 takes.1
+
+-- A call that is repeated waits, so the book knows its name
+
+pub waiting_known : {S : Type 0} (stands : S → List Event → Type 0) (members : S → ℕ) (team : TeamView S) (before : Record) (step : Step) → Stands stands members team before → refusal_of (past team before) step ≡ None → is_resume step.call ≡ true →
+    IsKnown team.book (Some (meant_at team before step))
+waiting_known stands members team before step st none repeated =
+    let p = past team before in
+    meant_known step.member p step.call (p.waits step.member).open_call (unrefused_step_passes p step none).row (st.names_known step.member) repeated
+  where
+    meant_known : (m : ℕ) (p : Past) (call : Call) (waiting : Option Call) → AllFail (row_tests (is_resume call) (row_of (call_meant call waiting)) m p) → IsKnown team.book waiting → is_resume call ≡ true → IsKnown team.book (Some (call_meant call waiting))
+    meant_known m p Resume None fail known repeated = absurd (let shut = fail.0 in cc)
+    meant_known m p Resume (Some call) fail known repeated = known
+    meant_known m p _ waiting fail known repeated = absurd (cc)
+
+-- the call of a step, by what the team keeps of its member
+pub call_kept : {S : Type 0} (stands : S → List Event → Type 0) (members : S → ℕ) (team : TeamView S) (before : Record) (step : Step) (waits : Waits) → Stands stands members team before → slice_get team.waits step.member ≡ Some waits →
+    call_meant step.call waits.open_call ≡ meant_at team before step
+call_kept stands members team before step waits st at = ap (λ (w : Waits). call_meant step.call w.open_call) (sym (st.wait step.member waits at))

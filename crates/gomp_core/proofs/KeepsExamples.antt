@@ -67,6 +67,14 @@ broken_at_share = record one_waits { board = record plain_board { clash = Some (
 abbrev more_kept : TeamView ℕ
 more_kept = record one_waits { board = record plain_board { kept = 0 ∷ 2 ∷ [] } }
 
+-- the call of the first member that waits
+abbrev first_waiting : TeamView ℕ → Option Call
+first_waiting team = first_of_all team.waits
+  where
+    first_of_all : List Waits → Option Call
+    first_of_all [] = None
+    first_of_all (calls ∷ rest) = calls.open_call
+
 -- a step may close a wait
 pub keeps_what_is_left : Keeps one_waits none_waits Resume Passed
 keeps_what_is_left = record {
@@ -105,7 +113,7 @@ keeps_other_limits keeps = absurd (let shares = ap (λ (limits : Limits). limits
 
 -- a refused one closes no wait
 pub keeps_no_wait : Keeps one_waits none_waits LoopNext (Refused InsideShare) → ⊥
-keeps_no_wait keeps = absurd (let same = keeps.refused InsideShare refl (λ is. absurd (cc)) (λ is. absurd (cc)) in cc)
+keeps_no_wait keeps = absurd (let waiting = ap first_waiting (keeps.refused InsideShare refl (λ is. absurd (cc)) (λ is. absurd (cc))) in cc)
 
 -- and does not break the team, if it is no mismatch
 pub keeps_no_break : Keeps one_waits broken_at_share LoopNext (Refused InsideShare) → ⊥
@@ -118,7 +126,7 @@ pub keeps_no_room :
 keeps_no_room = (
   λ keeps. absurd (let room = (keeps.lacks refl).1.room in omega (arith, room)),
   λ keeps. absurd (let kept = (keeps.lacks refl).1.kept in cc),
-  λ keeps. absurd (let waits = ap (λ (team : TeamView ℕ). team.waits) (keeps.lacks refl).0 in cc),
+  λ keeps. absurd (let waiting = ap first_waiting (keeps.lacks refl).0 in cc),
   λ keeps. absurd (let shares = ap (λ (team : TeamView ℕ). team.shares) (keeps.lacks refl).0 in omega arith),
 )
 
@@ -127,7 +135,7 @@ pub keeps_less_at_a_break :
     (Keeps one_waits (record broken_at_share { waits = no_waits ∷ no_waits ∷ [] }) LoopNext (Refused Mismatch) → ⊥) × (Keeps one_waits (record broken_at_share { shares = 8 }) LoopNext (Refused Mismatch) → ⊥)
     × (Keeps one_waits more_room LoopNext (Refused Mismatch) → ⊥) × (Keeps one_waits more_kept LoopNext (Refused Mismatch) → ⊥)
 keeps_less_at_a_break = (
-  λ keeps. absurd (let waits = ap (λ (team : TeamView ℕ). team.waits) (keeps.broken refl).0 in cc),
+  λ keeps. absurd (let waiting = ap first_waiting (keeps.broken refl).0 in cc),
   λ keeps. absurd (let shares = ap (λ (team : TeamView ℕ). team.shares) (keeps.broken refl).0 in omega arith),
   λ keeps. absurd (let room = (keeps.broken refl).1.2.room in omega (arith, room)),
   λ keeps. absurd (let kept = (keeps.broken refl).1.2.kept in cc),
@@ -136,7 +144,7 @@ keeps_less_at_a_break = (
 -- nor does a resume that waits on, neither a wait nor the shares nor the board
 pub keeps_less_at_a_wait : (Keeps one_waits none_waits Resume Wait → ⊥) × (Keeps one_waits other_shares Resume Wait → ⊥) × (Keeps one_waits more_room Resume Wait → ⊥)
 keeps_less_at_a_wait = (
-  λ keeps. absurd (let waits = ap (λ (team : TeamView ℕ). team.waits) (keeps.waits refl refl) in cc),
+  λ keeps. absurd (let waiting = ap first_waiting (keeps.waits refl refl) in cc),
   λ keeps. absurd (let shares = ap (λ (team : TeamView ℕ). team.shares) (keeps.waits refl refl) in omega arith),
   λ keeps. absurd (let room = ap (λ (team : TeamView ℕ). team.board.room) (keeps.waits refl refl) in omega (arith, room)),
 )

@@ -1,6 +1,7 @@
 pub mod Admitted
 pub mod AllAnswer
 pub mod Answered
+pub mod Begun
 pub mod BookKept
 pub mod Breaks
 pub mod Laws

@@ -79,6 +79,15 @@ other_stands stands members team other before same st = subst (λ (t : TeamView 
 pub step_found : {S : Type 0} (team other : TeamView S) (before : Record) (step : Step) (found one : Option Refusal) → team ≡ other → found ≡ refusal_of (past other before) step → found ≡ one → refusal_of (past team before) step ≡ one
 step_found team other before step found one same is told = subst (λ (t : TeamView _). refusal_of (past t before) step ≡ one) (sym same) (sym is ∙ told)
 
+-- what no test refuses of one team is not refused of the other
+pub unrefused_here : {S : Type 0} (stands : S → List Event → Type 0) (members : S → ℕ) (team other : TeamView S) (before : Record) (step : Step) → team ≡ other → Stands stands members team before →
+    ((run : Record) → Stands stands members other run → refusal_of (past other run) step ≡ None) → refusal_of (past team before) step ≡ None
+unrefused_here stands members team other before step same st none = subst (λ (t : TeamView _). refusal_of (past t before) step ≡ None) (sym same) (none before (other_stands stands members team other before same st))
+
+pub differing_here : {S : Type 0} (stands : S → List Event → Type 0) (members : S → ℕ) (team other : TeamView S) (before : Record) (step : Step) → team ≡ other → Stands stands members team before →
+    ((run : Record) → Stands stands members other run → refusal_of (past other run) step ≡ Some Mismatch) → refusal_of (past team before) step ≡ Some Mismatch
+differing_here stands members team other before step same st is = subst (λ (t : TeamView _). refusal_of (past t before) step ≡ Some Mismatch) (sym same) (is before (other_stands stands members team other before same st))
+
 -- a step that is not refused, or only where it is compared, is one of a member
 pub member_free : {S : Type 0} (team : TeamView S) (before : Record) (step : Step) → refusal_of (past team before) step ≡ None → step.member < members_of team
 member_free team before step none = subst (λ (n : ℕ). step.member < n) (same_members (terms_of team) before) (step_below (past team before) step (λ bad. let both = sym none ∙ bad in cc))

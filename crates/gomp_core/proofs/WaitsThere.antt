@@ -15,11 +15,11 @@ use Rattle.gomp_types.proofs.Booleans.{is_equal, same_number}
 use Rattle.gomp_types.proofs.LeastTests.{AllFail, fail_first}
 use Rattle.gomp_locks.proofs.NamesKeep.{no_task_outside}
 use Rattle.gomp_model.specs.Past.{Terms, Waits, Past}
-use Rattle.gomp_model.specs.Row.{Row, unless_repeated, begun_past, row_tests, events_after}
+use Rattle.gomp_model.specs.Row.{Row, unless_repeated, begun_past, row_tests, events_after, goes_on}
 use Rattle.gomp_model.specs.Calls.{row_of}
 use Rattle.gomp_model.specs.Team.{Record, call_meant, is_resume, row_at, wait_tests, refusal_of, MayAnswer, open_first, waits_after, past_after, past_of, Caused}
 use Rattle.gomp_board.specs.Ops.{awaits_barrier}
-use Rattle.gomp_laws.proofs.Sound.{goes_on, Ready, outside_of_tasks, IsSound}
+use Rattle.gomp_laws.proofs.Sound.{Ready, outside_of_tasks, IsSound}
 use Rattle.gomp_laws.proofs.Calls.{row_is_sound}
 use Rattle.gomp_laws.proofs.Places.{barriers_other, barriers_own}
 use Rattle.gomp_laws.proofs.Waiting.{has_arrived, some_arrived, covers_none, none_arrived}

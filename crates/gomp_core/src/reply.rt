@@ -11,7 +11,7 @@ ghost use Rattle.gomp_core.specs.Replies.{SomeAdmitted, AnswersAll};
 use gomp_board::Board;
 use gomp_held::held_reply;
 use gomp_locks::LockBook;
-use gomp_parts::answer;
+use gomp_parts::answer::answer;
 use gomp_shares::Shares;
 use gomp_types::{Call, Reply, Shape};
 

@@ -1,0 +1,22 @@
+use Rattle.std.proofs.Common.{◌∙◌, sym, subst}
+use Rattle.gomp_locks.specs.Book.{BookView}
+use Rattle.gomp_model.specs.Team.{past_of}
+use Rattle.gomp_core.specs.Stands.{Begins, terms_by}
+use Rattle.gomp_core.proofs.Begun.{begun_stands}
+use Rattle.gomp_core.proofs.team.Team.make.Goals as goal
+
+pub returns-clause-stands : goal.returns-clause-stands
+returns-clause-stands g c = λ before begins.
+    begun_stands g.S.Shares.stands g.S.Shares.members c.args.count c.args.limits c.args.icv _ _ _ _ before c.requires.size c.requires.capped begins
+    (record {
+      members_are = c.in_ok-new.ensures.members;
+      limits_are = c.in_ok-new.ensures.limits ∙ c.requires.capped;
+      room = c.in_ok-new.ensures.room;
+      board_is = c.in_ok-new.ensures.stands;
+      shares_are = c.in_ok-make.ensures.stands;
+      size = c.in_ok-make.ensures.members;
+    })
+    c.in_ok-none_wait.ensures
+
+pub invariant_of-result-2 : goal.invariant_of-result-2
+invariant_of-result-2 g c = let (before, begins) = c.requires.known in (before, returns-clause-stands g c before begins)
