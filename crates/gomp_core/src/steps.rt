@@ -5,7 +5,7 @@ ghost use Rattle.gomp_types.specs.declared.refusal.Refusal.{Refusal};
 ghost use Rattle.gomp_types.specs.declared.refusal.Refusal.TheVariants.{BadTeam, NoMemory};
 ghost use Rattle.gomp_model.specs.Team.{events, Caused};
 ghost use Rattle.gomp_laws.specs.Headline.{Headline};
-ghost use Rattle.gomp_laws.specs.Replies.{HoldReplies};
+ghost use Rattle.gomp_laws.specs.Replies.{HoldReplies, TaskReplies};
 ghost use Rattle.gomp_core.specs.Stands.{Stands, terms_of, standard_terms, OnlyTakersLack};
 ghost use Rattle.gomp_types.specs.Limits.{IsTeamSize};
 ghost use Rattle.gomp_core.specs.Resolved.{record_of};
@@ -56,6 +56,8 @@ pub fn run<S: Shares + Drop>(
         (events (standard_terms count icv) (record_of icv steps.items ran.1.items))) }
     ensures replies { IfOk result (λ ran.
         HoldReplies (standard_terms count icv) (record_of icv steps.items ran.1.items)) }
+    ensures tasks { IfOk result (λ ran.
+        TaskReplies (standard_terms count icv) (record_of icv steps.items ran.1.items)) }
 {
     let mut team = Team::new(alloc, count, icv)?;
     match Vec::with_capacity(alloc, steps.len()) {
