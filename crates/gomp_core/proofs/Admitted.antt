@@ -33,7 +33,7 @@ use Rattle.gomp_board.specs.Boards.{BoardView}
 use Rattle.gomp_parts.specs.Answers.{in_place, IsReady, KeepsStart}
 use Rattle.gomp_core.specs.Replies.{IsAdmitted}
 use Rattle.gomp_core.proofs.Refused.{bad_member}
-use Rattle.gomp_core.proofs.WaitsThere.{waits_there, awaits_if_repeated}
+use Rattle.gomp_core.proofs.WaitsThere.{arrived_waits_there, awaits_if_repeated}
 
 -- a team's terms, with limits that are not above the standard ones
 pub same_members : (terms : Terms) (run : Record) → (past_of terms run).terms.members ≡ terms.members
@@ -94,7 +94,7 @@ step_admitted terms run step board caused none kept =
         waits = λ again. (ready.lasting again).2;
         inside = unrefused_inside p step none;
         whole = whole;
-        barrier = λ goes. awaits_if_repeated p step none known whole (waits_there terms run caused m) (goes p);
+        barrier = λ goes. awaits_if_repeated p step none known whole (arrived_waits_there terms run caused m) (goes p);
         kept = λ again. repeated_kept m board p step.call (p.waits m).open_call passes kept again;
       },
       record {

@@ -29,8 +29,8 @@ pub record NewParts {S : Type 0} (stands : S → List Event → Type 0) (members
   pub shares_are : stands shares []
   pub size : members shares ≡ count
 
-none_left : (k : ℕ) (board : BoardView) (h : List Event) → h ≡ [] → room_left (open_share k h) ≤ kept_by k board
-none_left k board h quiet = rw quiet (omega arith)
+quiet_keeps_none : (k : ℕ) (board : BoardView) (h : List Event) → h ≡ [] → room_left (open_share k h) ≤ kept_by k board
+quiet_keeps_none k board h quiet = rw quiet (omega arith)
 
 pub begun_stands : {S : Type 0} (stands : S → List Event → Type 0) (members : S → ℕ) (count : ℕ) (limits : Limits) (icv : Variables) (board : BoardView) (waits : List Waits) (book : BookView) (shares : S) (before : Record) →
     IsTeamSize count → capped_limits limits ≡ limits → Begins (terms_by count limits icv) book before → NewParts stands members count limits board shares → waits ≡ replicate count no_waits →
@@ -49,7 +49,7 @@ begun_stands {S} stands members count limits icv board waits book shares before 
         members = same_members terms before ∙ sym new.members_are;
         limits = same_limits terms before small ∙ sym new.limits_are;
         room = begins.room ∙ sym new.room;
-        kept = λ k. none_left k board p.events begins.quiet;
+        kept = λ k. quiet_keeps_none k board p.events begins.quiet;
         puts = subst (Always PutsInside) (sym begins.quiet) tt;
       };
       book_are = begins.book_are;

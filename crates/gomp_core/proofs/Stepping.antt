@@ -37,7 +37,7 @@ use Rattle.gomp_laws.proofs.Waiting.{AreBeneath}
 use Rattle.gomp_parts.specs.Answers.{room_left, PutsInside, PartsStand, KeepsStart, LeavesBoard}
 use Rattle.gomp_held.specs.Stands.{BookStands, IsKnown}
 use Rattle.gomp_core.specs.Replies.{AllStand, NamesStay, AnswersAll}
-use Rattle.gomp_core.specs.Stands.{TeamView, Stands, TakesMemory, past, terms_of, members_of}
+use Rattle.gomp_core.specs.Stands.{TeamView, Stands, Keeps, TakesMemory, past, terms_of, members_of}
 use Rattle.gomp_core.proofs.Admitted.{same_members, step_below}
 use Rattle.gomp_core.proofs.BookKept.{book_moved, events_so, locks_so, room_so, terms_so}
 
@@ -160,6 +160,18 @@ stands_refused stands members team before step refusal st may other =
       limits_are = st.limits_are;
       shares_size = st.shares_size;
     }
+
+-- and leaves the team as it was
+pub refused_keeps : {S : Type 0} (team after : TeamView S) (call : Call) (refusal : Refusal) → after ≡ team → refusal ≢ Mismatch → Refused refusal ≢ Refused NoMemory → Keeps team after call (Refused refusal)
+refused_keeps team after call refusal same differs fits = record {
+  members = ap (λ (t : TeamView _). members_of t) same;
+  icv = ap (λ (t : TeamView _). t.icv) same;
+  limits = ap (λ (t : TeamView _). t.board.limits) same;
+  refused = λ other is differ lacks. same;
+  lacks = λ is. absurd (fits is);
+  broken = λ is. absurd (differs (let one : refusal ≡ Mismatch = cc in one));
+  waits = λ is resume. absurd (cc);
+}
 
 -- a refusal with a greater number than that of a broken team tells that it is not broken, and the member in the region
 after_broken : (bad left : Bool) (clash : Option Clash) (rest : Option Refusal) → lesser (least ((bad, BadMember) ∷ (left, Ended) ∷ broken_tests clash)) rest ≡ Some Mismatch → (left ≡ false) × (clash ≡ None)

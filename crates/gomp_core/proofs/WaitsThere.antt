@@ -11,7 +11,7 @@ use Rattle.gomp_types.specs.declared.refusal.Refusal.TheVariants.{Mismatch}
 use Rattle.gomp_types.specs.declared.event.Event.{Event}
 use Rattle.gomp_types.specs.Events.{at_barrier, clash_of}
 use Rattle.gomp_types.specs.Tasks.{task_stack, in_task}
-use Rattle.gomp_types.proofs.Booleans.{is_equal, same_number}
+use Rattle.gomp_types.proofs.Booleans.{is_equal, same_number, or_right}
 use Rattle.gomp_types.proofs.LeastTests.{AllFail, fail_first}
 use Rattle.gomp_locks.proofs.NamesKeep.{no_task_outside}
 use Rattle.gomp_model.specs.Past.{Terms, Waits, Past}
@@ -33,10 +33,6 @@ arrived_of waits = has_arrived waits.open_call || some_arrived waits.beneath
 abbrev pub IsThere : ℕ → Waits → List Event → Type 0
 IsThere k waits h = arrived_of waits ≡ true → at_barrier k h ≡ true
 
-or_right : (a b : Bool) → b ≡ true → (a || b) ≡ true
-or_right true b e = refl
-or_right false b e = e
-
 or_none : (a b : Bool) → (a || b) ≡ true → a ≡ false → b ≡ true
 or_none true b e none = absurd (cc)
 or_none false b e none = e
@@ -44,13 +40,13 @@ or_none false b e none = e
 -- An arrival
 
 -- a call that arrives does so first
-arrives_first : (call : Call) (m : ℕ) (p : Past) → is_some (row_of call).arrives ≡ true → at_barrier m ((row_of call).begins m p ++ p.events) ≡ true
-arrives_first LoopEnd m p arrives = rw (same_number m) refl
-arrives_first SectionsEnd m p arrives = rw (same_number m) refl
-arrives_first Barrier m p arrives = rw (same_number m) refl
-arrives_first RegionEnd m p arrives = rw (same_number m) refl
-arrives_first Stop m p arrives = absurd (cc)
-arrives_first _ m p arrives = absurd (cc)
+arrival_comes_first : (call : Call) (m : ℕ) (p : Past) → is_some (row_of call).arrives ≡ true → at_barrier m ((row_of call).begins m p ++ p.events) ≡ true
+arrival_comes_first LoopEnd m p arrives = rw (same_number m) refl
+arrival_comes_first SectionsEnd m p arrives = rw (same_number m) refl
+arrival_comes_first Barrier m p arrives = rw (same_number m) refl
+arrival_comes_first RegionEnd m p arrives = rw (same_number m) refl
+arrival_comes_first Stop m p arrives = absurd (cc)
+arrival_comes_first _ m p arrives = absurd (cc)
 
 once_again_none : (events : List Event) → unless_repeated events true ≡ []
 once_again_none [] = refl
@@ -62,7 +58,7 @@ once_first_all (event ∷ events) = refl
 
 begun_there : (call : Call) (repeated : Bool) (m : ℕ) (p : Past) → is_some (row_of call).arrives ≡ true → (repeated ≡ true → at_barrier m p.events ≡ true) → at_barrier m (begun_past repeated (row_of call) m p).events ≡ true
 begun_there call true m p arrives there = rw (once_again_none ((row_of call).begins m p)) (there refl)
-begun_there call false m p arrives there = rw (once_first_all ((row_of call).begins m p)) (arrives_first call m p arrives)
+begun_there call false m p arrives there = rw (once_first_all ((row_of call).begins m p)) (arrival_comes_first call m p arrives)
 
 -- and stays there while it waits
 waits_quietly : (call : Call) (m : ℕ) (p : Past) → is_some (row_of call).arrives ≡ true → (row_of call).gives m p Wait ≡ []
@@ -158,9 +154,9 @@ step_there p step reply k may known there = elim (cases_Bool (step.member == k))
 ]
 
 -- whatever was asked, a member one of whose calls has arrived waits at a barrier
-pub waits_there : (terms : Terms) (run : Record) → Caused terms run → (k : ℕ) → IsThere k ((past_of terms run).waits k) (past_of terms run).events
-waits_there terms [] caused k = λ arrived. absurd (cc)
-waits_there terms (pair ∷ earlier) caused k = step_there (past_of terms earlier) pair.0 pair.1 k caused.0 (known_of terms earlier caused.1) (waits_there terms earlier caused.1)
+pub arrived_waits_there : (terms : Terms) (run : Record) → Caused terms run → (k : ℕ) → IsThere k ((past_of terms run).waits k) (past_of terms run).events
+arrived_waits_there terms [] caused k = λ arrived. absurd (cc)
+arrived_waits_there terms (pair ∷ earlier) caused k = step_there (past_of terms earlier) pair.0 pair.1 k caused.0 (known_of terms earlier caused.1) (arrived_waits_there terms earlier caused.1)
 
 -- A call that no test refuses
 

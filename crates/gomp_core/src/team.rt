@@ -221,10 +221,13 @@ impl<S: Shares> Team<S> {
         ensures stands { (before : Record) → Stands S.stands S.members self.old before →
             Stands S.stands S.members self.new ((step_by member call, result) ∷ before) }
     {
+        let _ = &self.icv; // opens the invariant
         match self.admit(member, &call) {
             Ok(starts) => self.answer_call(member, call, &starts),
-            Err(Refusal::Mismatch) => self.break_team(member, &call),
-            Err(refusal) => Reply::Refused(refusal),
+            Err(refusal) => match refusal {
+                Refusal::Mismatch => self.break_team(member, &call),
+                refusal => Reply::Refused(refusal),
+            },
         }
     }
 

@@ -20,6 +20,7 @@ ghost use Rattle.gomp_parts.specs.Answers.{BothStand, StartsShare, Admits};
 ghost use Rattle.gomp_types.specs.declared.refusal.Place.TheVariants.{Share};
 
 use gomp_barrier::Barriers;
+use gomp_sections::admission::{admit_single, copy_end_refusal};
 use gomp_shares::admission::{end_refusal, next_refusal};
 use gomp_shares::{Construct, Shares};
 use gomp_types::{Arrival, Call, EndKind, Limits, Place, Refusal, Seen, Shape, Tag};
@@ -100,12 +101,8 @@ fn admit_place<S: Shares>(
         Call::SectionsStart { count, end_kind } => {
             share_started(gomp_sections::admission::admit_start(&seen, limits, *count, *end_kind))
         }
-        Call::SingleStart => share_started(gomp_sections::admission::admit_single(
-            &seen, limits, false,
-        )),
-        Call::SingleCopyStart => {
-            share_started(gomp_sections::admission::admit_single(&seen, limits, true))
-        }
+        Call::SingleStart => share_started(admit_single(&seen, limits, false)),
+        Call::SingleCopyStart => share_started(admit_single(&seen, limits, true)),
         Call::LoopNext => none_started(next_refusal(&seen, Construct::Loop)),
         Call::LoopEnd => none_started(end_refusal(&seen, Construct::Loop, EndKind::Wait)),
         Call::LoopEndNowait => none_started(end_refusal(&seen, Construct::Loop, EndKind::Nowait)),
@@ -114,7 +111,7 @@ fn admit_place<S: Shares>(
         Call::SectionsEndNowait => {
             none_started(end_refusal(&seen, Construct::Sections, EndKind::Nowait))
         }
-        Call::SingleCopyEnd(_) => none_started(gomp_sections::admission::copy_end_refusal(&seen)),
+        Call::SingleCopyEnd(_) => none_started(copy_end_refusal(&seen)),
         Call::OrderedStart(value) => none_started(part_refusal(&seen, *value)),
         Call::OrderedEnd => none_started(part_end_refusal(&seen)),
         Call::Barrier | Call::RegionEnd => none_started(barrier_refusal(&seen)),

@@ -7,7 +7,7 @@ use Rattle.gomp_model.specs.Team.{Record, call_meant, row_at, refusal_of, MayAns
 use Rattle.gomp_parts.specs.Answers.{StartsShare}
 use Rattle.gomp_core.specs.Stands.{TeamView, Stands, Keeps, past}
 use Rattle.gomp_core.proofs.Stepping.{same_stands, other_stands, unrefused_here, member_free, board_size}
-use Rattle.gomp_core.proofs.Answered.{AnswersStep, team_admits, answered_cause, answered_room, stands_answered, answer_keeps, answer_takes, waiting_known, call_kept}
+use Rattle.gomp_core.proofs.Answered.{team_after, AnswersStep, team_admits, answered_cause, answered_room, stands_answered, answer_keeps, answer_takes, waiting_known, call_kept}
 use Rattle.gomp_core.proofs.team.Team.answer_call.Given.{Over}
 use Rattle.gomp_core.proofs.team.Team.answer_call.Goals as goal
 
@@ -81,10 +81,10 @@ index_mut-requires g c =
 
 -- The reply
 
-team_of : (g : Over) (c : goal.After-note g) → TeamView g.row.S.Denot
+abbrev team_of : (g : Over) (c : goal.After-self-1 g) → TeamView g.row.S.Denot
 team_of g c = record { icv = c.self.inside.icv; board = c.self.inside.board; waits = c.self.inside.waits.items; book = c.self.inside.book; shares = c.self.inside.shares }
 
-step_of : (g : Over) (c : goal.After-note g) → Step
+abbrev step_of : (g : Over) (c : goal.After-self-1 g) → Step
 step_of g c = record { member = c.args.member; call = c.args.call }
 
 pub note-requires : goal.note-requires
@@ -102,13 +102,13 @@ note-requires g c =
     record { room = answered_room g.S.Shares.stands g.S.Shares.members team before step _ c.team_reply-reply.result st at_mut cause }
 
 -- what is known of it after a record
-record Replied (g : Over) (c : goal.After-note g) (before : Record) : Type 0 where
+record Replied (g : Over) (c : goal.After-self-1 g) (before : Record) : Type 0 where
   st : Stands g.S.Shares.stands g.S.Shares.members (team_of g c) before
   none : refusal_of (past (team_of g c) before) (step_of g c) ≡ None
   at : slice_get c.self.inside.waits.items c.args.member ≡ Some c.index_mut.result.now
   answers : AnswersStep g.S.Shares.stands (team_of g c) c.team_reply-reply.new.shares c.team_reply-reply.new.board c.team_reply-reply.new.book before (step_of g c) c.team_reply-reply.result
 
-replied_so : (g : Over) (c : goal.After-note g) (before : Record) → Stands g.S.Shares.stands g.S.Shares.members (team_of g c) before → Replied g c before
+replied_so : (g : Over) (c : goal.After-self-1 g) (before : Record) → Stands g.S.Shares.stands g.S.Shares.members (team_of g c) before → Replied g c before
 replied_so g c before st =
     let team = team_of g c in
     let step = step_of g c in
@@ -119,7 +119,7 @@ replied_so g c before st =
     let is = c.call_meant.ensures ∙ ap (call_meant c.args.call) c.open_call-waiting.ensures ∙ call_kept g.S.Shares.stands g.S.Shares.members team before step _ st at in
     record { st = st; none = none; at = at_mut; answers = rw (is, c.is_resume.ensures) at c.team_reply-reply.ensures.answers }
 
-replied_of : (g : Over) (c : goal.After-note g) (before : Record) → Stands g.S.Shares.stands g.S.Shares.members c.args.self.now before → Replied g c before
+replied_of : (g : Over) (c : goal.After-self-1 g) (before : Record) → Stands g.S.Shares.stands g.S.Shares.members c.args.self.now before → Replied g c before
 replied_of g c before st0 = replied_so g c before (same_stands g.S.Shares.stands g.S.Shares.members (team_of g c) c.args.self.now before c.self.view_is st0)
 
 pub returns-clause-stands : goal.returns-clause-stands
@@ -143,7 +143,7 @@ returns-clause-keeps g c =
     let (before, st) = c.self.invariant in
     let k = replied_so g c before st in
     let keeps = answer_keeps g.S.Shares.stands g.S.Shares.members (team_of g c) c.team_reply-reply.new.shares c.team_reply-reply.new.board c.team_reply-reply.new.book before (step_of g c) c.index_mut.result.now c.team_reply-reply.result k.st k.at k.none k.answers in
-    rw c.note.ensures (subst (λ (t : TeamView g.row.S.Denot). Keeps t _ c.args.call c.team_reply-reply.result) c.self.view_is keeps)
+    rw c.note.ensures (subst (λ (t : TeamView g.row.S.Denot). Keeps t (team_after (team_of g c) c.team_reply-reply.new.shares c.team_reply-reply.new.board c.team_reply-reply.new.book (step_of g c) c.index_mut.result.now c.team_reply-reply.result) c.args.call c.team_reply-reply.result) c.self.view_is keeps)
 
 pub returns-clause-memory : goal.returns-clause-memory
 returns-clause-memory g c =
