@@ -1,9 +1,9 @@
 -- A member one of whose calls has arrived at a barrier waits there, and no other member does.
-use Rattle.std.proofs.Common.{◌≡◌, ℕ, Bool, true, false, List, [], ◌∷◌, ◌++◌, Option, Some, None, refl, ap, sym, ◌∙◌, subst, inl, inr}
-use Rattle.std.specs.Prelude.{if◌then◌else◌, ◌==◌, ◌&&◌, ◌||◌, not, is_some}
+use Rattle.std.proofs.Common.{◌≡◌, ℕ, Bool, true, false, List, [], ◌∷◌, ◌++◌, Option, Some, None, refl, sym, ◌∙◌, subst, inl, inr}
+use Rattle.std.specs.Prelude.{◌==◌, ◌&&◌, ◌||◌, not, is_some}
 use Rattle.std.proofs.lemmas.Bool.{cases_Bool}
 use Rattle.gomp_types.specs.declared.call.Call.{Call}
-use Rattle.gomp_types.specs.declared.call.Call.TheVariants.{LoopEnd, SectionsEnd, Barrier, RegionEnd, Resume, Stop}
+use Rattle.gomp_types.specs.declared.call.Call.TheVariants.{Resume, Stop}
 use Rattle.gomp_types.specs.declared.call.Step.{Step}
 use Rattle.gomp_types.specs.declared.reply.Reply.{Reply}
 use Rattle.gomp_types.specs.declared.reply.Reply.TheVariants.{Passed, Wait, Run, TaskDone, Stopped, Refused}
@@ -11,8 +11,8 @@ use Rattle.gomp_types.specs.declared.refusal.Refusal.TheVariants.{Mismatch}
 use Rattle.gomp_types.specs.declared.event.Event.{Event}
 use Rattle.gomp_types.specs.Events.{at_barrier, clash_of}
 use Rattle.gomp_types.specs.Tasks.{task_stack, in_task}
-use Rattle.gomp_types.proofs.Booleans.{is_equal, same_number, or_right}
-use Rattle.gomp_types.proofs.LeastTests.{AllFail, fail_first}
+use Rattle.gomp_types.proofs.Booleans.{is_equal, or_right}
+use Rattle.gomp_types.proofs.LeastTests.{AllFail}
 use Rattle.gomp_locks.proofs.NamesKeep.{no_task_outside}
 use Rattle.gomp_model.specs.Past.{Terms, Waits, Past}
 use Rattle.gomp_model.specs.Row.{Row, unless_repeated, begun_past, row_tests, events_after, goes_on}
@@ -39,15 +39,6 @@ or_none false b e none = e
 
 -- An arrival
 
--- a call that arrives does so first
-arrival_comes_first : (call : Call) (m : ℕ) (p : Past) → is_some (row_of call).arrives ≡ true → at_barrier m ((row_of call).begins m p ++ p.events) ≡ true
-arrival_comes_first LoopEnd m p arrives = rw (same_number m) refl
-arrival_comes_first SectionsEnd m p arrives = rw (same_number m) refl
-arrival_comes_first Barrier m p arrives = rw (same_number m) refl
-arrival_comes_first RegionEnd m p arrives = rw (same_number m) refl
-arrival_comes_first Stop m p arrives = absurd (cc)
-arrival_comes_first _ m p arrives = absurd (cc)
-
 once_again_none : (events : List Event) → unless_repeated events true ≡ []
 once_again_none [] = refl
 once_again_none (event ∷ events) = refl
@@ -56,23 +47,15 @@ once_first_all : (events : List Event) → unless_repeated events false ≡ even
 once_first_all [] = refl
 once_first_all (event ∷ events) = refl
 
+-- a call that arrives waits there once it has begun
 begun_there : (call : Call) (repeated : Bool) (m : ℕ) (p : Past) → is_some (row_of call).arrives ≡ true → (repeated ≡ true → at_barrier m p.events ≡ true) → at_barrier m (begun_past repeated (row_of call) m p).events ≡ true
 begun_there call true m p arrives there = rw (once_again_none ((row_of call).begins m p)) (there refl)
-begun_there call false m p arrives there = rw (once_first_all ((row_of call).begins m p)) (arrival_comes_first call m p arrives)
+begun_there call false m p arrives there = rw (once_first_all ((row_of call).begins m p)) ((row_is_sound call).arrives_there arrives m p)
 
--- and stays there while it waits
-waits_quietly : (call : Call) (m : ℕ) (p : Past) → is_some (row_of call).arrives ≡ true → (row_of call).gives m p Wait ≡ []
-waits_quietly LoopEnd m p arrives = refl
-waits_quietly SectionsEnd m p arrives = refl
-waits_quietly Barrier m p arrives = refl
-waits_quietly RegionEnd m p arrives = refl
-waits_quietly Stop m p arrives = absurd (cc)
-waits_quietly _ m p arrives = absurd (cc)
-
--- or a task is executed there
+-- and stays there while it waits, or while a task is executed there
 stays_there : (call : Call) (repeated : Bool) (m : ℕ) (p : Past) (reply : Reply) → is_some (row_of call).arrives ≡ true → goes_on reply ≡ true → (row_of call).may_reply m (begun_past repeated (row_of call) m p) reply →
     at_barrier m (begun_past repeated (row_of call) m p).events ≡ true → at_barrier m (events_after repeated (row_of call) m p reply) ≡ true
-stays_there call repeated m p Wait arrives goes may there = rw (waits_quietly call m (begun_past repeated (row_of call) m p) arrives) there
+stays_there call repeated m p Wait arrives goes may there = rw ((row_is_sound call).waits_quietly arrives m (begun_past repeated (row_of call) m p)) there
 stays_there call repeated m p (Run task code arg own) arrives goes may there =
     let q = begun_past repeated (row_of call) m p in
     let runs = (row_is_sound call).runs m q task code arg own may in

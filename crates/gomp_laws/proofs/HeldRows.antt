@@ -228,6 +228,8 @@ held_row_sound key row is = record {
   outside = λ arrives m p fail. absurd (cc);
   tells = λ arrives m p reply may. absurd (cc);
   one_pass = λ arrives m p. absurd (cc);
+  arrives_there = λ arrives m p. absurd (cc);
+  waits_quietly = λ arrives m p. absurd (cc);
   lasts = λ repeated m p ready all may. (
     λ asks. absurd (cc),
     λ other same. subst (λ (k : Key). held_by (asker m p.events) (holder k p.events) ≡ false) (same_some key other same) (is.apart repeated m p ready may),

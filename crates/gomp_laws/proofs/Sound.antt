@@ -225,6 +225,10 @@ pub record IsSound (row : Row) : Type 0 where
   -- a call that arrives passes the barrier, waits, or runs a task
   pub tells : is_some row.arrives ≡ true → (m : ℕ) (p : Past) (reply : Reply) → row.may_reply m p reply → (reply ≡ Passed) ⊎ (goes_on reply ≡ true)
   pub one_pass : is_some row.arrives ≡ true → (m : ℕ) (p : Past) → row.gives m p Passed ≡ Pass (barriers_passed m p.events) m ∷ []
+  -- a call that arrives waits at its barrier once it has begun
+  pub arrives_there : is_some row.arrives ≡ true → (m : ℕ) (p : Past) → at_barrier m (row.begins m p ++ p.events) ≡ true
+  -- and gives nothing while it waits
+  pub waits_quietly : is_some row.arrives ≡ true → (m : ℕ) (p : Past) → row.gives m p Wait ≡ []
   -- what holds on while it waits
   pub lasts : (repeated : Bool) (m : ℕ) (p : Past) → Ready row repeated m p → Always (TeamRule p.terms.members) p.events → row.may_reply m (begun_past repeated row m p) Wait → Lasts row m p.events
   -- it waits for a name or a lock only if somebody holds that
