@@ -11,7 +11,7 @@ use Rattle.gomp_icv.specs.Variables.{Variables}
 use Rattle.gomp_held.specs.Stands.{lock_held, BookStands}
 use Rattle.gomp_core.specs.Stands.{TeamView, terms_of}
 use Rattle.gomp_core.specs.LocksMade.{kinds_of}
-use Rattle.gomp_core.proofs.Stepping.{terms_are}
+use Rattle.gomp_core.proofs.Lists.{terms_are}
 use Rattle.gomp_live.specs.Talk.{Made, locks_so_far}
 use Rattle.gomp_live.specs.Stands.{TeamStands, TeamIs, book_of}
 

@@ -14,7 +14,7 @@ use Rattle.gomp_model.specs.Team.{Record, MayAnswer, past_of}
 use Rattle.gomp_icv.specs.Variables.{Variables}
 use Rattle.gomp_core.specs.Stands.{TeamView, Stands, Keeps, TakesMemory, past}
 use Rattle.gomp_core.specs.Resolved.{resolved_step}
-use Rattle.gomp_core.proofs.Stepping.{terms_are}
+use Rattle.gomp_core.proofs.Lists.{terms_are}
 use Rattle.gomp_script.specs.declared.live.LiveLine.{LiveLine}
 use Rattle.gomp_script.specs.declared.live.LiveLine.TheVariants.{NewTeam, NextStep}
 use Rattle.gomp_script.specs.declared.parse.Why.{Why}
