@@ -28,10 +28,14 @@ use std::alloc::Global;
 /// handed on; the words that a member copies are those that the executor of the single put; all
 /// members go through the same constructs in the same order; no member passes a barrier before all
 /// arrived, and have left the constructs before it; a critical name and a lock have at most one owner
-/// at a time, which alone releases it; and no member passes a barrier while it holds a critical name.
+/// at a time, which alone releases it; no member passes a barrier while it holds a critical name; no
+/// task is started twice, or before it is created, or by a member that may not start it; and each wait
+/// ends only after its tasks: those of the region so far at a barrier, all at its end, the children at
+/// a taskwait, those of a group and their descendants at the group's end.
 ///
 /// A member waits for a name or a lock only while another owner holds it, and a count that is
-/// answered is the number of open holds of the lock (`HoldReplies`).
+/// answered is the number of open holds of the lock (`HoldReplies`). A task is run with the code and
+/// the argument with which it was created, and its end tells who goes back to a wait (`TaskReplies`).
 ///
 /// Refused with `BadTeam` (E38) if the size is not 1 to 64, and with `NoMemory` (E37) if the
 /// memory of the team or of the replies is refused; then the steps are dropped and nothing is kept.

@@ -50,7 +50,7 @@ pub record Row : Type 1 where
   pub creates : Option TaskDesc
   -- whether it puts words for the other members
   pub puts : Bool
-  -- whether the book of names and locks answers it, and not the shares and the barriers
+  -- whether the book of names and locks answers it, and not the shares and the board
   pub asks_book : Bool
   -- which critical name or lock it holds or frees, if one
   pub holds : Option Key
