@@ -1,6 +1,6 @@
 -- What an operation does to a board: for each clause of its contract a board that it does not leave.
-use Rattle.std.proofs.Common.{◌≡◌, ℕ, ◌+◌, ◌≤◌, true, false, List, [], ◌∷◌, Some, None, length, reverse, refl, ap, arith}
-use Rattle.std.specs.Prelude.{Option, map}
+use Rattle.std.proofs.Common.{◌≡◌, ℕ, ◌+◌, true, false, List, [], ◌∷◌, Some, None, length, refl, ap, arith}
+use Rattle.std.specs.Prelude.{map}
 use Rattle.gomp_types.specs.declared.limits.Limits.{Limits}
 use Rattle.gomp_types.specs.declared.refusal.Clash.{Clash}
 use Rattle.gomp_types.specs.declared.refusal.Place.TheVariants.{Stopped as AtStop}
@@ -9,7 +9,7 @@ use Rattle.gomp_types.specs.declared.reply.Reply.{Reply}
 use Rattle.gomp_types.specs.declared.reply.Reply.TheVariants.{Finished, Passed, Wait, Stopped, Refused}
 use Rattle.gomp_types.specs.declared.event.Arrival.TheVariants.{Barrier}
 use Rattle.gomp_types.specs.declared.event.Event.{Event}
-use Rattle.gomp_types.specs.declared.event.Event.TheVariants.{Pass, Break}
+use Rattle.gomp_types.specs.declared.event.Event.TheVariants.{Pass}
 use Rattle.gomp_types.specs.EventLists.{at}
 use Rattle.gomp_board.specs.declared.op.Op.{Op}
 use Rattle.gomp_board.specs.declared.op.Op.TheVariants.{Create as CreateTask, EndTask, AwaitChildren, OpenGroup, EndGroup, Arrive as ArriveAt, AwaitBarrier, Reserve, Put as PutWords, Got as GiveWords, Break as BreakAt}

@@ -9,7 +9,6 @@ use Rattle.gomp_types.specs.declared.event.Event.{Event}
 use Rattle.gomp_types.specs.declared.limits.Limits.{Limits}
 use Rattle.gomp_types.specs.declared.limits.TheConstants.{MAX_TASK_DEPTH}
 use Rattle.gomp_types.specs.declared.refusal.Refusal.TheVariants.{BadMember}
-use Rattle.gomp_types.specs.declared.reply.Reply.{Reply}
 use Rattle.gomp_types.specs.declared.reply.Reply.TheVariants.{Run}
 use Rattle.gomp_types.specs.Limits.{capped_limits}
 use Rattle.gomp_types.specs.Least.{least}
@@ -22,7 +21,7 @@ use Rattle.gomp_types.proofs.TaskDepths.{few_suspended}
 use Rattle.gomp_model.specs.Past.{Terms, Waits, Past}
 use Rattle.gomp_model.specs.Row.{place_tests, board_tests, book_tests, row_tests}
 use Rattle.gomp_model.specs.Calls.{row_of}
-use Rattle.gomp_model.specs.Team.{Record, call_meant, is_resume, row_at, broken_tests, refusal_of, MayAnswer, waits_after, past_of, Caused}
+use Rattle.gomp_model.specs.Team.{Record, call_meant, is_resume, row_at, broken_tests, refusal_of, waits_after, past_of, Caused}
 use Rattle.gomp_types.specs.Laws.{Always}
 use Rattle.gomp_locks.specs.HoldRules.{HoldRule}
 use Rattle.gomp_laws.proofs.Sound.{shows}
@@ -30,7 +29,7 @@ use Rattle.gomp_laws.proofs.TeamShares.{hold_rules, task_rules}
 use Rattle.gomp_laws.proofs.Waiting.{Pending, Covers}
 use Rattle.gomp_laws.proofs.Known.{known_of, same_terms, unrefused_step_passes, unrefused_step_is_ready}
 use Rattle.gomp_board.specs.Boards.{BoardView}
-use Rattle.gomp_parts.specs.Answers.{in_place, IsReady, KeepsStart}
+use Rattle.gomp_parts.specs.Answers.{in_place, KeepsStart}
 use Rattle.gomp_core.specs.Replies.{IsAdmitted}
 use Rattle.gomp_core.proofs.Refused.{bad_member}
 use Rattle.gomp_core.proofs.WaitsThere.{arrived_waits_there, awaits_if_repeated}

@@ -1,5 +1,5 @@
 -- A call of the book, and a call of the parts, is answered by both together as by one of them.
-use Rattle.std.proofs.Common.{◌≡◌, ℕ, Bool, true, false, List, Some, None, refl, sym, inl, inr}
+use Rattle.std.proofs.Common.{◌≡◌, ℕ, Bool, true, false, List, refl, sym, inl, inr}
 use Rattle.std.proofs.lemmas.Bool.{cases_Bool}
 use Rattle.gomp_types.specs.declared.call.Call.{Call}
 use Rattle.gomp_types.specs.declared.refusal.Refusal.TheVariants.{NoMemory}
@@ -9,7 +9,6 @@ use Rattle.gomp_types.specs.declared.task.Task.{Task}
 use Rattle.gomp_types.specs.declared.event.Event.{Event}
 use Rattle.gomp_types.specs.Tasks.{executed_task}
 use Rattle.gomp_locks.specs.Book.{BookView}
-use Rattle.gomp_model.specs.Past.{Past}
 use Rattle.gomp_model.specs.Calls.{row_of}
 use Rattle.gomp_board.specs.Boards.{BoardView, Stands as BoardStands, IsSame}
 use Rattle.gomp_parts.specs.Answers.{AnswersCall}

@@ -1,5 +1,5 @@
 -- After an answer the team stands for the record with the step and its reply.
-use Rattle.std.proofs.Common.{◌≡◌, ℕ, ◌<◌, Bool, true, false, List, [], ◌∷◌, ◌++◌, Option, Some, None, length, slice_get, slice_set, refl, ap, ◌∙◌, sym, subst, suc, zero, inl, inr}
+use Rattle.std.proofs.Common.{◌≡◌, ℕ, ◌<◌, true, false, List, [], ◌∷◌, Option, Some, None, length, slice_get, slice_set, refl, ap, ◌∙◌, sym, subst, suc, zero, inl, inr}
 use Rattle.std.specs.Prelude.{◌==◌, ◌≢◌, if◌then◌else◌}
 use Rattle.std.proofs.lemmas.Bool.{cases_Bool}
 use Rattle.std.proofs.lemmas.List.{length-set}
@@ -12,26 +12,26 @@ use Rattle.gomp_types.specs.declared.refusal.Refusal.TheVariants.{Mismatch, NoMe
 use Rattle.gomp_types.specs.declared.reply.Reply.{Reply}
 use Rattle.gomp_types.specs.declared.reply.Reply.TheVariants.{Wait, Run, Refused}
 use Rattle.gomp_types.specs.declared.event.Event.{Event}
-use Rattle.gomp_types.specs.Limits.{capped_limits, IsTeamSize}
+use Rattle.gomp_types.specs.Limits.{IsTeamSize}
 use Rattle.gomp_types.proofs.Lists.{slice_get-set}
 use Rattle.gomp_types.proofs.LeastTests.{AllFail}
 use Rattle.gomp_types.proofs.Booleans.{is_equal}
 use Rattle.gomp_locks.specs.Book.{BookView}
 use Rattle.gomp_locks.specs.Holders.{holder}
-use Rattle.gomp_model.specs.Past.{Terms, Waits, Past}
-use Rattle.gomp_model.specs.Row.{Row, row_tests, MayGive, past_given}
+use Rattle.gomp_model.specs.Past.{Waits, Past}
+use Rattle.gomp_model.specs.Row.{row_tests, MayGive, past_given}
 use Rattle.gomp_model.specs.Calls.{row_of}
-use Rattle.gomp_model.specs.Team.{Record, call_meant, is_resume, row_at, refusal_of, MayAnswer, waits_after, past_of}
+use Rattle.gomp_model.specs.Team.{Record, call_meant, is_resume, refusal_of, MayAnswer, waits_after}
 use Rattle.gomp_board.specs.Boards.{BoardView, IsSame, kept_by}
 use Rattle.gomp_laws.proofs.Known.{unrefused_step_passes, known_of}
 use Rattle.gomp_laws.proofs.Waiting.{AreBeneath}
 use Rattle.gomp_parts.specs.Answers.{KeepsStart}
 use Rattle.gomp_held.specs.Stands.{IsKnown}
-use Rattle.gomp_core.specs.Replies.{AllStand, IsAdmitted, NamesStay, AnswersAll}
+use Rattle.gomp_core.specs.Replies.{IsAdmitted, NamesStay, AnswersAll}
 use Rattle.gomp_core.specs.Stands.{TeamView, Stands, TakesMemory, Keeps, past, terms_of, members_of}
 use Rattle.gomp_core.proofs.Admitted.{step_admitted, few_beneath}
 use Rattle.gomp_core.proofs.BookKept.{book_moved, events_so, locks_so, room_so, terms_so}
-use Rattle.gomp_core.proofs.Stepping.{at_own, at_other, unequal_kept, parts_moved, StandsBy, stands_by, kept_alike, keeps_alike, may_answer, takes_itself, still_known, own_known, own_kept}
+use Rattle.gomp_core.proofs.Stepping.{at_own, at_other, unequal_kept, parts_moved, stands_by, kept_alike, keeps_alike, may_answer, takes_itself, still_known, own_known, own_kept}
 
 -- the team with what an answer to this step leaves
 abbrev pub team_after : {S : Type 0} → TeamView S → S → BoardView → BookView → Step → Waits → Reply → TeamView S

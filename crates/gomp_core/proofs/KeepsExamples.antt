@@ -1,17 +1,15 @@
 -- What a step leaves of a team as it was: for each line of that what it alone refuses.
-use Rattle.std.proofs.Common.{◌≡◌, ℕ, true, false, List, [], ◌∷◌, Option, Some, None, refl, arith, ap}
+use Rattle.std.proofs.Common.{ℕ, true, false, List, [], ◌∷◌, Option, Some, None, refl, arith, ap}
 use Rattle.std.specs.Prelude.{replicate}
 use Rattle.gomp_types.specs.declared.call.Call.{Call}
-use Rattle.gomp_types.specs.declared.call.Call.TheVariants.{LoopNext, Barrier, Taskwait, TaskCreate, Resume}
+use Rattle.gomp_types.specs.declared.call.Call.TheVariants.{LoopNext, Barrier, TaskCreate, Resume}
 use Rattle.gomp_types.specs.declared.limits.TheConstants.{OPEN_SHARES}
-use Rattle.gomp_types.specs.declared.refusal.Clash.{Clash}
 use Rattle.gomp_types.specs.declared.refusal.Place.TheVariants.{Share}
 use Rattle.gomp_types.specs.declared.refusal.Refusal.TheVariants.{Mismatch, NoMemory, InsideShare}
 use Rattle.gomp_types.specs.declared.reply.Reply.TheVariants.{Passed, Wait, Refused}
 use Rattle.gomp_types.specs.Limits.{standard}
 use Rattle.gomp_types.specs.declared.limits.Limits.{Limits}
 use Rattle.gomp_icv.specs.Variables.{Variables, initial}
-use Rattle.gomp_locks.specs.Book.{BookView}
 use Rattle.gomp_model.specs.Past.{Waits, no_waits}
 use Rattle.gomp_board.specs.Boards.{BoardView}
 use Rattle.gomp_core.specs.Stands.{TeamView, Keeps}

@@ -1,9 +1,7 @@
 -- A step leaves the team standing for the record with this step and its reply.
-use Rattle.std.proofs.Common.{◌≡◌, ℕ, ◌<◌, Bool, true, false, List, [], ◌∷◌, ◌++◌, Option, Some, None, length, slice_get, slice_set, replicate, refl, ap, ◌∙◌, sym, subst, arith, suc, zero, inl, inr}
+use Rattle.std.proofs.Common.{◌≡◌, ℕ, ◌<◌, Bool, true, false, List, [], ◌∷◌, ◌++◌, Option, Some, None, length, slice_get, replicate, refl, ap, ◌∙◌, sym, subst, arith, suc, zero}
 use Rattle.std.specs.Prelude.{◌≤◌, ◌==◌, ◌≢◌, if◌then◌else◌, nat_le, IsTrue, slice_index_or}
 use Rattle.std.proofs.lemmas.Bool.Decides.{nat_tests}
-use Rattle.std.proofs.lemmas.Bool.{cases_Bool}
-use Rattle.std.proofs.lemmas.List.{length-set}
 use Rattle.gomp_types.specs.declared.call.Call.{Call}
 use Rattle.gomp_types.specs.declared.call.Call.TheVariants.{Resume, Stop}
 use Rattle.gomp_types.specs.declared.call.Step.{Step}
@@ -19,27 +17,24 @@ use Rattle.gomp_types.specs.Limits.{capped_limits, IsTeamSize}
 use Rattle.gomp_types.specs.Events.{open_share, has_left_region, clash_of}
 use Rattle.gomp_types.specs.Laws.{Always}
 use Rattle.gomp_types.specs.Least.{lesser, least}
-use Rattle.gomp_types.proofs.Lists.{slice_get-set}
-use Rattle.gomp_types.proofs.LeastTests.{AllFail, fail_first, lesser_low}
-use Rattle.gomp_types.proofs.Booleans.{is_equal}
+use Rattle.gomp_types.proofs.LeastTests.{lesser_low}
 use Rattle.gomp_locks.specs.Book.{BookView}
 use Rattle.gomp_locks.specs.Holders.{holder}
 use Rattle.gomp_model.specs.Past.{Terms, Waits, no_waits, Past}
-use Rattle.gomp_model.specs.Row.{Row, row_tests, refusal_gives, MayGive, past_given}
+use Rattle.gomp_model.specs.Row.{Row, refusal_gives, MayGive}
 use Rattle.gomp_model.specs.Calls.{row_of}
 use Rattle.gomp_model.specs.Team.{Record, call_meant, is_resume, row_at, broken_tests, refusal_of, MayAnswer, open_first, waits_after, past_of, Caused}
 use Rattle.gomp_board.specs.declared.op.Op.TheVariants.{Break as BreakOp}
-use Rattle.gomp_board.specs.Boards.{BoardView, Stands as BoardStands, Performs, IsSame, kept_by}
-use Rattle.gomp_laws.proofs.Known.{unrefused_step_passes, known_of}
+use Rattle.gomp_board.specs.Boards.{BoardView, Stands as BoardStands, Performs, kept_by}
 use Rattle.gomp_laws.proofs.Layers.{step_layers}
 use Rattle.gomp_laws.proofs.Calls.{row_is_sound}
 use Rattle.gomp_laws.proofs.Waiting.{AreBeneath}
-use Rattle.gomp_parts.specs.Answers.{room_left, PutsInside, PartsStand, KeepsStart, LeavesBoard}
+use Rattle.gomp_parts.specs.Answers.{room_left, PutsInside, PartsStand, KeepsStart}
 use Rattle.gomp_held.specs.Stands.{BookStands, IsKnown}
-use Rattle.gomp_core.specs.Replies.{AllStand, NamesStay, AnswersAll}
+use Rattle.gomp_core.specs.Replies.{NamesStay}
 use Rattle.gomp_core.specs.Stands.{TeamView, Stands, Keeps, TakesMemory, past, terms_of, members_of}
 use Rattle.gomp_core.proofs.Admitted.{same_members, step_below}
-use Rattle.gomp_core.proofs.BookKept.{book_moved, events_so, locks_so, room_so, terms_so}
+use Rattle.gomp_core.proofs.BookKept.{book_moved}
 
 -- Lists and choices
 

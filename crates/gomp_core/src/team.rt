@@ -362,12 +362,7 @@ fn unless_also(
 
 /// Why the team does not answer this call of its member, whatever its construct: `Ended`, `Broken`,
 /// or `Waiting`.
-fn team_refusal(
-    board: &Board,
-    member: u16,
-    call: &Call,
-    waiting: &Option<Call>,
-) -> Option<Refusal>
+fn team_refusal(board: &Board, member: u16, call: &Call, waiting: &Option<Call>) -> Option<Refusal>
     requires member { member < board_members board.now }
     ensures { (h : List Event) → BoardStands board.now h →
         result ≡ lesser (least (member_tests (board_members board.now) member h))

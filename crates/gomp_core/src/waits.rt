@@ -3,7 +3,7 @@
 
 ghost use Rattle.std.specs.Prelude.{◌≡◌, ◌<◌, ℕ, false, length, IfOk, ◌∷◌, None, Some};
 ghost use Rattle.gomp_types.specs.declared.limits.TheConstants.{MAX_TASK_DEPTH};
-ghost use Rattle.gomp_types.specs.declared.reply.Reply.TheVariants.{Run};
+ghost use Rattle.gomp_types.specs.declared.reply.Reply.TheVariants.{Run, Wait};
 ghost use Rattle.gomp_model.specs.Past.{no_waits};
 ghost use Rattle.gomp_model.specs.Team.{call_meant, open_first, waits_after};
 
@@ -71,8 +71,7 @@ impl Waits {
 
     /// The call waits, or that which it repeats.
     fn wait(&mut self, call: Call)
-        ensures { self.new ≡ record self.old { open_call =
-            Some (call_meant call self.old.open_call) } }
+        ensures { self.new ≡ waits_after Wait call self.old }
     {
         let open = self.open.take();
         self.open = Some(meant_call(call, open));
@@ -81,8 +80,8 @@ impl Waits {
     /// A task is started at the call, or at that which it repeats.
     fn suspend(&mut self, call: Call)
         requires room { length self.old.beneath < MAX_TASK_DEPTH }
-        ensures { self.new ≡ record { open_call = None;
-            beneath = call_meant call self.old.open_call ∷ self.old.beneath } }
+        ensures { (task code arg : ℕ) →
+            self.new ≡ waits_after (Run task code arg false) call self.old }
     {
         let open = self.open.take();
         self.beneath.push_reserved(meant_call(call, open));

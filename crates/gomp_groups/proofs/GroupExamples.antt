@@ -1,5 +1,5 @@
 -- What the rows of groups and tasks say, and when they stand for events: for each line of a definition what it says, and what it alone refuses.
-use Rattle.std.proofs.Common.{◌≡◌, ℕ, ◌+◌, ◌<◌, ◌≤◌, true, false, List, [], ◌∷◌, ◌++◌, Some, None, suc, zero, refl, ap, arith}
+use Rattle.std.proofs.Common.{◌≡◌, ℕ, ◌+◌, ◌<◌, true, false, List, [], ◌∷◌, ◌++◌, Some, None, suc, zero, refl, arith}
 use Rattle.std.specs.Prelude.{◌==◌, if◌then◌else◌, slice_index_or, map}
 use Rattle.gomp_types.specs.declared.refusal.Place.{Place}
 use Rattle.gomp_types.specs.declared.key.Key.{Key}
@@ -13,13 +13,10 @@ use Rattle.gomp_types.specs.Tasks.{open_tasks, is_child, same_task, contains}
 use Rattle.gomp_types.specs.Groups.{in_group, open_groups}
 use Rattle.gomp_types.specs.TaskRules.{TaskRule}
 use Rattle.gomp_types.proofs.Booleans.{other_number}
-use Rattle.gomp_groups.specs.declared.rows.GroupRow.{GroupRow}
-use Rattle.gomp_groups.specs.declared.rows.Seat.{Seat}
-use Rattle.gomp_groups.specs.declared.rows.TaskRow.{TaskRow}
 use Rattle.gomp_groups.specs.Rows.{no_seat, no_task, outer_at, pending_at, seat_at, IsSeatedIn, IsChain, IsNested, same_group, own_group, CountsOneMore}
 use Rattle.gomp_groups.specs.Stands.{GroupsStand, groups_beyond}
-use Rattle.gomp_groups.specs.Calls.{first_of, last_open, Executes, MayClose, MayCreateIn, rows_room, IsAside}
-use Rattle.gomp_groups.specs.Examples.{some_desc, group_with, seat_with, task_with, one_in_group, one_nested, grandchild, one_group, one_task, one_member, three_groups, three_tasks, two_members}
+use Rattle.gomp_groups.specs.Calls.{last_open, Executes, MayClose, MayCreateIn, rows_room, IsAside}
+use Rattle.gomp_groups.specs.Examples.{some_desc, group_with, seat_with, task_with, one_in_group, grandchild, one_group, one_task, one_member, three_groups, three_tasks, two_members}
 
 -- Rows and seats
 

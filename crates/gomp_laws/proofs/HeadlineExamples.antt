@@ -4,10 +4,10 @@ use Rattle.gomp_types.specs.declared.shape.Shape.{Shape}
 use Rattle.gomp_types.specs.declared.refusal.Place.TheVariants.{Stopped as AtStop}
 use Rattle.gomp_types.specs.declared.event.Arrival.TheVariants.{Barrier, ShareEnd, RegionEnd}
 use Rattle.gomp_types.specs.declared.event.Tag.{Tag}
-use Rattle.gomp_types.specs.declared.event.Event.TheVariants.{Enter, Take, HandOn, Arrive, Pass, Create}
+use Rattle.gomp_types.specs.declared.event.Event.TheVariants.{Enter, Take, HandOn, Arrive, Create}
 use Rattle.gomp_types.specs.declared.key.Key.TheVariants.{Critical, Lock}
 use Rattle.gomp_types.specs.declared.task.Owner.{Owner}
-use Rattle.gomp_types.specs.declared.task.Task.TheVariants.{Implicit, Explicit}
+use Rattle.gomp_types.specs.declared.task.Task.TheVariants.{Implicit}
 use Rattle.gomp_types.specs.Pieces.{Piece, pieces_of}
 use Rattle.gomp_types.specs.Laws.{Happened}
 use Rattle.gomp_types.specs.EventLists.{four, static_four, even_four, at}

@@ -1,14 +1,14 @@
 -- Each line of the rule of a team on tasks, and each field that it adds there, by itself refuses an event after some others, and the whole rule
 -- allows one beside it. All is computed; and a region with tasks that keeps the rule keeps the headline. OpenMP API 5.2, chapter 12 and section 15.2.
-use Rattle.std.proofs.Common.{◌≡◌, ℕ, true, false, List, [], ◌∷◌, ◌++◌, refl, arith, rules}
-use Rattle.gomp_types.specs.declared.key.Key.TheVariants.{Critical, Lock}
+use Rattle.std.proofs.Common.{List, [], ◌∷◌, ◌++◌, refl, arith, rules}
+use Rattle.gomp_types.specs.declared.key.Key.TheVariants.{Critical}
 use Rattle.gomp_types.specs.declared.task.Task.TheVariants.{Implicit, Explicit}
 use Rattle.gomp_types.specs.declared.event.Arrival.TheVariants.{Barrier}
 use Rattle.gomp_types.specs.declared.event.Event.{Event}
 use Rattle.gomp_types.specs.declared.event.Event.TheVariants.{Create, Start, Done, Group, GroupEnd, Waited, Arrive, Pass, Hold, Free}
 use Rattle.gomp_types.specs.EventLists.{at}
 use Rattle.gomp_types.specs.Laws.{Always}
-use Rattle.gomp_types.specs.TaskExamples.{after, Allows, one_job, other_job, task_tree, child_ended, across_barrier}
+use Rattle.gomp_types.specs.TaskExamples.{after, Allows, one_job, task_tree, across_barrier}
 use Rattle.gomp_laws.specs.Rules.{TeamRule}
 use Rattle.gomp_laws.specs.Headline.{Headline}
 use Rattle.gomp_laws.specs.LawExamples.{RefusedAfter, region_with_tasks}

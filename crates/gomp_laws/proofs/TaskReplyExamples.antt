@@ -1,6 +1,6 @@
 -- What the laws of the replies to calls on tasks refuse, computed: each part of a law refuses a reply by itself, and a run of a task keeps all three.
 -- OpenMP API 5.2, sections 12.5 and 15.5.
-use Rattle.std.proofs.Common.{◌≡◌, ℕ, true, false, List, [], ◌∷◌, Option, Some, None, refl, ap, arith, inl, inr}
+use Rattle.std.proofs.Common.{ℕ, true, false, List, [], ◌∷◌, Option, Some, None, refl, ap, arith, inl, inr}
 use Rattle.gomp_types.specs.declared.call.Call.TheVariants.{TaskCreate, TaskEnd, Taskwait, GroupStart, Resume}
 use Rattle.gomp_types.specs.declared.call.Step.{Step}
 use Rattle.gomp_types.specs.declared.event.Event.{Event}

@@ -1,6 +1,6 @@
 -- What the shares and the board answer together: the end of a construct with a barrier, a single's words, and any other call on the shares.
-use Rattle.std.proofs.Common.{◌≡◌, ◌≢◌, ◌<◌, ◌≤◌, ℕ, ◌+◌, Bool, true, false, List, [], ◌∷◌, ◌++◌, Option, Some, None, refl, ap, sym, subst, ◌∙◌, arith, inl, inr, suc}
-use Rattle.std.specs.Prelude.{◌&&◌, ◌==◌, not, nat_le, if◌then◌else◌, IfSome, slice_index_or}
+use Rattle.std.proofs.Common.{◌≡◌, ◌≢◌, ◌<◌, ◌≤◌, ℕ, ◌+◌, Bool, true, false, List, [], ◌∷◌, ◌++◌, Option, Some, None, refl, ap, sym, subst, ◌∙◌, arith, inl, inr}
+use Rattle.std.specs.Prelude.{◌==◌, not, nat_le, IfSome}
 use Rattle.std.proofs.lemmas.Bool.{cases_eq}
 use Rattle.std.proofs.lemmas.Bool.Decides.{nat_tests}
 use Rattle.gomp_types.specs.declared.loop_desc.EndKind.{EndKind}
@@ -8,7 +8,7 @@ use Rattle.gomp_types.specs.declared.loop_desc.EndKind.TheVariants as ends
 use Rattle.gomp_types.specs.declared.refusal.Refusal.{Refusal}
 use Rattle.gomp_types.specs.declared.refusal.Refusal.TheVariants.{NoMemory}
 use Rattle.gomp_types.specs.declared.reply.Reply.{Reply}
-use Rattle.gomp_types.specs.declared.reply.Reply.TheVariants.{Finished, Wait, Stopped, Executor, Copied, Refused}
+use Rattle.gomp_types.specs.declared.reply.Reply.TheVariants.{Finished, Wait, Executor, Copied, Refused}
 use Rattle.gomp_types.specs.declared.shape.Shape.{Shape}
 use Rattle.gomp_types.specs.declared.shape.ShareKind.{ShareKind}
 use Rattle.gomp_types.specs.declared.seen.Seen.{Seen}
@@ -25,14 +25,14 @@ use Rattle.gomp_types.specs.Tests.{Test}
 use Rattle.gomp_types.specs.Least.{least}
 use Rattle.gomp_types.specs.TaskCalls.{arrival_room}
 use Rattle.gomp_types.proofs.Booleans.{same_number, other_number, not_false, and_left}
-use Rattle.gomp_types.proofs.LeastTests.{AllFail, all_fail}
+use Rattle.gomp_types.proofs.LeastTests.{all_fail}
 use Rattle.gomp_shares.specs.Calls.{IsAside as SharesAside, events_left}
 use Rattle.gomp_shares.specs.Loops.{end_tests}
 use Rattle.gomp_shares.specs.Sections.{sections_end_tests}
 use Rattle.gomp_shares.specs.Starts.{leaves}
 use Rattle.gomp_shares.specs.Singles.{is_executor, put_tests, copy_given}
 use Rattle.gomp_model.specs.Past.{Past}
-use Rattle.gomp_model.specs.Row.{Row, unless_repeated, begun_past, board_tests, MayReply, MayGive, given_after, past_given}
+use Rattle.gomp_model.specs.Row.{Row, unless_repeated, begun_past, MayReply, MayGive, past_given}
 use Rattle.gomp_model.specs.Starts.{end_room, words_room, share_room}
 use Rattle.gomp_model.specs.Arrivals.{compared_arrival, arrival_row, ending}
 use Rattle.gomp_model.specs.Loops.{loop_end_row}
@@ -40,14 +40,14 @@ use Rattle.gomp_model.specs.Sections.{sections_end_row}
 use Rattle.gomp_model.specs.Singles.{single_copy_start_row, single_copy_end_row}
 use Rattle.gomp_board.specs.declared.op.Op.{Op}
 use Rattle.gomp_board.specs.declared.op.Op.TheVariants as ops
-use Rattle.gomp_board.specs.Ops.{arrival_asks, words_ask, words_keep, op_refusal, op_after, OpAnswer}
+use Rattle.gomp_board.specs.Ops.{arrival_asks, words_ask, op_refusal, OpAnswer}
 use Rattle.gomp_board.specs.Boards.{BoardView, Stands as BoardStands, Performs, members_of, kept_by}
 use Rattle.gomp_board.proofs.Laws.{event_aside_keeps_board, events_aside_keep_board}
 use Rattle.gomp_board.proofs.Waiting.{IsReply, after_reply, not_refused}
-use Rattle.gomp_parts.specs.Answers.{room_left, PutsInside, PartsStand, KeepsStart, IsReady, SomeReady, EachReady, StandAfter, LeavesBoard, AnswersCall}
+use Rattle.gomp_parts.specs.Answers.{room_left, PutsInside, PartsStand, KeepsStart, IsReady, SomeReady, LeavesBoard, AnswersCall}
 use Rattle.gomp_parts.specs.Serves.{asked_once, KeepsMore, arrival_op, NotesWords, AreShareEvents, GoesOn, SharesServe, GivesShareEvents, left_once}
 use Rattle.gomp_parts.proofs.ShareEvents.{share_events_aside, kept_after_events, puts_stay_inside, once_share_events, behind_entry}
-use Rattle.gomp_parts.proofs.OpAnswers.{op_fine, refused_for_memory, memory_was_asked, own_room_kept, others_kept, op_leaves_board, room_made, given_events, given_terms, given_room, parts_at, IsCallOp, op_gives_reply, op_stands}
+use Rattle.gomp_parts.proofs.OpAnswers.{op_fine, refused_for_memory, memory_was_asked, others_kept, op_leaves_board, room_made, given_events, given_terms, given_room, parts_at, IsCallOp, op_gives_reply, op_stands}
 use Rattle.gomp_parts.proofs.CallOps.{made_once, waits_nowhere, tests_of_board, arrival_goes_on, passes_alike, awaits_as_many, not_lower}
 
 -- a reply that is no refusal may be given if the row has it

@@ -1,11 +1,9 @@
 -- Which operation on the board a call is: an arrival, or a call on tasks and groups.
-use Rattle.std.proofs.Common.{◌≡◌, ◌<◌, ◌≤◌, ℕ, Bool, true, false, List, [], ◌∷◌, ◌++◌, Option, Some, None, refl, ap, sym, subst, ◌∙◌, arith, suc}
-use Rattle.std.specs.Prelude.{◌&&◌, ◌==◌, not, nat_le, if◌then◌else◌, is_some}
-use Rattle.std.proofs.lemmas.Bool.Decides.{nat_tests}
+use Rattle.std.proofs.Common.{◌≡◌, ◌<◌, ℕ, Bool, true, false, List, ◌∷◌, Option, Some, None, refl, ap, sym, subst, ◌∙◌, arith}
+use Rattle.std.specs.Prelude.{◌&&◌, not, is_some}
 use Rattle.gomp_types.specs.declared.call.Call.{Call}
 use Rattle.gomp_types.specs.declared.call.Call.TheVariants as calls
 use Rattle.gomp_types.specs.declared.limits.Limits.{Limits}
-use Rattle.gomp_types.specs.declared.loop_desc.EndKind.{EndKind}
 use Rattle.gomp_types.specs.declared.loop_desc.EndKind.TheVariants as ends
 use Rattle.gomp_types.specs.declared.task.Task.{Task}
 use Rattle.gomp_types.specs.declared.task.Task.TheVariants.{Implicit, Explicit}
@@ -13,28 +11,25 @@ use Rattle.gomp_types.specs.declared.task.TaskDesc.{TaskDesc}
 use Rattle.gomp_types.specs.declared.refusal.Place.TheVariants.{Stopped as AtStop}
 use Rattle.gomp_types.specs.declared.reply.Reply.{Reply}
 use Rattle.gomp_types.specs.declared.reply.Reply.TheVariants.{Passed, Stopped}
-use Rattle.gomp_types.specs.declared.seen.Seen.{Seen}
-use Rattle.gomp_types.specs.declared.shape.Shape.{Shape}
 use Rattle.gomp_types.specs.declared.event.Arrival.{Arrival}
-use Rattle.gomp_types.specs.declared.event.Arrival.TheVariants.{Barrier, ShareEnd, RegionEnd}
+use Rattle.gomp_types.specs.declared.event.Arrival.TheVariants.{Barrier, RegionEnd}
 use Rattle.gomp_types.specs.declared.event.Event.{Event}
 use Rattle.gomp_types.specs.declared.event.Event.TheVariants.{Arrive}
-use Rattle.gomp_types.specs.Compare.{tag_with, end_differs}
+use Rattle.gomp_types.specs.Compare.{tag_with}
 use Rattle.gomp_types.specs.Events.{shares_entered, barriers_passed}
 use Rattle.gomp_types.specs.Goals.{may_pass}
 use Rattle.gomp_types.specs.Tasks.{executed_task}
-use Rattle.gomp_types.specs.TaskCalls.{AwaitsTasks, EndsTask, arrival_room}
+use Rattle.gomp_types.specs.TaskCalls.{AwaitsTasks, EndsTask}
 use Rattle.gomp_types.proofs.Booleans.{some_of}
 use Rattle.gomp_types.proofs.LeastTests.{AllFail, all_fail}
 use Rattle.gomp_model.specs.Past.{Past}
 use Rattle.gomp_model.specs.Row.{Row, board_tests, goes_on}
-use Rattle.gomp_model.specs.Starts.{end_room, words_room, share_room}
-use Rattle.gomp_model.specs.Arrivals.{compared_arrival, passes, arrival_row, barrier_row, region_end_row}
+use Rattle.gomp_model.specs.Arrivals.{compared_arrival, passes, barrier_row, region_end_row}
 use Rattle.gomp_model.specs.Tasks.{task_create_row, task_end_row, taskwait_row, group_start_row, group_end_row}
-use Rattle.gomp_model.specs.Calls.{row_of, stop_row, stop_given}
+use Rattle.gomp_model.specs.Calls.{row_of, stop_row}
 use Rattle.gomp_board.specs.declared.op.Op.{Op}
 use Rattle.gomp_board.specs.declared.op.Op.TheVariants as ops
-use Rattle.gomp_board.specs.Ops.{awaits_barrier, arrival_asks, arrival_keeps, op_tests, op_refusal, passes_barrier, goes_on_waiting}
+use Rattle.gomp_board.specs.Ops.{awaits_barrier, op_tests, op_refusal, passes_barrier, goes_on_waiting}
 use Rattle.gomp_shares.specs.Calls.{IsAside as SharesAside}
 use Rattle.gomp_board.specs.Boards.{BoardView, Performs, members_of, kept_by}
 use Rattle.gomp_parts.specs.Answers.{PartsStand, IsReady, SomeReady, AnswersCall}

@@ -1,32 +1,31 @@
 -- What the board answers an operation that no test refuses, and for what the shares and the board stand then.
-use Rattle.std.proofs.Common.{◌≡◌, ◌≢◌, ◌<◌, ◌≤◌, ℕ, ◌+◌, Bool, true, false, List, [], ◌∷◌, ◌++◌, Option, Some, None, refl, ap, sym, subst, ◌∙◌, arith, inl, inr, zero, suc}
-use Rattle.std.specs.Prelude.{nat_lt, IsTrue, slice_index_or, slice_set, IfSome}
+use Rattle.std.proofs.Common.{◌≡◌, ◌≢◌, ◌<◌, ◌≤◌, ℕ, ◌+◌, Bool, true, false, List, [], ◌∷◌, ◌++◌, Option, Some, None, refl, ap, sym, subst, ◌∙◌, arith, inl, inr}
+use Rattle.std.specs.Prelude.{slice_index_or, slice_set, IfSome}
 use Rattle.std.proofs.lemmas.Bool.{cases_eq, ltb-true}
 use Rattle.std.proofs.lemmas.List.{get_or-set_same, get_or-set_other}
 use Rattle.gomp_types.specs.declared.limits.Limits.{Limits}
 use Rattle.gomp_types.specs.declared.refusal.Clash.{Clash}
 use Rattle.gomp_types.specs.declared.refusal.Refusal.{Refusal}
-use Rattle.gomp_types.specs.declared.refusal.Refusal.TheVariants.{NoMemory, Mismatch}
+use Rattle.gomp_types.specs.declared.refusal.Refusal.TheVariants.{NoMemory}
 use Rattle.gomp_types.specs.declared.reply.Reply.{Reply}
-use Rattle.gomp_types.specs.declared.reply.Reply.TheVariants.{Wait, Refused}
+use Rattle.gomp_types.specs.declared.reply.Reply.TheVariants.{Refused}
 use Rattle.gomp_types.specs.declared.shape.Shape.{Shape}
 use Rattle.gomp_types.specs.declared.event.Event.{Event}
 use Rattle.gomp_types.specs.Events.{open_share, has_left_region, clash_of}
 use Rattle.gomp_types.specs.Laws.{Always}
 use Rattle.gomp_types.specs.Tests.{Test}
-use Rattle.gomp_types.specs.Least.{least}
 use Rattle.gomp_types.proofs.LeastTests.{AllFail, none_holds}
 use Rattle.gomp_shares.specs.Calls.{IsAside as SharesAside}
 use Rattle.gomp_model.specs.Past.{Terms, Past}
-use Rattle.gomp_model.specs.Row.{Row, unless_repeated, begun_past, MayReply, MayGive, given_after, room_after, past_given}
+use Rattle.gomp_model.specs.Row.{Row, unless_repeated, begun_past, MayGive, given_after, past_given}
 use Rattle.gomp_model.specs.Starts.{share_room}
 use Rattle.gomp_board.specs.declared.op.Op.{Op}
-use Rattle.gomp_board.specs.Ops.{op_asks, op_keeps, op_begins, op_gives, op_tests, op_refusal, op_after, begun, broken_tests, member_tests, asks_memory, goes_on_waiting, OpReply, OpAnswer}
-use Rattle.gomp_board.specs.Boards.{BoardView, Stands as BoardStands, IsSame, Performs, members_of, kept_by, kept_after, room_after as board_room_after}
+use Rattle.gomp_board.specs.Ops.{op_asks, op_keeps, op_begins, op_gives, op_tests, op_refusal, op_after, begun, broken_tests, member_tests, goes_on_waiting, OpReply, OpAnswer}
+use Rattle.gomp_board.specs.Boards.{BoardView, Stands as BoardStands, Performs, members_of, kept_by, kept_after, room_after as board_room_after}
 use Rattle.gomp_board.proofs.Waiting.{IsReply, after_reply}
-use Rattle.gomp_parts.specs.Answers.{room_left, PutsInside, PartsStand, ArePartsKept, KeepsStart, IsReady, SomeReady, EachReady, StandAfter, LeavesBoard, AnswersCall}
+use Rattle.gomp_parts.specs.Answers.{room_left, PutsInside, PartsStand, ArePartsKept, IsReady, SomeReady, LeavesBoard, AnswersCall}
 use Rattle.gomp_parts.specs.Serves.{asked_once}
-use Rattle.gomp_parts.proofs.BoardEvents.{shares_stand_beside, shares_stay, puts_stay_with_board, board_events_append, puts_no_words, begins_on_board, gives_on_board}
+use Rattle.gomp_parts.proofs.BoardEvents.{shares_stand_beside, shares_stay, puts_stay_with_board, puts_no_words, begins_on_board, gives_on_board}
 
 -- Tests
 

@@ -1,6 +1,6 @@
 -- What is known of a call that no test refuses, and what the parts stand for: each clause has a list of events or an answer that it alone refuses.
 use Rattle.std.specs.Prelude.{pos, map}
-use Rattle.std.proofs.Common.{◌≡◌, ℕ, Bool, true, false, List, [], ◌∷◌, Option, Some, None, refl, ap, arith, subst, sym, ◌∙◌}
+use Rattle.std.proofs.Common.{◌≡◌, Bool, true, false, List, [], ◌∷◌, Option, Some, None, refl, ap, arith, subst, sym, ◌∙◌}
 use Rattle.gomp_types.specs.declared.call.Call.TheVariants as calls
 use Rattle.gomp_types.specs.declared.event.Arrival.TheVariants.{Barrier}
 use Rattle.gomp_types.specs.declared.event.Event.{Event}
@@ -8,7 +8,7 @@ use Rattle.gomp_types.specs.declared.event.Event.TheVariants.{Enter, End, Put, P
 use Rattle.gomp_types.specs.declared.loop_desc.EndKind.TheVariants as ends
 use Rattle.gomp_types.specs.declared.refusal.Place.TheVariants.{Stopped as AtStop}
 use Rattle.gomp_types.specs.declared.refusal.Refusal.TheVariants.{InsideShare, EndDiffers, NoMemory, Mismatch}
-use Rattle.gomp_types.specs.declared.reply.Reply.TheVariants.{Passed, Finished, Wait, Stopped, Refused}
+use Rattle.gomp_types.specs.declared.reply.Reply.TheVariants.{Passed, Finished, Wait, Refused}
 use Rattle.gomp_types.specs.Compare.{tag_with}
 use Rattle.gomp_types.specs.declared.shape.Shape.{Shape}
 use Rattle.gomp_types.specs.Events.{share_number}

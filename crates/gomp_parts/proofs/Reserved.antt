@@ -1,5 +1,5 @@
 -- Room that the board keeps for a share before it is started, or for which there is no memory.
-use Rattle.std.proofs.Common.{◌≡◌, ◌<◌, ◌≤◌, ℕ, ◌+◌, Bool, true, false, List, ◌++◌, Option, Some, None, length, refl, ap, sym, subst, ◌∙◌, arith, suc, zero}
+use Rattle.std.proofs.Common.{◌≡◌, ◌<◌, ◌≤◌, ℕ, ◌+◌, Bool, true, false, List, ◌++◌, None, length, refl, ap, sym, subst, ◌∙◌, arith, suc, zero}
 use Rattle.std.specs.Prelude.{slice_index_or}
 use Rattle.gomp_types.specs.declared.refusal.Refusal.{Refusal}
 use Rattle.gomp_types.specs.declared.refusal.Refusal.TheVariants.{NoMemory}
@@ -8,16 +8,14 @@ use Rattle.gomp_types.specs.declared.reply.Reply.TheVariants.{Finished, Refused}
 use Rattle.gomp_types.specs.declared.event.Event.{Event}
 use Rattle.gomp_types.specs.Events.{open_share}
 use Rattle.gomp_types.specs.Tests.{Test}
-use Rattle.gomp_types.specs.Least.{least}
 use Rattle.gomp_types.specs.TaskCalls.{outside_tasks_tests, room_tests}
 use Rattle.gomp_types.proofs.LeastTests.{AllFail}
 use Rattle.gomp_model.specs.Past.{Past}
 use Rattle.gomp_model.specs.Row.{Row}
 use Rattle.gomp_board.specs.declared.op.Op.TheVariants.{Reserve}
-use Rattle.gomp_board.specs.Ops.{op_tests, op_refusal, op_after, OpAnswer}
+use Rattle.gomp_board.specs.Ops.{op_refusal, OpAnswer}
 use Rattle.gomp_board.specs.Boards.{BoardView, Stands as BoardStands, IsSame, Performs, members_of, kept_by}
-use Rattle.gomp_board.proofs.Waiting.{IsReply}
-use Rattle.gomp_parts.specs.Answers.{room_left, PartsStand, IsReady, SomeReady, AnswersCall}
+use Rattle.gomp_parts.specs.Answers.{room_left, SomeReady, AnswersCall}
 use Rattle.gomp_parts.specs.Serves.{asked_once, is_finished, KeepsMore}
 use Rattle.gomp_parts.proofs.OpAnswers.{refused_for_memory, memory_was_asked, own_room_kept, others_kept, room_made, parts_at, positive_once}
 use Rattle.gomp_parts.proofs.CallOps.{tests_of_board, waits_nowhere, ready_op_fine}

@@ -1,5 +1,5 @@
 -- The words that the board keeps for a share that is not over are those that were put in it.
-use Rattle.std.proofs.Common.{◌≡◌, ◌≢◌, ℕ, ◌+◌, ◌*◌, ◌-◌, ◌%◌, ◌/◌, ◌<◌, Bool, true, false, List, [], ◌∷◌, Option, Some, None, refl, ap, ◌∙◌, sym, subst, arith, suc, zero, inl, inr}
+use Rattle.std.proofs.Common.{◌≡◌, ◌≢◌, ℕ, ◌+◌, ◌*◌, ◌-◌, ◌%◌, ◌/◌, ◌<◌, Bool, true, false, List, [], ◌∷◌, Option, Some, None, refl, ap, ◌∙◌, sym, subst, arith, suc, inl, inr}
 use Rattle.std.specs.Prelude.{◌==◌, not, is_some, if◌then◌else◌}
 use Rattle.std.proofs.lemmas.Bool.{cases_Bool, cases_lt}
 use Rattle.std.proofs.Math.Nat.{div-add-mod}
@@ -11,15 +11,14 @@ use Rattle.gomp_types.specs.declared.seen.Seen.{Seen}
 use Rattle.gomp_types.specs.declared.event.Event.{Event}
 use Rattle.gomp_types.specs.declared.event.Event.TheVariants.{Enter, Put}
 use Rattle.gomp_types.specs.Deals.{schedule}
-use Rattle.gomp_types.specs.Events.{open_share, shape_at, is_over, payload_at}
+use Rattle.gomp_types.specs.Events.{shape_at, is_over, payload_at}
 use Rattle.gomp_types.specs.Laws.{Always}
 use Rattle.gomp_types.specs.Least.{lesser, least}
-use Rattle.gomp_types.proofs.Booleans.{which_branch, is_equal, same_number, unequal_numbers, not_both, some_of}
+use Rattle.gomp_types.proofs.Booleans.{which_branch, is_equal, unequal_numbers, not_both, some_of}
 use Rattle.gomp_shares.specs.Rules.{ShareRule}
 use Rattle.gomp_shares.specs.Singles.{is_executor, put_tests}
 use Rattle.gomp_shares.proofs.Laws.{share_of_a_member_is_open, shares_eight_before_are_over}
 use Rattle.gomp_shares.proofs.SharesOver.{over_stays}
-use Rattle.gomp_board.specs.declared.payloads.Put.{Put as Kept}
 use Rattle.gomp_board.specs.Payloads.{newest_put, words_of}
 use Rattle.gomp_parts.specs.Answers.{PutsInside}
 

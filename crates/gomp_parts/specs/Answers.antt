@@ -1,5 +1,5 @@
 -- What a team knows of a call that no test refuses, and what its parts stand for after the answer. OpenMP API 5.2, chapters 11, 12 and 15, section 5.7.2.
-use Rattle.std.specs.Prelude.{ℕ, ◌≤◌, ◌<◌, ◌≡◌, ◌≢◌, ◌&&◌, is_some, not, Bool, true, false, List, [], ◌++◌, Option, Some, None, IfSome, Result, IfOk}
+use Rattle.std.specs.Prelude.{ℕ, ◌≤◌, ◌<◌, ◌≡◌, ◌≢◌, ◌&&◌, is_some, not, Bool, true, false, List, Option, Some, None, IfSome, Result, IfOk}
 use Rattle.std.specs.Result.{result_err}
 use Rattle.gomp_types.specs.declared.shape.Shape.{Shape}
 use Rattle.gomp_types.specs.declared.limits.Limits.{Limits}

@@ -1,5 +1,5 @@
 -- What each part promises of a call that the parts answer together: the shares of theirs, the board of an operation on it. (own; OpenMP API 5.2, chapters 11, 12 and 15, section 5.7.2)
-use Rattle.std.specs.Prelude.{ℕ, ◌+◌, ◌≡◌, ◌≢◌, Bool, true, false, List, [], ◌∷◌, ◌++◌, Option, Some, None, IfSome}
+use Rattle.std.specs.Prelude.{ℕ, ◌+◌, ◌≡◌, ◌≢◌, Bool, true, false, List, [], ◌∷◌, ◌++◌, Option, Some, None}
 use Rattle.gomp_types.specs.declared.call.Call.{Call}
 use Rattle.gomp_types.specs.declared.call.Call.TheVariants.{LoopStart, LoopNext, LoopEndNowait, SectionsStart, SectionsNext, SectionsEndNowait, SingleStart, OrderedStart, OrderedEnd, TaskCreate, TaskEnd, Taskwait, GroupStart, GroupEnd, Stop}
 use Rattle.gomp_types.specs.declared.event.Event.{Event}
@@ -14,11 +14,10 @@ use Rattle.gomp_types.specs.Least.{least}
 use Rattle.gomp_shares.specs.Starts.{leaves}
 use Rattle.gomp_model.specs.Past.{Past}
 use Rattle.gomp_model.specs.Row.{Row, unless_repeated, begun_past, MayReply, given_after, MayGoOn}
-use Rattle.gomp_model.specs.Calls.{row_of}
 use Rattle.gomp_board.specs.declared.op.Op.{Op}
 use Rattle.gomp_board.specs.declared.op.Op.TheVariants as ops
 use Rattle.gomp_board.specs.Stored.{IsAside}
-use Rattle.gomp_board.specs.Boards.{BoardView, Stands as BoardStands, IsSame, Performs, members_of, kept_by}
+use Rattle.gomp_board.specs.Boards.{BoardView, Stands as BoardStands, Performs, members_of, kept_by}
 
 -- Room
 

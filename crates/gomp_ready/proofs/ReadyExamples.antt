@@ -1,5 +1,5 @@
 -- A list of tasks: what a put and a take leave, when a task stands twice, and for how many more there is room.
-use Rattle.std.proofs.Common.{◌≡◌, ℕ, List, [], ◌∷◌, ◌++◌, Some, None, slice_get, refl, arith}
+use Rattle.std.proofs.Common.{◌≡◌, ℕ, List, [], ◌∷◌, ◌++◌, Some, slice_get, refl, arith}
 use Rattle.std.specs.Prelude.{map}
 use Rattle.std.specs.List.{remove}
 use Rattle.gomp_ready.specs.Ready.{AreOnce, ready_room}

@@ -1,18 +1,14 @@
 -- Each part of each law of tasks and groups by itself refuses an event after some others, and the law allows one beside it.
 -- Of each law there are events that it alone refuses, while all others hold. All is computed, with none of the lemmas that prove the laws.
-use Rattle.std.proofs.Common.{◌≡◌, ℕ, ◌+◌, ◌<◌, ◌≤◌, true, false, List, [], ◌∷◌, ◌++◌, zero, suc, refl, arith, rules, inl, inr}
-use Rattle.std.specs.Prelude.{◌==◌, ◌≢◌}
-use Rattle.std.proofs.lemmas.Bool.{cases_Bool}
+use Rattle.std.proofs.Common.{◌≡◌, ℕ, List, [], ◌∷◌, refl, arith, rules, inl, inr}
+use Rattle.std.specs.Prelude.{◌≢◌}
 use Rattle.gomp_types.specs.declared.task.Task.TheVariants.{Implicit, Explicit}
 use Rattle.gomp_types.specs.declared.event.Arrival.TheVariants.{Barrier, RegionEnd}
 use Rattle.gomp_types.specs.declared.event.Event.{Event}
 use Rattle.gomp_types.specs.declared.event.Event.TheVariants.{Create, Start, Done, Group, GroupEnd, Waited, Arrive, Pass}
 use Rattle.gomp_types.specs.EventLists.{at}
-use Rattle.gomp_types.specs.Laws.{Always, Happened}
-use Rattle.gomp_types.specs.Tasks.{is_ancestor}
 use Rattle.gomp_types.specs.TaskLaws.{IsCreated, IsDone, CreatesOnce, CreatesInItsOwn, StartsOnce, StartsDescendant, EndsItsOwn, WaitsForTasks, OpensOnce, EndsItsGroup, PassesAfterTasks, CreatesLater, EndsAfterTasks, TaskLaws, BoundIsDone}
 use Rattle.gomp_types.specs.TaskExamples.{after, Allows, Forbids, TaskLaw, CreatedOnce, CreatedIn, StartedOnce, Descendants, EndedOnce, Waits, OpenedOnce, GroupsEnded, Passes, Later, AtTheEnd, law_of, RefusedAlone, one_job, other_job, task_tree, child_ended, across_barrier, whole_region}
-use Rattle.gomp_types.proofs.Booleans.{is_equal}
 use Rattle.gomp_types.proofs.TasksKeep.{tasks_keep}
 use Rattle.gomp_types.proofs.TaskRuleExamples.{whole_region_keeps_task_rule, whole_region_keeps_arrival_rule}
 

@@ -1,19 +1,16 @@
-use Rattle.std.proofs.Common.{◌≡◌, ◌<◌, ◌≤◌, ◌∙◌, ℕ, Option, Some, None, true, false, ap, refl, sym, subst, inl, inr}
+use Rattle.std.proofs.Common.{◌≡◌, ◌<◌, ℕ, true, ap, refl, sym, subst, inl, inr}
 use Rattle.std.specs.Prelude.{not, is_some}
 use Rattle.gomp_types.specs.declared.call.Call.TheVariants.{LoopEnd, SectionsEnd}
 use Rattle.gomp_types.specs.declared.loop_desc.EndKind.TheVariants.{Wait as WaitEnd}
-use Rattle.gomp_types.specs.declared.event.Arrival.TheVariants.{Barrier, ShareEnd, RegionEnd}
+use Rattle.gomp_types.specs.declared.event.Arrival.TheVariants.{Barrier, RegionEnd}
 use Rattle.gomp_types.specs.Compare.{tag_with}
 use Rattle.gomp_types.specs.Events.{shares_entered}
 use Rattle.gomp_shares.specs.declared.admission.Construct.TheVariants.{Loop, Sections}
 use Rattle.gomp_shares.specs.Loops.{end_tests}
 use Rattle.gomp_shares.specs.Sections.{sections_end_tests}
 use Rattle.gomp_shares.proofs.Admitted.{end_lets_leave}
-use Rattle.gomp_model.specs.Past.{Past}
 use Rattle.gomp_model.specs.Arrivals.{barrier_row, region_end_row}
 use Rattle.gomp_model.specs.Singles.{single_copy_end_row}
-use Rattle.gomp_model.specs.Calls.{row_of}
-use Rattle.gomp_board.specs.Boards.{members_of}
 use Rattle.gomp_parts.specs.Serves.{arrival_op, board_op}
 use Rattle.gomp_parts.proofs.Refused.{opens_own}
 use Rattle.gomp_parts.proofs.OpAnswers.{op_answers}

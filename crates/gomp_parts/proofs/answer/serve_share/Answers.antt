@@ -1,10 +1,5 @@
-use Rattle.std.proofs.Common.{◌≡◌, ◌<◌, ℕ, List, ap, sym, ◌∙◌, subst}
-use Rattle.gomp_types.specs.declared.seen.Seen.{Seen}
-use Rattle.gomp_types.specs.declared.event.Event.{Event}
+use Rattle.std.proofs.Common.{◌<◌, ℕ, subst}
 use Rattle.gomp_model.specs.Calls.{row_of}
-use Rattle.gomp_board.specs.declared.op.Op.TheVariants.{Reserve}
-use Rattle.gomp_board.specs.Ops.{op_refusal}
-use Rattle.gomp_board.specs.Boards.{BoardView, Stands as BoardStands, kept_by}
 use Rattle.gomp_parts.specs.Serves.{asked_once, KeepsMore}
 use Rattle.gomp_parts.proofs.ShareRows.{call_is_share_row, ready_in_place}
 use Rattle.gomp_parts.proofs.Reserved.{reserve_fine, no_room_answers}

@@ -1,10 +1,8 @@
-use Rattle.std.proofs.Common.{◌≡◌, ◌<◌, ◌∙◌, ◌++◌, ℕ, List, [], true, ap, sym, subst}
+use Rattle.std.proofs.Common.{◌<◌, ℕ, [], true, sym, subst}
 use Rattle.gomp_types.specs.declared.seen.Seen.{Seen}
-use Rattle.gomp_types.specs.declared.event.Event.{Event}
 use Rattle.gomp_types.specs.Singles.{single_shape}
 use Rattle.gomp_shares.specs.Singles.{DealsCopy, copy_given}
 use Rattle.gomp_model.specs.Singles.{single_copy_start_row}
-use Rattle.gomp_board.specs.Boards.{BoardView, kept_by}
 use Rattle.gomp_parts.specs.Serves.{KeepsMore, NotesWords}
 use Rattle.gomp_parts.proofs.ShareRows.{copy_is_share_row, copy_refuses, start_serves}
 use Rattle.gomp_parts.proofs.Reserved.{reserve_fine, no_room_answers}

@@ -1,4 +1,4 @@
-use Rattle.std.proofs.Common.{◌≡◌, refl, sym, ◌∙◌}
+use Rattle.std.proofs.Common.{sym, ◌∙◌}
 use Rattle.gomp_parts.proofs.Reserved.{reserve_keeps, reserve_lacks, some_more}
 use Rattle.gomp_parts.proofs.room.keep_room.Goals as goal
 

@@ -12,7 +12,7 @@ use Rattle.gomp_shares.specs.Singles.{DealsSingle, single_given}
 use Rattle.gomp_shares.specs.OrderedParts.{BeginsPart, part_end_tests, part_end_events}
 use Rattle.gomp_shares.specs.declared.admission.Construct.TheVariants.{Loop, Sections}
 use Rattle.gomp_shares.proofs.Admitted.{end_lets_leave}
-use Rattle.gomp_parts.proofs.Refused.{start_has_a_share, start_has_its_share, opens_own}
+use Rattle.gomp_parts.proofs.Refused.{start_has_its_share, opens_own}
 use Rattle.gomp_parts.proofs.ShareEvents.{piece_share_events, section_share_events, single_share_events, next_share_events, section_next_share_events, part_share_events}
 use Rattle.gomp_parts.proofs.ShareRows.{start_serves, start_events, done_serves, done_events, piece_refuses, next_refuses, section_refuses, single_refuses, part_refuses}
 use Rattle.gomp_parts.proofs.shares.share_reply.Goals as goal

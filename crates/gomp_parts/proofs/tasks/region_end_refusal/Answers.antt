@@ -1,4 +1,4 @@
-use Rattle.std.proofs.Common.{refl, sym, ◌∙◌, ap}
+use Rattle.std.proofs.Common.{sym}
 use Rattle.gomp_types.specs.TaskCalls.{outside_tasks_tests, group_open_tests}
 use Rattle.gomp_types.proofs.LeastTests.{least_append}
 use Rattle.gomp_parts.proofs.tasks.region_end_refusal.Goals as goal

@@ -1,4 +1,4 @@
-use Rattle.std.proofs.Common.{refl, ◌∙◌}
+use Rattle.std.proofs.Common.{refl}
 use Rattle.gomp_types.specs.TaskCalls.{create_tests}
 use Rattle.gomp_types.proofs.LeastTests.{first_is_least}
 use Rattle.gomp_board.proofs.board.Board.creation_refusal.Goals as goal

@@ -11,7 +11,7 @@ use Rattle.gomp_board.specs.Boards.{members_of as board_members}
 use Rattle.gomp_core.specs.Stands.{TeamView, past, terms_of, members_of}
 use Rattle.gomp_parts.specs.Answers.{StartsShare}
 use Rattle.gomp_core.proofs.Refused.{bad_member, step_refused, all_admitted}
-use Rattle.gomp_core.proofs.Admitted.{same_members, same_limits, rule_of_holds, step_place}
+use Rattle.gomp_core.proofs.Admitted.{same_members, rule_of_holds, step_place}
 use Rattle.gomp_core.proofs.Answered.{call_kept}
 use Rattle.gomp_core.proofs.Stepping.{same_stands, board_size}
 use Rattle.gomp_core.proofs.team.Team.admit.Goals as goal

@@ -1,8 +1,6 @@
 use Rattle.std.proofs.Common.{◌≡◌, ◌∙◌, ◌<◌, Some, None, length, slice_get, refl, ap, sym, subst, arith}
 use Rattle.std.proofs.lemmas.Option.{slice_get_read}
 use Rattle.gomp_types.specs.declared.call.Step.{Step}
-use Rattle.gomp_types.specs.declared.refusal.Refusal.TheVariants.{NoMemory}
-use Rattle.gomp_types.specs.declared.reply.Reply.TheVariants.{Refused}
 use Rattle.gomp_model.specs.Team.{Record, call_meant, row_at, refusal_of, MayAnswer}
 use Rattle.gomp_parts.specs.Answers.{StartsShare}
 use Rattle.gomp_core.specs.Stands.{TeamView, Stands, Keeps, past}

@@ -1,8 +1,8 @@
-use Rattle.std.proofs.Common.{◌≡◌, ◌∙◌, ◌<◌, length, refl, sym, subst}
+use Rattle.std.proofs.Common.{subst}
 use Rattle.gomp_types.specs.declared.call.Step.{Step}
 use Rattle.gomp_types.specs.declared.event.Event.TheVariants.{Break as BreakEvent}
-use Rattle.gomp_model.specs.Team.{Record, row_at}
-use Rattle.gomp_core.specs.Stands.{TeamView, Stands, Keeps, past}
+use Rattle.gomp_model.specs.Team.{Record}
+use Rattle.gomp_core.specs.Stands.{TeamView, Stands, Keeps}
 use Rattle.gomp_core.proofs.Stepping.{same_stands, other_stands, differing_here, member_differs, board_size}
 use Rattle.gomp_core.proofs.Breaks.{Broken, team_breaks}
 use Rattle.gomp_core.proofs.team.Team.break_team.Given.{Over}

@@ -1,4 +1,4 @@
-use Rattle.std.proofs.Common.{◌≡◌, ◌∙◌, ap, sym}
+use Rattle.std.proofs.Common.{◌∙◌, ap, sym}
 use Rattle.std.specs.Result.{result_err}
 use Rattle.gomp_types.specs.declared.call.Step.{Step}
 use Rattle.gomp_laws.proofs.Laws.{least_refusal_is_an_answer}
@@ -19,5 +19,5 @@ returns-in_default g c =
       memory = λ lacks. absurd (fits lacks);
       answer = λ before st. least_refusal_is_an_answer (past c.args.self.now before) step c.in-Err.refusal (sym (c.admit.ensures.least before st) ∙ ap result_err c.in-Err.is);
       stands = λ before st. rw c.admit.ensures.kept (stands_refused g.S.Shares.stands g.S.Shares.members c.args.self.now before step c.in-Err.refusal st
-      (least_refusal_is_an_answer (past c.args.self.now before) step c.in-Err.refusal (sym (c.admit.ensures.least before st) ∙ ap result_err c.in-Err.is)) c.in_default.not-Mismatch);
+          (least_refusal_is_an_answer (past c.args.self.now before) step c.in-Err.refusal (sym (c.admit.ensures.least before st) ∙ ap result_err c.in-Err.is)) c.in_default.not-Mismatch);
     }
