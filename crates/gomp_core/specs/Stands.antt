@@ -34,6 +34,7 @@ pub record TeamView (S : Type 0) : Type 0 where
   pub book : BookView
   pub shares : S
 
+-- its size
 abbrev pub members_of : {S : Type 0} → TeamView S → ℕ
 members_of team = length team.waits
 
