@@ -3,6 +3,7 @@
 #include "call.h"
 
 #include "place.h"
+#include "tasks_made.h"
 
 #include <stdarg.h>
 #include <stdio.h>
@@ -54,6 +55,10 @@ static const char *plain_line(enum call_kind kind)
     case CALL_SINGLE_COPY: return "single_copy";
     case CALL_ORDERED_END: return "ordered_end";
     case CALL_REGION_END: return "region_end";
+    case CALL_TASK_END: return "task_end";
+    case CALL_TASKWAIT: return "taskwait";
+    case CALL_GROUP: return "group";
+    case CALL_GROUP_END: return "group_end";
     case CALL_LOCK_INIT: return "lock_init";
     case CALL_NEST_INIT: return "nest_init";
     default: return "barrier";
@@ -94,6 +99,9 @@ size_t call_line(const struct call *call, int member, char line[LINE_SIZE])
     case CALL_SINGLE_COPY_END:
         return (size_t)snprintf(line, LINE_SIZE, "%d single_copy_end %lu\n", member, call->word);
     case CALL_ORDERED: return (size_t)snprintf(line, LINE_SIZE, "%d ordered %ld\n", member, call->iteration);
+    case CALL_TASK:
+        return (size_t)snprintf(line, LINE_SIZE, "%d task %lu %lu\n", member, call->task->code,
+                                call->task->number);
     case CALL_CRITICAL:
     case CALL_CRITICAL_END: return (size_t)hold_line(call, member, line);
     default:
@@ -164,6 +172,11 @@ void call_words(const struct call *call, const struct call *share, struct text *
     case CALL_ORDERED_END: text_add(text, "the end of #pragma omp ordered"); break;
     case CALL_BARRIER: text_add(text, "#pragma omp barrier (or the barrier that ends a construct)"); break;
     case CALL_REGION_END: text_add(text, "the end of the parallel region"); break;
+    case CALL_TASK: text_add(text, "#pragma omp task"); break;
+    case CALL_TASK_END: text_add(text, "the end of #pragma omp task"); break;
+    case CALL_TASKWAIT: text_add(text, "#pragma omp taskwait"); break;
+    case CALL_GROUP: text_add(text, "#pragma omp taskgroup"); break;
+    case CALL_GROUP_END: text_add(text, "the end of #pragma omp taskgroup"); break;
     case CALL_CRITICAL:
     case CALL_CRITICAL_END: critical_words(call, text); break;
     case CALL_LOCK_INIT: text_add(text, "omp_init_lock"); break;
@@ -192,7 +205,11 @@ static bool may_be_answered(const struct call *call, const struct reply *answer)
     case CALL_SINGLE_COPY: return reply == REPLY_EXECUTOR || reply == REPLY_COPIED;
     case CALL_BARRIER:
     case CALL_BARRIER_OF_SHARE:
-    case CALL_REGION_END: return reply == REPLY_PASSED;
+    case CALL_REGION_END:
+    case CALL_TASKWAIT:
+    case CALL_GROUP_END: return reply == REPLY_PASSED || reply == REPLY_RUN;
+    case CALL_TASK: return reply == REPLY_CREATED;
+    case CALL_TASK_END: return reply == REPLY_TASK_DONE;
     case CALL_LOCK_INIT:
     case CALL_NEST_INIT: return reply == REPLY_LOCK && answer->count < NO_LOCK;
     case CALL_TEST: return reply == REPLY_GOT;
@@ -218,6 +235,23 @@ static bool is_chunk(const char *line, const struct reply *reply)
     return strcmp(line, printed) == 0;
 }
 
+// Reads `run T CODE ARG`, and `task_done T waiting`.
+static bool read_task(const char *line, struct reply *reply)
+{
+    char printed[96] = "";
+    enum reply_kind kind = REPLY_RUN;
+    if (sscanf(line, "run %lu %lu %lu", &reply->count, &reply->code, &reply->argument) == 3) {
+        snprintf(printed, sizeof printed, "run %lu %lu %lu", reply->count, reply->code, reply->argument);
+    } else if (sscanf(line, "task_done %lu", &reply->count) == 1) {
+        snprintf(printed, sizeof printed, "task_done %lu waiting", reply->count);
+        kind = REPLY_TASK_DONE;
+    }
+    if (*printed == 0 || strcmp(line, printed) != 0)
+        return false;
+    reply->kind = kind;
+    return true;
+}
+
 static struct reply read_reply(const char *line)
 {
     static const struct {
@@ -237,9 +271,14 @@ static struct reply read_reply(const char *line)
     static const struct {
         const char *word;
         enum reply_kind kind;
-    } numbered[] = {
-        {"section", REPLY_SECTION}, {"copied", REPLY_COPIED}, {"lock", REPLY_LOCK}, {"count", REPLY_COUNT}};
+    } numbered[] = {{"section", REPLY_SECTION},
+                    {"copied", REPLY_COPIED},
+                    {"lock", REPLY_LOCK},
+                    {"count", REPLY_COUNT},
+                    {"created", REPLY_CREATED}};
     struct reply reply = {.kind = REPLY_UNKNOWN};
+    if (read_task(line, &reply))
+        return reply;
     if (sscanf(line, "chunk %ld %lu", &reply.first, &reply.count) == 2 && is_chunk(line, &reply))
         reply.kind = REPLY_CHUNK;
     else if (strncmp(line, "refused E", 9) == 0)

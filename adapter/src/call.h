@@ -24,6 +24,11 @@ enum call_kind {
     CALL_BARRIER,
     CALL_BARRIER_OF_SHARE,
     CALL_REGION_END,
+    CALL_TASK,
+    CALL_TASK_END,
+    CALL_TASKWAIT,
+    CALL_GROUP,
+    CALL_GROUP_END,
     CALL_CRITICAL,
     CALL_CRITICAL_END,
     CALL_LOCK_INIT,
@@ -59,6 +64,8 @@ struct lock_name {
 };
 #define NO_LOCK UINT32_MAX // the engine gives this number to no lock
 
+struct task;
+
 struct call {
     enum call_kind kind;
     void *address; // where in the program it returns to
@@ -69,6 +76,7 @@ struct call {
         unsigned long word; // what a single hands to the other members
         const char *name;   // of a critical region, empty if it has none
         struct lock_name lock;
+        struct task *task; // that is created or ended; it stands up to the reply
     };
 };
 
@@ -83,6 +91,9 @@ enum reply_kind {
     REPLY_LOCK,
     REPLY_GOT,
     REPLY_COUNT,
+    REPLY_CREATED,
+    REPLY_RUN,
+    REPLY_TASK_DONE,
     REPLY_WAIT,
     REPLY_REFUSED,
     REPLY_UNKNOWN
@@ -90,10 +101,11 @@ enum reply_kind {
 
 struct reply {
     enum reply_kind kind;
-    long first;           // of a chunk: the value of its first iteration
-    unsigned long count;  // of a chunk: iterations; the number of a section or a lock; yes or no; a copied word;
-                          // how often a nestable lock is set
-    char text[LINE_SIZE]; // the line itself, of a refusal
+    long first;          // of a chunk: the value of its first iteration
+    unsigned long count; // of a chunk: iterations; the number of a section, a lock or a task; yes or no; a
+                         // copied word; how often a nestable lock is set
+    unsigned long code, argument; // of a task that is to be executed
+    char text[LINE_SIZE];         // the line itself, of a refusal
 };
 
 // A text that grows up to its room; what is beyond is dropped.

@@ -1,16 +1,17 @@
 // The context of a thread: which member of which team it is, and its control variables. Outside of every
 // region a thread is a team of one, which has an engine once it meets a construct, and is renewed between
-// constructs before its limit of shares. A region that the thread begins then takes the team's place and its
-// engine, so that the locks stay.
+// constructs before its limit of shares or tasks. A region that the thread begins then takes the team's place
+// and its engine, so that the locks stay.
 #include "context.h"
 
 #include "memory.h"
 #include "message.h"
 #include "region.h"
+#include "task.h"
 
 #include <pthread.h>
 
-enum { SHARES_OF_ONE = 131000 }; // the engine's limit is 131,064
+enum { SHARES_OF_ONE = 131000, TASKS_OF_ONE = 500000 }; // the engine's limits are 131,064 and 2^20
 
 static __thread struct context alone; // the context outside of every region
 static __thread struct context *current;
@@ -42,20 +43,36 @@ void context_forget(void) { alone.team = NULL; }
 extern const char __ehdr_start[] __attribute__((visibility("hidden")));
 extern const char _end[] __attribute__((visibility("hidden")));
 
+// The explicit task that the member executes, NULL for none.
+struct task *context_task(const struct context *context)
+{
+    return context->team != NULL ? context->team->members[context->number].task : NULL;
+}
+
+// The place of a call that is a jump, since it is the last thing that a task or a region does: its function.
+static void *place_of_jump(const struct context *context, void *address)
+{
+    const struct task *task = context_task(context);
+    if (task != NULL)
+        return task_function(task);
+    return context->region != NULL ? region_function(context->region) : address;
+}
+
 // The context of the calling thread, which called the library from this address of the program. A call that
-// is the last thing that a region does may be a jump: it returns to the library, and the region's function
-// stands for its place.
+// is a jump returns to the library.
 struct context *context_at(void *address)
 {
     struct context *context = context_now();
     bool is_jump = (const char *)address >= __ehdr_start && (const char *)address < _end;
-    context->address = is_jump && context->region != NULL ? region_function(context->region) : address;
+    context->address = is_jump ? place_of_jump(context, address) : address;
     return context;
 }
 
-static bool is_used_up(const struct member *member)
+static bool is_used_up(const struct team *team)
 {
-    return member->shares >= SHARES_OF_ONE && !member->inside && member->holds == 0;
+    const struct member *member = &team->members[0];
+    bool is_near_limit = member->shares >= SHARES_OF_ONE || team->tasks_made.count >= TASKS_OF_ONE;
+    return is_near_limit && !member_is_engaged(member) && member->holds == 0;
 }
 
 // Sees to it that the team of one stands.
@@ -64,7 +81,7 @@ static void stand_alone(void)
     if (alone.team == NULL) {
         alone.team = team_take(1);
         region_watch_thread_end();
-    } else if (!alone.team->in_use || is_used_up(&alone.team->members[0])) {
+    } else if (!alone.team->in_use || is_used_up(alone.team)) {
         team_renew(alone.team, 1);
     } else {
         return;
@@ -89,11 +106,16 @@ bool context_is_outermost(const struct context *context)
     return outer == NULL || (outer->outer == NULL && outer->team == context->team);
 }
 
-// Makes a call of this member.
+// Makes a call of this member, and executes the tasks that it is given while it would wait.
 struct reply context_call(struct context *context, struct call call)
 {
     call.address = context->address;
-    return team_call(context->team, context->number, &call);
+    struct reply reply = team_call(context->team, context->number, &call);
+    while (reply.kind == REPLY_RUN) {
+        task_execute(context);
+        reply = team_resume(context->team, context->number, &call);
+    }
+    return reply;
 }
 
 // What GOMP_loop_start and its like may ask for besides: memory, whose size stands where its address is to

@@ -39,6 +39,7 @@ struct context {
 struct context *context_now(void);
 struct context *context_at(void *address);
 struct context *context_enter(void *address);
+struct task *context_task(const struct context *context);
 void context_end(void);
 void context_forget(void);
 void context_set(struct context *context);

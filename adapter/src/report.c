@@ -21,6 +21,8 @@ struct meaning {
 static const struct meaning limits[] = {
     {14, "a loop has more than 2^39 iterations"},
     {15, "a construct has more than 65,536 sections"},
+    {26, "tasks are created inside of one another more than 64 deep"},
+    {27, "a parallel region may have 1,048,576 tasks"},
     {29, "the name of a critical region has more than 32 bytes"},
     {33, "a nestable lock is set 65,535 times, or 4,294,967,295 locks were made"},
     {34, "a member may start 131,064 work-shares in one parallel region"},
@@ -32,6 +34,8 @@ static const struct meaning limits[] = {
 static const struct meaning faults[] = {
     {2, "the member has passed the end of the parallel region"},
     {3, "the team is broken"},
+    {6, "the member executes an explicit task, in which this may not be met"},
+    {7, "the member executes no explicit task"},
     {8, "the member is in a work-share, in which this may not be met"},
     {9, "the member is in no work-share of this kind"},
     {10, "the member is in an ordered part"},
@@ -44,6 +48,8 @@ static const struct meaning faults[] = {
     {20, "the loop has no ordered clause"},
     {21, "an ordered part comes twice in an iteration, or not in the order of the iterations"},
     {22, "no such part is open"},
+    {24, "the task has no taskgroup open"},
+    {25, "the task has a taskgroup open"},
     {31, "the thread does not hold this lock"},
     {32, "there is no such lock: it was never initialized, or it was destroyed"},
     {35, "the members of the team did not meet the same constructs in the same order"},
@@ -66,6 +72,15 @@ static const char *meaning_of_held(const struct call *call)
     case CALL_NEST_DESTROY: return "a lock may not be destroyed while it is set";
     default: return "the thread holds this lock already";
     }
+}
+
+static const char *fault_of(const struct team *team, const struct call *call, int refused)
+{
+    if (refused == 30)
+        return meaning_of_held(call);
+    if (refused == 31 && team->tasks_made.count > 0)
+        return "the task does not hold this lock: the task that sets a lock unsets it, and no other";
+    return meaning_of(faults, refused);
 }
 
 static void add_count(unsigned long count, const char *noun, struct text *text)
@@ -100,6 +115,15 @@ static void add_holds(const struct member *member, struct text *text)
     }
 }
 
+// The explicit task that a member executes.
+static void add_task(const struct member *member, struct text *text)
+{
+    if (member->task == NULL)
+        return;
+    text_add(text, ", executing #pragma omp task");
+    place_add(member->task->address, text);
+}
+
 // What a member did last. The members of a group have done the same.
 static void add_deed(const struct member *member, bool is_group, struct text *text)
 {
@@ -111,6 +135,7 @@ static void add_deed(const struct member *member, bool is_group, struct text *te
     call_words(&member->last, &member->share, text);
     place_add(member->last.address, text);
     add_way(member, text);
+    add_task(member, text);
     add_holds(member, text);
 }
 
@@ -184,6 +209,7 @@ static void add_refused_call(const struct team *team, int number, const struct c
         call_words(&member->share, &member->share, text);
         place_add(member->share.address, text);
     }
+    add_task(member, text);
     add_holds(member, text);
     text_add(text, "\n");
 }
@@ -196,7 +222,7 @@ _Noreturn void report_refusal(struct team *team, int number, const struct call *
     snprintf(name, sizeof name, "%s", refusal + strlen("refused "));
     int refused = atoi(name + 1);
     const char *limit = meaning_of(limits, refused);
-    const char *fault = refused == 30 ? meaning_of_held(call) : meaning_of(faults, refused);
+    const char *fault = fault_of(team, call, refused);
     claim_end();
     if (limit != NULL)
         text_add(&text, "dillbeam: %s: a limit of Dillbeam, not a fault of the program: %s\n", name, limit);

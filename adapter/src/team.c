@@ -16,6 +16,13 @@
 //   up.
 // - A critical name or a lock is freed by its owner's call alone, for one member at most: that call asks
 //   again for those that wait for this name or lock, who waits longest first, until one has it.
+// - A task is begun by one member, which waits at a barrier, a region's end, a taskwait or a taskgroup's end.
+//   The call that creates it asks again for these, one after another, until one begins it. If none may, none
+//   may later: what a member has begun stays as it is while it sleeps. Who comes to such a wait is answered
+//   `run` by itself.
+// - A task's end lets pass the taskwait of the task that created it, and taskgroups' ends. A barrier that
+//   waits for tasks is passed by whoever ended the last one: it is at the barrier itself, asks again for
+//   itself, and then for the others.
 // - The semaphore counts: a reply that comes before the member sleeps is not lost.
 // Were that list too short, the team would not hang in silence: when all members wait, each asks once more,
 // and only if all are answered `wait` again is a deadlock named.
@@ -65,6 +72,8 @@ static enum wait waits_for(const struct call *call)
     case CALL_BARRIER:
     case CALL_BARRIER_OF_SHARE:
     case CALL_REGION_END: return WAIT_ARRIVAL;
+    case CALL_TASKWAIT: return WAIT_CHILDREN;
+    case CALL_GROUP_END: return WAIT_GROUP;
     case CALL_LOOP_NEXT:
     case CALL_ORDERED: return WAIT_TURN;
     case CALL_CRITICAL:
@@ -75,8 +84,10 @@ static enum wait waits_for(const struct call *call)
 }
 
 // Whom a call lets pass that was not answered `wait`.
-static unsigned lets_pass(const struct call *call)
+static unsigned lets_pass(const struct call *call, const struct reply *reply)
 {
+    if (reply->kind == REPLY_RUN)
+        return WAIT_NOT;
     switch (call->kind) {
     case CALL_BARRIER:
     case CALL_BARRIER_OF_SHARE:
@@ -136,12 +147,16 @@ static void note_free(struct member *member, const struct call *call)
 }
 
 // Keeps the notes of a member for messages.
-static void note_reply(struct member *member, const struct call *call, const struct reply *reply)
+static void note_reply(struct team *team, struct member *member, const struct call *call,
+                       const struct reply *reply)
 {
     if (gives_hold(call, reply))
         note_hold(member, call);
     if (frees_hold(call, reply))
         note_free(member, call);
+    tasks_made_note(&team->tasks_made, &member->task, reply);
+    if (reply->kind == REPLY_RUN)
+        return;
     switch (call->kind) {
     case CALL_LOOP:
     case CALL_SECTIONS:
@@ -157,18 +172,21 @@ static void note_reply(struct member *member, const struct call *call, const str
     case CALL_SINGLE_COPY_END: member->inside = false; break;
     case CALL_BARRIER:
     case CALL_BARRIER_OF_SHARE: member->barriers++; break;
+    case CALL_GROUP: member->groups++; break;
+    case CALL_GROUP_END: member->groups--; break;
     default: break;
     }
 }
 
-// Takes the reply to a member's `resume`, and wakes the member if it may go on. Answers whether it may.
+// Takes the reply to a member's `resume`, and wakes the member if it may go on, or is to execute a task.
+// Answers whether it is woken.
 static bool receive_again(struct team *team, int number)
 {
     struct member *member = &team->members[number];
     struct reply reply = receive(team, number, &member->last);
     if (reply.kind == REPLY_WAIT)
         return false;
-    note_reply(member, &member->last, &reply);
+    note_reply(team, member, &member->last, &reply);
     member->reply = reply;
     member->wait = WAIT_NOT;
     team->waiting--;
@@ -194,45 +212,92 @@ static unsigned ask_again(struct team *team, unsigned let)
     for (int i = 0; i < count; i++) {
         const struct member *member = &team->members[asked[i]];
         enum wait wait = member->wait;
-        unsigned may_let = lets_pass(&member->last);
         if (receive_again(team, asked[i]) && wait != WAIT_ARRIVAL) // the last to arrive has let all pass
-            let_in_turn |= may_let;
+            let_in_turn |= lets_pass(&member->last, &member->reply);
     }
     return let_in_turn;
 }
 
-// The member that waits longest for what a call has freed, of those whose wait began after another; -1 if
-// there is none.
-static int next_for_hold(const struct team *team, const struct call *call, unsigned long after)
+// Asks once more for one member. Answers whether it is woken.
+static bool ask_one(struct team *team, int number)
+{
+    char line[LINE_SIZE];
+    send_lines(team, line, (size_t)snprintf(line, sizeof line, "%d resume\n", number));
+    return receive_again(team, number);
+}
+
+// The member that waits longest for one of these, of those whose wait began after another; -1 if there is
+// none. `freed` is the call that has freed a name or lock, if it is for one that they wait.
+static int next_waiter(const struct team *team, unsigned let, const struct call *freed, unsigned long after)
 {
     int next = -1;
     for (int number = 0; number < team->size; number++) {
         const struct member *member = &team->members[number];
-        if (member->wait == WAIT_HOLD && member->since > after && call_is_of_one_hold(&member->last, call) &&
+        if (member->wait & let && member->since > after &&
+            (freed == NULL || call_is_of_one_hold(&member->last, freed)) &&
             (next < 0 || member->since < team->members[next].since))
             next = number;
     }
     return next;
 }
 
-// Gives the name or lock that a call has freed to the member that waits longest for it.
-static void hand_on(struct team *team, const struct call *call)
+// Hands what one member alone can have to the one that waits longest of those that may have it. Answers
+// whether there is one.
+static bool hand_on(struct team *team, unsigned let, const struct call *freed)
 {
-    char line[LINE_SIZE];
     unsigned long after = 0;
     int number;
-    while ((number = next_for_hold(team, call, after)) >= 0) {
+    while ((number = next_waiter(team, let, freed, after)) >= 0) {
         after = team->members[number].since;
-        send_lines(team, line, (size_t)snprintf(line, sizeof line, "%d resume\n", number));
-        if (receive_again(team, number))
-            return;
+        if (ask_one(team, number))
+            return true;
     }
+    return false;
 }
 
 static void let_others_pass(struct team *team, unsigned let)
 {
     while (let != WAIT_NOT && team->waiting > 0)
         let = ask_again(team, let);
+}
+
+// Who waits at a barrier is asked first, since it may begin any task.
+static void offer_task(struct team *team)
+{
+    if (!hand_on(team, WAIT_ARRIVAL, NULL))
+        hand_on(team, WAIT_CHILDREN | WAIT_GROUP, NULL);
+}
+
+// The member that executes the task which has created this one; -1 if there is none.
+static int parent_of(const struct team *team, const struct task *task)
+{
+    for (int number = 0; number < team->size; number++) {
+        const struct task *current = team->members[number].task;
+        if (current != NULL ? current->number == task->parent : task->parent == 0 && number == task->creator)
+            return number;
+    }
+    return -1;
+}
+
+static void let_waiters_for_task_pass(struct team *team, const struct task *ended)
+{
+    int parent = parent_of(team, ended);
+    if (parent >= 0 && team->members[parent].wait == WAIT_CHILDREN)
+        ask_one(team, parent);
+    let_others_pass(team, WAIT_GROUP);
+}
+
+// Wakes those whom a call lets go on that was not answered `wait`.
+static void wake_others(struct team *team, const struct call *call, const struct reply *reply)
+{
+    if (frees_hold(call, reply))
+        hand_on(team, WAIT_HOLD, call);
+    else if (call->kind == CALL_TASK)
+        offer_task(team);
+    else if (call->kind == CALL_TASK_END)
+        let_waiters_for_task_pass(team, call->task);
+    else
+        let_others_pass(team, lets_pass(call, reply));
 }
 
 static struct reply wait_for_reply(struct team *team, int number, const struct call *call)
@@ -260,28 +325,50 @@ void team_join(struct team *team, int number)
     pthread_mutex_unlock(&team->lock);
 }
 
-// Makes a member's call and answers its reply, which is not `wait`.
-struct reply team_call(struct team *team, int number, const struct call *call)
+// Sends the line of a member's call and answers its reply, which is not `wait`. The caller holds the team's
+// lock, which is given up.
+static struct reply make_step(struct team *team, int number, const struct call *call, const char *line,
+                              size_t length)
 {
-    char line[LINE_SIZE];
-    size_t length = call_line(call, number, line);
     struct member *member = &team->members[number];
-    pthread_mutex_lock(&team->lock);
-    if (call_is_on_lock(call))
-        locks_made_record(&team->locks_made, team->record, number);
     send_lines(team, line, length);
     struct reply reply = receive(team, number, call);
     member->last = *call;
     if (reply.kind == REPLY_WAIT)
         return wait_for_reply(team, number, call);
-    note_reply(member, call, &reply);
+    note_reply(team, member, call, &reply);
     locks_made_note(&team->locks_made, call, &reply);
-    if (frees_hold(call, &reply))
-        hand_on(team, call);
-    else
-        let_others_pass(team, lets_pass(call));
+    wake_others(team, call, &reply);
     pthread_mutex_unlock(&team->lock);
     return reply;
+}
+
+// Makes a member's call and answers its reply, which is not `wait`. After `run` and the end of that task the
+// member asks again.
+struct reply team_call(struct team *team, int number, const struct call *call)
+{
+    char line[LINE_SIZE];
+    pthread_mutex_lock(&team->lock);
+    if (call_is_on_lock(call))
+        locks_made_record(&team->locks_made, team->record, number);
+    if (call->kind == CALL_TASK)
+        tasks_made_add(&team->tasks_made, call->task, team->record);
+    return make_step(team, number, call, line, call_line(call, number, line));
+}
+
+// Asks again for a call that was answered `run`.
+struct reply team_resume(struct team *team, int number, const struct call *call)
+{
+    char line[LINE_SIZE];
+    pthread_mutex_lock(&team->lock);
+    size_t length = (size_t)snprintf(line, sizeof line, "%d resume\n", number);
+    return make_step(team, number, call, line, length);
+}
+
+// Whether a member is in a construct of its team that no other team can stand in for.
+bool member_is_engaged(const struct member *member)
+{
+    return member->inside || member->task != NULL || member->groups > 0;
 }
 
 static void begin(struct team *team, int size)
@@ -300,6 +387,8 @@ static void begin(struct team *team, int size)
         member->last.kind = member->share.kind = CALL_NONE;
         member->inside = false;
         member->shares = member->barriers = 0;
+        member->task = NULL;
+        member->groups = 0;
         member->holds = 0;
         member->wait = WAIT_NOT;
     }
@@ -315,6 +404,7 @@ static void finish(struct team *team)
 {
     pthread_mutex_lock(&team->lock);
     memory_free_all(team);
+    tasks_made_free(&team->tasks_made);
     record_close(team->record);
     team->record = -1;
     for (int number = 0; number < team->size; number++)

@@ -5,6 +5,7 @@
 #include "call.h"
 #include "engine.h"
 #include "locks_made.h"
+#include "tasks_made.h"
 
 #include <pthread.h>
 #include <semaphore.h>
@@ -13,7 +14,16 @@
 enum { MOST_MEMBERS = 64 };
 
 // What lets a member that waits go on.
-enum wait { WAIT_NOT = 0, WAIT_ARRIVAL = 1, WAIT_LEAVE = 2, WAIT_TURN = 4, WAIT_HOLD = 8, WAIT_ANY = 15 };
+enum wait {
+    WAIT_NOT = 0,
+    WAIT_ARRIVAL = 1,
+    WAIT_LEAVE = 2,
+    WAIT_TURN = 4,
+    WAIT_HOLD = 8,
+    WAIT_CHILDREN = 16,
+    WAIT_GROUP = 32,
+    WAIT_ANY = 63
+};
 
 enum { HOLDS_NOTED = 8 };
 
@@ -23,6 +33,8 @@ struct member {
     struct call share;              // the start of the work-share that it is, or was last, in
     bool inside;                    // of that share
     unsigned long shares, barriers; // it has started and passed, in this region
+    struct task *task;              // the explicit task that it executes, NULL for none
+    int groups;                     // taskgroups that it has open
     int holds;                      // critical names and locks that it holds now
     struct call held[HOLDS_NOTED];  // the calls that got the first of them
     enum wait wait;
@@ -40,6 +52,7 @@ struct team {
     unsigned long number;         // of the team, from 1
     unsigned long waits;          // so many members have waited yet
     struct locks_made locks_made; // by this engine, for all its teams
+    struct tasks_made tasks_made; // in this region
     struct memory *memories;
     struct team *next; // of those that are idle
     struct team *next_of_all;
@@ -53,6 +66,8 @@ void team_renew(struct team *team, int size);
 void team_rest(struct team *team);
 void team_join(struct team *team, int number);
 struct reply team_call(struct team *team, int number, const struct call *call);
+struct reply team_resume(struct team *team, int number, const struct call *call);
+bool member_is_engaged(const struct member *member);
 struct team *team_after(struct team *team);
 unsigned long calls_made(void);
 void teams_forget(void);

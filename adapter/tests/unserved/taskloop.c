@@ -1,4 +1,4 @@
-// GOMP_taskloop: a taskloop; gcc opens a group of tasks around it, unless nogroup stands there.
+// GOMP_taskloop: a taskloop.
 #include "../check.h"
 
 int main(void) {
@@ -7,7 +7,7 @@ int main(void) {
     {
 #pragma omp single
         {
-#pragma omp taskloop nogroup
+#pragma omp taskloop
             for (int i = 0; i < 20; i++)
                 COUNT(done[i]);
         }

@@ -10,7 +10,7 @@ use Rattle.gomp_types.specs.declared.event.Event.{Event}
 use Rattle.gomp_types.specs.declared.event.Event.TheVariants.{Create, Done}
 use Rattle.gomp_types.specs.Tasks.{tasks_created, is_created, is_complete, all_complete, epoch, epoch_of_child, how_many, open_tasks, is_odd}
 use Rattle.gomp_types.specs.Goals.{bound_complete}
-use Rattle.gomp_types.proofs.Booleans.{and_left, and_right, and_false, same_number, other_number, is_equal, not_both}
+use Rattle.gomp_types.proofs.Booleans.{and_false, same_number, other_number, is_equal}
 use Rattle.gomp_types.proofs.OpenTasks.{how_many_same, none_counted, created_low, created_high, open_done, open_done_other, open_created, closed_all, all_closed}
 use Rattle.gomp_types.proofs.LaterTasks.{old_created}
 use Rattle.gomp_barrier.specs.declared.bound.BoundTasks.{BoundTasks}

@@ -1,10 +1,9 @@
--- What the tests of an arrival, of the wait after it, of a reservation and of a break tell.
-use Rattle.std.proofs.Common.{◌≡◌, ◌≢◌, ℕ, ◌+◌, ◌<◌, ◌≤◌, Bool, true, false, List, [], ◌∷◌, ◌++◌, Option, Some, None, refl, arith, suc, zero}
+-- What the tests of an arrival, of the wait after it, of a reservation, of words and of a break tell.
+use Rattle.std.proofs.Common.{◌≡◌, ℕ, ◌+◌, ◌<◌, ◌≤◌, Bool, true, false, List, ◌∷◌, ◌++◌, Option, Some, None, refl, arith, suc, zero}
 use Rattle.std.specs.Prelude.{min, reverse}
 use Rattle.std.proofs.lemmas.Bool.{ltb-false}
 use Rattle.gomp_types.specs.declared.limits.Limits.{Limits}
 use Rattle.gomp_types.specs.declared.refusal.Clash.{Clash}
-use Rattle.gomp_types.specs.declared.refusal.Refusal.{Refusal}
 use Rattle.gomp_types.specs.declared.refusal.Refusal.TheVariants.{Ended, Broken, Mismatch}
 use Rattle.gomp_types.specs.declared.reply.Reply.{Reply}
 use Rattle.gomp_types.specs.declared.reply.Reply.TheVariants.{Refused}
@@ -19,8 +18,8 @@ use Rattle.gomp_types.specs.Least.{least}
 use Rattle.gomp_types.specs.TaskCalls.{lacks_room, AwaitsTasks}
 use Rattle.gomp_types.proofs.LeastTests.{AllFail, all_fail, fail_first, fail_later, lesser_low}
 use Rattle.gomp_board.specs.declared.op.Op.{Op}
-use Rattle.gomp_board.specs.declared.op.Op.TheVariants.{Arrive, Reserve}
-use Rattle.gomp_board.specs.Ops.{arrival_asks, broken_tests, member_tests, end_tests, op_tests, op_refusal}
+use Rattle.gomp_board.specs.declared.op.Op.TheVariants.{Arrive, Reserve, Put, Got}
+use Rattle.gomp_board.specs.Ops.{arrival_asks, words_ask, broken_tests, member_tests, end_tests, op_tests, op_refusal}
 use Rattle.gomp_barrier.specs.Stands.{members_of as barrier_members}
 use Rattle.gomp_board.specs.Boards.{BoardView, Stands, IsBoard, IsAdmitted, ArrivesFirst, kept_by}
 use Rattle.gomp_board.proofs.Admitted.{tests_fail}
@@ -65,6 +64,13 @@ arrival_has_room limits room kept m tag h fine = (fail_later (end_tests tag.kind
 pub reserve_has_room : (limits : Limits) (room kept m more : ℕ) (h : List Event) → op_refusal limits room kept m (Reserve more) h ≡ None → lacks_room limits.events room more ≡ false
 reserve_has_room limits room kept m more h fine = (tests_fail limits room kept m (Reserve more) h fine).1.1.0
 
+-- and for words
+pub put_has_room : (limits : Limits) (room kept m share : ℕ) (words : List ℕ) (h : List Event) → op_refusal limits room kept m (Put share words) h ≡ None → lacks_room limits.events room (words_ask kept) ≡ false
+put_has_room limits room kept m share words h fine = (tests_fail limits room kept m (Put share words) h fine).1.1.0
+
+pub got_has_room : (limits : Limits) (room kept m share : ℕ) (words : List ℕ) (h : List Event) → op_refusal limits room kept m (Got share words) h ≡ None → lacks_room limits.events room (words_ask kept) ≡ false
+got_has_room limits room kept m share words h fine = (tests_fail limits room kept m (Got share words) h fine).1.0
+
 -- and the room asked for stays small
 pub room_stays_small : (limits : Limits) (room more : ℕ) → capped_limits limits ≡ limits → room < 4294967296 → lacks_room limits.events room more ≡ false → room + more < 4294967296
 room_stays_small limits room zero capped small fits = omega (arith, small)
@@ -97,3 +103,6 @@ arrival_stays_small space m tag board is small admitted =
 pub reserve_stays_small : (space m more : ℕ) (board : BoardView) → IsBoard space board → board.room < 4294967296 → IsAdmitted (Reserve more) m board → board.room + more < 4294967296
 reserve_stays_small space m more board is small admitted =
     room_stays_small board.limits board.room more is.limits small (reserve_has_room board.limits board.room (kept_by m board) m more (reverse board.history) (admitted (reverse board.history) is.stands))
+
+pub words_stay_small : (space m : ℕ) (board : BoardView) → IsBoard space board → board.room < 4294967296 → lacks_room board.limits.events board.room (words_ask (kept_by m board)) ≡ false → board.room + words_ask (kept_by m board) < 4294967296
+words_stay_small space m board is small fits = room_stays_small board.limits board.room (words_ask (kept_by m board)) is.limits small fits

@@ -1,5 +1,5 @@
 -- What an arrival does to a board, in its three steps: room is made, the arrival is noted, and the member passes, executes a task or waits.
-use Rattle.std.proofs.Common.{◌≡◌, ℕ, ◌+◌, List, ◌++◌, length, length-set, refl, ap, ◌∙◌, sym, subst}
+use Rattle.std.proofs.Common.{◌≡◌, ℕ, ◌+◌, List, ◌++◌, length, length-set, ap, ◌∙◌, sym, subst}
 use Rattle.std.specs.Prelude.{reverse, slice_set}
 use Rattle.gomp_types.specs.declared.reply.Reply.{Reply}
 use Rattle.gomp_types.specs.declared.event.Tag.{Tag}
@@ -27,4 +27,4 @@ arrival_performed tag m more old made noted after reply admitted asks room_made 
     op_performed (Arrive tag) m old after reply reply_is admitted
     (λ h st. subst (λ (n : ℕ). AwaitsTasks m (may_pass n m (begun m (Arrive tag) h)) (begun m (Arrive tag) h) reply) size (answer (begun m (Arrive tag) h) (arrived h st)))
     (λ h st. passes (begun m (Arrive tag) h) (arrived h st)) (limits ∙ limits_noted ∙ ap (λ (v : BoardView). v.limits) room_made)
-    (room ∙ room_noted ∙ ap (λ (v : BoardView). v.room) room_made ∙ ap (λ (n : ℕ). old.room + n) asks) (kept ∙ kept_is)
+    (room ∙ room_noted ∙ ap (λ (v : BoardView). v.room) room_made ∙ ap (λ (n : ℕ). old.room + n) asks) (kept ∙ kept_is) (λ wait goes. absurd (cc))

@@ -1,6 +1,6 @@
 -- A group that is open was not ended, and is open in one task alone.
-use Rattle.std.proofs.Common.{◌≡◌, ◌≢◌, ℕ, ◌+◌, ◌<◌, Bool, true, false, List, [], ◌∷◌, Some, refl, ap, sym, ◌∙◌, arith, inl, inr}
-use Rattle.std.specs.Prelude.{◌||◌, ◌==◌, if◌then◌else◌, Option, None}
+use Rattle.std.proofs.Common.{◌≡◌, ℕ, ◌<◌, Bool, true, false, List, [], ◌∷◌, Some, refl, ap, sym, ◌∙◌, arith, inl, inr}
+use Rattle.std.specs.Prelude.{◌==◌, if◌then◌else◌, Option, None}
 use Rattle.std.proofs.lemmas.Bool.{cases_Bool}
 use Rattle.gomp_types.specs.declared.task.Task.{Task}
 use Rattle.gomp_types.specs.declared.task.Task.TheVariants.{Implicit, Explicit}
@@ -10,7 +10,7 @@ use Rattle.gomp_types.specs.Tasks.{same_task, executed_task, after_first, contai
 use Rattle.gomp_types.specs.Groups.{groups_opened, open_groups}
 use Rattle.gomp_types.specs.Laws.{Always}
 use Rattle.gomp_types.specs.TaskRules.{TaskRule}
-use Rattle.gomp_types.proofs.Booleans.{or_tells, same_number, other_number, is_equal, not_both}
+use Rattle.gomp_types.proofs.Booleans.{or_tells, same_number, is_equal, not_both}
 use Rattle.gomp_board.specs.ReadyTasks.{Apart}
 use Rattle.gomp_board.specs.Owed.{has_group_ended}
 

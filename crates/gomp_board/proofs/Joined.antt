@@ -1,14 +1,13 @@
 -- The parts of a board joined: for what it stands after a stored event, and that it is a board then.
-use Rattle.std.proofs.Common.{◌≡◌, ℕ, ◌+◌, ◌<◌, ◌≤◌, true, List, [], ◌∷◌, ◌++◌, Option, Some, None, length, length-set, refl, ap, ◌∙◌, sym, subst, arith}
-use Rattle.std.specs.Prelude.{reverse, sum, slice_set, slice_index_or}
+use Rattle.std.proofs.Common.{◌≡◌, ℕ, ◌+◌, ◌<◌, ◌≤◌, true, List, [], ◌∷◌, ◌++◌, Some, None, length, length-set, refl, ap, ◌∙◌, sym, subst, arith}
+use Rattle.std.specs.Prelude.{reverse, sum, slice_set}
 use Rattle.std.proofs.lemmas.List.{length-reverse}
 use Rattle.gomp_types.specs.declared.task.Task.{Task}
-use Rattle.gomp_types.specs.declared.refusal.Clash.{Clash}
 use Rattle.gomp_types.specs.declared.refusal.Place.{Place}
 use Rattle.gomp_types.specs.declared.event.Tag.{Tag}
 use Rattle.gomp_types.specs.declared.event.Event.{Event}
 use Rattle.gomp_types.specs.declared.event.Event.TheVariants.{Arrive, Pass, Break}
-use Rattle.gomp_types.specs.Events.{barriers_passed, at_barrier, clash_of}
+use Rattle.gomp_types.specs.Events.{barriers_passed, at_barrier}
 use Rattle.gomp_types.specs.Tasks.{executed_task}
 use Rattle.gomp_tasks.proofs.Laws.{events_aside_keep_tasks}
 use Rattle.gomp_groups.specs.Stands.{IsSeated}
@@ -19,8 +18,9 @@ use Rattle.gomp_barrier.specs.Stands.{BarriersView, Stands as BarriersStand, mem
 use Rattle.gomp_barrier.proofs.Laws.{events_aside_keep_barriers}
 use Rattle.gomp_board.specs.Owed.{owed}
 use Rattle.gomp_board.specs.Ops.{arrival_asks, arrival_keeps}
-use Rattle.gomp_board.specs.Boards.{BoardView, Stands, HasMembers, HasRoom, HasSpare, IsBoard, ArrivesFirst, members_of, kept_by}
+use Rattle.gomp_board.specs.Boards.{BoardView, Stands, HasMembers, HasSpare, IsBoard, ArrivesFirst, members_of, kept_by}
 use Rattle.gomp_board.proofs.BarrierNumbers.{passed_within, shown_exactly}
+use Rattle.gomp_board.proofs.PayloadsKeep.{payloads_stay}
 use Rattle.gomp_board.proofs.StoredKeeps.{stored_with, history_after}
 use Rattle.gomp_board.proofs.RoomKeeps.{room_within, sum_with, kept_within}
 use Rattle.gomp_board.proofs.OwedKeeps.{arrival_owes, pass_owes, break_owes}
@@ -37,14 +37,14 @@ executed_task_seated space board m task is low executes =
 
 -- room changes nothing of what it stands for
 pub roomy_stands : (b : BoardView) (room : ℕ) (h : List Event) → Stands b h → Stands (record b { room = room }) h
-roomy_stands b room h st = record { tasks = st.tasks; groups = st.groups; barriers = st.barriers; ready = st.ready; clash = st.clash; history = st.history }
+roomy_stands b room h st = record { tasks = st.tasks; groups = st.groups; barriers = st.barriers; ready = st.ready; clash = st.clash; payloads = st.payloads; history = st.history }
 
 pub stands_before : (b : BoardView) (room : ℕ) (h : List Event) → Stands (record b { room = room }) h → Stands b h
-stands_before b room h st = record { tasks = st.tasks; groups = st.groups; barriers = st.barriers; ready = st.ready; clash = st.clash; history = st.history }
+stands_before b room h st = record { tasks = st.tasks; groups = st.groups; barriers = st.barriers; ready = st.ready; clash = st.clash; payloads = st.payloads; history = st.history }
 
 -- nor does what a member keeps
 pub keeping_stands : (b : BoardView) (room : ℕ) (kept : List ℕ) (h : List Event) → Stands b h → Stands (record b { room = room; kept = kept }) h
-keeping_stands b room kept h st = record { tasks = st.tasks; groups = st.groups; barriers = st.barriers; ready = st.ready; clash = st.clash; history = st.history }
+keeping_stands b room kept h st = record { tasks = st.tasks; groups = st.groups; barriers = st.barriers; ready = st.ready; clash = st.clash; payloads = st.payloads; history = st.history }
 
 pub keeping_board : (space m more : ℕ) (b : BoardView) → IsBoard space b → m < members_of b → HasSpare more b → IsBoard space (record b { kept = slice_set b.kept m (kept_by m b + more) })
 keeping_board space m more b is low spare =
@@ -77,6 +77,7 @@ arrived_stands b history barriers kept m barrier tag h more next st = record {
   barriers = next;
   ready = record { ready = st.ready.ready; apart = st.ready.apart };
   clash = st.clash;
+  payloads = payloads_stay b.payloads (Arrive barrier m tag) h tt st.payloads;
   history = stored_with b.history history (Arrive barrier m tag) h refl more st.history;
 }
 
@@ -95,6 +96,7 @@ passed_stands b history barriers m barrier h more next st = record {
   barriers = next;
   ready = record { ready = st.ready.ready; apart = st.ready.apart };
   clash = st.clash;
+  payloads = payloads_stay b.payloads (Pass barrier m) h tt st.payloads;
   history = stored_with b.history history (Pass barrier m) h refl more st.history;
 }
 
@@ -112,6 +114,7 @@ broken_stands b history m place h more whole st = record {
   barriers = events_aside_keep_barriers b.barriers h (Break m place) tt st.barriers;
   ready = record { ready = st.ready.ready; apart = st.ready.apart };
   clash = rw (st.clash ∙ whole) refl;
+  payloads = payloads_stay b.payloads (Break m place) h tt st.payloads;
   history = stored_with b.history history (Break m place) h refl more st.history;
 }
 

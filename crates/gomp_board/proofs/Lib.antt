@@ -2,13 +2,17 @@ pub mod Admitted
 pub mod AdmittedArrivals
 pub mod ArrivalPerformed
 pub mod BarrierNumbers
+pub mod BoardExamples
 pub mod GroupsOpen
 pub mod Joined
+pub mod Laws
 pub mod NewBoard
 pub mod OpAnswerExamples
 pub mod OpTestExamples
 pub mod OwedKeeps
 pub mod Passing
+pub mod PayloadExamples
+pub mod PayloadsKeep
 pub mod Performed
 pub mod ReadyExamples
 pub mod ReadyKeeps
@@ -23,3 +27,4 @@ pub mod TaskCallExamples
 pub mod TaskEvents
 pub mod TaskSteps
 pub mod Waiting
+pub mod WordsNoted

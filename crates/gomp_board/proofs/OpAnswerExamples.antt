@@ -1,17 +1,15 @@
 -- What each operation is answered: an answer that is right, and wrong ones that the definitions refuse.
-use Rattle.std.proofs.Common.{◌≡◌, ℕ, true, false, List, [], ◌∷◌, ◌++◌, Some, None, refl, rules}
-use Rattle.std.specs.Prelude.{map}
+use Rattle.std.proofs.Common.{true, false, [], ◌∷◌, ◌++◌, rules}
 use Rattle.gomp_types.specs.declared.task.Task.TheVariants.{Implicit}
-use Rattle.gomp_types.specs.declared.refusal.Place.TheVariants.{Share, Barrier as AtBarrier, Stopped as AtStop}
-use Rattle.gomp_types.specs.declared.refusal.Refusal.TheVariants.{Ended, Broken, Waiting, InsideTask, NotInTask, NotInside, NoGroup, GroupOpen, TooDeep, TooManyTasks, Mismatch, TraceFull, NoMemory}
-use Rattle.gomp_types.specs.declared.reply.Reply.{Reply}
-use Rattle.gomp_types.specs.declared.reply.Reply.TheVariants.{NoChunk, Finished, Passed, Wait, Created, Run, TaskDone, Stopped, Refused}
+use Rattle.gomp_types.specs.declared.refusal.Place.TheVariants.{Share, Stopped as AtStop}
+use Rattle.gomp_types.specs.declared.refusal.Refusal.TheVariants.{Ended, Waiting, InsideTask, NotInTask, GroupOpen, Mismatch, TraceFull, NoMemory, NoGroup}
+use Rattle.gomp_types.specs.declared.reply.Reply.TheVariants.{Copied, Finished, Passed, Wait, Created, Run, TaskDone, Stopped, Refused}
 use Rattle.gomp_types.specs.declared.event.Arrival.TheVariants.{Barrier, ShareEnd, RegionEnd}
-use Rattle.gomp_types.specs.declared.event.Event.TheVariants.{Arrive, Pass, Create, Start, Group}
+use Rattle.gomp_types.specs.declared.event.Event.TheVariants.{Create, Start, Group}
 use Rattle.gomp_types.specs.EventLists.{at}
-use Rattle.gomp_board.specs.declared.op.Op.TheVariants.{Create as CreateTask, EndTask, AwaitChildren, OpenGroup, EndGroup, Arrive as ArriveAt, AwaitBarrier, Reserve, Break as BreakAt}
+use Rattle.gomp_board.specs.declared.op.Op.TheVariants.{Create as CreateTask, EndTask, AwaitChildren, OpenGroup, EndGroup, AwaitGroup, Arrive as ArriveAt, AwaitBarrier, Reserve, Put as PutWords, Got as GiveWords, Break as BreakAt}
 use Rattle.gomp_board.specs.Ops.{OpAnswer}
-use Rattle.gomp_board.specs.Examples.{seven, eight, creates_root, one_ready, one_runs, one_done, other_runs, group_empty, group_ready, group_done, first_waits, both_wait, runs_there, second_ends, both_end, first_left, stopped, limits_of, usual_limits, Allows, Excludes, ExcludesEach}
+use Rattle.gomp_board.specs.Examples.{seven, one_ready, one_runs, one_done, other_runs, group_ready, group_done, first_waits, both_wait, second_ends, usual_limits, words, Allows, Excludes, ExcludesEach}
 
 -- Tasks
 
@@ -87,6 +85,17 @@ group_end_waits = search rules
 pub wrong_at_waiting_group : ExcludesEach EndGroup (Start 1 1 ∷ group_ready) (Passed ∷ Run 1 7 9 false ∷ [])
 wrong_at_waiting_group = search rules
 
+-- so is the wait there
+pub group_wait_answers : Allows AwaitGroup group_done Passed × Allows AwaitGroup group_ready (Run 1 7 9 false) × Allows AwaitGroup (Start 1 1 ∷ group_ready) Wait
+group_wait_answers = search rules
+
+pub wrong_group_waits : ExcludesEach AwaitGroup group_done (Wait ∷ Finished ∷ []) × ExcludesEach AwaitGroup group_ready (Passed ∷ Wait ∷ []) × ExcludesEach AwaitGroup (Start 1 1 ∷ group_ready) (Passed ∷ Refused NoMemory ∷ [])
+wrong_group_waits = search rules
+
+-- with no group open it waits
+pub no_group_waits : Allows AwaitGroup [] Wait × ExcludesEach AwaitGroup [] (Passed ∷ Refused NoGroup ∷ [])
+no_group_waits = search rules
+
 -- a task that was created before the group does not count
 pub group_end_beside_a_task : Allows EndGroup (Group 0 0 ∷ one_ready) Passed
 group_end_beside_a_task = search rules
@@ -143,6 +152,23 @@ reserve_answer = search rules
 pub wrong_reserve_answers : ExcludesEach (Reserve 2) [] (Passed ∷ Wait ∷ [])
 wrong_reserve_answers = search rules
 
+-- words that are put, and words that are given
+pub words_answer : Allows (PutWords 3 words) [] Finished × Allows (GiveWords 3 words) [] Finished
+words_answer = search rules
+
+pub wrong_put_answers : ExcludesEach (PutWords 3 words) [] (Passed ∷ Wait ∷ Copied words ∷ Refused InsideTask ∷ Refused TraceFull ∷ [])
+wrong_put_answers = search rules
+
+pub wrong_gift_answers : ExcludesEach (GiveWords 3 words) [] (Passed ∷ Wait ∷ Copied words ∷ Refused InsideTask ∷ Refused TraceFull ∷ [])
+wrong_gift_answers = search rules
+
+-- they are not put in a task; a member may be given some there
+pub words_answer_in_tasks : Allows (PutWords 3 words) one_runs (Refused InsideTask) × Allows (GiveWords 3 words) one_runs Finished
+words_answer_in_tasks = search rules
+
+pub words_let_in_tasks : ExcludesEach (PutWords 3 words) one_runs (Finished ∷ Refused NoMemory ∷ []) × ExcludesEach (GiveWords 3 words) one_runs (Wait ∷ Refused InsideTask ∷ [])
+words_let_in_tasks = search rules
+
 pub stop_answer : Allows (BreakAt AtStop) first_waits Stopped
 stop_answer = search rules
 
@@ -184,7 +210,7 @@ differing_share_let_in = search rules
 -- at operations that ask for room
 pub no_memory_for_room :
     Allows (CreateTask seven) [] (Refused NoMemory) × Allows OpenGroup [] (Refused NoMemory) × Allows (ArriveAt (at Barrier 0)) [] (Refused NoMemory) × Allows (Reserve 1) [] (Refused NoMemory)
-    × Allows (ArriveAt (at ShareEnd 0)) [] (Refused NoMemory)
+    × Allows (ArriveAt (at ShareEnd 0)) [] (Refused NoMemory) × Allows (PutWords 3 words) [] (Refused NoMemory) × Allows (GiveWords 3 words) [] (Refused NoMemory)
 no_memory_for_room = search rules
 
 -- at no other
@@ -212,6 +238,10 @@ no_memory_at_stop = search rules
 -- not at the end of a share whose room was kept
 pub no_memory_with_room_kept : OpAnswer usual_limits 5 2 2 0 (ArriveAt (at ShareEnd 0)) [] (Refused NoMemory) → ⊥
 no_memory_with_room_kept = search rules
+
+-- nor for words whose room was kept
+pub no_memory_with_words_kept : (OpAnswer usual_limits 5 1 2 0 (PutWords 3 words) [] (Refused NoMemory) → ⊥) × (OpAnswer usual_limits 5 1 2 0 (GiveWords 3 words) [] (Refused NoMemory) → ⊥)
+no_memory_with_words_kept = search rules
 
 -- and not beside a test that holds
 pub no_memory_beside_a_test : Excludes (CreateTask seven) first_waits (Refused NoMemory) × Excludes (ArriveAt (at Barrier 0)) second_ends (Refused NoMemory)

@@ -1,18 +1,17 @@
 -- What each operation is tested for, what room it asks for, and which events it gives: each line of a definition by an example that it alone decides.
-use Rattle.std.proofs.Common.{◌≡◌, ℕ, true, false, List, [], ◌∷◌, ◌++◌, Some, None, refl}
+use Rattle.std.proofs.Common.{◌≡◌, true, false, List, [], ◌∷◌, ◌++◌, Some, None, refl}
 use Rattle.std.specs.Prelude.{map}
-use Rattle.gomp_types.specs.declared.task.Task.TheVariants.{Implicit, Explicit}
+use Rattle.gomp_types.specs.declared.task.Task.TheVariants.{Explicit}
 use Rattle.gomp_types.specs.declared.refusal.Place.TheVariants.{Share, Barrier as AtBarrier, Stopped as AtStop}
 use Rattle.gomp_types.specs.declared.refusal.Refusal.TheVariants.{Ended, Broken, Waiting, InsideTask, NotInTask, NotInside, NoGroup, GroupOpen, TooDeep, TooManyTasks, Mismatch, TraceFull, NoMemory}
 use Rattle.gomp_types.specs.declared.reply.Reply.TheVariants.{Finished, Passed, Wait, Created, Run, TaskDone, Stopped, Refused}
 use Rattle.gomp_types.specs.declared.event.Arrival.TheVariants.{Barrier, ShareEnd, RegionEnd}
-use Rattle.gomp_types.specs.declared.event.Event.{Event}
-use Rattle.gomp_types.specs.declared.event.Event.TheVariants.{Arrive, Pass, Create, Start, Done, Group, GroupEnd, Waited, Break}
+use Rattle.gomp_types.specs.declared.event.Event.TheVariants.{Put, Got, Arrive, Pass, Create, Start, Done, Group, GroupEnd, Waited, Break}
 use Rattle.gomp_types.specs.EventLists.{at}
 use Rattle.gomp_board.specs.declared.op.Op.{Op}
-use Rattle.gomp_board.specs.declared.op.Op.TheVariants.{Create as CreateTask, EndTask, AwaitChildren, OpenGroup, EndGroup, Arrive as ArriveAt, AwaitBarrier, Reserve, Break as BreakAt}
-use Rattle.gomp_board.specs.Ops.{arrival_asks, op_asks, arrival_keeps, op_keeps, awaits_barrier, is_stop, op_refusal, op_begins, begun, op_gives, op_place, op_after, asks_memory}
-use Rattle.gomp_board.specs.Examples.{seven, eight, creates_root, creates_in, one_ready, one_runs, one_done, nested, group_empty, group_ready, group_done, first_waits, both_wait, runs_there, second_ends, both_end, first_left, stopped, limits_of, usual_limits, usual_refusal}
+use Rattle.gomp_board.specs.declared.op.Op.TheVariants.{Create as CreateTask, EndTask, AwaitChildren, OpenGroup, EndGroup, AwaitGroup, Arrive as ArriveAt, AwaitBarrier, Reserve, Put as PutWords, Got as GiveWords, Break as BreakAt}
+use Rattle.gomp_board.specs.Ops.{arrival_asks, words_ask, op_asks, arrival_keeps, words_keep, op_keeps, awaits_barrier, is_stop, op_refusal, op_begins, begun, op_after, asks_memory, goes_on_waiting}
+use Rattle.gomp_board.specs.Examples.{seven, eight, creates_root, one_ready, one_runs, one_done, nested, group_empty, group_ready, first_waits, both_wait, runs_there, second_ends, both_end, first_left, stopped, limits_of, usual_refusal, words}
 
 -- Room
 
@@ -21,40 +20,57 @@ pub arrivals_ask :
     (map (arrival_asks Barrier) (0 ∷ 2 ∷ []) ≡ 2 ∷ 2 ∷ []) × (map (arrival_asks ShareEnd) (0 ∷ 1 ∷ 2 ∷ 5 ∷ []) ≡ 2 ∷ 2 ∷ 0 ∷ 0 ∷ []) × (map (arrival_asks RegionEnd) (0 ∷ 2 ∷ []) ≡ 0 ∷ 0 ∷ [])
 arrivals_ask = (refl, refl, refl)
 
+-- words ask for one, unless their member has kept it
+pub words_ask_for_room : map words_ask (0 ∷ 1 ∷ 2 ∷ []) ≡ 1 ∷ 0 ∷ 0 ∷ []
+words_ask_for_room = refl
+
+-- when they are put, and when they are given to a member
+pub words_ask_alike : (map (op_asks (PutWords 3 words)) (0 ∷ 1 ∷ []) ≡ 1 ∷ 0 ∷ []) × (map (op_asks (GiveWords 3 words)) (0 ∷ 1 ∷ []) ≡ 1 ∷ 0 ∷ [])
+words_ask_alike = (refl, refl)
+
 -- each operation asks for so much if its member has kept two
 pub operations_ask :
     map (λ op. op_asks op 2)
-    (CreateTask seven ∷ EndTask ∷ AwaitChildren ∷ OpenGroup ∷ EndGroup ∷ ArriveAt (at Barrier 0) ∷ ArriveAt (at ShareEnd 0) ∷ ArriveAt (at RegionEnd 0) ∷ AwaitBarrier ∷ Reserve 0 ∷ Reserve 4 ∷ BreakAt AtStop ∷ [])
-    ≡ 3 ∷ 0 ∷ 0 ∷ 2 ∷ 0 ∷ 2 ∷ 0 ∷ 0 ∷ 0 ∷ 0 ∷ 4 ∷ 0 ∷ []
+    (CreateTask seven ∷ EndTask ∷ AwaitChildren ∷ OpenGroup ∷ EndGroup ∷ ArriveAt (at Barrier 0) ∷ ArriveAt (at ShareEnd 0) ∷ ArriveAt (at RegionEnd 0) ∷ AwaitBarrier ∷ Reserve 0 ∷ Reserve 4 ∷ PutWords 3 words ∷ GiveWords 3 words ∷ BreakAt AtStop ∷ [])
+    ≡ 3 ∷ 0 ∷ 0 ∷ 2 ∷ 0 ∷ 2 ∷ 0 ∷ 0 ∷ 0 ∷ 0 ∷ 4 ∷ 0 ∷ 0 ∷ 0 ∷ []
 operations_ask = refl
 
 -- so for memory: those that ask for room
 pub operations_take_memory :
     map (λ op. asks_memory op 1)
-    (CreateTask seven ∷ EndTask ∷ AwaitChildren ∷ OpenGroup ∷ EndGroup ∷ ArriveAt (at Barrier 0) ∷ ArriveAt (at ShareEnd 0) ∷ ArriveAt (at RegionEnd 0) ∷ AwaitBarrier ∷ Reserve 0 ∷ Reserve 4 ∷ BreakAt AtStop ∷ [])
-    ≡ true ∷ false ∷ false ∷ true ∷ false ∷ true ∷ true ∷ false ∷ false ∷ false ∷ true ∷ false ∷ []
+    (CreateTask seven ∷ EndTask ∷ AwaitChildren ∷ OpenGroup ∷ EndGroup ∷ ArriveAt (at Barrier 0) ∷ ArriveAt (at ShareEnd 0) ∷ ArriveAt (at RegionEnd 0) ∷ AwaitBarrier ∷ Reserve 0 ∷ Reserve 4 ∷ PutWords 3 words ∷ GiveWords 3 words ∷ BreakAt AtStop ∷ [])
+    ≡ true ∷ false ∷ false ∷ true ∷ false ∷ true ∷ true ∷ false ∷ false ∷ false ∷ true ∷ false ∷ false ∷ false ∷ []
 operations_take_memory = refl
+
+-- words do if none is kept
+pub words_take_memory : map (λ op. asks_memory op 0) (PutWords 3 words ∷ GiveWords 3 words ∷ []) ≡ true ∷ true ∷ []
+words_take_memory = refl
 
 -- the end of a share uses two of what was kept, if there is so much
 pub arrivals_keep_room :
     (map (arrival_keeps ShareEnd) (0 ∷ 1 ∷ 2 ∷ 5 ∷ []) ≡ 0 ∷ 1 ∷ 0 ∷ 3 ∷ []) × (map (arrival_keeps Barrier) (0 ∷ 2 ∷ 5 ∷ []) ≡ 0 ∷ 2 ∷ 5 ∷ []) × (map (arrival_keeps RegionEnd) (0 ∷ 2 ∷ 5 ∷ []) ≡ 0 ∷ 2 ∷ 5 ∷ [])
 arrivals_keep_room = (refl, refl, refl)
 
+-- words use one
+pub words_keep_room : map words_keep (0 ∷ 1 ∷ 2 ∷ 5 ∷ []) ≡ 0 ∷ 0 ∷ 1 ∷ 4 ∷ []
+words_keep_room = refl
+
 -- a member keeps more after it has reserved it
 pub operations_keep_room :
     map (λ op. op_keeps op 3)
-    (CreateTask seven ∷ EndTask ∷ AwaitChildren ∷ OpenGroup ∷ EndGroup ∷ ArriveAt (at Barrier 0) ∷ ArriveAt (at ShareEnd 0) ∷ ArriveAt (at RegionEnd 0) ∷ AwaitBarrier ∷ Reserve 4 ∷ BreakAt AtStop ∷ [])
-    ≡ 3 ∷ 3 ∷ 3 ∷ 3 ∷ 3 ∷ 3 ∷ 1 ∷ 3 ∷ 3 ∷ 7 ∷ 3 ∷ []
+    (CreateTask seven ∷ EndTask ∷ AwaitChildren ∷ OpenGroup ∷ EndGroup ∷ ArriveAt (at Barrier 0) ∷ ArriveAt (at ShareEnd 0) ∷ ArriveAt (at RegionEnd 0) ∷ AwaitBarrier ∷ Reserve 4 ∷ PutWords 3 words ∷ GiveWords 3 words ∷ BreakAt AtStop ∷ [])
+    ≡ 3 ∷ 3 ∷ 3 ∷ 3 ∷ 3 ∷ 3 ∷ 1 ∷ 3 ∷ 3 ∷ 7 ∷ 2 ∷ 2 ∷ 3 ∷ []
 operations_keep_room = refl
 
 -- Tests of every operation
 
 abbrev all_operations : List Op
-all_operations = CreateTask seven ∷ EndTask ∷ AwaitChildren ∷ OpenGroup ∷ EndGroup ∷ ArriveAt (at Barrier 0) ∷ AwaitBarrier ∷ Reserve 4 ∷ BreakAt AtStop ∷ []
+all_operations = CreateTask seven ∷ EndTask ∷ AwaitChildren ∷ OpenGroup ∷ EndGroup ∷ AwaitGroup ∷ ArriveAt (at Barrier 0) ∷ AwaitBarrier ∷ Reserve 4 ∷ PutWords 3 words ∷ GiveWords 3 words ∷ BreakAt AtStop ∷ []
 
 -- a member that has left the region
 pub refused_after_the_region :
-    map (λ op. usual_refusal op first_left) all_operations ≡ Some Ended ∷ Some Ended ∷ Some Ended ∷ Some Ended ∷ Some Ended ∷ Some Ended ∷ Some Ended ∷ Some Ended ∷ Some Ended ∷ []
+    map (λ op. usual_refusal op first_left) all_operations
+    ≡ Some Ended ∷ Some Ended ∷ Some Ended ∷ Some Ended ∷ Some Ended ∷ Some Ended ∷ Some Ended ∷ Some Ended ∷ Some Ended ∷ Some Ended ∷ Some Ended ∷ Some Ended ∷ []
 refused_after_the_region = refl
 
 -- a team that is broken, by its first break
@@ -64,8 +80,8 @@ pub refused_in_a_broken_team :
 refused_in_a_broken_team = refl
 
 pub each_refused_in_a_broken_team :
-    map (λ op. usual_refusal op stopped) (EndTask ∷ AwaitChildren ∷ OpenGroup ∷ ArriveAt (at Barrier 0) ∷ AwaitBarrier ∷ Reserve 4 ∷ [])
-    ≡ map (λ op. Some (Broken (record { member = 1; place = AtStop }))) (EndTask ∷ AwaitChildren ∷ OpenGroup ∷ ArriveAt (at Barrier 0) ∷ AwaitBarrier ∷ Reserve 4 ∷ [])
+    map (λ op. usual_refusal op stopped) (EndTask ∷ AwaitChildren ∷ OpenGroup ∷ AwaitGroup ∷ ArriveAt (at Barrier 0) ∷ AwaitBarrier ∷ Reserve 4 ∷ PutWords 3 words ∷ GiveWords 3 words ∷ [])
+    ≡ map (λ op. Some (Broken (record { member = 1; place = AtStop }))) (EndTask ∷ AwaitChildren ∷ OpenGroup ∷ AwaitGroup ∷ ArriveAt (at Barrier 0) ∷ AwaitBarrier ∷ Reserve 4 ∷ PutWords 3 words ∷ GiveWords 3 words ∷ [])
 each_refused_in_a_broken_team = refl
 
 -- a member that has left is told so, in a broken team too
@@ -83,19 +99,19 @@ waiting_members = (refl, refl)
 -- then only its wait and a stop are let in
 pub refused_while_waiting :
     map (λ op. usual_refusal op first_waits) all_operations
-    ≡ Some Waiting ∷ Some Waiting ∷ Some Waiting ∷ Some Waiting ∷ Some Waiting ∷ Some Waiting ∷ None ∷ Some Waiting ∷ None ∷ []
+    ≡ Some Waiting ∷ Some Waiting ∷ Some Waiting ∷ Some Waiting ∷ Some Waiting ∷ Some Waiting ∷ Some Waiting ∷ None ∷ Some Waiting ∷ Some Waiting ∷ Some Waiting ∷ None ∷ []
 refused_while_waiting = refl
 
--- in a task at a barrier what is refused in any task, and else only the wait
+-- in a task at a barrier what is refused in any task, and else only the wait there
 pub let_in_at_a_barrier :
     map (λ op. usual_refusal op runs_there) all_operations
-    ≡ None ∷ None ∷ None ∷ None ∷ Some NoGroup ∷ Some InsideTask ∷ Some NotInside ∷ Some InsideTask ∷ None ∷ []
+    ≡ None ∷ None ∷ None ∷ None ∷ Some NoGroup ∷ None ∷ Some InsideTask ∷ Some NotInside ∷ Some InsideTask ∷ Some InsideTask ∷ None ∷ None ∷ []
 let_in_at_a_barrier = refl
 
 -- elsewhere what the operation itself is tested for
 pub let_in_at_first :
     map (λ op. usual_refusal op []) all_operations
-    ≡ None ∷ Some NotInTask ∷ None ∷ None ∷ Some NoGroup ∷ None ∷ Some NotInside ∷ None ∷ None ∷ []
+    ≡ None ∷ Some NotInTask ∷ None ∷ None ∷ Some NoGroup ∷ None ∷ None ∷ Some NotInside ∷ None ∷ None ∷ None ∷ None ∷ []
 let_in_at_first = refl
 
 -- Tests of one operation
@@ -170,6 +186,21 @@ pub refused_reserves :
     × (op_refusal (limits_of 64 0) 5 0 0 (Reserve 0) [] ≡ None)
 refused_reserves = (refl, refl, refl)
 
+-- words that are put in a task, and words for which there is no room; none is asked for if it was kept
+pub refused_puts :
+    (map (λ limit. op_refusal (limits_of 64 limit) 5 0 0 (PutWords 3 words) []) (5 ∷ 6 ∷ []) ≡ Some TraceFull ∷ None ∷ []) × (op_refusal (limits_of 64 0) 5 1 0 (PutWords 3 words) [] ≡ None)
+    × (usual_refusal (PutWords 3 words) one_runs ≡ Some InsideTask)
+refused_puts = (refl, refl, refl)
+
+pub refused_gifts :
+    (map (λ limit. op_refusal (limits_of 64 limit) 5 0 0 (GiveWords 3 words) []) (5 ∷ 6 ∷ []) ≡ Some TraceFull ∷ None ∷ []) × (op_refusal (limits_of 64 0) 5 1 0 (GiveWords 3 words) [] ≡ None)
+    × (usual_refusal (GiveWords 3 words) one_runs ≡ None)
+refused_gifts = (refl, refl, refl)
+
+-- of these the task is named before the room
+pub words_refused_by_the_least : map (λ op. op_refusal (limits_of 64 0) 5 0 0 op one_runs) (PutWords 3 words ∷ GiveWords 3 words ∷ []) ≡ Some InsideTask ∷ Some TraceFull ∷ []
+words_refused_by_the_least = refl
+
 -- a break that is no stop
 pub refused_breaks : map (λ place. usual_refusal (BreakAt place) []) (AtStop ∷ Share 2 ∷ AtBarrier 1 ∷ []) ≡ None ∷ Some Mismatch ∷ Some Mismatch ∷ []
 refused_breaks = refl
@@ -177,12 +208,18 @@ refused_breaks = refl
 pub stops_alone : map is_stop (AtStop ∷ Share 2 ∷ AtBarrier 1 ∷ []) ≡ true ∷ false ∷ false ∷ []
 stops_alone = refl
 
+-- Waits that go on
+
+-- a wait for children, for a group's tasks, and at a barrier, and no other operation
+pub waits_that_go_on : map goes_on_waiting all_operations ≡ false ∷ false ∷ true ∷ false ∷ true ∷ true ∷ false ∷ true ∷ false ∷ false ∷ false ∷ false ∷ []
+waits_that_go_on = refl
+
 -- Events
 
--- a task's creation and an arrival come before the reply, and nothing else
+-- a task's creation, an arrival and words come before the reply, and nothing else
 pub events_at_the_beginning :
     map (λ op. op_begins 0 op (Pass 0 0 ∷ both_wait)) all_operations
-    ≡ (creates_root 1 ∷ []) ∷ [] ∷ [] ∷ [] ∷ [] ∷ (Arrive 1 0 (at Barrier 0) ∷ []) ∷ [] ∷ [] ∷ [] ∷ []
+    ≡ (creates_root 1 ∷ []) ∷ [] ∷ [] ∷ [] ∷ [] ∷ [] ∷ (Arrive 1 0 (at Barrier 0) ∷ []) ∷ [] ∷ [] ∷ (Put 3 0 words ∷ []) ∷ (Got 3 0 words ∷ []) ∷ [] ∷ []
 events_at_the_beginning = refl
 
 pub begun_is_added : begun 0 (CreateTask eight) one_runs ≡ Create 2 0 (Explicit 1) eight ∷ one_runs
@@ -207,6 +244,11 @@ pub after_a_group :
     × (map (λ reply. op_after 0 EndGroup reply (Group 1 0 ∷ group_empty)) (Passed ∷ Run 1 7 9 false ∷ Wait ∷ []) ≡ (GroupEnd 1 0 ∷ Group 1 0 ∷ group_empty) ∷ (Start 1 0 ∷ Group 1 0 ∷ group_empty) ∷ (Group 1 0 ∷ group_empty) ∷ [])
 after_a_group = (refl, refl, refl)
 
+-- so after the wait there
+pub after_a_group_wait :
+    map (λ reply. op_after 0 AwaitGroup reply (Group 1 0 ∷ group_empty)) (Passed ∷ Run 1 7 9 false ∷ Wait ∷ []) ≡ (GroupEnd 1 0 ∷ Group 1 0 ∷ group_empty) ∷ (Start 1 0 ∷ Group 1 0 ∷ group_empty) ∷ (Group 1 0 ∷ group_empty) ∷ []
+after_a_group_wait = refl
+
 -- after an arrival that passes at once, runs a task, or waits
 pub after_an_arrival :
     map (λ reply. op_after 0 (ArriveAt (at RegionEnd 0)) reply second_ends) (Passed ∷ Run 1 7 9 false ∷ Wait ∷ []) ≡ first_left ∷ (Start 1 0 ∷ both_end) ∷ both_end ∷ []
@@ -219,6 +261,12 @@ after_a_barrier = refl
 -- room that is kept gives no event
 pub after_a_reserve : op_after 0 (Reserve 2) Finished one_ready ≡ one_ready
 after_a_reserve = refl
+
+-- words are put by their member, or given to it, and that is all
+pub after_words :
+    (op_after 1 (PutWords 3 words) Finished one_ready ≡ Put 3 1 words ∷ one_ready) × (op_after 1 (GiveWords 3 words) Finished one_ready ≡ Got 3 1 words ∷ one_ready)
+    × (map (λ op. op_after 1 op (Refused NoMemory) one_ready) (PutWords 3 words ∷ GiveWords 3 words ∷ []) ≡ one_ready ∷ one_ready ∷ [])
+after_words = (refl, refl, refl)
 
 -- a stop gives a break
 pub after_a_stop : op_after 1 (BreakAt AtStop) Stopped [] ≡ stopped

@@ -1,6 +1,6 @@
 -- What is owed after each stored event: the event and what is owed then are no more than what was owed and what the event's operation asks for.
-use Rattle.std.proofs.Common.{◌≡◌, ◌≢◌, ℕ, ◌+◌, ◌-◌, ◌*◌, ◌<◌, ◌≤◌, Bool, true, false, List, [], ◌∷◌, None, refl, ap, sym, arith, suc, zero, inl, inr, add-one}
-use Rattle.std.specs.Prelude.{◌&&◌, ◌||◌, ◌==◌, not, if◌then◌else◌, is_some, nat_le}
+use Rattle.std.proofs.Common.{◌≡◌, ◌≢◌, ℕ, ◌+◌, ◌*◌, ◌<◌, Bool, true, false, List, [], ◌∷◌, None, refl, ap, sym, arith, suc, zero, inl, inr, add-one}
+use Rattle.std.specs.Prelude.{◌&&◌, ◌||◌, ◌==◌, not, if◌then◌else◌, nat_le}
 use Rattle.std.proofs.lemmas.Bool.{cases_Bool, cases_lt}
 use Rattle.std.proofs.lemmas.Bool.Decides.{nat_tests, eqb_tells}
 use Rattle.gomp_types.specs.declared.task.Task.{Task}
@@ -11,9 +11,9 @@ use Rattle.gomp_types.specs.declared.event.Arrival.{Arrival}
 use Rattle.gomp_types.specs.declared.event.Arrival.TheVariants.{Barrier, ShareEnd, RegionEnd}
 use Rattle.gomp_types.specs.declared.event.Tag.{Tag}
 use Rattle.gomp_types.specs.declared.event.Event.{Event}
-use Rattle.gomp_types.specs.declared.event.Event.TheVariants.{Create, Start, Done, Group, GroupEnd, Arrive, Pass, Break}
+use Rattle.gomp_types.specs.declared.event.Event.TheVariants.{Put, Got, Create, Start, Done, Group, GroupEnd, Arrive, Pass, Break}
 use Rattle.gomp_types.specs.Events.{at_barrier, at_region_end, is_region_end, clash_of}
-use Rattle.gomp_types.specs.Tasks.{tasks_created, is_created, executed_task, has_started, is_complete, how_many, open_tasks}
+use Rattle.gomp_types.specs.Tasks.{tasks_created, executed_task, has_started, is_complete, how_many}
 use Rattle.gomp_types.specs.Groups.{groups_opened, open_groups}
 use Rattle.gomp_types.specs.Goals.{may_start}
 use Rattle.gomp_types.specs.Laws.{Always}
@@ -24,7 +24,7 @@ use Rattle.gomp_types.proofs.OpenTasks.{how_many_same, one_less, open_done, crea
 use Rattle.gomp_types.proofs.Suspended.{startable_is_fresh, runner_has_started, current_open}
 use Rattle.gomp_types.proofs.TaskRoom.{uncreated_not_started}
 use Rattle.gomp_board.specs.Owed.{owed_by_tasks, has_group_ended, count_below, owed_by_groups, owed_by_member, owed_by_members, owed_for_break, owed}
-use Rattle.gomp_board.specs.Ops.{arrival_asks, arrival_keeps}
+use Rattle.gomp_board.specs.Ops.{arrival_asks, arrival_keeps, words_room, words_ask, words_keep}
 use Rattle.gomp_board.proofs.GroupsOpen.{next_not_ended, last_not_ended}
 
 -- Members
@@ -193,6 +193,21 @@ pub pass_owes : (members m barrier : ℕ) (h : List Event) → m < members → a
 pass_owes members m barrier h low there =
     let all = members_owe_other members m 1 0 (Pass barrier m ∷ h) h low (λ x differ. other_passed m x barrier h differ) (passed_owes m barrier h there) in
     omega (arith, all)
+
+-- words owe nothing more
+pub put_owes : (members share m : ℕ) (words : List ℕ) (h : List Event) → owed members (Put share m words ∷ h) ≡ owed members h
+put_owes members share m words h = let rest = members_owe_same members (Put share m words ∷ h) h (λ x. refl) in omega (arith, rest)
+
+pub got_owes : (members share m : ℕ) (words : List ℕ) (h : List Event) → owed members (Got share m words ∷ h) ≡ owed members h
+got_owes members share m words h = let rest = members_owe_same members (Got share m words ∷ h) h (λ x. refl) in omega (arith, rest)
+
+-- what the member keeps of its room and what they ask for are enough for them
+pub words_enough : (kept : ℕ) → 1 + words_keep kept ≡ words_ask kept + kept
+words_enough kept =
+    elim (cases_Bool (nat_le words_room kept)) [
+      | inl enough ↦ rw enough (grind (arith, nat_tests, enough))
+      | inr little ↦ rw little refl
+    ]
 
 -- and a break none, since each team is made with room for one
 pub break_owes : (members m : ℕ) (place : Place) (h : List Event) → clash_of h ≡ None → owed members (Break m place ∷ h) + 1 ≡ owed members h

@@ -1,17 +1,16 @@
 -- What an operation does to a board, by the kind of its reply.
-use Rattle.std.proofs.Common.{◌≡◌, ◌≢◌, ℕ, ◌+◌, true, false, List, ◌∷◌, ◌++◌, Some, None, length, refl, ap, ◌∙◌, sym, subst, length-set, zero, suc, arith}
+use Rattle.std.proofs.Common.{◌≡◌, ℕ, ◌+◌, true, false, List, ◌∷◌, ◌++◌, Some, length, refl, ap, ◌∙◌, sym, subst, length-set, zero, suc, arith}
 use Rattle.std.proofs.lemmas.Bool.Decides.{nat_tests}
 use Rattle.std.specs.Prelude.{IsTrue, nat_lt, slice_set}
-use Rattle.gomp_types.specs.declared.refusal.Refusal.{Refusal}
 use Rattle.gomp_types.specs.declared.refusal.Refusal.TheVariants as refusals
 use Rattle.gomp_types.specs.declared.reply.Reply.{Reply}
-use Rattle.gomp_types.specs.declared.reply.Reply.TheVariants.{Finished, Refused}
+use Rattle.gomp_types.specs.declared.reply.Reply.TheVariants.{Finished, Wait, Refused}
 use Rattle.gomp_types.specs.declared.refusal.Place.{Place}
 use Rattle.gomp_types.specs.declared.event.Event.{Event}
 use Rattle.gomp_types.specs.declared.event.Event.TheVariants.{Break}
 use Rattle.gomp_board.specs.declared.op.Op.{Op}
 use Rattle.gomp_board.specs.declared.op.Op.TheVariants.{Reserve}
-use Rattle.gomp_board.specs.Ops.{op_asks, op_keeps, op_gives, op_after, op_place, op_refusal, begun, asks_memory, OpReply}
+use Rattle.gomp_board.specs.Ops.{op_asks, op_keeps, op_gives, op_place, op_refusal, begun, asks_memory, goes_on_waiting, OpReply}
 use Rattle.gomp_board.specs.Boards.{BoardView, Stands, IsSame, IsAdmitted, Performs, members_of, kept_by, room_after, kept_after}
 use Rattle.gomp_board.proofs.Joined.{keeping_stands}
 use Rattle.gomp_board.proofs.Waiting.{IsReply, op_answered, after_reply, not_refused}
@@ -27,8 +26,8 @@ kept_of_reply op m board _ is = refl
 -- a reply that is no refusal
 pub op_performed : (op : Op) (m : ℕ) (board after : BoardView) (reply : Reply) → IsReply reply → IsAdmitted op m board → ((h : List Event) → Stands board h → OpReply (members_of board) m op (begun m op h) reply) →
     ((h : List Event) → Stands board h → Stands after (op_gives m op (begun m op h) reply ++ begun m op h)) → after.limits ≡ board.limits → after.room ≡ board.room + op_asks op (kept_by m board) →
-    after.kept ≡ slice_set board.kept m (op_keeps op (kept_by m board)) → Performs op m board after reply
-op_performed op m board after reply is admitted answer stands limits room kept = record {
+    after.kept ≡ slice_set board.kept m (op_keeps op (kept_by m board)) → (reply ≡ Wait → goes_on_waiting op ≡ true → after ≡ board) → Performs op m board after reply
+op_performed op m board after reply is admitted answer stands limits room kept waits = record {
   answer = λ h st. op_answered board.limits board.room (kept_by m board) (members_of board) m op h reply is (admitted h st) (answer h st);
   stands = λ h st. rw (after_reply m op reply h is) (stands h st);
   limits = limits;
@@ -36,6 +35,7 @@ op_performed op m board after reply is admitted answer stands limits room kept =
   room = rw (room_of_reply op (kept_by m board) board.room reply is) room;
   kept = rw (kept_of_reply op m board reply is) kept;
   same = λ refusal e other. absurd (not_refused reply refusal is e);
+  waits = waits;
 }
 
 -- want of memory at an operation that asks for room
@@ -48,6 +48,7 @@ out_of_memory op m board after admitted asks same limits = record {
   room = same.room;
   kept = same.kept;
   same = λ refusal e other. same;
+  waits = λ wait. absurd (cc);
 }
 
 -- a construct that differs breaks the team there
@@ -62,6 +63,7 @@ team_broke op m place board after differs there stands limits room kept = record
   room = room;
   kept = kept;
   same = λ refusal e other. absurd (let is : refusals.Mismatch ≡ refusal = cc in other (sym is));
+  waits = λ wait. absurd (cc);
 }
 
 -- room that is not made, so some was asked for
@@ -82,4 +84,4 @@ pub reserve_performed : (m more : ℕ) (old made : BoardView) (n : ℕ) → IsAd
 reserve_performed m more old made n admitted room_made is =
     op_performed (Reserve more) m old (record made { kept = slice_set made.kept m n }) Finished tt admitted (λ h st. refl)
     (λ h st. subst (λ (v : BoardView). Stands (record v { kept = slice_set v.kept m n }) h) (sym room_made) (keeping_stands old (old.room + more) (slice_set old.kept m n) h st))
-    (ap (λ (v : BoardView). v.limits) room_made) (ap (λ (v : BoardView). v.room) room_made) (ap (λ (v : BoardView). slice_set v.kept m n) room_made ∙ ap (λ (k : ℕ). slice_set old.kept m k) is)
+    (ap (λ (v : BoardView). v.limits) room_made) (ap (λ (v : BoardView). v.room) room_made) (ap (λ (v : BoardView). slice_set v.kept m n) room_made ∙ ap (λ (k : ℕ). slice_set old.kept m k) is) (λ wait goes. absurd (cc))

@@ -1,5 +1,5 @@
 -- The refusal of an operation is that of the first test that holds, since the tests stand in the order of their numbers.
-use Rattle.std.proofs.Common.{◌≡◌, ℕ, Bool, true, false, List, [], ◌∷◌, ◌++◌, Option, Some, None, refl, ap, ◌∙◌, sym}
+use Rattle.std.proofs.Common.{◌≡◌, ℕ, Bool, true, false, List, ◌∷◌, ◌++◌, Option, Some, None, refl, ◌∙◌}
 use Rattle.std.specs.Prelude.{nat_le}
 use Rattle.gomp_types.specs.declared.limits.Limits.{Limits}
 use Rattle.gomp_types.specs.declared.refusal.Clash.{Clash}
@@ -10,11 +10,11 @@ use Rattle.gomp_types.specs.declared.event.Arrival.TheVariants.{Barrier, ShareEn
 use Rattle.gomp_types.specs.declared.event.Event.{Event}
 use Rattle.gomp_types.specs.Compare.{tag_differs}
 use Rattle.gomp_types.specs.Events.{barriers_passed, tag_at, has_left_region, clash_of}
-use Rattle.gomp_types.specs.Tests.{Test, first_refusal}
+use Rattle.gomp_types.specs.Tests.{first_refusal}
 use Rattle.gomp_types.specs.TaskCalls.{outside_tasks_tests, room_tests}
 use Rattle.gomp_types.proofs.LeastTests.{from, first_is_least}
 use Rattle.gomp_board.specs.declared.op.Op.{Op}
-use Rattle.gomp_board.specs.declared.op.Op.TheVariants.{Create, EndTask, AwaitChildren, OpenGroup, EndGroup, Arrive, AwaitBarrier, Reserve, Break}
+use Rattle.gomp_board.specs.declared.op.Op.TheVariants.{Create, EndTask, AwaitChildren, OpenGroup, EndGroup, AwaitGroup, Arrive, AwaitBarrier, Reserve, Put, Got, Break}
 use Rattle.gomp_board.specs.Ops.{member_tests, broken_tests, busy_tests, end_tests, arrival_asks, op_tests, op_refusal}
 
 -- those of an arrival
@@ -29,9 +29,12 @@ op_order n limits room kept m EndTask h low mid high = rw low refl
 op_order n limits room kept m AwaitChildren h low mid high = rw low refl
 op_order n limits room kept m OpenGroup h low mid high = rw low refl
 op_order n limits room kept m EndGroup h low mid high = rw low refl
+op_order n limits room kept m AwaitGroup h low mid high = rw low refl
 op_order n limits room kept m (Arrive tag) h low mid high = arrival_order n tag.kind limits room (arrival_asks tag.kind kept) m (tag_differs tag (tag_at (barriers_passed m h) h)) h low
 op_order n limits room kept m AwaitBarrier h low mid high = rw mid refl
 op_order n limits room kept m (Reserve more) h low mid high = rw low refl
+op_order n limits room kept m (Put share words) h low mid high = rw low refl
+op_order n limits room kept m (Got share words) h low mid high = rw low refl
 op_order n limits room kept m (Break place) h low mid high = rw high refl
 
 -- and those of every member before them

@@ -1,6 +1,6 @@
 -- A refusal by a test is the answer, and changes nothing, unless a construct differs.
-use Rattle.std.proofs.Common.{◌≡◌, ◌≢◌, ℕ, ◌<◌, Bool, true, false, List, [], ◌∷◌, ◌++◌, Option, Some, None, refl, ap, sym, arith, ◌⊎◌, inl, inr}
-use Rattle.std.specs.Prelude.{nat_le, reverse}
+use Rattle.std.proofs.Common.{◌≡◌, ◌≢◌, ℕ, ◌<◌, true, false, List, [], ◌∷◌, ◌++◌, Option, Some, None, refl, arith, ◌⊎◌, inl, inr}
+use Rattle.std.specs.Prelude.{nat_le}
 use Rattle.std.proofs.lemmas.Bool.{cases_Bool}
 use Rattle.gomp_types.specs.declared.limits.Limits.{Limits}
 use Rattle.gomp_types.specs.declared.refusal.Clash.{Clash}
@@ -18,8 +18,8 @@ use Rattle.gomp_types.specs.Events.{barriers_passed, clash_of}
 use Rattle.gomp_types.specs.Tests.{Test}
 use Rattle.gomp_types.specs.Least.{lesser, least}
 use Rattle.gomp_board.specs.declared.op.Op.{Op}
-use Rattle.gomp_board.specs.declared.op.Op.TheVariants.{Create, EndTask, AwaitChildren, OpenGroup, EndGroup, Arrive, AwaitBarrier, Reserve, Break}
-use Rattle.gomp_board.specs.Ops.{broken_tests, member_tests, end_tests, op_tests, op_refusal, op_place, refusal_gives, op_after, OpAnswer}
+use Rattle.gomp_board.specs.declared.op.Op.TheVariants.{Create, EndTask, AwaitChildren, OpenGroup, EndGroup, AwaitGroup, Arrive, AwaitBarrier, Reserve, Put, Got, Break}
+use Rattle.gomp_board.specs.Ops.{broken_tests, member_tests, end_tests, op_tests, op_refusal, op_place, refusal_gives, OpAnswer}
 use Rattle.gomp_board.specs.Boards.{BoardView, Stands, Performs, members_of, kept_by}
 
 -- No test is for want of memory
@@ -65,9 +65,12 @@ own_are_low limits room kept m EndTask h = (omega arith, (omega arith, (omega ar
 own_are_low limits room kept m AwaitChildren h = (omega arith, tt)
 own_are_low limits room kept m OpenGroup h = (omega arith, (omega arith, tt))
 own_are_low limits room kept m EndGroup h = (omega arith, (omega arith, tt))
+own_are_low limits room kept m AwaitGroup h = (omega arith, tt)
 own_are_low limits room kept m (Arrive tag) h = (omega arith, (omega arith, low_of_both (end_tests tag.kind m h) _ (end_is_low tag.kind m h) (omega arith, (omega arith, tt))))
 own_are_low limits room kept m AwaitBarrier h = (omega arith, tt)
 own_are_low limits room kept m (Reserve more) h = (omega arith, (omega arith, (omega arith, tt)))
+own_are_low limits room kept m (Put share words) h = (omega arith, (omega arith, (omega arith, tt)))
+own_are_low limits room kept m (Got share words) h = (omega arith, (omega arith, tt))
 own_are_low limits room kept m (Break place) h = (omega arith, tt)
 
 refusal_is_low : (limits : Limits) (room kept m : ℕ) (op : Op) (h : List Event) (found : Refusal) → op_refusal limits room kept m op h ≡ Some found → number_of found < 37
@@ -94,6 +97,7 @@ op_refused op m board found refuses other = record {
   room = refl;
   kept = refl;
   same = λ refusal e differs. record { history = refl; room = refl; kept = refl; stands = λ h st. st };
+  waits = λ wait. absurd (cc);
 }
 
 -- the place of any operation but a break

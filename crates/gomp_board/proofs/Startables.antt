@@ -1,10 +1,10 @@
 -- The search of a board's list for a task that a member may start.
-use Rattle.std.proofs.Common.{◌≡◌, ℕ, ◌-◌, ◌<◌, ◌≤◌, true, false, List, [], ◌∷◌, Some, length, refl, ◌∙◌, sym, subst, arith, suc, zero, inl, inr, slice_get}
+use Rattle.std.proofs.Common.{◌≡◌, ℕ, ◌-◌, ◌<◌, ◌≤◌, true, false, List, [], ◌∷◌, Some, length, refl, sym, subst, arith, suc, zero, inl, inr, slice_get}
 use Rattle.std.specs.Prelude.{slice_index_or, not, ◌&&◌}
 use Rattle.std.proofs.lemmas.Bool.{cases_lt}
 use Rattle.gomp_types.specs.declared.event.Event.{Event}
 use Rattle.gomp_types.specs.Tasks.{is_created, has_started, is_complete}
-use Rattle.gomp_types.specs.Goals.{may_start, some_startable}
+use Rattle.gomp_types.specs.Goals.{may_start}
 use Rattle.gomp_types.proofs.Booleans.{and_left}
 use Rattle.gomp_tasks.specs.Stands.{IsNumber}
 use Rattle.gomp_tasks.proofs.Laws.{created_tasks_have_numbers}

@@ -8,15 +8,14 @@ use Rattle.gomp_types.specs.declared.task.Task.TheVariants.{Implicit}
 use Rattle.gomp_types.specs.declared.task.TaskDesc.{TaskDesc}
 use Rattle.gomp_types.specs.declared.refusal.Place.{Place}
 use Rattle.gomp_types.specs.declared.refusal.Place.TheVariants.{Stopped as AtStop}
-use Rattle.gomp_types.specs.declared.event.Arrival.TheVariants.{Barrier, RegionEnd}
+use Rattle.gomp_types.specs.declared.event.Arrival.TheVariants.{Barrier}
 use Rattle.gomp_types.specs.declared.event.Tag.{Tag}
-use Rattle.gomp_types.specs.declared.event.Event.{Event}
 use Rattle.gomp_types.specs.declared.event.Event.TheVariants.{Enter, Take, Drained, End, HandOn, Part, PartEnd, Put, Got, Arrive, Pass, Hold, Free, Create, Start, Done, Group, GroupEnd, Waited, Break}
 use Rattle.gomp_types.specs.EventLists.{at, four}
 use Rattle.gomp_types.specs.TaskCalls.{first_room}
-use Rattle.gomp_board.specs.Stored.{is_stored, stored}
-use Rattle.gomp_board.specs.Owed.{owed_by_tasks, has_group_ended, count_below, owed_by_groups, owed_by_member, owed_by_members, owed_for_break, owed}
-use Rattle.gomp_board.specs.Examples.{creates_root, creates_in, one_ready, one_runs, one_done, other_runs, group_empty, group_done, first_waits, both_wait, second_ends, both_end, first_left, stopped}
+use Rattle.gomp_board.specs.Stored.{is_stored, stored, IsAside, AreAside}
+use Rattle.gomp_board.specs.Owed.{owed_by_tasks, has_group_ended, count_below, owed_by_groups, owed_by_member, owed_by_members, owed_for_break, owed, events_memory}
+use Rattle.gomp_board.specs.Examples.{creates_root, one_ready, one_runs, one_done, other_runs, group_empty, group_done, first_waits, both_wait, second_ends, both_end, first_left, stopped}
 
 -- Stored events
 
@@ -48,6 +47,35 @@ shares_are_not_stored share m low high k shape = (refl, refl, refl, refl, refl, 
 -- nor what names and locks keep, nor a taskwait
 pub holders_are_not_stored : (key : Key) (m : ℕ) (p : Task) → (is_stored (Hold key m p) ≡ false) × (is_stored (Free key m p) ≡ false) × (is_stored (Waited m) ≡ false)
 holders_are_not_stored key m p = (refl, refl, refl)
+
+-- what a member does in its shares changes nothing for a board
+pub shares_leave_boards : (share m low high k : ℕ) (shape : Shape) →
+    IsAside (Enter share m shape) × IsAside (Take share m low high) × IsAside (Drained share m) × IsAside (End share m) × IsAside (HandOn share m k) × IsAside (Part share m k) × IsAside (PartEnd share m)
+shares_leave_boards share m low high k shape = (tt, tt, tt, tt, tt, tt, tt)
+
+-- nor what names and locks keep
+pub holders_leave_boards : (key : Key) (m : ℕ) (p : Task) → IsAside (Hold key m p) × IsAside (Free key m p)
+holders_leave_boards key m p = (tt, tt)
+
+-- what is stored does, and a taskwait that is passed too soon
+pub words_concern_boards : (share m : ℕ) (payload : List ℕ) → (IsAside (Put share m payload) → ⊥) × (IsAside (Got share m payload) → ⊥)
+words_concern_boards share m payload = (λ is. is, λ is. is)
+
+pub arrivals_concern_boards : (barrier m : ℕ) (tag : Tag) → (IsAside (Arrive barrier m tag) → ⊥) × (IsAside (Pass barrier m) → ⊥)
+arrivals_concern_boards barrier m tag = (λ is. is, λ is. is)
+
+pub tasks_concern_boards : (t m : ℕ) (p : Task) (desc : TaskDesc) → (IsAside (Create t m p desc) → ⊥) × (IsAside (Start t m) → ⊥) × (IsAside (Done t m) → ⊥)
+tasks_concern_boards t m p desc = (λ is. is, λ is. is, λ is. is)
+
+pub groups_concern_boards : (q m : ℕ) → (IsAside (Group q m) → ⊥) × (IsAside (GroupEnd q m) → ⊥) × (IsAside (Waited m) → ⊥)
+groups_concern_boards q m = (λ is. is, λ is. is, λ is. is)
+
+pub breaks_concern_boards : (m : ℕ) (place : Place) → IsAside (Break m place) → ⊥
+breaks_concern_boards m place = λ is. is
+
+-- of several none may
+pub all_leave_boards : AreAside (End 0 1 ∷ Drained 0 1 ∷ []) × (AreAside (End 0 1 ∷ Start 1 1 ∷ []) → ⊥) × (AreAside (Pass 0 1 ∷ End 0 1 ∷ []) → ⊥)
+all_leave_boards = ((tt, (tt, tt)), λ all. all.1.0, λ all. all.0)
 
 -- the others stay in their order
 pub stored_of_a_list : stored (Waited 0 ∷ Done 1 0 ∷ Enter 0 0 (four false) ∷ Start 1 0 ∷ Waited 1 ∷ Create 1 0 (Implicit 0) (record { code = 7; arg = 9 }) ∷ Take 0 1 0 2 ∷ []) ≡ one_done
@@ -130,6 +158,10 @@ task_by_task = refl
 -- all together: a task that runs, an open group, a member at a barrier
 pub all_together : (owed 2 (Arrive 0 1 (at Barrier 0) ∷ Group 0 0 ∷ one_runs) ≡ 8) × (owed 2 (Break 0 AtStop ∷ Arrive 0 1 (at Barrier 0) ∷ Group 0 0 ∷ one_runs) ≡ 7)
 all_together = (refl, refl)
+
+-- the memory of so many events: a sixteenth more, and at least 64 more
+pub memory_by_steps : map events_memory (0 ∷ 7 ∷ 1024 ∷ 1039 ∷ 1040 ∷ 16000 ∷ []) ≡ 64 ∷ 71 ∷ 1088 ∷ 1103 ∷ 1105 ∷ 17000 ∷ []
+memory_by_steps = refl
 
 -- once both have left and the team was stopped, nothing
 pub nothing_is_left : owed 2 (Break 1 AtStop ∷ Pass 0 1 ∷ first_left) ≡ 0

@@ -1,14 +1,12 @@
 -- The tests, answers and events of the calls on tasks and groups: each line of a definition by an example that it alone decides.
-use Rattle.std.proofs.Common.{◌≡◌, ℕ, true, false, List, [], ◌∷◌, ◌++◌, Some, None, refl, rules}
+use Rattle.std.proofs.Common.{◌≡◌, ℕ, true, false, List, [], ◌∷◌, Some, None, refl, rules}
 use Rattle.std.specs.Prelude.{map}
 use Rattle.gomp_types.specs.declared.task.Task.TheVariants.{Implicit, Explicit}
 use Rattle.gomp_types.specs.declared.refusal.Refusal.TheVariants.{InsideTask, NotInTask, NoGroup, GroupOpen, TooDeep, TooManyTasks, TraceFull}
 use Rattle.gomp_types.specs.declared.reply.Reply.{Reply}
-use Rattle.gomp_types.specs.declared.reply.Reply.TheVariants.{NoChunk, Section, Finished, Passed, Wait, Created, Run, TaskDone, Stopped, Refused}
-use Rattle.gomp_types.specs.declared.event.Arrival.TheVariants.{Barrier}
+use Rattle.gomp_types.specs.declared.reply.Reply.TheVariants.{NoChunk, Finished, Passed, Wait, Created, Run, TaskDone, Stopped, Refused}
 use Rattle.gomp_types.specs.declared.event.Event.{Event}
-use Rattle.gomp_types.specs.declared.event.Event.TheVariants.{Arrive, Create, Start, Done, Group, GroupEnd, Waited}
-use Rattle.gomp_types.specs.EventLists.{at}
+use Rattle.gomp_types.specs.declared.event.Event.TheVariants.{Create, Start, Done, Group, GroupEnd, Waited}
 use Rattle.gomp_types.specs.Least.{least}
 use Rattle.gomp_types.specs.TaskCalls.{outside_tasks_tests, has_some, group_is_open, group_open_tests, create_tests, end_task_tests, end_group_tests, lacks_room, room_tests, task_room, group_room, arrival_room, first_room, AwaitsTasks, CreatesTask, EndsTask, AwaitsChildren, last_complete, AwaitsGroup, creates, starts_task, ends_task, waited, opens_group, ends_first, ends_group}
 use Rattle.gomp_board.specs.Examples.{seven, eight, creates_root, creates_in, one_ready, one_runs, one_done, other_runs, nested, group_empty, group_ready, group_done, first_waits, limits_of}

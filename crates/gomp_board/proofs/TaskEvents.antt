@@ -1,5 +1,5 @@
 -- A board after an event of tasks or groups: for what it stands, and that it is a board then.
-use Rattle.std.proofs.Common.{◌≡◌, ℕ, ◌+◌, ◌<◌, ◌≤◌, Bool, true, false, List, [], ◌∷◌, ◌++◌, Option, Some, None, length, refl, ap, ◌∙◌, sym, subst, arith, suc, zero, slice_get}
+use Rattle.std.proofs.Common.{◌≡◌, ℕ, ◌+◌, ◌<◌, ◌≤◌, true, false, List, [], ◌∷◌, ◌++◌, Some, length, refl, ap, ◌∙◌, sym, subst, arith, suc, zero, slice_get}
 use Rattle.std.specs.Prelude.{reverse, sum, slice_index_or, slice_set, Result, Ok, Err, OnOk, is_err}
 use Rattle.std.specs.List.{remove}
 use Rattle.gomp_types.specs.declared.task.Task.{Task}
@@ -10,10 +10,9 @@ use Rattle.gomp_types.specs.declared.event.Event.TheVariants.{Create, Start, Don
 use Rattle.gomp_types.specs.Limits.{IsTeamSize}
 use Rattle.gomp_types.specs.Laws.{Always}
 use Rattle.gomp_types.specs.Tasks.{tasks_created, executed_task, is_created, is_complete}
-use Rattle.gomp_types.specs.Groups.{groups_opened, open_groups}
+use Rattle.gomp_types.specs.Groups.{groups_opened}
 use Rattle.gomp_types.specs.Goals.{may_start, children_complete}
 use Rattle.gomp_types.specs.TaskRules.{TaskRule, MayEndGroup}
-use Rattle.gomp_types.specs.TaskCalls.{task_room, group_room}
 use Rattle.gomp_types.proofs.Suspended.{startable_is_fresh, current_open}
 use Rattle.gomp_tasks.specs.Stands.{TasksView, Stands as TasksStand, members_of as task_members, IsNumber}
 use Rattle.gomp_tasks.proofs.Laws.{events_aside_keep_tasks, created_tasks_have_numbers}
@@ -26,8 +25,8 @@ use Rattle.gomp_board.specs.Owed.{owed}
 use Rattle.gomp_board.specs.Boards.{BoardView, Stands, HasMembers, IsBoard, members_of}
 use Rattle.gomp_board.specs.Startable.{MayStartAt}
 use Rattle.gomp_board.proofs.Admitted.{implicit_is_own}
-use Rattle.gomp_board.proofs.OwedKeeps.{create_owes, start_owes, end_owes, group_owes, group_end_owes}
 use Rattle.gomp_board.proofs.ReadyKeeps.{created_ready, started_ready, done_ready, aside_ready}
+use Rattle.gomp_board.proofs.PayloadsKeep.{payloads_stay}
 use Rattle.gomp_board.proofs.RoomKeeps.{room_with}
 use Rattle.gomp_board.proofs.StoredKeeps.{stored_with, stored_aside, history_after}
 
@@ -107,6 +106,7 @@ started_stands b history tasks ready place t m h has low longer less at may next
   barriers = events_aside_keep_barriers b.barriers h (Start t m) tt st.barriers;
   ready = rw less (started_ready t m b.ready place h at st.ready);
   clash = st.clash;
+  payloads = payloads_stay b.payloads (Start t m) h tt st.payloads;
   history = stored_with b.history history (Start t m) h refl longer st.history;
 }
 
@@ -121,6 +121,7 @@ created_stands b history room tasks groups barriers ready t m p desc h longer mo
   barriers = next_barriers;
   ready = rw more (created_ready (task_members b.tasks) t m p desc b.ready h st.tasks.rule number st.ready);
   clash = st.clash;
+  payloads = payloads_stay b.payloads (Create t m p desc) h tt st.payloads;
   history = stored_with b.history history (Create t m p desc) h refl longer st.history;
 }
 
@@ -143,6 +144,7 @@ ended_stands b history tasks groups barriers t m h longer current next_tasks nex
   barriers = next_barriers;
   ready = done_ready (task_members b.tasks) t m b.ready h st.tasks.rule current st.ready;
   clash = st.clash;
+  payloads = payloads_stay b.payloads (Done t m) h tt st.payloads;
   history = stored_with b.history history (Done t m) h refl longer st.history;
 }
 
@@ -159,6 +161,7 @@ opened_stands b history room groups q m h has low longer number next st = record
   barriers = events_aside_keep_barriers b.barriers h (Group q m) tt st.barriers;
   ready = aside_ready (Group q m) b.ready h tt st.ready;
   clash = st.clash;
+  payloads = payloads_stay b.payloads (Group q m) h tt st.payloads;
   history = stored_with b.history history (Group q m) h refl longer st.history;
 }
 
@@ -170,6 +173,7 @@ closed_stands b history groups q m h may longer next st = record {
   barriers = events_aside_keep_barriers b.barriers h (GroupEnd q m) tt st.barriers;
   ready = aside_ready (GroupEnd q m) b.ready h tt st.ready;
   clash = st.clash;
+  payloads = payloads_stay b.payloads (GroupEnd q m) h tt st.payloads;
   history = stored_with b.history history (GroupEnd q m) h refl longer st.history;
 }
 
@@ -182,6 +186,7 @@ waited_stands b m h has low complete st = record {
   barriers = events_aside_keep_barriers b.barriers h (Waited m) tt st.barriers;
   ready = aside_ready (Waited m) b.ready h tt st.ready;
   clash = st.clash;
+  payloads = payloads_stay b.payloads (Waited m) h tt st.payloads;
   history = stored_aside b.history (Waited m) h refl st.history;
 }
 

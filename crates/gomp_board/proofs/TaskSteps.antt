@@ -1,23 +1,23 @@
 -- What the parts of a board ask for when a task is created or ended, and a group opened or ended.
-use Rattle.std.proofs.Common.{◌≡◌, ℕ, ◌+◌, ◌<◌, ◌≤◌, Bool, true, false, List, [], ◌∷◌, Option, Some, None, refl, ap, ◌∙◌, sym, subst, arith, suc}
+use Rattle.std.proofs.Common.{◌≡◌, ℕ, ◌+◌, ◌<◌, Bool, true, List, [], ◌∷◌, Option, Some, None, refl, ap, ◌∙◌, sym, subst, arith, suc}
 use Rattle.gomp_types.specs.declared.task.Task.{Task}
-use Rattle.gomp_types.specs.declared.task.Task.TheVariants.{Implicit, Explicit}
+use Rattle.gomp_types.specs.declared.task.Task.TheVariants.{Explicit}
 use Rattle.gomp_types.specs.declared.task.TaskDesc.{TaskDesc}
 use Rattle.gomp_types.specs.declared.event.Event.{Event}
 use Rattle.gomp_types.specs.Tasks.{tasks_created, executed_task, in_task, after_first, is_odd, epoch, epoch_of_child}
-use Rattle.gomp_types.specs.Groups.{open_groups, group_complete}
+use Rattle.gomp_types.specs.Groups.{open_groups}
 use Rattle.gomp_types.specs.TaskRules.{MayCreate, MayEndGroup}
 use Rattle.gomp_types.specs.TaskCalls.{last_complete}
 use Rattle.gomp_types.proofs.Booleans.{not_both}
 use Rattle.gomp_tasks.specs.Calls.{MayCreateNext, task_or_implicit}
 use Rattle.gomp_tasks.specs.Stands.{TasksView, Stands as TasksStand, members_of as task_members, count_of}
-use Rattle.gomp_groups.specs.Calls.{first_of, last_open, Executes, MayClose}
+use Rattle.gomp_groups.specs.Calls.{first_of, last_open}
 use Rattle.gomp_barrier.specs.Calls.{MayBind, MayRelease}
 use Rattle.gomp_barrier.specs.Stands.{members_of as barrier_members}
 use Rattle.gomp_board.specs.declared.op.Op.TheVariants.{Create, EndTask}
 use Rattle.gomp_board.specs.Boards.{BoardView, Stands, HasMembers, IsAdmitted, members_of, kept_by}
-use Rattle.gomp_board.proofs.Admitted.{create_may, create_few, end_within, out_of_tasks}
-use Rattle.gomp_board.proofs.TaskEvents.{task_member, barrier_member, parent_is, executed_open}
+use Rattle.gomp_board.proofs.Admitted.{create_may, end_within, out_of_tasks}
+use Rattle.gomp_board.proofs.TaskEvents.{parent_is, executed_open}
 
 -- A task is created
 

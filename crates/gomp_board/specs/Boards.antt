@@ -1,9 +1,9 @@
 -- When a board stands for a list of all events of its team. (own)
-use Rattle.std.specs.Prelude.{ℕ, ◌+◌, ◌≤◌, ◌≡◌, ◌≢◌, Bool, true, false, List, [], ◌∷◌, ◌++◌, Option, None, length, reverse, sum, slice_index_or, slice_set}
+use Rattle.std.specs.Prelude.{ℕ, ◌+◌, ◌≤◌, ◌≡◌, ◌≢◌, true, false, List, Option, None, length, reverse, sum, slice_index_or, slice_set}
 use Rattle.gomp_types.specs.declared.limits.Limits.{Limits}
 use Rattle.gomp_types.specs.declared.refusal.Clash.{Clash}
 use Rattle.gomp_types.specs.declared.reply.Reply.{Reply}
-use Rattle.gomp_types.specs.declared.reply.Reply.TheVariants.{Refused}
+use Rattle.gomp_types.specs.declared.reply.Reply.TheVariants.{Wait, Refused}
 use Rattle.gomp_types.specs.declared.event.Event.{Event}
 use Rattle.gomp_types.specs.Limits.{capped_limits, IsTeamSize}
 use Rattle.gomp_types.specs.declared.event.Tag.{Tag}
@@ -16,8 +16,10 @@ use Rattle.gomp_tasks.specs.Stands.{TasksView, Stands as TasksStand, members_of 
 use Rattle.gomp_groups.specs.Stands.{GroupsView, Stands as GroupsStand, members_of as group_members}
 use Rattle.gomp_barrier.specs.Stands.{BarriersView, Stands as BarriersStand, members_of as barrier_members}
 use Rattle.gomp_board.specs.declared.op.Op.{Op}
-use Rattle.gomp_board.specs.Ops.{op_asks, op_keeps, op_refusal, op_after, OpAnswer}
+use Rattle.gomp_board.specs.declared.payloads.Put.{Put}
+use Rattle.gomp_board.specs.Ops.{op_asks, op_keeps, op_refusal, op_after, goes_on_waiting, OpAnswer}
 use Rattle.gomp_board.specs.ReadyTasks.{AreReady}
+use Rattle.gomp_board.specs.Payloads.{PayloadsStand}
 use Rattle.gomp_board.specs.Stored.{stored}
 use Rattle.gomp_board.specs.Owed.{owed}
 
@@ -28,7 +30,7 @@ pub record BoardView : Type 0 where
   pub history : List Event
   -- for so many events room was asked, these and those still to come
   pub room : ℕ
-  -- so much of it each member keeps for the ends of its shares
+  -- so much of it each member keeps for its shares: for their ends, and for words
   pub kept : List ℕ
   pub clash : Option Clash
   pub tasks : TasksView
@@ -36,12 +38,14 @@ pub record BoardView : Type 0 where
   pub barriers : BarriersView
   -- the tasks that nobody has started, the oldest first
   pub ready : List ℕ
+  -- the words that executors of singles put, at most one share's at each of eight places
+  pub payloads : List (Option Put)
 
 -- how many members the team has
 abbrev pub members_of : BoardView → ℕ
 members_of board = length board.kept
 
--- what a member keeps for the ends of its shares
+-- what a member keeps for its shares
 abbrev pub kept_by : ℕ → BoardView → ℕ
 kept_by m board = slice_index_or board.kept m 0
 
@@ -51,6 +55,7 @@ pub record Stands (board : BoardView) (h : List Event) : Type 0 where
   pub groups : GroupsStand board.groups h
   pub barriers : BarriersStand board.barriers h
   pub ready : AreReady board.ready h
+  pub payloads : PayloadsStand board.payloads h
   pub clash : clash_of h ≡ board.clash
   pub history : stored h ≡ reverse board.history
 
@@ -85,11 +90,12 @@ pub record IsSame (board after : BoardView) : Type 0 where
   pub kept : after.kept ≡ board.kept
   pub stands : (h : List Event) → Stands board h → Stands after h
 
--- the room that is asked for, and what the member keeps of it: a refused operation keeps none
+-- the room that was asked for after an operation; one that is refused asks for none
 abbrev pub room_after : Op → ℕ → Reply → ℕ → ℕ
 room_after op kept (Refused refusal) room = room
 room_after op kept reply room = room + op_asks op kept
 
+-- what each member keeps of it then: the one whose operation it is what the operation leaves, unless it is refused
 abbrev pub kept_after : Op → ℕ → Reply → List ℕ → List ℕ
 kept_after op m (Refused refusal) kept = kept
 kept_after op m reply kept = slice_set kept m (op_keeps op (slice_index_or kept m 0))
@@ -110,6 +116,8 @@ pub record Performs (op : Op) (m : ℕ) (board after : BoardView) (reply : Reply
   pub kept : after.kept ≡ kept_after op m reply board.kept
   -- a refusal changes nothing, save that a mismatch breaks the team
   pub same : (refusal : Refusal) → reply ≡ Refused refusal → refusal ≢ Mismatch → IsSame board after
+  -- nor does a wait that goes on
+  pub waits : reply ≡ Wait → goes_on_waiting op ≡ true → after ≡ board
 
 -- an arrival that comes first: the member waits at no barrier, has not arrived at the region's end, and nobody has arrived at its barrier with another tag
 pub record ArrivesFirst (m : ℕ) (tag : Tag) (h : List Event) : Type 0 where

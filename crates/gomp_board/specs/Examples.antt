@@ -1,7 +1,6 @@
 -- Lists of events, the newest first, and answers to operations that the examples share. (own)
-use Rattle.std.specs.Prelude.{ℕ, Option, List, [], ◌∷◌, ◌++◌}
+use Rattle.std.specs.Prelude.{ℕ, Option, List, [], ◌∷◌}
 use Rattle.std.proofs.Common.{zero, suc}
-use Rattle.gomp_types.specs.declared.task.Task.{Task}
 use Rattle.gomp_types.specs.declared.task.Task.TheVariants.{Implicit, Explicit}
 use Rattle.gomp_types.specs.declared.task.TaskDesc.{TaskDesc}
 use Rattle.gomp_types.specs.declared.limits.Limits.{Limits}
@@ -10,7 +9,7 @@ use Rattle.gomp_types.specs.declared.refusal.Refusal.{Refusal}
 use Rattle.gomp_types.specs.declared.reply.Reply.{Reply}
 use Rattle.gomp_types.specs.declared.event.Arrival.TheVariants.{Barrier, RegionEnd}
 use Rattle.gomp_types.specs.declared.event.Event.{Event}
-use Rattle.gomp_types.specs.declared.event.Event.TheVariants.{Arrive, Pass, Create, Start, Done, Group, GroupEnd, Break}
+use Rattle.gomp_types.specs.declared.event.Event.TheVariants.{Arrive, Pass, Create, Start, Done, Group, Break}
 use Rattle.gomp_types.specs.EventLists.{at}
 use Rattle.gomp_board.specs.declared.op.Op.{Op}
 use Rattle.gomp_board.specs.Ops.{op_refusal, OpAnswer}
@@ -91,6 +90,11 @@ first_left = Pass 0 0 ∷ both_end
 -- the second one has stopped the team
 abbrev pub stopped : List Event
 stopped = Break 1 AtStop ∷ []
+
+-- Words of a single
+
+abbrev pub words : List ℕ
+words = 7 ∷ 8 ∷ []
 
 -- Operations of the first member of a team of two
 

@@ -1,4 +1,5 @@
 pub mod Stored
+pub mod Payloads
 pub mod Owed
 pub mod Ops
 pub mod ReadyTasks

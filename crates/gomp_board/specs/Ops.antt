@@ -1,4 +1,4 @@
--- What each operation on a board is tested for, what it is answered, and which events it gives. OpenMP API 5.2, chapter 12 and sections 15.3 to 15.5.
+-- What each operation on a board is tested for, what it is answered, and which events it gives. OpenMP API 5.2, chapter 12 and sections 5.7.2 and 15.3 to 15.5.
 use Rattle.std.specs.Prelude.{ℕ, ◌+◌, ◌-◌, ◌≡◌, ◌&&◌, nat_lt, nat_le, not, Bool, true, false, if◌then◌else◌, IsTrue, List, [], ◌∷◌, ◌++◌, Option, Some, None}
 use Rattle.gomp_types.specs.declared.limits.Limits.{Limits}
 use Rattle.gomp_types.specs.declared.refusal.Clash.{Clash}
@@ -11,7 +11,7 @@ use Rattle.gomp_types.specs.declared.reply.Reply.TheVariants.{Finished, Passed, 
 use Rattle.gomp_types.specs.declared.event.Arrival.{Arrival}
 use Rattle.gomp_types.specs.declared.event.Arrival.TheVariants.{Barrier, ShareEnd, RegionEnd}
 use Rattle.gomp_types.specs.declared.event.Event.{Event}
-use Rattle.gomp_types.specs.declared.event.Event.TheVariants.{Arrive as ArriveEvent, Pass, Break as BreakEvent}
+use Rattle.gomp_types.specs.declared.event.Event.TheVariants.{Put as PutEvent, Got as GotEvent, Arrive as ArriveEvent, Pass, Break as BreakEvent}
 use Rattle.gomp_types.specs.Tests.{Test}
 use Rattle.gomp_types.specs.Least.{least}
 use Rattle.gomp_types.specs.Limits.{shown_number}
@@ -21,7 +21,7 @@ use Rattle.gomp_types.specs.Tasks.{executed_task, in_task}
 use Rattle.gomp_types.specs.Goals.{may_pass}
 use Rattle.gomp_types.specs.TaskCalls.{outside_tasks_tests, group_open_tests, create_tests, end_task_tests, end_group_tests, room_tests, task_room, group_room, arrival_room, AwaitsTasks, CreatesTask, EndsTask, AwaitsChildren, AwaitsGroup, creates, starts_task, ends_task, waited, opens_group, ends_group}
 use Rattle.gomp_board.specs.declared.op.Op.{Op}
-use Rattle.gomp_board.specs.declared.op.Op.TheVariants.{Create, EndTask, AwaitChildren, OpenGroup, EndGroup, Arrive, AwaitBarrier, Reserve, Break}
+use Rattle.gomp_board.specs.declared.op.Op.TheVariants.{Create, EndTask, AwaitChildren, OpenGroup, EndGroup, AwaitGroup, Arrive, AwaitBarrier, Reserve, Put, Got, Break}
 
 -- Room
 
@@ -31,12 +31,22 @@ arrival_asks Barrier kept = arrival_room
 arrival_asks ShareEnd kept = if nat_le arrival_room kept then 0 else arrival_room
 arrival_asks RegionEnd kept = 0
 
+-- the room of the words of a single, when they are put and when they are given to a member: one event
+abbrev pub words_room : ℕ
+words_room = 1
+
+-- none is asked for if the member has kept it
+abbrev pub words_ask : ℕ → ℕ
+words_ask kept = if nat_le words_room kept then 0 else words_room
+
 -- the room that an operation asks for, if its member has kept so much
 abbrev pub op_asks : Op → ℕ → ℕ
 op_asks (Create desc) kept = task_room
 op_asks OpenGroup kept = group_room
 op_asks (Arrive tag) kept = arrival_asks tag.kind kept
 op_asks (Reserve more) kept = more
+op_asks (Put share words) kept = words_ask kept
+op_asks (Got share words) kept = words_ask kept
 op_asks _ kept = 0
 
 -- what its member keeps after it: the end of a share uses what was kept
@@ -44,9 +54,16 @@ abbrev pub arrival_keeps : Arrival → ℕ → ℕ
 arrival_keeps ShareEnd kept = if nat_le arrival_room kept then kept - arrival_room else kept
 arrival_keeps _ kept = kept
 
+-- so do words
+abbrev pub words_keep : ℕ → ℕ
+words_keep kept = if nat_le words_room kept then kept - words_room else kept
+
+-- what its member keeps after an operation
 abbrev pub op_keeps : Op → ℕ → ℕ
 op_keeps (Arrive tag) kept = arrival_keeps tag.kind kept
 op_keeps (Reserve more) kept = kept + more
+op_keeps (Put share words) kept = words_keep kept
+op_keeps (Got share words) kept = words_keep kept
 op_keeps _ kept = kept
 
 -- Tests
@@ -85,12 +102,15 @@ op_tests limits room kept m EndTask h = busy_tests m h ++ end_task_tests m h
 op_tests limits room kept m AwaitChildren h = busy_tests m h
 op_tests limits room kept m OpenGroup h = busy_tests m h ++ room_tests limits room group_room
 op_tests limits room kept m EndGroup h = busy_tests m h ++ end_group_tests m h
+op_tests limits room kept m AwaitGroup h = busy_tests m h
 op_tests limits room kept m (Arrive tag) h =
     busy_tests m h
     ++ (outside_tasks_tests m h ++ (end_tests tag.kind m h
     ++ ((tag_differs tag (tag_at (barriers_passed m h) h), Mismatch) ∷ room_tests limits room (arrival_asks tag.kind kept))))
 op_tests limits room kept m AwaitBarrier h = (not (awaits_barrier m h), NotInside) ∷ []
 op_tests limits room kept m (Reserve more) h = busy_tests m h ++ (outside_tasks_tests m h ++ room_tests limits room more)
+op_tests limits room kept m (Put share words) h = busy_tests m h ++ (outside_tasks_tests m h ++ room_tests limits room (words_ask kept))
+op_tests limits room kept m (Got share words) h = busy_tests m h ++ room_tests limits room (words_ask kept)
 op_tests limits room kept m (Break place) h = (not (is_stop place), Mismatch) ∷ []
 
 -- an operation is refused by that of its tests that hold whose refusal has the least number
@@ -103,6 +123,8 @@ op_refusal limits room kept m op h = least (member_tests m h ++ op_tests limits 
 abbrev pub op_begins : ℕ → Op → List Event → List Event
 op_begins m (Create desc) h = creates m desc h
 op_begins m (Arrive tag) h = ArriveEvent (barriers_passed m h) m tag ∷ []
+op_begins m (Put share words) h = PutEvent share m words ∷ []
+op_begins m (Got share words) h = GotEvent share m words ∷ []
 op_begins m _ h = []
 
 -- the events once it has begun
@@ -126,10 +148,21 @@ op_gives m EndTask h reply = ends_task m reply
 op_gives m AwaitChildren h reply = waited m reply
 op_gives m OpenGroup h reply = opens_group m h reply
 op_gives m EndGroup h reply = ends_group m h reply
+op_gives m AwaitGroup h reply = ends_group m h reply
 op_gives m (Arrive tag) h reply = passes_barrier m h reply
 op_gives m AwaitBarrier h reply = passes_barrier m h reply
 op_gives m (Reserve more) h reply = []
+op_gives m (Put share words) h reply = []
+op_gives m (Got share words) h reply = []
 op_gives m (Break place) h reply = breaks m place reply
+
+-- an operation that goes on with a wait and gives no event before its reply
+abbrev pub goes_on_waiting : Op → Bool
+goes_on_waiting AwaitChildren = true
+goes_on_waiting EndGroup = true
+goes_on_waiting AwaitGroup = true
+goes_on_waiting AwaitBarrier = true
+goes_on_waiting _ = false
 
 -- where the member's construct differs
 abbrev pub op_place : ℕ → Op → List Event → Place
@@ -155,9 +188,12 @@ OpReply members m EndTask h reply = EndsTask (executed_task m h) reply
 OpReply members m AwaitChildren h reply = AwaitsChildren m h reply
 OpReply members m OpenGroup h reply = reply ≡ Finished
 OpReply members m EndGroup h reply = AwaitsGroup m h reply
+OpReply members m AwaitGroup h reply = AwaitsGroup m h reply
 OpReply members m (Arrive tag) h reply = AwaitsTasks m (may_pass members m h) h reply
 OpReply members m AwaitBarrier h reply = AwaitsTasks m (may_pass members m h) h reply
 OpReply members m (Reserve more) h reply = reply ≡ Finished
+OpReply members m (Put share words) h reply = reply ≡ Finished
+OpReply members m (Got share words) h reply = reply ≡ Finished
 OpReply members m (Break place) h reply = reply ≡ Stopped
 
 -- whether an operation may find no memory: it asks for room

@@ -4,6 +4,7 @@ ghost use Rattle.std.specs.Prelude.{◌≡◌, ◌<◌, ◌++◌, List, ◌∷�
 ghost use Rattle.gomp_types.specs.declared.event.Event.{Event as AnyEvent};
 ghost use Rattle.gomp_types.specs.declared.event.Event.TheVariants.{Break as BreakEvent};
 ghost use Rattle.gomp_types.specs.declared.refusal.Refusal.TheVariants.{Mismatch};
+ghost use Rattle.gomp_types.specs.declared.reply.Reply.TheVariants.{Wait};
 ghost use Rattle.gomp_types.specs.Events.{clash_of};
 ghost use Rattle.gomp_types.specs.Goals.{may_pass};
 ghost use Rattle.gomp_types.specs.TaskCalls.{AwaitsTasks};
@@ -121,6 +122,7 @@ impl Board {
         ensures limits { self.new.limits ≡ self.old.limits }
         ensures room { self.new.room ≡ self.old.room }
         ensures kept { self.new.kept ≡ self.old.kept }
+        ensures waits { result ≡ Wait → self.new ≡ self.old }
     {
         let barrier = self.barriers.look(member).number;
         if !self.barriers.turn(member) {

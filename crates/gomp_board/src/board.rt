@@ -11,6 +11,7 @@ ghost use Rattle.gomp_types.specs.TaskRules.{TaskRule};
 ghost use Rattle.gomp_board.specs.Boards.{Stands, IsAdmitted, Performs, members_of};
 
 use crate::op::Op;
+use crate::payloads::Payloads;
 use gomp_barrier::Barriers;
 use gomp_groups::Groups;
 use gomp_ready::Ready;
@@ -22,7 +23,7 @@ use std::marker::Model;
 /// The board of one team of 1 to 64 members, numbered from 0.
 ///
 /// Only `new`, and operations that ask for room for events (`Create`, `OpenGroup`, `Arrive` at a
-/// barrier, `Reserve`), take memory.
+/// barrier, `Reserve`, `Put` and `Got` of a member that keeps none), take memory.
 #[derive(Debug, Drop)]
 pub struct Board {
     pub(crate) limits: Limits,
@@ -34,6 +35,7 @@ pub struct Board {
     pub(crate) groups: Groups,
     pub(crate) barriers: Barriers,
     pub(crate) ready: Ready,
+    pub(crate) payloads: Payloads,
 }
 
 impl Model for Board {
@@ -42,9 +44,9 @@ impl Model for Board {
 
     ghost Value = { BoardView };
 
-    ghost view = { λ b. record { limits = b.limits; history = b.history.items; room = b.room; kept = b.kept.items; clash = b.clash; tasks = b.tasks; groups = b.groups; barriers = b.barriers; ready = b.ready.ids } };
+    ghost view = { λ b. record { limits = b.limits; history = b.history.items; room = b.room; kept = b.kept.items; clash = b.clash; tasks = b.tasks; groups = b.groups; barriers = b.barriers; ready = b.ready.ids; payloads = b.payloads } };
 
-    ghost invariant = { λ b. IsBoard (vec_capacity b.history) (record { limits = b.limits; history = b.history.items; room = b.room; kept = b.kept.items; clash = b.clash; tasks = b.tasks; groups = b.groups; barriers = b.barriers; ready = b.ready.ids }) };
+    ghost invariant = { λ b. IsBoard (vec_capacity b.history) (record { limits = b.limits; history = b.history.items; room = b.room; kept = b.kept.items; clash = b.clash; tasks = b.tasks; groups = b.groups; barriers = b.barriers; ready = b.ready.ids; payloads = b.payloads }) };
 }
 
 impl Board {
@@ -69,11 +71,14 @@ impl Board {
             groups: Groups::make(alloc, count)?,
             barriers: Barriers::make(alloc, count)?,
             ready: Ready::new(alloc),
+            payloads: Payloads::new(),
         })
     }
 
     /// Answers an operation of the member, numbered from 0. A refusal has the least number of those
-    /// whose tests hold.
+    /// whose tests hold ([`first_refusal`](Board::first_refusal)); if none holds, an operation that asks
+    /// for room may find no memory (`NoMemory`). A refusal changes nothing, save that `Mismatch` breaks
+    /// the team (OpenMP API 5.2, chapter 12, sections 15.3 to 15.5).
     pub fn step(&mut self, member: u16, op: Op) -> Reply
         requires member { member < members_of self.old }
         ensures performs { Performs op member self.old self.new result }
@@ -84,8 +89,9 @@ impl Board {
         }
     }
 
-    /// Answers an operation that no test refuses ([`first_refusal`](Board::first_refusal) finds
-    /// none).
+    /// Answers an operation of the member, numbered from 0, that no test refuses
+    /// ([`first_refusal`](Board::first_refusal) finds none). `NoMemory`, if it asks for room and its
+    /// memory is refused, is the one refusal that is left; then nothing changes.
     pub fn perform(&mut self, member: u16, op: Op) -> Reply
         requires member { member < members_of self.old }
         requires admitted { IsAdmitted op member self.old }
@@ -97,9 +103,12 @@ impl Board {
             Op::AwaitChildren => self.await_children(member),
             Op::OpenGroup => self.open_group(member),
             Op::EndGroup => self.end_group(member),
+            Op::AwaitGroup => self.await_group(member),
             Op::Arrive(tag) => self.arrive(member, tag),
             Op::AwaitBarrier => self.await_barrier(member),
             Op::Reserve(more) => self.reserve(member, more),
+            Op::Put { share, words } => self.put_words(member, share, words),
+            Op::Got { share, words } => self.give_words(member, share, words),
             Op::Break(place) => self.stop(member, place),
         }
     }

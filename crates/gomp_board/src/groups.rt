@@ -1,15 +1,17 @@
 //! Groups of tasks. OpenMP API 5.2, section 15.4.
 
 ghost use Rattle.std.specs.Prelude.{◌≡◌, ◌<◌, ◌≤◌, ◌+◌, ◌++◌, ◌∷◌, List, true, OnOk, reverse};
-ghost use Rattle.std.specs.Vec.{vec_len, vec_capacity};
+ghost use Rattle.std.specs.Vec.{vec_capacity};
 ghost use Rattle.gomp_types.specs.declared.event.Event.{Event as Happening};
+ghost use Rattle.gomp_types.specs.declared.reply.Reply.TheVariants.{Wait};
 ghost use Rattle.gomp_types.specs.Tasks.{executed_task};
 ghost use Rattle.gomp_types.specs.Groups.{open_groups};
-ghost use Rattle.gomp_types.specs.TaskCalls.{last_complete, ends_first};
+ghost use Rattle.gomp_types.specs.TaskCalls.{last_complete, ends_first, AwaitsGroup, ends_group};
 ghost use Rattle.gomp_board.specs.Boards.{IsAdmitted, Performs, Stands, members_of};
-ghost use Rattle.gomp_board.specs.declared.op.Op.TheVariants.{OpenGroup, EndGroup};
+ghost use Rattle.gomp_board.specs.declared.op.Op.TheVariants.{OpenGroup, EndGroup, AwaitGroup};
 
 use crate::board::Board;
+use crate::room::reserve_events;
 use gomp_groups::Groups;
 use gomp_types::{Event, Refusal, Reply};
 use std::alloc::AllocError;
@@ -25,8 +27,8 @@ impl Board {
         ensures performs { Performs OpenGroup member self.old self.new result }
     {
         let task = self.current(member);
-        let space = (self.room + GROUP_ROOM) as usize - self.history.len();
-        if reserve_group(&mut self.history, space, &mut self.groups).is_err() {
+        let room = self.room + GROUP_ROOM;
+        if reserve_group(&mut self.history, room, &mut self.groups).is_err() {
             return Reply::Refused(Refusal::NoMemory);
         }
         let group = self.groups.open(task);
@@ -40,6 +42,31 @@ impl Board {
         requires member { member < members_of self.old }
         requires admitted { IsAdmitted EndGroup member self.old }
         ensures performs { Performs EndGroup member self.old self.new result }
+    {
+        self.close_or_wait(member)
+    }
+
+    /// The member waits on for the tasks of that group, and ends it.
+    pub(crate) fn await_group(&mut self, member: u16) -> Reply
+        requires member { member < members_of self.old }
+        requires admitted { IsAdmitted AwaitGroup member self.old }
+        ensures performs { Performs AwaitGroup member self.old self.new result }
+    {
+        self.close_or_wait(member)
+    }
+
+    /// The member ends its last open group if the group's tasks are complete; else it executes a
+    /// task, or waits.
+    fn close_or_wait(&mut self, member: u16) -> Reply
+        requires member { member < members_of self.old }
+        ensures known { Stands self.old (reverse self.old.history) }
+        ensures answer { (h : List Happening) → Stands self.old h → AwaitsGroup member h result }
+        ensures stands { (h : List Happening) → Stands self.old h →
+            Stands self.new (ends_group member h result ++ h) }
+        ensures limits { self.new.limits ≡ self.old.limits }
+        ensures room { self.new.room ≡ self.old.room }
+        ensures kept { self.new.kept ≡ self.old.kept }
+        ensures waits { result ≡ Wait → self.new ≡ self.old }
     {
         if self.last_group_is_done(member) {
             self.close_group(member);
@@ -84,18 +111,14 @@ impl Board {
     }
 }
 
-/// Makes memory for so many more events, and for one more group.
-fn reserve_group(
-    history: &mut Vec<Event>,
-    space: usize,
-    groups: &mut Groups,
-) -> Result<(), AllocError>
+/// Makes memory for so many events in all, and for one more group.
+fn reserve_group(history: &mut Vec<Event>, room: u32, groups: &mut Groups) -> Result<(), AllocError>
     ensures history { history.new.items ≡ history.old.items }
     ensures grows { vec_capacity history.old ≤ vec_capacity history.new }
-    ensures space { OnOk result (vec_len history.old + space ≤ vec_capacity history.new) }
+    ensures space { OnOk result (room ≤ vec_capacity history.new) }
     ensures groups { groups.new ≡ record groups.old { group_room = groups.new.group_room } }
-    ensures room { OnOk result (0 < groups.new.group_room) }
+    ensures group_room { OnOk result (0 < groups.new.group_room) }
 {
-    history.reserve(space)?;
+    reserve_events(history, room)?;
     groups.reserve_group()
 }

@@ -1,6 +1,6 @@
 //! What a team asks of its board.
 
-use gomp_types::{Place, Tag, TaskDesc};
+use gomp_types::{Payload, Place, Tag, TaskDesc};
 
 /// One call of a member, as far as it is the board's: the call itself, or the wait that a repeated
 /// call goes on with.
@@ -14,15 +14,23 @@ pub enum Op {
     AwaitChildren,
     /// Opens a group in that task (section 15.4).
     OpenGroup,
-    /// Ends the last open group of that task, or waits on for the group's tasks.
+    /// Ends the last open group of that task, or waits for the group's tasks.
     EndGroup,
+    /// Waits on for these, or ends the group once they are complete. With no group open it waits, or
+    /// executes a task.
+    AwaitGroup,
     /// Arrives with this tag at the member's next barrier (section 15.3).
     Arrive(Tag),
     /// Waits on at the barrier at which the member has arrived.
     AwaitBarrier,
-    /// Keeps room for so many events that the member gives later: those of the end of a share that
-    /// it starts (own).
+    /// Keeps room for so many events that the member gives later in a share that it starts: its
+    /// words, and those of its end (own).
     Reserve(u32),
+    /// Puts the words of the executor of this share, a `single`, for the other members (section
+    /// 5.7.2).
+    Put { share: u64, words: Payload },
+    /// Notes that the member is given these words of this share (section 5.7.2).
+    Got { share: u64, words: Payload },
     /// Breaks the team there (own).
     Break(Place),
 }

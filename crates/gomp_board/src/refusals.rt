@@ -10,7 +10,7 @@ ghost use Rattle.gomp_types.specs.Tasks.{executed_task, in_task, depth_of, tasks
 ghost use Rattle.gomp_types.specs.Tests.{Test, first_refusal};
 ghost use Rattle.gomp_types.specs.TaskCalls.{group_is_open, lacks_room, create_tests, end_task_tests, end_group_tests, outside_tasks_tests, room_tests, task_room, group_room};
 ghost use Rattle.gomp_board.specs.declared.op.Op.TheVariants.{Arrive};
-ghost use Rattle.gomp_board.specs.Ops.{op_refusal, op_tests, busy_tests, end_tests, arrival_asks, awaits_barrier};
+ghost use Rattle.gomp_board.specs.Ops.{op_refusal, op_tests, busy_tests, end_tests, arrival_asks, words_ask, awaits_barrier};
 ghost use Rattle.gomp_board.specs.Boards.{Stands, members_of, kept_by};
 
 use crate::arrivals::arrival_asks;
@@ -18,11 +18,15 @@ use crate::board::Board;
 use crate::groups::GROUP_ROOM;
 use crate::op::Op;
 use crate::tasks::TASK_ROOM;
+use crate::words::words_ask;
 use gomp_types::{Arrival, MAX_TASK_DEPTH, Place, Refusal, Tag, Task};
 
 impl Board {
     /// Why the operation of the member, numbered from 0, is refused, want of memory aside: of the
-    /// tests that hold the one whose refusal has the least number.
+    /// tests that hold the one whose refusal has the least number. `Ended` and `Broken` may refuse
+    /// any; `Waiting`, `InsideTask`, `NotInTask`, `NotInside`, `NoGroup`, `GroupOpen`, `TooDeep`,
+    /// `TooManyTasks`, `Mismatch` and `TraceFull` those that have such a test (`op_tests` in
+    /// specs/Ops.antt).
     pub fn first_refusal(&self, member: u16, op: &Op) -> Option<Refusal>
         requires member { member < members_of self.now }
         ensures value { (h : List Event) → Stands self.now h → result ≡ op_refusal
@@ -49,9 +53,12 @@ impl Board {
             Op::AwaitChildren => first(self.awaits_barrier(member), Refusal::Waiting, None),
             Op::OpenGroup => self.open_group_refusal(member),
             Op::EndGroup => self.end_group_refusal(member),
+            Op::AwaitGroup => first(self.awaits_barrier(member), Refusal::Waiting, None),
             Op::Arrive(tag) => self.arrival_refusal(member, *tag),
             Op::AwaitBarrier => first(!self.awaits_barrier(member), Refusal::NotInside, None),
             Op::Reserve(more) => self.reserve_refusal(member, *more),
+            Op::Put { .. } => self.put_refusal(member),
+            Op::Got { .. } => self.give_refusal(member),
             Op::Break(place) => { first(!matches!(place, Place::Stopped), Refusal::Mismatch, None) }
         }
     }
@@ -149,8 +156,39 @@ impl Board {
         first(self.awaits_barrier(member), Refusal::Waiting, inside)
     }
 
+    /// Why no words are given: the member was let into its single when it came to that, so it is
+    /// in no task.
+    fn give_refusal(&self, member: u16) -> Option<Refusal>
+        requires member { member < members_of self.now }
+        ensures value { (h : List Event) → Stands self.now h → result ≡ first_refusal
+            (busy_tests member h ++ room_tests self.now.limits self.now.room
+            (words_ask (kept_by member self.now))) }
+    {
+        let asked = self.words_room(member);
+        let full = first(self.lacks_room(asked), Refusal::TraceFull, None);
+        first(self.awaits_barrier(member), Refusal::Waiting, full)
+    }
+
+    /// Why no words are put.
+    fn put_refusal(&self, member: u16) -> Option<Refusal>
+        requires member { member < members_of self.now }
+        ensures value { (h : List Event) → Stands self.now h → result ≡ first_refusal
+            (busy_tests member h ++ (outside_tasks_tests member h
+            ++ room_tests self.now.limits self.now.room (words_ask (kept_by member self.now)))) }
+    {
+        self.reserve_refusal(member, self.words_room(member))
+    }
+
+    /// The room that words of the member ask for.
+    fn words_room(&self, member: u16) -> u32
+        requires member { member < members_of self.now }
+        ensures { result ≡ words_ask (kept_by member self.now) }
+    {
+        words_ask(self.kept[member as usize])
+    }
+
     /// Whether the member executes an explicit task.
-    fn in_task(&self, member: u16) -> bool
+    pub(crate) fn in_task(&self, member: u16) -> bool
         requires member { member < members_of self.now }
         ensures value { (h : List Event) → Stands self.now h → result ≡ in_task member h }
     {
@@ -171,7 +209,7 @@ impl Board {
     }
 
     /// Whether the task that the member executes lies as deep as a task may.
-    fn is_deepest(&self, member: u16) -> bool
+    pub(crate) fn is_deepest(&self, member: u16) -> bool
         requires member { member < members_of self.now }
         ensures value { (h : List Event) → Stands self.now h →
             result ≡ nat_le MAX_TASK_DEPTH (depth_of (executed_task member h) h) }
@@ -181,7 +219,7 @@ impl Board {
     }
 
     /// Whether as many tasks were created as the team may create.
-    fn has_all_tasks(&self) -> bool
+    pub(crate) fn has_all_tasks(&self) -> bool
         ensures value { (h : List Event) → Stands self.now h →
             result ≡ nat_le self.now.limits.tasks (tasks_created h) }
     {
@@ -190,7 +228,7 @@ impl Board {
     }
 
     /// Whether that task has opened a group and not ended it.
-    fn has_group_open(&self, member: u16) -> bool
+    pub(crate) fn has_group_open(&self, member: u16) -> bool
         requires member { member < members_of self.now }
         ensures value { (h : List Event) → Stands self.now h → result ≡ group_is_open member h }
     {
@@ -213,7 +251,7 @@ impl Board {
     }
 
     /// Whether so much more room is asked for than the limit allows.
-    fn lacks_room(&self, more: u32) -> bool
+    pub(crate) fn lacks_room(&self, more: u32) -> bool
         ensures { result ≡ lacks_room self.now.limits.events self.now.room more }
     {
         let limit = self.limits.events as u64;
@@ -223,7 +261,7 @@ impl Board {
 }
 
 /// The refusal if the test holds, and else the other one.
-fn first(holds: bool, refusal: Refusal, other: Option<Refusal>) -> Option<Refusal>
+pub(crate) fn first(holds: bool, refusal: Refusal, other: Option<Refusal>) -> Option<Refusal>
     ensures { result ≡ (if holds then Some refusal else other) }
 {
     if holds { Some(refusal) } else { other }

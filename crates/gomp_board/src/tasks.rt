@@ -1,13 +1,14 @@
 //! Tasks: their creation and their end. OpenMP API 5.2, section 12.5.
 
 ghost use Rattle.std.specs.Prelude.{◌≡◌, ◌<◌, ◌≤◌, ◌+◌, List, OnOk};
-ghost use Rattle.std.specs.Vec.{vec_len, vec_capacity};
+ghost use Rattle.std.specs.Vec.{vec_capacity};
 ghost use Rattle.gomp_types.specs.declared.event.Event.{Event as Happening};
 ghost use Rattle.gomp_types.specs.Tasks.{executed_task, epoch_of_child, is_odd};
 ghost use Rattle.gomp_board.specs.Boards.{IsAdmitted, Performs, Stands, members_of};
 ghost use Rattle.gomp_board.specs.declared.op.Op.TheVariants.{Create, EndTask};
 
 use crate::board::Board;
+use crate::room::reserve_events;
 use gomp_groups::Groups;
 use gomp_ready::Ready;
 use gomp_tasks::Tasks;
@@ -26,10 +27,10 @@ impl Board {
     {
         let parent = self.current(member);
         let odd = self.child_is_odd(member);
-        let space = (self.room + TASK_ROOM) as usize - self.history.len();
+        let room = self.room + TASK_ROOM;
         if reserve_task(
             &mut self.history,
-            space,
+            room,
             &mut self.tasks,
             &mut self.groups,
             &mut self.ready,
@@ -85,17 +86,17 @@ impl Board {
     }
 }
 
-/// Makes memory for so many more events, and for one more task.
+/// Makes memory for so many events in all, and for one more task.
 fn reserve_task(
     history: &mut Vec<Event>,
-    space: usize,
+    room: u32,
     tasks: &mut Tasks,
     groups: &mut Groups,
     ready: &mut Ready,
 ) -> Result<(), AllocError>
     ensures history { history.new.items ≡ history.old.items }
     ensures grows { vec_capacity history.old ≤ vec_capacity history.new }
-    ensures space { OnOk result (vec_len history.old + space ≤ vec_capacity history.new) }
+    ensures space { OnOk result (room ≤ vec_capacity history.new) }
     ensures tasks { tasks.new ≡ record tasks.old { room = tasks.new.room } }
     ensures task_room { OnOk result (0 < tasks.new.room) }
     ensures groups { groups.new ≡ record groups.old { task_room = groups.new.task_room } }
@@ -103,7 +104,7 @@ fn reserve_task(
     ensures ready { ready.new ≡ record ready.old { room = ready.new.room } }
     ensures ready_room { OnOk result (0 < ready.new.room) }
 {
-    history.reserve(space)?;
+    reserve_events(history, room)?;
     tasks.reserve()?;
     groups.reserve_task()?;
     ready.reserve()

@@ -1,7 +1,8 @@
-//! Waits at which a member executes tasks. OpenMP API 5.2, sections 12.6 and 15.5.
+//! Waits at which a member executes tasks. OpenMP API 5.2, sections 12.9 and 15.5.
 
-ghost use Rattle.std.specs.Prelude.{◌≡◌, ◌<◌, ◌++◌, List, MatchOption, reverse};
+ghost use Rattle.std.specs.Prelude.{◌≡◌, ◌≢◌, ◌<◌, ◌++◌, List, MatchOption, reverse};
 ghost use Rattle.gomp_types.specs.declared.event.Event.{Event};
+ghost use Rattle.gomp_types.specs.declared.reply.Reply.TheVariants.{Wait};
 ghost use Rattle.gomp_types.specs.Tasks.{executed_task};
 ghost use Rattle.gomp_types.specs.Goals.{children_complete};
 ghost use Rattle.gomp_types.specs.TaskCalls.{starts_task};
@@ -36,6 +37,7 @@ impl Board {
         ensures members { members_of self.new ≡ members_of self.old }
         ensures room { self.new.room ≡ self.old.room }
         ensures kept { self.new.kept ≡ self.old.kept }
+        ensures waits { result ≡ Wait → self.new ≡ self.old }
     {
         match self.startable(member) {
             Some(place) => self.start(member, place),
@@ -81,6 +83,7 @@ impl Board {
         ensures limits { self.new.limits ≡ self.old.limits }
         ensures room { self.new.room ≡ self.old.room }
         ensures kept { self.new.kept ≡ self.old.kept }
+        ensures runs { result ≢ Wait }
     {
         let task = self.ready.take(place);
         let TaskDesc { code, arg } = self.tasks.desc(task);

@@ -1,12 +1,11 @@
 -- A call of the parts leaves the book of names and locks standing, and a call of the book the parts.
-use Rattle.std.proofs.Common.{◌≡◌, ℕ, Bool, true, false, List, ◌∷◌, ◌++◌, Option, Some, None, refl, ap, ◌∙◌, sym, subst}
-use Rattle.std.specs.Prelude.{slice_get, option_map}
+use Rattle.std.proofs.Common.{◌≡◌, ℕ, Bool, true, false, List, [], ◌∷◌, ◌++◌, Option, Some, None, refl, ap, ◌∙◌, sym, subst, arith}
+use Rattle.std.specs.Prelude.{◌≤◌, slice_get, option_map}
 use Rattle.gomp_types.specs.declared.call.Call.{Call}
 use Rattle.gomp_types.specs.declared.call.Call.TheVariants.{Stop}
 use Rattle.gomp_types.specs.declared.key.Key.{Key}
 use Rattle.gomp_types.specs.declared.key.Key.TheVariants.{Critical}
 use Rattle.gomp_types.specs.declared.lock.LockKind.{LockKind}
-use Rattle.gomp_types.specs.declared.refusal.Refusal.{Refusal}
 use Rattle.gomp_types.specs.declared.refusal.Refusal.TheVariants.{NoMemory}
 use Rattle.gomp_types.specs.declared.reply.Reply.{Reply}
 use Rattle.gomp_types.specs.declared.reply.Reply.TheVariants.{Refused}
@@ -15,14 +14,19 @@ use Rattle.gomp_types.specs.declared.event.Event.TheVariants.{Hold, Free}
 use Rattle.gomp_types.specs.declared.task.Task.{Task}
 use Rattle.gomp_locks.specs.Book.{BookView}
 use Rattle.gomp_locks.specs.Holders.{key_of, holder, holding_owner}
-use Rattle.gomp_model.specs.Past.{Past}
-use Rattle.gomp_model.specs.Row.{Row, begun_past, MayReply, given_after, events_after, locks_after}
+use Rattle.gomp_types.specs.Events.{open_share}
+use Rattle.gomp_types.specs.Laws.{Always}
+use Rattle.gomp_model.specs.Past.{Terms, Past}
+use Rattle.gomp_model.specs.Row.{Row, begun_past, given_after, events_after, room_after, locks_after, MayGive, past_given}
 use Rattle.gomp_model.specs.CriticalNames.{held_once, freed_once}
 use Rattle.gomp_model.specs.Calls.{row_of}
 use Rattle.gomp_laws.proofs.Sound.{Gives, gives_of, IsLast}
 use Rattle.gomp_laws.proofs.CallsKeep.{step_keeps}
 use Rattle.gomp_laws.proofs.Calls.{row_is_sound}
-use Rattle.gomp_held.specs.Stands.{lock_held, BookStands, IsKnown, MayGive, past_given}
+use Rattle.gomp_board.specs.Boards.{BoardView, Stands as BoardStands, kept_by}
+use Rattle.gomp_board.proofs.Laws.{events_aside_keep_board}
+use Rattle.gomp_parts.specs.Answers.{room_left, PutsInside, PartsStand}
+use Rattle.gomp_held.specs.Stands.{lock_held, BookStands, IsKnown}
 
 -- The past after a reply
 
@@ -35,22 +39,17 @@ pub locks_so : (row : Row) (repeated : Bool) (m : ℕ) (p : Past) (reply : Reply
 locks_so row repeated m p (Refused refusal) = refl
 locks_so row repeated m p _ = refl
 
--- a reply that the row has is one that it may give
-pub gives_reply : (call : Call) (repeated : Bool) (m : ℕ) (p : Past) (reply : Reply) → MayReply (row_of call) repeated m p reply → MayGive (row_of call) repeated m p reply
-gives_reply call repeated m p (Refused refusal) may = absurd ((row_is_sound call).accepts m (begun_past repeated (row_of call) m p) refusal may)
-gives_reply call repeated m p _ may = may
+pub room_so : (row : Row) (repeated : Bool) (m : ℕ) (p : Past) (reply : Reply) → room_after repeated row reply p.room ≡ (past_given row repeated m p reply).room
+room_so row repeated m p (Refused refusal) = refl
+room_so row repeated m p _ = refl
+
+pub terms_so : (row : Row) (repeated : Bool) (m : ℕ) (p : Past) (reply : Reply) → p.terms ≡ (past_given row repeated m p reply).terms
+terms_so row repeated m p (Refused refusal) = refl
+terms_so row repeated m p _ = refl
 
 -- want of memory is given only by a call that may find none
 pub lacks_if_memory : (row : Row) (repeated : Bool) (m : ℕ) (p : Past) (reply : Reply) → reply ≡ Refused NoMemory → MayGive row repeated m p reply → row.memory ≡ true
 lacks_if_memory row repeated m p reply lacks may = subst (MayGive row repeated m p) lacks may
-
--- no call of the parts is refused when it is answered
-pub reply_refused_not : (call : Call) (repeated : Bool) (m : ℕ) (p : Past) (reply : Reply) (refusal : Refusal) → MayReply (row_of call) repeated m p reply → reply ≡ Refused refusal → ⊥
-reply_refused_not call repeated m p reply refusal may same = (row_is_sound call).accepts m (begun_past repeated (row_of call) m p) refusal (subst (MayReply (row_of call) repeated m p) same may)
-
-pub given_so : (call : Call) (repeated : Bool) (m : ℕ) (p : Past) (reply : Reply) → MayReply (row_of call) repeated m p reply → given_after (row_of call) repeated m p reply ≡ (past_given (row_of call) repeated m p reply).events
-given_so call repeated m p (Refused refusal) may = absurd ((row_is_sound call).accepts m (begun_past repeated (row_of call) m p) refusal may)
-given_so call repeated m p _ may = refl
 
 -- A book stands for what is held alike
 
@@ -90,10 +89,10 @@ made_kept : (call : Call) (repeated : Bool) (m : ℕ) (p : Past) (reply : Reply)
 made_kept call repeated m p (Refused refusal) aside = refl
 made_kept call repeated m p reply aside = makes_nothing call reply p.locks aside
 
-pub parts_leave_book : (book : BookView) (call : Call) (repeated : Bool) (m : ℕ) (p : Past) (reply : Reply) → (row_of call).asks_book ≡ false → MayReply (row_of call) repeated m p reply → BookStands book p → BookStands book (past_given (row_of call) repeated m p reply)
+pub parts_leave_book : (book : BookView) (call : Call) (repeated : Bool) (m : ℕ) (p : Past) (reply : Reply) → (row_of call).asks_book ≡ false → MayGive (row_of call) repeated m p reply → BookStands book p → BookStands book (past_given (row_of call) repeated m p reply)
 parts_leave_book book call repeated m p reply aside may st =
     let given = past_given (row_of call) repeated m p reply in
-    book_moved book p given (λ key. ap (holder key) (sym (events_so call repeated m p reply (gives_reply call repeated m p reply may))) ∙ holders_kept call repeated m p reply key aside) (made_kept call repeated m p reply aside) st
+    book_moved book p given (λ key. ap (holder key) (sym (events_so call repeated m p reply may)) ∙ holders_kept call repeated m p reply key aside) (made_kept call repeated m p reply aside) st
 
 -- it waits for no name
 pub knows_nothing : (book : BookView) (call : Call) → (row_of call).asks_book ≡ false → IsKnown book (Some call)
@@ -117,6 +116,34 @@ given_aside : (P : List Event → Type 0) → KeepsHolds P → (call : Call) (re
 given_aside P keeps Stop repeated m p reply asks holds = absurd (cc)
 given_aside P keeps _ repeated m p reply asks holds = first_of (cc, search (held_aside P keeps, freed_aside P keeps, holds))
 
-pub book_leaves_parts : (P : List Event → Type 0) → KeepsHolds P → (call : Call) (repeated : Bool) (m : ℕ) (p : Past) (reply : Reply) → (row_of call).asks_book ≡ true → P p.events → P (past_given (row_of call) repeated m p reply).events
-book_leaves_parts P keeps call repeated m p (Refused refusal) asks holds = holds
-book_leaves_parts P keeps call repeated m p reply asks holds = given_aside P keeps call repeated m p reply asks holds
+book_leaves : (P : List Event → Type 0) → KeepsHolds P → (call : Call) (repeated : Bool) (m : ℕ) (p : Past) (reply : Reply) → (row_of call).asks_book ≡ true → P p.events → P (past_given (row_of call) repeated m p reply).events
+book_leaves P keeps call repeated m p (Refused refusal) asks holds = holds
+book_leaves P keeps call repeated m p reply asks holds = given_aside P keeps call repeated m p reply asks holds
+
+-- it asks for no room, and starts no share
+pub book_asks_no_room : (call : Call) → (row_of call).asks_book ≡ true → (row_of call).room ≡ 0
+book_asks_no_room Stop asks = absurd (cc)
+book_asks_no_room _ asks = cc
+
+pub book_starts_nothing : (call : Call) → (row_of call).asks_book ≡ true → (row_of call).starts ≡ None
+book_starts_nothing Stop asks = absurd (cc)
+book_starts_nothing _ asks = cc
+
+no_room_asked : (row : Row) (repeated : Bool) (m : ℕ) (p : Past) (reply : Reply) → row.room ≡ 0 → (past_given row repeated m p reply).room ≡ p.room
+no_room_asked row repeated m p (Refused refusal) none = refl
+no_room_asked row true m p _ none = refl
+no_room_asked row false m p _ none = omega (arith, none)
+
+pub book_leaves_parts : {S : Type 0} (stands : S → List Event → Type 0) (shares : S) (board : BoardView) → KeepsHolds (stands shares) → (call : Call) (repeated : Bool) (m : ℕ) (p : Past) (reply : Reply) → (row_of call).asks_book ≡ true →
+    PartsStand stands shares board p → PartsStand stands shares board (past_given (row_of call) repeated m p reply)
+book_leaves_parts stands shares board keeps call repeated m p reply asks st =
+    let row = row_of call in
+    let terms = terms_so row repeated m p reply in record {
+      shares_are = book_leaves (stands shares) keeps call repeated m p reply asks st.shares_are;
+      board_is = book_leaves (BoardStands board) (λ h key n task is. (events_aside_keep_board board h (Hold key n task ∷ []) (tt, tt) is, events_aside_keep_board board h (Free key n task ∷ []) (tt, tt) is)) call repeated m p reply asks st.board_is;
+      members = ap (λ (t : Terms). t.members) (sym terms) ∙ st.members;
+      limits = ap (λ (t : Terms). t.limits) (sym terms) ∙ st.limits;
+      room = no_room_asked row repeated m p reply (book_asks_no_room call asks) ∙ st.room;
+      kept = λ k. book_leaves (λ (h : List Event). room_left (open_share k h) ≤ kept_by k board) (λ h key n task le. (le, le)) call repeated m p reply asks (st.kept k);
+      puts = book_leaves (Always PutsInside) (λ h key n task puts. ((tt, puts), (tt, puts))) call repeated m p reply asks st.puts;
+    }

@@ -11,19 +11,21 @@ use Rattle.gomp_types.specs.declared.lock.LockKind.TheVariants.{Simple, Nest}
 use Rattle.gomp_types.specs.declared.reply.Reply.TheVariants.{Finished, Lock as LockMade}
 use Rattle.gomp_locks.specs.declared.lock.Lock.{Lock}
 use Rattle.gomp_locks.specs.Book.{BookView, unset_lock}
-use Rattle.gomp_model.specs.Past.{Terms, Past}
+use Rattle.gomp_types.specs.TaskCalls.{first_room}
+use Rattle.gomp_model.specs.Past.{Terms, Waits, no_waits, Past}
 use Rattle.gomp_model.specs.Team.{Record, MayAnswer, past_of, Caused}
 use Rattle.gomp_held.specs.Stands.{lock_held, BookStands}
 use Rattle.gomp_core.specs.Resolved.{step_by}
 use Rattle.gomp_core.specs.Stands.{Begins}
 use Rattle.gomp_core.specs.LocksMade.{kinds_of, init_of, lock_made, made_from, locks_made}
-use Rattle.gomp_core.proofs.Waits.{same_members}
+use Rattle.gomp_core.proofs.Admitted.{same_members}
 
 -- after this record nothing has happened, nobody waits, and these are the locks
 record AfterLocks (terms : Terms) (places : List (Option LockKind)) (before : Record) : Type 0 where
   caused : Caused terms before
   quiet : (past_of terms before).events ≡ []
-  nobody : (m : ℕ) → (past_of terms before).waits m ≡ None
+  nobody : (m : ℕ) → (past_of terms before).waits m ≡ no_waits
+  room : (past_of terms before).room ≡ first_room terms.members
   locks : (past_of terms before).locks ≡ places
 
 -- One lock
@@ -34,7 +36,7 @@ is_no_member members some = grind (arith, nat_tests)
 has_room : (made : ℕ) → made < MAX_LOCKS → nat_le MAX_LOCKS made ≡ false
 has_room made less = grind (arith, nat_tests)
 
-init_answered : (p : Past) (kind : LockKind) (number : ℕ) → 0 < p.terms.members → p.events ≡ [] → p.waits 0 ≡ None → number ≡ length p.locks → number < MAX_LOCKS → MayAnswer p (step_by 0 (init_of kind)) (LockMade number)
+init_answered : (p : Past) (kind : LockKind) (number : ℕ) → 0 < p.terms.members → p.events ≡ [] → p.waits 0 ≡ no_waits → number ≡ length p.locks → number < MAX_LOCKS → MayAnswer p (step_by 0 (init_of kind)) (LockMade number)
 init_answered p Simple number some quiet nobody is less =
     let small = is_no_member p.terms.members some in
     let room : nat_le MAX_LOCKS (length p.locks) ≡ false = rw is at (has_room number less) in
@@ -44,13 +46,13 @@ init_answered p Nest number some quiet nobody is less =
     let room : nat_le MAX_LOCKS (length p.locks) ≡ false = rw is at (has_room number less) in
     (rw (small, quiet, nobody, room) refl, is)
 
-destroy_answered : (p : Past) (kind : LockKind) (number : ℕ) → 0 < p.terms.members → p.events ≡ [] → p.waits 0 ≡ None → slice_get p.locks number ≡ Some (Some kind) → MayAnswer p (step_by 0 (LockDestroy number)) Finished
+destroy_answered : (p : Past) (kind : LockKind) (number : ℕ) → 0 < p.terms.members → p.events ≡ [] → p.waits 0 ≡ no_waits → slice_get p.locks number ≡ Some (Some kind) → MayAnswer p (step_by 0 (LockDestroy number)) Finished
 destroy_answered p kind number some quiet nobody at =
     let small = is_no_member p.terms.members some in
     (rw (small, quiet, nobody, at) refl, refl)
 
-none_either : {A : Type 0} (test : Bool) (x : Option A) → x ≡ None → (if test then None else x) ≡ None
-none_either true x none = refl
+none_either : (test : Bool) (x : Waits) → x ≡ no_waits → (if test then (record x { open_call = None }) else x) ≡ no_waits
+none_either true x none = rw none refl
 none_either false x none = none
 
 after_init_step : (terms : Terms) (places : List (Option LockKind)) (kind : LockKind) (before : Record) → 0 < terms.members → length places < MAX_LOCKS → AfterLocks terms places before →
@@ -62,6 +64,7 @@ after_init_step terms places Simple before some less after =
       caused = (init_answered p Simple (length places) some_here after.quiet (after.nobody 0) (sym (ap (λ (all : List (Option LockKind)). length all) after.locks)) less, after.caused);
       quiet = after.quiet;
       nobody = λ m. none_either (0 == m) (p.waits m) (after.nobody m);
+      room = let same = after.room in omega (arith, same);
       locks = ap (λ (all : List (Option LockKind)). all ++ Some Simple ∷ []) after.locks;
     }
 after_init_step terms places Nest before some less after =
@@ -71,6 +74,7 @@ after_init_step terms places Nest before some less after =
       caused = (init_answered p Nest (length places) some_here after.quiet (after.nobody 0) (sym (ap (λ (all : List (Option LockKind)). length all) after.locks)) less, after.caused);
       quiet = after.quiet;
       nobody = λ m. none_either (0 == m) (p.waits m) (after.nobody m);
+      room = let same = after.room in omega (arith, same);
       locks = ap (λ (all : List (Option LockKind)). all ++ Some Nest ∷ []) after.locks;
     }
 
@@ -92,6 +96,7 @@ after_destroy_step terms places kind before some after =
       caused = (destroy_answered p kind (length places) some_here after.quiet (after.nobody 0) at, after.caused);
       quiet = after.quiet;
       nobody = λ m. none_either (0 == m) (p.waits m) (after.nobody m);
+      room = let same = after.room in omega (arith, same);
       locks = ap (λ (all : List (Option LockKind)). slice_set all (length places) None) after.locks ∙ last_set places (Some kind) None;
     }
 
@@ -115,7 +120,7 @@ after_locks_made terms places (place ∷ more) before some room after =
     (subst (λ (both : List (Option LockKind)). AfterLocks terms both (made_from (length (places ++ place ∷ [])) more (lock_made (length places) place ++ before))) (append_assoc places (place ∷ []) more) all)
 
 nothing_made : (terms : Terms) → AfterLocks terms [] []
-nothing_made terms = record { caused = tt; quiet = refl; nobody = λ m. refl; locks = refl }
+nothing_made terms = record { caused = tt; quiet = refl; nobody = λ m. refl; room = refl; locks = refl }
 
 -- A book that nobody holds anything of
 
@@ -136,12 +141,13 @@ begins_with_locks terms book after some bound names locks =
     let same : length (kinds_of book.locks) ≡ length book.locks = length-map book.locks (option_map (λ (lock : Lock). lock.kind)) in
     let kept : length after.locks ≡ length book.locks = ap (λ (all : List (Option Lock)). length all) locks ∙ length-map book.locks (option_map unset_lock) in
     let made = after_locks_made terms [] (kinds_of book.locks) [] some (omega arith) (nothing_made terms) in
-    record { caused = made.caused; quiet = made.quiet; nobody = made.nobody; book_are = unset_book_stands book after (past_of terms (locks_made (kinds_of book.locks))) names locks made.quiet made.locks }
+    record { caused = made.caused; quiet = made.quiet; nobody = made.nobody; room = made.room; book_are = unset_book_stands book after (past_of terms (locks_made (kinds_of book.locks))) names locks made.quiet made.locks }
 
 pub begins_empty : (terms : Terms) (book : BookView) → book.names ≡ [] → book.locks ≡ [] → Begins terms book []
 begins_empty terms book names locks = record {
   caused = tt;
   quiet = refl;
   nobody = λ m. refl;
+  room = refl;
   book_are = record { names = λ name. rw names refl; locks = λ number. rw locks refl; unmade = λ kind number past. refl };
 }

@@ -1,18 +1,19 @@
 -- What a team's definitions say of its size, its schedules, its words, its calls and its waits: for each what it alone tells or refuses.
-use Rattle.std.proofs.Common.{◌≡◌, ℕ, true, false, List, [], ◌∷◌, Some, None, refl, arith}
+use Rattle.std.proofs.Common.{◌≡◌, ℕ, true, false, List, [], ◌∷◌, Option, Some, None, refl, arith, inl, inr}
 use Rattle.std.specs.Prelude.{pos}
 use Rattle.gomp_types.specs.declared.call.Call.{Call}
-use Rattle.gomp_types.specs.declared.call.Call.TheVariants.{LoopStart, LoopNext, LoopEndNowait, Barrier, CriticalStart, CriticalEnd, LockInit, NestInit, LockDestroy, Resume, Stop}
+use Rattle.gomp_types.specs.declared.call.Call.TheVariants.{LoopStart, LoopNext, LoopEndNowait, SectionsStart, SingleCopyStart, Barrier, RegionEnd, CriticalStart, CriticalEnd, LockInit, NestInit, LockDestroy, TaskCreate, TaskEnd, Taskwait, GroupStart, Resume, Stop}
 use Rattle.gomp_types.specs.declared.call.Step.{Step}
 use Rattle.gomp_types.specs.declared.lock.LockKind.TheVariants.{Simple, Nest}
-use Rattle.gomp_types.specs.declared.loop_desc.EndKind.TheVariants.{Wait as WaitEnd}
+use Rattle.gomp_types.specs.declared.loop_desc.EndKind.TheVariants.{Wait as WaitEnd, Nowait}
 use Rattle.gomp_types.specs.declared.loop_desc.LoopDesc.{LoopDesc}
 use Rattle.gomp_types.specs.declared.loop_desc.Sched.{Sched}
 use Rattle.gomp_types.specs.declared.loop_desc.Sched.TheVariants.{Guided, Runtime}
-use Rattle.gomp_types.specs.declared.reply.Reply.TheVariants.{Passed, Finished, Wait, Lock as LockMade, Stopped, Refused}
+use Rattle.gomp_types.specs.declared.reply.Reply.TheVariants.{Passed, Finished, Wait, Run, TaskDone, Lock as LockMade, Stopped, Refused}
 use Rattle.gomp_types.specs.declared.refusal.Refusal.TheVariants.{NoMemory, InsideShare}
 use Rattle.gomp_types.specs.Limits.{IsTeamSize}
-use Rattle.gomp_model.specs.Team.{wait_after}
+use Rattle.gomp_model.specs.Past.{Waits, no_waits}
+use Rattle.gomp_model.specs.Team.{waits_after}
 use Rattle.gomp_icv.specs.Variables.{Variables, initial}
 use Rattle.gomp_core.specs.Stands.{OnlyTakersLack, standard_terms}
 use Rattle.gomp_core.specs.Resolved.{step_by, record_of}
@@ -30,15 +31,29 @@ loop_by sched chunk = record { start = pos 0; end = pos 9; incr = pos 1; sched =
 abbrev made_by : Call → Call → List Step
 made_by one other = step_by 0 one ∷ step_by 0 other ∷ []
 
--- the start of a name and the making of a lock may find no memory; that a barrier or the start of a loop does, or the end of a name, is refused, in the first place and behind another reply
+-- a loop without a barrier at its end
+abbrev loop_nowait : LoopDesc
+loop_nowait = record (loop_by Guided 4) { end_kind = Nowait }
+
+-- the calls that take memory may find none: the start of a name, the making of a lock, and what asks for room
 pub memory_is_taken :
-    OnlyTakersLack (made_by (CriticalStart []) NestInit) (Refused NoMemory ∷ Refused NoMemory ∷ [])
-    × (OnlyTakersLack (made_by Barrier LockInit) (Refused NoMemory ∷ LockMade 0 ∷ []) → ⊥) × (OnlyTakersLack (made_by LockInit (LoopStart (loop_by Guided 4))) (LockMade 0 ∷ Refused NoMemory ∷ []) → ⊥)
-    × (OnlyTakersLack (made_by LockInit (CriticalEnd [])) (LockMade 0 ∷ Refused NoMemory ∷ []) → ⊥)
+    OnlyTakersLack (made_by (CriticalStart []) NestInit) (Refused NoMemory ∷ Refused NoMemory ∷ []) × OnlyTakersLack (made_by Barrier GroupStart) (Refused NoMemory ∷ Refused NoMemory ∷ [])
+    × OnlyTakersLack (made_by (TaskCreate (record { code = 1; arg = 2 })) (LoopStart (loop_by Guided 4))) (Refused NoMemory ∷ Refused NoMemory ∷ []) × OnlyTakersLack (made_by SingleCopyStart (SectionsStart 2 WaitEnd)) (Refused NoMemory ∷ Refused NoMemory ∷ [])
 memory_is_taken = (
-  (λ lacks. (refl, refl), (λ lacks. (refl, refl), tt)),
-  λ only. absurd (let asks = (only.0 refl).1 in cc),
-  λ only. absurd (let asks = (only.1.0 refl).1 in cc),
+  (λ lacks. (refl, inl refl), (λ lacks. (refl, inl refl), tt)),
+  (λ lacks. (refl, inr (omega arith)), (λ lacks. (refl, inr (omega arith)), tt)),
+  (λ lacks. (refl, inr (omega arith)), (λ lacks. (refl, inr (omega arith)), tt)),
+  (λ lacks. (refl, inr (omega arith)), (λ lacks. (refl, inr (omega arith)), tt)),
+)
+
+-- no other call does, in the first place and behind another reply: a taskwait, the start of a loop without a barrier, the end of a name, the end of the region
+pub memory_is_not_taken :
+    (OnlyTakersLack (made_by Taskwait LockInit) (Refused NoMemory ∷ LockMade 0 ∷ []) → ⊥) × (OnlyTakersLack (made_by LockInit (LoopStart loop_nowait)) (LockMade 0 ∷ Refused NoMemory ∷ []) → ⊥)
+    × (OnlyTakersLack (made_by LockInit (CriticalEnd [])) (LockMade 0 ∷ Refused NoMemory ∷ []) → ⊥) × (OnlyTakersLack (made_by LockInit RegionEnd) (LockMade 0 ∷ Refused NoMemory ∷ []) → ⊥)
+memory_is_not_taken = (
+  λ only. absurd (let memory = (only.0 refl).0 in cc),
+  λ only. elim ((only.1.0 refl).1) [ inl book ↦ absurd (cc) | inr room ↦ absurd (omega (arith, room)) ],
+  λ only. absurd (let memory = (only.1.0 refl).0 in cc),
   λ only. absurd (let memory = (only.1.0 refl).0 in cc),
 )
 
@@ -62,8 +77,14 @@ record_is_resolved = refl
 pub terms_of_three : standard_terms 3 by_four ≡ record { members = 3; limits = record { shares = 131064; tasks = 1048576; events = 16777216 }; cancellation = true }
 terms_of_three = refl
 
--- a wait is kept if the reply is to wait or a refusal, and closed by every other
+-- the calls of a member: one that waits, and those beneath
+abbrev waits_of : Option Call → List Call → Waits
+waits_of waiting calls = record { open_call = waiting; beneath = calls }
+
+-- a wait is kept if the reply is to wait or a refusal; a task is run above the call, which waits again when the task has ended; every other reply closes the wait
 pub waits_that_are_kept :
-    (wait_after Wait Barrier None ≡ Some Barrier) × (wait_after Wait Resume (Some Barrier) ≡ Some Barrier) × (wait_after (Refused InsideShare) LoopNext (Some Barrier) ≡ Some Barrier)
-    × (wait_after Passed Resume (Some Barrier) ≡ None) × (wait_after Finished LoopEndNowait None ≡ None)
-waits_that_are_kept = (refl, refl, refl, refl, refl)
+    (waits_after Wait Barrier no_waits ≡ waits_of (Some Barrier) []) × (waits_after Wait Resume (waits_of (Some Barrier) []) ≡ waits_of (Some Barrier) []) × (waits_after (Refused InsideShare) LoopNext (waits_of (Some Barrier) []) ≡ waits_of (Some Barrier) [])
+    × (waits_after (Run 1 7 9 false) Resume (waits_of (Some Barrier) []) ≡ waits_of None (Barrier ∷ [])) × (waits_after (Run 2 7 9 false) Taskwait (waits_of None (Barrier ∷ [])) ≡ waits_of None (Taskwait ∷ Barrier ∷ []))
+    × (waits_after (TaskDone 2 true) TaskEnd (waits_of None (Taskwait ∷ Barrier ∷ [])) ≡ waits_of (Some Taskwait) (Barrier ∷ []))
+    × (waits_after Passed Resume (waits_of (Some Taskwait) (Barrier ∷ [])) ≡ waits_of None (Barrier ∷ [])) × (waits_after Finished LoopEndNowait no_waits ≡ no_waits)
+waits_that_are_kept = (refl, refl, refl, refl, refl, refl, refl, refl)

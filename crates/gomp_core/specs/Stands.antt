@@ -1,48 +1,46 @@
 -- When a team stands for a record. (own)
-use Rattle.std.specs.Prelude.{ℕ, ◌≡◌, ◌≢◌, true, List, [], ◌∷◌, Option, Some, None, length, slice_get}
+use Rattle.std.specs.Prelude.{ℕ, ◌<◌, ◌≡◌, ◌≢◌, ◌⊎◌, true, List, [], ◌∷◌, Some, None, length, slice_get}
 use Rattle.gomp_types.specs.declared.call.Call.{Call}
 use Rattle.gomp_types.specs.declared.call.Call.TheVariants.{Resume}
 use Rattle.gomp_types.specs.declared.call.Step.{Step}
 use Rattle.gomp_types.specs.declared.limits.Limits.{Limits}
-use Rattle.gomp_types.specs.declared.refusal.Clash.{Clash}
+use Rattle.gomp_types.specs.declared.refusal.Place.{Place}
 use Rattle.gomp_types.specs.declared.refusal.Refusal.{Refusal}
 use Rattle.gomp_types.specs.declared.refusal.Refusal.TheVariants.{Mismatch, NoMemory}
 use Rattle.gomp_types.specs.declared.reply.Reply.{Reply}
 use Rattle.gomp_types.specs.declared.reply.Reply.TheVariants.{Wait, Refused}
 use Rattle.gomp_types.specs.declared.event.Event.{Event}
 use Rattle.gomp_types.specs.Limits.{standard, capped_limits, IsTeamSize}
-use Rattle.gomp_types.specs.Events.{clash_of}
+use Rattle.gomp_types.specs.TaskCalls.{first_room}
 use Rattle.gomp_locks.specs.Book.{BookView}
-use Rattle.gomp_model.specs.Past.{Terms, Past}
+use Rattle.gomp_model.specs.Past.{Terms, Waits, no_waits, Past}
 use Rattle.gomp_model.specs.Row.{Row}
 use Rattle.gomp_model.specs.Calls.{row_of}
-use Rattle.gomp_model.specs.Team.{Record, past_of, Caused}
+use Rattle.gomp_model.specs.Team.{Record, call_meant, past_of, Caused}
 use Rattle.gomp_icv.specs.Variables.{Variables}
-use Rattle.gomp_barrier.specs.Stands.{BarriersView, Stands as BarriersStand, members_of as barrier_members}
-use Rattle.gomp_parts.specs.declared.payloads.Put.{Put}
-use Rattle.gomp_parts.specs.Payloads.{PayloadsStand}
+use Rattle.gomp_board.specs.declared.op.Op.TheVariants.{Break}
+use Rattle.gomp_board.specs.Boards.{BoardView, IsSame, Performs}
+use Rattle.gomp_parts.specs.Answers.{PartsStand, KeepsStart}
 use Rattle.gomp_held.specs.Stands.{BookStands, IsKnown}
 
 -- what a team keeps
 pub record TeamView (S : Type 0) : Type 0 where
   pub icv : Variables
-  pub limits : Limits
-  pub broken : Option Clash
-  -- of each member the call that waits
-  pub waiting : List (Option Call)
-  pub barriers : BarriersView
-  -- the words that executors of singles put
-  pub payloads : List (Option Put)
+  -- the limits, the barriers, the tasks and groups, the words of singles, and whether it is broken
+  pub board : BoardView
+  -- of each member the calls that are not answered whole
+  pub waits : List Waits
   -- the critical names and locks
   pub book : BookView
   pub shares : S
 
+-- its size
 abbrev pub members_of : {S : Type 0} → TeamView S → ℕ
-members_of team = length team.waiting
+members_of team = length team.waits
 
 -- what the team was made with
 abbrev pub terms_of : {S : Type 0} → TeamView S → Terms
-terms_of team = record { members = members_of team; limits = team.limits; cancellation = team.icv.cancellation }
+terms_of team = record { members = members_of team; limits = team.board.limits; cancellation = team.icv.cancellation }
 
 -- what a team of this size is made with, by these limits and control variables
 abbrev pub terms_by : ℕ → Limits → Variables → Terms
@@ -56,34 +54,38 @@ past team before = past_of (terms_of team) before
 pub record Stands {S : Type 0} (stands : S → List Event → Type 0) (members : S → ℕ) (team : TeamView S) (before : Record) : Type 0 where
   -- every reply of the record has its cause
   pub caused : Caused (terms_of team) before
-  -- the shares, the barriers and the words stand for the record's events
-  pub shares_are : stands team.shares (past team before).events
-  pub barriers_are : BarriersStand team.barriers (past team before).events
-  pub payloads_are : PayloadsStand (members_of team) team.payloads (past team before).events
-  -- the book of names and locks stands for its past, and knows each name that a call waits for
+  -- the shares and the board stand for the record's past
+  pub parts_are : PartsStand stands team.shares team.board (past team before)
+  -- the book of names and locks does, and knows each name that a call waits for
   pub book_are : BookStands team.book (past team before)
-  pub names_known : (m : ℕ) → IsKnown team.book ((past team before).waits m)
-  pub broken_is : team.broken ≡ clash_of (past team before).events
-  -- and of each member the call that waits is kept
-  pub wait : (m : ℕ) (waiting : Option Call) → slice_get team.waiting m ≡ Some waiting → (past team before).waits m ≡ waiting
+  pub names_known : (m : ℕ) → IsKnown team.book ((past team before).waits m).open_call
+  -- of each member the calls that are not answered whole are kept
+  pub wait : (m : ℕ) (waits : Waits) → slice_get team.waits m ≡ Some waits → (past team before).waits m ≡ waits
+  -- the board keeps the room of each start that waits
+  pub waiting_kept : (m : ℕ) (call : Call) → ((past team before).waits m).open_call ≡ Some call → KeepsStart (row_of call) m team.board
   -- it has 1 to 64 members
   pub size : IsTeamSize (members_of team)
   -- no limit is above the standard one
-  pub limits_are : capped_limits team.limits ≡ team.limits
-  -- one place for each member in every part
+  pub limits_are : capped_limits team.board.limits ≡ team.board.limits
+  -- one place for each member in the shares
   pub shares_size : members team.shares ≡ members_of team
-  pub barriers_size : barrier_members team.barriers ≡ members_of team
+
+-- a member's mismatch breaks the team on the board
+abbrev pub BreaksBoard : BoardView → BoardView → Type 0
+BreaksBoard board after = (m : ℕ) × (place : Place) × Performs (Break place) m board after (Refused Mismatch)
 
 -- what a step leaves of a team as it was
 pub record Keeps {S : Type 0} (team after : TeamView S) (call : Call) (reply : Reply) : Type 0 where
   -- what it was made with
   pub members : members_of after ≡ members_of team
   pub icv : after.icv ≡ team.icv
-  pub limits : after.limits ≡ team.limits
-  -- all of it, if the step is refused and does not break it
-  pub refused : (refusal : Refusal) → reply ≡ Refused refusal → refusal ≢ Mismatch → after ≡ team
-  -- all but that it is broken, if the step breaks it
-  pub broken : reply ≡ Refused Mismatch → after ≡ record team { broken = after.broken }
+  pub limits : after.board.limits ≡ team.board.limits
+  -- all of it, if the step is refused, neither for want of memory nor so that the team breaks
+  pub refused : (refusal : Refusal) → reply ≡ Refused refusal → refusal ≢ Mismatch → refusal ≢ NoMemory → after ≡ team
+  -- all but the memory that its board has, if memory is wanting
+  pub lacks : reply ≡ Refused NoMemory → (after ≡ record team { board = after.board }) × IsSame team.board after.board
+  -- all but the break on its board, if the step breaks it
+  pub broken : reply ≡ Refused Mismatch → (after ≡ record team { board = after.board }) × BreaksBoard team.board after.board
   -- and all of it, if a resume waits on
   pub waits : reply ≡ Wait → call ≡ Resume → after ≡ team
 
@@ -91,18 +93,23 @@ pub record Keeps {S : Type 0} (team after : TeamView S) (call : Call) (reply : R
 abbrev pub standard_terms : ℕ → Variables → Terms
 standard_terms count icv = terms_by count standard icv
 
--- a record after which a team that is made with this book stands: nothing happened, nobody waits, and the locks are the book's
+-- a record after which a team that is made with this book stands: nothing happened, nobody waits, the room is a new team's, and the locks are the book's
 pub record Begins (terms : Terms) (book : BookView) (before : Record) : Type 0 where
   pub caused : Caused terms before
   pub quiet : (past_of terms before).events ≡ []
-  pub nobody : (m : ℕ) → (past_of terms before).waits m ≡ None
+  pub nobody : (m : ℕ) → (past_of terms before).waits m ≡ no_waits
+  pub room : (past_of terms before).room ≡ first_room terms.members
   pub book_are : BookStands book (past_of terms before)
+
+-- what of a member is not answered whole once a task is started at this call, or at the one that it repeats
+abbrev pub suspended_at : Call → Waits → Waits
+suspended_at call waits = record { open_call = None; beneath = call_meant call waits.open_call ∷ waits.beneath }
 
 -- Memory
 
--- a call that takes memory: the start of a critical construct, and the making of a lock
+-- a call that takes memory: the start of a critical construct, the making of a lock, and a call that asks for room for events
 abbrev pub TakesMemory : Row → Type 0
-TakesMemory row = (row.memory ≡ true) × (row.asks_book ≡ true)
+TakesMemory row = (row.memory ≡ true) × ((row.asks_book ≡ true) ⊎ (0 < row.room))
 
 -- only replies to such calls are for want of memory
 abbrev pub OnlyTakersLack : List Step → List Reply → Type 0

@@ -5,7 +5,7 @@ ghost use Rattle.gomp_types.specs.declared.refusal.Refusal.{Refusal};
 ghost use Rattle.gomp_types.specs.declared.refusal.Refusal.TheVariants.{BadTeam, NoMemory};
 ghost use Rattle.gomp_model.specs.Team.{events, Caused};
 ghost use Rattle.gomp_laws.specs.Headline.{Headline};
-ghost use Rattle.gomp_laws.specs.Replies.{HoldReplies};
+ghost use Rattle.gomp_laws.specs.Replies.{HoldReplies, TaskReplies};
 ghost use Rattle.gomp_core.specs.Stands.{Stands, terms_of, standard_terms, OnlyTakersLack};
 ghost use Rattle.gomp_types.specs.Limits.{IsTeamSize};
 ghost use Rattle.gomp_core.specs.Resolved.{record_of};
@@ -28,10 +28,15 @@ use std::alloc::Global;
 /// handed on; the words that a member copies are those that the executor of the single put; all
 /// members go through the same constructs in the same order; no member passes a barrier before all
 /// arrived, and have left the constructs before it; a critical name and a lock have at most one owner
-/// at a time, which alone releases it; and no member passes a barrier while it holds a critical name.
+/// at a time, which alone releases it; no member passes a barrier while it holds a critical name; no
+/// task is started twice, or before it is created, or by a member that may not start it; and each wait
+/// ends only after its tasks: those bound to it at a barrier, all of them at the region's end, the
+/// children at a taskwait, those of a group and their descendants at the group's end.
 ///
 /// A member waits for a name or a lock only while another owner holds it, and a count that is
-/// answered is the number of open holds of the lock (`HoldReplies`).
+/// answered is the number of open holds of the lock (`HoldReplies`). A task is run with the code and
+/// the argument with which it was created, and the call at which it was started waits again when it
+/// has ended (`TaskReplies`).
 ///
 /// Refused with `BadTeam` (E38) if the size is not 1 to 64, and with `NoMemory` (E37) if the
 /// memory of the team or of the replies is refused; then the steps are dropped and nothing is kept.
@@ -56,6 +61,8 @@ pub fn run<S: Shares + Drop>(
         (events (standard_terms count icv) (record_of icv steps.items ran.1.items))) }
     ensures replies { IfOk result (λ ran.
         HoldReplies (standard_terms count icv) (record_of icv steps.items ran.1.items)) }
+    ensures tasks { IfOk result (λ ran.
+        TaskReplies (standard_terms count icv) (record_of icv steps.items ran.1.items)) }
 {
     let mut team = Team::new(alloc, count, icv)?;
     match Vec::with_capacity(alloc, steps.len()) {

@@ -1,30 +1,31 @@
 //! A team that one thread steps.
 
-ghost use Rattle.std.specs.Prelude.{◌≡◌, ◌≢◌, ◌<◌, ◌↔◌, ◌⊎◌, ◌∷◌, List, [], IfOk, Ok, Err, None, replicate};
+ghost use Rattle.std.specs.Prelude.{◌≡◌, ◌≢◌, ◌<◌, ◌↔◌, ◌⊎◌, ◌∷◌, List, [], IfOk, Ok, Err, None, Some, replicate};
+ghost use Rattle.std.specs.Result.{result_err};
 ghost use Rattle.gomp_types.specs.declared.refusal.Refusal.{Refusal};
-ghost use Rattle.gomp_types.specs.declared.refusal.Refusal.TheVariants.{BadTeam, NoMemory};
-ghost use Rattle.gomp_types.specs.Limits.{capped_limits, standard, IsTeamSize};
+ghost use Rattle.gomp_types.specs.declared.refusal.Refusal.TheVariants.{BadTeam, NoMemory, Mismatch};
 ghost use Rattle.gomp_types.specs.declared.reply.Reply.TheVariants.{Refused};
 ghost use Rattle.gomp_types.specs.declared.event.Event.{Event};
-ghost use Rattle.gomp_types.specs.Events.{clash_of};
-ghost use Rattle.std.specs.Result.{result_err};
+ghost use Rattle.gomp_types.specs.Limits.{capped_limits, standard, IsTeamSize};
 ghost use Rattle.gomp_types.specs.Least.{lesser, least};
+ghost use Rattle.gomp_model.specs.Past.{no_waits};
 ghost use Rattle.gomp_model.specs.Calls.{row_of};
-ghost use Rattle.gomp_model.specs.Team.{Record, row_at, call_meant, is_resume, member_tests, wait_tests, wait_after, refusal_of, MayAnswer, events};
-ghost use Rattle.gomp_barrier.specs.Stands.{Stands as BarriersStand, members_of as barrier_members};
-ghost use Rattle.gomp_parts.specs.Answers.{StartsShare, broken_after};
+ghost use Rattle.gomp_model.specs.Team.{Record, row_at, call_meant, is_resume, member_tests, wait_tests, refusal_of, MayAnswer, events};
+ghost use Rattle.gomp_board.specs.Boards.{Stands as BoardStands, members_of as board_members};
+ghost use Rattle.gomp_parts.specs.Answers.{StartsShare};
 ghost use Rattle.gomp_core.specs.Stands.{Stands, Begins, terms_by, Keeps, TakesMemory, past, terms_of, members_of};
 ghost use Rattle.gomp_core.specs.LocksMade.{kinds_of, locks_made};
 ghost use Rattle.gomp_core.specs.Resolved.{resolved_call, resolved_step, step_by};
 
 use crate::reply::team_reply;
-use gomp_barrier::Barriers;
+use crate::waits::Waits;
+use gomp_board::{Board, Op};
 use gomp_held::held_refusal;
 use gomp_icv::Icv;
 use gomp_locks::LockBook;
-use gomp_parts::{Payloads, admit_call, place_of, unless_refused};
+use gomp_parts::{admit_call, place_of, task_refusal, unless_refused};
 use gomp_shares::Shares;
-use gomp_types::{Call, Clash, Limits, Place, Refusal, Reply, Shape, is_team_size};
+use gomp_types::{Call, Limits, Place, Refusal, Reply, Shape, is_team_size};
 use std::alloc::{AllocError, Global};
 use std::marker::Model;
 
@@ -37,11 +38,8 @@ use std::marker::Model;
 #[derive(Drop)]
 pub struct Team<S: Shares> {
     icv: Icv,
-    limits: Limits,
-    broken: Option<Clash>,
-    waiting: Vec<Option<Call>>,
-    barriers: Barriers,
-    payloads: Payloads,
+    board: Board,
+    waits: Vec<Waits>,
     book: LockBook,
     shares: S,
 }
@@ -52,9 +50,9 @@ impl<S: Shares> Model for Team<S> {
 
     ghost Value = { TeamView S };
 
-    ghost view = { λ t. record { icv = t.icv; limits = t.limits; broken = t.broken; waiting = t.waiting.items; barriers = t.barriers; payloads = t.payloads; book = t.book; shares = t.shares } };
+    ghost view = { λ t. record { icv = t.icv; board = t.board; waits = t.waits.items; book = t.book; shares = t.shares } };
 
-    ghost invariant = { λ t. (before : Record) × Stands S.stands S.members (record { icv = t.icv; limits = t.limits; broken = t.broken; waiting = t.waiting.items; barriers = t.barriers; payloads = t.payloads; book = t.book; shares = t.shares }) before };
+    ghost invariant = { λ t. (before : Record) × Stands S.stands S.members (record { icv = t.icv; board = t.board; waits = t.waits.items; book = t.book; shares = t.shares }) before };
 }
 
 impl<S: Shares> Team<S> {
@@ -69,7 +67,7 @@ impl<S: Shares> Team<S> {
             (refusal ≡ BadTeam) ⊎ (refusal ≡ NoMemory) }
         ensures members { IfOk result (λ team. members_of team ≡ count) }
         ensures icv { IfOk result (λ team. team.icv ≡ icv) }
-        ensures limits { IfOk result (λ team. team.limits ≡ standard) }
+        ensures limits { IfOk result (λ team. team.board.limits ≡ standard) }
         ensures stands { IfOk result (λ team. Stands S.stands S.members team []) }
     {
         Team::with_limits(alloc, count, icv, Limits::STANDARD)
@@ -89,7 +87,7 @@ impl<S: Shares> Team<S> {
             (refusal ≡ BadTeam) ⊎ (refusal ≡ NoMemory) }
         ensures members { IfOk result (λ team. members_of team ≡ count) }
         ensures icv { IfOk result (λ team. team.icv ≡ icv) }
-        ensures limits { IfOk result (λ team. team.limits ≡ capped_limits limits) }
+        ensures limits { IfOk result (λ team. team.board.limits ≡ capped_limits limits) }
         ensures stands { IfOk result (λ team. Stands S.stands S.members team []) }
     {
         Team::make_checked(
@@ -120,7 +118,7 @@ impl<S: Shares> Team<S> {
             (refusal ≡ BadTeam) ⊎ (refusal ≡ NoMemory) }
         ensures members { IfOk result (λ team. members_of team ≡ count) }
         ensures icv { IfOk result (λ team. team.icv ≡ icv) }
-        ensures limits { IfOk result (λ team. team.limits ≡ standard) }
+        ensures limits { IfOk result (λ team. team.board.limits ≡ standard) }
         ensures stands { IfOk result (λ team.
             Stands S.stands S.members team (locks_made (kinds_of book.locks))) }
     {
@@ -143,7 +141,7 @@ impl<S: Shares> Team<S> {
             (refusal ≡ BadTeam) ⊎ (refusal ≡ NoMemory) }
         ensures members { IfOk result (λ team. members_of team ≡ count) }
         ensures icv { IfOk result (λ team. team.icv ≡ icv) }
-        ensures limits { IfOk result (λ team. team.limits ≡ limits) }
+        ensures limits { IfOk result (λ team. team.board.limits ≡ limits) }
         ensures stands { (before : Record) → Begins (terms_by count limits icv) book before →
             IfOk result (λ team. Stands S.stands S.members team before) }
     {
@@ -170,34 +168,34 @@ impl<S: Shares> Team<S> {
         requires known { (before : Record) × Begins (terms_by count limits icv) book before }
         ensures members { IfOk result (λ team. members_of team ≡ count) }
         ensures icv { IfOk result (λ team. team.icv ≡ icv) }
-        ensures limits { IfOk result (λ team. team.limits ≡ limits) }
+        ensures limits { IfOk result (λ team. team.board.limits ≡ limits) }
         ensures stands { (before : Record) → Begins (terms_by count limits icv) book before →
             IfOk result (λ team. Stands S.stands S.members team before) }
     {
         Ok(Team {
             icv,
-            limits,
-            broken: None,
-            waiting: no_waits(alloc, count)?,
-            barriers: Barriers::make(alloc, count)?,
-            payloads: Payloads::new(),
+            board: Board::new(alloc, count, limits)?,
+            waits: none_wait(alloc, count)?,
             book,
             shares: S::make(alloc, count)?,
         })
     }
 
-    /// Answers one call of one member, numbered from 0: the definitions allow this reply alone
-    /// after what was asked and answered before. [`Call`] says what each call is, [`Refusal`] when
-    /// each refusal comes; after one the team is as before, save that `Mismatch` (E35) breaks it.
-    /// If a `Resume` is answered `Wait`, nothing changes either.
+    /// Answers one call of one member, numbered from 0: the definitions allow this reply after what was
+    /// asked and answered before, and no other, save that at a wait any task may be executed that the
+    /// member may start. [`Call`] says what each call is, [`Refusal`] when each refusal comes; after one
+    /// the team is as before, save that `Mismatch` (E35) breaks it. If a `Resume` is answered `Wait`,
+    /// nothing changes either.
     ///
     /// A loop whose schedule is left to the control variables counts as one with theirs: the record
     /// has it so (`resolved_step` in specs/Resolved.antt). Before and after the call the team
     /// stands for a record, as `Stands` in specs/Stands.antt says.
     ///
-    /// It takes memory at the first start of a critical name and at the making of a lock alone, so
-    /// `NoMemory` (E37) is an answer to no other call. Which replies have a cause is `MayAnswer` in
-    /// specs/Team.antt of gomp_model (OpenMP API 5.2, chapters 11 and 15, section 18.9).
+    /// It takes memory at the first start of a critical name, at the making of a lock, and at a call
+    /// that asks for room for events (a task's creation, a group's start, a barrier, the start of a
+    /// construct with a barrier at its end or with words), so `NoMemory` (E37) is an answer to no other
+    /// call. Which replies have a cause is `MayAnswer` in specs/Team.antt of gomp_model
+    /// (OpenMP API 5.2, chapters 11, 12 and 15, section 18.9).
     pub fn step(&mut self, member: u16, call: Call) -> Reply
         ensures known { (before : Record) × Stands S.stands S.members self.old before }
         ensures size { IsTeamSize (members_of self.old) }
@@ -223,32 +221,56 @@ impl<S: Shares> Team<S> {
         ensures stands { (before : Record) → Stands S.stands S.members self.old before →
             Stands S.stands S.members self.new ((step_by member call, result) ∷ before) }
     {
+        let _ = &self.icv; // opens the invariant
         match self.admit(member, &call) {
-            Ok(starts) => {
-                let waiting = self.waiting[member as usize].take();
-                let reply = team_reply(
-                    &mut self.shares,
-                    &mut self.barriers,
-                    &mut self.payloads,
-                    &mut self.book,
-                    member,
-                    call_meant(&call, &waiting),
-                    &starts,
-                    is_resume(&call),
-                );
-                self.broken = broken_after(self.broken, member, &reply);
-                self.waiting[member as usize] = wait_after(&reply, call, waiting);
-                reply
-            }
-            Err(refusal) => {
-                if let Refusal::Mismatch = refusal {
-                    let place = self.place(member, &call);
-                    self.broken = Some(Clash { member, place });
-                    return Reply::Refused(Refusal::Mismatch);
-                }
-                Reply::Refused(refusal)
-            }
+            Ok(starts) => self.answer_call(member, call, &starts),
+            Err(refusal) => match refusal {
+                Refusal::Mismatch => self.break_team(member, &call),
+                refusal => Reply::Refused(refusal),
+            },
         }
+    }
+
+    /// The reply to a call that no test refuses, and that starts a share of this shape if it starts
+    /// one.
+    fn answer_call(&mut self, member: u16, call: Call, starts: &Option<Shape>) -> Reply
+        requires admitted { (before : Record) → Stands S.stands S.members self.old before →
+            refusal_of (past self.old before) (step_by member call) ≡ None }
+        requires starts { (before : Record) → Stands S.stands S.members self.old before →
+            StartsShare (row_at (past self.old before) (step_by member call))
+            (S.seen self.old.shares member) starts.now }
+        ensures keeps { Keeps self.old self.new call result }
+        ensures memory { result ≡ Refused NoMemory → TakesMemory (row_of call) }
+        ensures answer { (before : Record) → Stands S.stands S.members self.old before →
+            MayAnswer (past self.old before) (step_by member call) result }
+        ensures stands { (before : Record) → Stands S.stands S.members self.old before →
+            Stands S.stands S.members self.new ((step_by member call, result) ∷ before) }
+    {
+        let waiting = self.waits[member as usize].open_call();
+        let reply = team_reply(
+            &mut self.shares,
+            &mut self.board,
+            &mut self.book,
+            member,
+            call_meant(&call, waiting),
+            starts,
+            is_resume(&call),
+        );
+        self.waits[member as usize].note(&reply, call);
+        reply
+    }
+
+    /// Breaks the team: the member's call is another than other members'.
+    fn break_team(&mut self, member: u16, call: &Call) -> Reply
+        requires differs { (before : Record) → Stands S.stands S.members self.old before →
+            refusal_of (past self.old before) (step_by member call.now) ≡ Some Mismatch }
+        ensures refused { result ≡ Refused Mismatch }
+        ensures keeps { Keeps self.old self.new call.now result }
+        ensures stands { (before : Record) → Stands S.stands S.members self.old before →
+            Stands S.stands S.members self.new ((step_by member call.now, result) ∷ before) }
+    {
+        let place = self.place(member, call);
+        self.board.step(member, Op::Break(place))
     }
 
     /// The shape of the share that the step starts, if it starts one; or why it is refused: of its
@@ -261,23 +283,27 @@ impl<S: Shares> Team<S> {
             IfOk result (StartsShare (row_at (past self.old before) (step_by member call.now))
             (S.seen self.old.shares member)) }
     {
-        if member as usize >= self.waiting.len() {
+        if member as usize >= self.waits.len() {
             return Err(Refusal::BadMember);
         }
-        let waiting = &self.waiting[member as usize];
+        let waiting = self.waits[member as usize].open_call();
         let meant = call_meant(call, waiting);
         let repeated = is_resume(call);
-        let by_team = team_refusal(&self.barriers, self.broken, member, call, waiting);
-        let by_book = held_refusal(&self.book, member, meant, repeated);
-        let by_parts = admit_call(
+        let by_team = team_refusal(&self.board, member, call, waiting);
+        let by_tasks = task_refusal(&self.board, member, meant, repeated);
+        let task = self.board.current(member);
+        let by_book = held_refusal(&self.book, member, task, meant, repeated);
+        let limits = self.board.limits();
+        let by_place = admit_call(
             &mut self.shares,
-            &self.barriers,
-            &self.limits,
+            self.board.barriers(),
+            &limits,
             member,
             meant,
             repeated,
         );
-        unless_refused(by_team, unless_held(by_parts, by_book))
+        let by_parts = unless_also(by_place, by_tasks);
+        unless_refused(by_team, unless_also(by_parts, by_book))
     }
 
     /// Where the team breaks if the call, or the one that it repeats, is another than other
@@ -288,10 +314,10 @@ impl<S: Shares> Team<S> {
             result ≡ (row_at (past self.now before) (step_by member call.now)).place
             member (events (terms_of self.now) before) }
     {
-        let waiting = &self.waiting[member as usize];
+        let waiting = self.waits[member as usize].open_call();
         place_of(
             &self.shares,
-            &self.barriers,
+            self.board.barriers(),
             member,
             call_meant(call, waiting),
         )
@@ -308,19 +334,19 @@ impl<S: Shares + Drop> Team<S> {
 }
 
 /// No member of `count` waits.
-fn no_waits(alloc: Global, count: u16) -> Result<Vec<Option<Call>>, AllocError>
-    ensures { IfOk result (λ waiting. waiting.items ≡ replicate count None) }
+fn none_wait(alloc: Global, count: u16) -> Result<Vec<Waits>, AllocError>
+    ensures { IfOk result (λ waits. waits.items ≡ replicate count no_waits) }
 {
-    let mut waiting = Vec::with_capacity(alloc, count as usize)?;
+    let mut waits = Vec::with_capacity(alloc, count as usize)?;
     for _ in 0..count {
-        waiting.push_reserved(None);
+        waits.push_reserved(Waits::make(alloc)?);
     }
-    Ok(waiting)
+    Ok(waits)
 }
 
-/// What a call is admitted to, unless the book refuses it as well: of both refusals the one with the
-/// lesser number.
-fn unless_held(
+/// What a call is admitted to, unless it is refused as well: of both refusals the one with the lesser
+/// number.
+fn unless_also(
     admitted: Result<Option<Shape>, Refusal>,
     refusal: Option<Refusal>,
 ) -> Result<Option<Shape>, Refusal>
@@ -336,19 +362,13 @@ fn unless_held(
 
 /// Why the team does not answer this call of its member, whatever its construct: `Ended`, `Broken`,
 /// or `Waiting`.
-fn team_refusal(
-    barriers: &Barriers,
-    broken: Option<Clash>,
-    member: u16,
-    call: &Call,
-    waiting: &Option<Call>,
-) -> Option<Refusal>
-    requires member { member < barrier_members barriers.now }
-    ensures { (h : List Event) → BarriersStand barriers.now h → broken ≡ clash_of h →
-        result ≡ lesser (least (member_tests (barrier_members barriers.now) member h))
+fn team_refusal(board: &Board, member: u16, call: &Call, waiting: &Option<Call>) -> Option<Refusal>
+    requires member { member < board_members board.now }
+    ensures { (h : List Event) → BoardStands board.now h →
+        result ≡ lesser (least (member_tests (board_members board.now) member h))
         (least (wait_tests call.now waiting.now)) }
 {
-    match member_refusal(barriers, broken, member) {
+    match member_refusal(board, member) {
         Some(refusal) => Some(refusal),
         None => wait_refusal(call, waiting),
     }
@@ -356,15 +376,15 @@ fn team_refusal(
 
 /// Why no call of this member of the team is answered: it has passed the region's end, or the team
 /// is broken.
-fn member_refusal(barriers: &Barriers, broken: Option<Clash>, member: u16) -> Option<Refusal>
-    requires member { member < barrier_members barriers.now }
-    ensures { (h : List Event) → BarriersStand barriers.now h → broken ≡ clash_of h →
-        result ≡ least (member_tests (barrier_members barriers.now) member h) }
+fn member_refusal(board: &Board, member: u16) -> Option<Refusal>
+    requires member { member < board_members board.now }
+    ensures { (h : List Event) → BoardStands board.now h →
+        result ≡ least (member_tests (board_members board.now) member h) }
 {
-    if barriers.look(member).left {
+    if board.barriers().look(member).left {
         return Some(Refusal::Ended);
     }
-    match broken {
+    match board.clash() {
         Some(clash) => Some(Refusal::Broken(clash)),
         None => None,
     }
@@ -395,34 +415,6 @@ fn call_meant<'a>(call: &'a Call, waiting: &'a Option<Call>) -> &'a Call
     match (call, waiting) {
         (Call::Resume, Some(open)) => open,
         _ => call,
-    }
-}
-
-/// The call that waits after this reply to the member's call, if one does: a refusal leaves the wait
-/// as it is, `Wait` opens one or keeps it open, every other reply closes it.
-fn wait_after(reply: &Reply, call: Call, waiting: Option<Call>) -> Option<Call>
-    ensures { result ≡ wait_after reply.now call waiting }
-{
-    match reply {
-        Reply::Refused(_) => waiting,
-        Reply::Wait => match (call, waiting) {
-            (Call::Resume, Some(open)) => Some(open),
-            (call, _) => Some(call),
-        },
-        _ => None,
-    }
-}
-
-/// By whom and where the team is broken after this reply to a member: by it, if it stopped the team.
-fn broken_after(broken: Option<Clash>, member: u16, reply: &Reply) -> Option<Clash>
-    ensures { result ≡ broken_after broken member reply.now }
-{
-    match reply {
-        Reply::Stopped => Some(Clash {
-            member,
-            place: Place::Stopped,
-        }),
-        _ => broken,
     }
 }
 

@@ -1,5 +1,5 @@
 -- What the fields of the groups say of the events, as the calls read and write them.
-use Rattle.std.proofs.Common.{◌≡◌, ℕ, ◌+◌, ◌-◌, ◌<◌, ◌≤◌, Bool, true, false, List, [], ◌∷◌, ◌++◌, Option, Some, None, IfSome, length, get_or, take, drop, replicate, refl, ap, ◌∙◌, sym, subst, arith, suc, zero, inl, inr}
+use Rattle.std.proofs.Common.{◌≡◌, ℕ, ◌+◌, ◌-◌, ◌<◌, ◌≤◌, Bool, true, false, List, [], ◌∷◌, ◌++◌, Some, None, IfSome, length, get_or, take, drop, replicate, refl, ap, ◌∙◌, sym, subst, arith, suc, zero, inl, inr}
 use Rattle.std.specs.Prelude.{◌==◌, ◌&&◌, not, if◌then◌else◌}
 use Rattle.std.proofs.Math.Seq.{take-append_seam}
 use Rattle.std.proofs.lemmas.List.{get_or_read, get_or_past}
@@ -9,7 +9,7 @@ use Rattle.gomp_types.specs.declared.task.Task.TheVariants.{Implicit, Explicit}
 use Rattle.gomp_types.specs.declared.task.TaskDesc.{TaskDesc}
 use Rattle.gomp_types.specs.declared.event.Event.{Event}
 use Rattle.gomp_types.specs.declared.event.Event.TheVariants.{Create, Done, Group, GroupEnd}
-use Rattle.gomp_types.specs.Tasks.{same_task, contains, how_many, open_tasks, tasks_created, is_created, is_complete, is_child, executed_task}
+use Rattle.gomp_types.specs.Tasks.{same_task, contains, how_many, tasks_created, is_created, is_complete, is_child}
 use Rattle.gomp_types.specs.Groups.{open_groups, groups_around, in_group, group_complete}
 use Rattle.gomp_types.specs.Goals.{children_complete}
 use Rattle.gomp_types.specs.TaskRules.{MayEnd}

@@ -1,6 +1,6 @@
 -- What the rows of groups and tasks say, and when they stand for events: for each line of a definition what it says, and what it alone refuses.
-use Rattle.std.proofs.Common.{◌≡◌, ℕ, ◌+◌, ◌<◌, ◌≤◌, true, false, List, [], ◌∷◌, ◌++◌, Some, None, suc, zero, refl, ap, arith}
-use Rattle.std.specs.Prelude.{◌==◌, if◌then◌else◌, slice_index_or}
+use Rattle.std.proofs.Common.{◌≡◌, ℕ, ◌+◌, ◌<◌, true, false, List, [], ◌∷◌, ◌++◌, Some, None, suc, zero, refl, arith}
+use Rattle.std.specs.Prelude.{◌==◌, if◌then◌else◌, slice_index_or, map}
 use Rattle.gomp_types.specs.declared.refusal.Place.{Place}
 use Rattle.gomp_types.specs.declared.key.Key.{Key}
 use Rattle.gomp_types.specs.declared.shape.Shape.{Shape}
@@ -13,13 +13,10 @@ use Rattle.gomp_types.specs.Tasks.{open_tasks, is_child, same_task, contains}
 use Rattle.gomp_types.specs.Groups.{in_group, open_groups}
 use Rattle.gomp_types.specs.TaskRules.{TaskRule}
 use Rattle.gomp_types.proofs.Booleans.{other_number}
-use Rattle.gomp_groups.specs.declared.rows.GroupRow.{GroupRow}
-use Rattle.gomp_groups.specs.declared.rows.Seat.{Seat}
-use Rattle.gomp_groups.specs.declared.rows.TaskRow.{TaskRow}
 use Rattle.gomp_groups.specs.Rows.{no_seat, no_task, outer_at, pending_at, seat_at, IsSeatedIn, IsChain, IsNested, same_group, own_group, CountsOneMore}
 use Rattle.gomp_groups.specs.Stands.{GroupsStand, groups_beyond}
-use Rattle.gomp_groups.specs.Calls.{first_of, last_open, Executes, MayClose, MayCreateIn, IsAside}
-use Rattle.gomp_groups.specs.Examples.{some_desc, group_with, seat_with, task_with, one_in_group, one_nested, grandchild, one_group, one_task, one_member, three_groups, three_tasks, two_members}
+use Rattle.gomp_groups.specs.Calls.{last_open, Executes, MayClose, MayCreateIn, rows_room, IsAside}
+use Rattle.gomp_groups.specs.Examples.{some_desc, group_with, seat_with, task_with, one_in_group, grandchild, one_group, one_task, one_member, three_groups, three_tasks, two_members}
 
 -- Rows and seats
 
@@ -353,6 +350,18 @@ creates_in_its_task = record { member = omega arith; number = refl; current = re
 
 pub creates_in_another : MayCreateIn 2 0 (Implicit 0) grandchild → ⊥
 creates_in_another may = absurd (let current = may.current in cc)
+
+-- if there is no room, 64 rows besides the one that is asked for, and a sixteenth from 1040 rows on
+pub rows_room_by_steps : map (λ count. rows_room count 0) (0 ∷ 7 ∷ 1039 ∷ 1040 ∷ 16000 ∷ []) ≡ 65 ∷ 65 ∷ 65 ∷ 66 ∷ 1001 ∷ []
+rows_room_by_steps = refl
+
+-- if there is some, it stays
+pub rows_room_stays : map (rows_room 16000) (1 ∷ 2 ∷ 5000 ∷ []) ≡ 1 ∷ 2 ∷ 5000 ∷ []
+rows_room_stays = refl
+
+-- it does not double, and is not made for one alone
+pub rows_room_never_doubles : (rows_room 16000 0 ≡ 16000 → ⊥) × (rows_room 16000 0 ≡ 1 → ⊥)
+rows_room_never_doubles = (λ e. absurd (let wrong : 1001 ≡ 16000 = e in omega (arith, wrong)), λ e. absurd (let wrong : 1001 ≡ 1 = e in omega (arith, wrong)))
 
 -- tasks that are created or ended, and groups, are seen
 pub group_tasks_are_seen : (t m : ℕ) (parent : Task) → (IsAside (Create t m parent some_desc) → ⊥) × (IsAside (Done t m) → ⊥)

@@ -1,8 +1,7 @@
 -- What becomes of the groups as tasks are created and ended, and groups opened and ended.
-use Rattle.std.proofs.Common.{◌≡◌, ◌≢◌, ℕ, ◌+◌, ◌-◌, ◌<◌, ◌≤◌, Bool, true, false, List, [], ◌∷◌, ◌++◌, Option, Some, None, IfSome, length, get_or, refl, ap, ◌∙◌, sym, subst, arith, suc, zero, ◌⊎◌, inl, inr}
-use Rattle.std.specs.Prelude.{◌==◌, ◌&&◌, ◌||◌, if◌then◌else◌, not, nat_lt, nat_le}
+use Rattle.std.proofs.Common.{◌≡◌, ◌≢◌, ℕ, ◌+◌, ◌-◌, ◌<◌, ◌≤◌, Bool, true, false, List, [], ◌∷◌, ◌++◌, Option, Some, None, length, get_or, refl, ap, ◌∙◌, sym, subst, arith, suc, ◌⊎◌, inl, inr}
+use Rattle.std.specs.Prelude.{◌==◌, if◌then◌else◌}
 use Rattle.std.proofs.lemmas.Bool.{cases_Bool, cases_lt}
-use Rattle.std.proofs.lemmas.Bool.Decides.{eqb_tells}
 use Rattle.std.proofs.lemmas.List.{length-append, append-nil, get_or_past}
 use Rattle.gomp_types.specs.declared.task.Task.{Task}
 use Rattle.gomp_types.specs.declared.task.Task.TheVariants.{Implicit, Explicit}
@@ -10,21 +9,20 @@ use Rattle.gomp_types.specs.declared.task.TaskDesc.{TaskDesc}
 use Rattle.gomp_types.specs.declared.event.Event.{Event}
 use Rattle.gomp_types.specs.declared.event.Event.TheVariants.{Create, Done, Group, GroupEnd}
 use Rattle.gomp_types.specs.Laws.{Always}
-use Rattle.gomp_types.specs.Tasks.{tasks_created, is_created, is_complete, all_complete, open_tasks, how_many, is_child, same_task, contains, executed_task, innermost_task, task_stack, after_first}
-use Rattle.gomp_types.specs.Groups.{groups_opened, open_groups, groups_around, in_group, group_complete}
-use Rattle.gomp_types.specs.Goals.{children_complete}
-use Rattle.gomp_types.specs.TaskRules.{TaskRule, MayCreate, MayEnd, MayOpen, MayEndGroup}
-use Rattle.gomp_types.proofs.Booleans.{same_number, other_number, is_equal, not_both}
+use Rattle.gomp_types.specs.Tasks.{tasks_created, is_created, is_complete, all_complete, open_tasks, is_child, same_task, contains, executed_task, innermost_task, task_stack, after_first}
+use Rattle.gomp_types.specs.Groups.{open_groups, groups_around, in_group}
+use Rattle.gomp_types.specs.TaskRules.{TaskRule, MayEnd}
+use Rattle.gomp_types.proofs.Booleans.{same_number, other_number, not_both}
 use Rattle.gomp_types.proofs.OpenTasks.{open_done, open_done_other, open_created, closed_all, all_closed, created_low, created_high}
 use Rattle.gomp_types.proofs.Suspended.{current_open}
 use Rattle.gomp_types.proofs.TaskRoom.{uncreated_not_started}
 use Rattle.gomp_groups.specs.declared.rows.GroupRow.{GroupRow}
 use Rattle.gomp_groups.specs.declared.rows.Seat.{Seat}
 use Rattle.gomp_groups.specs.declared.rows.TaskRow.{TaskRow}
-use Rattle.gomp_groups.specs.Rows.{no_seat, no_task, outer_at, pending_at, seat_at, IsSeatedIn, IsChain, IsNested, own_group, CountsOneMore}
-use Rattle.gomp_groups.specs.Stands.{GroupsView, GroupsStand, Stands, groups_beyond}
+use Rattle.gomp_groups.specs.Rows.{no_seat, no_task, outer_at, pending_at, seat_at, IsSeatedIn, IsChain, CountsOneMore}
+use Rattle.gomp_groups.specs.Stands.{GroupsStand, groups_beyond}
 use Rattle.gomp_groups.specs.Calls.{Executes, MayClose, MayCreateIn}
-use Rattle.gomp_groups.proofs.Chains.{same_task_self, same_task_is, chain_on, chain_starts, outer_at-push, outer_at-pushed, pending_at-push, nested_push, seat_at-push, row-push, row-pushed}
+use Rattle.gomp_groups.proofs.Chains.{same_task_is, chain_on, chain_starts, outer_at-push, outer_at-pushed, pending_at-push, nested_push, seat_at-push, row-push, row-pushed}
 
 -- whether none of these tasks is open is whether they are complete
 pub done_is : (test : ℕ → Bool) (h : List Event) → (open_tasks test h == 0) ≡ all_complete test h

@@ -1,5 +1,5 @@
 -- What the calls on a team's groups answer and when they may be made. OpenMP API 5.2, sections 15.4 and 15.5.
-use Rattle.std.specs.Prelude.{ℕ, ◌<◌, ◌≡◌, List, [], ◌∷◌, Option, Some, None}
+use Rattle.std.specs.Prelude.{ℕ, ◌<◌, ◌≡◌, ◌+◌, ◌/◌, max, nat_lt, if◌then◌else◌, List, [], ◌∷◌, Option, Some, None}
 use Rattle.std.proofs.Common.{suc}
 use Rattle.gomp_types.specs.declared.task.Task.{Task}
 use Rattle.gomp_types.specs.declared.event.Event.{Event}
@@ -30,6 +30,10 @@ pub record MayClose (members q m : ℕ) (task : Task) (h : List Event) : Type 0 
 -- it may create the next task in this one
 abbrev pub MayCreateIn : (members m : ℕ) → Task → List Event → Type 0
 MayCreateIn members m parent h = MayCreate members (suc (tasks_created h)) m parent h
+
+-- for how many more rows there is room once it was asked for one: if there was none, for one and for a sixteenth of those that there are, at least 64, besides
+abbrev pub rows_room : ℕ → ℕ → ℕ
+rows_room count room = if nat_lt 0 room then room else max (count / 16) 64 + 1
 
 -- an event that changes no group
 abbrev pub IsAside : Event → Type 0

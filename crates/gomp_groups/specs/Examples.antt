@@ -4,7 +4,7 @@ use Rattle.gomp_types.specs.declared.task.Task.{Task}
 use Rattle.gomp_types.specs.declared.task.Task.TheVariants.{Implicit, Explicit}
 use Rattle.gomp_types.specs.declared.task.TaskDesc.{TaskDesc}
 use Rattle.gomp_types.specs.declared.event.Event.{Event}
-use Rattle.gomp_types.specs.declared.event.Event.TheVariants.{Create, Start, Done, Group, GroupEnd}
+use Rattle.gomp_types.specs.declared.event.Event.TheVariants.{Create, Start, Group}
 use Rattle.gomp_groups.specs.declared.rows.GroupRow.{GroupRow}
 use Rattle.gomp_groups.specs.declared.rows.Seat.{Seat}
 use Rattle.gomp_groups.specs.declared.rows.TaskRow.{TaskRow}

@@ -10,15 +10,17 @@ ghost use Rattle.gomp_types.specs.Groups.{groups_opened, group_complete};
 ghost use Rattle.gomp_types.specs.Goals.{children_complete};
 ghost use Rattle.gomp_types.specs.TaskRules.{MayEnd};
 ghost use Rattle.gomp_groups.specs.Stands.{Stands, IsSeated, members_of};
-ghost use Rattle.gomp_groups.specs.Calls.{last_open, Executes, MayClose, MayCreateIn};
+ghost use Rattle.gomp_groups.specs.Calls.{last_open, Executes, MayClose, MayCreateIn, rows_room};
 
-use crate::rows::{GroupRow, Seat, TaskRow, add_task, open_group, put_seat, remove_task, seat_of};
+use crate::rows::{
+    GroupRow, Seat, TaskRow, add_task, open_group, put_seat, remove_task, reserve_row, seat_of,
+};
 use gomp_types::Task;
 use std::alloc::{AllocError, Global};
 use std::marker::Model;
 
-/// The groups of one team's tasks. After `make`, `reserve_task` and `reserve_group` no call takes
-/// memory.
+/// The groups of one team's tasks, numbered from 0 in the order in which they are opened. Only `make`,
+/// `reserve_task` and `reserve_group` take memory (OpenMP API 5.2, section 15.4).
 #[derive(Debug, Drop)]
 pub struct Groups {
     groups: Vec<GroupRow>,
@@ -63,28 +65,34 @@ impl Groups {
         })
     }
 
-    /// Makes room for one more task. It fails, and nothing changes, if the memory is refused.
+    /// Makes room for one more task. The room grows in steps. It fails, and nothing changes, if the
+    /// memory is refused.
     pub fn reserve_task(&mut self) -> Result<(), AllocError>
         ensures room { OnOk result (0 < self.new.task_room) }
+        ensures memory { OnOk result
+            (self.new.task_room ≡ rows_room (length self.old.tasks) self.old.task_room) }
         ensures kept { OnOk result
             (self.new ≡ record self.old { task_room = self.new.task_room }) }
         ensures grows { self.old.task_room ≤ self.new.task_room }
         ensures there { 0 < self.old.task_room → IsOk result }
         ensures err { OnErr result (self.new ≡ self.old) }
     {
-        self.tasks.reserve(1)
+        reserve_row(&mut self.tasks)
     }
 
-    /// Makes room for one more group. It fails, and nothing changes, if the memory is refused.
+    /// Makes room for one more group. The room grows in steps. It fails, and nothing changes, if the
+    /// memory is refused.
     pub fn reserve_group(&mut self) -> Result<(), AllocError>
         ensures room { OnOk result (0 < self.new.group_room) }
+        ensures memory { OnOk result
+            (self.new.group_room ≡ rows_room (length self.old.groups) self.old.group_room) }
         ensures kept { OnOk result
             (self.new ≡ record self.old { group_room = self.new.group_room }) }
         ensures grows { self.old.group_room ≤ self.new.group_room }
         ensures there { 0 < self.old.group_room → IsOk result }
         ensures err { OnErr result (self.new ≡ self.old) }
     {
-        self.groups.reserve(1)
+        reserve_row(&mut self.groups)
     }
 
     /// The last group that the task, of this team, has opened and not ended.

@@ -1,11 +1,20 @@
 //! What is kept of a group, of a task and of a member's implicit task.
 
-ghost use Rattle.std.specs.Prelude.{◌≡◌, ◌<◌, ◌≤◌, ◌+◌, ◌^◌, ℕ, List, length, if◌then◌else◌, slice_index_or, IfSome};
+ghost use Rattle.std.specs.Prelude.{◌≡◌, ◌<◌, ◌≤◌, ◌+◌, ◌-◌, ◌^◌, ℕ, List, length, if◌then◌else◌, slice_index_or, IfSome, OnOk, OnErr, IsOk};
+ghost use Rattle.std.specs.Vec.{vec_len, vec_capacity};
 ghost use Rattle.gomp_types.specs.declared.task.Task.{Task as AnyTask};
 ghost use Rattle.gomp_types.specs.Tasks.{same_task, contains};
 ghost use Rattle.gomp_groups.specs.Rows.{seat_at, outer_at, pending_at, IsSeatedIn, IsChain, no_task, own_group, CountsOneMore, IsNested};
+ghost use Rattle.gomp_groups.specs.Calls.{rows_room};
 
 use gomp_types::Task;
+use std::alloc::AllocError;
+
+/// Rows grow by this part of those that there are.
+const STEP_PART: usize = 16;
+
+/// They grow by so many rows at least, besides the one that is asked for.
+const LEAST_STEP: usize = 64;
 
 /// A group of tasks.
 #[derive(Clone, Copy, Debug, PartialEq, Eq)]
@@ -35,6 +44,26 @@ pub struct TaskRow {
     pub parent: Task,
     /// Its groups and children.
     pub seat: Seat,
+}
+
+/// Makes room for one more row. The room grows in steps, so that the rows are seldom moved. It fails,
+/// and nothing changes, if the memory is refused.
+pub(crate) fn reserve_row<T>(rows: &mut Vec<T>) -> Result<(), AllocError>
+    ensures rows { rows.new.items ≡ rows.old.items }
+    ensures len { vec_len rows.new ≡ vec_len rows.old }
+    ensures memory { OnOk result (vec_capacity rows.new - vec_len rows.new
+        ≡ rows_room (vec_len rows.old) (vec_capacity rows.old - vec_len rows.old)) }
+    ensures enough { OnOk result (vec_len rows.new < vec_capacity rows.new) }
+    ensures grows { vec_capacity rows.old ≤ vec_capacity rows.new }
+    ensures err { OnErr result (vec_capacity rows.new ≡ vec_capacity rows.old) }
+    ensures there { vec_len rows.old < vec_capacity rows.old → IsOk result }
+{
+    let count = rows.len();
+    if count < rows.capacity() {
+        return Ok(());
+    }
+    let step = (count / STEP_PART).max(LEAST_STEP);
+    rows.reserve_exact(step + 1)
 }
 
 /// What is kept of the task, explicit tasks being numbered from 1.

@@ -78,6 +78,10 @@ pub held_there : (kind : LockKind) (held : Option Held) → held_if_kind kind (S
 held_there Simple held = refl
 held_there Nest held = refl
 
+-- how much room there is says nothing of a book
+pub stands_with_room : (book : BookView) (p : Past) (room : ℕ) → BookStands book p → BookStands book (record p { room = room })
+stands_with_room book p room st = record { names = st.names; locks = st.locks; unmade = st.unmade }
+
 -- One more event
 
 -- of all keys this one alone may have another holder now

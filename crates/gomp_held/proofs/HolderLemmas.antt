@@ -1,13 +1,18 @@
 -- Who holds a critical name: by the book and by what happened.
-use Rattle.std.proofs.Common.{◌≡◌, ℕ, Bool, true, false, List, Option, Some, None, refl, ap, sym, ◌∙◌}
+use Rattle.std.proofs.Common.{◌≡◌, ℕ, Bool, true, false, List, Option, Some, None, refl, ap, sym, subst, ◌∙◌}
 use Rattle.std.specs.Prelude.{◌↔◌, IsTrue}
 use Rattle.gomp_types.specs.declared.task.Owner.{Owner}
+use Rattle.gomp_types.specs.declared.task.Task.{Task}
+use Rattle.gomp_types.specs.declared.refusal.Refusal.{Refusal}
+use Rattle.gomp_types.specs.Least.{least}
+use Rattle.gomp_types.specs.Tasks.{executed_task}
 use Rattle.gomp_types.specs.declared.lock.Held.{Held}
 use Rattle.gomp_types.specs.declared.key.Key.TheVariants.{Critical}
 use Rattle.gomp_locks.specs.Book.{BookView, name_owner, owned_by, held_by}
 use Rattle.gomp_types.specs.Laws.{Always}
 use Rattle.gomp_locks.specs.HoldRules.{HoldRule}
-use Rattle.gomp_locks.specs.Holders.{holder, holding_owner, holds_critical}
+use Rattle.gomp_locks.specs.CriticalNames.{critical_tests}
+use Rattle.gomp_locks.specs.Holders.{owner_of, asker, holder, holding_owner, holds_critical}
 use Rattle.gomp_locks.proofs.HoldsKeep.{name_is_held, critical_name_held}
 use Rattle.gomp_model.specs.Past.{Past}
 use Rattle.gomp_held.specs.Stands.{BookStands}
@@ -31,3 +36,7 @@ names_held_in_past owner book p stands rule b so = by_events (holds_critical own
     by_events false e true so =
         let held = so.0 refl in
         let told = name_is_held owner held.0 p.events rule (sym (owned held.0) ∙ held.1) in absurd (cc)
+
+-- the tests on what a task holds are those on what the asker holds, if the member executes that task
+pub tests_of_task : (m : ℕ) (task : Task) (p : Past) → executed_task m p.events ≡ task → (refusal : Option Refusal) → refusal ≡ least (critical_tests (holds_critical (owner_of m task) p.events)) → refusal ≡ least (critical_tests (holds_critical (asker m p.events) p.events))
+tests_of_task m task p asks refusal told = subst (λ (t : Task). refusal ≡ least (critical_tests (holds_critical (owner_of m t) p.events))) (sym asks) told

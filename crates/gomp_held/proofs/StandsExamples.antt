@@ -8,20 +8,25 @@ use Rattle.gomp_types.specs.declared.task.Owner.{Owner}
 use Rattle.gomp_types.specs.declared.call.Call.TheVariants.{CriticalStart, Set}
 use Rattle.gomp_types.specs.declared.key.Key.TheVariants.{Critical, Lock, NestLock}
 use Rattle.gomp_types.specs.declared.event.Event.{Event}
+use Rattle.gomp_types.specs.declared.event.Event.TheVariants.{Hold, Start}
+use Rattle.gomp_types.specs.declared.task.Task.TheVariants.{Explicit}
+use Rattle.gomp_types.specs.Tasks.{executed_task}
 use Rattle.gomp_types.specs.declared.lock.LockKind.{LockKind}
 use Rattle.gomp_types.specs.declared.lock.LockKind.TheVariants.{Simple, Nest}
 use Rattle.gomp_types.specs.declared.refusal.Refusal.TheVariants.{NoMemory, AlreadyHeld}
-use Rattle.gomp_types.specs.declared.reply.Reply.TheVariants.{Finished, Wait, Lock as LockMade, Refused}
+use Rattle.gomp_types.specs.declared.reply.Reply.TheVariants.{Finished, Wait, Lock as LockMade, Stopped, Refused}
+use Rattle.gomp_types.specs.declared.reply.Reply.{Reply}
 use Rattle.gomp_locks.specs.declared.lock.Lock.{Lock as LockKept}
-use Rattle.gomp_locks.specs.Book.{BookView, name_owner, same_lock_kind, holds_of_lock}
-use Rattle.gomp_locks.specs.Holders.{key_of, holder, holding_owner}
+use Rattle.gomp_locks.specs.Book.{BookView, name_at, name_owner, with_name, same_lock_kind, holds_of_lock}
+use Rattle.gomp_locks.specs.Holders.{asker, key_of, holder, holding_owner}
 use Rattle.gomp_locks.proofs.OwnerLemmas.{one_name}
-use Rattle.gomp_locks.proofs.BookExamples.{zero_owner, other_owner}
+use Rattle.gomp_locks.proofs.BookExamples.{zero_owner, other_owner, task_owner}
 use Rattle.gomp_locks.proofs.HolderExamples.{short_name, other_name, hold_by, held_so, after_events}
-use Rattle.gomp_model.specs.Past.{Past}
-use Rattle.gomp_model.specs.CriticalNames.{critical_start_row}
+use Rattle.gomp_model.specs.Past.{Past, no_waits}
+use Rattle.gomp_model.specs.CriticalNames.{critical_start_row, critical_end_row}
 use Rattle.gomp_model.specs.Locks.{init_row, set_row, destroy_row}
-use Rattle.gomp_held.specs.Stands.{lock_held, BookStands, IsKnown, MayGive, past_given}
+use Rattle.gomp_model.specs.Row.{MayGive, past_given}
+use Rattle.gomp_held.specs.Stands.{lock_held, BookStands, IsKnown, IsFree, HeldReply}
 
 -- member 0 holds the name 'a', and member 1 has set nestable lock 1 twice
 abbrev in_use : List Event
@@ -32,7 +37,8 @@ abbrev past_so : List Event → List (Option LockKind) → Past
 past_so h kinds = record {
   terms = record { members = 2; limits = record { shares = 131064; tasks = 1048576; events = 16777216 }; cancellation = false };
   events = h;
-  waits = λ m. None;
+  waits = λ m. no_waits;
+  room = 5;
   locks = kinds;
 }
 
@@ -165,3 +171,130 @@ lock_made_after_call = refl
 
 pub lock_gone_after_call : past_given (destroy_row 0) false 1 past_in_use Finished ≡ record past_in_use { locks = None ∷ Some Nest ∷ None ∷ [] }
 lock_gone_after_call = refl
+
+-- A member with two tasks: its implicit task holds the name 'a', and task 1, which it executes now, has set lock 0
+
+abbrev two_tasks : List Event
+two_tasks = after_events (hold_by 0 (Critical short_name) ∷ Start 1 0 ∷ Hold (Lock 0) 0 (Explicit 1) ∷ [])
+
+abbrev past_of_two_tasks : Past
+past_of_two_tasks = past_so two_tasks (Some Simple ∷ [])
+
+abbrev book_of_two_tasks : BookView
+book_of_two_tasks = record { names = (short_name, Some zero_owner) ∷ []; locks = Some (record { kind = Simple; held = held_so task_owner 1 }) ∷ [] }
+
+-- task 1 asks
+pub asked_by_task_one : (executed_task 0 two_tasks ≡ Explicit 1) × (asker 0 two_tasks ≡ task_owner)
+asked_by_task_one = (refl, refl)
+
+-- the number of the task that owns a name, or that holds a lock
+abbrev task_of_owner : Option Owner → ℕ
+task_of_owner None = 0
+task_of_owner (Some owner) = owner.task
+
+abbrev task_of_lock : Option (Option LockKept) → ℕ
+task_of_lock (Some (Some lock)) = task_of_owner (holding_owner lock.held)
+task_of_lock _ = 0
+
+pub name_of_the_other_task : BookStands (record book_of_two_tasks { names = (short_name, Some task_owner) ∷ [] }) past_of_two_tasks → ⊥
+name_of_the_other_task stands = absurd (let task : 1 ≡ 0 = ap task_of_owner (stands.names short_name) in omega (arith, task))
+
+pub lock_of_the_other_task : BookStands (record book_of_two_tasks { locks = Some (record { kind = Simple; held = held_so zero_owner 1 }) ∷ [] }) past_of_two_tasks → ⊥
+lock_of_the_other_task stands = absurd (let task : 0 ≡ 1 = ap task_of_lock (stands.locks 0) in omega (arith, task))
+
+-- the book as it is
+names_of_two_tasks : (name : List ℕ) → name_owner name book_of_two_tasks ≡ holding_owner (holder (Critical name) two_tasks)
+names_of_two_tasks name = elim (cases_Bool (bytes_eq name short_name)) [
+  | inl e ↦ rw (one_name name short_name e) refl
+  | inr e ↦ elim (cases_Bool (bytes_eq short_name name)) [
+    | inl other ↦ absurd (let no : true ≡ false = subst (λ (n : List ℕ). bytes_eq n short_name ≡ false) (sym (one_name short_name name other)) e in cc)
+    | inr other ↦ rw (e, other) refl
+  ]
+]
+
+locks_of_two_tasks : (number : ℕ) → slice_get book_of_two_tasks.locks number ≡ option_map (lock_held number two_tasks) (slice_get past_of_two_tasks.locks number)
+locks_of_two_tasks zero = refl
+locks_of_two_tasks (suc number) = refl
+
+unmade_of_two_tasks : (kind : LockKind) (number : ℕ) → 1 ≤ number → holder (key_of kind number) two_tasks ≡ None
+unmade_of_two_tasks Simple number more = let other : (0 == number) ≡ false = grind (arith, nat_tests, more) in rw other refl
+unmade_of_two_tasks Nest number more = refl
+
+pub book_of_two_tasks_stands : BookStands book_of_two_tasks past_of_two_tasks
+book_of_two_tasks_stands = record { names = names_of_two_tasks; locks = locks_of_two_tasks; unmade = unmade_of_two_tasks }
+
+-- When a call is free: for each line what it alone refuses
+
+-- task 1 may start the name 'b'
+pub other_name_is_free : IsFree false (critical_start_row other_name) 0 past_of_two_tasks
+other_name_is_free = record {
+  free = refl;
+  lasting = λ again. absurd (cc);
+  waits = λ again. absurd (cc);
+  rule = (record { current = refl; free = refl }, (tt, (record { current = refl; free = refl }, tt)));
+}
+
+-- it may not set its lock again
+pub own_lock_is_not_free : IsFree false (set_row 0) 0 past_of_two_tasks → ⊥
+own_lock_is_not_free is = absurd (let never = is.free in cc)
+
+-- nor does it wait for it
+pub own_lock_is_not_waited_for : IsFree true (set_row 0) 0 past_of_two_tasks → ⊥
+own_lock_is_not_waited_for is = absurd (let never : true ≡ false = is.lasting refl (Lock 0) refl in cc)
+
+-- an end of a name is not repeated, since it never waits
+pub end_is_not_repeated : IsFree true (critical_end_row other_name) 0 past_of_two_tasks → ⊥
+end_is_not_repeated is =
+    let (q, reply, goes, may) = is.waits refl in
+    absurd (let never : false ≡ true = rw may at goes in cc)
+
+-- nothing is free after what breaks the rule: a name with two owners, and a hold by a task that is not executed
+pub rule_is_broken :
+    (IsFree false (critical_start_row other_name) 0 (past_so (after_events (hold_by 0 (Critical short_name) ∷ hold_by 1 (Critical short_name) ∷ [])) []) → ⊥)
+    × (IsFree false (critical_start_row other_name) 0 (past_so (after_events (Start 1 0 ∷ hold_by 0 (Critical short_name) ∷ [])) []) → ⊥)
+rule_is_broken = (λ is. absurd (let never = is.rule.0.free in cc), λ is. absurd (let never = is.rule.0.current in cc))
+
+-- A reply and what it leaves: for each line what it alone refuses
+
+abbrev EntersName : BookView → BookView → List ℕ → Bool → Reply → Type 0
+EntersName book after name repeated reply = HeldReply book after (critical_start_row name) repeated 0 (Explicit 1) reply
+
+-- the name then has the task that asked as its owner, not the implicit one, and not none
+pub entered_by_the_other_task : EntersName book_of_two_tasks (with_name other_name (Some zero_owner) book_of_two_tasks) other_name false Finished → ⊥
+entered_by_the_other_task reply = absurd (let task : 0 ≡ 1 = ap task_of_owner ((reply.serves past_of_two_tasks book_of_two_tasks_stands refl other_name_is_free).1.names other_name) in omega (arith, task))
+
+pub entered_by_nobody : EntersName book_of_two_tasks book_of_two_tasks other_name false Finished → ⊥
+entered_by_nobody reply = absurd (let task : 0 ≡ 1 = ap task_of_owner ((reply.serves past_of_two_tasks book_of_two_tasks_stands refl other_name_is_free).1.names other_name) in omega (arith, task))
+
+-- a name that is free is not waited for
+pub free_name_waited_for : EntersName book_of_two_tasks book_of_two_tasks other_name false Wait → ⊥
+free_name_waited_for reply = (reply.serves past_of_two_tasks book_of_two_tasks_stands refl other_name_is_free).0
+
+-- the answer refuses nothing but for want of memory
+pub refused_when_answered : EntersName book_of_two_tasks book_of_two_tasks other_name false (Refused AlreadyHeld) → ⊥
+refused_when_answered reply = absurd (let never = reply.refusal AlreadyHeld refl in cc)
+
+-- which no repeated call is, nor the start of a known name, and which leaves the book
+pub want_when_repeated : EntersName book_of_two_tasks book_of_two_tasks other_name true (Refused NoMemory) → ⊥
+want_when_repeated reply = reply.once refl refl
+
+pub want_at_a_known_name : EntersName book_of_two_tasks book_of_two_tasks short_name false (Refused NoMemory) → ⊥
+want_at_a_known_name reply = absurd (let never = reply.memory refl short_name refl in cc)
+
+pub want_that_forgets : EntersName book_of_two_tasks (record book_of_two_tasks { names = [] }) other_name false (Refused NoMemory) → ⊥
+want_that_forgets reply = absurd (let never = ap (λ (book : BookView). book.names) (reply.lacks refl) in cc)
+
+-- it stops no team
+pub stopped_by_a_name : EntersName book_of_two_tasks book_of_two_tasks other_name false Stopped → ⊥
+stopped_by_a_name reply = reply.stops refl
+
+-- a wait changes nothing, and is for a known name
+pub wait_that_frees : EntersName book_of_two_tasks (with_name short_name None book_of_two_tasks) short_name true Wait → ⊥
+wait_that_frees reply = absurd (let never = ap (λ (book : BookView). name_at short_name book) (reply.kept refl) in cc)
+
+pub wait_for_an_unknown_name : EntersName book_of_two_tasks book_of_two_tasks other_name false Wait → ⊥
+wait_for_an_unknown_name reply = absurd (let never = reply.waits refl other_name refl in cc)
+
+-- a known name stays known
+pub name_that_is_forgotten : EntersName book_of_two_tasks (record book_of_two_tasks { names = (other_name, Some task_owner) ∷ [] }) other_name false Finished → ⊥
+name_that_is_forgotten reply = absurd (let never = reply.names short_name refl in cc)

@@ -1,22 +1,24 @@
 -- When a lock book is as the past of a team leaves it. (own)
-use Rattle.std.specs.Prelude.{ℕ, ◌≡◌, ◌≢◌, ◌≤◌, Bool, true, List, Option, Some, None, IsSome, ⊤, length, slice_get, option_map}
+use Rattle.std.specs.Prelude.{ℕ, ◌≡◌, ◌≢◌, ◌≤◌, Bool, true, false, List, Option, Some, None, IsSome, ⊤, length, slice_get, option_map}
 use Rattle.gomp_types.specs.declared.call.Call.{Call}
 use Rattle.gomp_types.specs.declared.key.Key.{Key}
 use Rattle.gomp_types.specs.declared.key.Key.TheVariants.{Critical}
 use Rattle.gomp_types.specs.declared.lock.LockKind.{LockKind}
 use Rattle.gomp_types.specs.declared.refusal.Refusal.{Refusal}
+use Rattle.gomp_types.specs.declared.task.Task.{Task}
 use Rattle.gomp_types.specs.declared.refusal.Refusal.TheVariants.{NoMemory}
 use Rattle.gomp_types.specs.declared.reply.Reply.{Reply}
 use Rattle.gomp_types.specs.declared.reply.Reply.TheVariants.{Wait, Stopped, Refused}
 use Rattle.gomp_types.specs.declared.event.Event.{Event}
 use Rattle.gomp_types.specs.Least.{least}
+use Rattle.gomp_types.specs.Tasks.{executed_task}
 use Rattle.gomp_types.specs.Laws.{Always}
 use Rattle.gomp_locks.specs.declared.lock.Lock.{Lock}
-use Rattle.gomp_locks.specs.Book.{BookView, name_at, name_owner}
-use Rattle.gomp_locks.specs.Holders.{key_of, holder, holding_owner, own_part}
+use Rattle.gomp_locks.specs.Book.{BookView, name_at, name_owner, held_by}
+use Rattle.gomp_locks.specs.Holders.{asker, key_of, holder, holding_owner}
 use Rattle.gomp_locks.specs.HoldRules.{HoldRule}
 use Rattle.gomp_model.specs.Past.{Past}
-use Rattle.gomp_model.specs.Row.{Row, book_tests, MayReply, given_after}
+use Rattle.gomp_model.specs.Row.{Row, book_tests, MayGoOn, MayGive, past_given}
 use Rattle.gomp_model.specs.Calls.{row_of}
 
 -- the lock that stands in a place, held as these events say
@@ -35,28 +37,18 @@ abbrev pub IsKnown : BookView → Option Call → Type 0
 IsKnown book None = ⊤
 IsKnown book (Some call) = (name : List ℕ) → (row_of call).holds ≡ Some (Critical name) → IsSome (name_at name book)
 
--- no test of the call that names and locks decide holds; of one that is repeated its member holds nothing of what it waits for, and it is one that may wait
+-- no test of the call that names and locks decide holds; of one that is repeated the task that asks holds nothing of what it waits for, and it is one that may go on after a reply
 pub record IsFree (repeated : Bool) (row : Row) (m : ℕ) (p : Past) : Type 0 where
   pub free : least (book_tests repeated row m p) ≡ None
-  pub lasting : repeated ≡ true → (key : Key) → row.holds ≡ Some key → own_part m (holder key p.events) ≡ None
-  pub waits : repeated ≡ true → (q : Past) × row.may_reply m q Wait
+  pub lasting : repeated ≡ true → (key : Key) → row.holds ≡ Some key → held_by (asker m p.events) (holder key p.events) ≡ false
+  pub waits : repeated ≡ true → MayGoOn row m
   -- what happened keeps the rule of names and locks
   pub rule : Always HoldRule p.events
 
--- a reply is want of memory, of a call that may find none; or it is one that the row has
-abbrev pub MayGive : Row → Bool → ℕ → Past → Reply → Type 0
-MayGive row repeated m p (Refused NoMemory) = row.memory ≡ true
-MayGive row repeated m p reply = MayReply row repeated m p reply
-
--- the past after the call and its reply, but for what waits
-abbrev pub past_given : Row → Bool → ℕ → Past → Reply → Past
-past_given row repeated m p (Refused refusal) = p
-past_given row repeated m p reply = record p { events = given_after row repeated m p reply; locks = row.locks reply p.locks }
-
--- a reply to a call on names and locks that no test refuses
-pub record HeldReply (book after : BookView) (row : Row) (repeated : Bool) (m : ℕ) (reply : Reply) : Type 0 where
-  -- in each past for which the book stands it is one that the row has, and the book then stands for what comes of it
-  pub serves : (p : Past) → BookStands book p → IsFree repeated row m p → MayGive row repeated m p reply × BookStands after (past_given row repeated m p reply)
+-- a reply to a call on names and locks that no test refuses, made by this task of the member
+pub record HeldReply (book after : BookView) (row : Row) (repeated : Bool) (m : ℕ) (task : Task) (reply : Reply) : Type 0 where
+  -- in each past for which the book stands, and in which the member executes this task, it is one that the row has, and the book then stands for what comes of it
+  pub serves : (p : Past) → BookStands book p → executed_task m p.events ≡ task → IsFree repeated row m p → MayGive row repeated m p reply × BookStands after (past_given row repeated m p reply)
   -- it refuses for want of memory alone, a call that is made for the first time, on a name that was not started before; the book stays
   pub refusal : (refusal : Refusal) → reply ≡ Refused refusal → refusal ≡ NoMemory
   pub once : repeated ≡ true → reply ≢ Refused NoMemory

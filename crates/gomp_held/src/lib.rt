@@ -3,15 +3,17 @@
 //! [`held_refusal`] says why a call is refused by what names and locks decide; [`held_reply`] answers a
 //! call on names and locks that no test refuses. A book stands for the past of a team
 //! (`BookStands` in specs/Stands.antt), so each answer is the one that the call's row has there.
-//! In a team of its own every owner has team 0. OpenMP API 5.2, sections 15.2 and 18.9.
+//! The task that the member executes asks. In a team of its own every owner has team 0.
+//! OpenMP API 5.2, sections 15.2 and 18.9.
 #![tactic(auto)]
 
 ghost use Rattle.std.specs.Prelude.{◌≡◌, ℕ, true, Some};
 ghost use Rattle.gomp_types.specs.Laws.{Always};
 ghost use Rattle.gomp_types.specs.Least.{least};
+ghost use Rattle.gomp_types.specs.Tasks.{executed_task};
 ghost use Rattle.gomp_locks.specs.Book.{any_lock_at};
 ghost use Rattle.gomp_locks.specs.CriticalNames.{critical_tests};
-ghost use Rattle.gomp_locks.specs.Holders.{holds_critical};
+ghost use Rattle.gomp_locks.specs.Holders.{owner_of, holds_critical};
 ghost use Rattle.gomp_locks.specs.HoldRules.{HoldRule};
 ghost use Rattle.gomp_locks.specs.Locks.{gone_tests};
 ghost use Rattle.gomp_model.specs.Past.{Past};
@@ -20,19 +22,26 @@ ghost use Rattle.gomp_model.specs.Calls.{row_of};
 ghost use Rattle.gomp_held.specs.Stands.{BookStands, IsKnown, IsFree, HeldReply};
 
 use gomp_locks::LockBook;
-use gomp_types::{Call, LockKind, Owner, Refusal, Reply};
+use gomp_types::{Call, LockKind, Owner, Refusal, Reply, Task};
 
-/// Why the call is refused by what names and locks decide: `HoldsCritical` (E11), or a refusal of the
-/// call on names and locks itself (E29 to E33). Of a call that is repeated (`repeated`) only
-/// whether its lock is still there is tested: `NoLock` (E32).
-pub fn held_refusal(book: &LockBook, member: u16, call: &Call, repeated: bool) -> Option<Refusal>
-    ensures { (p : Past) → BookStands book.now p → Always HoldRule p.events →
+/// Why the call of this member, which executes this task, is refused by what names and locks decide:
+/// `HoldsCritical` (E11), or a refusal of the call on names and locks itself (E29 to E33). Of a call
+/// that is repeated (`repeated`) only whether its lock is still there is tested: `NoLock` (E32).
+pub fn held_refusal(
+    book: &LockBook,
+    member: u16,
+    task: Task,
+    call: &Call,
+    repeated: bool,
+) -> Option<Refusal>
+    ensures { (p : Past) → BookStands book.now p → executed_task member p.events ≡ task →
+        Always HoldRule p.events →
         result ≡ least (book_tests repeated (row_of call.now) member p) }
 {
     if repeated {
         return gone_refusal(book, call);
     }
-    let owner = owner_of(member);
+    let owner = owner_of(member, task);
     match call {
         Call::CriticalStart(name) => book.critical_start_refusal(owner, name),
         Call::CriticalEnd(name) => book.critical_end_refusal(owner, name),
@@ -43,6 +52,7 @@ pub fn held_refusal(book: &LockBook, member: u16, call: &Call, repeated: bool) -
         Call::Unset(number) => book.unset_refusal(owner, LockKind::Simple, *number),
         Call::SetNest(number) | Call::TestNest(number) => book.nest_refusal(owner, *number),
         Call::UnsetNest(number) => book.unset_refusal(owner, LockKind::Nest, *number),
+        Call::TaskCreate(_) | Call::Taskwait | Call::GroupStart | Call::GroupEnd => None,
         Call::Stop | Call::Resume => None,
         Call::LoopStart(_)
         | Call::LoopNext
@@ -58,21 +68,28 @@ pub fn held_refusal(book: &LockBook, member: u16, call: &Call, repeated: bool) -
         | Call::OrderedStart(_)
         | Call::OrderedEnd
         | Call::Barrier
-        | Call::RegionEnd => critical_refusal(book, owner),
+        | Call::RegionEnd
+        | Call::TaskEnd => critical_refusal(book, owner),
     }
 }
 
-/// Answers a call on names and locks that no test refuses, or goes on with one that waits
-/// (`repeated`). Only the first start of a name and the making of a lock take memory; a refused
-/// growth changes nothing.
-pub fn held_reply(book: &mut LockBook, member: u16, call: &Call, repeated: bool) -> Reply
+/// Answers a call on names and locks that no test refuses, by this member, numbered from 0, which
+/// executes this task, or goes on with one that waits (`repeated`). Only the first start of a name and
+/// the making of a lock take memory: if it is refused, the answer is `NoMemory` and nothing changes.
+pub fn held_reply(
+    book: &mut LockBook,
+    member: u16,
+    task: Task,
+    call: &Call,
+    repeated: bool,
+) -> Reply
     requires asks { (row_of call.now).asks_book ≡ true }
     requires free { (p : Past) × BookStands book.old p ×
-        IsFree repeated (row_of call.now) member p }
+        (executed_task member p.events ≡ task) × IsFree repeated (row_of call.now) member p }
     requires known { repeated ≡ true → IsKnown book.old (Some call.now) }
-    ensures { HeldReply book.old book.new (row_of call.now) repeated member result }
+    ensures { HeldReply book.old book.new (row_of call.now) repeated member task result }
 {
-    let owner = owner_of(member);
+    let owner = owner_of(member, task);
     match call {
         Call::CriticalStart(name) => book.enter_critical(owner, name),
         Call::CriticalEnd(name) => book.leave_critical(owner, name),
@@ -128,13 +145,16 @@ fn critical_refusal(book: &LockBook, owner: Owner) -> Option<Refusal>
     }
 }
 
-/// The owner that a member's implicit task is, in a team of its own.
-fn owner_of(member: u16) -> Owner
-    ensures { result ≡ record { team = 0; member = member; task = 0 } }
+/// A task of a member as an owner, in a team of its own.
+fn owner_of(member: u16, task: Task) -> Owner
+    ensures { result ≡ owner_of member task }
 {
     Owner {
         team: 0,
         member,
-        task: 0,
+        task: match task {
+            Task::Implicit(_) => 0,
+            Task::Explicit(number) => number,
+        },
     }
 }

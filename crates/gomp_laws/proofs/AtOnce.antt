@@ -1,5 +1,5 @@
 -- The rows of calls that are done at once.
-use Rattle.std.proofs.Common.{◌≡◌, ℕ, true, false, List, ◌++◌, refl, sym, ◌∙◌}
+use Rattle.std.proofs.Common.{◌≡◌, ℕ, true, false, List, ◌++◌, refl, sym, ◌∙◌, inl}
 use Rattle.gomp_types.specs.declared.reply.Reply.TheVariants.{Finished}
 use Rattle.gomp_types.specs.declared.seen.Seen.{Seen}
 use Rattle.gomp_types.specs.declared.event.Event.{Event}
@@ -19,7 +19,7 @@ pub record IsDone (tests : Seen → List Test) (events : ℕ → List Event → 
 
 pub at_once_sound : (tests : Seen → List Test) (events : ℕ → List Event → List Event) → IsDone tests events → IsSound (at_once tests events)
 at_once_sound tests events is = record {
-  decided = λ m p a b x y. x ∙ sym y;
+  decided = λ m p a b x y. inl (x ∙ sym y);
   accepts = λ m p refusal x. cc;
   answered = λ repeated m p ready all. (Finished, refl);
   counts = λ repeated m p first count ready all may. absurd (cc);
@@ -28,11 +28,17 @@ at_once_sound tests events is = record {
   begins_keep = is.keep;
   gives_keep = λ repeated m p reply ready may all. all;
   still = λ stays m p. absurd (cc);
+  outside = λ arrives m p fail. absurd (cc);
   tells = λ arrives m p reply may. absurd (cc);
   one_pass = λ arrives m p. absurd (cc);
+  arrives_there = λ arrives m p. absurd (cc);
+  waits_quietly = λ arrives m p. absurd (cc);
   lasts = λ repeated m p ready all may. absurd (cc);
   waits_for = λ key m p holds may. absurd (cc);
   tells_count = λ key repeated m count p holds ready all may. absurd (cc);
-  no_memory = λ m p. (is.no_memory (seen_of m p.events), refl, refl, λ repeated. refl);
+  runs = λ m p task code arg own may. absurd (cc);
+  ends = λ m p task waiting may. absurd (cc);
+  created = λ repeated m p task ready may. absurd (cc);
+  no_memory = λ m p. (is.no_memory (seen_of m p.events), refl, refl, refl, λ repeated. refl);
   words_keep = λ puts repeated m p reply ready may all. absurd (cc);
 }

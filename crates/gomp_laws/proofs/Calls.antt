@@ -1,7 +1,7 @@
 -- Every call's row is sound: the second list of calls, in proofs alone.
-use Rattle.std.proofs.Common.{ℕ, List, ◌++◌, refl, sym, ◌∙◌}
+use Rattle.std.proofs.Common.{ℕ, List, ◌++◌, refl, sym, ◌∙◌, inl}
 use Rattle.gomp_types.specs.declared.call.Call.{Call}
-use Rattle.gomp_types.specs.declared.call.Call.TheVariants.{LoopStart, LoopNext, LoopEnd, LoopEndNowait, SectionsStart, SectionsNext, SectionsEnd, SectionsEndNowait, SingleStart, SingleCopyStart, SingleCopyEnd, Resume, OrderedStart, OrderedEnd, Barrier, RegionEnd, CriticalStart, CriticalEnd, LockInit, NestInit, LockDestroy, Set, Test as TestLock, Unset, SetNest, TestNest, UnsetNest, Stop}
+use Rattle.gomp_types.specs.declared.call.Call.TheVariants.{LoopStart, LoopNext, LoopEnd, LoopEndNowait, SectionsStart, SectionsNext, SectionsEnd, SectionsEndNowait, SingleStart, SingleCopyStart, SingleCopyEnd, Resume, OrderedStart, OrderedEnd, Barrier, RegionEnd, CriticalStart, CriticalEnd, LockInit, NestInit, LockDestroy, Set, Test as TestLock, Unset, SetNest, TestNest, UnsetNest, TaskCreate, TaskEnd, Taskwait, GroupStart, GroupEnd, Stop}
 use Rattle.gomp_types.specs.declared.lock.LockKind.TheVariants.{Simple, Nest}
 use Rattle.gomp_types.specs.declared.reply.Reply.{Reply}
 use Rattle.gomp_types.specs.declared.reply.Reply.TheVariants.{Stopped}
@@ -17,6 +17,7 @@ use Rattle.gomp_laws.proofs.OrderedParts.{ordered_start_sound, ordered_end_sound
 use Rattle.gomp_laws.proofs.Arrivals.{barrier_sound, region_end_sound}
 use Rattle.gomp_laws.proofs.CriticalNames.{critical_start_sound, critical_end_sound}
 use Rattle.gomp_laws.proofs.Locks.{init_sound, destroy_sound, set_sound, test_sound, unset_sound, set_nest_sound, test_nest_sound, unset_nest_sound}
+use Rattle.gomp_laws.proofs.Tasks.{task_create_sound, task_end_sound, taskwait_sound, group_start_sound, group_end_sound}
 
 pub resume_sound : IsSound resume_row
 resume_sound = record {
@@ -29,12 +30,18 @@ resume_sound = record {
   begins_keep = λ m p ready all. all;
   gives_keep = λ repeated m p reply ready may all. all;
   still = λ stays m p. absurd (cc);
+  outside = λ arrives m p fail. absurd (cc);
   tells = λ arrives m p reply may. absurd (cc);
   one_pass = λ arrives m p. absurd (cc);
+  arrives_there = λ arrives m p. absurd (cc);
+  waits_quietly = λ arrives m p. absurd (cc);
   lasts = λ repeated m p ready all may. absurd may;
   waits_for = λ key m p holds may. absurd (cc);
   tells_count = λ key repeated m count p holds ready all may. absurd (cc);
-  no_memory = λ m p. (refl, refl, refl, λ repeated. refl);
+  runs = λ m p task code arg own may. absurd may;
+  ends = λ m p task waiting may. absurd may;
+  created = λ repeated m p task ready may. absurd may;
+  no_memory = λ m p. (refl, refl, refl, refl, λ repeated. refl);
   words_keep = λ puts repeated m p reply ready may all. absurd (cc);
 }
 
@@ -48,7 +55,7 @@ stop_keeps members m _ h all = all
 
 pub stop_sound : IsSound stop_row
 stop_sound = record {
-  decided = λ m p a b x y. x ∙ sym y;
+  decided = λ m p a b x y. inl (x ∙ sym y);
   accepts = λ m p refusal x. cc;
   answered = λ repeated m p ready all. (Stopped, refl);
   counts = λ repeated m p first count ready all may. absurd (cc);
@@ -57,12 +64,18 @@ stop_sound = record {
   begins_keep = λ m p ready all. all;
   gives_keep = λ repeated m p reply ready may all. stop_keeps p.terms.members m reply p.events all;
   still = λ stays m p. absurd (cc);
+  outside = λ arrives m p fail. absurd (cc);
   tells = λ arrives m p reply may. absurd (cc);
   one_pass = λ arrives m p. absurd (cc);
+  arrives_there = λ arrives m p. absurd (cc);
+  waits_quietly = λ arrives m p. absurd (cc);
   lasts = λ repeated m p ready all may. absurd (cc);
   waits_for = λ key m p holds may. absurd (cc);
   tells_count = λ key repeated m count p holds ready all may. absurd (cc);
-  no_memory = λ m p. (refl, refl, refl, λ repeated. refl);
+  runs = λ m p task code arg own may. absurd (cc);
+  ends = λ m p task waiting may. absurd (cc);
+  created = λ repeated m p task ready may. absurd (cc);
+  no_memory = λ m p. (refl, refl, refl, refl, λ repeated. refl);
   words_keep = λ puts repeated m p reply ready may all. absurd (cc);
 }
 
@@ -93,5 +106,10 @@ row_is_sound (Unset number) = unset_sound number
 row_is_sound (SetNest number) = set_nest_sound number
 row_is_sound (TestNest number) = test_nest_sound number
 row_is_sound (UnsetNest number) = unset_nest_sound number
+row_is_sound (TaskCreate desc) = task_create_sound desc
+row_is_sound TaskEnd = task_end_sound
+row_is_sound Taskwait = taskwait_sound
+row_is_sound GroupStart = group_start_sound
+row_is_sound GroupEnd = group_end_sound
 row_is_sound Stop = stop_sound
 row_is_sound Resume = resume_sound

@@ -10,7 +10,7 @@ use Rattle.gomp_laws.proofs.Known.{Known, unrefused_step_is_ready, known_of}
 
 pub answer_counts : (p : Past) (step : Step) (first : ℤ) (count : ℕ) → Known p → MayAnswer p step (Chunk first count) → 0 < count
 answer_counts p step first count known may =
-    (row_is_sound (call_meant step.call (p.waits step.member))).counts (is_resume step.call) step.member p first count (unrefused_step_is_ready p step may.0 known) known.rule may.1
+    (row_is_sound (call_meant step.call (p.waits step.member).open_call)).counts (is_resume step.call) step.member p first count (unrefused_step_is_ready p step may.0 known) known.rule may.1
 
 pub chunks_have : (terms : Terms) (run : Record) (step : Step) (first : ℤ) (count : ℕ) → Caused terms run → MayAnswer (past_of terms run) step (Chunk first count) → 0 < count
 chunks_have terms run step first count caused may = answer_counts (past_of terms run) step first count (known_of terms run caused) may

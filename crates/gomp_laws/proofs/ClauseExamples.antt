@@ -11,6 +11,7 @@ use Rattle.gomp_types.specs.declared.event.Event.TheVariants.{Enter, Take, Drain
 use Rattle.gomp_types.specs.Pieces.{Piece}
 use Rattle.gomp_types.specs.Deals.{Queues, one_queue, schedule}
 use Rattle.gomp_types.specs.Laws.{Always, Happened}
+use Rattle.gomp_types.specs.TaskLaws.{TaskLaws, BoundIsDone}
 use Rattle.gomp_shares.specs.Laws.{IsOver, TakesNext, TakesWithin, LeavesNothing, TakenOnce, TakesItsOwn, WholeWhereOver, EntersOneByOne, EndsInside, EntersWithRoom, SameShares, OrderedLaws, ShareLaws}
 use Rattle.gomp_types.specs.Arrivals.{BarriersOneByOne, SameArrivals, PassesAfterAll, ArrivalLaws}
 use Rattle.gomp_laws.specs.Laws.{ArrivesOnce, ArrivesOutside, ClosesShares, HappensUnbroken, HappensInside, TellsShares, LeavesHandedOn, HandedOnWhereOver, PutsOnce, GetsWhatWasPut, LeavesWithWords}
@@ -366,6 +367,7 @@ pub headline_has : (members : ℕ) (h : List Event) → Headline members h →
     × SameShares members h × SameArrivals h × Always (ArrivesOnce members) h × Always ArrivesOutside h × Always TellsShares h
     × Always HappensUnbroken h × Always HappensInside h × Always (PassesAfterAll members) h × Always (ClosesShares members) h
     × AtEachMoment OneOwner h × AtEachMoment HeldOnce h × Always FreesItsOwn h × Always PassesFree h
+    × TaskLaws h × BoundIsDone h
 headline_has members h laws = (
   laws.taken_once,
   laws.owned,
@@ -389,6 +391,8 @@ headline_has members h laws = (
   laws.held_once,
   laws.frees,
   laws.passes_free,
+  laws.tasks,
+  laws.bound_done,
 )
 
 -- and so have the laws of the shares

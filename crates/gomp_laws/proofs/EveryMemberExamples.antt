@@ -3,7 +3,9 @@
 use Rattle.std.proofs.Common.{◌≡◌, ℕ, true, false, [], ◌∷◌, Option, Some, None, refl, ap, arith, inl, inr}
 use Rattle.gomp_types.specs.declared.shape.Shape.{Shape}
 use Rattle.gomp_types.specs.declared.event.Arrival.TheVariants.{Barrier, ShareEnd, RegionEnd}
-use Rattle.gomp_types.specs.declared.event.Event.TheVariants.{Enter, Take, Drained, End, HandOn, Part, PartEnd, Put, Got, Arrive, Pass}
+use Rattle.gomp_types.specs.declared.key.Key.TheVariants.{Critical, Lock}
+use Rattle.gomp_types.specs.declared.task.Task.TheVariants.{Implicit, Explicit}
+use Rattle.gomp_types.specs.declared.event.Event.TheVariants.{Enter, Take, Drained, End, HandOn, Part, PartEnd, Put, Got, Arrive, Pass, Create, Start, Done, Group, GroupEnd, Waited, Hold}
 use Rattle.gomp_types.specs.Shapes.{is_copy}
 use Rattle.gomp_types.specs.Singles.{single_shape}
 use Rattle.gomp_types.specs.Deals.{one_queue, schedule}
@@ -15,6 +17,7 @@ use Rattle.gomp_laws.specs.Laws.{ArrivesOnce, ArrivesOutside, ClosesShares, Happ
 use Rattle.gomp_laws.specs.Rules.{TeamRule}
 use Rattle.gomp_laws.specs.LawExamples.{Refuses, RefusedAfter}
 use Rattle.gomp_types.specs.EventLists.{four, static_four, at}
+use Rattle.gomp_types.specs.TaskExamples.{one_job}
 use Rattle.gomp_laws.proofs.ClauseExamples.{same_low, same_high, alone_over}
 
 -- the share that a member is in is that which it entered
@@ -326,6 +329,39 @@ team_arrive_twice_second may = absurd (let once = may.once in cc)
 -- and tells one share less than it has entered
 pub team_arrive_miscounted_second : RefusedAfter (TeamRule 2) (Enter 0 1 (four false) ∷ End 0 1 ∷ []) (Arrive 0 1 (at Barrier 0))
 team_arrive_miscounted_second may = absurd (let shares = may.shares in omega arith)
+
+-- it arrives while it holds a critical name, and the first holds none
+pub team_arrive_holding_second : RefusedAfter (TeamRule 2) (Hold (Critical (97 ∷ [])) 1 (Implicit 1) ∷ []) (Arrive 0 1 (at Barrier 0))
+team_arrive_holding_second may = absurd (let free = may.names.free in cc)
+
+-- it holds a lock while it waits at a barrier, and the first does not wait
+pub team_hold_at_barrier_second : RefusedAfter (TeamRule 2) (Arrive 0 1 (at Barrier 0) ∷ []) (Hold (Lock 0) 1 (Implicit 1))
+team_hold_at_barrier_second may = absurd (let away = may.names.away refl in cc)
+
+-- it creates a task while it waits there
+pub team_create_at_barrier_second : RefusedAfter (TeamRule 2) (Arrive 0 1 (at Barrier 0) ∷ []) (Create 1 1 (Implicit 1) one_job)
+team_create_at_barrier_second may = absurd (let away = may.away refl in cc)
+
+-- its task ends while it holds a name
+pub team_end_task_holding_second : RefusedAfter (TeamRule 2) (Create 1 1 (Implicit 1) one_job ∷ Start 1 1 ∷ Hold (Critical (97 ∷ [])) 1 (Explicit 1) ∷ []) (Done 1 1)
+team_end_task_holding_second may = absurd (let left = may.names.left in cc)
+
+-- it ends the task of the first
+pub team_end_task_of_the_first : RefusedAfter (TeamRule 2) (Create 1 0 (Implicit 0) one_job ∷ Start 1 0 ∷ []) (Done 1 1)
+team_end_task_of_the_first may = absurd (let current = may.ends.current in cc)
+
+-- it ends the group of the first
+pub team_end_group_of_the_first : RefusedAfter (TeamRule 2) (Group 0 0 ∷ []) (GroupEnd 0 1)
+team_end_group_of_the_first may = absurd (let last = may.last in cc)
+
+-- it waits for its open child, and goes on
+pub team_wait_open_second : RefusedAfter (TeamRule 2) (Create 1 1 (Implicit 1) one_job ∷ []) (Waited 1)
+team_wait_open_second may = absurd (let complete = may.complete in cc)
+
+-- the first passes in a task, and the second executes none
+pub team_pass_in_task_of_the_first :
+    RefusedAfter (TeamRule 2) (Arrive 0 0 (at Barrier 0) ∷ Arrive 0 1 (at Barrier 0) ∷ Pass 0 1 ∷ Create 1 1 (Implicit 1) one_job ∷ Start 1 0 ∷ []) (Pass 0 0)
+team_pass_in_task_of_the_first may = absurd (let outside = may.outside in cc)
 
 -- The rule of a team, of the second share, and at the second barrier
 

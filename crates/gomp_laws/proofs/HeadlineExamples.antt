@@ -4,13 +4,15 @@ use Rattle.gomp_types.specs.declared.shape.Shape.{Shape}
 use Rattle.gomp_types.specs.declared.refusal.Place.TheVariants.{Stopped as AtStop}
 use Rattle.gomp_types.specs.declared.event.Arrival.TheVariants.{Barrier, ShareEnd, RegionEnd}
 use Rattle.gomp_types.specs.declared.event.Tag.{Tag}
-use Rattle.gomp_types.specs.declared.event.Event.TheVariants.{Enter, Take, HandOn}
+use Rattle.gomp_types.specs.declared.event.Event.TheVariants.{Enter, Take, HandOn, Arrive, Create}
 use Rattle.gomp_types.specs.declared.key.Key.TheVariants.{Critical, Lock}
 use Rattle.gomp_types.specs.declared.task.Owner.{Owner}
+use Rattle.gomp_types.specs.declared.task.Task.TheVariants.{Implicit}
 use Rattle.gomp_types.specs.Pieces.{Piece, pieces_of}
 use Rattle.gomp_types.specs.Laws.{Happened}
 use Rattle.gomp_types.specs.EventLists.{four, static_four, even_four, at}
-use Rattle.gomp_laws.specs.LawExamples.{NeverHappens, taken_twice, taken_ahead, taken_outside, taken_from_another, even_from_another, left_early, nested, left_unentered, ninth_open, two_shapes, part_unordered, part_ahead, part_back, handed_on_open, handed_on_ahead, left_unhanded, put_in_a_loop, given_to_the_executor, left_without_words, passed_alone, arrived_twice, two_tags, stranger, barrier_skipped, share_miscounted, passed_unfinished, arrived_inside, held_by_two, name_held_twice, freed_by_another, passed_with_name, after_a_stop, after_the_end}
+use Rattle.gomp_types.specs.TaskExamples.{one_job}
+use Rattle.gomp_laws.specs.LawExamples.{NeverHappens, taken_twice, taken_ahead, taken_outside, taken_from_another, even_from_another, left_early, nested, left_unentered, ninth_open, two_shapes, part_unordered, part_ahead, part_back, handed_on_open, handed_on_ahead, left_unhanded, put_in_a_loop, given_to_the_executor, left_without_words, passed_alone, arrived_twice, two_tags, stranger, barrier_skipped, share_miscounted, passed_unfinished, arrived_inside, held_by_two, name_held_twice, freed_by_another, passed_with_name, created_twice, created_for_another, uncreated_started, started_by_both, started_beside, started_elsewhere, ended_for_another, ended_beneath, waited_too_short, group_ended_early, group_opened_twice, outer_group_ended, passed_with_open_task, created_behind, ended_with_open_task, after_a_stop, after_the_end}
 use Rattle.gomp_locks.proofs.BookExamples.{zero_owner, other_owner}
 
 -- Shares
@@ -180,6 +182,91 @@ name_freed_by_another_never_happens laws = absurd (let own = laws.frees.0 in ome
 -- a member passes a barrier while it holds a critical name
 pub barrier_passed_with_name_never_happens : NeverHappens 1 passed_with_name
 barrier_passed_with_name_never_happens laws = absurd (let none = laws.passes_free.0 (97 ∷ []) zero_owner refl in omega (arith, none))
+
+-- Tasks and groups
+
+-- two tasks have one number
+pub task_created_twice_never_happens : NeverHappens 2 created_twice
+task_created_twice_never_happens laws = laws.tasks.created_once.0 (0, Implicit 0, one_job, inl refl)
+
+-- a member creates a task in that of another
+pub task_created_for_another_never_happens : NeverHappens 2 created_for_another
+task_created_for_another_never_happens laws = absurd (let own = laws.tasks.created_in.0 in cc)
+
+-- a task is started that was not created
+pub uncreated_task_started_never_happens : NeverHappens 1 uncreated_started
+uncreated_task_started_never_happens laws = elim laws.tasks.started_once.0.0.3 [ inl e ↦ absurd (cc) | inr never ↦ never ]
+
+-- a task is started by two members
+pub task_started_by_two_never_happens : NeverHappens 2 started_by_both
+task_started_by_two_never_happens laws = laws.tasks.started_once.0.1 0 (inr (inl refl))
+
+-- a member that executes a task starts one that does not descend from it
+pub task_started_beside_never_happens : NeverHappens 1 started_beside
+task_started_beside_never_happens laws = absurd (let down = laws.tasks.descendants.0.0 1 (inl refl) (search rules) in cc)
+
+-- a member starts another's task, and does not wait at a barrier
+pub task_started_elsewhere_never_happens : NeverHappens 2 started_elsewhere
+task_started_elsewhere_never_happens laws = absurd (let down = laws.tasks.descendants.0.1 refl in cc)
+
+-- a member ends a task that another has started
+pub task_ended_for_another_never_happens : NeverHappens 2 ended_for_another
+task_ended_for_another_never_happens laws = elim laws.tasks.ended_once.0.0 [ inl e ↦ absurd (cc) | inr (inl e) ↦ absurd (cc) | inr (inr never) ↦ never ]
+
+-- a task ends before one that its member executes above it
+pub task_ended_beneath_never_happens : NeverHappens 1 ended_beneath
+task_ended_beneath_never_happens laws = elim (laws.tasks.ended_once.0.2 2 (inl refl) (search rules)) [ inl e ↦ absurd (omega arith) | inr e ↦ absurd (cc) ]
+
+-- a taskwait goes on while a child of its task is open
+pub taskwait_too_short_never_happens : NeverHappens 1 waited_too_short
+taskwait_too_short_never_happens laws = elim (laws.tasks.waits.0 1 refl).1 [ inl e ↦ absurd (cc) | inr never ↦ never ]
+
+-- a group ends while a task of it is open: the child of one that is done
+pub group_ended_early_never_happens : NeverHappens 1 group_ended_early
+group_ended_early_never_happens laws = elim (laws.tasks.waits.0 2 refl).1 [
+  | inl e ↦ absurd (cc)
+  | inr (inl e) ↦ absurd (cc)
+  | inr (inr (inl e)) ↦ absurd (cc)
+  | inr (inr (inr (inl e))) ↦ absurd (cc)
+  | inr (inr (inr (inr (inl e)))) ↦ absurd (cc)
+  | inr (inr (inr (inr (inr never)))) ↦ never
+]
+
+-- two groups have one number
+pub group_opened_twice_never_happens : NeverHappens 2 group_opened_twice
+group_opened_twice_never_happens laws = laws.tasks.opened_once.0 0 (inl refl)
+
+-- a group ends before one that was opened in it
+pub outer_group_ended_never_happens : NeverHappens 1 outer_group_ended
+outer_group_ended_never_happens laws = absurd (let last = laws.tasks.groups_ended.0.1.1 in cc)
+
+-- a barrier is passed while a task that is bound to it is open
+pub barrier_passed_with_open_task_never_happens : NeverHappens 1 passed_with_open_task
+barrier_passed_with_open_task_never_happens laws = elim (laws.tasks.passes.0 1 (0, Implicit 0, one_job, inr (inl refl)) (omega arith)).1 [
+  | inl e ↦ absurd (cc)
+  | inr (inl e) ↦ absurd (cc)
+  | inr (inr never) ↦ never
+]
+
+-- a task that is bound to a barrier is created after a member passed it
+pub task_created_behind_never_happens : NeverHappens 2 created_behind
+task_created_behind_never_happens laws = absurd (let later = laws.tasks.later.0 0 0 (inl refl) in omega (arith, later))
+
+-- so it is not done before that pass
+pub task_undone_behind_never_happens : NeverHappens 2 created_behind
+task_undone_behind_never_happens laws =
+    let done = laws.bound_done (Create 1 1 (Implicit 1) one_job ∷ []) (Arrive 0 1 (at Barrier 0) ∷ Arrive 0 0 (at Barrier 0) ∷ []) 0 0 refl 1 (1, Implicit 1, one_job, inl refl) (omega arith) in
+    elim done.1 [ inl e ↦ absurd (cc) | inr (inl e) ↦ absurd (cc) | inr (inr never) ↦ never ]
+
+-- a member passes the region's end while a task is open
+pub region_ended_with_open_task_never_happens : NeverHappens 2 ended_with_open_task
+region_ended_with_open_task_never_happens laws = elim (laws.tasks.region.0 refl 1 (0, Implicit 0, one_job, inl refl)).1 [
+  | inl e ↦ absurd (cc)
+  | inr (inl e) ↦ absurd (cc)
+  | inr (inr (inl e)) ↦ absurd (cc)
+  | inr (inr (inr (inl e))) ↦ absurd (cc)
+  | inr (inr (inr (inr never))) ↦ never
+]
 
 -- The team
 

@@ -1,5 +1,5 @@
 -- What the rows of the calls on names and locks share: who holds what, and what such a row has to show.
-use Rattle.std.proofs.Common.{◌≡◌, ℕ, ◌+◌, ◌-◌, ◌<◌, Bool, true, false, List, ◌++◌, Option, Some, None, refl, ap, sym, subst, arith, inl, inr}
+use Rattle.std.proofs.Common.{◌≡◌, ℕ, ◌+◌, ◌-◌, ◌<◌, Bool, true, false, List, ◌++◌, Option, Some, None, refl, sym, subst, arith, inl, inr}
 use Rattle.std.specs.Prelude.{◌==◌, ◌&&◌, not, nat_lt, is_some, if◌then◌else◌, slice_get}
 use Rattle.std.proofs.lemmas.Bool.{cases_Bool}
 use Rattle.gomp_types.specs.declared.event.Event.{Event}
@@ -8,21 +8,22 @@ use Rattle.gomp_types.specs.declared.lock.Held.{Held}
 use Rattle.gomp_types.specs.declared.lock.LockKind.{LockKind}
 use Rattle.gomp_types.specs.declared.key.Key.TheVariants.{Critical, Lock, NestLock}
 use Rattle.gomp_types.specs.declared.reply.Reply.{Reply}
-use Rattle.gomp_types.specs.declared.reply.Reply.TheVariants.{Chunk, Finished, Wait, Got, Count, Refused}
+use Rattle.gomp_types.specs.declared.reply.Reply.TheVariants.{Chunk, Finished, Wait, Created, Run, TaskDone, Got, Count, Refused}
 use Rattle.gomp_types.specs.declared.task.Owner.{Owner}
+use Rattle.gomp_types.specs.Events.{at_barrier}
 use Rattle.gomp_types.specs.Laws.{Always}
+use Rattle.gomp_types.specs.Tasks.{in_task}
 use Rattle.gomp_types.specs.Owners.{same_owner}
-use Rattle.gomp_types.proofs.Booleans.{is_equal, same_number, and_false}
+use Rattle.gomp_types.proofs.Booleans.{is_equal, same_number}
 use Rattle.gomp_types.proofs.LeastTests.{AllFail}
 use Rattle.gomp_locks.specs.Book.{same_lock_kind, held_times, held_by, owned_by_member}
 use Rattle.gomp_locks.specs.Locks.{gone_tests, count_for, held_by_another}
-use Rattle.gomp_locks.specs.Holders.{same_key, asker, held_once_more, held_once_less, holder, holding_owner, own_part, held_if_kind, found_lock, key_of}
+use Rattle.gomp_locks.specs.Holders.{same_key, asker, held_once_more, held_once_less, holder, holding_owner, held_if_kind, found_lock, key_of}
 use Rattle.gomp_locks.specs.HoldRules.{can_hold, HoldRule}
 use Rattle.gomp_locks.proofs.OwnerLemmas.{same_name}
-use Rattle.gomp_locks.proofs.HoldsKeep.{holder_is_asker}
 use Rattle.gomp_laws.specs.Rules.{TeamRule}
 use Rattle.gomp_model.specs.Past.{Past}
-use Rattle.gomp_model.specs.Row.{Row, plain_row}
+use Rattle.gomp_model.specs.Row.{Row, plain_row, goes_on}
 use Rattle.gomp_model.specs.CriticalNames.{is_held, is_freed, held_once, freed_once}
 use Rattle.gomp_laws.proofs.TeamShares.{hold_rules}
 use Rattle.gomp_laws.proofs.Sound.{AreGiven, IsSound, Ready, memoryless, only_holds}
@@ -39,45 +40,24 @@ key_is_itself (NestLock number) = same_number number
 pub owner_is_itself : (owner : Owner) → same_owner owner owner ≡ true
 owner_is_itself owner = rw (same_number owner.team, same_number owner.member, same_number owner.task) refl
 
--- whoever holds something is a task that may ask
-abbrev pub IsOfAsker : List Event → Option Held → Type 0
-IsOfAsker h found = (held : Held) → found ≡ Some held → held.owner ≡ asker held.owner.member h
+-- What a task does not hold
 
--- What a member holds
-
--- it holds nothing of what is held by another member
-other_member : (m : ℕ) (held : Held) → (held.owner.member == m) ≡ false → own_part m (Some held) ≡ None
-other_member m held e = rw e refl
-
-pub apart_by_member : (m : ℕ) (h : List Event) (found : Option Held) → IsOfAsker h found → owned_by_member (asker m h) (holding_owner found) ≡ false → own_part m found ≡ None
-apart_by_member m h None is differ = refl
-apart_by_member m h (Some held) is differ = let team : held.owner.team ≡ 0 = ap (λ (owner : Owner). owner.team) (is held refl) in other_member m held (rw team at differ)
-
--- or by another task, since each member has one
-pub apart_by_owner : (m : ℕ) (h : List Event) (found : Option Held) → IsOfAsker h found → held_by (asker m h) found ≡ false → own_part m found ≡ None
-apart_by_owner m h None is differ = refl
-apart_by_owner m h (Some held) is differ =
-    let team : held.owner.team ≡ 0 = ap (λ (owner : Owner). owner.team) (is held refl) in
-    let task : held.owner.task ≡ 0 = ap (λ (owner : Owner). owner.task) (is held refl) in
-    other_member m held (by_member (held.owner.member == m) (rw (team, task) at differ))
+-- a task does not hold what none of its member's tasks holds
+pub unheld_by_member : (owner : Owner) (found : Option Held) → owned_by_member owner (holding_owner found) ≡ false → held_by owner found ≡ false
+unheld_by_member owner None unowned = refl
+unheld_by_member owner (Some held) unowned = by_parts (held.owner.team == owner.team) (held.owner.member == owner.member) (held.owner.task == owner.task) unowned
   where
-    by_member : (b : Bool) → (b && true) ≡ false → b ≡ false
-    by_member true e = e
-    by_member false e = refl
+    by_parts : (team member task : Bool) → (team && member) ≡ false → (team && (member && task)) ≡ false
+    by_parts true true task e = absurd (cc)
+    by_parts true false task e = refl
+    by_parts false member task e = refl
 
--- who holds nothing of it is another owner, and holds it no time
-pub holder_is_other : (m : ℕ) (h : List Event) (held : Held) → own_part m (Some held) ≡ None → same_owner held.owner (asker m h) ≡ false
-holder_is_other m h held apart =
-    elim (cases_Bool (held.owner.member == m)) [
-      | inl e ↦ absurd (let never : Some held ≡ None = rw e at apart in cc)
-      | inr e ↦ rw e (and_false (held.owner.team == 0) false refl)
-    ]
+-- its count of what it does not hold is 0
+pub unheld_counts_none : (owner : Owner) (found : Option Held) → held_by owner found ≡ false → count_for owner found ≡ 0
+unheld_counts_none owner None unheld = refl
+unheld_counts_none owner (Some held) unheld = rw unheld refl
 
-pub apart_counts_none : (m : ℕ) (h : List Event) (held : Option Held) → own_part m held ≡ None → count_for (asker m h) held ≡ 0
-apart_counts_none m h None apart = refl
-apart_counts_none m h (Some held) apart = rw (holder_is_other m h held apart) refl
-
--- what another task holds it holds no time
+-- and so is that of what another task holds
 pub another_counts_none : (owner : Owner) (held : Option Held) → held_by_another owner held ≡ true → count_for owner held ≡ 0
 another_counts_none owner None differ = refl
 another_counts_none owner (Some held) differ = by_owner (same_owner held.owner owner) differ
@@ -132,9 +112,10 @@ freed_given key m (Count count) h = ((refl, refl, refl), tt)
 freed_given key m _ h = tt
 
 -- a key that may be held keeps the rule
-pub hold_keeps : (members m : ℕ) (key : Key) (b : Bool) (h : List Event) → m < members → (b ≡ true → can_hold key (asker m h) (holder key h) ≡ true) → Always (TeamRule members) h → Always (TeamRule members) (held_once b key m h ++ h)
-hold_keeps members m key true h member can all = (record { holds = record { current = refl; free = can refl }; member = member }, all)
-hold_keeps members m key false h member can all = all
+pub hold_keeps : (members m : ℕ) (key : Key) (b : Bool) (h : List Event) → m < members → (in_task m h ≡ false → at_barrier m h ≡ false) → (b ≡ true → can_hold key (asker m h) (holder key h) ≡ true) → Always (TeamRule members) h →
+    Always (TeamRule members) (held_once b key m h ++ h)
+hold_keeps members m key true h member away can all = (record { holds = record { current = refl; free = can refl }; member = member; names = record { away = away } }, all)
+hold_keeps members m key false h member away can all = all
 
 -- so does one that is freed by its holder
 pub free_keeps : (members m : ℕ) (key : Key) (b : Bool) (h : List Event) → held_by (asker m h) (holder key h) ≡ true → Always (TeamRule members) h → Always (TeamRule members) (freed_once b key m h ++ h)
@@ -191,20 +172,29 @@ held_row key row = record plain_row {
   locks = row.locks;
 }
 
--- what the book answers is neither a chunk nor a refusal
+-- what the book answers is neither a chunk nor a refusal, and nothing on tasks
 abbrev pub IsBookReply : Reply → Type 0
 IsBookReply (Chunk first count) = ⊥
+IsBookReply (Created task) = ⊥
+IsBookReply (Run task code arg own) = ⊥
+IsBookReply (TaskDone task waiting) = ⊥
 IsBookReply (Refused refusal) = ⊥
 IsBookReply _ = Unit {0}
 
 pub finished_is_one : (reply : Reply) → reply ≡ Finished → IsBookReply reply
 finished_is_one reply e = subst IsBookReply (sym e) tt
 
--- a call that never waits is not repeated
-pub asked_first : (row : Row) (repeated : Bool) (m : ℕ) (p : Past) → ((q : Past) → row.may_reply m q Wait → ⊥) → Ready row repeated m p → AllFail (row.by_team m p)
-asked_first row repeated m p never ready =
+-- a call that never waits does not go on
+never_goes_on : (row : Row) (m : ℕ) (q : Past) (reply : Reply) → goes_on reply ≡ true → IsBookReply reply → (row.may_reply m q Wait → ⊥) → row.may_reply m q reply → ⊥
+never_goes_on row m q Wait on book never may = never may
+never_goes_on row m q (Run task code arg own) on book never may = book
+never_goes_on row m q _ on book never may = absurd (cc)
+
+-- and so is not repeated
+pub asked_first : (row : Row) (repeated : Bool) (m : ℕ) (p : Past) → ((q : Past) (reply : Reply) → row.may_reply m q reply → IsBookReply reply) → ((q : Past) → row.may_reply m q Wait → ⊥) → Ready row repeated m p → AllFail (row.by_team m p)
+asked_first row repeated m p by_book never ready =
     elim (cases_Bool repeated) [
-      | inl e ↦ absurd (let may = (ready.lasting e).2 in never may.0 may.1)
+      | inl e ↦ absurd (let on = (ready.lasting e).2 in never_goes_on row m on.0 on.1 on.2 (by_book on.0 on.1 on.3) (never on.0) on.3)
       | inr e ↦ ready.team e
     ]
 
@@ -215,8 +205,8 @@ pub record IsHeldRow (key : Key) (row : Row) : Type 0 where
   pub answered : (repeated : Bool) (m : ℕ) (p : Past) → Ready (held_row key row) repeated m p → Always HoldRule p.events → (reply : Reply) × row.may_reply m p reply
   pub given : (m : ℕ) (p : Past) (reply : Reply) → AreGiven (only_holds key) m reply (row.gives m p reply)
   pub keep : (repeated : Bool) (m : ℕ) (p : Past) (reply : Reply) → Ready (held_row key row) repeated m p → row.may_reply m p reply → Always (TeamRule p.terms.members) p.events → Always (TeamRule p.terms.members) (row.gives m p reply ++ p.events)
-  -- it waits for what another member holds
-  pub apart : (repeated : Bool) (m : ℕ) (p : Past) → Ready (held_row key row) repeated m p → IsOfAsker p.events (holder key p.events) → row.may_reply m p Wait → own_part m (holder key p.events) ≡ None
+  -- the task waits for what it does not hold
+  pub apart : (repeated : Bool) (m : ℕ) (p : Past) → Ready (held_row key row) repeated m p → row.may_reply m p Wait → held_by (asker m p.events) (holder key p.events) ≡ false
   pub waits_for : (m : ℕ) (p : Past) → row.may_reply m p Wait → (held : Held) × (holder key p.events ≡ Some held)
   pub tells_count : (repeated : Bool) (m count : ℕ) (p : Past) → Ready (held_row key row) repeated m p → row.may_reply m p (Count count) → count ≡ count_for (asker m p.events) (holder key (row.gives m p (Count count) ++ p.events))
   pub no_memory : (m : ℕ) (p : Past) → (memoryless (row.by_team m p) ≡ true) × (memoryless (row.missing m p) ≡ true)
@@ -226,7 +216,7 @@ same_some key other e = cc
 
 pub held_row_sound : (key : Key) (row : Row) → IsHeldRow key row → IsSound (held_row key row)
 held_row_sound key row is = record {
-  decided = is.decided;
+  decided = λ m p a b x y. inl (is.decided m p a b x y);
   accepts = λ m p refusal may. is.by_book m p (Refused refusal) may;
   answered = λ repeated m p ready all. is.answered repeated m p ready (hold_rules p.terms.members p.events all);
   counts = λ repeated m p first count ready all may. absurd (is.by_book m p (Chunk first count) may);
@@ -235,16 +225,22 @@ held_row_sound key row is = record {
   begins_keep = λ m p ready all. all;
   gives_keep = λ repeated m p reply ready may all. is.keep repeated m p reply ready may all;
   still = λ stays m p. absurd (cc);
+  outside = λ arrives m p fail. absurd (cc);
   tells = λ arrives m p reply may. absurd (cc);
   one_pass = λ arrives m p. absurd (cc);
+  arrives_there = λ arrives m p. absurd (cc);
+  waits_quietly = λ arrives m p. absurd (cc);
   lasts = λ repeated m p ready all may. (
     λ asks. absurd (cc),
-    λ other same. subst (λ (k : Key). own_part m (holder k p.events) ≡ None) (same_some key other same) (is.apart repeated m p ready (λ held at. holder_is_asker key held p.events (hold_rules p.terms.members p.events all) at) may),
-    (p, may),
+    λ other same. subst (λ (k : Key). held_by (asker m p.events) (holder k p.events) ≡ false) (same_some key other same) (is.apart repeated m p ready may),
+    (p, Wait, refl, may),
   );
   waits_for = λ other m p at may. subst (λ (k : Key). (held : Held) × (holder k p.events ≡ Some held)) (same_some key other at) (is.waits_for m p may);
   tells_count = λ other repeated m count p at ready all may.
       subst (λ (k : Key). count ≡ count_for (asker m p.events) (holder k (row.gives m p (Count count) ++ p.events))) (same_some key other at) (is.tells_count repeated m count p ready may);
-  no_memory = λ m p. let none = is.no_memory m p in (refl, none.0, none.1, λ repeated. refl);
+  runs = λ m p task code arg own may. absurd (is.by_book m p (Run task code arg own) may);
+  ends = λ m p task waiting may. absurd (is.by_book m p (TaskDone task waiting) may);
+  created = λ repeated m p task ready may. absurd (is.by_book m p (Created task) may);
+  no_memory = λ m p. let none = is.no_memory m p in (refl, refl, none.0, none.1, λ repeated. refl);
   words_keep = λ puts repeated m p reply ready may all. absurd (cc);
 }

@@ -9,7 +9,8 @@ use Rattle.gomp_types.specs.declared.reply.Reply.{Reply}
 use Rattle.gomp_types.specs.declared.reply.Reply.TheVariants.{Wait, Count}
 use Rattle.gomp_types.specs.Laws.{Always}
 use Rattle.gomp_locks.specs.Locks.{count_for}
-use Rattle.gomp_locks.specs.Holders.{asker, holder, own_part}
+use Rattle.gomp_locks.specs.Book.{held_by}
+use Rattle.gomp_locks.specs.Holders.{asker, holder}
 use Rattle.gomp_locks.specs.HoldRules.{HoldRule}
 use Rattle.gomp_locks.specs.HoldLaws.{holds_left}
 use Rattle.gomp_locks.proofs.HoldsKeep.{holds_left_is_count, held_at_least_once}
@@ -21,7 +22,7 @@ use Rattle.gomp_laws.proofs.Sound.{Gives, gives_of}
 use Rattle.gomp_laws.proofs.CallsKeep.{OwnKeeps, since_keeps}
 use Rattle.gomp_laws.proofs.Calls.{row_is_sound}
 use Rattle.gomp_laws.proofs.TeamShares.{hold_rules}
-use Rattle.gomp_laws.proofs.HeldRows.{holder_is_other, owner_is_itself}
+use Rattle.gomp_laws.proofs.HeldRows.{owner_is_itself}
 use Rattle.gomp_laws.proofs.Known.{Known, known_of, known_after, unrefused_step_is_ready}
 
 -- a call that has only begun holds and frees nothing
@@ -41,27 +42,28 @@ waits_for_another : (p : Past) (step : Step) (reply : Reply) → MayAnswer p ste
 waits_for_another p step Wait may known = λ key is.
     let row = row_at p step in
     let repeated = is_resume step.call in
-    let sound = row_is_sound (call_meant step.call (p.waits step.member)) in
+    let sound = row_is_sound (call_meant step.call (p.waits step.member).open_call) in
     let found = sound.waits_for key step.member (begun_past repeated row step.member p) is may.1 in
     let before = since_keeps row sound repeated step.member p (λ now. holder key now ≡ holder key p.events) (holder_stays (gives_of row) step.member key p.events) refl in
     let held : holder key p.events ≡ Some found.0 = sym before ∙ found.1 in
     let apart = (sound.lasts repeated step.member p (unrefused_step_is_ready p step may.0 known) known.rule may.1).1 key is in (
       found.0.owner,
       holds_left_of_holder key found.0 p.events (hold_rules p.terms.members p.events known.rule) held,
-      holder_is_other step.member p.events found.0 (ap (own_part step.member) (sym held) ∙ apart),
+      ap (held_by (asker step.member p.events)) (sym held) ∙ apart,
     )
 waits_for_another p step _ may known = tt
 
 tells_holds : (p : Past) (step : Step) (reply : Reply) → MayAnswer p step reply → Known p → TellsHolds p step reply
 tells_holds p step (Count count) may known = λ key is.
     let repeated = is_resume step.call in
-    let sound = row_is_sound (call_meant step.call (p.waits step.member)) in
+    let sound = row_is_sound (call_meant step.call (p.waits step.member).open_call) in
     let after = past_after p step (Count count) in
     let told = sound.tells_count key repeated step.member count p is (unrefused_step_is_ready p step may.0 known) known.rule may.1 in
     told ∙ sym (holds_left_is_count (asker step.member p.events) key after.events (hold_rules p.terms.members after.events (known_after p step (Count count) may known).rule))
 tells_holds p step _ may known = tt
 
-each_reply : (terms : Terms) (Law : Past → Step → Reply → Type 0) → ((p : Past) (step : Step) (reply : Reply) → MayAnswer p step reply → Known p → Law p step reply) → (run : Record) → Caused terms run → EachReply terms Law run
+-- what every answered step keeps is kept by each reply of a record
+pub each_reply : (terms : Terms) (Law : Past → Step → Reply → Type 0) → ((p : Past) (step : Step) (reply : Reply) → MayAnswer p step reply → Known p → Law p step reply) → (run : Record) → Caused terms run → EachReply terms Law run
 each_reply terms Law law [] caused = tt
 each_reply terms Law law (pair ∷ earlier) caused = (law (past_of terms earlier) pair.0 pair.1 caused.0 (known_of terms earlier caused.1), each_reply terms Law law earlier caused.1)
 

@@ -17,7 +17,7 @@ use Rattle.gomp_laws.specs.Replies.{EachReply, WaitsForAnother, TellsHolds, Hold
 use Rattle.gomp_laws.proofs.HeldRows.{owner_is_itself}
 
 -- in a team of two a law refuses this reply to a step after the run
-abbrev RefusesReply : (Past → Step → Reply → Type 0) → Run → Step → Reply → Type 0
+abbrev pub RefusesReply : (Past → Step → Reply → Type 0) → Run → Step → Reply → Type 0
 RefusesReply Law run step reply = Law (past_after_run 2 run) step reply → ⊥
 
 -- Waits

@@ -10,7 +10,7 @@ use Rattle.gomp_types.specs.RefusalTexts.{number_of}
 use Rattle.gomp_types.specs.declared.reply.Reply.{Reply}
 use Rattle.gomp_types.specs.declared.reply.Reply.TheVariants.{Refused}
 use Rattle.gomp_types.specs.declared.event.Event.{Event}
-use Rattle.gomp_types.specs.declared.event.Event.TheVariants.{Arrive, Put, Pass, Hold, Free, Create, Done, Break}
+use Rattle.gomp_types.specs.declared.event.Event.TheVariants.{Arrive, Put, Pass, Create, Hold, Free, Start, Done, Break}
 use Rattle.gomp_types.specs.Tests.{Test}
 use Rattle.gomp_types.specs.Events.{member_of, has_left_region, clash_of}
 use Rattle.gomp_types.specs.Laws.{Always, Happened}
@@ -32,32 +32,34 @@ InTime event earlier = (clash_of earlier ≡ None) × (has_left_region (member_o
 abbrev SoFar : ℕ → List Event → Type 0
 SoFar m h = (clash_of h ≡ None) × (has_left_region m h ≡ false) × Always InTime h
 
-goes_on : (can : Gives) (m : ℕ) → OwnKeeps can m (SoFar m)
-goes_on can m (Pass barrier n) h own so = absurd own
-goes_on can m (Hold key n task) h own so = absurd own
-goes_on can m (Free key n task) h own so = absurd own
-goes_on can m (Create task n parent desc) h own so = absurd own
-goes_on can m (Done task n) h own so = absurd own
-goes_on can m (Break n place) h own so = absurd own
-goes_on can m (Arrive barrier n tag) h own so = (so.0, so.1, ((so.0, rw own.0 so.1), so.2))
-goes_on can m (Put share n payload) h own so = (so.0, so.1, ((so.0, rw own.0 so.1), so.2))
-goes_on can m _ h own so = (so.0, so.1, ((so.0, rw own so.1), so.2))
+stays_so_far : (can : Gives) (m : ℕ) → OwnKeeps can m (SoFar m)
+stays_so_far can m (Pass barrier n) h own so = absurd own
+stays_so_far can m (Hold key n task) h own so = absurd own
+stays_so_far can m (Free key n task) h own so = absurd own
+stays_so_far can m (Start task n) h own so = absurd own
+stays_so_far can m (Done task n) h own so = absurd own
+stays_so_far can m (Break n place) h own so = absurd own
+stays_so_far can m (Arrive barrier n tag) h own so = (so.0, so.1, ((so.0, rw own.0 so.1), so.2))
+stays_so_far can m (Create task n parent desc) h own so = (so.0, so.1, ((so.0, rw own.0 so.1), so.2))
+stays_so_far can m (Put share n payload) h own so = (so.0, so.1, ((so.0, rw own.0 so.1), so.2))
+stays_so_far can m _ h own so = (so.0, so.1, ((so.0, rw own so.1), so.2))
 
 last_in_time : (can : Gives) (m : ℕ) (reply : Reply) (event : Event) (h : List Event) → IsLast can m reply event → SoFar m h → InTime event h
 last_in_time can m reply (Pass barrier n) h own so = (so.0, rw own.0 so.1)
 last_in_time can m reply (Hold key n task) h own so = (so.0, rw own.0 so.1)
 last_in_time can m reply (Free key n task) h own so = (so.0, rw own.0 so.1)
-last_in_time can m reply (Create task n parent desc) h own so = absurd own
-last_in_time can m reply (Done task n) h own so = absurd own
+last_in_time can m reply (Start task n) h own so = (so.0, rw own.0 so.1)
+last_in_time can m reply (Done task n) h own so = (so.0, rw own.0 so.1)
 last_in_time can m reply (Break n place) h own so = (so.0, rw own.0 so.1)
 last_in_time can m reply (Arrive barrier n tag) h own so = (so.0, rw own.0 so.1)
+last_in_time can m reply (Create task n parent desc) h own so = (so.0, rw own.0 so.1)
 last_in_time can m reply (Put share n payload) h own so = (so.0, rw own.0 so.1)
 last_in_time can m reply _ h own so = (so.0, rw own so.1)
 
 given_in_time : (can : Gives) (m : ℕ) (reply : Reply) (events h : List Event) → AreGiven can m reply events → SoFar m h → Always InTime (events ++ h)
 given_in_time can m reply [] h own so = so.2
 given_in_time can m reply (event ∷ events) h own so =
-    let before = own_keeps can m (SoFar m) events h (goes_on can m) own.1 so in
+    let before = own_keeps can m (SoFar m) events h (stays_so_far can m) own.1 so in
     (last_in_time can m reply event (events ++ h) own.0 before, before.2)
 
 -- what the tests of a step show of its team, if it is answered, or breaks the team
@@ -78,7 +80,7 @@ Goes p step = (clash_of p.events ≡ None) × (has_left_region step.member p.eve
 step_goes : (p : Past) (step : Step) → (refusal_of p step ≡ None) ⊎ (refusal_of p step ≡ Some Mismatch) → Goes p step
 step_goes p step e =
     in_region (nat_le p.terms.members step.member) (has_left_region step.member p.events) (clash_of p.events)
-    (wait_tests step.call (p.waits step.member) ++ row_tests (is_resume step.call) (row_at p step) step.member p) e
+    (wait_tests step.call (p.waits step.member).open_call ++ row_tests (is_resume step.call) (row_at p step) step.member p) e
 
 -- one more step
 answer_in_time : (p : Past) (step : Step) (reply : Reply) → MayAnswer p step reply → Always InTime p.events → Always InTime (past_after p step reply).events
@@ -88,10 +90,10 @@ answer_in_time p step reply may all =
     let go = step_goes p step (inl may.0) in
     let row = row_at p step in
     let repeated = is_resume step.call in
-    let s = row_is_sound (call_meant step.call (p.waits step.member)) in
+    let s = row_is_sound (call_meant step.call (p.waits step.member).open_call) in
     let q = begun_past repeated row step.member p in
     given_in_time (gives_of row) step.member reply (row.gives step.member q reply) q.events (s.gives_own step.member q reply)
-    (since_keeps row s repeated step.member p (SoFar step.member) (goes_on (gives_of row) step.member) (go.0, go.1, all))
+    (since_keeps row s repeated step.member p (SoFar step.member) (stays_so_far (gives_of row) step.member) (go.0, go.1, all))
 
 pub in_time_holds : (terms : Terms) (run : Record) → Caused terms run → Always InTime (events terms run)
 in_time_holds terms [] caused = tt

@@ -1,6 +1,6 @@
 -- What is known of every team whose replies have their causes, whatever the calls are: it keeps the rule of a team, and a call that waits stands as it stood.
-use Rattle.std.proofs.Common.{◌≡◌, ℕ, ◌+◌, ◌<◌, Bool, true, false, List, [], ◌∷◌, ◌++◌, Option, Some, None, refl, sym, ◌∙◌, subst, arith, inl, inr}
-use Rattle.std.specs.Prelude.{if◌then◌else◌, ◌==◌, ◌&&◌, nat_le, is_some, ◌⊎◌}
+use Rattle.std.proofs.Common.{◌≡◌, ℕ, ◌+◌, ◌<◌, Bool, true, false, List, [], ◌∷◌, ◌++◌, Option, Some, None, refl, sym, ap, ◌∙◌, subst, arith, inl, inr}
+use Rattle.std.specs.Prelude.{if◌then◌else◌, ◌==◌, ◌&&◌, ◌||◌, not, nat_le, is_some, ◌⊎◌}
 use Rattle.std.proofs.lemmas.Bool.Decides.{nat_tests}
 use Rattle.std.proofs.lemmas.Bool.{cases_Bool}
 use Rattle.gomp_types.specs.declared.call.Call.{Call}
@@ -8,56 +8,40 @@ use Rattle.gomp_types.specs.declared.call.Call.TheVariants.{Resume, Stop}
 use Rattle.gomp_types.specs.declared.call.Step.{Step}
 use Rattle.gomp_types.specs.declared.limits.Limits.{Limits}
 use Rattle.gomp_types.specs.declared.refusal.Clash.{Clash}
-use Rattle.gomp_types.specs.declared.refusal.Place.{Place}
 use Rattle.gomp_types.specs.declared.refusal.Refusal.TheVariants.{Mismatch}
 use Rattle.gomp_types.specs.declared.reply.Reply.{Reply}
-use Rattle.gomp_types.specs.declared.reply.Reply.TheVariants.{Passed, Wait, Refused}
+use Rattle.gomp_types.specs.declared.reply.Reply.TheVariants.{Passed, Wait, Run, TaskDone, Refused}
 use Rattle.gomp_types.specs.declared.event.Event.{Event}
-use Rattle.gomp_types.specs.declared.event.Event.TheVariants.{Arrive, Put, Pass, Break}
-use Rattle.gomp_types.specs.Events.{barriers_passed, arrival, clash_of}
+use Rattle.gomp_types.specs.declared.event.Event.TheVariants.{Arrive, Put, Pass}
+use Rattle.gomp_types.specs.declared.task.Task.TheVariants.{Explicit}
+use Rattle.gomp_types.specs.Events.{barriers_passed, arrival, at_barrier, clash_of}
 use Rattle.gomp_types.specs.Laws.{Always}
+use Rattle.gomp_types.specs.Tasks.{innermost_task, task_stack, executed_task, in_task, after_first}
 use Rattle.gomp_laws.specs.Rules.{TeamRule}
 use Rattle.gomp_types.specs.Seen.{seen_of}
-use Rattle.gomp_types.proofs.Booleans.{is_equal, same_number, and_left, and_right}
+use Rattle.gomp_types.proofs.Booleans.{is_equal, same_number, and_left, and_right, false_of_not}
 use Rattle.gomp_types.proofs.LeastTests.{AllFail, all_fail, fail_first, fail_later}
 use Rattle.gomp_laws.proofs.WordsToCome.{WordsToCome, PutsNone, still_to_come}
+use Rattle.gomp_locks.proofs.NamesKeep.{no_task_outside}
 use Rattle.gomp_model.specs.Past.{Terms, Past}
-use Rattle.gomp_model.specs.Row.{Row, unless_repeated, begun_past, row_tests, events_after}
+use Rattle.gomp_model.specs.Row.{Row, unless_repeated, begun_past, place_tests, board_tests, book_tests, row_tests, events_after, goes_on}
+use Rattle.gomp_types.specs.TaskCalls.{room_tests}
 use Rattle.gomp_model.specs.Calls.{stop_row, row_of}
-use Rattle.gomp_model.specs.Team.{Record, call_meant, is_resume, row_at, broken_tests, member_tests, wait_tests, refusal_of, MayAnswer, wait_after, past_after, before_all, past_of, events, Caused}
-use Rattle.gomp_laws.proofs.Sound.{shows, Lasts, Ready, IsSound, Gives, gives_of, IsLast}
+use Rattle.gomp_model.specs.Team.{Record, call_meant, is_resume, row_at, broken_tests, member_tests, wait_tests, refusal_of, MayAnswer, waits_after, past_after, before_all, past_of, events, Caused}
+use Rattle.gomp_laws.proofs.Sound.{is_run, is_end, shows, Lasts, acts_away, Ready, outside_of_tasks, IsSound, Gives, gives_of, IsLast}
 use Rattle.gomp_laws.proofs.CallsKeep.{step_keeps}
 use Rattle.gomp_laws.proofs.Calls.{row_is_sound}
-use Rattle.gomp_laws.proofs.Places.{seen_other, SameBarriers, barriers_other, barriers_own, was_whole, lasts_other, lasts_own}
+use Rattle.gomp_laws.proofs.Places.{seen_other, SameBarriers, barriers_other, barriers_own, was_whole, stack_other, stack_own, stack_begun, lasts_other, lasts_own}
+use Rattle.gomp_laws.proofs.Waiting.{Pending, WaitLasts, Covers, has_arrived, some_arrived, IsAway, Fresh, WaitKnown, neither_holds, covers_none, none_arrived, pending_same, lasts_at_break, started_stack, ended_stack, wait_opens_again}
 
--- What is known while a wait is open
-
--- what the tests of a call that stays in its place have shown holds still
-abbrev pub Pending : Limits → ℕ → Option Call → List Event → Type 0
-Pending limits k None h = Unit {0}
-Pending limits k (Some call) h = (row_of call).stays ≡ true → AllFail ((row_of call).by_place limits (seen_of k h))
-
--- whether the call that waits has arrived at a barrier
-abbrev pub has_arrived : Option Call → Bool
-has_arrived None = false
-has_arrived (Some call) = is_some (row_of call).arrives
-
--- who waits at no barrier of a team that is not broken has not arrived at its next one
-abbrev pub Fresh : ℕ → Option Call → List Event → Type 0
-Fresh k waiting h = clash_of h ≡ None → has_arrived waiting ≡ false → arrival (barriers_passed k h) k h ≡ None
-
--- what a call that waits for a name or a lock, or outside of critical names, relies on holds still
-abbrev pub WaitLasts : ℕ → Option Call → List Event → Type 0
-WaitLasts k None h = Unit {0}
-WaitLasts k (Some call) h = Lasts (row_of call) k h
-
--- the rule holds, what a waiting call relies on does, who has not arrived is known, and words are still to come
+-- the rule holds, what the calls that wait rely on does, and words are still to come
 pub record Known (p : Past) : Type 0 where
   pub rule : Always (TeamRule p.terms.members) p.events
-  pub pending : (k : ℕ) → Pending p.terms.limits k (p.waits k) p.events
-  pub lasting : (k : ℕ) → WaitLasts k (p.waits k) p.events
-  pub fresh : (k : ℕ) → Fresh k (p.waits k) p.events
+  pub each : (k : ℕ) → WaitKnown p.terms.limits k (p.waits k) p.events
   pub words : WordsToCome p.events
+
+none_beneath : (k : ℕ) (p : Past) → Known p → in_task k p.events ≡ false → (p.waits k).beneath ≡ []
+none_beneath k p known outside = covers_none (p.waits k).beneath (task_stack k p.events) (known.each k).covers (no_task_outside k p.events outside)
 
 -- What the tests of a step have shown
 
@@ -72,11 +56,20 @@ lasting_meant m Resume None p repeated fail lasting = absurd (let never = fail.0
 lasting_meant m Resume (Some call) p repeated fail lasting = lasting
 lasting_meant m _ waiting p repeated fail lasting = absurd (cc)
 
-first_meant : (call : Call) (waiting : Option Call) (P : Type 0) → is_resume call ≡ false → AllFail (wait_tests call waiting) → (has_arrived waiting ≡ false → P) → is_some (row_of (call_meant call waiting)).arrives ≡ true → P
-first_meant Resume waiting P once fail fresh arrives = absurd (cc)
-first_meant Stop waiting P once fail fresh arrives = absurd (cc)
-first_meant _ None P once fail fresh arrives = fresh refl
-first_meant _ (Some other) P once fail fresh arrives = absurd (let shut = fail.0 in cc)
+-- a call that is made while no wait is open
+first_meant : (call : Call) (waiting : Option Call) → is_resume call ≡ false → AllFail (wait_tests call waiting) → is_some (row_of (call_meant call waiting)).arrives ≡ true → has_arrived waiting ≡ false
+first_meant Resume waiting once fail arrives = absurd (cc)
+first_meant Stop waiting once fail arrives = absurd (cc)
+first_meant _ None once fail arrives = refl
+first_meant _ (Some other) once fail arrives = absurd (let shut = fail.0 in cc)
+
+-- a call that creates, holds or frees something is none that has arrived, nor is one open then
+away_meant : (call : Call) (waiting : Option Call) → AllFail (wait_tests call waiting) → acts_away (row_of (call_meant call waiting)) ≡ true → has_arrived waiting ≡ false
+away_meant Stop waiting fail acts = absurd (cc)
+away_meant Resume None fail acts = refl
+away_meant Resume (Some call) fail acts = false_of_not (is_some (row_of call).arrives) (and_left (not (is_some (row_of call).arrives)) (is_some (row_of call).creates || is_some (row_of call).holds) acts)
+away_meant _ None fail acts = refl
+away_meant _ (Some other) fail acts = absurd (let shut = fail.0 in cc)
 
 -- a call that is answered while a wait is open repeats it, or stops the team
 repeats_or_stops : (call : Call) (waiting : Option Call) → AllFail (wait_tests call waiting) → is_some (row_of (call_meant call waiting)).arrives ≡ false → (call ≡ Stop) ⊎ (has_arrived waiting ≡ false)
@@ -90,29 +83,59 @@ stays_shown : (stays : Bool) → shows stays true ≡ true → stays ≡ true
 stays_shown true e = refl
 stays_shown false e = absurd (cc)
 
-ready_by : (row : Row) (repeated : Bool) (m : ℕ) (p : Past) → m < p.terms.members → AllFail (row_tests repeated row m p) → (repeated ≡ true → row.stays ≡ true → AllFail (row.by_place p.terms.limits (seen_of m p.events))) →
-    (repeated ≡ true → Lasts row m p.events) → (repeated ≡ false → is_some row.arrives ≡ true → arrival (barriers_passed m p.events) m p.events ≡ None) → WordsToCome p.events → Ready row repeated m p
-ready_by row true m p lt fail pending lasting first words = record {
+-- the parts of the tests of a call that is made
+record MadePasses (row : Row) (m : ℕ) (p : Past) : Type 0 where
+  place : AllFail (row.by_place p.terms.limits (seen_of m p.events))
+  compared : AllFail (row.compared false m p)
+  task : AllFail (row.by_task m p)
+  team : AllFail (row.by_team m p)
+  missing : AllFail (row.missing m p)
+
+made_passes : (row : Row) (m : ℕ) (p : Past) → AllFail (row_tests false row m p) → MadePasses row m p
+made_passes row m p fail =
+    let place = row.by_place p.terms.limits (seen_of m p.events) in
+    let room = room_tests p.terms.limits p.room row.room in
+    let there = fail_first (place_tests false row m p) (board_tests false row m p ++ book_tests false row m p) fail in
+    let rest = fail_later (place_tests false row m p) (board_tests false row m p ++ book_tests false row m p) fail in
+    let book = fail_later (board_tests false row m p) (book_tests false row m p) rest in record {
+      place = fail_first place (row.compared false m p) there;
+      compared = fail_later place (row.compared false m p) there;
+      task = fail_first (row.by_task m p) room (fail_first (board_tests false row m p) (book_tests false row m p) rest);
+      team = fail_first (row.by_team m p) (row.missing m p) book;
+      missing = fail_later (row.by_team m p) (row.missing m p) book;
+    }
+
+-- what the waits of a step's member show of its call
+record WaitShows (row : Row) (repeated : Bool) (m : ℕ) (p : Past) : Type 0 where
+  pending : repeated ≡ true → row.stays ≡ true → AllFail (row.by_place p.terms.limits (seen_of m p.events))
+  lasting : repeated ≡ true → Lasts row m p.events
+  first : repeated ≡ false → is_some row.arrives ≡ true → in_task m p.events ≡ false → arrival (barriers_passed m p.events) m p.events ≡ None
+  away : acts_away row ≡ true → in_task m p.events ≡ false → at_barrier m p.events ≡ false
+
+ready_by : (row : Row) → IsSound row → (repeated : Bool) (m : ℕ) (p : Past) → m < p.terms.members → AllFail (row_tests repeated row m p) → WaitShows row repeated m p → WordsToCome p.events → Ready row repeated m p
+ready_by row sound true m p lt fail waits words = record {
   member = lt;
-  place = λ shown. pending refl (stays_shown row.stays shown);
+  place = λ shown. waits.pending refl (stays_shown row.stays shown);
+  task = λ e. absurd (cc);
   team = λ e. absurd (cc);
   missing = fail_later (row.compared true m p) (row.missing m p) fail;
-  lasting = lasting;
+  lasting = waits.lasting;
   compared = fail_first (row.compared true m p) (row.missing m p) fail;
   first = λ e. absurd (cc);
+  away = waits.away;
   words = words;
 }
-ready_by row false m p lt fail pending lasting first words =
-    let place = row.by_place p.terms.limits (seen_of m p.events) in
-    let there = fail_first (place ++ row.compared false m p) (row.by_team m p ++ row.missing m p) fail in
-    let book = fail_later (place ++ row.compared false m p) (row.by_team m p ++ row.missing m p) fail in record {
+ready_by row sound false m p lt fail waits words =
+    let made = made_passes row m p fail in record {
       member = lt;
-      place = λ shown. fail_first place (row.compared false m p) there;
-      team = λ e. fail_first (row.by_team m p) (row.missing m p) book;
-      missing = fail_later (row.by_team m p) (row.missing m p) book;
+      place = λ shown. made.place;
+      task = λ e. made.task;
+      team = λ e. made.team;
+      missing = made.missing;
       lasting = λ e. absurd (cc);
-      compared = fail_later place (row.compared false m p) there;
-      first = first;
+      compared = made.compared;
+      first = λ e arrives. waits.first refl arrives (sound.outside arrives m p made.task);
+      away = waits.away;
       words = words;
     }
 
@@ -126,27 +149,36 @@ unbroken_clash (Some clash) fail = absurd (let broken = fail.0 in cc)
 -- the parts of a step's tests
 pub record Passes (p : Past) (step : Step) : Type 0 where
   pub member : AllFail (member_tests p.terms.members step.member p.events)
-  pub wait : AllFail (wait_tests step.call (p.waits step.member))
+  pub wait : AllFail (wait_tests step.call (p.waits step.member).open_call)
   pub row : AllFail (row_tests (is_resume step.call) (row_at p step) step.member p)
 
 pub unrefused_step_passes : (p : Past) (step : Step) → refusal_of p step ≡ None → Passes p step
 unrefused_step_passes p step fine =
     let first = member_tests p.terms.members step.member p.events in
-    let wait = wait_tests step.call (p.waits step.member) in
+    let wait = wait_tests step.call (p.waits step.member).open_call in
     let row = row_tests (is_resume step.call) (row_at p step) step.member p in
     let all = all_fail (first ++ (wait ++ row)) fine in
     let later = fail_later first (wait ++ row) all in
     record { member = fail_first first (wait ++ row) all; wait = fail_first wait row later; row = fail_later wait row later }
 
+-- a member in its implicit task none of whose calls has arrived waits at no barrier
+away_outside : (m : ℕ) (p : Past) → clash_of p.events ≡ None → Known p → has_arrived (p.waits m).open_call ≡ false → in_task m p.events ≡ false → IsAway m p.events
+away_outside m p whole known quiet outside = (known.each m).fresh whole quiet (none_arrived (p.waits m).beneath (none_beneath m p known outside))
+
 -- so the call is ready
 pub unrefused_step_is_ready : (p : Past) (step : Step) → refusal_of p step ≡ None → Known p → Ready (row_at p step) (is_resume step.call) step.member p
 unrefused_step_is_ready p step fine known =
     let all = unrefused_step_passes p step fine in
-    ready_by (row_at p step) (is_resume step.call) step.member p (is_member p.terms.members step.member all.member.0) all.row
-    (λ repeated. pending_meant p.terms.limits step.member step.call (p.waits step.member) p.events repeated (known.pending step.member))
-    (λ repeated. lasting_meant step.member step.call (p.waits step.member) p repeated all.row (known.lasting step.member))
-    (λ once arrives. first_meant step.call (p.waits step.member) (arrival (barriers_passed step.member p.events) step.member p.events ≡ None) once all.wait
-    (λ quiet. known.fresh step.member (unbroken_clash (clash_of p.events) all.member.1.1) quiet) arrives)
+    let waiting = (p.waits step.member).open_call in
+    let whole = unbroken_clash (clash_of p.events) all.member.1.1 in
+    let old = known.each step.member in
+    ready_by (row_at p step) (row_is_sound (call_meant step.call waiting)) (is_resume step.call) step.member p (is_member p.terms.members step.member all.member.0) all.row
+    (record {
+      pending = λ repeated. pending_meant p.terms.limits step.member step.call waiting p.events repeated old.pending;
+      lasting = λ repeated. lasting_meant step.member step.call waiting p repeated all.row old.lasting;
+      first = λ once arrives outside. (away_outside step.member p whole known (first_meant step.call waiting once all.wait arrives) outside).0;
+      away = λ acts outside. (away_outside step.member p whole known (away_meant step.call waiting all.wait acts) outside).1;
+    })
     known.words
 
 -- The rule
@@ -165,19 +197,15 @@ since_rule row sound false m p ready all = rw (once_first (row.begins m p)) (sou
 
 -- a call that has begun keeps the rule
 pub begun_rule : (p : Past) (step : Step) → refusal_of p step ≡ None → Known p → Always (TeamRule p.terms.members) (begun_past (is_resume step.call) (row_at p step) step.member p).events
-begun_rule p step fine known = since_rule (row_at p step) (row_is_sound (call_meant step.call (p.waits step.member))) (is_resume step.call) step.member p (unrefused_step_is_ready p step fine known) known.rule
+begun_rule p step fine known = since_rule (row_at p step) (row_is_sound (call_meant step.call (p.waits step.member).open_call)) (is_resume step.call) step.member p (unrefused_step_is_ready p step fine known) known.rule
 
 answer_rule : (p : Past) (step : Step) (reply : Reply) → MayAnswer p step reply → Known p → Always (TeamRule p.terms.members) (past_after p step reply).events
 answer_rule p step (Refused Mismatch) may known = (tt, known.rule)
 answer_rule p step (Refused _) may known = known.rule
 answer_rule p step reply may known =
-    (row_is_sound (call_meant step.call (p.waits step.member))).gives_keep (is_resume step.call) step.member p reply (unrefused_step_is_ready p step may.0 known) may.1 (begun_rule p step may.0 known)
+    (row_is_sound (call_meant step.call (p.waits step.member).open_call)).gives_keep (is_resume step.call) step.member p reply (unrefused_step_is_ready p step may.0 known) may.1 (begun_rule p step may.0 known)
 
 -- What stays known while a wait is open
-
-pending_same : (limits : Limits) (k : ℕ) (waiting : Option Call) (h now : List Event) → seen_of k now ≡ seen_of k h → Pending limits k waiting h → Pending limits k waiting now
-pending_same limits k None h now same pending = tt
-pending_same limits k (Some call) h now same pending = λ stays. rw same (pending stays)
 
 still_there : (row : Row) → IsSound row → row.stays ≡ true → (repeated : Bool) (m : ℕ) (p : Past) → events_after repeated row m p Wait ≡ p.events
 still_there row sound stays repeated m p = rw ((sound.still stays m (begun_past repeated row m p)).1, (sound.still stays m p).0) refl
@@ -185,49 +213,15 @@ still_there row sound stays repeated m p = rw ((sound.still stays m (begun_past 
 shown_first : (row : Row) (repeated : Bool) → row.stays ≡ true → shows row.stays repeated ≡ true
 shown_first row repeated e = rw e refl
 
-answer_pending : (p : Past) (step : Step) (reply : Reply) → MayAnswer p step reply → Known p → Pending p.terms.limits step.member (wait_after reply step.call (p.waits step.member)) (past_after p step reply).events
-answer_pending p step (Refused Mismatch) may known = pending_same p.terms.limits step.member (p.waits step.member) p.events (past_after p step (Refused Mismatch)).events refl (known.pending step.member)
-answer_pending p step (Refused _) may known = known.pending step.member
-answer_pending p step Wait may known = λ stays.
-    let row = row_at p step in
-    subst (λ (h : List Event). AllFail (row.by_place p.terms.limits (seen_of step.member h)))
-    (sym (still_there row (row_is_sound (call_meant step.call (p.waits step.member))) stays (is_resume step.call) step.member p))
-    ((unrefused_step_is_ready p step may.0 known).place (shown_first row (is_resume step.call) stays))
-answer_pending p step _ may known = tt
-
-pending_after : (p : Past) (step : Step) (reply : Reply) (k : ℕ) → MayAnswer p step reply → Known p → Pending p.terms.limits k ((past_after p step reply).waits k) (past_after p step reply).events
-pending_after p step reply k may known =
-    elim (cases_Bool (step.member == k)) [
-      | inl e ↦ rw e (subst (λ (x : ℕ). Pending p.terms.limits x (wait_after reply step.call (p.waits x)) (past_after p step reply).events) (is_equal step.member k e) (answer_pending p step reply may known))
-      | inr e ↦ rw e (pending_same p.terms.limits k (p.waits k) p.events (past_after p step reply).events
-          (seen_other (row_at p step) (row_is_sound (call_meant step.call (p.waits step.member))) (is_resume step.call) k step.member p reply e) (known.pending k))
-    ]
-
-lasts_at_break : (k n : ℕ) (place : Place) (waiting : Option Call) (h : List Event) → WaitLasts k waiting h → WaitLasts k waiting (Break n place ∷ h)
-lasts_at_break k n place None h lasting = tt
-lasts_at_break k n place (Some call) h lasting = lasting
-
-answer_lasts : (p : Past) (step : Step) (reply : Reply) → MayAnswer p step reply → Known p → WaitLasts step.member (wait_after reply step.call (p.waits step.member)) (past_after p step reply).events
-answer_lasts p step (Refused Mismatch) may known =
-    lasts_at_break step.member step.member ((row_at p step).place step.member p.events) (p.waits step.member) p.events (known.lasting step.member)
-answer_lasts p step (Refused _) may known = known.lasting step.member
-answer_lasts p step Wait may known =
-    let row = row_at p step in
-    let s = row_is_sound (call_meant step.call (p.waits step.member)) in
-    lasts_own row s (is_resume step.call) step.member p (s.lasts (is_resume step.call) step.member p (unrefused_step_is_ready p step may.0 known) known.rule may.1)
-answer_lasts p step _ may known = tt
+-- of a call that is to wait
+pending_waiting : (row : Row) → IsSound row → (repeated : Bool) (m : ℕ) (p : Past) → Ready row repeated m p → row.stays ≡ true → AllFail (row.by_place p.terms.limits (seen_of m (events_after repeated row m p Wait)))
+pending_waiting row sound repeated m p ready stays =
+    subst (λ (h : List Event). AllFail (row.by_place p.terms.limits (seen_of m h))) (sym (still_there row sound stays repeated m p)) (ready.place (shown_first row repeated stays))
 
 wait_lasts_other : (row : Row) → IsSound row → (repeated : Bool) (members k m : ℕ) (p : Past) (reply : Reply) (waiting : Option Call) → (m == k) ≡ false → Always (TeamRule members) (events_after repeated row m p reply) → WaitLasts k waiting p.events →
     WaitLasts k waiting (events_after repeated row m p reply)
 wait_lasts_other row sound repeated members k m p reply None e rules lasting = tt
 wait_lasts_other row sound repeated members k m p reply (Some call) e rules lasting = lasts_other row sound repeated members k m p reply (row_of call) e rules lasting
-
-lasts_after : (p : Past) (step : Step) (reply : Reply) (k : ℕ) → MayAnswer p step reply → Known p → Always (TeamRule p.terms.members) (past_after p step reply).events → WaitLasts k ((past_after p step reply).waits k) (past_after p step reply).events
-lasts_after p step reply k may known rule =
-    elim (cases_Bool (step.member == k)) [
-      | inl e ↦ rw e (subst (λ (x : ℕ). WaitLasts x (wait_after reply step.call (p.waits x)) (past_after p step reply).events) (is_equal step.member k e) (answer_lasts p step reply may known))
-      | inr e ↦ rw e (wait_lasts_other (row_at p step) (row_is_sound (call_meant step.call (p.waits step.member))) (is_resume step.call) p.terms.members k step.member p reply (p.waits k) e rule (known.lasting k))
-    ]
 
 -- Arrivals
 
@@ -250,8 +244,8 @@ none_ahead members m g (Pass barrier member ∷ earlier) all lt =
     ]
 none_ahead members m g (_ ∷ earlier) all lt = none_ahead members m g earlier all.1 lt
 
-stays_fresh : (m : ℕ) (h now : List Event) → SameBarriers m h now → arrival (barriers_passed m h) m h ≡ None → arrival (barriers_passed m now) m now ≡ None
-stays_fresh m h now same none = rw same.number (same.arrivals (barriers_passed m h) ∙ none)
+stays_away : (m : ℕ) (h now : List Event) → SameBarriers m h now → IsAway m h → IsAway m now
+stays_away m h now same away = (rw same.number (same.arrivals (barriers_passed m h) ∙ away.0), same.waiting ∙ away.1)
 
 -- a stop breaks the team
 stop_breaks : (repeated : Bool) (m : ℕ) (p : Past) (reply : Reply) → stop_row.may_reply m (begun_past repeated stop_row m p) reply → clash_of (events_after repeated stop_row m p reply) ≡ None → ⊥
@@ -263,67 +257,188 @@ never_stopped p call waiting m reply stop =
     subst (λ (c : Call). (row_of (call_meant c waiting)).may_reply m (begun_past (is_resume c) (row_of (call_meant c waiting)) m p) reply → clash_of (events_after (is_resume c) (row_of (call_meant c waiting)) m p reply) ≡ None → ⊥)
     (sym stop) (stop_breaks false m p reply)
 
--- the events of a step that is not refused are those of its row
+-- a member that waited at no barrier does so after a call that does not arrive
 not_there : (p : Past) (step : Step) (reply : Reply) → refusal_of p step ≡ None → (row_at p step).may_reply step.member (begun_past (is_resume step.call) (row_at p step) step.member p) reply → Known p → is_some (row_at p step).arrives ≡ false →
-    clash_of (past_after p step reply).events ≡ None → arrival (barriers_passed step.member (past_after p step reply).events) step.member (past_after p step reply).events ≡ None
-not_there p step reply fine may known silent whole =
+    some_arrived (p.waits step.member).beneath ≡ false → clash_of (past_after p step reply).events ≡ None → IsAway step.member (past_after p step reply).events
+not_there p step reply fine may known silent under whole =
     let row = row_at p step in
-    let s = row_is_sound (call_meant step.call (p.waits step.member)) in
-    elim (repeats_or_stops step.call (p.waits step.member) (unrefused_step_passes p step fine).wait silent) [
-      | inl stop ↦ absurd (never_stopped p step.call (p.waits step.member) step.member reply stop may whole)
-      | inr quiet ↦ stays_fresh step.member p.events (past_after p step reply).events (barriers_own row s (is_resume step.call) step.member p reply silent)
-          (known.fresh step.member (was_whole row s (is_resume step.call) step.member p reply whole) quiet)
+    let waiting = (p.waits step.member).open_call in
+    let s = row_is_sound (call_meant step.call waiting) in
+    elim (repeats_or_stops step.call waiting (unrefused_step_passes p step fine).wait silent) [
+      | inl stop ↦ absurd (never_stopped p step.call waiting step.member reply stop may whole)
+      | inr quiet ↦ stays_away step.member p.events (past_after p step reply).events (barriers_own row s (is_resume step.call) step.member p reply silent)
+          ((known.each step.member).fresh (was_whole row s (is_resume step.call) step.member p reply whole) quiet under)
     ]
 
 passes_one : (same : Bool) → same ≡ true → (n : ℕ) → (if same then n + 1 else n) ≡ n + 1
 passes_one true e n = refl
 passes_one false e n = absurd (cc)
 
-pass_moves_on : (members m : ℕ) (h : List Event) → Always (TeamRule members) h → arrival (barriers_passed m (Pass (barriers_passed m h) m ∷ h)) m (Pass (barriers_passed m h) m ∷ h) ≡ None
+pass_moves_on : (members m : ℕ) (h : List Event) → Always (TeamRule members) h → IsAway m (Pass (barriers_passed m h) m ∷ h)
 pass_moves_on members m h all =
     let next : barriers_passed m (Pass (barriers_passed m h) m ∷ h) ≡ barriers_passed m h + 1 = passes_one (m == m) (same_number m) (barriers_passed m h) in
-    subst (λ (g : ℕ). arrival g m h ≡ None) (sym next) (none_ahead members m (barriers_passed m h + 1) h all (omega arith))
+    (subst (λ (g : ℕ). arrival g m h ≡ None) (sym next) (none_ahead members m (barriers_passed m h + 1) h all (omega arith)), rw (same_number m) refl)
 
-passed_there : (p : Past) (step : Step) → refusal_of p step ≡ None → Known p → is_some (row_at p step).arrives ≡ true →
-    arrival (barriers_passed step.member (past_after p step Passed).events) step.member (past_after p step Passed).events ≡ None
+passed_there : (p : Past) (step : Step) → refusal_of p step ≡ None → Known p → is_some (row_at p step).arrives ≡ true → IsAway step.member (past_after p step Passed).events
 passed_there p step fine known arrives =
     let q = begun_past (is_resume step.call) (row_at p step) step.member p in
-    let one = (row_is_sound (call_meant step.call (p.waits step.member))).one_pass arrives step.member q in
+    let one = (row_is_sound (call_meant step.call (p.waits step.member).open_call)).one_pass arrives step.member q in
     rw one (pass_moves_on p.terms.members step.member q.events (begun_rule p step fine known))
 
 -- a call that arrives is answered by no other reply
 never_so : (p : Past) (step : Step) (reply : Reply) {P : Type 0} → is_some (row_at p step).arrives ≡ true → (row_at p step).may_reply step.member (begun_past (is_resume step.call) (row_at p step) step.member p) reply →
-    (reply ≡ Passed → ⊥) → (reply ≡ Wait → ⊥) → P
+    (reply ≡ Passed → ⊥) → goes_on reply ≡ false → P
 never_so p step reply arrives may passes waits =
-    elim ((row_is_sound (call_meant step.call (p.waits step.member))).tells arrives step.member (begun_past (is_resume step.call) (row_at p step) step.member p) reply may) [
+    elim ((row_is_sound (call_meant step.call (p.waits step.member).open_call)).tells arrives step.member (begun_past (is_resume step.call) (row_at p step) step.member p) reply may) [
       | inl e ↦ absurd (passes e)
-      | inr e ↦ absurd (waits e)
+      | inr e ↦ absurd (let both = sym e ∙ waits in cc)
     ]
 
-answer_fresh : (p : Past) (step : Step) (reply : Reply) → MayAnswer p step reply → Known p → Fresh step.member (wait_after reply step.call (p.waits step.member)) (past_after p step reply).events
-answer_fresh p step (Refused Mismatch) may known = λ whole quiet. absurd (cc)
-answer_fresh p step (Refused _) may known = known.fresh step.member
-answer_fresh p step Wait may known = λ whole quiet. not_there p step Wait may.0 may.1 known quiet whole
-answer_fresh p step Passed may known = λ whole quiet.
+-- Tasks
+
+-- a call that runs a task adds it to its member's
+run_stack : (row : Row) → IsSound row → (repeated : Bool) (m : ℕ) (p : Past) (task code arg : ℕ) (own : Bool) → row.may_reply m (begun_past repeated row m p) (Run task code arg own) →
+    task_stack m (events_after repeated row m p (Run task code arg own)) ≡ task ∷ task_stack m p.events
+run_stack row sound repeated m p task code arg own may =
+    let q = begun_past repeated row m p in
+    ap (λ (events : List Event). task_stack m (events ++ q.events)) (sound.runs m q task code arg own may).5
+    ∙ started_stack m task q.events ∙ ap (λ (tasks : List ℕ). task ∷ tasks) (stack_begun row sound repeated m p)
+
+-- and one that ends a task takes off the innermost
+end_stack : (row : Row) → IsSound row → (repeated : Bool) (m : ℕ) (p : Past) (task : ℕ) (waiting : Bool) → row.may_reply m (begun_past repeated row m p) (TaskDone task waiting) →
+    task_stack m (events_after repeated row m p (TaskDone task waiting)) ≡ after_first (task_stack m p.events)
+end_stack row sound repeated m p task waiting may =
+    let q = begun_past repeated row m p in
+    ap (λ (events : List Event). task_stack m (events ++ q.events)) (sound.ends m q task waiting may).3
+    ∙ ended_stack m task q.events ∙ ap after_first (stack_begun row sound repeated m p)
+
+-- which it was
+pub ended_task : (row : Row) → IsSound row → (repeated : Bool) (m : ℕ) (p : Past) (task : ℕ) (waiting : Bool) → row.may_reply m (begun_past repeated row m p) (TaskDone task waiting) → executed_task m p.events ≡ Explicit task
+ended_task row sound repeated m p task waiting may =
+    ap (innermost_task m) (sym (stack_begun row sound repeated m p)) ∙ (sound.ends m (begun_past repeated row m p) task waiting may).2
+
+-- The waits after a step
+
+-- of its member, if the wait is closed
+known_when_closed : (p : Past) (step : Step) (reply : Reply) → is_run reply ≡ false → is_end reply ≡ false → Known p →
+    Fresh step.member (record { open_call = None; beneath = (p.waits step.member).beneath }) (past_after p step reply).events →
+    WaitKnown p.terms.limits step.member (record { open_call = None; beneath = (p.waits step.member).beneath }) (past_after p step reply).events
+known_when_closed p step reply run end known fresh = record {
+  pending = tt;
+  lasting = tt;
+  covers = subst (λ (tasks : List ℕ). Covers (p.waits step.member).beneath tasks)
+      (sym (stack_own (row_at p step) (row_is_sound (call_meant step.call (p.waits step.member).open_call)) (is_resume step.call) step.member p reply run end)) (known.each step.member).covers;
+  beneath = (known.each step.member).beneath;
+  fresh = fresh;
+}
+
+-- if it waits
+known_at_wait : (p : Past) (step : Step) → MayAnswer p step Wait → Known p → WaitKnown p.terms.limits step.member (waits_after Wait step.call (p.waits step.member)) (past_after p step Wait).events
+known_at_wait p step may known =
+    let row = row_at p step in
+    let repeated = is_resume step.call in
+    let s = row_is_sound (call_meant step.call (p.waits step.member).open_call) in
+    let ready = unrefused_step_is_ready p step may.0 known in record {
+      pending = pending_waiting row s repeated step.member p ready;
+      lasting = lasts_own row s repeated step.member p (s.lasts repeated step.member p ready known.rule may.1);
+      covers = subst (λ (tasks : List ℕ). Covers (p.waits step.member).beneath tasks) (sym (stack_own row s repeated step.member p Wait refl refl)) (known.each step.member).covers;
+      beneath = (known.each step.member).beneath;
+      fresh = λ whole quiet under. not_there p step Wait may.0 may.1 known quiet under whole;
+    }
+
+-- if it executes a task
+known_at_run : (p : Past) (step : Step) (task code arg : ℕ) → MayAnswer p step (Run task code arg false) → Known p →
+    WaitKnown p.terms.limits step.member (waits_after (Run task code arg false) step.call (p.waits step.member)) (past_after p step (Run task code arg false)).events
+known_at_run p step task code arg may known =
+    let row = row_at p step in
+    let repeated = is_resume step.call in
+    let m = step.member in
+    let q = begun_past repeated row m p in
+    let call = call_meant step.call (p.waits m).open_call in
+    let s = row_is_sound call in
+    let run = s.runs m q task code arg false may.1 in
+    let ready = unrefused_step_is_ready p step may.0 known in record {
+      pending = tt;
+      lasting = tt;
+      covers = subst (λ (tasks : List ℕ). Covers (call ∷ (p.waits m).beneath) tasks) (sym (run_stack row s repeated m p task code arg false may.1)) (known.each m).covers;
+      beneath = (
+        record {
+          moves = run.0;
+          holds = run.1;
+          outside = λ arrives. none_beneath m p known (outside_of_tasks ready arrives (s.outside arrives m p));
+          goes_on = (q, Run task code arg false, refl, may.1);
+        },
+        (known.each m).beneath,
+      );
+      fresh = λ whole quiet under.
+          let none = neither_holds (is_some row.arrives) (some_arrived (p.waits m).beneath) under in
+          not_there p step (Run task code arg false) may.0 may.1 known none.0 none.1 whole;
+    }
+
+-- if it has ended one
+known_at_end : (p : Past) (step : Step) (task : ℕ) → MayAnswer p step (TaskDone task true) → Known p →
+    WaitKnown p.terms.limits step.member (waits_after (TaskDone task true) step.call (p.waits step.member)) (past_after p step (TaskDone task true)).events
+known_at_end p step task may known =
+    let row = row_at p step in
+    let repeated = is_resume step.call in
+    let m = step.member in
+    let s = row_is_sound (call_meant step.call (p.waits m).open_call) in
+    let old = known.each m in
+    wait_opens_again p.terms.limits m task (past_after p step (TaskDone task true)).events (p.waits m).beneath (task_stack m p.events)
+    (ended_task row s repeated m p task true may.1) old.covers old.beneath (end_stack row s repeated m p task true may.1)
+    (λ whole under. not_there p step (TaskDone task true) may.0 may.1 known (s.ends m (begun_past repeated row m p) task true may.1).0 under whole)
+
+answer_known : (p : Past) (step : Step) (reply : Reply) → MayAnswer p step reply → Known p → WaitKnown p.terms.limits step.member (waits_after reply step.call (p.waits step.member)) (past_after p step reply).events
+answer_known p step (Refused Mismatch) may known =
+    let old = known.each step.member in record {
+      pending = pending_same p.terms.limits step.member (p.waits step.member).open_call p.events (past_after p step (Refused Mismatch)).events refl old.pending;
+      lasting = lasts_at_break step.member step.member ((row_at p step).place step.member p.events) (p.waits step.member).open_call p.events old.lasting;
+      covers = old.covers;
+      beneath = old.beneath;
+      fresh = λ whole quiet under. absurd (cc);
+    }
+answer_known p step (Refused _) may known = known.each step.member
+answer_known p step Wait may known = known_at_wait p step may known
+answer_known p step (Run task code arg false) may known = known_at_run p step task code arg may known
+answer_known p step (Run task code arg true) may known =
+    absurd (let own = ((row_is_sound (call_meant step.call (p.waits step.member).open_call)).runs step.member (begun_past (is_resume step.call) (row_at p step) step.member p) task code arg true may.1).2 in cc)
+answer_known p step (TaskDone task true) may known = known_at_end p step task may known
+answer_known p step (TaskDone task false) may known =
+    absurd (let waiting = ((row_is_sound (call_meant step.call (p.waits step.member).open_call)).ends step.member (begun_past (is_resume step.call) (row_at p step) step.member p) task false may.1).1 in cc)
+answer_known p step Passed may known =
+    known_when_closed p step Passed refl refl known (λ whole quiet under.
     elim (cases_Bool (is_some (row_at p step).arrives)) [
       | inl arrives ↦ passed_there p step may.0 known arrives
-      | inr silent ↦ not_there p step Passed may.0 may.1 known silent whole
-    ]
-answer_fresh p step reply may known = λ whole quiet.
+      | inr silent ↦ not_there p step Passed may.0 may.1 known silent under whole
+    ])
+answer_known p step reply may known =
+    known_when_closed p step reply refl refl known (λ whole quiet under.
     elim (cases_Bool (is_some (row_at p step).arrives)) [
-      | inl arrives ↦ never_so p step reply arrives may.1 (λ e. cc) (λ e. cc)
-      | inr silent ↦ not_there p step reply may.0 may.1 known silent whole
-    ]
+      | inl arrives ↦ never_so p step reply arrives may.1 (λ e. cc) refl
+      | inr silent ↦ not_there p step reply may.0 may.1 known silent under whole
+    ])
 
-fresh_after : (p : Past) (step : Step) (reply : Reply) (k : ℕ) → MayAnswer p step reply → Known p → Fresh k ((past_after p step reply).waits k) (past_after p step reply).events
-fresh_after p step reply k may known =
+-- of another member
+other_known : (p : Past) (step : Step) (reply : Reply) (k : ℕ) → (step.member == k) ≡ false → Always (TeamRule p.terms.members) (past_after p step reply).events → Known p → WaitKnown p.terms.limits k (p.waits k) (past_after p step reply).events
+other_known p step reply k e rule known =
+    let row = row_at p step in
+    let repeated = is_resume step.call in
+    let s = row_is_sound (call_meant step.call (p.waits step.member).open_call) in
+    let now = (past_after p step reply).events in
+    let old = known.each k in record {
+      pending = pending_same p.terms.limits k (p.waits k).open_call p.events now (seen_other row s repeated k step.member p reply e) old.pending;
+      lasting = wait_lasts_other row s repeated p.terms.members k step.member p reply (p.waits k).open_call e rule old.lasting;
+      covers = subst (λ (tasks : List ℕ). Covers (p.waits k).beneath tasks) (sym (stack_other row s repeated k step.member p reply e)) old.covers;
+      beneath = old.beneath;
+      fresh = λ whole quiet under. stays_away k p.events now (barriers_other row s repeated k step.member p reply e) (old.fresh (was_whole row s repeated step.member p reply whole) quiet under);
+    }
+
+-- of each
+waits_known : (p : Past) (step : Step) (reply : Reply) (k : ℕ) → MayAnswer p step reply → Known p → Always (TeamRule p.terms.members) (past_after p step reply).events → WaitKnown p.terms.limits k ((past_after p step reply).waits k) (past_after p step reply).events
+waits_known p step reply k may known rule =
     elim (cases_Bool (step.member == k)) [
-      | inl e ↦ rw e (subst (λ (x : ℕ). Fresh x (wait_after reply step.call (p.waits x)) (past_after p step reply).events) (is_equal step.member k e) (answer_fresh p step reply may known))
-      | inr e ↦
-          let row = row_at p step in
-          let s = row_is_sound (call_meant step.call (p.waits step.member)) in
-          rw e (λ whole quiet. stays_fresh k p.events (past_after p step reply).events (barriers_other row s (is_resume step.call) k step.member p reply e)
-          (known.fresh k (was_whole row s (is_resume step.call) step.member p reply whole) quiet))
+      | inl e ↦ rw e (subst (λ (x : ℕ). WaitKnown p.terms.limits x (waits_after reply step.call (p.waits x)) (past_after p step reply).events) (is_equal step.member k e) (answer_known p step reply may known))
+      | inr e ↦ rw e (other_known p step reply k e rule known)
     ]
 
 -- The words of singles
@@ -342,7 +457,7 @@ answer_words p step (Refused Mismatch) may known rule = λ k i own at single pie
 answer_words p step (Refused _) may known rule = known.words
 answer_words p step reply may known rule =
     let row = row_at p step in
-    let s = row_is_sound (call_meant step.call (p.waits step.member)) in
+    let s = row_is_sound (call_meant step.call (p.waits step.member).open_call) in
     elim (cases_Bool row.puts) [
       | inl puts ↦ s.words_keep puts (is_resume step.call) step.member p reply (unrefused_step_is_ready p step may.0 known) may.1 known.rule
       | inr none ↦ words_kept_by_row p.terms.members row s (is_resume step.call) step.member p reply none rule known.words
@@ -351,17 +466,16 @@ answer_words p step reply may known rule =
 -- one more step
 pub known_after : (p : Past) (step : Step) (reply : Reply) → MayAnswer p step reply → Known p → Known (past_after p step reply)
 known_after p step reply may known =
-    let rule = answer_rule p step reply may known in record {
-      rule = rule;
-      pending = λ k. pending_after p step reply k may known;
-      lasting = λ k. lasts_after p step reply k may known rule;
-      fresh = λ k. fresh_after p step reply k may known;
-      words = answer_words p step reply may known rule;
-    }
+    let rule = answer_rule p step reply may known in
+    record { rule = rule; each = λ k. waits_known p step reply k may known rule; words = answer_words p step reply may known rule }
 
 -- of a new team
 pub known_first : (terms : Terms) → Known (before_all terms)
-known_first terms = record { rule = tt; pending = λ k. tt; lasting = λ k. tt; fresh = λ k whole quiet. refl; words = λ k i shape at single piece. absurd (cc) }
+known_first terms = record {
+  rule = tt;
+  each = λ k. record { pending = tt; lasting = tt; covers = tt; beneath = tt; fresh = λ whole quiet under. (refl, refl) };
+  words = λ k i shape at single piece. absurd (cc);
+}
 
 -- and of each record whose replies have their causes
 pub known_of : (terms : Terms) (run : Record) → Caused terms run → Known (past_of terms run)

@@ -1,5 +1,6 @@
 pub mod Arrivals
 pub mod AtOnce
+pub mod Awaits
 pub mod Calls
 pub mod CallsKeep
 pub mod ChunksCount
@@ -29,6 +30,11 @@ pub mod Singles
 pub mod SomeReply
 pub mod Sound
 pub mod Starts
+pub mod TaskClauseExamples
+pub mod TaskReplies
+pub mod TaskReplyExamples
+pub mod Tasks
 pub mod TeamKeeps
 pub mod TeamShares
+pub mod Waiting
 pub mod WordsToCome

@@ -24,7 +24,7 @@ use Rattle.gomp_model.specs.CriticalNames.{is_held, is_freed, held_once}
 use Rattle.gomp_model.specs.Locks.{init_row, destroy_row, set_row, test_row, unset_row, set_nest_row, test_nest_row, unset_nest_row}
 use Rattle.gomp_locks.proofs.HoldsKeep.{held_at_least_once}
 use Rattle.gomp_laws.proofs.Sound.{IsSound}
-use Rattle.gomp_laws.proofs.HeldRows.{IsBookReply, finished_is_one, asked_first, held_given, freed_given, hold_keeps, free_keeps, apart_by_owner, apart_counts_none, another_counts_none, found_as_held, lock_is_found, held_counts_more, unheld_counts_same, freed_counts_less, held_row_sound}
+use Rattle.gomp_laws.proofs.HeldRows.{IsBookReply, finished_is_one, asked_first, held_given, freed_given, hold_keeps, free_keeps, unheld_counts_none, another_counts_none, found_as_held, lock_is_found, held_counts_more, unheld_counts_same, freed_counts_less, held_row_sound}
 
 -- Making and destroying
 
@@ -35,7 +35,7 @@ one_made made _ b x y = absurd x
 
 pub init_sound : (kind : LockKind) → IsSound (init_row kind)
 init_sound kind = record {
-  decided = λ m p a b x y. one_made (length p.locks) a b x y;
+  decided = λ m p a b x y. inl (one_made (length p.locks) a b x y);
   accepts = λ m p refusal x. x;
   answered = λ repeated m p ready all. (LockMade (length p.locks), refl);
   counts = λ repeated m p first count ready all may. absurd may;
@@ -44,18 +44,24 @@ init_sound kind = record {
   begins_keep = λ m p ready all. all;
   gives_keep = λ repeated m p reply ready may all. all;
   still = λ stays m p. absurd (cc);
+  outside = λ arrives m p fail. absurd (cc);
   tells = λ arrives m p reply may. absurd (cc);
   one_pass = λ arrives m p. absurd (cc);
+  arrives_there = λ arrives m p. absurd (cc);
+  waits_quietly = λ arrives m p. absurd (cc);
   lasts = λ repeated m p ready all may. absurd may;
   waits_for = λ key m p at may. absurd may;
   tells_count = λ key repeated m count p at ready all may. absurd may;
-  no_memory = λ m p. (refl, refl, refl, λ repeated. refl);
+  runs = λ m p task code arg own may. absurd may;
+  ends = λ m p task waiting may. absurd may;
+  created = λ repeated m p task ready may. absurd may;
+  no_memory = λ m p. (refl, refl, refl, refl, λ repeated. refl);
   words_keep = λ puts repeated m p reply ready may all. absurd (cc);
 }
 
 pub destroy_sound : (number : ℕ) → IsSound (destroy_row number)
 destroy_sound number = record {
-  decided = λ m p a b x y. x ∙ sym y;
+  decided = λ m p a b x y. inl (x ∙ sym y);
   accepts = λ m p refusal x. cc;
   answered = λ repeated m p ready all. (Finished, refl);
   counts = λ repeated m p first count ready all may. absurd (cc);
@@ -64,12 +70,18 @@ destroy_sound number = record {
   begins_keep = λ m p ready all. all;
   gives_keep = λ repeated m p reply ready may all. all;
   still = λ stays m p. absurd (cc);
+  outside = λ arrives m p fail. absurd (cc);
   tells = λ arrives m p reply may. absurd (cc);
   one_pass = λ arrives m p. absurd (cc);
+  arrives_there = λ arrives m p. absurd (cc);
+  waits_quietly = λ arrives m p. absurd (cc);
   lasts = λ repeated m p ready all may. absurd (cc);
   waits_for = λ key m p at may. absurd (cc);
   tells_count = λ key repeated m count p at ready all may. absurd (cc);
-  no_memory = λ m p. (refl, refl, refl, λ repeated. refl);
+  runs = λ m p task code arg own may. absurd (cc);
+  ends = λ m p task waiting may. absurd (cc);
+  created = λ repeated m p task ready may. absurd (cc);
+  no_memory = λ m p. (refl, refl, refl, refl, λ repeated. refl);
   words_keep = λ puts repeated m p reply ready may all. absurd (cc);
 }
 
@@ -123,13 +135,12 @@ set_sound number = held_row_sound (Lock number) (set_row number) (record {
   keep = λ repeated m p reply ready may all.
       let found = lock_is_found Simple number p ready.missing in
       let sets = subst (λ (f : Option (Option Held)). SetsLock f reply) found may in
-      hold_keeps p.terms.members m (Lock number) (is_held reply) p.events ready.member (set_is_free (holder (Lock number) p.events) reply sets) all;
-  apart = λ repeated m p ready tasks may.
+      hold_keeps p.terms.members m (Lock number) (is_held reply) p.events ready.member (ready.away refl) (set_is_free (holder (Lock number) p.events) reply sets) all;
+  apart = λ repeated m p ready may.
       let found = lock_is_found Simple number p ready.missing in
       elim (cases_Bool repeated) [
         | inl e ↦ (ready.lasting e).1 (Lock number) refl
-        | inr e ↦ apart_by_owner m p.events (holder (Lock number) p.events) tasks
-            (ap (λ (f : Option (Option Held)). held_by (asker m p.events) (option_flatten f)) (sym found) ∙ (ready.team e).0)
+        | inr e ↦ ap (λ (f : Option (Option Held)). held_by (asker m p.events) (option_flatten f)) (sym found) ∙ (ready.team e).0
       ];
   waits_for = λ m p may.
       let waits = set_waits (found_lock Simple number p.locks p.events) may in
@@ -174,8 +185,8 @@ test_sound number = held_row_sound (Lock number) (test_row number) (record {
   keep = λ repeated m p reply ready may all.
       let found = lock_is_found Simple number p ready.missing in
       let tests = subst (λ (f : Option (Option Held)). TestsLock f reply) found may in
-      hold_keeps p.terms.members m (Lock number) (is_held reply) p.events ready.member (test_is_free (holder (Lock number) p.events) reply tests) all;
-  apart = λ repeated m p ready tasks may. test_waits (found_lock Simple number p.locks p.events) may;
+      hold_keeps p.terms.members m (Lock number) (is_held reply) p.events ready.member (ready.away refl) (test_is_free (holder (Lock number) p.events) reply tests) all;
+  apart = λ repeated m p ready may. test_waits (found_lock Simple number p.locks p.events) may;
   waits_for = λ m p may. test_waits (found_lock Simple number p.locks p.events) may;
   tells_count = λ repeated m count p ready may. test_counts_none (found_lock Simple number p.locks p.events) count may;
   no_memory = λ m p. (refl, refl);
@@ -193,9 +204,9 @@ unset_sound number = held_row_sound (Lock number) (unset_row number) (record {
   given = λ m p reply. freed_given (Lock number) m reply p.events;
   keep = λ repeated m p reply ready may all.
       let found = lock_is_found Simple number p ready.missing in
-      let fail = asked_first (unset_row number) repeated m p (λ q waits. cc) ready in
+      let fail = asked_first (unset_row number) repeated m p (λ q given may. finished_is_one given may) (λ q waits. cc) ready in
       free_keeps p.terms.members m (Lock number) (is_freed reply) p.events (unset_by_holder (asker m p.events) (holder (Lock number) p.events) (found_lock Simple number p.locks p.events) found fail) all;
-  apart = λ repeated m p ready tasks may. absurd (cc);
+  apart = λ repeated m p ready may. absurd (cc);
   waits_for = λ m p may. absurd (cc);
   tells_count = λ repeated m count p ready may. absurd (cc);
   no_memory = λ m p. (refl, refl);
@@ -274,13 +285,13 @@ set_nest_sound number = held_row_sound (NestLock number) (set_nest_row number) (
       let sets = subst (λ (f : Option (Option Held)). SetsNest (asker m p.events) f reply) found may in
       let below : nat_le MAX_COUNT (count_for (asker m p.events) (holder (NestLock number) p.events)) ≡ false =
       elim (cases_Bool repeated) [
-        | inl e ↦ rw (apart_counts_none m p.events (holder (NestLock number) p.events) ((ready.lasting e).1 (NestLock number) refl)) refl
+        | inl e ↦ rw (unheld_counts_none (asker m p.events) (holder (NestLock number) p.events) ((ready.lasting e).1 (NestLock number) refl)) refl
         | inr e ↦ count_is_below (asker m p.events) (holder (NestLock number) p.events) (found_lock Nest number p.locks p.events) found (ready.team e)
       ] in
-      hold_keeps p.terms.members m (NestLock number) (is_held reply) p.events ready.member (nest_set_may number (asker m p.events) (holder (NestLock number) p.events) reply below sets) all;
-  apart = λ repeated m p ready tasks may.
+      hold_keeps p.terms.members m (NestLock number) (is_held reply) p.events ready.member (ready.away refl) (nest_set_may number (asker m p.events) (holder (NestLock number) p.events) reply below sets) all;
+  apart = λ repeated m p ready may.
       let differ = subst (λ (f : Option (Option Held)). SetsNest (asker m p.events) f Wait) (lock_is_found Nest number p ready.missing) may in
-      apart_by_owner m p.events (holder (NestLock number) p.events) tasks (another_holds_it (asker m p.events) (holder (NestLock number) p.events) differ);
+      another_holds_it (asker m p.events) (holder (NestLock number) p.events) differ;
   waits_for = λ m p may.
       let waits = nest_set_waits (asker m p.events) (found_lock Nest number p.locks p.events) may in
       (waits.0, found_as_held Nest (slice_get p.locks number) (holder (NestLock number) p.events) (Some waits.0) waits.1);
@@ -334,10 +345,10 @@ test_nest_sound number = held_row_sound (NestLock number) (test_nest_row number)
   keep = λ repeated m p reply ready may all.
       let found = lock_is_found Nest number p ready.missing in
       let tests = subst (λ (f : Option (Option Held)). TestsNest (asker m p.events) f reply) found may in
-      let fail = asked_first (test_nest_row number) repeated m p (λ q waits. nest_test_waits (asker m q.events) (found_lock Nest number q.locks q.events) waits) ready in
+      let fail = asked_first (test_nest_row number) repeated m p (λ q given may. nest_test_by_book (asker m q.events) (found_lock Nest number q.locks q.events) given may) (λ q waits. nest_test_waits (asker m q.events) (found_lock Nest number q.locks q.events) waits) ready in
       let below = count_is_below (asker m p.events) (holder (NestLock number) p.events) (found_lock Nest number p.locks p.events) found fail in
-      hold_keeps p.terms.members m (NestLock number) (is_held reply) p.events ready.member (nest_test_may number (asker m p.events) (holder (NestLock number) p.events) reply below tests) all;
-  apart = λ repeated m p ready tasks may. nest_test_waits (asker m p.events) (found_lock Nest number p.locks p.events) may;
+      hold_keeps p.terms.members m (NestLock number) (is_held reply) p.events ready.member (ready.away refl) (nest_test_may number (asker m p.events) (holder (NestLock number) p.events) reply below tests) all;
+  apart = λ repeated m p ready may. nest_test_waits (asker m p.events) (found_lock Nest number p.locks p.events) may;
   waits_for = λ m p may. nest_test_waits (asker m p.events) (found_lock Nest number p.locks p.events) may;
   tells_count = λ repeated m count p ready may.
       nest_test_counts number m count p.events (subst (λ (f : Option (Option Held)). TestsNest (asker m p.events) f (Count count)) (lock_is_found Nest number p ready.missing) may);
@@ -369,16 +380,16 @@ unset_nest_sound number = held_row_sound (NestLock number) (unset_nest_row numbe
   by_book = λ m p reply may. nest_unset_by_book (asker m p.events) (found_lock Nest number p.locks p.events) reply may;
   answered = λ repeated m p ready all.
       let found = lock_is_found Nest number p ready.missing in
-      let fail = asked_first (unset_nest_row number) repeated m p (λ q waits. nest_unset_waits (asker m q.events) (found_lock Nest number q.locks q.events) waits) ready in
+      let fail = asked_first (unset_nest_row number) repeated m p (λ q given may. nest_unset_by_book (asker m q.events) (found_lock Nest number q.locks q.events) given may) (λ q waits. nest_unset_waits (asker m q.events) (found_lock Nest number q.locks q.events) waits) ready in
       let owned = unset_by_holder (asker m p.events) (holder (NestLock number) p.events) (found_lock Nest number p.locks p.events) found fail in
       subst (λ (f : Option (Option Held)). (reply : Reply) × UnsetsNest (asker m p.events) f reply) (sym found)
       (some_nest_unset (asker m p.events) (holder (NestLock number) p.events) owned (λ one at. held_at_least_once (NestLock number) one p.events all at));
   given = λ m p reply. freed_given (NestLock number) m reply p.events;
   keep = λ repeated m p reply ready may all.
       let found = lock_is_found Nest number p ready.missing in
-      let fail = asked_first (unset_nest_row number) repeated m p (λ q waits. nest_unset_waits (asker m q.events) (found_lock Nest number q.locks q.events) waits) ready in
+      let fail = asked_first (unset_nest_row number) repeated m p (λ q given may. nest_unset_by_book (asker m q.events) (found_lock Nest number q.locks q.events) given may) (λ q waits. nest_unset_waits (asker m q.events) (found_lock Nest number q.locks q.events) waits) ready in
       free_keeps p.terms.members m (NestLock number) (is_freed reply) p.events (unset_by_holder (asker m p.events) (holder (NestLock number) p.events) (found_lock Nest number p.locks p.events) found fail) all;
-  apart = λ repeated m p ready tasks may. nest_unset_waits (asker m p.events) (found_lock Nest number p.locks p.events) may;
+  apart = λ repeated m p ready may. nest_unset_waits (asker m p.events) (found_lock Nest number p.locks p.events) may;
   waits_for = λ m p may. nest_unset_waits (asker m p.events) (found_lock Nest number p.locks p.events) may;
   tells_count = λ repeated m count p ready may.
       freed_counts_less m (NestLock number) count p.events (subst (λ (f : Option (Option Held)). UnsetsNest (asker m p.events) f (Count count)) (lock_is_found Nest number p ready.missing) may);

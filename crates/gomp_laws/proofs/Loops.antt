@@ -8,9 +8,8 @@ use Rattle.std.proofs.lemmas.Bool.{cases_Bool}
 use Rattle.gomp_types.specs.declared.loop_desc.LoopDesc.{LoopDesc}
 use Rattle.gomp_types.specs.declared.loop_desc.EndKind.{EndKind}
 use Rattle.gomp_types.specs.declared.loop_desc.EndKind.TheVariants.{Wait as WaitEnd, Nowait}
-use Rattle.gomp_types.specs.declared.refusal.Refusal.{Refusal}
 use Rattle.gomp_types.specs.declared.reply.Reply.{Reply}
-use Rattle.gomp_types.specs.declared.reply.Reply.TheVariants.{Chunk, NoChunk, Wait, Refused}
+use Rattle.gomp_types.specs.declared.reply.Reply.TheVariants.{Chunk, NoChunk, Wait, Created, Run, TaskDone, Refused}
 use Rattle.gomp_types.specs.declared.shape.Shape.{Shape}
 use Rattle.gomp_types.specs.declared.shape.ShareKind.{ShareKind}
 use Rattle.gomp_types.specs.declared.shape.ShareKind.TheVariants as kinds
@@ -38,7 +37,7 @@ use Rattle.gomp_shares.specs.Loops.{IsChunk, end_tests, DealsOut, DealsNext, pie
 use Rattle.gomp_model.specs.Loops.{loop_start_row, loop_next_row, loop_end_row, loop_end_nowait_row}
 use Rattle.gomp_laws.proofs.Sound.{AreOwn, own_append, own_given, is_wait, IsSound, quiet, outside_lasts}
 use Rattle.gomp_laws.proofs.CallsKeep.{regroup_rules}
-use Rattle.gomp_laws.proofs.Starts.{IsDeal, start_sound}
+use Rattle.gomp_laws.proofs.Starts.{IsShareReply, IsDeal, start_sound}
 use Rattle.gomp_laws.proofs.Arrivals.{IsEnd, end_sound, end_arrival_sound}
 
 same_chunk : (shape : Shape) (next : Option Piece) (f g : ℤ) (c d : ℕ) → IsChunk shape next f c → IsChunk shape next g d → Chunk f c ≡ Chunk g d
@@ -70,13 +69,16 @@ one_next members m (Some share) Wait _ h x y = absurd (not_both (must_wait membe
 one_next members m (Some share) _ Wait h x y = absurd (not_both (must_wait members share m h) y x.0)
 one_next members m (Some share) a b h x y = one_dealt members m (Some share) a b h x.1 y.1
 
-dealt_accepts : (members m : ℕ) (own : Option (ℕ × Shape)) (refusal : Refusal) (h : List Event) → DealsOut members m own (Refused refusal) h → ⊥
-dealt_accepts members m None refusal h x = x
-dealt_accepts members m (Some share) refusal h x = x
+dealt_by_share : (members m : ℕ) (own : Option (ℕ × Shape)) (reply : Reply) (h : List Event) → DealsOut members m own reply h → IsShareReply reply
+dealt_by_share members m None reply h x = absurd x
+dealt_by_share members m (Some share) (Chunk first count) h x = tt
+dealt_by_share members m (Some share) NoChunk h x = tt
+dealt_by_share members m (Some share) _ h x = absurd x
 
-next_accepts : (members m : ℕ) (own : Option (ℕ × Shape)) (refusal : Refusal) (h : List Event) → DealsNext members m own (Refused refusal) h → ⊥
-next_accepts members m None refusal h x = x
-next_accepts members m (Some share) refusal h x = x.1
+next_by_share : (members m : ℕ) (own : Option (ℕ × Shape)) (reply : Reply) (h : List Event) → DealsNext members m own reply h → IsShareReply reply
+next_by_share members m None reply h x = absurd x
+next_by_share members m (Some share) Wait h x = tt
+next_by_share members m (Some share) reply h x = dealt_by_share members m (Some share) reply h x.1
 
 piece_own : (share : ℕ) (shape : Shape) (m : ℕ) (reply : Reply) → AreOwn quiet m (piece_given share shape m reply)
 piece_own share shape m (Chunk first count) = (refl, tt)
@@ -225,7 +227,7 @@ incr_nonzero incr fine = λ zero. grind (arith, ints, nat_tests, fine, zero)
 loop_deal : (loop : LoopDesc) → IsDeal (loop_tests loop) (shape_of loop) DealsOut piece_given
 loop_deal loop = record {
   one = one_dealt;
-  accepts = dealt_accepts;
+  by_share = dealt_by_share;
   some = λ members m share h lt fail. let found = deals_some members m (share, shape_of loop) h lt (schedule_deals members (shape_of loop) (omega arith) (chunk_some loop.chunk)) in (found.0, found.2);
   counts = λ members m share first count h lt may. dealt_counts members m (share, shape_of loop) first count h lt (schedule_deals members (shape_of loop) (omega arith) (chunk_some loop.chunk)) may;
   still = λ share m. refl;
@@ -242,8 +244,8 @@ loop_start_sound loop = start_sound true (loop_tests loop) (shape_of loop) Deals
 
 pub loop_next_sound : IsSound loop_next_row
 loop_next_sound = record {
-  decided = λ m p a b x y. one_next p.terms.members m (open_share m p.events) a b p.events x y;
-  accepts = λ m p refusal x. next_accepts p.terms.members m (open_share m p.events) refusal p.events x;
+  decided = λ m p a b x y. inl (one_next p.terms.members m (open_share m p.events) a b p.events x y);
+  accepts = λ m p refusal x. next_by_share p.terms.members m (open_share m p.events) (Refused refusal) p.events x;
   answered = λ repeated m p ready all. next_some p.terms.members m p.events (open_share m p.events) refl (ready.place refl).0 all;
   counts = λ repeated m p first count ready all may. next_counts p.terms.members m p.events (open_share m p.events) first count refl all may;
   begins_own = λ m p. tt;
@@ -251,12 +253,18 @@ loop_next_sound = record {
   begins_keep = λ m p ready all. all;
   gives_keep = λ repeated m p reply ready may all. next_keeps p.terms.members m reply p.events (open_share m p.events) refl (ready.place refl).1.0 may all;
   still = λ stays m p. (refl, next_still p.terms.members (open_share m p.events) m p.events);
+  outside = λ arrives m p fail. absurd (cc);
   tells = λ arrives m p reply may. absurd (cc);
   one_pass = λ arrives m p. absurd (cc);
-  lasts = λ repeated m p ready all may. outside_lasts ready refl refl (λ fail. fail.0) may;
+  arrives_there = λ arrives m p. absurd (cc);
+  waits_quietly = λ arrives m p. absurd (cc);
+  lasts = λ repeated m p ready all may. outside_lasts ready refl (λ arrives fail. fail.0) may;
   waits_for = λ key m p holds may. absurd (cc);
   tells_count = λ key repeated m count p holds ready all may. absurd (cc);
-  no_memory = λ m p. (refl, refl, refl, λ repeated. refl);
+  runs = λ m p task code arg own may. absurd (next_by_share p.terms.members m (open_share m p.events) (Run task code arg own) p.events may);
+  ends = λ m p task waiting may. absurd (next_by_share p.terms.members m (open_share m p.events) (TaskDone task waiting) p.events may);
+  created = λ repeated m p task ready may. absurd (next_by_share p.terms.members m (open_share m p.events) (Created task) p.events may);
+  no_memory = λ m p. (refl, refl, refl, refl, λ repeated. refl);
   words_keep = λ puts repeated m p reply ready may all. absurd (cc);
 }
 

@@ -1,4 +1,4 @@
--- At most one reply to a step has its cause, save for want of memory.
+-- At most one reply to a step has its cause, save for which task is run, and for want of memory.
 use Rattle.std.proofs.Common.{◌≡◌, Bool, Option, Some, None, refl, ap, sym, ◌∙◌, inl, inr}
 use Rattle.std.specs.Prelude.{◌⊎◌}
 use Rattle.gomp_types.specs.declared.call.Step.{Step}
@@ -10,6 +10,7 @@ use Rattle.gomp_model.specs.Past.{Past}
 use Rattle.gomp_model.specs.Row.{begun_past}
 use Rattle.gomp_model.specs.Calls.{row_of}
 use Rattle.gomp_model.specs.Team.{call_meant, is_resume, row_at, refusal_of, MayRefuse, MayAnswer, OneReply}
+use Rattle.gomp_laws.proofs.Sound.{Same}
 use Rattle.gomp_laws.proofs.Calls.{row_is_sound}
 
 -- a refusal is want of memory, or that of the tests
@@ -24,16 +25,21 @@ only_memory first refusal asks x fine =
 one_refusal : (first : Option Refusal) (p q : Refusal) (asks : Bool) → MayRefuse first p asks → MayRefuse first q asks → OneReply (Refused p) (Refused q)
 one_refusal first p q asks x y =
     elim (refused_by first p asks x) [
-      | inl e ↦ inr (inl (ap Refused e))
+      | inl e ↦ inr (inr (inl (ap Refused e)))
       | inr e ↦ elim (refused_by first q asks y) [
-        | inl f ↦ inr (inr (ap Refused f))
+        | inl f ↦ inr (inr (inr (ap Refused f)))
         | inr f ↦ inl (let same : Some p ≡ Some q = sym e ∙ f in cc)
       ]
     ]
 
+-- what two answers of a row are to each other
+one_of_same : (a b : Reply) → Same a b → OneReply a b
+one_of_same a b (inl e) = inl e
+one_of_same a b (inr run) = inr (inl run)
+
 pub one_answer : (p : Past) (step : Step) (a b : Reply) → MayAnswer p step a → MayAnswer p step b → OneReply a b
 one_answer p step (Refused x) (Refused y) may other = one_refusal (refusal_of p step) x y (row_of step.call).memory may other
-one_answer p step (Refused x) b may other = inr (inl (ap Refused (only_memory (refusal_of p step) x (row_of step.call).memory may other.0)))
-one_answer p step a (Refused y) may other = inr (inr (ap Refused (only_memory (refusal_of p step) y (row_of step.call).memory other may.0)))
+one_answer p step (Refused x) b may other = inr (inr (inl (ap Refused (only_memory (refusal_of p step) x (row_of step.call).memory may other.0))))
+one_answer p step a (Refused y) may other = inr (inr (inr (ap Refused (only_memory (refusal_of p step) y (row_of step.call).memory other may.0))))
 one_answer p step a b may other =
-    inl ((row_is_sound (call_meant step.call (p.waits step.member))).decided step.member (begun_past (is_resume step.call) (row_at p step) step.member p) a b may.1 other.1)
+    one_of_same a b ((row_is_sound (call_meant step.call (p.waits step.member).open_call)).decided step.member (begun_past (is_resume step.call) (row_at p step) step.member p) a b may.1 other.1)

@@ -2,9 +2,8 @@
 use Rattle.std.proofs.Common.{◌≡◌, ℕ, ◌<◌, true, false, List, [], ◌++◌, Option, Some, None, refl, inl, inr}
 use Rattle.std.specs.Prelude.{ℤ, not}
 use Rattle.std.proofs.lemmas.Bool.{cases_Bool}
-use Rattle.gomp_types.specs.declared.refusal.Refusal.{Refusal}
 use Rattle.gomp_types.specs.declared.reply.Reply.{Reply}
-use Rattle.gomp_types.specs.declared.reply.Reply.TheVariants.{Chunk, Finished, Wait, Refused}
+use Rattle.gomp_types.specs.declared.reply.Reply.TheVariants.{Chunk, Finished, Wait, Created, Run, TaskDone, Refused}
 use Rattle.gomp_types.specs.declared.shape.Shape.{Shape}
 use Rattle.gomp_types.specs.declared.event.Event.{Event}
 use Rattle.gomp_types.specs.Events.{in_kind, share_number, open_share, last_piece, next_part, in_part}
@@ -20,6 +19,7 @@ use Rattle.gomp_laws.proofs.TeamShares.{share_rules}
 use Rattle.gomp_shares.specs.OrderedParts.{BeginsPart, part_given, part_end_tests, part_end_events}
 use Rattle.gomp_model.specs.OrderedParts.{ordered_start_row, ordered_end_row}
 use Rattle.gomp_laws.proofs.AtOnce.{at_once_sound}
+use Rattle.gomp_laws.proofs.Starts.{IsShareReply}
 use Rattle.gomp_laws.proofs.Sound.{AreGiven, IsSound, quiet, outside_lasts}
 
 one_part : (members m : ℕ) (own : Option (ℕ × Shape)) (a b : Reply) (h : List Event) → BeginsPart members m own a h → BeginsPart members m own b h → a ≡ b
@@ -32,9 +32,11 @@ one_part members m (Some share) Finished _ h x y = absurd y
 one_part members m (Some share) Wait _ h x y = absurd y
 one_part members m (Some share) _ b h x y = absurd x
 
-part_accepts : (members m : ℕ) (own : Option (ℕ × Shape)) (refusal : Refusal) (h : List Event) → BeginsPart members m own (Refused refusal) h → ⊥
-part_accepts members m None refusal h x = x
-part_accepts members m (Some share) refusal h x = x
+part_by_share : (members m : ℕ) (own : Option (ℕ × Shape)) (reply : Reply) (h : List Event) → BeginsPart members m own reply h → IsShareReply reply
+part_by_share members m None reply h x = absurd x
+part_by_share members m (Some share) Finished h x = tt
+part_by_share members m (Some share) Wait h x = tt
+part_by_share members m (Some share) _ h x = absurd x
 
 part_counts : (members m : ℕ) (own : Option (ℕ × Shape)) (first : ℤ) (count : ℕ) (h : List Event) → BeginsPart members m own (Chunk first count) h → 0 < count
 part_counts members m None first count h may = absurd may
@@ -78,8 +80,8 @@ part_still (Some share) m value = refl
 
 pub ordered_start_sound : (value : ℤ) → IsSound (ordered_start_row value)
 ordered_start_sound value = record {
-  decided = λ m p a b x y. one_part p.terms.members m (open_share m p.events) a b p.events x y;
-  accepts = λ m p refusal x. part_accepts p.terms.members m (open_share m p.events) refusal p.events x;
+  decided = λ m p a b x y. inl (one_part p.terms.members m (open_share m p.events) a b p.events x y);
+  accepts = λ m p refusal x. part_by_share p.terms.members m (open_share m p.events) (Refused refusal) p.events x;
   answered = λ repeated m p ready all. part_some p.terms.members m p.events (open_share m p.events) (ready.place refl).1.1.0;
   counts = λ repeated m p first count ready all may. part_counts p.terms.members m (open_share m p.events) first count p.events may;
   begins_own = λ m p. tt;
@@ -88,12 +90,18 @@ ordered_start_sound value = record {
   gives_keep = λ repeated m p reply ready may all.
       let fail = ready.place refl in part_keeps p.terms.members m value reply p.events (open_share m p.events) refl fail.1.0 fail.1.1.0 fail.1.1.1.0 may all;
   still = λ stays m p. (refl, part_still (open_share m p.events) m value);
+  outside = λ arrives m p fail. absurd (cc);
   tells = λ arrives m p reply may. absurd (cc);
   one_pass = λ arrives m p. absurd (cc);
-  lasts = λ repeated m p ready all may. outside_lasts ready refl refl (λ fail. fail.0) may;
+  arrives_there = λ arrives m p. absurd (cc);
+  waits_quietly = λ arrives m p. absurd (cc);
+  lasts = λ repeated m p ready all may. outside_lasts ready refl (λ arrives fail. fail.0) may;
   waits_for = λ key m p holds may. absurd (cc);
   tells_count = λ key repeated m count p holds ready all may. absurd (cc);
-  no_memory = λ m p. (refl, refl, refl, λ repeated. refl);
+  runs = λ m p task code arg own may. absurd (part_by_share p.terms.members m (open_share m p.events) (Run task code arg own) p.events may);
+  ends = λ m p task waiting may. absurd (part_by_share p.terms.members m (open_share m p.events) (TaskDone task waiting) p.events may);
+  created = λ repeated m p task ready may. absurd (part_by_share p.terms.members m (open_share m p.events) (Created task) p.events may);
+  no_memory = λ m p. (refl, refl, refl, refl, λ repeated. refl);
   words_keep = λ puts repeated m p reply ready may all. absurd (cc);
 }
 

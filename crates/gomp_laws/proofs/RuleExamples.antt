@@ -361,9 +361,11 @@ team_pass_alone may = absurd (let met = may.passes.met in cc)
 pub team_pass_stranger : RefusedAfter (TeamRule 2) (Arrive 0 0 (at Barrier 0) ∷ Arrive 0 1 (at Barrier 0) ∷ []) (Pass 0 2)
 team_pass_stranger may = absurd (let member = may.member in omega arith)
 
--- a member passes while it holds a critical name
-pub team_pass_holding : RefusedAfter (TeamRule 1) (Hold (Critical (65 ∷ [])) 0 (Implicit 0) ∷ Arrive 0 0 (at Barrier 0) ∷ []) (Pass 0 0)
-team_pass_holding may = absurd (let free = may.free in cc)
+-- a member arrives while it holds a critical name
+pub team_arrive_holding : RefusedAfter (TeamRule 1) (Hold (Critical (97 ∷ [])) 0 (Implicit 0) ∷ []) (Arrive 0 0 (at Barrier 0))
+team_arrive_holding may = absurd (let free = may.names.free in cc)
+
+-- The team: names and locks
 
 -- a member holds a lock that another holds
 pub team_hold_of_held : RefusedAfter (TeamRule 2) (Hold (Lock 0) 0 (Implicit 0) ∷ []) (Hold (Lock 0) 1 (Implicit 1))
@@ -372,6 +374,10 @@ team_hold_of_held may = absurd (let free = may.holds.free in cc)
 -- a member holds a lock in a task that it does not execute
 pub team_hold_in_other_task : RefusedAfter (TeamRule 2) [] (Hold (Lock 0) 0 (Explicit 0))
 team_hold_in_other_task may = absurd (let current = may.holds.current in cc)
+
+-- a member that waits at a barrier holds a lock in its implicit task
+pub team_hold_at_barrier : RefusedAfter (TeamRule 2) (Arrive 0 0 (at Barrier 0) ∷ []) (Hold (Lock 0) 0 (Implicit 0))
+team_hold_at_barrier may = absurd (let away = may.names.away refl in cc)
 
 -- one who is no member holds a lock
 pub team_hold_stranger : RefusedAfter (TeamRule 2) [] (Hold (Lock 0) 2 (Implicit 2))

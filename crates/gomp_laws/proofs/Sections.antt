@@ -1,13 +1,12 @@
 -- The rows of the calls on sections.
-use Rattle.std.proofs.Common.{◌≡◌, ℕ, zero, suc, ◌+◌, ◌*◌, ◌<◌, true, false, List, [], ◌∷◌, ◌++◌, slice_get, Option, Some, None, refl, ap, sym, ◌∙◌, arith}
+use Rattle.std.proofs.Common.{◌≡◌, ℕ, zero, suc, ◌+◌, ◌*◌, ◌<◌, true, false, List, [], ◌∷◌, ◌++◌, slice_get, Option, Some, None, refl, ap, sym, ◌∙◌, arith, inl}
 use Rattle.std.specs.Prelude.{ℤ, not, map, min}
 use Rattle.std.specs.Int.{div_ceil}
 use Rattle.std.specs.List.{range_with_len}
 use Rattle.gomp_types.specs.declared.loop_desc.EndKind.{EndKind}
 use Rattle.gomp_types.specs.declared.loop_desc.EndKind.TheVariants.{Wait as WaitEnd, Nowait}
-use Rattle.gomp_types.specs.declared.refusal.Refusal.{Refusal}
 use Rattle.gomp_types.specs.declared.reply.Reply.{Reply}
-use Rattle.gomp_types.specs.declared.reply.Reply.TheVariants.{Chunk, Section, Wait, Refused}
+use Rattle.gomp_types.specs.declared.reply.Reply.TheVariants.{Chunk, Section, Wait, Created, Run, TaskDone, Refused}
 use Rattle.gomp_types.specs.declared.shape.Shape.{Shape}
 use Rattle.gomp_types.specs.declared.shape.ShareKind.{ShareKind}
 use Rattle.gomp_types.specs.declared.shape.ShareKind.TheVariants as kinds
@@ -30,7 +29,7 @@ use Rattle.gomp_laws.proofs.TeamShares.{share_rules}
 use Rattle.gomp_shares.specs.Sections.{DealsSections, section_given, section_next_given, sections_end_tests}
 use Rattle.gomp_model.specs.Sections.{sections_start_row, sections_next_row, sections_end_row, sections_end_nowait_row}
 use Rattle.gomp_laws.proofs.Sound.{AreOwn, own_given, IsSound, quiet, outside_lasts}
-use Rattle.gomp_laws.proofs.Starts.{IsDeal, start_sound}
+use Rattle.gomp_laws.proofs.Starts.{IsShareReply, IsDeal, start_sound}
 use Rattle.gomp_laws.proofs.Arrivals.{IsEnd, end_sound, end_arrival_sound}
 
 some_not_none : (next : Option Piece) (piece : Piece) → next ≡ None → next ≡ Some piece → ⊥
@@ -52,9 +51,11 @@ one_section members m (Some share) (Section zero) _ h x y = absurd y
 one_section members m (Some share) (Section (suc k)) _ h x y = absurd y
 one_section members m (Some share) _ b h x y = absurd x
 
-section_accepts : (members m : ℕ) (own : Option (ℕ × Shape)) (refusal : Refusal) (h : List Event) → DealsSections members m own (Refused refusal) h → ⊥
-section_accepts members m None refusal h x = x
-section_accepts members m (Some share) refusal h x = x
+section_by_share : (members m : ℕ) (own : Option (ℕ × Shape)) (reply : Reply) (h : List Event) → DealsSections members m own reply h → IsShareReply reply
+section_by_share members m None reply h x = absurd x
+section_by_share members m (Some share) (Section zero) h x = tt
+section_by_share members m (Some share) (Section (suc k)) h x = tt
+section_by_share members m (Some share) _ h x = absurd x
 
 section_counts : (members m : ℕ) (own : Option (ℕ × Shape)) (first : ℤ) (count : ℕ) (h : List Event) → DealsSections members m own (Chunk first count) h → 0 < count
 section_counts members m None first count h may = absurd may
@@ -140,7 +141,7 @@ sections_deal : (count : ℕ) (end_kind : EndKind) → IsDeal (sections_tests co
 sections_deal count end_kind =
     let shape = sections_shape count end_kind in record {
       one = one_section;
-      accepts = section_accepts;
+      by_share = section_by_share;
       some = λ members m share h lt fail.
           let next = next_for (schedule members) shape share m h in
           (section_reply next, deals_section members m (share, shape) h next refl (next_piece_is_section members m share shape h refl));
@@ -163,8 +164,8 @@ section_next_still (Some share) m = refl
 
 pub sections_next_sound : IsSound sections_next_row
 sections_next_sound = record {
-  decided = λ m p a b x y. one_section p.terms.members m (open_share m p.events) a b p.events x y;
-  accepts = λ m p refusal x. section_accepts p.terms.members m (open_share m p.events) refusal p.events x;
+  decided = λ m p a b x y. inl (one_section p.terms.members m (open_share m p.events) a b p.events x y);
+  accepts = λ m p refusal x. section_by_share p.terms.members m (open_share m p.events) (Refused refusal) p.events x;
   answered = λ repeated m p ready all. section_some p.terms.members m p.events (open_share m p.events) (ready.place refl).0;
   counts = λ repeated m p first count ready all may. section_counts p.terms.members m (open_share m p.events) first count p.events may;
   begins_own = λ m p. tt;
@@ -172,12 +173,18 @@ sections_next_sound = record {
   begins_keep = λ m p ready all. all;
   gives_keep = λ repeated m p reply ready may all. section_next_keeps p.terms.members m reply p.events (open_share m p.events) refl (ready.place refl).0 may all;
   still = λ stays m p. (refl, section_next_still (open_share m p.events) m);
+  outside = λ arrives m p fail. absurd (cc);
   tells = λ arrives m p reply may. absurd (cc);
   one_pass = λ arrives m p. absurd (cc);
-  lasts = λ repeated m p ready all may. outside_lasts ready refl refl (λ fail. fail.0) may;
+  arrives_there = λ arrives m p. absurd (cc);
+  waits_quietly = λ arrives m p. absurd (cc);
+  lasts = λ repeated m p ready all may. outside_lasts ready refl (λ arrives fail. fail.0) may;
   waits_for = λ key m p holds may. absurd (cc);
   tells_count = λ key repeated m count p holds ready all may. absurd (cc);
-  no_memory = λ m p. (refl, refl, refl, λ repeated. refl);
+  runs = λ m p task code arg own may. absurd (section_by_share p.terms.members m (open_share m p.events) (Run task code arg own) p.events may);
+  ends = λ m p task waiting may. absurd (section_by_share p.terms.members m (open_share m p.events) (TaskDone task waiting) p.events may);
+  created = λ repeated m p task ready may. absurd (section_by_share p.terms.members m (open_share m p.events) (Created task) p.events may);
+  no_memory = λ m p. (refl, refl, refl, refl, λ repeated. refl);
   words_keep = λ puts repeated m p reply ready may all. absurd (cc);
 }
 

@@ -1,9 +1,8 @@
 -- The rows of the calls on singles.
 use Rattle.std.proofs.Common.{◌≡◌, ℕ, zero, suc, Bool, true, false, List, [], ◌∷◌, ◌++◌, slice_get, Option, Some, None, refl, ap, sym, ◌∙◌, subst, arith, inl, inr}
 use Rattle.std.specs.Prelude.{not, is_some, ◌⊎◌}
-use Rattle.gomp_types.specs.declared.refusal.Refusal.{Refusal}
 use Rattle.gomp_types.specs.declared.reply.Reply.{Reply}
-use Rattle.gomp_types.specs.declared.reply.Reply.TheVariants.{Executor, Copied, Finished, Wait, Refused}
+use Rattle.gomp_types.specs.declared.reply.Reply.TheVariants.{Executor, Copied, Finished, Wait}
 use Rattle.gomp_types.specs.declared.shape.Shape.{Shape}
 use Rattle.gomp_types.specs.declared.shape.ShareKind.{ShareKind}
 use Rattle.gomp_types.specs.declared.shape.ShareKind.TheVariants as kinds
@@ -29,7 +28,7 @@ use Rattle.gomp_model.specs.Past.{Past}
 use Rattle.gomp_model.specs.Row.{unless_repeated}
 use Rattle.gomp_model.specs.Singles.{single_start_row, single_copy_start_row, single_copy_end_row}
 use Rattle.gomp_laws.proofs.Sound.{quiet, AreOwn, Ready, IsSound}
-use Rattle.gomp_laws.proofs.Starts.{IsDeal, start_sound}
+use Rattle.gomp_laws.proofs.Starts.{IsShareReply, IsDeal, start_sound}
 
 piece_not_none : (next : Option Piece) (piece : Piece) → next ≡ None → next ≡ Some piece → ⊥
 piece_not_none next piece none some = absurd (let e : ◌≡◌ {A = Option Piece} None (Some piece) = sym none ∙ some in cc)
@@ -66,13 +65,17 @@ one_copy members m (Some share) (Copied p) _ h x y = absurd y
 one_copy members m (Some share) Wait _ h x y = absurd y
 one_copy members m (Some share) _ b h x y = absurd x
 
-single_accepts : (members m : ℕ) (own : Option (ℕ × Shape)) (refusal : Refusal) (h : List Event) → DealsSingle members m own (Refused refusal) h → ⊥
-single_accepts members m None refusal h x = x
-single_accepts members m (Some share) refusal h x = x
+single_by_share : (members m : ℕ) (share : Option (ℕ × Shape)) (reply : Reply) (h : List Event) → DealsSingle members m share reply h → IsShareReply reply
+single_by_share members m None reply h x = absurd x
+single_by_share members m (Some share) (Executor executes) h x = tt
+single_by_share members m (Some share) _ h x = absurd x
 
-copy_accepts : (members m : ℕ) (own : Option (ℕ × Shape)) (refusal : Refusal) (h : List Event) → DealsCopy members m own (Refused refusal) h → ⊥
-copy_accepts members m None refusal h x = x
-copy_accepts members m (Some share) refusal h x = x
+copy_by_share : (members m : ℕ) (share : Option (ℕ × Shape)) (reply : Reply) (h : List Event) → DealsCopy members m share reply h → IsShareReply reply
+copy_by_share members m None reply h x = absurd x
+copy_by_share members m (Some share) (Executor executes) h x = tt
+copy_by_share members m (Some share) (Copied payload) h x = tt
+copy_by_share members m (Some share) Wait h x = tt
+copy_by_share members m (Some share) _ h x = absurd x
 
 -- a single has its piece, or none
 single_next : (taken : ℕ) → (slice_get (whole_piece 1) taken ≡ Some (0, 1)) ⊎ (slice_get (whole_piece 1) taken ≡ None)
@@ -141,7 +144,7 @@ copy_keeps members m share _ h may at apart held all = absurd may
 single_deal : IsDeal [] (single_shape false) DealsSingle single_given
 single_deal = record {
   one = one_single;
-  accepts = single_accepts;
+  by_share = single_by_share;
   some = λ members m share h lt fail. single_some members m share h;
   counts = λ members m share first count h lt may. absurd may;
   still = λ share m. refl;
@@ -156,7 +159,7 @@ single_deal = record {
 copy_deal : IsDeal [] (single_shape true) DealsCopy copy_given
 copy_deal = record {
   one = one_copy;
-  accepts = copy_accepts;
+  by_share = copy_by_share;
   some = λ members m share h lt fail. copy_some members m share h;
   counts = λ members m share first count h lt may. absurd may;
   still = λ share m. refl;
@@ -223,7 +226,7 @@ end_words payload false m p ready all words =
 
 pub single_copy_end_sound : (payload : List ℕ) → IsSound (single_copy_end_row payload)
 single_copy_end_sound payload = record {
-  decided = λ m p a b x y. x ∙ sym y;
+  decided = λ m p a b x y. inl (x ∙ sym y);
   accepts = λ m p refusal x. cc;
   answered = λ repeated m p ready all. (Finished, refl);
   counts = λ repeated m p first count ready all may. absurd (cc);
@@ -233,11 +236,17 @@ single_copy_end_sound payload = record {
       let is = is_its_executor m p.events (ready.place refl).0 in put_keeps p.terms.members m payload p.events (open_share m p.events) refl is.0 is.1 ready.words all;
   gives_keep = λ repeated m p reply ready may all. all;
   still = λ stays m p. absurd (cc);
+  outside = λ arrives m p fail. absurd (cc);
   tells = λ arrives m p reply may. absurd (cc);
   one_pass = λ arrives m p. absurd (cc);
+  arrives_there = λ arrives m p. absurd (cc);
+  waits_quietly = λ arrives m p. absurd (cc);
   lasts = λ repeated m p ready all may. absurd (cc);
   waits_for = λ key m p holds may. absurd (cc);
   tells_count = λ key repeated m count p holds ready all may. absurd (cc);
-  no_memory = λ m p. (refl, refl, refl, λ repeated. refl);
+  runs = λ m p task code arg own may. absurd (cc);
+  ends = λ m p task waiting may. absurd (cc);
+  created = λ repeated m p task ready may. absurd (cc);
+  no_memory = λ m p. (refl, refl, refl, refl, λ repeated. refl);
   words_keep = λ puts repeated m p reply ready may all. end_words payload repeated m p ready all ready.words;
 }

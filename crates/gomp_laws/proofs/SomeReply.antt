@@ -11,13 +11,14 @@ use Rattle.gomp_types.specs.declared.reply.Reply.{Reply}
 use Rattle.gomp_types.specs.declared.reply.Reply.TheVariants.{Refused}
 use Rattle.gomp_types.specs.RefusalTexts.{number_of}
 use Rattle.gomp_types.specs.Events.{clash_of}
+use Rattle.gomp_types.specs.TaskCalls.{room_tests}
 use Rattle.gomp_types.specs.Tests.{Test}
 use Rattle.gomp_types.proofs.Booleans.{and_left, and_right}
 use Rattle.std.proofs.lemmas.Bool.{cases_Bool}
 use Rattle.gomp_types.specs.Least.{lesser, least}
 use Rattle.gomp_types.specs.Seen.{seen_of}
 use Rattle.gomp_model.specs.Past.{Terms, Past}
-use Rattle.gomp_model.specs.Row.{Row, begun_past, row_tests}
+use Rattle.gomp_model.specs.Row.{Row, begun_past, place_tests, board_tests, book_tests, row_tests}
 use Rattle.gomp_model.specs.Calls.{row_of}
 use Rattle.gomp_model.specs.Team.{Record, call_meant, is_resume, row_at, broken_tests, member_tests, wait_tests, tests_of, refusal_of, MayRefuse, MayAnswer, past_of, Caused, SomeReply}
 use Rattle.gomp_laws.proofs.Sound.{is_memory, memoryless, clean_append, IsSound}
@@ -60,17 +61,21 @@ wait_clean _ waiting = refl
 
 row_clean : (row : Row) → IsSound row → (repeated : Bool) (m : ℕ) (p : Past) → memoryless (row_tests repeated row m p) ≡ true
 row_clean row sound true m p =
-    let clean = sound.no_memory m p in clean_append (row.compared true m p) (row.missing m p) (clean.3 true) clean.2
+    let clean = sound.no_memory m p in clean_append (row.compared true m p) (row.missing m p) (clean.4 true) clean.3
 row_clean row sound false m p =
     let clean = sound.no_memory m p in
-    let place = clean_append (row.by_place p.terms.limits (seen_of m p.events)) (row.compared false m p) clean.0 (clean.3 false) in
-    clean_append (row.by_place p.terms.limits (seen_of m p.events) ++ row.compared false m p) (row.by_team m p ++ row.missing m p) place (clean_append (row.by_team m p) (row.missing m p) clean.1 clean.2)
+    let by_place = row.by_place p.terms.limits (seen_of m p.events) in
+    let room = room_tests p.terms.limits p.room row.room in
+    let place = clean_append by_place (row.compared false m p) clean.0 (clean.4 false) in
+    let board = clean_append (row.by_task m p) room clean.1 refl in
+    let book = clean_append (row.by_team m p) (row.missing m p) clean.2 clean.3 in
+    clean_append (place_tests false row m p) (board_tests false row m p ++ book_tests false row m p) place (clean_append (board_tests false row m p) (book_tests false row m p) board book)
 
 step_clean : (p : Past) (step : Step) → memoryless (tests_of p step) ≡ true
 step_clean p step =
     let row = row_tests (is_resume step.call) (row_at p step) step.member p in
-    clean_append (member_tests p.terms.members step.member p.events) (wait_tests step.call (p.waits step.member) ++ row) (broken_clean (clash_of p.events))
-    (clean_append (wait_tests step.call (p.waits step.member)) row (wait_clean step.call (p.waits step.member)) (row_clean (row_at p step) (row_is_sound (call_meant step.call (p.waits step.member))) (is_resume step.call) step.member p))
+    clean_append (member_tests p.terms.members step.member p.events) (wait_tests step.call (p.waits step.member).open_call ++ row) (broken_clean (clash_of p.events))
+    (clean_append (wait_tests step.call (p.waits step.member).open_call) row (wait_clean step.call (p.waits step.member).open_call) (row_clean (row_at p step) (row_is_sound (call_meant step.call (p.waits step.member).open_call)) (is_resume step.call) step.member p))
 
 -- So some reply other than that has its cause
 may_refuse : (first : Option Refusal) (refusal : Refusal) (asks : Bool) → first ≡ Some refusal → is_memory refusal ≡ false → MayRefuse first refusal asks
@@ -78,7 +83,7 @@ may_refuse first NoMemory asks e other = absurd (cc)
 may_refuse first _ asks e other = e
 
 pub unrefused_step_may_answer : (p : Past) (step : Step) (reply : Reply) → refusal_of p step ≡ None → (row_at p step).may_reply step.member (begun_past (is_resume step.call) (row_at p step) step.member p) reply → MayAnswer p step reply
-unrefused_step_may_answer p step (Refused refusal) none may = absurd ((row_is_sound (call_meant step.call (p.waits step.member))).accepts step.member (begun_past (is_resume step.call) (row_at p step) step.member p) refusal may)
+unrefused_step_may_answer p step (Refused refusal) none may = absurd ((row_is_sound (call_meant step.call (p.waits step.member).open_call)).accepts step.member (begun_past (is_resume step.call) (row_at p step) step.member p) refusal may)
 unrefused_step_may_answer p step _ none may = (none, may)
 
 by_first : (p : Past) (step : Step) (first : Option Refusal) → refusal_of p step ≡ first → Known p → SomeReply p step
@@ -86,7 +91,7 @@ by_first p step (Some refusal) e known =
     let other = not_memory (tests_of p step) refusal (step_clean p step) e in
     (Refused refusal, (λ same. let is : refusal ≡ NoMemory = cc in absurd (let bad : is_memory NoMemory ≡ false = rw is at other in cc)), may_refuse (refusal_of p step) refusal (row_of step.call).memory e other)
 by_first p step None e known =
-    let s = row_is_sound (call_meant step.call (p.waits step.member)) in
+    let s = row_is_sound (call_meant step.call (p.waits step.member).open_call) in
     let found = s.answered (is_resume step.call) step.member p (unrefused_step_is_ready p step e known) known.rule in (
       found.0,
       (λ same. s.accepts step.member (begun_past (is_resume step.call) (row_at p step) step.member p) NoMemory

@@ -1,26 +1,32 @@
 -- What the theorems on a team ask of a call's row.
 use Rattle.std.proofs.Common.{◌≡◌, ℕ, Bool, true, false, List, [], ◌∷◌, ◌++◌, Option, Some, None, refl, sym, ◌∙◌}
 use Rattle.gomp_types.specs.declared.key.Key.{Key}
-use Rattle.std.specs.Prelude.{ℤ, ◌⊎◌, ◌<◌, ◌&&◌, not, is_some}
+use Rattle.std.specs.Prelude.{ℤ, ◌⊎◌, ◌<◌, ◌&&◌, ◌||◌, not, is_some}
 use Rattle.gomp_types.specs.declared.refusal.Refusal.{Refusal}
 use Rattle.gomp_types.specs.declared.refusal.Refusal.TheVariants.{Mismatch, NoMemory}
 use Rattle.gomp_types.specs.declared.reply.Reply.{Reply}
-use Rattle.gomp_types.specs.declared.reply.Reply.TheVariants.{Chunk, Passed, Wait, Count, Stopped, Refused}
+use Rattle.gomp_types.specs.declared.reply.Reply.TheVariants.{Chunk, Passed, Wait, Created, Run, TaskDone, Count, Stopped, Refused}
 use Rattle.gomp_types.specs.declared.event.Event.{Event}
-use Rattle.gomp_types.specs.declared.event.Event.TheVariants.{Arrive, Put, Pass, Hold, Free, Create, Done, Break}
+use Rattle.gomp_types.specs.declared.event.Event.TheVariants.{Arrive, Put, Pass, Hold, Free, Create, Start, Done, Break}
 use Rattle.gomp_types.specs.Tests.{Test}
-use Rattle.gomp_types.specs.Events.{member_of, barriers_passed, arrival}
-use Rattle.gomp_types.specs.Laws.{Always}
+use Rattle.gomp_types.specs.declared.task.Task.TheVariants.{Explicit}
+use Rattle.gomp_types.specs.declared.task.TaskDesc.{TaskDesc}
+use Rattle.gomp_types.specs.Events.{member_of, barriers_passed, arrival, at_barrier}
+use Rattle.gomp_types.specs.Laws.{Always, Happened}
+use Rattle.gomp_types.specs.Tasks.{executed_task, in_task, task_desc}
+use Rattle.gomp_types.specs.Goals.{may_start}
 use Rattle.gomp_laws.specs.Rules.{TeamRule}
 use Rattle.gomp_types.specs.Seen.{seen_of}
 use Rattle.gomp_types.proofs.Booleans.{and_left, and_right}
 use Rattle.gomp_types.proofs.LeastTests.{AllFail}
 use Rattle.gomp_laws.proofs.WordsToCome.{WordsToCome}
 use Rattle.gomp_types.specs.declared.lock.Held.{Held}
+use Rattle.gomp_locks.specs.Book.{held_by}
 use Rattle.gomp_locks.specs.Locks.{count_for}
-use Rattle.gomp_locks.specs.Holders.{asker, holder, own_part, holds_critical}
+use Rattle.gomp_locks.specs.Holders.{asker, holder}
 use Rattle.gomp_model.specs.Past.{Past}
-use Rattle.gomp_model.specs.Row.{Row, unless_repeated, begun_past, given_after}
+use Rattle.gomp_model.specs.Row.{Row, begun_past, given_after, goes_on, MayGoOn}
+use Rattle.gomp_model.specs.Team.{both_run}
 
 -- whether a refusal is want of memory
 abbrev pub is_memory : Refusal → Bool
@@ -37,6 +43,20 @@ abbrev pub is_wait : Reply → Bool
 is_wait Wait = true
 is_wait _ = false
 
+-- whether it is to execute a task
+abbrev pub is_run : Reply → Bool
+is_run (Run task code arg own) = true
+is_run _ = false
+
+-- whether it ends a task
+abbrev pub is_end : Reply → Bool
+is_end (TaskDone task waiting) = true
+is_end _ = false
+
+-- two replies are one, or run a task each
+abbrev pub Same : Reply → Reply → Type 0
+Same a b = (a ≡ b) ⊎ (both_run a b ≡ true)
+
 -- whether the team is broken with it
 abbrev pub breaks : Reply → Bool
 breaks Stopped = true
@@ -48,33 +68,39 @@ breaks _ = false
 -- what events a call may give besides
 pub record Gives : Type 0 where
   pub arrives : Bool
+  pub creates : Bool
   pub puts : Bool
   pub holds : Option Key
 
 -- none of them
 abbrev pub quiet : Gives
-quiet = record { arrives = false; puts = false; holds = None }
+quiet = record { arrives = false; creates = false; puts = false; holds = None }
 
 -- an arrival alone
 abbrev pub only_arrives : Gives
-only_arrives = record { arrives = true; puts = false; holds = None }
+only_arrives = record { arrives = true; creates = false; puts = false; holds = None }
+
+-- that a task is created, alone
+abbrev pub only_creates : Gives
+only_creates = record { arrives = false; creates = true; puts = false; holds = None }
 
 -- that this key is held or freed, alone
 abbrev pub only_holds : Key → Gives
-only_holds key = record { arrives = false; puts = false; holds = Some key }
+only_holds key = record { arrives = false; creates = false; puts = false; holds = Some key }
 
 -- what a row allows
 abbrev pub gives_of : Row → Gives
-gives_of row = record { arrives = is_some row.arrives; puts = row.puts; holds = row.holds }
+gives_of row = record { arrives = is_some row.arrives; creates = is_some row.creates; puts = row.puts; holds = row.holds }
 
--- an event of the member that neither passes a barrier, nor holds or frees anything, nor creates or ends a task, nor breaks the team; it arrives, or puts words, only if its call does
+-- an event of the member that neither passes a barrier, nor holds or frees anything, nor starts or ends a task, nor breaks the team; it arrives, creates a task or puts words only if its call does
 abbrev pub IsOwn : Gives → ℕ → Event → Type 0
 IsOwn can m (Arrive barrier n tag) = (n ≡ m) × (can.arrives ≡ true)
+IsOwn can m (Create task n parent desc) = (n ≡ m) × (can.creates ≡ true)
 IsOwn can m (Put share n payload) = (n ≡ m) × (can.puts ≡ true)
 IsOwn can m (Pass barrier n) = ⊥
 IsOwn can m (Hold key n task) = ⊥
 IsOwn can m (Free key n task) = ⊥
-IsOwn can m (Create task n parent desc) = ⊥
+IsOwn can m (Start task n) = ⊥
 IsOwn can m (Done task n) = ⊥
 IsOwn can m (Break n place) = ⊥
 IsOwn can m event = member_of event ≡ m
@@ -84,11 +110,13 @@ abbrev pub AreOwn : Gives → ℕ → List Event → Type 0
 AreOwn can m [] = Unit {0}
 AreOwn can m (event ∷ events) = IsOwn can m event × AreOwn can m events
 
--- the newest event of a reply may pass a barrier, hold or free what the call is about, or break the team, if the reply says so
+-- the newest event of a reply may pass a barrier, hold or free what the call is about, start or end a task, or break the team, if the reply says so
 abbrev pub IsLast : Gives → ℕ → Reply → Event → Type 0
 IsLast can m reply (Pass barrier n) = (n ≡ m) × (can.arrives ≡ true) × (is_pass reply ≡ true)
 IsLast can m reply (Hold key n task) = (n ≡ m) × (can.holds ≡ Some key) × (is_wait reply ≡ false)
 IsLast can m reply (Free key n task) = (n ≡ m) × (can.holds ≡ Some key) × (is_wait reply ≡ false)
+IsLast can m reply (Start task n) = (n ≡ m) × (is_run reply ≡ true)
+IsLast can m reply (Done task n) = (n ≡ m) × (is_end reply ≡ true)
 IsLast can m reply (Break n place) = (n ≡ m) × (breaks reply ≡ true)
 IsLast can m reply event = IsOwn can m event
 
@@ -101,6 +129,8 @@ pub own_last : (can : Gives) (m : ℕ) (reply : Reply) (event : Event) → IsOwn
 own_last can m reply (Pass barrier n) own = absurd own
 own_last can m reply (Hold key n task) own = absurd own
 own_last can m reply (Free key n task) own = absurd own
+own_last can m reply (Start task n) own = absurd own
+own_last can m reply (Done task n) own = absurd own
 own_last can m reply (Break n place) own = absurd own
 own_last can m reply _ own = own
 
@@ -131,47 +161,50 @@ abbrev pub shows : Bool → Bool → Bool
 shows true repeated = true
 shows false repeated = not repeated
 
--- what holds on of a call while it waits: its member holds no critical name, unless it waits for a name or a lock; of that it holds nothing;
--- and it is a call that may wait
+-- what holds on of a call while it waits: a member that arrived is in no task; the task that waits for a name or a lock does not hold it;
+-- and it is a call that may go on
 abbrev pub Lasts : Row → ℕ → List Event → Type 0
-Lasts row m h = (row.asks_book ≡ false → holds_critical (asker m h) h ≡ false) × ((key : Key) → row.holds ≡ Some key → own_part m (holder key h) ≡ None) × ((q : Past) × row.may_reply m q Wait)
+Lasts row m h = (is_some row.arrives ≡ true → in_task m h ≡ false) × ((key : Key) → row.holds ≡ Some key → held_by (asker m h) (holder key h) ≡ false) × MayGoOn row m
+
+-- whether a call creates a task, or holds or frees something, and does not arrive: while its member waits at a barrier, only a task that it executes makes such a call
+abbrev pub acts_away : Row → Bool
+acts_away row = not (is_some row.arrives) && (is_some row.creates || is_some row.holds)
 
 -- what the tests of a call have shown, if none of them holds
 pub record Ready (row : Row) (repeated : Bool) (m : ℕ) (p : Past) : Type 0 where
   pub member : m < p.terms.members
   -- a call that is repeated is tested by comparison alone, but what its place has shown holds on where it stays
   pub place : shows row.stays repeated ≡ true → AllFail (row.by_place p.terms.limits (seen_of m p.events))
+  pub task : repeated ≡ false → AllFail (row.by_task m p)
   pub team : repeated ≡ false → AllFail (row.by_team m p)
   pub missing : AllFail (row.missing m p)
   pub lasting : repeated ≡ true → Lasts row m p.events
   pub compared : AllFail (row.compared repeated m p)
   -- a call that arrives has not arrived there before
   pub first : repeated ≡ false → is_some row.arrives ≡ true → arrival (barriers_passed m p.events) m p.events ≡ None
+  -- and one that creates a task, or holds or frees something, is made by a member that waits at no barrier, or by a task that it executes
+  pub away : acts_away row ≡ true → in_task m p.events ≡ false → at_barrier m p.events ≡ false
   -- the words of a single are still to be put while its executor is in it
   pub words : WordsToCome p.events
 
--- so a call that no task makes while it holds a critical name is made without one, or was
-pub outside_free : {row : Row} {repeated : Bool} {m : ℕ} {p : Past} → Ready row repeated m p → row.asks_book ≡ false → (AllFail (row.by_team m p) → holds_critical (asker m p.events) p.events ≡ false) →
-    holds_critical (asker m p.events) p.events ≡ false
-outside_free {row} {repeated = true} {m} {p} ready other tested = (ready.lasting refl).0 other
-outside_free {row} {repeated = false} {m} {p} ready other tested = tested (ready.team refl)
+-- so a call that no explicit task makes is made, or was, outside of every task
+pub outside_of_tasks : {row : Row} {repeated : Bool} {m : ℕ} {p : Past} → Ready row repeated m p → is_some row.arrives ≡ true → (AllFail (row.by_task m p) → in_task m p.events ≡ false) → in_task m p.events ≡ false
+outside_of_tasks {row} {repeated = true} {m} {p} ready arrives tested = (ready.lasting refl).0 arrives
+outside_of_tasks {row} {repeated = false} {m} {p} ready arrives tested = tested (ready.task refl)
 
--- and waits without one
-pub outside_lasts : {row : Row} {repeated : Bool} {m : ℕ} {p : Past} → Ready row repeated m p → row.asks_book ≡ false → row.holds ≡ None → (AllFail (row.by_team m p) → holds_critical (asker m p.events) p.events ≡ false) →
+-- and waits there
+pub outside_lasts : {row : Row} {repeated : Bool} {m : ℕ} {p : Past} → Ready row repeated m p → row.holds ≡ None → (is_some row.arrives ≡ true → AllFail (row.by_task m p) → in_task m p.events ≡ false) →
     row.may_reply m (begun_past repeated row m p) Wait → Lasts row m p.events
-outside_lasts {row} {repeated} {m} {p} ready other none tested may = ((λ outside. outside_free ready other tested), (λ key holds. absurd (let some = sym none ∙ holds in cc)), (begun_past repeated row m p, may))
-
--- the names that a member holds once its call has begun
-pub names_begun : (repeated : Bool) (m : ℕ) (events h : List Event) → holds_critical (asker m (events ++ h)) (events ++ h) ≡ false → holds_critical (asker m h) h ≡ false →
-    holds_critical (asker m (unless_repeated events repeated ++ h)) (unless_repeated events repeated ++ h) ≡ false
-names_begun repeated m [] h begun before = before
-names_begun true m (event ∷ events) h begun before = before
-names_begun false m (event ∷ events) h begun before = begun
+outside_lasts {row} {repeated} {m} {p} ready none tested may = (
+  (λ arrives. outside_of_tasks ready arrives (tested arrives)),
+  (λ key holds. absurd (let some = sym none ∙ holds in cc)),
+  (begun_past repeated row m p, Wait, refl, may),
+)
 
 -- what a row has to be for the theorems
 pub record IsSound (row : Row) : Type 0 where
-  -- one answer
-  pub decided : (m : ℕ) (p : Past) (a b : Reply) → row.may_reply m p a → row.may_reply m p b → a ≡ b
+  -- one answer, but for which task is run
+  pub decided : (m : ℕ) (p : Past) (a b : Reply) → row.may_reply m p a → row.may_reply m p b → Same a b
   -- that is no refusal
   pub accepts : (m : ℕ) (p : Past) (refusal : Refusal) → row.may_reply m p (Refused refusal) → ⊥
   -- and there is one
@@ -187,9 +220,15 @@ pub record IsSound (row : Row) : Type 0 where
       Always (TeamRule p.terms.members) (row.gives m (begun_past repeated row m p) reply ++ (begun_past repeated row m p).events)
   -- a call that stays in its place changes nothing while it waits
   pub still : row.stays ≡ true → (m : ℕ) (p : Past) → (row.begins m p ≡ []) × (row.gives m p Wait ≡ [])
-  -- a call that arrives passes the barrier, or waits
-  pub tells : is_some row.arrives ≡ true → (m : ℕ) (p : Past) (reply : Reply) → row.may_reply m p reply → (reply ≡ Passed) ⊎ (reply ≡ Wait)
+  -- no explicit task makes a call that arrives
+  pub outside : is_some row.arrives ≡ true → (m : ℕ) (p : Past) → AllFail (row.by_task m p) → in_task m p.events ≡ false
+  -- a call that arrives passes the barrier, waits, or runs a task
+  pub tells : is_some row.arrives ≡ true → (m : ℕ) (p : Past) (reply : Reply) → row.may_reply m p reply → (reply ≡ Passed) ⊎ (goes_on reply ≡ true)
   pub one_pass : is_some row.arrives ≡ true → (m : ℕ) (p : Past) → row.gives m p Passed ≡ Pass (barriers_passed m p.events) m ∷ []
+  -- a call that arrives waits at its barrier once it has begun
+  pub arrives_there : is_some row.arrives ≡ true → (m : ℕ) (p : Past) → at_barrier m (row.begins m p ++ p.events) ≡ true
+  -- and gives nothing while it waits
+  pub waits_quietly : is_some row.arrives ≡ true → (m : ℕ) (p : Past) → row.gives m p Wait ≡ []
   -- what holds on while it waits
   pub lasts : (repeated : Bool) (m : ℕ) (p : Past) → Ready row repeated m p → Always (TeamRule p.terms.members) p.events → row.may_reply m (begun_past repeated row m p) Wait → Lasts row m p.events
   -- it waits for a name or a lock only if somebody holds that
@@ -197,9 +236,20 @@ pub record IsSound (row : Row) : Type 0 where
   -- a count is how often the task that asks holds the lock then
   pub tells_count : (key : Key) (repeated : Bool) (m count : ℕ) (p : Past) → row.holds ≡ Some key → Ready row repeated m p → Always (TeamRule p.terms.members) p.events → row.may_reply m (begun_past repeated row m p) (Count count) →
       count ≡ count_for (asker m p.events) (holder key (given_after row repeated m p (Count count)))
+  -- a task that is run may be started, with what was asked for; its call neither stays in its place nor holds or creates anything, and gives its start alone
+  pub runs : (m : ℕ) (p : Past) (task code arg : ℕ) (own : Bool) → row.may_reply m p (Run task code arg own) →
+      (row.stays ≡ false) × (row.holds ≡ None) × (own ≡ false) × (may_start m task p.events ≡ true)
+      × (task_desc task p.events ≡ Some (record { code = code; arg = arg })) × (row.gives m p (Run task code arg own) ≡ Start task m ∷ []) × (row.creates ≡ None)
+  -- a task that is done is the one that its member executes, which was started at a wait; its call gives its end alone
+  pub ends : (m : ℕ) (p : Past) (task : ℕ) (waiting : Bool) → row.may_reply m p (TaskDone task waiting) →
+      (is_some row.arrives ≡ false) × (waiting ≡ true) × (executed_task m p.events ≡ Explicit task) × (row.gives m p (TaskDone task waiting) ≡ Done task m ∷ [])
+      × ((q : Past) → row.begins m q ≡ [])
+  -- a task that is told of was created by the call
+  pub created : (repeated : Bool) (m : ℕ) (p : Past) (task : ℕ) → Ready row repeated m p → row.may_reply m (begun_past repeated row m p) (Created task) →
+      (desc : TaskDesc) × (row.creates ≡ Some desc) × Happened (Create task m (executed_task m p.events) desc) (given_after row repeated m p (Created task))
   -- no test is for want of memory
   pub no_memory : (m : ℕ) (p : Past) →
-      (memoryless (row.by_place p.terms.limits (seen_of m p.events)) ≡ true) × (memoryless (row.by_team m p) ≡ true) × (memoryless (row.missing m p) ≡ true) × ((repeated : Bool) → memoryless (row.compared repeated m p) ≡ true)
+      (memoryless (row.by_place p.terms.limits (seen_of m p.events)) ≡ true) × (memoryless (row.by_task m p) ≡ true) × (memoryless (row.by_team m p) ≡ true) × (memoryless (row.missing m p) ≡ true) × ((repeated : Bool) → memoryless (row.compared repeated m p) ≡ true)
   -- a call that puts words is the executor's
   pub words_keep : row.puts ≡ true → (repeated : Bool) (m : ℕ) (p : Past) (reply : Reply) → Ready row repeated m p → row.may_reply m (begun_past repeated row m p) reply → Always (TeamRule p.terms.members) p.events →
       WordsToCome (row.gives m (begun_past repeated row m p) reply ++ (begun_past repeated row m p).events)

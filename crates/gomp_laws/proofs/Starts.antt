@@ -2,10 +2,9 @@
 use Rattle.std.proofs.Common.{◌≡◌, ℕ, ◌<◌, Bool, true, false, List, [], ◌∷◌, ◌++◌, Option, Some, refl, sym, ◌∙◌, arith, inl, inr, subst, ap}
 use Rattle.std.specs.Prelude.{ℤ, ◌⊎◌, ◌≢◌, pos, nat_le}
 use Rattle.std.proofs.lemmas.Bool.{cases_Bool}
-use Rattle.gomp_types.specs.declared.refusal.Refusal.{Refusal}
 use Rattle.gomp_types.specs.declared.refusal.Refusal.TheVariants.{TooManyShares}
 use Rattle.gomp_types.specs.declared.reply.Reply.{Reply}
-use Rattle.gomp_types.specs.declared.reply.Reply.TheVariants.{Chunk, Wait, Refused}
+use Rattle.gomp_types.specs.declared.reply.Reply.TheVariants.{Chunk, Wait, Created, Run, TaskDone, Refused}
 use Rattle.gomp_types.specs.declared.shape.Shape.{Shape}
 use Rattle.gomp_types.specs.declared.event.Event.{Event}
 use Rattle.gomp_types.specs.declared.event.Event.TheVariants.{Enter}
@@ -47,10 +46,18 @@ one_start deals members m shape a b h one x y =
       ]
     ]
 
+-- what a share answers is no refusal, and nothing on tasks
+abbrev pub IsShareReply : Reply → Type 0
+IsShareReply (Refused refusal) = ⊥
+IsShareReply (Created task) = ⊥
+IsShareReply (Run task code arg own) = ⊥
+IsShareReply (TaskDone task waiting) = ⊥
+IsShareReply _ = Unit {0}
+
 -- what a construct that is a share tells of its start: its shape, its own tests, its answers, and what these give
 pub record IsDeal (own : List Test) (shape : Shape) (deals : Deals) (Given : ℕ → Shape → ℕ → Reply → List Event) : Type 0 where
   pub one : (members m : ℕ) (share : Option (ℕ × Shape)) (a b : Reply) (h : List Event) → deals members m share a h → deals members m share b h → a ≡ b
-  pub accepts : (members m : ℕ) (share : Option (ℕ × Shape)) (refusal : Refusal) (h : List Event) → deals members m share (Refused refusal) h → ⊥
+  pub by_share : (members m : ℕ) (share : Option (ℕ × Shape)) (reply : Reply) (h : List Event) → deals members m share reply h → IsShareReply reply
   -- a chunk has an iteration
   pub counts : (members m share : ℕ) (first : ℤ) (count : ℕ) (h : List Event) → m < members → deals members m (Some (share, shape)) (Chunk first count) h → 0 < count
   pub some : (members m share : ℕ) (h : List Event) → m < members → AllFail own → (reply : Reply) × deals members m (Some (share, shape)) reply h
@@ -119,8 +126,8 @@ start_keeps memory own shape deals Given is repeated m p reply ready may all =
 
 pub start_sound : (memory : Bool) (own : List Test) (shape : Shape) (deals : Deals) (Given : ℕ → Shape → ℕ → Reply → List Event) → IsDeal own shape deals Given → IsSound (start_row memory own shape deals Given)
 start_sound memory own shape deals Given is = record {
-  decided = λ m p a b x y. one_start deals p.terms.members m shape a b p.events (is.one p.terms.members m (Some (shares_entered m p.events, shape)) a b p.events) x y;
-  accepts = λ m p refusal x. is.accepts p.terms.members m (Some (shares_entered m p.events, shape)) refusal p.events x.1;
+  decided = λ m p a b x y. inl (one_start deals p.terms.members m shape a b p.events (is.one p.terms.members m (Some (shares_entered m p.events, shape)) a b p.events) x y);
+  accepts = λ m p refusal x. is.by_share p.terms.members m (Some (shares_entered m p.events, shape)) (Refused refusal) p.events x.1;
   answered = λ repeated m p ready all. start_some own shape deals Given is p.terms.members m p.events ready.member (fail_first own ((nat_le p.terms.limits.shares (shares_entered m p.events), TooManyShares) ∷ []) (ready.place refl).1);
   counts = λ repeated m p first count ready all may. is.counts p.terms.members m (shares_entered m p.events) first count p.events ready.member may.1;
   begins_own = λ m p. tt;
@@ -128,11 +135,17 @@ start_sound memory own shape deals Given is = record {
   begins_keep = λ m p ready all. all;
   gives_keep = λ repeated m p reply ready may all. start_keeps memory own shape deals Given is repeated m p reply ready may all;
   still = λ stays m p. (refl, ap (behind (Enter (shares_entered m p.events) m shape)) (is.still (shares_entered m p.events) m));
+  outside = λ arrives m p fail. absurd (cc);
   tells = λ arrives m p reply may. absurd (cc);
   one_pass = λ arrives m p. absurd (cc);
-  lasts = λ repeated m p ready all may. outside_lasts ready refl refl (λ fail. fail.0) may;
+  arrives_there = λ arrives m p. absurd (cc);
+  waits_quietly = λ arrives m p. absurd (cc);
+  lasts = λ repeated m p ready all may. outside_lasts ready refl (λ arrives fail. fail.0) may;
   waits_for = λ key m p holds may. absurd (cc);
   tells_count = λ key repeated m count p holds ready all may. absurd (cc);
-  no_memory = λ m p. (clean_append own ((nat_le p.terms.limits.shares (shares_entered m p.events), TooManyShares) ∷ []) is.no_memory refl, refl, refl, λ repeated. refl);
+  runs = λ m p task code arg own may. absurd (is.by_share p.terms.members m (Some (shares_entered m p.events, shape)) (Run task code arg own) p.events may.1);
+  ends = λ m p task waiting may. absurd (is.by_share p.terms.members m (Some (shares_entered m p.events, shape)) (TaskDone task waiting) p.events may.1);
+  created = λ repeated m p task ready may. absurd (is.by_share p.terms.members m (Some (shares_entered m p.events, shape)) (Created task) p.events may.1);
+  no_memory = λ m p. (clean_append own ((nat_le p.terms.limits.shares (shares_entered m p.events), TooManyShares) ∷ []) is.no_memory refl, refl, refl, refl, λ repeated. refl);
   words_keep = λ puts repeated m p reply ready may all. absurd (cc);
 }

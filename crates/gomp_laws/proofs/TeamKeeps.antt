@@ -1,33 +1,36 @@
 -- Events that keep the rule of a team keep the headline.
-use Rattle.std.proofs.Common.{◌≡◌, ℕ, ◌+◌, ◌<◌, List, [], ◌∷◌, Some, None, refl, arith, inl, inr}
-use Rattle.std.specs.Prelude.{◌&&◌, ◌==◌}
+use Rattle.std.proofs.Common.{◌≡◌, ℕ, ◌+◌, ◌<◌, ◌≤◌, true, List, [], ◌∷◌, Some, None, refl, sym, ◌∙◌, arith, inl, inr}
+use Rattle.std.specs.Prelude.{◌&&◌, ◌==◌, is_some}
 use Rattle.std.proofs.lemmas.Bool.{cases_Bool, cases_lt}
 use Rattle.gomp_types.specs.declared.shape.Shape.{Shape}
 use Rattle.gomp_types.specs.declared.event.Tag.{Tag}
 use Rattle.gomp_types.specs.declared.event.Event.{Event}
 use Rattle.gomp_types.specs.declared.event.Event.TheVariants.{Enter, End, Arrive, Pass}
-use Rattle.gomp_types.specs.Events.{shares_entered, arrival}
+use Rattle.gomp_types.specs.Events.{shares_entered, barriers_passed, arrival, all_arrived, at_barrier}
+use Rattle.gomp_types.specs.Goals.{bound_complete}
 use Rattle.gomp_types.specs.Deals.{schedule}
 use Rattle.gomp_types.specs.Laws.{Always, Happened}
 use Rattle.gomp_shares.specs.Rules.{ShareRule}
-use Rattle.gomp_types.specs.Arrivals.{ArrivalRule}
+use Rattle.gomp_types.specs.Arrivals.{MayPass, ArrivalRule}
 use Rattle.gomp_locks.specs.HoldRules.{HoldRule}
 use Rattle.gomp_locks.specs.HoldLaws.{FreesItsOwn, PassesFree}
 use Rattle.gomp_laws.specs.Rules.{TeamRule}
 use Rattle.gomp_shares.specs.Laws.{TakesItsOwn}
 use Rattle.gomp_laws.specs.Laws.{LeavesHandedOn, PutsOnce, GetsWhatWasPut, LeavesWithWords, ArrivesOutside, ClosesShares, HappensUnbroken, HappensInside, ArrivesOnce, TellsShares}
 use Rattle.gomp_laws.specs.Headline.{Headline}
-use Rattle.gomp_types.proofs.Booleans.{which_branch, is_equal, same_number}
+use Rattle.gomp_types.proofs.Booleans.{which_branch, is_equal, same_number, and_left, and_false, every_tells}
 use Rattle.gomp_types.proofs.Always.{always_so}
 use Rattle.gomp_shares.proofs.SharesKeep.{shares_keep, left_before}
-use Rattle.gomp_locks.proofs.HoldsKeep.{one_owner_holds, held_once_holds, frees_its_own, passes_free_holds}
-use Rattle.gomp_laws.proofs.TeamShares.{share_rules, hold_rules}
+use Rattle.gomp_locks.proofs.HoldsKeep.{one_owner_holds, held_once_holds, frees_its_own}
+use Rattle.gomp_locks.proofs.NamesKeep.{passes_free_holds}
+use Rattle.gomp_laws.proofs.TeamShares.{share_rules, arrival_rules, task_rules, hold_rules, name_rules}
 use Rattle.gomp_laws.proofs.HandedOn.{leaves_handed_on, all_handed_on}
 use Rattle.gomp_shares.proofs.Assigned.{takes_its_own}
 use Rattle.gomp_shares.proofs.OrderedKeep.{ordered_keep}
 use Rattle.gomp_laws.proofs.CopiesKeep.{puts_once, gets_what_was_put, leaves_with_words}
 use Rattle.gomp_laws.proofs.InTime.{InTime, unbroken_holds, inside_holds}
-use Rattle.gomp_types.proofs.ArrivalsKeep.{arrivals_keep, same_arrivals, passes_after_all}
+use Rattle.gomp_types.proofs.ArrivalsKeep.{arrivals_keep, same_arrivals, passed_met, passes_after_all}
+use Rattle.gomp_types.proofs.Laws.{task_rule_keeps_laws, bound_tasks_are_done}
 
 -- Payloads
 
@@ -45,15 +48,6 @@ copies_keep members h all = record {
 }
 
 -- Arrivals
-
--- and that of the arrivals
-arrival_rule : (members : ℕ) (event : Event) (earlier : List Event) → TeamRule members event earlier → Always (TeamRule members) earlier → ArrivalRule members event earlier
-arrival_rule members (Arrive barrier m tag) earlier rule all = rule.arrives
-arrival_rule members (Pass barrier m) earlier rule all = rule.passes
-arrival_rule members _ earlier rule all = tt
-
-arrival_rules : (members : ℕ) (h : List Event) → Always (TeamRule members) h → Always (ArrivalRule members) h
-arrival_rules members h all = always_so (TeamRule members) (ArrivalRule members) (arrival_rule members) h all
 
 tells_shares : (members : ℕ) (event : Event) (earlier : List Event) → TeamRule members event earlier → Always (TeamRule members) earlier → TellsShares event earlier
 tells_shares members (Arrive barrier m tag) earlier rule all = rule.shares
@@ -122,8 +116,41 @@ closes_shares members _ earlier rule all = tt
 
 -- Names and locks
 
+-- a member that has arrived at its next barrier, or at one after it, waits at the next
+next_arrival_waits : (members m g : ℕ) (h : List Event) → Always (ArrivalRule members) h → is_some (arrival g m h) ≡ true → barriers_passed m h ≤ g → (at_barrier m h ≡ true) × (g ≡ barriers_passed m h)
+next_arrival_waits members m g [] all here le = absurd (cc)
+next_arrival_waits members m g (Arrive barrier member tag ∷ earlier) all here le =
+    elim (cases_Bool (member == m)) [
+      | inl who ↦ (
+        rw who refl,
+        elim (cases_Bool (barrier == g)) [
+          | inl at ↦ let next : barrier ≡ barriers_passed m earlier = rw (← is_equal member m who) all.0.number in sym (is_equal barrier g at) ∙ next
+          | inr away ↦ (next_arrival_waits members m g earlier all.1 (rw away at here) le).1
+        ],
+      )
+      | inr other ↦
+          let before = next_arrival_waits members m g earlier all.1 (rw (and_false (barrier == g) (member == m) other) at here) le in
+          (rw other before.0, before.1)
+    ]
+next_arrival_waits members m g (Pass barrier member ∷ earlier) all here le =
+    elim (cases_Bool (member == m)) [
+      | inl who ↦
+          let later : barriers_passed m earlier + 1 ≤ g = rw who at le in
+          absurd (let next = (next_arrival_waits members m g earlier all.1 here (omega (arith, later))).1 in omega (arith, next, later))
+      | inr other ↦ let before = next_arrival_waits members m g earlier all.1 here (rw other at le) in (rw other before.0, rw other before.1)
+    ]
+next_arrival_waits members m g (_ ∷ earlier) all here le = next_arrival_waits members m g earlier all.1 here le
+
+-- so a member of the team that passes a barrier waits there
+passer_waits : (members barrier m : ℕ) (h : List Event) → Always (ArrivalRule members) h → MayPass members barrier m h → m < members → at_barrier m h ≡ true
+passer_waits members barrier m h all rule member =
+    let met = and_left (all_arrived members barrier h) (bound_complete barrier h) (passed_met members barrier m h rule) in
+    (next_arrival_waits members m barrier h all (every_tells members (λ x. is_some (arrival barrier x h)) m met member) (let next = rule.number in omega (arith, next))).0
+
 passes_free : (members : ℕ) (event : Event) (earlier : List Event) → TeamRule members event earlier → Always (TeamRule members) earlier → PassesFree event earlier
-passes_free members (Pass barrier m) earlier rule all = passes_free_holds barrier m earlier rule.free (hold_rules members earlier all)
+passes_free members (Pass barrier m) earlier rule all =
+    passes_free_holds barrier m earlier rule.outside (passer_waits members barrier m earlier (arrival_rules members earlier all) rule.passes rule.member)
+    (hold_rules members earlier all) (name_rules members earlier all)
 passes_free members _ earlier rule all = tt
 
 -- the headline, from the rule of the team, if nothing follows a break or the region's end
@@ -132,7 +159,8 @@ team_keeps members h all in_time =
     let shares = shares_keep (schedule members) members h (share_rules members h all) in
     let copies = copies_keep members h all in
     let holds = hold_rules members h all in
-    let arrivals = arrivals_keep members h (arrival_rules members h all) in record {
+    let arrivals = arrivals_keep members h (arrival_rules members h all) in
+    let tasks = task_rule_keeps_laws members h (arrival_rules members h all) (task_rules members h all) in record {
       taken_once = shares.taken_once;
       owned = always_so (ShareRule (schedule members) members) (TakesItsOwn members) (takes_its_own members) h (share_rules members h all);
       whole = shares.whole;
@@ -155,4 +183,6 @@ team_keeps members h all in_time =
       held_once = held_once_holds h holds;
       frees = always_so HoldRule FreesItsOwn frees_its_own h holds;
       passes_free = always_so (TeamRule members) PassesFree (passes_free members) h all;
+      tasks = tasks;
+      bound_done = bound_tasks_are_done h tasks;
     }

@@ -1,14 +1,16 @@
--- The headline, for every team size and list of member steps. OpenMP API 5.2, chapter 11 and sections 5.7.2, 15.2, 15.3, 15.10.2 and 18.9.
+-- The headline, for every team size and list of member steps. OpenMP API 5.2, chapters 11 and 12, and sections 5.7.2, 15.2 to 15.5, 15.10.2 and 18.9.
 -- No iteration, section or single is taken twice, and of a static loop a member takes only its own pieces. A loop or sections
 -- construct that all members end had every iteration or section taken, and a single that all members left had one executor.
 -- Ordered parts of a loop run in the order of its iterations, and of an ordered loop that all members left every piece was handed on.
 -- The words that a member copies are those that the executor of the single put. All members go through the same constructs in the
 -- same order. No member passes a barrier before all arrived, and have left the constructs before it. A critical name and a lock have
--- at most one owner at a time, which alone releases it, and no member passes a barrier while it holds a critical name.
+-- at most one owner at a time, which alone releases it, and no member passes a barrier while it holds a critical name. No task is
+-- started twice, nor before it is created; each wait ends only after the tasks that it waits for.
 use Rattle.std.specs.Prelude.{ℕ, List}
 use Rattle.gomp_types.specs.declared.event.Event.{Event}
 use Rattle.gomp_types.specs.Deals.{schedule}
 use Rattle.gomp_types.specs.Laws.{Always}
+use Rattle.gomp_types.specs.TaskLaws.{TaskLaws, BoundIsDone}
 use Rattle.gomp_shares.specs.Laws.{TakenOnce, TakesItsOwn, WholeWhereOver, SameShares, OrderedLaws}
 use Rattle.gomp_laws.specs.Laws.{LeavesHandedOn, HandedOnWhereOver, PutsOnce, GetsWhatWasPut, LeavesWithWords, ArrivesOnce, ArrivesOutside, HappensUnbroken, HappensInside, TellsShares, ClosesShares}
 use Rattle.gomp_types.specs.Arrivals.{SameArrivals, PassesAfterAll}
@@ -53,3 +55,8 @@ pub record Headline (members : ℕ) (h : List Event) : Type 0 where
   pub frees : Always FreesItsOwn h
   -- no member passes a barrier while it holds a critical name
   pub passes_free : Always PassesFree h
+  -- no task is created, started or ended twice, and each is started after its creation; a member starts only a descendant of what it has started;
+  -- taskwait waits for the children, a group's end and a barrier for their tasks, the region's end for all (specs/TaskLaws.antt of gomp_types)
+  pub tasks : TaskLaws h
+  -- whatever happens later, every task that is bound to a barrier was done before a member passed it
+  pub bound_done : BoundIsDone h

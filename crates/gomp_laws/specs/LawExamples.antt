@@ -3,12 +3,13 @@ use Rattle.std.specs.Prelude.{ℕ, List, [], ◌∷◌, true, false}
 use Rattle.gomp_types.specs.declared.refusal.Place.TheVariants.{Stopped as AtStop}
 use Rattle.gomp_types.specs.declared.event.Arrival.TheVariants.{Barrier, ShareEnd, RegionEnd}
 use Rattle.gomp_types.specs.declared.event.Event.{Event}
-use Rattle.gomp_types.specs.declared.event.Event.TheVariants.{Enter, Take, Drained, End, HandOn, Part, PartEnd, Put, Got, Arrive, Pass, Hold, Free, Break}
+use Rattle.gomp_types.specs.declared.event.Event.TheVariants.{Enter, Take, Drained, End, HandOn, Part, PartEnd, Put, Got, Arrive, Pass, Create, Start, Done, Group, GroupEnd, Waited, Hold, Free, Break}
 use Rattle.gomp_types.specs.declared.key.Key.TheVariants.{Critical, Lock}
-use Rattle.gomp_types.specs.declared.task.Task.TheVariants.{Implicit}
+use Rattle.gomp_types.specs.declared.task.Task.TheVariants.{Implicit, Explicit}
 use Rattle.gomp_types.specs.Singles.{single_shape}
 use Rattle.gomp_laws.specs.Headline.{Headline}
 use Rattle.gomp_types.specs.EventLists.{newest_first, four, static_four, even_four, at}
+use Rattle.gomp_types.specs.TaskExamples.{one_job, other_job}
 
 -- no team of this size has these events
 abbrev pub NeverHappens : ℕ → List Event → Type 0
@@ -157,6 +158,77 @@ freed_by_another = Hold (Critical (97 ∷ [])) 0 (Implicit 0) ∷ Free (Critical
 -- a member passes a barrier while it holds a critical name
 abbrev pub passed_with_name : List Event
 passed_with_name = Arrive 0 0 (at Barrier 0) ∷ Hold (Critical (97 ∷ [])) 0 (Implicit 0) ∷ Pass 0 0 ∷ []
+
+-- Tasks and groups
+
+-- two tasks have one number
+abbrev pub created_twice : List Event
+created_twice = Create 1 0 (Implicit 0) one_job ∷ Create 1 1 (Implicit 1) other_job ∷ []
+
+-- a member creates a task in that of another
+abbrev pub created_for_another : List Event
+created_for_another = Create 1 0 (Implicit 1) one_job ∷ []
+
+-- a task is started that was not created
+abbrev pub uncreated_started : List Event
+uncreated_started = Arrive 0 0 (at Barrier 0) ∷ Start 1 0 ∷ []
+
+-- a task is started by two members
+abbrev pub started_by_both : List Event
+started_by_both = Create 1 0 (Implicit 0) one_job ∷ Arrive 0 0 (at Barrier 0) ∷ Start 1 0 ∷ Arrive 0 1 (at Barrier 0) ∷ Start 1 1 ∷ []
+
+-- a member that executes a task starts one that does not descend from it
+abbrev pub started_beside : List Event
+started_beside = Create 1 0 (Implicit 0) one_job ∷ Create 2 0 (Implicit 0) one_job ∷ Arrive 0 0 (at Barrier 0) ∷ Start 1 0 ∷ Start 2 0 ∷ []
+
+-- a member starts another's task, and does not wait at a barrier
+abbrev pub started_elsewhere : List Event
+started_elsewhere = Create 1 0 (Implicit 0) one_job ∷ Start 1 1 ∷ []
+
+-- a member ends a task that another has started
+abbrev pub ended_for_another : List Event
+ended_for_another = Create 1 0 (Implicit 0) one_job ∷ Start 1 0 ∷ Done 1 1 ∷ []
+
+-- a task ends before one that its member executes above it
+abbrev pub ended_beneath : List Event
+ended_beneath = Create 1 0 (Implicit 0) one_job ∷ Start 1 0 ∷ Create 2 0 (Explicit 1) one_job ∷ Start 2 0 ∷ Done 1 0 ∷ []
+
+-- a taskwait goes on while a child of its task is open
+abbrev pub waited_too_short : List Event
+waited_too_short = Create 1 0 (Implicit 0) one_job ∷ Waited 0 ∷ []
+
+-- a group ends while a task of it is open
+abbrev pub group_ended_early : List Event
+group_ended_early = Group 0 0 ∷ Create 1 0 (Implicit 0) one_job ∷ Start 1 0 ∷ Create 2 0 (Explicit 1) one_job ∷ Done 1 0 ∷ GroupEnd 0 0 ∷ []
+
+-- two groups have one number
+abbrev pub group_opened_twice : List Event
+group_opened_twice = Group 0 0 ∷ Group 0 1 ∷ []
+
+-- a group ends before one that was opened in it
+abbrev pub outer_group_ended : List Event
+outer_group_ended = Group 0 0 ∷ Group 1 0 ∷ GroupEnd 0 0 ∷ []
+
+-- a barrier is passed while a task that is bound to it is open
+abbrev pub passed_with_open_task : List Event
+passed_with_open_task = Create 1 0 (Implicit 0) one_job ∷ Arrive 0 0 (at Barrier 0) ∷ Pass 0 0 ∷ []
+
+-- a member that waits at a barrier which another has passed creates a task in its implicit one: it is bound to that barrier
+abbrev pub created_behind : List Event
+created_behind = Arrive 0 0 (at Barrier 0) ∷ Arrive 0 1 (at Barrier 0) ∷ Pass 0 0 ∷ Create 1 1 (Implicit 1) one_job ∷ []
+
+-- a member passes the region's end while a task is open
+abbrev pub ended_with_open_task : List Event
+ended_with_open_task = Arrive 0 0 (at RegionEnd 0) ∷ Arrive 0 1 (at RegionEnd 0) ∷ Pass 0 0 ∷ Create 1 0 (Implicit 0) one_job ∷ Pass 0 1 ∷ []
+
+-- a region that keeps all laws: a member waits at a barrier and executes there a task of the other, which holds a critical name for a while; the other
+-- has a group with a task, waits for a child, and arrives; both pass, and the region ends
+abbrev pub region_with_tasks : List Event
+region_with_tasks =
+    Create 1 0 (Implicit 0) one_job ∷ Arrive 0 1 (at Barrier 0) ∷ Start 1 1 ∷ Hold (Critical (97 ∷ [])) 1 (Explicit 1) ∷ Free (Critical (97 ∷ [])) 1 (Explicit 1) ∷ Done 1 1
+    ∷ Group 0 0 ∷ Create 2 0 (Implicit 0) other_job ∷ Start 2 0 ∷ Done 2 0 ∷ GroupEnd 0 0
+    ∷ Create 3 0 (Implicit 0) one_job ∷ Start 3 0 ∷ Done 3 0 ∷ Waited 0
+    ∷ Arrive 0 0 (at Barrier 0) ∷ Pass 0 0 ∷ Pass 0 1 ∷ Arrive 1 0 (at RegionEnd 0) ∷ Arrive 1 1 (at RegionEnd 0) ∷ Pass 1 0 ∷ Pass 1 1 ∷ []
 
 -- The team
 

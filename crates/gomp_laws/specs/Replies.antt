@@ -1,10 +1,16 @@
--- What holds of the replies to calls on names and locks, beside the laws of the events. OpenMP API 5.2, sections 15.2 and 18.9.
-use Rattle.std.specs.Prelude.{◌<◌, ◌≡◌, false, [], ◌∷◌, Some}
+-- What holds of the replies to calls on names and locks, and on tasks, beside the laws of the events. OpenMP API 5.2, chapter 12 and sections 15.2 and 18.9.
+use Rattle.std.specs.Prelude.{ℕ, ◌<◌, ◌≡◌, is_some, true, false, [], ◌∷◌, Some}
 use Rattle.gomp_types.specs.declared.call.Step.{Step}
+use Rattle.gomp_types.specs.declared.event.Event.TheVariants.{Create, Start, Done}
 use Rattle.gomp_types.specs.declared.key.Key.{Key}
 use Rattle.gomp_types.specs.declared.reply.Reply.{Reply}
-use Rattle.gomp_types.specs.declared.reply.Reply.TheVariants.{Wait, Count}
+use Rattle.gomp_types.specs.declared.reply.Reply.TheVariants.{Wait, Count, Created, Run, TaskDone}
 use Rattle.gomp_types.specs.declared.task.Owner.{Owner}
+use Rattle.gomp_types.specs.declared.task.Task.{Task}
+use Rattle.gomp_types.specs.declared.task.Task.TheVariants.{Explicit}
+use Rattle.gomp_types.specs.declared.task.TaskDesc.{TaskDesc}
+use Rattle.gomp_types.specs.Laws.{Happened}
+use Rattle.gomp_types.specs.Tasks.{executed_task}
 use Rattle.gomp_types.specs.Owners.{same_owner}
 use Rattle.gomp_locks.specs.Holders.{asker}
 use Rattle.gomp_locks.specs.HoldLaws.{holds_left}
@@ -33,3 +39,30 @@ TellsHolds p step _ = Unit {0}
 pub record HoldReplies (terms : Terms) (run : Record) : Type 0 where
   pub waits : EachReply terms WaitsForAnother run
   pub counts : EachReply terms TellsHolds run
+
+-- Created (OpenMP API 5.2, section 12.5): the number that a creator is told is that of the task which it has created, in the task that it executes, with what it asked for.
+abbrev pub TellsItsNumber : Past → Step → Reply → Type 0
+TellsItsNumber p step (Created task) =
+    (desc : TaskDesc) × ((row_at p step).creates ≡ Some desc) × Happened (Create task step.member (executed_task step.member p.events) desc) (past_after p step (Created task)).events
+TellsItsNumber p step _ = Unit {0}
+
+-- Run: the task that a member is to execute was created with this code and this argument, and is started by it.
+abbrev pub RunsAsAsked : Past → Step → Reply → Type 0
+RunsAsAsked p step (Run task code arg own) =
+    ((m : ℕ) × (parent : Task) × Happened (Create task m parent (record { code = code; arg = arg })) p.events)
+    × Happened (Start task step.member) (past_after p step (Run task code arg own)).events
+RunsAsAsked p step _ = Unit {0}
+
+-- TaskDone: it is the task that the member executed, which is then done; the call at which the member started it waits again.
+abbrev pub ReturnsToItsWait : Past → Step → Reply → Type 0
+ReturnsToItsWait p step (TaskDone task waiting) =
+    (executed_task step.member p.events ≡ Explicit task)
+    × Happened (Done task step.member) (past_after p step (TaskDone task waiting)).events
+    × (waiting ≡ true) × (is_some ((past_after p step (TaskDone task waiting)).waits step.member).open_call ≡ true)
+ReturnsToItsWait p step _ = Unit {0}
+
+-- the replies to calls on tasks
+pub record TaskReplies (terms : Terms) (run : Record) : Type 0 where
+  pub created : EachReply terms TellsItsNumber run
+  pub runs : EachReply terms RunsAsAsked run
+  pub returns : EachReply terms ReturnsToItsWait run

@@ -1,18 +1,20 @@
--- When an event may happen in a team, given the events before it: the rules of the shares and of the arrivals, and what a team asks besides. (own)
+-- When an event may happen in a team, given the events before it: the rules of the shares, of arrivals, of tasks and of names, and what a team asks besides. (own)
 use Rattle.std.specs.Prelude.{ℕ, ◌<◌, ◌≡◌, true, false, is_some, List, Some, None}
 use Rattle.gomp_types.specs.declared.shape.Shape.{Shape}
 use Rattle.gomp_types.specs.declared.event.Tag.{Tag}
 use Rattle.gomp_types.specs.declared.event.Event.{Event}
-use Rattle.gomp_types.specs.declared.event.Event.TheVariants.{Take, Drained, End, Put, Got, Arrive, Pass, Hold, Free}
+use Rattle.gomp_types.specs.declared.event.Event.TheVariants.{Take, Drained, End, Put, Got, Arrive, Pass, Create, Start, Done, Group, GroupEnd, Waited, Hold, Free}
 use Rattle.gomp_types.specs.Shapes.{is_copy}
 use Rattle.gomp_types.specs.Events.{shares_entered, open_share, last_piece, holds_piece, payload_at, has_piece, has_words, arrival}
 use Rattle.gomp_types.specs.Deals.{schedule}
 use Rattle.gomp_types.specs.Arrivals.{MayArrive, MayPass}
+use Rattle.gomp_types.specs.Tasks.{in_task}
+use Rattle.gomp_types.specs.TaskRules.{MayCreate, MayStart, MayEnd, MayOpen, MayEndGroup, MayGoOn}
 use Rattle.gomp_types.specs.declared.key.Key.{Key}
 use Rattle.gomp_types.specs.declared.task.Task.{Task}
 use Rattle.gomp_shares.specs.Rules.{HasNone, MayTake, ShareRule}
-use Rattle.gomp_locks.specs.Holders.{asker, holds_critical}
 use Rattle.gomp_locks.specs.HoldRules.{MayHold, MayFree}
+use Rattle.gomp_locks.specs.NameRules.{NameRule}
 
 -- the executor of a single puts its words, once
 pub record MayPut (share m : ℕ) (earlier : List Event) : Type 0 where
@@ -45,24 +47,31 @@ pub record MayLeave (members share m : ℕ) (earlier : List Event) : Type 0 wher
   pub words : is_copy done.shape.kind ≡ true → has_words share m earlier ≡ true
   pub handed_on : done.shape.ordered ≡ true → holds_piece m earlier ≡ false
 
--- in a team a member of it arrives, outside of every share and once at each barrier, and tells how many shares it has entered
+-- in a team a member of it arrives, outside of every share, task and critical name and once at each barrier, and tells how many shares it has entered
 pub record MayArriveIn (members barrier m : ℕ) (tag : Tag) (earlier : List Event) : Type 0 where
   pub arrives : MayArrive barrier m tag earlier
   pub member : m < members
   pub outside : open_share m earlier ≡ None
   pub once : arrival barrier m earlier ≡ None
   pub shares : tag.shares ≡ shares_entered m earlier
+  pub names : NameRule (Arrive barrier m tag) earlier
 
--- and a member of it passes, which holds no critical name
+-- and a member of it passes, outside of every task
 pub record MayPassIn (members barrier m : ℕ) (earlier : List Event) : Type 0 where
   pub passes : MayPass members barrier m earlier
   pub member : m < members
-  pub free : holds_critical (asker m earlier) earlier ≡ false
+  pub outside : in_task m earlier ≡ false
 
--- a task of a member of it holds what it may hold
+-- a task of a member of it holds what it may hold, unless its member waits at a barrier
 pub record MayHoldIn (members : ℕ) (key : Key) (m : ℕ) (task : Task) (earlier : List Event) : Type 0 where
   pub holds : MayHold key m task earlier
   pub member : m < members
+  pub names : NameRule (Hold key m task) earlier
+
+-- a member of it ends its task, which holds no critical name
+pub record MayEndIn (members t m : ℕ) (earlier : List Event) : Type 0 where
+  pub ends : MayEnd members t m earlier
+  pub names : NameRule (Done t m) earlier
 
 -- the rule of a team
 abbrev pub TeamRule : ℕ → Event → List Event → Type 0
@@ -73,6 +82,12 @@ TeamRule members (Arrive barrier m tag) earlier = MayArriveIn members barrier m 
 TeamRule members (Pass barrier m) earlier = MayPassIn members barrier m earlier
 TeamRule members (Hold key m task) earlier = MayHoldIn members key m task earlier
 TeamRule members (Free key m task) earlier = MayFree key m task earlier
+TeamRule members (Create t m parent desc) earlier = MayCreate members t m parent earlier
+TeamRule members (Start t m) earlier = MayStart members t m earlier
+TeamRule members (Done t m) earlier = MayEndIn members t m earlier
+TeamRule members (Group q m) earlier = MayOpen members q m earlier
+TeamRule members (GroupEnd q m) earlier = MayEndGroup members q m earlier
+TeamRule members (Waited m) earlier = MayGoOn members m earlier
 TeamRule members (Put share m payload) earlier = MayPut share m earlier
 TeamRule members (Got share m payload) earlier = MayGet share m payload earlier
 TeamRule members event earlier = ShareRule (schedule members) members event earlier

@@ -1,6 +1,6 @@
 -- The locks that a talk hands from team to team.
-use Rattle.std.proofs.Common.{◌≡◌, ◌∙◌, ℕ, List, [], ◌∷◌, Option, Some, None, suc, refl, ap, sym, subst, slice_get}
-use Rattle.std.specs.Prelude.{option_map, map}
+use Rattle.std.proofs.Common.{◌≡◌, ◌∙◌, ℕ, List, [], ◌∷◌, Option, Some, None, suc, refl, ap, slice_get}
+use Rattle.std.specs.Prelude.{option_map}
 use Rattle.gomp_types.specs.declared.event.Event.{Event}
 use Rattle.gomp_types.specs.declared.lock.LockKind.{LockKind}
 use Rattle.gomp_locks.specs.declared.lock.Lock.{Lock}
@@ -11,9 +11,9 @@ use Rattle.gomp_icv.specs.Variables.{Variables}
 use Rattle.gomp_held.specs.Stands.{lock_held, BookStands}
 use Rattle.gomp_core.specs.Stands.{TeamView, terms_of}
 use Rattle.gomp_core.specs.LocksMade.{kinds_of}
-use Rattle.gomp_core.proofs.Stepping.{terms_are}
+use Rattle.gomp_core.proofs.Lists.{terms_are}
 use Rattle.gomp_live.specs.Talk.{Made, locks_so_far}
-use Rattle.gomp_live.specs.Stands.{TeamStands, TeamIs, book_of}
+use Rattle.gomp_live.specs.Stands.{TeamIs, book_of}
 
 -- a lock that stands has the kind of its place
 kind_of_held : (number : ℕ) (h : List Event) (place : Option LockKind) → option_map (λ (lock : Lock). lock.kind) (lock_held number h place) ≡ place

@@ -1,5 +1,5 @@
 -- A talk as it is served, and how it ends.
-use Rattle.std.proofs.Common.{◌≡◌, ◌≢◌, ◌++◌, ◌∷◌, ◌∙◌, ℕ, List, [], Bool, false, true, Option, Some, None, Result, Ok, Err, refl, sym, subst}
+use Rattle.std.proofs.Common.{◌≡◌, ◌≢◌, ◌++◌, ◌∷◌, ◌∙◌, ℕ, List, [], false, Option, Result, Ok, Err, subst}
 use Rattle.std.specs.Prelude.{IfSome, OnOk}
 use Rattle.std.specs.Result.{is_err}
 use Rattle.std.specs.Io.BufRead.{take_through, DropsThrough}
@@ -7,7 +7,7 @@ use Rattle.std.specs.Io.KnownBytes.{Appends, IsAtEnd}
 use Rattle.gomp_types.specs.declared.event.Event.{Event}
 use Rattle.gomp_icv.specs.Variables.{Variables}
 use Rattle.gomp_text.specs.Words.{cut_at}
-use Rattle.gomp_live.specs.Talk.{Made, Talked}
+use Rattle.gomp_live.specs.Talk.{Talked}
 use Rattle.gomp_live.specs.Stands.{TalkView, TalkStands}
 use Rattle.gomp_live.specs.Serving.{LinesAnswered, SomeAnswered}
 use Rattle.gomp_live.proofs.InputLemmas.{InputLeft, input_begins, input_ended, input_stays, input_goes_on, appends_nothing, appends_more}

@@ -15,7 +15,7 @@ use Rattle.gomp_core.specs.Stands.{standard_terms, TakesMemory}
 use Rattle.gomp_core.specs.Resolved.{resolved_step}
 use Rattle.gomp_script.specs.declared.parse.Why.TheVariants.{FirstLine}
 use Rattle.gomp_script.specs.Printing.{reply_line, bad_line_text, refusal_line}
-use Rattle.gomp_live.specs.Talk.{Made, locks_so_far, begun_with, TeamAnswered, StepAnswered, NextStepAnswered, Answers, next_number, Talked}
+use Rattle.gomp_live.specs.Talk.{Made, locks_so_far, begun_with, TeamAnswered, NextStepAnswered, Answers, next_number, Talked}
 use Rattle.gomp_live.specs.Input.{input_lines, in_order}
 use Rattle.gomp_live.specs.Serving.{LinesAnswered, ServesLive}
 use Rattle.gomp_steps.specs.declared.serve.Ending.TheVariants as ending

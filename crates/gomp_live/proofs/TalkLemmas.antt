@@ -1,7 +1,6 @@
 -- What a line leaves of a talk.
-use Rattle.std.proofs.Common.{◌≡◌, ◌+◌, ◌++◌, ◌∷◌, ◌∙◌, ℕ, List, [], Bool, false, Option, Some, None, Result, Ok, Err, length, min, refl, ap, sym, subst, arith}
-use Rattle.std.specs.Prelude.{IfOk, is_some, codes, if◌then◌else◌}
-use Rattle.std.proofs.lemmas.Bool.{cases_Bool}
+use Rattle.std.proofs.Common.{◌≡◌, ◌+◌, ◌++◌, ◌∷◌, ◌∙◌, ℕ, List, Bool, Option, Some, None, Result, Ok, Err, refl, ap, subst, arith}
+use Rattle.std.specs.Prelude.{IfOk, is_some}
 use Rattle.gomp_types.specs.declared.call.Step.{Step}
 use Rattle.gomp_types.specs.declared.event.Event.{Event}
 use Rattle.gomp_types.specs.declared.reply.Reply.{Reply}
@@ -14,9 +13,9 @@ use Rattle.gomp_model.specs.Team.{Record, MayAnswer, past_of}
 use Rattle.gomp_icv.specs.Variables.{Variables}
 use Rattle.gomp_core.specs.Stands.{TeamView, Stands, Keeps, TakesMemory, past}
 use Rattle.gomp_core.specs.Resolved.{resolved_step}
-use Rattle.gomp_core.proofs.Stepping.{terms_are}
+use Rattle.gomp_core.proofs.Lists.{terms_are}
 use Rattle.gomp_script.specs.declared.live.LiveLine.{LiveLine}
-use Rattle.gomp_script.specs.declared.live.LiveLine.TheVariants.{NewTeam, NextStep}
+use Rattle.gomp_script.specs.declared.live.LiveLine.TheVariants.{NextStep}
 use Rattle.gomp_script.specs.declared.parse.Why.{Why}
 use Rattle.gomp_script.specs.LiveText.{read_live_line}
 use Rattle.gomp_script.specs.Printing.{reply_line}

@@ -22,7 +22,7 @@ pub record TalkView (S : Type 0) : Type 0 where
 pub record TeamStands {S : Type 0} (stands : S → List Event → Type 0) (members : S → ℕ) (icv : Variables) (team : TeamView S) (made : Made) : Type 0 where
   pub size_is : members_of team ≡ made.size
   pub icv_is : team.icv ≡ icv
-  pub limits_are : team.limits ≡ standard
+  pub limits_are : team.board.limits ≡ standard
   pub stands_for : Stands stands members team made.run
 
 -- the same of the team that stands, if one does

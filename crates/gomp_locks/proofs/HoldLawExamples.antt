@@ -1,19 +1,21 @@
 -- Each clause of the rule and of each law of names and locks by itself refuses an event after some others: one hold too many, a
 -- release by another, a pass too early. Only that clause refuses it, and it is computed; and what is allowed. OpenMP API 5.2,
 -- sections 15.2 and 18.9.
-use Rattle.std.proofs.Common.{◌≡◌, ℕ, true, false, List, [], ◌∷◌, None, refl, ap, arith}
+use Rattle.std.proofs.Common.{◌≡◌, ℕ, true, false, List, [], ◌∷◌, ◌++◌, None, refl, ap, arith, rules}
 use Rattle.gomp_types.specs.declared.task.Task.{Task}
 use Rattle.gomp_types.specs.declared.task.Task.TheVariants.{Implicit, Explicit}
 use Rattle.gomp_types.specs.declared.task.Owner.{Owner}
 use Rattle.gomp_types.specs.declared.key.Key.TheVariants.{Critical, Lock, NestLock}
 use Rattle.gomp_types.specs.declared.event.Event.{Event}
-use Rattle.gomp_types.specs.declared.event.Event.TheVariants.{Hold, Free, Pass}
+use Rattle.gomp_types.specs.declared.event.Event.TheVariants.{Hold, Free, Arrive, Pass, Start, Done}
+use Rattle.gomp_types.specs.declared.event.Arrival.TheVariants.{Barrier}
+use Rattle.gomp_types.specs.EventLists.{at}
 use Rattle.gomp_types.specs.Laws.{Always}
 use Rattle.gomp_locks.specs.Holders.{owner_of}
 use Rattle.gomp_locks.specs.HoldRules.{can_hold, HoldRule}
 use Rattle.gomp_locks.specs.HoldLaws.{holds_left, AtEachMoment, OneOwner, HeldOnce, FreesItsOwn, PassesFree}
 use Rattle.gomp_locks.proofs.BookExamples.{zero_owner, other_owner, task_owner}
-use Rattle.gomp_locks.proofs.HoldsKeep.{passes_free_holds}
+use Rattle.gomp_locks.proofs.NamesKeep.{passes_free_holds}
 use Rattle.gomp_locks.proofs.HolderExamples.{short_name, longer_name, other_name, hold_by, free_by, held_so, after_events, nest_thrice, freed_by}
 
 -- a law refuses these events
@@ -27,6 +29,10 @@ RefusedAfter Law events event = Law event (after_events events) → ⊥
 -- an explicit task is no implicit one
 never_implicit : (m number : ℕ) → ◌≡◌ {A = Task} (Explicit number) (Implicit m) → ⊥
 never_implicit m number e = absurd (cc)
+
+-- nor another one
+other_task : (one other : ℕ) → (one ≡ other → ⊥) → ◌≡◌ {A = Task} (Explicit one) (Explicit other) → ⊥
+other_task one other differ e = differ (let same : one ≡ other = cc in same)
 
 -- Whether an owner may hold it once more
 
@@ -118,6 +124,45 @@ handed_over = hold_by 0 (Critical short_name) ∷ free_by 0 (Critical short_name
 pub rule_allows_next_holder : Always HoldRule (after_events handed_over)
 rule_allows_next_holder =
     (record { current = refl; free = refl }, (record { current = refl; free = refl }, (record { current = refl; free = refl }, (record { current = refl; held = refl }, (record { current = refl; free = refl }, tt)))))
+
+-- Two tasks of one member
+
+-- a member holds in the task that it executes, and in the next one that it starts; then each frees its own, the inner one first
+abbrev two_task_holds : List Event
+two_task_holds = hold_by 0 (Lock 0) ∷ Start 1 0 ∷ Hold (NestLock 3) 0 (Explicit 1) ∷ Start 2 0 ∷ Hold (Lock 1) 0 (Explicit 2) ∷ []
+
+abbrev two_task_frees : List Event
+two_task_frees = Free (Lock 1) 0 (Explicit 2) ∷ Done 2 0 ∷ Free (NestLock 3) 0 (Explicit 1) ∷ Done 1 0 ∷ free_by 0 (Lock 0) ∷ []
+
+pub rule_allows_two_tasks : Always HoldRule (after_events (two_task_holds ++ two_task_frees))
+rule_allows_two_tasks = search rules
+
+-- the inner one may not hold what the suspended one holds, be it a nestable lock, nor free it
+pub rule_hold_of_suspended : RefusedAfter HoldRule two_task_holds (Hold (NestLock 3) 0 (Explicit 2))
+rule_hold_of_suspended may = absurd (let free = may.free in cc)
+
+pub rule_free_of_suspended : RefusedAfter HoldRule two_task_holds (Free (NestLock 3) 0 (Explicit 2))
+rule_free_of_suspended may = absurd (let held = may.held in cc)
+
+-- nor what the implicit task holds
+pub rule_hold_of_implicit : RefusedAfter HoldRule two_task_holds (Hold (Lock 0) 0 (Explicit 2))
+rule_hold_of_implicit may = absurd (let free = may.free in cc)
+
+pub rule_free_of_implicit : RefusedAfter HoldRule two_task_holds (Free (Lock 0) 0 (Explicit 2))
+rule_free_of_implicit may = absurd (let held = may.held in cc)
+
+-- the suspended ones neither hold once more nor free what they hold, until the inner one has ended
+pub rule_hold_while_suspended : RefusedAfter HoldRule two_task_holds (Hold (NestLock 3) 0 (Explicit 1))
+rule_hold_while_suspended may = other_task 1 2 (λ same. absurd (omega (arith, same))) may.current
+
+pub rule_free_while_suspended : RefusedAfter HoldRule two_task_holds (Free (NestLock 3) 0 (Explicit 1))
+rule_free_while_suspended may = other_task 1 2 (λ same. absurd (omega (arith, same))) may.current
+
+pub rule_free_in_implicit : RefusedAfter HoldRule two_task_holds (free_by 0 (Lock 0))
+rule_free_in_implicit may = absurd (let current = may.current in cc)
+
+pub rule_allows_hold_after_end : HoldRule (Hold (NestLock 3) 0 (Explicit 1)) (after_events (two_task_holds ++ Done 2 0 ∷ []))
+rule_allows_hold_after_end = record { current = refl; free = refl }
 
 -- Open holds
 
@@ -217,12 +262,12 @@ pub passed_with_lock : PassesFree (Pass 0 0) (after_events (hold_by 0 (Lock 3) �
 passed_with_lock name owner own = refl
 
 -- and another member may hold a name
-pub passed_while_another_holds : PassesFree (Pass 0 0) (after_events handed_over)
-passed_while_another_holds = passes_free_holds 0 0 (after_events handed_over) refl rule_allows_next_holder
+pub passed_while_another_holds : PassesFree (Pass 0 0) (after_events (handed_over ++ Arrive 0 0 (at Barrier 0) ∷ []))
+passed_while_another_holds = passes_free_holds 0 0 (after_events (handed_over ++ Arrive 0 0 (at Barrier 0) ∷ [])) refl refl (tt, rule_allows_next_holder) (search rules)
 
 -- it may have freed what it held
-pub passed_after_release : PassesFree (Pass 0 0) (after_events two_names)
-passed_after_release = passes_free_holds 0 0 (after_events two_names) refl rule_allows_two_names
+pub passed_after_release : PassesFree (Pass 0 0) (after_events (two_names ++ Arrive 0 0 (at Barrier 0) ∷ []))
+passed_after_release = passes_free_holds 0 0 (after_events (two_names ++ Arrive 0 0 (at Barrier 0) ∷ [])) refl refl (tt, rule_allows_two_names) (search rules)
 
 -- Each clause is of every member and every barrier
 

@@ -1,6 +1,6 @@
 -- Worked examples of who holds which name and which lock by what happened, computed. OpenMP API 5.2, sections 15.2 and 18.9.
 use Rattle.std.proofs.Common.{◌≡◌, ℕ, true, false, List, [], ◌∷◌, Option, Some, None, refl}
-use Rattle.std.specs.Prelude.{map}
+use Rattle.std.specs.Prelude.{map, ◌++◌}
 use Rattle.gomp_types.specs.declared.task.Task.TheVariants.{Implicit, Explicit}
 use Rattle.gomp_types.specs.declared.task.Owner.{Owner}
 use Rattle.gomp_types.specs.declared.lock.Held.{Held}
@@ -9,9 +9,15 @@ use Rattle.gomp_types.specs.declared.lock.LockKind.TheVariants.{Simple, Nest}
 use Rattle.gomp_types.specs.declared.key.Key.{Key}
 use Rattle.gomp_types.specs.declared.key.Key.TheVariants.{Critical, Lock, NestLock}
 use Rattle.gomp_types.specs.declared.event.Event.{Event}
-use Rattle.gomp_types.specs.declared.event.Event.TheVariants.{Hold, Free, Pass}
+use Rattle.gomp_types.specs.declared.event.Event.TheVariants.{Hold, Free, Pass, Start, Done}
+use Rattle.gomp_types.specs.declared.refusal.Refusal.{Refusal}
+use Rattle.gomp_types.specs.declared.refusal.Refusal.TheVariants.{AlreadyHeld, NotHolder}
+use Rattle.gomp_types.specs.declared.reply.Reply.TheVariants.{Wait, Count}
 use Rattle.gomp_types.specs.EventLists.{newest_first}
-use Rattle.gomp_locks.specs.Holders.{same_key, is_nestable, key_of, owner_of, current_task, asker, held_once_more, held_once_less, holder, holding_owner, own_part, without_name, held_names, holds_critical, found_lock, found_any_lock}
+use Rattle.gomp_types.specs.Least.{least}
+use Rattle.gomp_locks.specs.CriticalNames.{critical_start_tests, critical_end_tests}
+use Rattle.gomp_locks.specs.Locks.{set_tests, SetsLock, unset_tests, nest_tests, SetsNest, TestsNest}
+use Rattle.gomp_locks.specs.Holders.{same_key, is_nestable, key_of, owner_of, asker, held_once_more, held_once_less, holder, holding_owner, own_part, without_name, held_names, holds_critical, found_lock, found_any_lock}
 use Rattle.gomp_locks.proofs.BookExamples.{zero_owner, other_owner, task_owner}
 
 -- What the examples are made of
@@ -72,9 +78,21 @@ keys_of_kinds = (refl, refl)
 pub owners_of_tasks : (owner_of 0 (Implicit 0) ≡ zero_owner) × (owner_of 1 (Implicit 1) ≡ other_owner) × (owner_of 0 (Explicit 1) ≡ task_owner)
 owners_of_tasks = (refl, refl, refl)
 
--- a member asks as its implicit task, whatever happened
-pub askers_of_calls : (asker 1 [] ≡ other_owner) × (asker 1 (after_events (hold_by 0 (Lock 0) ∷ hold_by 1 (Lock 1) ∷ [])) ≡ other_owner) × (current_task 1 [] ≡ Implicit 1)
-askers_of_calls = (refl, refl, refl)
+-- a member that has started no task asks as its implicit one, whatever it holds
+pub askers_of_calls : (asker 1 [] ≡ other_owner) × (asker 1 (after_events (hold_by 0 (Lock 0) ∷ hold_by 1 (Lock 1) ∷ [])) ≡ other_owner)
+askers_of_calls = (refl, refl)
+
+-- the first member starts task 1, and in it task 2
+abbrev pub started_twice : List Event
+started_twice = Start 1 0 ∷ Start 2 0 ∷ []
+
+-- one that executes an explicit task asks as that one, the innermost that it has started, until it ends it; another member asks as before
+pub askers_in_tasks :
+    map (λ events. asker 0 (after_events events)) ((Start 1 0 ∷ []) ∷ started_twice ∷ (started_twice ++ Done 2 0 ∷ []) ∷ (started_twice ++ Done 2 0 ∷ Done 1 0 ∷ []) ∷ []) ≡ task_owner ∷ record task_owner { task = 2 } ∷ task_owner ∷ zero_owner ∷ []
+askers_in_tasks = refl
+
+pub askers_beside_tasks : (asker 1 (after_events started_twice) ≡ other_owner) × (asker 0 (after_events (Start 1 1 ∷ [])) ≡ zero_owner)
+askers_beside_tasks = (refl, refl)
 
 -- Holders
 
@@ -152,6 +170,54 @@ pub holders_of_some_name :
     × (holds_critical zero_owner (after_events (hold_by 0 (Lock 0) ∷ [])) ≡ false)
     × (holds_critical zero_owner (after_events (hold_by 0 (Critical short_name) ∷ free_by 0 (Critical short_name) ∷ [])) ≡ false)
 holders_of_some_name = (refl, refl, refl)
+
+-- Two tasks of one member
+
+-- task 1 of the first member holds the name 'a', lock 3 and twice nestable lock 1, and is suspended while the member executes task 2
+abbrev pub held_by_suspended : List Event
+held_by_suspended =
+    Start 1 0 ∷ Hold (Critical short_name) 0 (Explicit 1) ∷ Hold (Lock 3) 0 (Explicit 1) ∷ Hold (NestLock 1) 0 (Explicit 1) ∷ Hold (NestLock 1) 0 (Explicit 1) ∷ Start 2 0 ∷ []
+
+-- they stay its own, though the member asks as task 2, which holds nothing; nor does the implicit task
+pub holders_while_suspended :
+    map (λ key. holder key (after_events held_by_suspended)) (Critical short_name ∷ Lock 3 ∷ NestLock 1 ∷ []) ≡ held_so task_owner 1 ∷ held_so task_owner 1 ∷ held_so task_owner 2 ∷ []
+holders_while_suspended = refl
+
+pub names_while_suspended :
+    map (λ owner. held_names owner (after_events held_by_suspended)) (task_owner ∷ asker 0 (after_events held_by_suspended) ∷ zero_owner ∷ []) ≡ (short_name ∷ []) ∷ [] ∷ [] ∷ []
+names_while_suspended = refl
+
+pub no_name_of_asker : holds_critical (asker 0 (after_events held_by_suspended)) (after_events held_by_suspended) ≡ false
+no_name_of_asker = refl
+
+-- the member may not enter the region again in task 2, since one of its tasks is in it; another member waits
+abbrev start_asked : ℕ → Option Refusal
+start_asked m = least (critical_start_tests (asker m (after_events held_by_suspended)) short_name (holding_owner (holder (Critical short_name) (after_events held_by_suspended))))
+
+pub start_beside_suspended : (start_asked 0 ≡ Some AlreadyHeld) × (start_asked 1 ≡ None)
+start_beside_suspended = (refl, refl)
+
+-- nor end it
+pub end_beside_suspended : least (critical_end_tests (asker 0 (after_events held_by_suspended)) short_name (holding_owner (holder (Critical short_name) (after_events held_by_suspended)))) ≡ Some NotHolder
+end_beside_suspended = refl
+
+-- a lock has no such test: task 2 may ask, and waits for task 1; it may not unset it
+abbrev lock_beside_suspended : Option (Option Held)
+lock_beside_suspended = Some (holder (Lock 3) (after_events held_by_suspended))
+
+pub set_beside_suspended :
+    (least (set_tests (asker 0 (after_events held_by_suspended)) lock_beside_suspended) ≡ None) × SetsLock lock_beside_suspended Wait
+    × (least (unset_tests (asker 0 (after_events held_by_suspended)) lock_beside_suspended) ≡ Some NotHolder)
+set_beside_suspended = (refl, tt, refl)
+
+-- a nestable lock neither; its count is that of task 1 alone
+abbrev nest_beside_suspended : Option (Option Held)
+nest_beside_suspended = Some (holder (NestLock 1) (after_events held_by_suspended))
+
+pub nest_set_beside_suspended :
+    (least (nest_tests (asker 0 (after_events held_by_suspended)) nest_beside_suspended) ≡ None) × SetsNest (asker 0 (after_events held_by_suspended)) nest_beside_suspended Wait
+    × TestsNest (asker 0 (after_events held_by_suspended)) nest_beside_suspended (Count 0) × SetsNest task_owner nest_beside_suspended (Count 3)
+nest_set_beside_suspended = (refl, refl, refl, (refl, refl))
 
 -- Locks
 

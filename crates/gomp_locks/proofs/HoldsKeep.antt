@@ -2,21 +2,21 @@
 use Rattle.std.proofs.Common.{◌≡◌, ℕ, ◌+◌, ◌-◌, ◌<◌, ◌≤◌, Bool, true, false, List, [], ◌∷◌, Option, Some, None, refl, ap, sym, ◌∙◌, arith}
 use Rattle.std.specs.Prelude.{if◌then◌else◌, ◌||◌, ◌==◌, not, bytes_eq}
 use Rattle.gomp_types.specs.declared.task.Task.{Task}
-use Rattle.gomp_types.specs.declared.task.Task.TheVariants.{Implicit}
 use Rattle.gomp_types.specs.declared.task.Owner.{Owner}
 use Rattle.gomp_types.specs.declared.lock.Held.{Held}
 use Rattle.gomp_types.specs.declared.key.Key.{Key}
 use Rattle.gomp_types.specs.declared.key.Key.TheVariants.{Critical, Lock, NestLock}
 use Rattle.gomp_types.specs.declared.event.Event.{Event}
-use Rattle.gomp_types.specs.declared.event.Event.TheVariants.{Hold, Free, Pass}
+use Rattle.gomp_types.specs.declared.event.Event.TheVariants.{Hold, Free, Start, Done}
+use Rattle.gomp_types.specs.Events.{member_of}
 use Rattle.gomp_types.specs.Laws.{Always}
 use Rattle.gomp_types.specs.Owners.{same_owner}
-use Rattle.gomp_types.proofs.Booleans.{is_equal, and_left, not_both, same_number, unequal_numbers}
+use Rattle.gomp_types.proofs.Booleans.{is_equal, and_left, not_both, unequal_numbers}
 use Rattle.gomp_locks.specs.Book.{held_by, held_times}
 use Rattle.gomp_locks.specs.Locks.{count_for}
-use Rattle.gomp_locks.specs.Holders.{same_key, is_nestable, owner_of, asker, held_once_more, held_once_less, holder, own_part, without_name, held_names, are_some, holds_critical}
+use Rattle.gomp_locks.specs.Holders.{same_key, is_nestable, owner_of, asker, held_once_more, held_once_less, holder, without_name, held_names, are_some, holds_critical}
 use Rattle.gomp_locks.specs.HoldRules.{can_hold, MayHold, MayFree, HoldRule}
-use Rattle.gomp_locks.specs.HoldLaws.{holds_left, AtEachMoment, OneOwner, HeldOnce, FreesItsOwn, PassesFree}
+use Rattle.gomp_locks.specs.HoldLaws.{holds_left, AtEachMoment, OneOwner, HeldOnce, FreesItsOwn}
 use Rattle.gomp_locks.proofs.NameLemmas.{one_owner}
 use Rattle.gomp_locks.proofs.OwnerLemmas.{one_name, same_name}
 
@@ -56,68 +56,96 @@ found_by_free owner None may = absurd (cc)
 found_by_free owner (Some held) may = one_owner held.owner owner may
 
 -- the same of the key that is asked for
-hold_of_key : (key other : Key) (m : ℕ) (task : Task) (h : List Event) → same_key other key ≡ true → MayHold other m task h → can_hold key (owner_of m task) (holder key h) ≡ true
+pub hold_of_key : (key other : Key) (m : ℕ) (task : Task) (h : List Event) → same_key other key ≡ true → MayHold other m task h → can_hold key (owner_of m task) (holder key h) ≡ true
 hold_of_key key other m task h same may = rw (one_key other key same) at may.free
 
 free_of_key : (key other : Key) (m : ℕ) (task : Task) (h : List Event) → same_key other key ≡ true → MayFree other m task h → held_by (owner_of m task) (holder key h) ≡ true
 free_of_key key other m task h same may = rw (one_key other key same) at may.held
 
--- What a member holds, after an event of another
+-- Whether an owner holds it, after an event of another
 
-own_part_more : (k n : ℕ) (task : Task) (key : Key) (found : Option Held) → (n == k) ≡ false → can_hold key (owner_of n task) found ≡ true → own_part k (held_once_more (owner_of n task) found) ≡ own_part k found
-own_part_more k n task key None other may = rw other refl
-own_part_more k n task key (Some held) other may =
-    let is : held.owner ≡ owner_of n task = (found_by_hold key (owner_of n task) (Some held) may).0 in
-    let apart : (held.owner.member == k) ≡ false = ap (λ (owner : Owner). owner.member == k) is ∙ other in rw apart refl
+-- a hold keeps the owner, if there is one
+held_more_by_another : (one owner : Owner) (found : Option Held) → same_owner one owner ≡ false → held_by owner (held_once_more one found) ≡ held_by owner found
+held_more_by_another one owner None other = other
+held_more_by_another one owner (Some held) other = refl
 
-own_part_less : (k n : ℕ) (task : Task) (found : Option Held) → (n == k) ≡ false → held_by (owner_of n task) found ≡ true → own_part k (held_once_less found) ≡ own_part k found
-own_part_less k n task None other may = refl
-own_part_less k n task (Some held) other may = by_count (held.count - 1 == 0) refl
+-- what one owner holds no other does
+another_holds : (one owner : Owner) (found : Option Held) → held_by one found ≡ true → same_owner one owner ≡ false → held_by owner found ≡ false
+another_holds one owner None may other = refl
+another_holds one owner (Some held) may other = ap (λ (x : Owner). same_owner x owner) (found_by_free one (Some held) may) ∙ other
+
+held_less_by_another : (one owner : Owner) (found : Option Held) → held_by one found ≡ true → same_owner one owner ≡ false → held_by owner (held_once_less found) ≡ held_by owner found
+held_less_by_another one owner None may other = refl
+held_less_by_another one owner (Some held) may other = by_count (held.count - 1 == 0) refl
   where
-    apart : (held.owner.member == k) ≡ false
-    apart = ap (λ (owner : Owner). owner.member == k) (found_by_free (owner_of n task) (Some held) may) ∙ other
+    apart : same_owner held.owner owner ≡ false
+    apart = another_holds one owner (Some held) may other
 
-    by_count : (b : Bool) → (held.count - 1 == 0) ≡ b → own_part k (held_times held.owner (held.count - 1)) ≡ own_part k (Some held)
+    by_count : (b : Bool) → (held.count - 1 == 0) ≡ b → held_by owner (held_times held.owner (held.count - 1)) ≡ same_owner held.owner owner
     by_count true e = rw (e, apart) refl
-    by_count false e = rw (e, apart) refl
+    by_count false e = rw e refl
 
--- a hold leaves what another member holds
-pub own_part_of_another_stays_held : (key x : Key) (k n : ℕ) (task : Task) (h : List Event) → MayHold key n task h → (n == k) ≡ false → own_part k (holder x (Hold key n task ∷ h)) ≡ own_part k (holder x h)
-own_part_of_another_stays_held key x k n task h may other = by_key (same_key key x) refl
+-- whether an owner holds it does not change by a hold of another
+pub held_by_another_stays_held : (key x : Key) (owner : Owner) (n : ℕ) (task : Task) (h : List Event) → same_owner (owner_of n task) owner ≡ false → held_by owner (holder x (Hold key n task ∷ h)) ≡ held_by owner (holder x h)
+held_by_another_stays_held key x owner n task h other = by_key (same_key key x) refl
   where
-    by_key : (b : Bool) → same_key key x ≡ b → own_part k (holder x (Hold key n task ∷ h)) ≡ own_part k (holder x h)
-    by_key true e = rw e (own_part_more k n task x (holder x h) other (hold_of_key x key n task h e may))
+    by_key : (b : Bool) → same_key key x ≡ b → held_by owner (holder x (Hold key n task ∷ h)) ≡ held_by owner (holder x h)
+    by_key true e = rw e (held_more_by_another (owner_of n task) owner (holder x h) other)
     by_key false e = rw e refl
 
--- and so does a release
-pub own_part_of_another_stays_freed : (key x : Key) (k n : ℕ) (task : Task) (h : List Event) → MayFree key n task h → (n == k) ≡ false → own_part k (holder x (Free key n task ∷ h)) ≡ own_part k (holder x h)
-own_part_of_another_stays_freed key x k n task h may other = by_key (same_key key x) refl
+-- nor by a release
+pub held_by_another_stays_freed : (key x : Key) (owner : Owner) (n : ℕ) (task : Task) (h : List Event) → MayFree key n task h → same_owner (owner_of n task) owner ≡ false → held_by owner (holder x (Free key n task ∷ h)) ≡ held_by owner (holder x h)
+held_by_another_stays_freed key x owner n task h may other = by_key (same_key key x) refl
   where
-    by_key : (b : Bool) → same_key key x ≡ b → own_part k (holder x (Free key n task ∷ h)) ≡ own_part k (holder x h)
-    by_key true e = rw e (own_part_less k n task (holder x h) other (free_of_key x key n task h e may))
+    by_key : (b : Bool) → same_key key x ≡ b → held_by owner (holder x (Free key n task ∷ h)) ≡ held_by owner (holder x h)
+    by_key true e = rw e (held_less_by_another (owner_of n task) owner (holder x h) (free_of_key x key n task h e may) other)
     by_key false e = rw e refl
 
--- both leave the names of another member
-pub names_of_another_stay_held : (key : Key) (k n : ℕ) (task : Task) (h : List Event) → (n == k) ≡ false → held_names (asker k h) (Hold key n task ∷ h) ≡ held_names (asker k h) h
-names_of_another_stay_held (Critical name) k n task h other = rw other refl
-names_of_another_stay_held (Lock number) k n task h other = refl
-names_of_another_stay_held (NestLock number) k n task h other = refl
+-- both leave the names of another owner
+pub names_of_another_stay_held : (key : Key) (owner : Owner) (n : ℕ) (task : Task) (h : List Event) → same_owner (owner_of n task) owner ≡ false → held_names owner (Hold key n task ∷ h) ≡ held_names owner h
+names_of_another_stay_held (Critical name) owner n task h other = rw other refl
+names_of_another_stay_held (Lock number) owner n task h other = refl
+names_of_another_stay_held (NestLock number) owner n task h other = refl
 
-pub names_of_another_stay_freed : (key : Key) (k n : ℕ) (task : Task) (h : List Event) → (n == k) ≡ false → held_names (asker k h) (Free key n task ∷ h) ≡ held_names (asker k h) h
-names_of_another_stay_freed (Critical name) k n task h other = rw other refl
-names_of_another_stay_freed (Lock number) k n task h other = refl
-names_of_another_stay_freed (NestLock number) k n task h other = refl
+pub names_of_another_stay_freed : (key : Key) (owner : Owner) (n : ℕ) (task : Task) (h : List Event) → same_owner (owner_of n task) owner ≡ false → held_names owner (Free key n task ∷ h) ≡ held_names owner h
+names_of_another_stay_freed (Critical name) owner n task h other = rw other refl
+names_of_another_stay_freed (Lock number) owner n task h other = refl
+names_of_another_stay_freed (NestLock number) owner n task h other = refl
+
+-- the tasks of another member are other owners
+pub owner_of_another_member : (n k : ℕ) (task own : Task) → (n == k) ≡ false → same_owner (owner_of n task) (owner_of k own) ≡ false
+owner_of_another_member n k task own other = rw other refl
+
+-- Who asks
+
+-- whether the event changes the task that the member executes: it starts one or ends one
+abbrev pub changes_task : ℕ → Event → Bool
+changes_task k (Start task m) = m == k
+changes_task k (Done task m) = m == k
+changes_task k _ = false
+
+-- no other event changes who asks
+pub asker_stays : (k : ℕ) (event : Event) (h : List Event) → changes_task k event ≡ false → asker k (event ∷ h) ≡ asker k h
+asker_stays k (Start task m) h other = rw other refl
+asker_stays k (Done task m) h other = rw other refl
+asker_stays k _ h other = refl
+
+-- nor does an event of another member
+pub asker_of_another_stays : (k : ℕ) (event : Event) (h : List Event) → (member_of event == k) ≡ false → asker k (event ∷ h) ≡ asker k h
+asker_of_another_stays k (Start task m) h other = rw other refl
+asker_of_another_stays k (Done task m) h other = rw other refl
+asker_of_another_stays k _ h other = refl
 
 -- How something is held
 
--- at least once, by a member's current task, and once if it is no nestable lock
+-- at least once, and once if it is no nestable lock
 abbrev IsProper : Key → Option Held → Type 0
 IsProper key None = Unit {0}
-IsProper key (Some held) = (1 ≤ held.count) × (held.owner ≡ owner_of held.owner.member (Implicit held.owner.member)) × (is_nestable key ≡ false → held.count ≡ 1)
+IsProper key (Some held) = (1 ≤ held.count) × (is_nestable key ≡ false → held.count ≡ 1)
 
-proper_more : (key : Key) (m : ℕ) (found : Option Held) → can_hold key (owner_of m (Implicit m)) found ≡ true → IsProper key found → IsProper key (held_once_more (owner_of m (Implicit m)) found)
-proper_more key m None may is = (omega arith, refl, λ single. refl)
-proper_more key m (Some held) may is = (omega arith, is.1, λ single. absurd (not_both (is_nestable key) (found_by_hold key (owner_of m (Implicit m)) (Some held) may).1 single))
+proper_more : (key : Key) (owner : Owner) (found : Option Held) → can_hold key owner found ≡ true → IsProper key found → IsProper key (held_once_more owner found)
+proper_more key owner None may is = (omega arith, λ single. refl)
+proper_more key owner (Some held) may is = (omega arith, λ single. absurd (not_both (is_nestable key) (found_by_hold key owner (Some held) may).1 single))
 
 proper_less : (key : Key) (found : Option Held) → IsProper key found → IsProper key (held_once_less found)
 proper_less key None is = tt
@@ -127,15 +155,15 @@ proper_less key (Some held) is = by_count (held.count - 1 == 0) refl
     by_count true e = rw e tt
     by_count false e =
         let some = unequal_numbers (held.count - 1) 0 e in
-        let once : is_nestable key ≡ false → held.count - 1 ≡ 1 = λ single. absurd (let one = is.2 single in omega (arith, one, some)) in
-        let least : 1 ≤ held.count - 1 = omega (arith, some) in rw e (least, is.1, once)
+        let once : is_nestable key ≡ false → held.count - 1 ≡ 1 = λ single. absurd (let one = is.1 single in omega (arith, one, some)) in
+        let least : 1 ≤ held.count - 1 = omega (arith, some) in rw e (least, once)
 
 proper_holder : (key : Key) (h : List Event) → Always HoldRule h → IsProper key (holder key h)
 proper_holder key [] all = tt
 proper_holder key (Hold other m task ∷ earlier) all = by_key (same_key other key) refl (proper_holder key earlier all.1)
   where
     by_key : (b : Bool) → same_key other key ≡ b → IsProper key (holder key earlier) → IsProper key (holder key (Hold other m task ∷ earlier))
-    by_key true e is = let may = hold_of_key key other m task earlier e all.0 in rw (e, all.0.current) (proper_more key m (holder key earlier) (rw all.0.current at may) is)
+    by_key true e is = rw e (proper_more key (owner_of m task) (holder key earlier) (hold_of_key key other m task earlier e all.0) is)
     by_key false e is = rw e is
 proper_holder key (Free other m task ∷ earlier) all = by_key (same_key other key) refl (proper_holder key earlier all.1)
   where
@@ -148,13 +176,9 @@ proper_holder key (_ ∷ earlier) all = proper_holder key earlier all.1
 pub held_at_least_once : (key : Key) (held : Held) (h : List Event) → Always HoldRule h → holder key h ≡ Some held → 1 ≤ held.count
 held_at_least_once key held h all is = let proper = rw is at (proper_holder key h all) in proper.0
 
--- by the task with which its member asks
-pub holder_is_asker : (key : Key) (held : Held) (h : List Event) → Always HoldRule h → holder key h ≡ Some held → held.owner ≡ asker held.owner.member h
-holder_is_asker key held h all is = let proper = rw is at (proper_holder key h all) in proper.1
-
 -- and once, if it is no nestable lock
 pub held_once_of_single : (key : Key) (held : Held) (h : List Event) → is_nestable key ≡ false → Always HoldRule h → holder key h ≡ Some held → held.count ≡ 1
-held_once_of_single key held h single all is = let proper = rw is at (proper_holder key h all) in proper.2 single
+held_once_of_single key held h single all is = let proper = rw is at (proper_holder key h all) in proper.1 single
 
 -- Open holds
 
@@ -241,20 +265,15 @@ among_without_another name other (one ∷ names) differ = by_name (bytes_eq one 
     by_name true e later = let apart : bytes_eq one name ≡ false = ap (λ (n : List ℕ). bytes_eq n name) (one_name one other e) ∙ differ in rw (e, apart) later
     by_name false e later = rw (e, later) refl
 
--- a name that is held
-free_name : (owner : Owner) (name : List ℕ) (found : Option Held) → can_hold (Critical name) owner found ≡ true → found ≡ None
+-- a name that may be held nobody holds
+pub free_name : (owner : Owner) (name : List ℕ) (found : Option Held) → can_hold (Critical name) owner found ≡ true → found ≡ None
 free_name owner name None may = refl
 free_name owner name (Some held) may = absurd (cc)
 
--- is held once, so nobody holds it after its release
+-- one that is held is held once, so nobody holds it after its release
 left_name : (owner : Owner) (name : List ℕ) (found : Option Held) → held_by owner found ≡ true → IsProper (Critical name) found → held_once_less found ≡ None
 left_name owner name None may is = refl
-left_name owner name (Some held) may is = let once : held.count ≡ 1 = is.2 refl in rw once refl
-
--- and another owner does not hold it
-another_holds : (one owner : Owner) (found : Option Held) → held_by one found ≡ true → same_owner one owner ≡ false → held_by owner found ≡ false
-another_holds one owner None may differ = refl
-another_holds one owner (Some held) may differ = ap (λ (other : Owner). same_owner other owner) (found_by_free one (Some held) may) ∙ differ
+left_name owner name (Some held) may is = let once : held.count ≡ 1 = is.1 refl in rw once refl
 
 -- the names that an owner holds are those whose holder it is
 among_held : (owner : Owner) (name : List ℕ) (h : List Event) → Always HoldRule h → is_among name (held_names owner h) ≡ held_by owner (holder (Critical name) h)
@@ -325,7 +344,7 @@ counted_once key owner None single is = omega arith
 counted_once key owner (Some held) single is = by_owner (same_owner held.owner owner) refl
   where
     by_owner : (b : Bool) → same_owner held.owner owner ≡ b → count_for owner (Some held) ≤ 1
-    by_owner true e = let once = is.2 single in rw (e, once) (omega arith)
+    by_owner true e = let once = is.1 single in rw (e, once) (omega arith)
     by_owner false e = rw e (omega arith)
 
 -- at any moment
@@ -355,24 +374,3 @@ pub frees_its_own : (event : Event) (earlier : List Event) → HoldRule event ea
 frees_its_own (Free key m task) earlier may all =
     rw (holds_left_is_count (owner_of m task) key earlier all) (owner_counted key (owner_of m task) (holder key earlier) may.held (proper_holder key earlier all))
 frees_its_own _ earlier may all = tt
-
--- a member that holds no name holds none in any of its tasks
-no_name_counted : (m : ℕ) (name : List ℕ) (owner : Owner) (found : Option Held) → held_by (owner_of m (Implicit m)) found ≡ false → IsProper (Critical name) found → owner.member ≡ m → count_for owner found ≡ 0
-no_name_counted m name owner None none is own = refl
-no_name_counted m name owner (Some held) none is own = by_owner (same_owner held.owner owner) refl
-  where
-    by_owner : (b : Bool) → same_owner held.owner owner ≡ b → count_for owner (Some held) ≡ 0
-    by_owner true e =
-        let member : held.owner.member ≡ m = ap (λ (one : Owner). one.member) (one_owner held.owner owner e) ∙ own in
-        let asks : held.owner ≡ owner_of m (Implicit m) = is.1 ∙ ap (λ (k : ℕ). owner_of k (Implicit k)) member in
-        let same : same_owner held.owner (owner_of m (Implicit m)) ≡ true = rw (asks, same_number m) refl in absurd (not_both (same_owner held.owner (owner_of m (Implicit m))) same none)
-    by_owner false e = rw e refl
-
--- a member that holds no name passes a barrier
-pub passes_free_holds : (barrier m : ℕ) (earlier : List Event) → holds_critical (asker m earlier) earlier ≡ false → Always HoldRule earlier → PassesFree (Pass barrier m) earlier
-passes_free_holds barrier m earlier none all =
-    λ name owner own. rw (holds_left_is_count owner (Critical name) earlier all) (no_name_counted m name owner (holder (Critical name) earlier) (unheld name (held_by (asker m earlier) (holder (Critical name) earlier)) refl) (proper_holder (Critical name) earlier all) own)
-  where
-    unheld : (name : List ℕ) (b : Bool) → held_by (asker m earlier) (holder (Critical name) earlier) ≡ b → held_by (asker m earlier) (holder (Critical name) earlier) ≡ false
-    unheld name true held = absurd (not_both (holds_critical (asker m earlier) earlier) (name_is_held (asker m earlier) name earlier all held) none)
-    unheld name false held = held

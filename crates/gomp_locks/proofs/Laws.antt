@@ -1,35 +1,41 @@
 -- The laws of critical names and locks: the page to read first. They speak of one call by one owner, its reply, and the book
 -- before and after it (BookCalls); the last section speaks of the events of a team. OpenMP API 5.2, sections 15.2 and 18.9.
-use Rattle.std.proofs.Common.{◌≡◌, ◌≤◌, ℕ, ◌+◌, ◌<◌, true, false, List, [], Option, Some, None, length}
-use Rattle.std.specs.Prelude.{slice_get, bytes_eq, IsTrue, ◌↔◌}
+use Rattle.std.proofs.Common.{◌≡◌, ◌≤◌, ℕ, ◌+◌, ◌<◌, true, false, List, [], ◌∷◌, Option, Some, None, length}
+use Rattle.std.specs.Prelude.{slice_get, bytes_eq, IsTrue, ◌↔◌, ◌⊎◌}
 use Rattle.std.proofs.lemmas.List.{length_push}
 use Rattle.std.specs.Option.{option_flatten}
 use Rattle.std.specs.Ordering.{nat_cmp}
 use Rattle.std.specs.Cmp.Lexicographic.{slice_cmp}
 use Rattle.std.specs.List.Sorted.{IsStrictlySortedBy}
 use Rattle.std.specs.Map.{lookup, keys_of}
+use Rattle.gomp_types.specs.declared.task.Task.{Task}
+use Rattle.gomp_types.specs.declared.task.Task.TheVariants.{Implicit}
 use Rattle.gomp_types.specs.declared.task.Owner.{Owner}
 use Rattle.gomp_types.specs.declared.lock.LockKind.{LockKind}
 use Rattle.gomp_types.specs.declared.lock.Held.{Held}
 use Rattle.gomp_types.specs.declared.key.Key.{Key}
 use Rattle.gomp_types.specs.declared.key.Key.TheVariants.{Critical}
 use Rattle.gomp_types.specs.declared.event.Event.{Event}
-use Rattle.gomp_types.specs.declared.event.Event.TheVariants.{Pass}
+use Rattle.gomp_types.specs.declared.event.Event.TheVariants.{Hold, Free, Pass}
 use Rattle.gomp_types.specs.declared.reply.Reply.{Reply}
 use Rattle.gomp_types.specs.declared.reply.Reply.TheVariants.{Lock as LockMade}
+use Rattle.gomp_types.specs.Events.{at_barrier}
+use Rattle.gomp_types.specs.Tasks.{contains, task_stack, in_task}
 use Rattle.gomp_types.specs.Laws.{Always}
 use Rattle.gomp_types.specs.Owners.{same_owner}
 use Rattle.gomp_types.proofs.Always.{always_so}
 use Rattle.gomp_locks.specs.declared.lock.Lock.{Lock}
 use Rattle.gomp_locks.specs.Book.{BookView, name_owner, owned_by, names_held, open_holds, held_by}
 use Rattle.gomp_locks.specs.Locks.{count_for}
-use Rattle.gomp_locks.specs.Holders.{asker, holder, holds_critical}
-use Rattle.gomp_locks.specs.HoldRules.{HoldRule}
+use Rattle.gomp_locks.specs.Holders.{owner_of, asker, holder, holds_critical}
+use Rattle.gomp_locks.specs.HoldRules.{MayFree, HoldRule}
+use Rattle.gomp_locks.specs.NameRules.{NameRule}
 use Rattle.gomp_locks.specs.HoldLaws.{holds_left, AtEachMoment, OneOwner, HeldOnce, FreesItsOwn, PassesFree}
 use Rattle.gomp_locks.proofs.BookCalls.{BookCall, CallAnswered, after_call, holds_gained, holds_lost, IsInOrder, make_lock}
 use Rattle.gomp_locks.proofs.CallLemmas.{barred_stays, no_fewer_locks, another_owners_name}
 use Rattle.gomp_locks.proofs.CountLemmas.{some_are_held}
-use Rattle.gomp_locks.proofs.HoldsKeep.{name_is_held, critical_name_held, holds_left_is_count, one_owner_holds, held_once_holds, frees_its_own, passes_free_holds}
+use Rattle.gomp_locks.proofs.HoldsKeep.{held_by_another_stays_held, held_by_another_stays_freed, name_is_held, critical_name_held, holds_left_is_count, one_owner_holds, held_once_holds, frees_its_own}
+use Rattle.gomp_locks.proofs.NamesKeep.{asker_within, name_owner_not_ended, name_owner_at_barrier, passes_free_holds}
 use Rattle.gomp_locks.proofs.OpenHolds.{holds_move}
 use Rattle.gomp_locks.proofs.OrderLemmas.{new_in_order, call_keeps_order}
 use Rattle.gomp_locks.proofs.OwnerLemmas.{one_that_is_held}
@@ -101,14 +107,35 @@ held_once_at_each_moment = held_once_holds
 pub each_frees_its_own : (h : List Event) → Always HoldRule h → Always FreesItsOwn h
 each_frees_its_own = always_so HoldRule FreesItsOwn frees_its_own
 
--- a member that holds no critical name as it asks holds none in any of its tasks: so it may pass a barrier
-pub passes_without_names : (barrier m : ℕ) (earlier : List Event) → holds_critical (asker m earlier) earlier ≡ false → Always HoldRule earlier → PassesFree (Pass barrier m) earlier
-passes_without_names = passes_free_holds
-
--- and it holds a critical name exactly if it is the holder of one
+-- an owner holds a critical name exactly if it is the holder of one
 pub holder_of_names_by_events : (owner : Owner) (h : List Event) → Always HoldRule h → IsTrue (holds_critical owner h) ↔ ((name : List ℕ) × (held_by owner (holder (Critical name) h) ≡ true))
 holder_of_names_by_events owner h all = (critical_name_held owner h all, (λ held. name_is_held owner held.0 h all held.1))
 
 -- an owner has as many open holds of a name or a lock as it is held by it
 pub open_holds_by_events : (owner : Owner) (key : Key) (h : List Event) → Always HoldRule h → holds_left owner key h ≡ count_for owner (holder key h)
 open_holds_by_events = holds_left_is_count
+
+-- whether an owner holds it does not change by a hold or a release of another, also of another task of its member
+pub held_stays_as_another_holds : (key other : Key) (owner : Owner) (m : ℕ) (task : Task) (h : List Event) → same_owner (owner_of m task) owner ≡ false → held_by owner (holder key (Hold other m task ∷ h)) ≡ held_by owner (holder key h)
+held_stays_as_another_holds key other = held_by_another_stays_held other key
+
+pub held_stays_as_another_frees : (key other : Key) (owner : Owner) (m : ℕ) (task : Task) (h : List Event) → MayFree other m task h → same_owner (owner_of m task) owner ≡ false → held_by owner (holder key (Free other m task ∷ h)) ≡ held_by owner (holder key h)
+held_stays_as_another_frees key other = held_by_another_stays_freed other key
+
+-- With the rule of critical names too (specs/NameRules.antt)
+
+-- a member that executes an explicit task is another owner than its implicit task
+pub explicit_task_asks_for_itself : (m : ℕ) (h : List Event) → in_task m h ≡ true → Always NameRule h → same_owner (asker m h) (owner_of m (Implicit m)) ≡ false
+explicit_task_asks_for_itself = asker_within
+
+-- who holds a critical name is its member's implicit task, or one that the member has started and not ended
+pub holder_of_name_has_not_ended : (name : List ℕ) (held : Held) (h : List Event) → Always HoldRule h → Always NameRule h → holder (Critical name) h ≡ Some held → (held.owner.task ≡ 0) ⊎ (contains held.owner.task (task_stack held.owner.member h) ≡ true)
+holder_of_name_has_not_ended = name_owner_not_ended
+
+-- and while that member waits at a barrier one of the latter
+pub holder_of_name_at_barrier : (name : List ℕ) (held : Held) (h : List Event) → Always HoldRule h → Always NameRule h → at_barrier held.owner.member h ≡ true → holder (Critical name) h ≡ Some held → contains held.owner.task (task_stack held.owner.member h) ≡ true
+holder_of_name_at_barrier = name_owner_at_barrier
+
+-- so a member that executes none of them as it waits holds no critical name in any of its tasks, and may pass
+pub passes_without_names : (barrier m : ℕ) (earlier : List Event) → in_task m earlier ≡ false → at_barrier m earlier ≡ true → Always HoldRule earlier → Always NameRule earlier → PassesFree (Pass barrier m) earlier
+passes_without_names = passes_free_holds

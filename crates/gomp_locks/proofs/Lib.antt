@@ -10,6 +10,8 @@ pub mod HoldsKeep
 pub mod Laws
 pub mod LockExamples
 pub mod NameLemmas
+pub mod NameRuleExamples
+pub mod NamesKeep
 pub mod OpenHolds
 pub mod OrderLemmas
 pub mod OwnerLemmas

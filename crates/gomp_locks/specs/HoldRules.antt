@@ -10,7 +10,8 @@ use Rattle.gomp_types.specs.declared.event.Event.{Event}
 use Rattle.gomp_types.specs.declared.event.Event.TheVariants.{Hold, Free}
 use Rattle.gomp_locks.specs.Book.{held_by}
 use Rattle.gomp_locks.specs.Locks.{count_for, held_by_another}
-use Rattle.gomp_locks.specs.Holders.{owner_of, current_task, holder}
+use Rattle.gomp_types.specs.Tasks.{executed_task}
+use Rattle.gomp_locks.specs.Holders.{owner_of, holder}
 
 -- whether an owner may hold it once more: nobody holds it, or it is a nestable lock that this owner holds less than 65,535 times
 abbrev pub can_hold : Key → Owner → Option Held → Bool
@@ -19,12 +20,12 @@ can_hold _ owner found = not (is_some found)
 
 -- the task that the member executes holds what it may hold
 pub record MayHold (key : Key) (m : ℕ) (task : Task) (earlier : List Event) : Type 0 where
-  pub current : task ≡ current_task m earlier
+  pub current : task ≡ executed_task m earlier
   pub free : can_hold key (owner_of m task) (holder key earlier) ≡ true
 
 -- and frees what it holds
 pub record MayFree (key : Key) (m : ℕ) (task : Task) (earlier : List Event) : Type 0 where
-  pub current : task ≡ current_task m earlier
+  pub current : task ≡ executed_task m earlier
   pub held : held_by (owner_of m task) (holder key earlier) ≡ true
 
 -- the rule of names and locks

@@ -11,6 +11,7 @@ use Rattle.gomp_types.specs.declared.key.Key.TheVariants.{Critical, Lock, NestLo
 use Rattle.gomp_types.specs.declared.event.Event.{Event}
 use Rattle.gomp_types.specs.declared.event.Event.TheVariants.{Hold, Free}
 use Rattle.gomp_types.specs.Owners.{same_owner}
+use Rattle.gomp_types.specs.Tasks.{executed_task}
 use Rattle.gomp_locks.specs.Book.{same_lock_kind, held_times}
 
 -- Keys: a critical name, or a lock of a kind
@@ -43,13 +44,9 @@ task_number (Explicit number) = number
 abbrev pub owner_of : ℕ → Task → Owner
 owner_of m task = record { team = 0; member = m; task = task_number task }
 
--- the task that the member executes: the implicit one, since no call begins another yet
-abbrev pub current_task : ℕ → List Event → Task
-current_task m h = Implicit m
-
--- who asks if this member makes a call
+-- who asks if this member makes a call: the task that it executes
 abbrev pub asker : ℕ → List Event → Owner
-asker m h = owner_of m (current_task m h)
+asker m h = owner_of m (executed_task m h)
 
 -- Holders
 

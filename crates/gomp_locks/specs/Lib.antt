@@ -5,3 +5,4 @@ pub mod Locks
 pub mod Holders
 pub mod HoldRules
 pub mod HoldLaws
+pub mod NameRules

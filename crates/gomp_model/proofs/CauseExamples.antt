@@ -8,6 +8,7 @@ use Rattle.gomp_types.specs.declared.event.Event.TheVariants.{Enter, Take, Put}
 use Rattle.gomp_types.specs.Singles.{single_shape}
 use Rattle.gomp_types.specs.Events.{shares_entered, open_share, shape_at, has_left_region, clash_of}
 use Rattle.gomp_types.specs.Compare.{shape_differs}
+use Rattle.gomp_types.specs.Tasks.{in_task}
 use Rattle.gomp_types.specs.EventLists.{eight_entered, four}
 use Rattle.gomp_shares.specs.Loops.{DealsOut}
 use Rattle.gomp_locks.specs.Holders.{asker, holds_critical}
@@ -19,270 +20,271 @@ use Rattle.gomp_types.specs.declared.refusal.Place.TheVariants.{Share, Barrier a
 use Rattle.gomp_types.specs.declared.refusal.Refusal.TheVariants.{BadMember, Ended, Broken, Waiting, InsideShare, OutsideShare, NotInside, TooManyShares, Mismatch, NoMemory}
 use Rattle.gomp_types.specs.declared.reply.Reply.{Reply}
 use Rattle.gomp_types.specs.declared.reply.Reply.TheVariants.{Chunk, NoChunk, Section, Executor, Copied, Finished, Passed, Wait, Lock, Got, Count, Stopped, Refused}
-use Rattle.gomp_model.specs.Examples.{MayReplyAfter, IsReplyAfter, IsWrongAfter, IsWrong, AreWrong, IsNoRun, lock_answers, share_answers, all_refusals, asks, one_nowait, loop_of_two, loop_alone, eight_ahead}
+use Rattle.gomp_model.specs.Examples.{MayReplyAfter, IsReplyAfter, IsWrongAfter, IsWrong, AreWrong, IsNoRun, task_answers, later_answers, share_answers, all_refusals, asks, one_nowait, loop_of_two, loop_alone, eight_ahead}
 use Rattle.gomp_model.specs.ShareExamples.{three_sections, sections_of_two, no_sections, single_of_two, copy_of_three, ordered_of_two, handed_of_two, ordered_alone}
 use Rattle.gomp_model.specs.HoldExamples.{name_a, long_name, holding, both_made, both_set, names_and_locks, destroyed_while_waiting}
+use Rattle.gomp_model.specs.TaskRuns.{then_in_a_task}
 use Rattle.gomp_model.specs.RegionExamples.{copied_at_once, named_in_a_part}
 
 -- The answers of other calls
 
 -- a loop's start, with all iterations to take; among them iterations too late, none, and one too many
 pub wrong_at_loop_start : AreWrong 2 [] (asks 0 one_nowait)
-    (Chunk (pos 1) 1 ∷ Chunk (pos 0) 0 ∷ Chunk (pos 0) 2 ∷ NoChunk ∷ Section 0 ∷ Section 1 ∷ Executor true ∷ Executor false ∷ Copied [] ∷ Finished ∷ Passed ∷ Wait ∷ Stopped ∷ lock_answers)
+    (Chunk (pos 1) 1 ∷ Chunk (pos 0) 0 ∷ Chunk (pos 0) 2 ∷ NoChunk ∷ Section 0 ∷ Section 1 ∷ Executor true ∷ Executor false ∷ Copied [] ∷ Finished ∷ Passed ∷ Wait ∷ Stopped ∷ later_answers)
 wrong_at_loop_start = search rules
 
 -- a start if another took them all
 pub wrong_at_started_loop : AreWrong 2 (take 1 loop_alone) (asks 1 one_nowait)
-    (Chunk (pos 1) 0 ∷ Chunk (pos 0) 1 ∷ Section 0 ∷ Section 1 ∷ Executor true ∷ Executor false ∷ Copied [] ∷ Finished ∷ Passed ∷ Wait ∷ Stopped ∷ lock_answers)
+    (Chunk (pos 1) 0 ∷ Chunk (pos 0) 1 ∷ Section 0 ∷ Section 1 ∷ Executor true ∷ Executor false ∷ Copied [] ∷ Finished ∷ Passed ∷ Wait ∷ Stopped ∷ later_answers)
 wrong_at_started_loop = search rules
 
 -- the next iterations if there are some; among them those of another, too few, too many, and too late
 pub wrong_at_loop_next : AreWrong 2 (take 2 loop_of_two) (asks 0 LoopNext)
-    (Chunk (pos 0) 1 ∷ Chunk (pos 6) 2 ∷ Chunk (pos 6) 4 ∷ Chunk (pos 7) 3 ∷ NoChunk ∷ Section 0 ∷ Section 1 ∷ Executor true ∷ Executor false ∷ Copied [] ∷ Finished ∷ Passed ∷ Wait ∷ Stopped ∷ lock_answers)
+    (Chunk (pos 0) 1 ∷ Chunk (pos 6) 2 ∷ Chunk (pos 6) 4 ∷ Chunk (pos 7) 3 ∷ NoChunk ∷ Section 0 ∷ Section 1 ∷ Executor true ∷ Executor false ∷ Copied [] ∷ Finished ∷ Passed ∷ Wait ∷ Stopped ∷ later_answers)
 wrong_at_loop_next = search rules
 
 -- the next iterations if there are none
 pub wrong_at_last_next : AreWrong 2 (take 4 loop_of_two) (asks 0 LoopNext)
-    (Chunk (pos 0) 1 ∷ Section 0 ∷ Section 1 ∷ Executor true ∷ Executor false ∷ Copied [] ∷ Finished ∷ Passed ∷ Wait ∷ Stopped ∷ lock_answers)
+    (Chunk (pos 0) 1 ∷ Section 0 ∷ Section 1 ∷ Executor true ∷ Executor false ∷ Copied [] ∷ Finished ∷ Passed ∷ Wait ∷ Stopped ∷ later_answers)
 wrong_at_last_next = search rules
 
 -- a loop's end, of the first member
 pub wrong_at_loop_end : AreWrong 2 (take 6 loop_of_two) (asks 0 LoopEnd)
-    (Chunk (pos 0) 1 ∷ NoChunk ∷ Section 0 ∷ Section 1 ∷ Executor true ∷ Executor false ∷ Copied [] ∷ Finished ∷ Passed ∷ Stopped ∷ lock_answers)
+    (Chunk (pos 0) 1 ∷ NoChunk ∷ Section 0 ∷ Section 1 ∷ Executor true ∷ Executor false ∷ Copied [] ∷ Finished ∷ Passed ∷ Stopped ∷ later_answers)
 wrong_at_loop_end = search rules
 
 -- and of the last
 pub wrong_at_last_end : AreWrong 2 (take 7 loop_of_two) (asks 1 LoopEnd)
-    (Chunk (pos 0) 1 ∷ NoChunk ∷ Section 0 ∷ Section 1 ∷ Executor true ∷ Executor false ∷ Copied [] ∷ Finished ∷ Wait ∷ Stopped ∷ lock_answers)
+    (Chunk (pos 0) 1 ∷ NoChunk ∷ Section 0 ∷ Section 1 ∷ Executor true ∷ Executor false ∷ Copied [] ∷ Finished ∷ Wait ∷ Stopped ∷ later_answers)
 wrong_at_last_end = search rules
 
 -- the end of a loop that has no barrier
 pub wrong_at_nowait_end : AreWrong 2 (take 2 loop_alone) (asks 0 LoopEndNowait)
-    (Chunk (pos 0) 1 ∷ NoChunk ∷ Section 0 ∷ Section 1 ∷ Executor true ∷ Executor false ∷ Copied [] ∷ Passed ∷ Wait ∷ Stopped ∷ lock_answers)
+    (Chunk (pos 0) 1 ∷ NoChunk ∷ Section 0 ∷ Section 1 ∷ Executor true ∷ Executor false ∷ Copied [] ∷ Passed ∷ Wait ∷ Stopped ∷ later_answers)
 wrong_at_nowait_end = search rules
 
 -- the start of sections, with all of them to take
 pub wrong_at_sections_start : AreWrong 2 [] (asks 0 three_sections)
-    (Section 2 ∷ Section 4 ∷ Chunk (pos 0) 1 ∷ NoChunk ∷ Section 0 ∷ Executor true ∷ Executor false ∷ Copied [] ∷ Finished ∷ Passed ∷ Wait ∷ Stopped ∷ lock_answers)
+    (Section 2 ∷ Section 4 ∷ Chunk (pos 0) 1 ∷ NoChunk ∷ Section 0 ∷ Executor true ∷ Executor false ∷ Copied [] ∷ Finished ∷ Passed ∷ Wait ∷ Stopped ∷ later_answers)
 wrong_at_sections_start = search rules
 
 -- and with none
 pub wrong_at_no_sections : AreWrong 1 [] (asks 0 (SectionsStart 0 Nowait))
-    (Chunk (pos 0) 1 ∷ NoChunk ∷ Section 1 ∷ Executor true ∷ Executor false ∷ Copied [] ∷ Finished ∷ Passed ∷ Wait ∷ Stopped ∷ lock_answers)
+    (Chunk (pos 0) 1 ∷ NoChunk ∷ Section 1 ∷ Executor true ∷ Executor false ∷ Copied [] ∷ Finished ∷ Passed ∷ Wait ∷ Stopped ∷ later_answers)
 wrong_at_no_sections = search rules
 
 -- the next section if there is one
 pub wrong_at_sections_next : AreWrong 2 (take 2 sections_of_two) (asks 0 SectionsNext)
-    (Section 2 ∷ Section 4 ∷ Chunk (pos 0) 1 ∷ NoChunk ∷ Section 0 ∷ Section 1 ∷ Executor true ∷ Executor false ∷ Copied [] ∷ Finished ∷ Passed ∷ Wait ∷ Stopped ∷ lock_answers)
+    (Section 2 ∷ Section 4 ∷ Chunk (pos 0) 1 ∷ NoChunk ∷ Section 0 ∷ Section 1 ∷ Executor true ∷ Executor false ∷ Copied [] ∷ Finished ∷ Passed ∷ Wait ∷ Stopped ∷ later_answers)
 wrong_at_sections_next = search rules
 
 -- and if there is none
 pub wrong_at_last_section : AreWrong 2 (take 3 sections_of_two) (asks 0 SectionsNext)
-    (Section 3 ∷ Section 4 ∷ Chunk (pos 0) 1 ∷ NoChunk ∷ Section 1 ∷ Executor true ∷ Executor false ∷ Copied [] ∷ Finished ∷ Passed ∷ Wait ∷ Stopped ∷ lock_answers)
+    (Section 3 ∷ Section 4 ∷ Chunk (pos 0) 1 ∷ NoChunk ∷ Section 1 ∷ Executor true ∷ Executor false ∷ Copied [] ∷ Finished ∷ Passed ∷ Wait ∷ Stopped ∷ later_answers)
 wrong_at_last_section = search rules
 
 -- the end of sections, of the first member
 pub wrong_at_sections_end : AreWrong 2 (take 5 sections_of_two) (asks 0 SectionsEnd)
-    (Chunk (pos 0) 1 ∷ NoChunk ∷ Section 0 ∷ Section 1 ∷ Executor true ∷ Executor false ∷ Copied [] ∷ Finished ∷ Passed ∷ Stopped ∷ lock_answers)
+    (Chunk (pos 0) 1 ∷ NoChunk ∷ Section 0 ∷ Section 1 ∷ Executor true ∷ Executor false ∷ Copied [] ∷ Finished ∷ Passed ∷ Stopped ∷ later_answers)
 wrong_at_sections_end = search rules
 
 -- and of the last
 pub wrong_at_last_sections_end : AreWrong 2 (take 6 sections_of_two) (asks 1 SectionsEnd)
-    (Chunk (pos 0) 1 ∷ NoChunk ∷ Section 0 ∷ Section 1 ∷ Executor true ∷ Executor false ∷ Copied [] ∷ Finished ∷ Wait ∷ Stopped ∷ lock_answers)
+    (Chunk (pos 0) 1 ∷ NoChunk ∷ Section 0 ∷ Section 1 ∷ Executor true ∷ Executor false ∷ Copied [] ∷ Finished ∷ Wait ∷ Stopped ∷ later_answers)
 wrong_at_last_sections_end = search rules
 
 -- the end of sections that have no barrier
 pub wrong_at_sections_nowait : AreWrong 1 (take 1 no_sections) (asks 0 SectionsEndNowait)
-    (Chunk (pos 0) 1 ∷ NoChunk ∷ Section 0 ∷ Section 1 ∷ Executor true ∷ Executor false ∷ Copied [] ∷ Passed ∷ Wait ∷ Stopped ∷ lock_answers)
+    (Chunk (pos 0) 1 ∷ NoChunk ∷ Section 0 ∷ Section 1 ∷ Executor true ∷ Executor false ∷ Copied [] ∷ Passed ∷ Wait ∷ Stopped ∷ later_answers)
 wrong_at_sections_nowait = search rules
 
 -- a single that nobody executes yet
 pub wrong_at_single : AreWrong 2 [] (asks 0 SingleStart)
-    (Chunk (pos 0) 1 ∷ NoChunk ∷ Section 0 ∷ Section 1 ∷ Executor false ∷ Copied [] ∷ Finished ∷ Passed ∷ Wait ∷ Stopped ∷ lock_answers)
+    (Chunk (pos 0) 1 ∷ NoChunk ∷ Section 0 ∷ Section 1 ∷ Executor false ∷ Copied [] ∷ Finished ∷ Passed ∷ Wait ∷ Stopped ∷ later_answers)
 wrong_at_single = search rules
 
 -- and one that another executes
 pub wrong_at_met_single : AreWrong 2 (take 1 single_of_two) (asks 1 SingleStart)
-    (Chunk (pos 0) 1 ∷ NoChunk ∷ Section 0 ∷ Section 1 ∷ Executor true ∷ Copied [] ∷ Finished ∷ Passed ∷ Wait ∷ Stopped ∷ lock_answers)
+    (Chunk (pos 0) 1 ∷ NoChunk ∷ Section 0 ∷ Section 1 ∷ Executor true ∷ Copied [] ∷ Finished ∷ Passed ∷ Wait ∷ Stopped ∷ later_answers)
 wrong_at_met_single = search rules
 
 -- a single with words that nobody executes yet
 pub wrong_at_copy : AreWrong 3 [] (asks 0 SingleCopyStart)
-    (Chunk (pos 0) 1 ∷ NoChunk ∷ Section 0 ∷ Section 1 ∷ Executor false ∷ Copied [] ∷ Finished ∷ Passed ∷ Wait ∷ Stopped ∷ lock_answers)
+    (Chunk (pos 0) 1 ∷ NoChunk ∷ Section 0 ∷ Section 1 ∷ Executor false ∷ Copied [] ∷ Finished ∷ Passed ∷ Wait ∷ Stopped ∷ later_answers)
 wrong_at_copy = search rules
 
 -- one whose words are to come
 pub wrong_at_waiting_copy : AreWrong 3 (take 1 copy_of_three) (asks 0 SingleCopyStart)
-    (Copied (11 ∷ 22 ∷ []) ∷ Chunk (pos 0) 1 ∷ NoChunk ∷ Section 0 ∷ Section 1 ∷ Executor true ∷ Executor false ∷ Copied [] ∷ Finished ∷ Passed ∷ Stopped ∷ lock_answers)
+    (Copied (11 ∷ 22 ∷ []) ∷ Chunk (pos 0) 1 ∷ NoChunk ∷ Section 0 ∷ Section 1 ∷ Executor true ∷ Executor false ∷ Copied [] ∷ Finished ∷ Passed ∷ Stopped ∷ later_answers)
 wrong_at_waiting_copy = search rules
 
 -- one whose words came while the member waited; among them some of the words, in another order, and one more
 pub wrong_at_resumed_copy : AreWrong 3 (take 4 copy_of_three) (asks 0 Resume)
-    (Copied (11 ∷ []) ∷ Copied (22 ∷ 11 ∷ []) ∷ Copied (11 ∷ 22 ∷ 33 ∷ []) ∷ Chunk (pos 0) 1 ∷ NoChunk ∷ Section 0 ∷ Section 1 ∷ Executor true ∷ Executor false ∷ Copied [] ∷ Finished ∷ Passed ∷ Wait ∷ Stopped ∷ lock_answers)
+    (Copied (11 ∷ []) ∷ Copied (22 ∷ 11 ∷ []) ∷ Copied (11 ∷ 22 ∷ 33 ∷ []) ∷ Chunk (pos 0) 1 ∷ NoChunk ∷ Section 0 ∷ Section 1 ∷ Executor true ∷ Executor false ∷ Copied [] ∷ Finished ∷ Passed ∷ Wait ∷ Stopped ∷ later_answers)
 wrong_at_resumed_copy = search rules
 
 -- one whose words are there
 pub wrong_at_late_copy : AreWrong 2 (take 2 copied_at_once) (asks 1 SingleCopyStart)
-    (Copied (12 ∷ []) ∷ Chunk (pos 0) 1 ∷ NoChunk ∷ Section 0 ∷ Section 1 ∷ Executor true ∷ Executor false ∷ Copied [] ∷ Finished ∷ Passed ∷ Wait ∷ Stopped ∷ lock_answers)
+    (Copied (12 ∷ []) ∷ Chunk (pos 0) 1 ∷ NoChunk ∷ Section 0 ∷ Section 1 ∷ Executor true ∷ Executor false ∷ Copied [] ∷ Finished ∷ Passed ∷ Wait ∷ Stopped ∷ later_answers)
 wrong_at_late_copy = search rules
 
 -- the end of the executor of such a single
 pub wrong_at_copy_end : AreWrong 3 (take 1 copy_of_three) (asks 1 (SingleCopyEnd (11 ∷ 22 ∷ [])))
-    (Copied (11 ∷ 22 ∷ []) ∷ Chunk (pos 0) 1 ∷ NoChunk ∷ Section 0 ∷ Section 1 ∷ Executor true ∷ Executor false ∷ Copied [] ∷ Passed ∷ Wait ∷ Stopped ∷ lock_answers)
+    (Copied (11 ∷ 22 ∷ []) ∷ Chunk (pos 0) 1 ∷ NoChunk ∷ Section 0 ∷ Section 1 ∷ Executor true ∷ Executor false ∷ Copied [] ∷ Passed ∷ Wait ∷ Stopped ∷ later_answers)
 wrong_at_copy_end = search rules
 
 -- an ordered part whose turn it is
 pub wrong_at_part : AreWrong 2 (take 1 ordered_of_two) (asks 0 (OrderedStart (pos 0)))
-    (Chunk (pos 0) 1 ∷ NoChunk ∷ Section 0 ∷ Section 1 ∷ Executor true ∷ Executor false ∷ Copied [] ∷ Passed ∷ Wait ∷ Stopped ∷ lock_answers)
+    (Chunk (pos 0) 1 ∷ NoChunk ∷ Section 0 ∷ Section 1 ∷ Executor true ∷ Executor false ∷ Copied [] ∷ Passed ∷ Wait ∷ Stopped ∷ later_answers)
 wrong_at_part = search rules
 
 -- and one whose turn is to come
 pub wrong_at_waiting_part : AreWrong 2 (take 2 ordered_of_two) (asks 1 (OrderedStart (pos 1)))
-    (Chunk (pos 0) 1 ∷ NoChunk ∷ Section 0 ∷ Section 1 ∷ Executor true ∷ Executor false ∷ Copied [] ∷ Finished ∷ Passed ∷ Stopped ∷ lock_answers)
+    (Chunk (pos 0) 1 ∷ NoChunk ∷ Section 0 ∷ Section 1 ∷ Executor true ∷ Executor false ∷ Copied [] ∷ Finished ∷ Passed ∷ Stopped ∷ later_answers)
 wrong_at_waiting_part = search rules
 
 -- the end of an ordered part
 pub wrong_at_part_end : AreWrong 1 (take 2 ordered_alone) (asks 0 OrderedEnd)
-    (Chunk (pos 0) 1 ∷ NoChunk ∷ Section 0 ∷ Section 1 ∷ Executor true ∷ Executor false ∷ Copied [] ∷ Passed ∷ Wait ∷ Stopped ∷ lock_answers)
+    (Chunk (pos 0) 1 ∷ NoChunk ∷ Section 0 ∷ Section 1 ∷ Executor true ∷ Executor false ∷ Copied [] ∷ Passed ∷ Wait ∷ Stopped ∷ later_answers)
 wrong_at_part_end = search rules
 
 -- the next iterations of an ordered loop, before the turn of the member's piece
 pub wrong_at_waiting_next : AreWrong 2 (take 2 handed_of_two) (asks 1 LoopNext)
-    (Chunk (pos 0) 1 ∷ NoChunk ∷ Section 0 ∷ Section 1 ∷ Executor true ∷ Executor false ∷ Copied [] ∷ Finished ∷ Passed ∷ Stopped ∷ lock_answers)
+    (Chunk (pos 0) 1 ∷ NoChunk ∷ Section 0 ∷ Section 1 ∷ Executor true ∷ Executor false ∷ Copied [] ∷ Finished ∷ Passed ∷ Stopped ∷ later_answers)
 wrong_at_waiting_next = search rules
 
 -- a barrier, of the first member
 pub wrong_at_barrier : AreWrong 2 [] (asks 0 Barrier)
-    (Chunk (pos 0) 1 ∷ NoChunk ∷ Section 0 ∷ Section 1 ∷ Executor true ∷ Executor false ∷ Copied [] ∷ Finished ∷ Passed ∷ Stopped ∷ lock_answers)
+    (Chunk (pos 0) 1 ∷ NoChunk ∷ Section 0 ∷ Section 1 ∷ Executor true ∷ Executor false ∷ Copied [] ∷ Finished ∷ Passed ∷ Stopped ∷ later_answers)
 wrong_at_barrier = search rules
 
 -- and of one that is alone
 pub wrong_at_barrier_alone : AreWrong 1 [] (asks 0 Barrier)
-    (Chunk (pos 0) 1 ∷ NoChunk ∷ Section 0 ∷ Section 1 ∷ Executor true ∷ Executor false ∷ Copied [] ∷ Finished ∷ Wait ∷ Stopped ∷ lock_answers)
+    (Chunk (pos 0) 1 ∷ NoChunk ∷ Section 0 ∷ Section 1 ∷ Executor true ∷ Executor false ∷ Copied [] ∷ Finished ∷ Wait ∷ Stopped ∷ later_answers)
 wrong_at_barrier_alone = search rules
 
 -- the region's end, of the first member
 pub wrong_at_region_end : AreWrong 2 [] (asks 0 RegionEnd)
-    (Chunk (pos 0) 1 ∷ NoChunk ∷ Section 0 ∷ Section 1 ∷ Executor true ∷ Executor false ∷ Copied [] ∷ Finished ∷ Passed ∷ Stopped ∷ lock_answers)
+    (Chunk (pos 0) 1 ∷ NoChunk ∷ Section 0 ∷ Section 1 ∷ Executor true ∷ Executor false ∷ Copied [] ∷ Finished ∷ Passed ∷ Stopped ∷ later_answers)
 wrong_at_region_end = search rules
 
 -- and of one that is alone
 pub wrong_at_region_end_alone : AreWrong 1 [] (asks 0 RegionEnd)
-    (Chunk (pos 0) 1 ∷ NoChunk ∷ Section 0 ∷ Section 1 ∷ Executor true ∷ Executor false ∷ Copied [] ∷ Finished ∷ Wait ∷ Stopped ∷ lock_answers)
+    (Chunk (pos 0) 1 ∷ NoChunk ∷ Section 0 ∷ Section 1 ∷ Executor true ∷ Executor false ∷ Copied [] ∷ Finished ∷ Wait ∷ Stopped ∷ later_answers)
 wrong_at_region_end_alone = search rules
 
 -- a resume of a member that waits for nothing
 pub wrong_at_resume : AreWrong 1 [] (asks 0 Resume)
-    (Chunk (pos 0) 1 ∷ NoChunk ∷ Section 0 ∷ Section 1 ∷ Executor true ∷ Executor false ∷ Copied [] ∷ Finished ∷ Passed ∷ Wait ∷ Stopped ∷ lock_answers)
+    (Chunk (pos 0) 1 ∷ NoChunk ∷ Section 0 ∷ Section 1 ∷ Executor true ∷ Executor false ∷ Copied [] ∷ Finished ∷ Passed ∷ Wait ∷ Stopped ∷ later_answers)
 wrong_at_resume = search rules
 
 -- one if the barrier is met
 pub wrong_at_met_resume : AreWrong 2 (take 8 loop_of_two) (asks 0 Resume)
-    (Chunk (pos 0) 1 ∷ NoChunk ∷ Section 0 ∷ Section 1 ∷ Executor true ∷ Executor false ∷ Copied [] ∷ Finished ∷ Wait ∷ Stopped ∷ lock_answers)
+    (Chunk (pos 0) 1 ∷ NoChunk ∷ Section 0 ∷ Section 1 ∷ Executor true ∷ Executor false ∷ Copied [] ∷ Finished ∷ Wait ∷ Stopped ∷ later_answers)
 wrong_at_met_resume = search rules
 
 -- and one if it is not
 pub wrong_at_waiting_resume : AreWrong 2 (take 7 loop_of_two) (asks 0 Resume)
-    (Chunk (pos 0) 1 ∷ NoChunk ∷ Section 0 ∷ Section 1 ∷ Executor true ∷ Executor false ∷ Copied [] ∷ Finished ∷ Passed ∷ Stopped ∷ lock_answers)
+    (Chunk (pos 0) 1 ∷ NoChunk ∷ Section 0 ∷ Section 1 ∷ Executor true ∷ Executor false ∷ Copied [] ∷ Finished ∷ Passed ∷ Stopped ∷ later_answers)
 wrong_at_waiting_resume = search rules
 
 -- a stop
 pub wrong_at_stop : AreWrong 1 [] (asks 0 Stop)
-    (Chunk (pos 0) 1 ∷ NoChunk ∷ Section 0 ∷ Section 1 ∷ Executor true ∷ Executor false ∷ Copied [] ∷ Finished ∷ Passed ∷ Wait ∷ lock_answers)
+    (Chunk (pos 0) 1 ∷ NoChunk ∷ Section 0 ∷ Section 1 ∷ Executor true ∷ Executor false ∷ Copied [] ∷ Finished ∷ Passed ∷ Wait ∷ later_answers)
 wrong_at_stop = search rules
 
 -- a ninth share while the other member is in the first: a loop
 pub wrong_at_ninth_loop : AreWrong 2 eight_ahead (asks 0 one_nowait)
-    (Chunk (pos 0) 1 ∷ NoChunk ∷ Section 0 ∷ Section 1 ∷ Executor true ∷ Executor false ∷ Copied [] ∷ Finished ∷ Passed ∷ Stopped ∷ lock_answers)
+    (Chunk (pos 0) 1 ∷ NoChunk ∷ Section 0 ∷ Section 1 ∷ Executor true ∷ Executor false ∷ Copied [] ∷ Finished ∷ Passed ∷ Stopped ∷ later_answers)
 wrong_at_ninth_loop = search rules
 
 -- sections
 pub wrong_at_ninth_sections : AreWrong 2 eight_ahead (asks 0 three_sections)
-    (Chunk (pos 0) 1 ∷ NoChunk ∷ Section 0 ∷ Section 1 ∷ Executor true ∷ Executor false ∷ Copied [] ∷ Finished ∷ Passed ∷ Stopped ∷ lock_answers)
+    (Chunk (pos 0) 1 ∷ NoChunk ∷ Section 0 ∷ Section 1 ∷ Executor true ∷ Executor false ∷ Copied [] ∷ Finished ∷ Passed ∷ Stopped ∷ later_answers)
 wrong_at_ninth_sections = search rules
 
 -- a single
 pub wrong_at_ninth_single : AreWrong 2 eight_ahead (asks 0 SingleStart)
-    (Chunk (pos 0) 1 ∷ NoChunk ∷ Section 0 ∷ Section 1 ∷ Executor true ∷ Executor false ∷ Copied [] ∷ Finished ∷ Passed ∷ Stopped ∷ lock_answers)
+    (Chunk (pos 0) 1 ∷ NoChunk ∷ Section 0 ∷ Section 1 ∷ Executor true ∷ Executor false ∷ Copied [] ∷ Finished ∷ Passed ∷ Stopped ∷ later_answers)
 wrong_at_ninth_single = search rules
 
 -- and a single with words
 pub wrong_at_ninth_copy : AreWrong 2 eight_ahead (asks 0 SingleCopyStart)
-    (Chunk (pos 0) 1 ∷ NoChunk ∷ Section 0 ∷ Section 1 ∷ Executor true ∷ Executor false ∷ Copied [] ∷ Finished ∷ Passed ∷ Stopped ∷ lock_answers)
+    (Chunk (pos 0) 1 ∷ NoChunk ∷ Section 0 ∷ Section 1 ∷ Executor true ∷ Executor false ∷ Copied [] ∷ Finished ∷ Passed ∷ Stopped ∷ later_answers)
 wrong_at_ninth_copy = search rules
 
 -- the start of a critical construct whose name nobody holds
-pub wrong_at_critical : AreWrong 2 [] (asks 0 (CriticalStart name_a)) (Wait ∷ share_answers ++ lock_answers)
+pub wrong_at_critical : AreWrong 2 [] (asks 0 (CriticalStart name_a)) (Wait ∷ share_answers ++ later_answers)
 wrong_at_critical = search rules
 
 -- and of one whose name another member holds
-pub wrong_at_waiting_critical : AreWrong 2 (holding 1 name_a) (asks 0 (CriticalStart name_a)) (Finished ∷ share_answers ++ lock_answers)
+pub wrong_at_waiting_critical : AreWrong 2 (holding 1 name_a) (asks 0 (CriticalStart name_a)) (Finished ∷ share_answers ++ later_answers)
 wrong_at_waiting_critical = search rules
 
 -- its end
-pub wrong_at_critical_end : AreWrong 2 (holding 0 name_a) (asks 0 (CriticalEnd name_a)) (Wait ∷ share_answers ++ lock_answers)
+pub wrong_at_critical_end : AreWrong 2 (holding 0 name_a) (asks 0 (CriticalEnd name_a)) (Wait ∷ share_answers ++ later_answers)
 wrong_at_critical_end = search rules
 
 -- the making of a simple lock
-pub wrong_at_lock_init : AreWrong 2 [] (asks 0 LockInit) (Finished ∷ Wait ∷ Lock 1 ∷ Got true ∷ Got false ∷ Count 0 ∷ Count 1 ∷ share_answers)
+pub wrong_at_lock_init : AreWrong 2 [] (asks 0 LockInit) (Finished ∷ Wait ∷ Lock 1 ∷ Got true ∷ Got false ∷ Count 0 ∷ Count 1 ∷ share_answers ++ task_answers)
 wrong_at_lock_init = search rules
 
 -- and of a nestable one, after another
-pub wrong_at_nest_init : AreWrong 2 (take 1 both_made) (asks 0 NestInit) (Finished ∷ Wait ∷ Lock 0 ∷ Lock 2 ∷ Got true ∷ Got false ∷ Count 0 ∷ Count 1 ∷ share_answers)
+pub wrong_at_nest_init : AreWrong 2 (take 1 both_made) (asks 0 NestInit) (Finished ∷ Wait ∷ Lock 0 ∷ Lock 2 ∷ Got true ∷ Got false ∷ Count 0 ∷ Count 1 ∷ share_answers ++ task_answers)
 wrong_at_nest_init = search rules
 
 -- a lock's destruction
-pub wrong_at_lock_destroy : AreWrong 2 both_made (asks 0 (LockDestroy 0)) (Wait ∷ share_answers ++ lock_answers)
+pub wrong_at_lock_destroy : AreWrong 2 both_made (asks 0 (LockDestroy 0)) (Wait ∷ share_answers ++ later_answers)
 wrong_at_lock_destroy = search rules
 
 -- a simple lock that nobody holds is set
-pub wrong_at_set : AreWrong 2 both_made (asks 0 (Set 0)) (Wait ∷ share_answers ++ lock_answers)
+pub wrong_at_set : AreWrong 2 both_made (asks 0 (Set 0)) (Wait ∷ share_answers ++ later_answers)
 wrong_at_set = search rules
 
 -- and one that another member holds
-pub wrong_at_waiting_set : AreWrong 2 (both_set 1) (asks 0 (Set 0)) (Finished ∷ share_answers ++ lock_answers)
+pub wrong_at_waiting_set : AreWrong 2 (both_set 1) (asks 0 (Set 0)) (Finished ∷ share_answers ++ later_answers)
 wrong_at_waiting_set = search rules
 
 -- a simple lock that nobody holds is tested
-pub wrong_at_test : AreWrong 2 both_made (asks 0 (TestLock 0)) (Finished ∷ Wait ∷ Lock 0 ∷ Got false ∷ Count 0 ∷ Count 1 ∷ share_answers)
+pub wrong_at_test : AreWrong 2 both_made (asks 0 (TestLock 0)) (Finished ∷ Wait ∷ Lock 0 ∷ Got false ∷ Count 0 ∷ Count 1 ∷ share_answers ++ task_answers)
 wrong_at_test = search rules
 
 -- and one that another holds, or the member itself
 pub wrong_at_failed_test :
-    AreWrong 2 (both_set 1) (asks 0 (TestLock 0)) (Finished ∷ Wait ∷ Lock 0 ∷ Got true ∷ Count 0 ∷ Count 1 ∷ share_answers)
-    × AreWrong 2 (both_set 0) (asks 0 (TestLock 0)) (Finished ∷ Wait ∷ Lock 0 ∷ Got true ∷ Count 0 ∷ Count 1 ∷ share_answers)
+    AreWrong 2 (both_set 1) (asks 0 (TestLock 0)) (Finished ∷ Wait ∷ Lock 0 ∷ Got true ∷ Count 0 ∷ Count 1 ∷ share_answers ++ task_answers)
+    × AreWrong 2 (both_set 0) (asks 0 (TestLock 0)) (Finished ∷ Wait ∷ Lock 0 ∷ Got true ∷ Count 0 ∷ Count 1 ∷ share_answers ++ task_answers)
 wrong_at_failed_test = search rules
 
 -- a simple lock is unset
-pub wrong_at_unset : AreWrong 2 (both_set 0) (asks 0 (Unset 0)) (Wait ∷ share_answers ++ lock_answers)
+pub wrong_at_unset : AreWrong 2 (both_set 0) (asks 0 (Unset 0)) (Wait ∷ share_answers ++ later_answers)
 wrong_at_unset = search rules
 
 -- a nestable lock that nobody holds is set
-pub wrong_at_set_nest : AreWrong 2 both_made (asks 0 (SetNest 1)) (Finished ∷ Wait ∷ Lock 1 ∷ Got true ∷ Got false ∷ Count 0 ∷ Count 2 ∷ share_answers)
+pub wrong_at_set_nest : AreWrong 2 both_made (asks 0 (SetNest 1)) (Finished ∷ Wait ∷ Lock 1 ∷ Got true ∷ Got false ∷ Count 0 ∷ Count 2 ∷ share_answers ++ task_answers)
 wrong_at_set_nest = search rules
 
 -- one that the member holds
-pub wrong_at_second_set_nest : AreWrong 2 (both_set 0) (asks 0 (SetNest 1)) (Finished ∷ Wait ∷ Lock 1 ∷ Got true ∷ Got false ∷ Count 0 ∷ Count 1 ∷ Count 3 ∷ share_answers)
+pub wrong_at_second_set_nest : AreWrong 2 (both_set 0) (asks 0 (SetNest 1)) (Finished ∷ Wait ∷ Lock 1 ∷ Got true ∷ Got false ∷ Count 0 ∷ Count 1 ∷ Count 3 ∷ share_answers ++ task_answers)
 wrong_at_second_set_nest = search rules
 
 -- and one that another does
-pub wrong_at_waiting_set_nest : AreWrong 2 (both_set 1) (asks 0 (SetNest 1)) (Finished ∷ Count 2 ∷ share_answers ++ lock_answers)
+pub wrong_at_waiting_set_nest : AreWrong 2 (both_set 1) (asks 0 (SetNest 1)) (Finished ∷ Count 2 ∷ share_answers ++ later_answers)
 wrong_at_waiting_set_nest = search rules
 
 -- a nestable lock that nobody holds is tested
-pub wrong_at_test_nest : AreWrong 2 both_made (asks 0 (TestNest 1)) (Finished ∷ Wait ∷ Lock 1 ∷ Got true ∷ Got false ∷ Count 0 ∷ Count 2 ∷ share_answers)
+pub wrong_at_test_nest : AreWrong 2 both_made (asks 0 (TestNest 1)) (Finished ∷ Wait ∷ Lock 1 ∷ Got true ∷ Got false ∷ Count 0 ∷ Count 2 ∷ share_answers ++ task_answers)
 wrong_at_test_nest = search rules
 
 -- one that the member holds
-pub wrong_at_second_test_nest : AreWrong 2 (both_set 0) (asks 0 (TestNest 1)) (Finished ∷ Wait ∷ Lock 1 ∷ Got true ∷ Got false ∷ Count 0 ∷ Count 1 ∷ Count 3 ∷ share_answers)
+pub wrong_at_second_test_nest : AreWrong 2 (both_set 0) (asks 0 (TestNest 1)) (Finished ∷ Wait ∷ Lock 1 ∷ Got true ∷ Got false ∷ Count 0 ∷ Count 1 ∷ Count 3 ∷ share_answers ++ task_answers)
 wrong_at_second_test_nest = search rules
 
 -- and one that another does
-pub wrong_at_failed_test_nest : AreWrong 2 (both_set 1) (asks 0 (TestNest 1)) (Finished ∷ Wait ∷ Lock 1 ∷ Got true ∷ Got false ∷ Count 1 ∷ Count 2 ∷ share_answers)
+pub wrong_at_failed_test_nest : AreWrong 2 (both_set 1) (asks 0 (TestNest 1)) (Finished ∷ Wait ∷ Lock 1 ∷ Got true ∷ Got false ∷ Count 1 ∷ Count 2 ∷ share_answers ++ task_answers)
 wrong_at_failed_test_nest = search rules
 
 -- a nestable lock is unset
-pub wrong_at_unset_nest : AreWrong 2 (both_set 0) (asks 0 (UnsetNest 1)) (Finished ∷ Wait ∷ Lock 1 ∷ Got true ∷ Got false ∷ Count 1 ∷ Count 2 ∷ share_answers)
+pub wrong_at_unset_nest : AreWrong 2 (both_set 0) (asks 0 (UnsetNest 1)) (Finished ∷ Wait ∷ Lock 1 ∷ Got true ∷ Got false ∷ Count 1 ∷ Count 2 ∷ share_answers ++ task_answers)
 wrong_at_unset_nest = search rules
 
 -- Want of memory
@@ -685,25 +687,29 @@ wrong_first = search rules
 pub two_replies : OneReply Passed Wait → ⊥
 two_replies (inl e) = absurd (cc)
 two_replies (inr (inl e)) = absurd (cc)
-two_replies (inr (inr e)) = absurd (cc)
+two_replies (inr (inr (inl e))) = absurd (cc)
+two_replies (inr (inr (inr e))) = absurd (cc)
 
 -- nor are a refusal and another answer
 pub refusal_and_answer : OneReply (Refused Waiting) Passed → ⊥
 refusal_and_answer (inl e) = absurd (cc)
 refusal_and_answer (inr (inl e)) = absurd (cc)
-refusal_and_answer (inr (inr e)) = absurd (cc)
+refusal_and_answer (inr (inr (inl e))) = absurd (cc)
+refusal_and_answer (inr (inr (inr e))) = absurd (cc)
 
 -- the other way round
 pub answer_and_refusal : OneReply Passed (Refused Waiting) → ⊥
 answer_and_refusal (inl e) = absurd (cc)
 answer_and_refusal (inr (inl e)) = absurd (cc)
-answer_and_refusal (inr (inr e)) = absurd (cc)
+answer_and_refusal (inr (inr (inl e))) = absurd (cc)
+answer_and_refusal (inr (inr (inr e))) = absurd (cc)
 
 -- nor two refusals
 pub two_refusals : OneReply (Refused Waiting) (Refused Ended) → ⊥
 two_refusals (inl e) = absurd (cc)
 two_refusals (inr (inl e)) = absurd (cc)
-two_refusals (inr (inr e)) = absurd (cc)
+two_refusals (inr (inr (inl e))) = absurd (cc)
+two_refusals (inr (inr (inr e))) = absurd (cc)
 
 -- a member alone passes at once, since its own arrival counts
 pub alone_passes : IsReplyAfter 1 [] 0 Barrier Passed
@@ -721,16 +727,20 @@ part_end_outside = search rules
 pub part_end_with_a_name : IsWrong 1 (take 6 named_in_a_part) (asks 0 OrderedEnd) Finished
 part_end_with_a_name = search rules
 
+-- nor while it executes a task
+pub part_end_in_a_task : IsWrong 1 (then_in_a_task (take 2 ordered_alone)) (asks 0 OrderedEnd) Finished
+part_end_in_a_task = search rules
+
 -- the reply that there is to each step is another than want of memory
 pub some_reply_tells : (p : Past) (step : Step) → (some : SomeReply p step) → (some.0 ≢ Refused NoMemory) × MayAnswer p step some.0
 some_reply_tells p step some = (some.1, some.2)
 
 -- a limit above the standard one refuses no share later than that does
 pub limit_is_capped :
-    (h : List Event) → has_left_region 0 h ≡ false → clash_of h ≡ None → open_share 0 h ≡ None → holds_critical (asker 0 h) h ≡ false → shares_entered 0 h ≡ 131064 →
+    (h : List Event) → has_left_region 0 h ≡ false → clash_of h ≡ None → open_share 0 h ≡ None → in_task 0 h ≡ false → holds_critical (asker 0 h) h ≡ false → shares_entered 0 h ≡ 131064 →
     refusal_of (record (before_all (record { members = 1; limits = record { shares = 131065; tasks = 0; events = 0 }; cancellation = false })) { events = h }) (asks 0 SingleStart) ≡ Some TooManyShares
-limit_is_capped h stays whole outside free many =
+limit_is_capped h stays whole outside in_none free many =
     elim (cases_Bool (shape_differs (single_shape false) (shape_at 131064 h))) [
-      | inl differs ↦ rw (stays, whole, outside, free, many, differs) refl
-      | inr same ↦ rw (stays, whole, outside, free, many, same) refl
+      | inl differs ↦ rw (stays, whole, outside, in_none, free, many, differs) refl
+      | inr same ↦ rw (stays, whole, outside, in_none, free, many, same) refl
     ]

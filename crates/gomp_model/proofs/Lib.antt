@@ -1,10 +1,16 @@
 pub mod CauseExamples
+pub mod GivenExamples
 pub mod LoopLimits
 pub mod RecordExamples
 pub mod RowExamples
 pub mod StepExamples
+pub mod TaskCauseExamples
+pub mod TaskRecordExamples
+pub mod TaskRowExamples
+pub mod TaskTestExamples
 pub mod TestExamples
 pub mod RunsWithCauses
 pub mod WrongAnswers
 pub mod WrongHoldAnswers
 pub mod WrongShareAnswers
+pub mod WrongTaskAnswers

@@ -14,7 +14,8 @@ use Rattle.gomp_types.specs.Sections.{sections_shape}
 use Rattle.gomp_types.specs.Singles.{single_shape}
 use Rattle.gomp_model.specs.Team.{record_after, call_meant, events}
 use Rattle.gomp_types.specs.Limits.{shown_number}
-use Rattle.gomp_model.specs.Examples.{run_recorded, team_of, past_after_run, asks, one_nowait, loop_of_two, loop_alone, empty_loops, ninth_share, differing_loop, stopped_team}
+use Rattle.gomp_model.specs.Past.{no_waits}
+use Rattle.gomp_model.specs.Examples.{waits_for, run_recorded, team_of, past_after_run, asks, one_nowait, loop_of_two, loop_alone, empty_loops, ninth_share, differing_loop, stopped_team}
 use Rattle.gomp_model.specs.ShareExamples.{sections_of_two, no_sections, single_of_two, ordered_of_two, handed_of_two, differing_copy, differing_sections}
 use Rattle.gomp_model.specs.RegionExamples.{region_of_two, later_barrier, later_share, differing_at_resume, copied_at_once}
 use Rattle.gomp_types.specs.EventLists.{newest_first, at}
@@ -26,15 +27,15 @@ pub resume_means : (call_meant Resume (Some LoopEnd) ≡ LoopEnd) × (call_meant
 resume_means = (refl, refl, refl)
 
 -- a member waits for the call that was answered with a wait, and the other member for none
-pub waits_for_end : ((past_after_run 2 (take 7 loop_of_two)).waits 0 ≡ Some LoopEnd) × ((past_after_run 2 (take 7 loop_of_two)).waits 1 ≡ None)
+pub waits_for_end : ((past_after_run 2 (take 7 loop_of_two)).waits 0 ≡ waits_for LoopEnd) × ((past_after_run 2 (take 7 loop_of_two)).waits 1 ≡ no_waits)
 waits_for_end = (refl, refl)
 
 -- it waits while others pass, until its resume is answered
-pub waits_until_resumed : ((past_after_run 2 (take 8 loop_of_two)).waits 0 ≡ Some LoopEnd) × ((past_after_run 2 loop_of_two).waits 0 ≡ None)
+pub waits_until_resumed : ((past_after_run 2 (take 8 loop_of_two)).waits 0 ≡ waits_for LoopEnd) × ((past_after_run 2 loop_of_two).waits 0 ≡ no_waits)
 waits_until_resumed = (refl, refl)
 
 -- it waits for its first call, though its resume has to wait again, and a call between them is refused
-pub waits_again : (past_after_run 2 (take 28 ninth_share)).waits 0 ≡ Some one_nowait
+pub waits_again : (past_after_run 2 (take 28 ninth_share)).waits 0 ≡ waits_for one_nowait
 waits_again = refl
 
 -- a record has the steps with their replies, the newest first, and what was before

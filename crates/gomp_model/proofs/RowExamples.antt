@@ -11,9 +11,9 @@ use Rattle.gomp_types.specs.declared.task.Task.TheVariants.{Implicit}
 use Rattle.gomp_types.specs.declared.loop_desc.EndKind.TheVariants.{Wait as WaitEnd}
 use Rattle.gomp_types.specs.declared.refusal.Place.TheVariants.{Share, Barrier as AtBarrier, Stopped as AtStop}
 use Rattle.gomp_types.specs.declared.refusal.Refusal.{Refusal}
-use Rattle.gomp_types.specs.declared.refusal.Refusal.TheVariants.{Ended, Waiting, InsideShare, HoldsCritical, NotDrained, NotInside, NameTooLong, AlreadyHeld, NotHolder, NoLock, TooManyShares, Mismatch, NoMemory}
+use Rattle.gomp_types.specs.declared.refusal.Refusal.TheVariants.{Ended, Waiting, InsideTask, InsideShare, HoldsCritical, NotDrained, NotInside, NoGroup, NameTooLong, AlreadyHeld, NotHolder, NoLock, TooManyShares, Mismatch, TraceFull, NoMemory}
 use Rattle.gomp_types.specs.declared.reply.Reply.{Reply}
-use Rattle.gomp_types.specs.declared.reply.Reply.TheVariants.{Chunk, NoChunk, Section, Executor, Copied, Finished, Passed, Wait, Lock as LockMade, Got as GotLock, Count, Stopped, Refused}
+use Rattle.gomp_types.specs.declared.reply.Reply.TheVariants.{Chunk, NoChunk, Section, Executor, Copied, Finished, Passed, Wait, Created, Run as RunTask, TaskDone, Lock as LockMade, Got as GotLock, Count, Stopped, Refused}
 use Rattle.gomp_types.specs.declared.shape.Shape.{Shape}
 use Rattle.gomp_types.specs.declared.shape.ShareKind.TheVariants.{Dynamic}
 use Rattle.gomp_types.specs.declared.event.Arrival.{Arrival}
@@ -26,53 +26,53 @@ use Rattle.gomp_types.specs.Sections.{sections_shape}
 use Rattle.gomp_types.specs.Singles.{single_shape}
 use Rattle.gomp_types.specs.Tests.{Test}
 use Rattle.gomp_types.specs.EventLists.{even_four, four, at}
-use Rattle.gomp_model.specs.Row.{Row, plain_row, at_once, unless_repeated, begun_past, place_tests, book_tests, row_tests, refusal_gives, events_after, locks_after}
+use Rattle.gomp_model.specs.Row.{Row, plain_row, at_once, unless_repeated, begun_past, place_tests, board_tests, book_tests, row_tests, refusal_gives, events_after, locks_after}
 use Rattle.gomp_model.specs.Calls.{row_of}
 use Rattle.gomp_model.specs.Loops.{loop_next_row}
 use Rattle.gomp_model.specs.Past.{Past}
 use Rattle.gomp_model.specs.Arrivals.{barrier_row, region_end_row}
 use Rattle.gomp_model.specs.OrderedParts.{ordered_start_row}
-use Rattle.gomp_model.specs.Examples.{MayReplyAfter, lock_answers, share_answers, past_with, past_after_run, ten_by_three, up_to, stopped_waiting}
+use Rattle.gomp_model.specs.Examples.{MayReplyAfter, task_answers, later_answers, lock_answers, share_answers, past_with, past_after_run, ten_by_three, up_to, stopped_waiting}
 use Rattle.gomp_model.specs.HoldExamples.{name_a, name_b, longest_name, long_name}
 use Rattle.gomp_model.specs.ShareExamples.{three_sections}
 
 -- Flags
 
--- calls that start a share, or ask for some of it
-abbrev starts : List Call
+-- calls that start a share, or ask for some of it (those on tasks and groups are in TaskRowExamples)
+abbrev pub starts : List Call
 starts = ten_by_three ∷ three_sections ∷ SingleStart ∷ SingleCopyStart ∷ []
 
-abbrev nexts : List Call
+abbrev pub nexts : List Call
 nexts = LoopNext ∷ SectionsNext ∷ OrderedStart (pos 0) ∷ []
 
 -- calls that leave a share, or a part of it, at once
-abbrev ends : List Call
+abbrev pub ends : List Call
 ends = LoopEndNowait ∷ SectionsEndNowait ∷ SingleCopyEnd (7 ∷ []) ∷ OrderedEnd ∷ []
 
 -- calls that arrive at a barrier
-abbrev arrivals : List Call
+abbrev pub arrivals : List Call
 arrivals = LoopEnd ∷ SectionsEnd ∷ Barrier ∷ RegionEnd ∷ []
 
 -- all calls on shares and at barriers
-abbrev in_team : List Call
+abbrev pub in_team : List Call
 in_team = starts ++ nexts ++ ends ++ arrivals
 
 -- those on critical names, and those on locks
-abbrev on_names : List Call
+abbrev pub on_names : List Call
 on_names = CriticalStart name_a ∷ CriticalEnd name_a ∷ []
 
-abbrev on_locks : List Call
+abbrev pub on_locks : List Call
 on_locks = LockInit ∷ NestInit ∷ LockDestroy 0 ∷ Set 0 ∷ TestLock 0 ∷ Unset 0 ∷ SetNest 1 ∷ TestNest 1 ∷ UnsetNest 1 ∷ []
 
-abbrev in_book : List Call
+abbrev pub in_book : List Call
 in_book = on_names ++ on_locks
 
 -- and the others
-abbrev others : List Call
+abbrev pub others : List Call
 others = Resume ∷ Stop ∷ []
 
 -- a flag of these calls
-abbrev flags : (Row → Bool) → List Call → List Bool
+abbrev pub flags : (Row → Bool) → List Call → List Bool
 flags flag calls = map (λ call. flag (row_of call)) calls
 
 -- the starts may find no memory, save that of a single without words
@@ -119,7 +119,7 @@ pub books_asked : (flags (λ row. row.asks_book) in_book ≡ map (λ call. true)
 books_asked = (refl, refl)
 
 -- which name or lock these calls hold or free
-abbrev keys : List Call → List (Option Key)
+abbrev pub keys : List Call → List (Option Key)
 keys calls = map (λ call. (row_of call).holds) calls
 
 pub keys_of_names : keys on_names ≡ Some (Critical name_a) ∷ Some (Critical name_a) ∷ []
@@ -135,7 +135,7 @@ pub keys_of_others : keys (in_team ++ others) ≡ map (λ call. None) (in_team +
 keys_of_others = refl
 
 -- at which kind of barrier these calls arrive
-abbrev kinds : List Call → List (Option Arrival)
+abbrev pub kinds : List Call → List (Option Arrival)
 kinds calls = map (λ call. (row_of call).arrives) calls
 
 pub kinds_of_arrivals : kinds arrivals ≡ Some ShareEnd ∷ Some ShareEnd ∷ Some BarrierArrival ∷ Some RegionEndArrival ∷ []
@@ -151,7 +151,7 @@ kinds_of_book = refl
 -- Places
 
 -- a member has entered two shares, the second of which it is in, and has passed a barrier
-abbrev in_the_second : List Event
+abbrev pub in_the_second : List Event
 in_the_second =
     Enter 0 0 (single_shape false) ∷ Take 0 0 0 1 ∷ End 0 0 ∷ Arrive 0 0 (at BarrierArrival 1) ∷ Pass 0 0 ∷ Enter 1 0 (single_shape true) ∷ Take 1 0 0 1 ∷ []
 
@@ -209,23 +209,27 @@ given call (reply ∷ replies) =
 
 -- replies of other calls than one that asks for iterations
 abbrev no_iterations : List Reply
-no_iterations = Section 0 ∷ Section 1 ∷ Executor true ∷ Executor false ∷ Copied (7 ∷ []) ∷ Finished ∷ Passed ∷ Wait ∷ Stopped ∷ lock_answers
+no_iterations = Section 0 ∷ Section 1 ∷ Executor true ∷ Executor false ∷ Copied (7 ∷ []) ∷ Finished ∷ Passed ∷ Wait ∷ Stopped ∷ later_answers
 
 -- than one that asks for a section
 abbrev no_section : List Reply
-no_section = Chunk (pos 0) 1 ∷ NoChunk ∷ Executor true ∷ Executor false ∷ Copied (7 ∷ []) ∷ Finished ∷ Passed ∷ Wait ∷ Stopped ∷ lock_answers
+no_section = Chunk (pos 0) 1 ∷ NoChunk ∷ Executor true ∷ Executor false ∷ Copied (7 ∷ []) ∷ Finished ∷ Passed ∷ Wait ∷ Stopped ∷ later_answers
 
 -- than a single
 abbrev no_single : List Reply
-no_single = Chunk (pos 0) 1 ∷ NoChunk ∷ Section 0 ∷ Section 1 ∷ Copied (7 ∷ []) ∷ Finished ∷ Passed ∷ Wait ∷ Stopped ∷ lock_answers
+no_single = Chunk (pos 0) 1 ∷ NoChunk ∷ Section 0 ∷ Section 1 ∷ Copied (7 ∷ []) ∷ Finished ∷ Passed ∷ Wait ∷ Stopped ∷ later_answers
 
 -- than one with words
 abbrev no_copy : List Reply
-no_copy = Chunk (pos 0) 1 ∷ NoChunk ∷ Section 0 ∷ Section 1 ∷ Executor false ∷ Finished ∷ Passed ∷ Wait ∷ Stopped ∷ lock_answers
+no_copy = Chunk (pos 0) 1 ∷ NoChunk ∷ Section 0 ∷ Section 1 ∷ Executor false ∷ Finished ∷ Passed ∷ Wait ∷ Stopped ∷ later_answers
 
--- than one that only finishes, passes, or stops
+-- than one that only finishes, passes, runs a task, or stops
 abbrev no_finish : List Reply
-no_finish = Chunk (pos 0) 1 ∷ NoChunk ∷ Section 0 ∷ Section 1 ∷ Executor true ∷ Executor false ∷ Copied (7 ∷ []) ∷ Wait ∷ lock_answers
+no_finish = Chunk (pos 0) 1 ∷ NoChunk ∷ Section 0 ∷ Section 1 ∷ Executor true ∷ Executor false ∷ Copied (7 ∷ []) ∷ Wait ∷ Created 1 ∷ TaskDone 1 true ∷ TaskDone 1 false ∷ lock_answers
+
+-- a task that is run
+abbrev runs : List Reply
+runs = RunTask 1 7 70 false ∷ RunTask 1 7 70 true ∷ []
 
 -- a start that waits enters nothing, and one that is answered as another call gives nothing
 pub none_given_by_starts : given ten_by_three no_iterations ++ given three_sections no_section ++ given SingleStart no_single ++ given SingleCopyStart no_copy ≡ []
@@ -233,42 +237,42 @@ none_given_by_starts = refl
 
 -- nor does a member that waits for its turn hand a piece on, or begin a part
 pub none_given_by_nexts :
-    given LoopNext no_iterations ++ given SectionsNext no_section ++ given (OrderedStart (pos 0)) (Passed ∷ Stopped ∷ no_finish) ≡ []
+    given LoopNext no_iterations ++ given SectionsNext no_section ++ given (OrderedStart (pos 0)) (Passed ∷ Stopped ∷ runs ++ no_finish) ≡ []
 none_given_by_nexts = refl
 
 -- the ends give nothing beside what they have begun with
 pub none_given_by_ends :
-    given LoopEndNowait (Finished ∷ Passed ∷ no_finish) ++ given SectionsEndNowait (Finished ∷ Passed ∷ no_finish)
-    ++ given (SingleCopyEnd []) (Finished ∷ Passed ∷ no_finish) ++ given OrderedEnd (Finished ∷ Passed ∷ no_finish) ≡ []
+    given LoopEndNowait (Finished ∷ Passed ∷ runs ++ no_finish) ++ given SectionsEndNowait (Finished ∷ Passed ∷ runs ++ no_finish)
+    ++ given (SingleCopyEnd []) (Finished ∷ Passed ∷ runs ++ no_finish) ++ given OrderedEnd (Finished ∷ Passed ∷ runs ++ no_finish) ≡ []
 none_given_by_ends = refl
 
--- the arrivals nothing but the pass
+-- the arrivals nothing but the pass, and the start of a task
 pub none_given_by_arrivals :
     given LoopEnd (Finished ∷ Stopped ∷ no_finish) ++ given SectionsEnd (Finished ∷ Stopped ∷ no_finish)
     ++ given Barrier (Finished ∷ Stopped ∷ no_finish) ++ given RegionEnd (Finished ∷ Stopped ∷ no_finish) ≡ []
 none_given_by_arrivals = refl
 
 -- a stop nothing but the break
-pub none_given_by_stop : given Stop (Finished ∷ Passed ∷ no_finish) ++ given Resume (Finished ∷ Passed ∷ Stopped ∷ no_finish) ≡ []
+pub none_given_by_stop : given Stop (Finished ∷ Passed ∷ runs ++ no_finish) ++ given Resume (Finished ∷ Passed ∷ Stopped ∷ runs ++ no_finish) ≡ []
 none_given_by_stop = refl
 
 -- a member that does not get a name or a lock holds nothing, and one that is answered as another call neither
 pub none_held_or_freed :
-    given (CriticalStart name_a) (Passed ∷ Stopped ∷ Wait ∷ GotLock false ∷ Count 0 ∷ LockMade 0 ∷ share_answers) ++ given (Set 0) (Passed ∷ Stopped ∷ Wait ∷ GotLock false ∷ Count 0 ∷ LockMade 0 ∷ share_answers)
-    ++ given (TestLock 0) (Wait ∷ GotLock false ∷ Count 0 ∷ LockMade 0 ∷ share_answers)
-    ++ given (SetNest 1) (Wait ∷ GotLock false ∷ Count 0 ∷ LockMade 0 ∷ share_answers) ++ given (TestNest 1) (Wait ∷ GotLock false ∷ Count 0 ∷ LockMade 0 ∷ share_answers) ≡ []
+    given (CriticalStart name_a) (Passed ∷ Stopped ∷ Wait ∷ GotLock false ∷ Count 0 ∷ LockMade 0 ∷ share_answers ++ task_answers) ++ given (Set 0) (Passed ∷ Stopped ∷ Wait ∷ GotLock false ∷ Count 0 ∷ LockMade 0 ∷ share_answers ++ task_answers)
+    ++ given (TestLock 0) (Wait ∷ GotLock false ∷ Count 0 ∷ LockMade 0 ∷ share_answers ++ task_answers)
+    ++ given (SetNest 1) (Wait ∷ GotLock false ∷ Count 0 ∷ LockMade 0 ∷ share_answers ++ task_answers) ++ given (TestNest 1) (Wait ∷ GotLock false ∷ Count 0 ∷ LockMade 0 ∷ share_answers ++ task_answers) ≡ []
 none_held_or_freed = refl
 
 -- nor does such an answer free any
 pub none_freed :
-    given (CriticalEnd name_a) (Wait ∷ GotLock true ∷ GotLock false ∷ LockMade 0 ∷ share_answers) ++ given (Unset 0) (Wait ∷ GotLock true ∷ GotLock false ∷ LockMade 0 ∷ share_answers)
-    ++ given (UnsetNest 1) (Wait ∷ GotLock true ∷ GotLock false ∷ LockMade 0 ∷ share_answers) ≡ []
+    given (CriticalEnd name_a) (Wait ∷ GotLock true ∷ GotLock false ∷ LockMade 0 ∷ share_answers ++ task_answers) ++ given (Unset 0) (Wait ∷ GotLock true ∷ GotLock false ∷ LockMade 0 ∷ share_answers ++ task_answers)
+    ++ given (UnsetNest 1) (Wait ∷ GotLock true ∷ GotLock false ∷ LockMade 0 ∷ share_answers ++ task_answers) ≡ []
 none_freed = refl
 
 -- a lock that is made or destroyed gives no event
 pub none_given_by_makers :
-    given LockInit (Finished ∷ Wait ∷ lock_answers ++ share_answers) ++ given NestInit (Finished ∷ Wait ∷ lock_answers ++ share_answers)
-    ++ given (LockDestroy 0) (Finished ∷ Wait ∷ lock_answers ++ share_answers) ≡ []
+    given LockInit (Finished ∷ Wait ∷ later_answers ++ share_answers) ++ given NestInit (Finished ∷ Wait ∷ later_answers ++ share_answers)
+    ++ given (LockDestroy 0) (Finished ∷ Wait ∷ later_answers ++ share_answers) ≡ []
 none_given_by_makers = refl
 
 -- ten iterations in chunks of three
@@ -291,8 +295,9 @@ pub given_by_others :
     × (given SectionsNext (Section 2 ∷ Section 0 ∷ []) ≡ Take 0 0 1 2 ∷ Drained 0 0 ∷ [])
     × (given (OrderedStart (pos 1)) (Finished ∷ []) ≡ Part 0 0 1 ∷ [])
     × (given Barrier (Passed ∷ []) ≡ Pass 0 0 ∷ [])
+    × (map (λ call. given call runs) arrivals ≡ map (λ call. Start 1 0 ∷ Start 1 0 ∷ []) arrivals)
     × (given Stop (Stopped ∷ []) ≡ Break 0 AtStop ∷ [])
-given_by_others = (refl, refl, refl, refl, refl, refl)
+given_by_others = (refl, refl, refl, refl, refl, refl, refl)
 
 -- the calls on names
 pub given_by_names :
@@ -315,7 +320,7 @@ given_by_the_second = (refl, refl)
 -- Locks that there are
 
 -- lock 0 is simple, lock 1 nestable, and lock 2 was destroyed
-abbrev three_locks : List (Option LockKind)
+abbrev pub three_locks : List (Option LockKind)
 three_locks = Some Simple ∷ Some Nest ∷ None ∷ []
 
 -- those after each of these replies to a call
@@ -339,7 +344,7 @@ abbrev no_makers : List Call
 no_makers = in_team ++ on_names ++ Set 0 ∷ TestLock 0 ∷ Unset 0 ∷ SetNest 1 ∷ TestNest 1 ∷ UnsetNest 1 ∷ others
 
 pub left_by_others :
-    map (λ call. left_by call (Finished ∷ Wait ∷ lock_answers ++ share_answers)) no_makers ≡ map (λ call. map (λ reply. three_locks) (Finished ∷ Wait ∷ lock_answers ++ share_answers)) no_makers
+    map (λ call. left_by call (Finished ∷ Wait ∷ later_answers ++ share_answers)) no_makers ≡ map (λ call. map (λ reply. three_locks) (Finished ∷ Wait ∷ later_answers ++ share_answers)) no_makers
 left_by_others = refl
 
 -- a row that leaves no lock, whatever is answered
@@ -391,7 +396,7 @@ pass_of_the_second = refl
 
 -- the first waits at its next one
 pub first_waits_ahead : barrier_row.may_reply 0 second_arrived Wait
-first_waits_ahead = refl
+first_waits_ahead = (refl, refl)
 
 pub pass_of_the_first : barrier_row.gives 0 second_arrived Passed ≡ Pass 1 0 ∷ []
 pass_of_the_first = refl
@@ -406,17 +411,39 @@ both_at kind before after = past_with 2 (before ++ (Arrive 0 0 (at kind 0) ∷ A
 abbrev creates : ℕ → ℕ → Event
 creates task m = Create task m (Implicit m) (record { code = 5; arg = 9 })
 
--- a task that is bound to the barrier is open: nobody passes, at a barrier, at the end of a loop and at the region's end
+-- a task that is bound to the barrier is open, and nobody has started it: whoever waits runs it, at a barrier, at the end of a loop and at the region's end
 abbrev task_open : Arrival → Past
 task_open kind = both_at kind (creates 1 0 ∷ []) []
 
-pub waits_for_a_task :
-    barrier_row.may_reply 0 (task_open BarrierArrival) Wait × barrier_row.may_reply 1 (task_open BarrierArrival) Wait
-    × (row_of LoopEnd).may_reply 1 (task_open ShareEnd) Wait × region_end_row.may_reply 1 (task_open RegionEndArrival) Wait
-waits_for_a_task = (refl, refl, refl, refl)
+pub runs_a_task :
+    barrier_row.may_reply 0 (task_open BarrierArrival) (RunTask 1 5 9 false) × barrier_row.may_reply 1 (task_open BarrierArrival) (RunTask 1 5 9 false)
+    × (row_of LoopEnd).may_reply 1 (task_open ShareEnd) (RunTask 1 5 9 false) × (row_of SectionsEnd).may_reply 0 (task_open ShareEnd) (RunTask 1 5 9 false)
+    × region_end_row.may_reply 1 (task_open RegionEndArrival) (RunTask 1 5 9 false)
+runs_a_task = ((refl, refl, refl, refl), (refl, refl, refl, refl), (refl, refl, refl, refl), (refl, refl, refl, refl), (refl, refl, refl, refl))
 
-pub passes_no_open_task : (barrier_row.may_reply 1 (task_open BarrierArrival) Passed → ⊥) × (region_end_row.may_reply 1 (task_open RegionEndArrival) Passed → ⊥)
-passes_no_open_task = ((λ may. absurd (cc)), (λ may. absurd (cc)))
+-- it does not wait
+pub waits_for_no_startable :
+    (barrier_row.may_reply 0 (task_open BarrierArrival) Wait → ⊥) × ((row_of LoopEnd).may_reply 1 (task_open ShareEnd) Wait → ⊥)
+    × (region_end_row.may_reply 1 (task_open RegionEndArrival) Wait → ⊥)
+waits_for_no_startable = search rules
+
+-- and does not pass
+pub passes_no_open_task :
+    (barrier_row.may_reply 1 (task_open BarrierArrival) Passed → ⊥) × ((row_of LoopEnd).may_reply 0 (task_open ShareEnd) Passed → ⊥)
+    × (region_end_row.may_reply 1 (task_open RegionEndArrival) Passed → ⊥)
+passes_no_open_task = ((λ may. absurd (cc)), (λ may. absurd (cc)), (λ may. absurd (cc)))
+
+-- once another member runs it the first waits
+abbrev task_run : Arrival → Past
+task_run kind = both_at kind (creates 1 0 ∷ []) (Start 1 1 ∷ [])
+
+pub waits_for_a_task :
+    barrier_row.may_reply 0 (task_run BarrierArrival) Wait × (row_of LoopEnd).may_reply 0 (task_run ShareEnd) Wait
+    × (row_of SectionsEnd).may_reply 0 (task_run ShareEnd) Wait × region_end_row.may_reply 0 (task_run RegionEndArrival) Wait
+waits_for_a_task = ((refl, refl), (refl, refl), (refl, refl), (refl, refl))
+
+pub passes_no_running_task : (barrier_row.may_reply 0 (task_run BarrierArrival) Passed → ⊥) × (region_end_row.may_reply 0 (task_run RegionEndArrival) Passed → ⊥)
+passes_no_running_task = ((λ may. absurd (cc)), (λ may. absurd (cc)))
 
 -- once it is complete both pass
 abbrev task_ended : Arrival → Past
@@ -433,38 +460,44 @@ task_of_the_next kind = both_at kind [] (Pass 0 0 ∷ creates 1 0 ∷ [])
 pub passes_before_later_tasks : barrier_row.may_reply 1 (task_of_the_next BarrierArrival) Passed × (row_of LoopEnd).may_reply 1 (task_of_the_next ShareEnd) Passed
 passes_before_later_tasks = (refl, refl)
 
-pub ends_after_every_task : region_end_row.may_reply 1 (task_of_the_next RegionEndArrival) Wait × (region_end_row.may_reply 1 (task_of_the_next RegionEndArrival) Passed → ⊥)
-ends_after_every_task = (refl, (λ may. absurd (cc)))
+pub ends_after_every_task :
+    region_end_row.may_reply 1 (task_of_the_next RegionEndArrival) (RunTask 1 5 9 false) × (region_end_row.may_reply 1 (task_of_the_next RegionEndArrival) Passed → ⊥)
+ends_after_every_task = ((refl, refl, refl, refl), (λ may. absurd (cc)))
 
 -- Tests
 
--- a row with a test of each list, all of which hold
+-- a row with a test of each list, all of which hold, which asks for more room than there is
 abbrev tested : Row
 tested = record plain_row {
   by_place = λ limits seen. (true, NotDrained) ∷ [];
+  by_task = λ m p. (true, NoGroup) ∷ [];
   by_team = λ m p. (true, Waiting) ∷ [];
   missing = λ m p. (true, NoLock) ∷ [];
   compared = λ repeated m p. (repeated, TooManyShares) ∷ (true, Mismatch) ∷ [];
+  room = 16777214;
 }
 
 -- a call makes them all, first those on its place
 pub tests_of_a_call :
-    row_tests false tested 0 (past_with 1 []) ≡ (true, NotDrained) ∷ (false, TooManyShares) ∷ (true, Mismatch) ∷ (true, Waiting) ∷ (true, NoLock) ∷ []
+    row_tests false tested 0 (past_with 1 [])
+    ≡ (true, NotDrained) ∷ (false, TooManyShares) ∷ (true, Mismatch) ∷ (true, NoGroup) ∷ (true, TraceFull) ∷ (true, Waiting) ∷ (true, NoLock) ∷ []
 tests_of_a_call = refl
 
 -- and is refused by the least
 pub refusal_of_a_call : least (row_tests false tested 0 (past_with 1 [])) ≡ Some Waiting
 refusal_of_a_call = refl
 
--- a resume compares, and asks whether the lock is there
+-- a resume compares, and asks whether the lock is there; it asks for no room
 pub tests_of_a_resume : row_tests true tested 0 (past_with 1 []) ≡ (true, TooManyShares) ∷ (true, Mismatch) ∷ (true, NoLock) ∷ []
 tests_of_a_resume = refl
 
--- the tests on the place are apart from those that names and locks decide
+-- the tests on the place are apart from those that tasks decide, and those from the tests that names and locks decide
 pub tests_apart :
-    (place_tests false tested 0 (past_with 1 []) ≡ (true, NotDrained) ∷ (false, TooManyShares) ∷ (true, Mismatch) ∷ []) × (book_tests false tested 0 (past_with 1 []) ≡ (true, Waiting) ∷ (true, NoLock) ∷ [])
-    × (place_tests true tested 0 (past_with 1 []) ≡ (true, TooManyShares) ∷ (true, Mismatch) ∷ []) × (book_tests true tested 0 (past_with 1 []) ≡ (true, NoLock) ∷ [])
-tests_apart = (refl, refl, refl, refl)
+    (place_tests false tested 0 (past_with 1 []) ≡ (true, NotDrained) ∷ (false, TooManyShares) ∷ (true, Mismatch) ∷ [])
+    × (board_tests false tested 0 (past_with 1 []) ≡ (true, NoGroup) ∷ (true, TraceFull) ∷ []) × (book_tests false tested 0 (past_with 1 []) ≡ (true, Waiting) ∷ (true, NoLock) ∷ [])
+    × (place_tests true tested 0 (past_with 1 []) ≡ (true, TooManyShares) ∷ (true, Mismatch) ∷ []) × (board_tests true tested 0 (past_with 1 []) ≡ [])
+    × (book_tests true tested 0 (past_with 1 []) ≡ (true, NoLock) ∷ [])
+tests_apart = (refl, refl, refl, refl, refl, refl)
 
 -- a test on the place, which holds if these are the limits and the shares entered
 abbrev tested_place : Row
@@ -472,8 +505,8 @@ tested_place = record plain_row { by_place = λ limits seen. (limits.shares == 1
 
 -- the tests on the place are by the team's limits, and by what the events say of the member that asks
 pub tests_by_place :
-    (row_tests false tested_place 1 (past_with 2 (Enter 0 1 (four false) ∷ [])) ≡ (true, InsideShare) ∷ [])
-    × (row_tests false tested_place 0 (past_with 2 (Enter 0 1 (four false) ∷ [])) ≡ (false, InsideShare) ∷ [])
+    (row_tests false tested_place 1 (past_with 2 (Enter 0 1 (four false) ∷ [])) ≡ (true, InsideShare) ∷ (false, TraceFull) ∷ [])
+    × (row_tests false tested_place 0 (past_with 2 (Enter 0 1 (four false) ∷ [])) ≡ (false, InsideShare) ∷ (false, TraceFull) ∷ [])
 tests_by_place = (refl, refl)
 
 -- Tests that names and locks decide
@@ -483,7 +516,7 @@ abbrev past_with_locks : List Event → Past
 past_with_locks happened = record (past_with 2 happened) { locks = three_locks }
 
 -- a member holds a name and both locks
-abbrev all_held_by : ℕ → List Event
+abbrev pub all_held_by : ℕ → List Event
 all_held_by m = Hold (Critical name_a) m (Implicit m) ∷ Hold (Lock 0) m (Implicit m) ∷ Hold (NestLock 1) m (Implicit m) ∷ []
 
 -- these tests of these calls, by the first member
@@ -663,12 +696,13 @@ no_share_by_book = refl
 
 -- Rows of which little is said
 
--- what a row leaves as it is: no test, no event, and done at once
+-- what a row leaves as it is: no test that holds, no event, and done at once
 pub plain_says_nothing :
-    (row_tests false plain_row 0 (past_with 1 []) ≡ []) × (row_tests true plain_row 0 (past_with 1 []) ≡ []) × (plain_row.memory ≡ false) × (plain_row.stays ≡ false)
+    (row_tests false plain_row 0 (past_with 1 []) ≡ (false, TraceFull) ∷ []) × (row_tests true plain_row 0 (past_with 1 []) ≡ []) × (plain_row.memory ≡ false) × (plain_row.stays ≡ false)
     × (plain_row.arrives ≡ None) × (plain_row.puts ≡ false) × (plain_row.begins 0 (past_with 1 []) ≡ []) × (plain_row.gives 0 (past_with 1 []) Finished ≡ [])
     × (plain_row.asks_book ≡ false) × (plain_row.holds ≡ None) × (plain_row.locks Finished three_locks ≡ three_locks)
-plain_says_nothing = (refl, refl, refl, refl, refl, refl, refl, refl, refl, refl, refl)
+    × (plain_row.room ≡ 0) × (plain_row.creates ≡ None) × (plain_row.by_task 0 (past_with 1 []) ≡ [])
+plain_says_nothing = (refl, refl, refl, refl, refl, refl, refl, refl, refl, refl, refl, refl, refl, refl)
 
 -- and nothing but done
 pub plain_is_done : (plain_row.may_reply 0 (past_with 1 []) Finished) × (plain_row.may_reply 0 (past_with 1 []) Wait → ⊥) × (plain_row.may_reply 0 (past_with 1 []) (Refused NoMemory) → ⊥)
@@ -676,7 +710,7 @@ plain_is_done = (refl, (λ e. absurd (cc)), (λ e. absurd (cc)))
 
 -- a call that is done at once has its tests, gives its events, and is done
 pub done_at_once :
-    (row_tests false (at_once (λ seen. (seen.in_part, NotDrained) ∷ []) (λ m h. End 0 m ∷ h)) 0 (past_with 1 []) ≡ (false, NotDrained) ∷ (false, HoldsCritical) ∷ [])
+    (row_tests false (at_once (λ seen. (seen.in_part, NotDrained) ∷ []) (λ m h. End 0 m ∷ h)) 0 (past_with 1 []) ≡ (false, NotDrained) ∷ (false, InsideTask) ∷ (false, TraceFull) ∷ (false, HoldsCritical) ∷ [])
     × ((at_once (λ seen. []) (λ m h. End 0 m ∷ h)).begins 3 (past_with 1 (Pass 0 0 ∷ [])) ≡ End 0 3 ∷ Pass 0 0 ∷ [])
     × ((at_once (λ seen. []) (λ m h. [])).may_reply 0 (past_with 1 []) Finished)
 done_at_once = (refl, refl, refl)

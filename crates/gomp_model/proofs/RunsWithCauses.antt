@@ -6,6 +6,7 @@ use Rattle.gomp_types.specs.declared.loop_desc.EndKind.TheVariants.{Nowait}
 use Rattle.gomp_model.specs.Examples.{owned_pieces, even_pieces_of_four, shrinking_pieces, runtime_pieces, differing_schedule, IsRunOf, one_share, second_share, whole_region, IsRun, one_nowait, loop_of_two, empty_loops, refused_ends, ninth_share, differing_loop, other_end_values, differing_barrier, stopped_team, stopped_waiting, stopped_inside}
 use Rattle.gomp_model.specs.ShareExamples.{sections_of_two, no_sections, single_of_two, copy_of_three, misplaced_calls, differing_single, differing_copy, differing_sections, ordered_of_two, handed_of_two, ordered_alone, ordered_downwards, unordered_parts, differing_ordered}
 use Rattle.gomp_model.specs.HoldExamples.{names_and_locks, names_to_the_end, destroyed_while_waiting, nest_of_two, names_in_a_loop}
+use Rattle.gomp_model.specs.TaskRuns.{tasks_at_barriers, task_at_a_resume, task_at_a_loop_end, children_of_two, wait_for_children, wait_for_a_running_child, nested_waits, group_of_one, group_with_a_grandchild, group_in_a_group, refused_in_tasks, refused_ends_of_tasks, locks_of_tasks, lock_of_an_ended_task, with_events, one_task, room_for_one_task, room_for_none, no_room_for_another}
 use Rattle.gomp_model.specs.RegionExamples.{region_of_two, later_barrier, later_share, differing_at_resume, differing_ninth, ninth_and_tenth, copied_at_once, parts_of_a_piece, early_arrivals, early_sections_end, early_starts, ends_in_order, outside_calls, second_of_each, stopped_at_the_end, named_in_a_part}
 
 -- Loops, barriers and stops
@@ -243,3 +244,73 @@ names_in_a_loop_have_causes = search rules
 -- a name that is held at the end of an ordered part
 pub named_in_a_part_has_causes : IsRun 1 named_in_a_part
 named_in_a_part_has_causes = search rules
+
+-- Tasks and groups
+
+-- tasks that are run at a barrier, and at the region's end
+pub tasks_at_barriers_have_causes : IsRun 2 tasks_at_barriers
+tasks_at_barriers_have_causes = search rules
+
+-- one that is run at a resume
+pub task_at_a_resume_has_causes : IsRun 2 task_at_a_resume
+task_at_a_resume_has_causes = search rules
+
+-- and at the end of a loop
+pub task_at_a_loop_end_has_causes : IsRun 2 task_at_a_loop_end
+task_at_a_loop_end_has_causes = search rules
+
+-- a task waits for its child
+pub children_of_two_have_causes : IsRun 2 children_of_two
+children_of_two_have_causes = search rules
+
+-- and not for the child of that
+pub wait_for_children_has_causes : IsRun 2 wait_for_children
+wait_for_children_has_causes = search rules
+
+-- it waits while another member runs it
+pub wait_for_a_running_child_has_causes : IsRun 2 wait_for_a_running_child
+wait_for_a_running_child_has_causes = search rules
+
+-- waits in waits
+pub nested_waits_have_causes : IsRun 1 (nested_waits 20)
+nested_waits_have_causes = search rules
+
+-- the end of a group
+pub group_of_one_has_causes : IsRun 1 group_of_one
+group_of_one_has_causes = search rules
+
+-- a group's task has a child
+pub group_with_a_grandchild_has_causes : IsRun 2 group_with_a_grandchild
+group_with_a_grandchild_has_causes = search rules
+
+-- groups in a group and in its task
+pub group_in_a_group_has_causes : IsRun 1 group_in_a_group
+group_in_a_group_has_causes = search rules
+
+-- refusals in a task and outside
+pub refused_in_tasks_have_causes : IsRun 1 refused_in_tasks
+refused_in_tasks_have_causes = search rules
+
+-- ends that are refused
+pub refused_ends_of_tasks_have_causes : IsRun 1 refused_ends_of_tasks
+refused_ends_of_tasks_have_causes = search rules
+
+-- locks that are set by tasks
+pub locks_of_tasks_have_causes : IsRun 1 locks_of_tasks
+locks_of_tasks_have_causes = search rules
+
+-- and not unset by them
+pub lock_of_an_ended_task_has_causes : IsRun 1 lock_of_an_ended_task
+lock_of_an_ended_task_has_causes = search rules
+
+-- room for one task
+pub room_for_one_task_has_causes : IsRunOf one_task room_for_one_task
+room_for_one_task_has_causes = search rules
+
+-- for none
+pub room_for_none_has_causes : IsRunOf (with_events 1 2) room_for_none
+room_for_none_has_causes = search rules
+
+-- and for none but the region's end, in a team that breaks
+pub no_room_for_another_has_causes : IsRunOf (with_events 2 5) no_room_for_another
+no_room_for_another_has_causes = search rules

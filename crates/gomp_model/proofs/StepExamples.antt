@@ -1,18 +1,21 @@
 -- What a step is tested for, may be refused, and leaves; and what a new team is.
 use Rattle.std.proofs.Common.{◌≡◌, true, false, [], ◌∷◌, Some, None, refl, inl, inr}
-use Rattle.std.specs.Prelude.{pos, take, map}
-use Rattle.gomp_types.specs.declared.call.Call.TheVariants.{LoopNext, LoopEnd, SectionsStart, SingleStart, SingleCopyStart, OrderedStart, Barrier, RegionEnd, CriticalStart, LockInit, NestInit, LockDestroy, Resume, Stop}
+use Rattle.std.specs.Prelude.{pos, take, map, Option}
+use Rattle.gomp_types.specs.declared.call.Call.{Call}
+use Rattle.gomp_types.specs.declared.call.Call.TheVariants.{LoopNext, LoopEnd, SectionsStart, SingleStart, SingleCopyStart, OrderedStart, Barrier, RegionEnd, CriticalStart, LockInit, NestInit, LockDestroy, Set, TaskCreate, TaskEnd, Taskwait, GroupEnd, Resume, Stop}
 use Rattle.gomp_types.specs.declared.lock.LockKind.TheVariants.{Simple, Nest}
 use Rattle.gomp_types.specs.declared.loop_desc.EndKind.TheVariants.{Nowait}
 use Rattle.gomp_types.specs.declared.refusal.Place.TheVariants.{Stopped as AtStop}
-use Rattle.gomp_types.specs.declared.refusal.Refusal.TheVariants.{BadMember, Ended, Broken, Waiting, InsideShare, HoldsCritical, ZeroStep, BadSections, TooManyShares, NotInside, NoMemory, Mismatch}
-use Rattle.gomp_types.specs.declared.reply.Reply.TheVariants.{Chunk, NoChunk, Section, Executor, Finished, Passed, Wait, Lock, Stopped, Refused}
+use Rattle.gomp_types.specs.declared.refusal.Refusal.TheVariants.{BadMember, Ended, Broken, Waiting, InsideTask, InsideShare, HoldsCritical, ZeroStep, BadSections, TooManyShares, NotInside, NoLock, NoMemory, TraceFull, Mismatch}
+use Rattle.gomp_types.specs.declared.reply.Reply.TheVariants.{Chunk, NoChunk, Section, Executor, Finished, Passed, Wait, Created, Run as RunTask, TaskDone, Lock, Stopped, Refused}
 use Rattle.gomp_types.specs.declared.event.Arrival.TheVariants.{Barrier as BarrierArrival, ShareEnd, RegionEnd as RegionEndArrival}
 use Rattle.gomp_types.specs.declared.event.Event.TheVariants.{Enter, End, Arrive, Pass, Break}
 use Rattle.gomp_types.specs.Singles.{single_shape}
 use Rattle.gomp_types.specs.EventLists.{four, at}
-use Rattle.gomp_model.specs.Team.{MayAnswer, MayRefuse, OneReply, is_resume, row_at, broken_tests, member_tests, wait_tests, tests_of, refusal_of, wait_after, past_after, before_all, past_of}
-use Rattle.gomp_model.specs.Examples.{IsWrong, past_with, past_after_run, team_of, asks, one_nowait, one_share, loop_by, loop_of_two, stopped_waiting, stopped_team}
+use Rattle.gomp_types.specs.TaskExamples.{one_job}
+use Rattle.gomp_model.specs.Past.{Waits, no_waits}
+use Rattle.gomp_model.specs.Team.{MayAnswer, MayRefuse, OneReply, is_resume, row_at, broken_tests, member_tests, wait_tests, tests_of, refusal_of, open_first, waits_after, past_after, before_all, past_of}
+use Rattle.gomp_model.specs.Examples.{waits_for, IsWrong, past_with, past_after_run, team_of, asks, one_nowait, one_share, loop_by, loop_of_two, stopped_waiting, stopped_team}
 use Rattle.gomp_model.specs.HoldExamples.{name_a, both_made}
 use Rattle.gomp_model.specs.ShareExamples.{three_sections, ordered_of_two}
 
@@ -44,7 +47,7 @@ tests_of_waits = (refl, refl)
 -- a step's tests: those of every step, of the open wait, of its call
 pub tests_of_a_step :
     tests_of (past_with 2 (Enter 0 0 (four false) ∷ [])) (asks 0 Barrier)
-    ≡ (false, BadMember) ∷ (false, Ended) ∷ (false, Waiting) ∷ (true, InsideShare) ∷ (false, Mismatch) ∷ (false, HoldsCritical) ∷ []
+    ≡ (false, BadMember) ∷ (false, Ended) ∷ (false, Waiting) ∷ (true, InsideShare) ∷ (false, Mismatch) ∷ (false, InsideTask) ∷ (false, TraceFull) ∷ (false, HoldsCritical) ∷ []
 tests_of_a_step = refl
 
 -- a resume's: those of every step, and those that its call makes again
@@ -53,8 +56,8 @@ pub tests_of_resumes :
     × (tests_of (past_after_run 2 (take 7 loop_of_two)) (asks 1 Resume) ≡ (false, BadMember) ∷ (false, Ended) ∷ (true, NotInside) ∷ [])
 tests_of_resumes = (refl, refl)
 
--- a stop's: those of every step
-pub tests_of_a_stop : tests_of (past_after_run 2 (take 7 loop_of_two)) (asks 0 Stop) ≡ (false, BadMember) ∷ (false, Ended) ∷ []
+-- a stop's: those of every step, and one on room, of which it asks for none
+pub tests_of_a_stop : tests_of (past_after_run 2 (take 7 loop_of_two)) (asks 0 Stop) ≡ (false, BadMember) ∷ (false, Ended) ∷ (false, TraceFull) ∷ []
 tests_of_a_stop = refl
 
 -- Which refusal
@@ -130,9 +133,13 @@ memory_of_steps = ((refl, refl), (refl, refl), (refl, refl), (refl, refl), (refl
 
 -- want of memory goes with each answer, and each answer with itself
 pub replies_that_are_one : OneReply Passed Passed × OneReply Passed (Refused NoMemory) × OneReply (Refused NoMemory) Wait
-replies_that_are_one = (inl refl, inr (inr refl), inr (inl refl))
+replies_that_are_one = (inl refl, inr (inr (inr refl)), inr (inr (inl refl)))
 
 -- Waits
+
+-- a member has started a task at a barrier, and another at the end of a group, and waits in it, or does not
+abbrev waits_beneath : Option Call → Waits
+waits_beneath waiting = record { open_call = waiting; beneath = GroupEnd ∷ Barrier ∷ [] }
 
 -- a resume is one, no other call is
 pub resumes_alone : map is_resume (Resume ∷ Stop ∷ LoopEnd ∷ Barrier ∷ []) ≡ true ∷ false ∷ false ∷ false ∷ []
@@ -145,35 +152,67 @@ pub row_of_resumes :
     × ((row_at (past_after_run 2 (take 7 loop_of_two)) (asks 1 Resume)).arrives ≡ None)
 row_of_resumes = (refl, refl, refl)
 
--- a refusal leaves the wait that is open, and opens none
-pub waits_after_refusals : (wait_after (Refused Waiting) Barrier (Some LoopEnd) ≡ Some LoopEnd) × (wait_after (Refused NoMemory) Barrier None ≡ None)
-waits_after_refusals = (refl, refl)
+-- a refusal leaves the wait that is open and those beneath, and opens none
+pub waits_after_refusals :
+    (waits_after (Refused Waiting) Barrier (waits_for LoopEnd) ≡ waits_for LoopEnd) × (waits_after (Refused NoMemory) Barrier no_waits ≡ no_waits)
+    × (waits_after (Refused InsideTask) Barrier (waits_beneath None) ≡ waits_beneath None) × (waits_after (Refused NoLock) Resume (waits_beneath (Some (Set 0))) ≡ waits_beneath (Some (Set 0)))
+waits_after_refusals = (refl, refl, refl, refl)
 
 -- a wait opens one, which a resume that waits again leaves as it is
-pub waits_after_waits : (wait_after Wait Barrier None ≡ Some Barrier) × (wait_after Wait Resume (Some LoopEnd) ≡ Some LoopEnd)
-waits_after_waits = (refl, refl)
+pub waits_after_waits :
+    (waits_after Wait Barrier no_waits ≡ waits_for Barrier) × (waits_after Wait Resume (waits_for LoopEnd) ≡ waits_for LoopEnd)
+    × (waits_after Wait Taskwait (waits_beneath None) ≡ waits_beneath (Some Taskwait)) × (waits_after Wait Resume (waits_beneath (Some Taskwait)) ≡ waits_beneath (Some Taskwait))
+waits_after_waits = (refl, refl, refl, refl)
 
--- every other reply closes it
+-- a task that is run puts its call beneath the others, also if that is repeated; no wait is open then
+pub waits_after_runs :
+    (waits_after (RunTask 1 7 70 false) Barrier no_waits ≡ record { open_call = None; beneath = Barrier ∷ [] })
+    × (waits_after (RunTask 1 7 70 false) Resume (waits_for LoopEnd) ≡ record { open_call = None; beneath = LoopEnd ∷ [] })
+    × (waits_after (RunTask 1 7 70 false) Taskwait (waits_beneath None) ≡ record { open_call = None; beneath = Taskwait ∷ GroupEnd ∷ Barrier ∷ [] })
+    × (waits_after (RunTask 1 7 70 false) Resume (waits_beneath (Some Taskwait)) ≡ record { open_call = None; beneath = Taskwait ∷ GroupEnd ∷ Barrier ∷ [] })
+waits_after_runs = (refl, refl, refl, refl)
+
+-- the end of a task opens the wait of the call above which it was run, and no other
+pub waits_after_ends :
+    (waits_after (TaskDone 1 true) TaskEnd (record { open_call = None; beneath = Barrier ∷ [] }) ≡ waits_for Barrier)
+    × (waits_after (TaskDone 1 true) TaskEnd (waits_beneath None) ≡ record { open_call = Some GroupEnd; beneath = Barrier ∷ [] })
+    × (waits_after (TaskDone 1 true) TaskEnd no_waits ≡ no_waits)
+waits_after_ends = (refl, refl, refl)
+
+-- a task that its own creator runs at once, and its end, leave the calls beneath
+pub waits_of_own_tasks :
+    (waits_after (RunTask 1 7 70 true) Taskwait (waits_beneath None) ≡ waits_beneath None) × (waits_after (TaskDone 1 false) TaskEnd (waits_beneath None) ≡ waits_beneath None)
+waits_of_own_tasks = (refl, refl)
+
+-- the first of some calls waits again, the others stay beneath
+pub first_opened :
+    (open_first [] ≡ no_waits) × (open_first (Barrier ∷ []) ≡ waits_for Barrier)
+    × (open_first (Taskwait ∷ GroupEnd ∷ Barrier ∷ []) ≡ record { open_call = Some Taskwait; beneath = GroupEnd ∷ Barrier ∷ [] })
+first_opened = (refl, refl, refl)
+
+-- every other reply closes it, and leaves those beneath
 pub waits_after_replies :
-    (wait_after Passed Resume (Some LoopEnd) ≡ None) × (wait_after Stopped Stop (Some LoopEnd) ≡ None) × (wait_after Finished Resume (Some (OrderedStart (pos 0))) ≡ None)
-    × (wait_after (Chunk (pos 0) 1) Resume (Some LoopNext) ≡ None) × (wait_after NoChunk Resume (Some LoopNext) ≡ None) × (wait_after Passed Barrier None ≡ None)
-waits_after_replies = (refl, refl, refl, refl, refl, refl)
+    (waits_after Passed Resume (waits_for LoopEnd) ≡ no_waits) × (waits_after Stopped Stop (waits_for LoopEnd) ≡ no_waits) × (waits_after Finished Resume (waits_for (OrderedStart (pos 0))) ≡ no_waits)
+    × (waits_after (Chunk (pos 0) 1) Resume (waits_for LoopNext) ≡ no_waits) × (waits_after NoChunk Resume (waits_for LoopNext) ≡ no_waits) × (waits_after Passed Barrier no_waits ≡ no_waits)
+    × (waits_after Passed Resume (waits_beneath (Some Taskwait)) ≡ waits_beneath None) × (waits_after (Created 2) (TaskCreate one_job) (waits_beneath None) ≡ waits_beneath None)
+    × (waits_after Finished Resume (waits_beneath (Some (Set 0))) ≡ waits_beneath None)
+waits_after_replies = (refl, refl, refl, refl, refl, refl, refl, refl, refl)
 
 -- a wait is that of the member that asked; the others have theirs
 pub waits_of_members :
-    map (λ m. (past_after (past_after_run 2 (take 7 loop_of_two)) (asks 1 LoopEnd) Wait).waits m) (0 ∷ 1 ∷ 2 ∷ []) ≡ Some LoopEnd ∷ Some LoopEnd ∷ None ∷ []
+    map (λ m. (past_after (past_after_run 2 (take 7 loop_of_two)) (asks 1 LoopEnd) Wait).waits m) (0 ∷ 1 ∷ 2 ∷ []) ≡ waits_for LoopEnd ∷ waits_for LoopEnd ∷ no_waits ∷ []
 waits_of_members = refl
 
 -- one that stops its team waits no longer, one that is refused does
-pub waits_of_stopped : ((past_after_run 2 stopped_waiting).waits 0 ≡ None) × ((past_after_run 2 stopped_team).waits 0 ≡ Some Barrier)
+pub waits_of_stopped : ((past_after_run 2 stopped_waiting).waits 0 ≡ no_waits) × ((past_after_run 2 stopped_team).waits 0 ≡ waits_for Barrier)
 waits_of_stopped = (refl, refl)
 
 -- The past
 
--- a new team has no events, no waits and no locks, and no limit above the standard one
+-- a new team has no events, no waits and no locks, room for the end of its region, and no limit above the standard one
 pub new_team :
     before_all (record { members = 3; limits = record { shares = 131065; tasks = 5; events = 16777217 }; cancellation = true })
-    ≡ record { terms = record { members = 3; limits = record { shares = 131064; tasks = 5; events = 16777216 }; cancellation = true }; events = []; waits = λ m. None; locks = [] }
+    ≡ record { terms = record { members = 3; limits = record { shares = 131064; tasks = 5; events = 16777216 }; cancellation = true }; events = []; waits = λ m. no_waits; room = 7; locks = [] }
 new_team = refl
 
 -- a step leaves the terms

@@ -9,7 +9,9 @@ use Rattle.gomp_types.specs.declared.lock.LockKind.TheVariants.{Nest}
 use Rattle.gomp_types.specs.declared.event.Event.{Event}
 use Rattle.gomp_types.specs.declared.refusal.Refusal.{Refusal}
 use Rattle.gomp_types.specs.Events.{has_left_region, clash_of}
-use Rattle.gomp_locks.specs.Holders.{asker, holder}
+use Rattle.gomp_types.specs.Tasks.{executed_task}
+use Rattle.gomp_types.specs.declared.task.Task.TheVariants.{Implicit}
+use Rattle.gomp_locks.specs.Holders.{owner_of, holder}
 use Rattle.gomp_types.specs.declared.loop_desc.EndKind.TheVariants.{Wait as WaitEnd, Nowait}
 use Rattle.gomp_types.specs.declared.refusal.Refusal.TheVariants.{HoldsCritical, ZeroStep, BadChunk, LoopTooLong, NotDrained, NotOrdered, NameTooLong, NotHolder, NoLock, CountTooLarge, Mismatch, NoMemory}
 use Rattle.gomp_types.specs.declared.reply.Reply.TheVariants.{Chunk, NoChunk, Section, Executor, Finished, Passed, Wait, Lock, Count, Stopped, Refused}
@@ -419,16 +421,16 @@ pub one_lock_too_many : (locks : List (Option LockKind)) → length locks ≡ 42
     map (λ call. refusal_of (locks_and_events locks []) (asks 0 call)) (LockInit ∷ NestInit ∷ []) ≡ Some CountTooLarge ∷ Some CountTooLarge ∷ []
 one_lock_too_many locks made = rw made refl
 
--- a member has set a nestable lock so often
+-- a member's implicit task has set a nestable lock so often
 abbrev set_so_often : ℕ → List Event → Type 0
-set_so_often count h = holder (NestLock 0) h ≡ Some (record { owner = asker 0 h; count = count })
+set_so_often count h = holder (NestLock 0) h ≡ Some (record { owner = owner_of 0 (Implicit 0); count = count })
 
 -- a nestable lock is set 65,535 times
-pub last_count_given : (h : List Event) → has_left_region 0 h ≡ false → clash_of h ≡ None → set_so_often 65534 h →
+pub last_count_given : (h : List Event) → has_left_region 0 h ≡ false → clash_of h ≡ None → executed_task 0 h ≡ Implicit 0 → set_so_often 65534 h →
     MayAnswer (locks_and_events (Some Nest ∷ []) h) (asks 0 (SetNest 0)) (Count 65535) × MayAnswer (locks_and_events (Some Nest ∷ []) h) (asks 0 (TestNest 0)) (Count 65535)
-last_count_given h stays whole often = rw (stays, whole, often) ((refl, (refl, refl)), (refl, refl))
+last_count_given h stays whole own often = rw (stays, whole, own, often) ((refl, (refl, refl)), (refl, refl))
 
 -- and not once more
-pub one_count_too_many : (h : List Event) → has_left_region 0 h ≡ false → clash_of h ≡ None → set_so_often 65535 h →
+pub one_count_too_many : (h : List Event) → has_left_region 0 h ≡ false → clash_of h ≡ None → executed_task 0 h ≡ Implicit 0 → set_so_often 65535 h →
     map (λ call. refusal_of (locks_and_events (Some Nest ∷ []) h) (asks 0 call)) (SetNest 0 ∷ TestNest 0 ∷ UnsetNest 0 ∷ []) ≡ Some CountTooLarge ∷ Some CountTooLarge ∷ None ∷ []
-one_count_too_many h stays whole often = rw (stays, whole, often) refl
+one_count_too_many h stays whole own often = rw (stays, whole, own, often) refl

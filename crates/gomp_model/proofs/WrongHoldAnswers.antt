@@ -5,7 +5,8 @@ use Rattle.gomp_types.specs.declared.call.Call.TheVariants.{LoopNext, Barrier, R
 use Rattle.gomp_types.specs.declared.lock.LockKind.TheVariants.{Simple, Nest}
 use Rattle.gomp_types.specs.declared.refusal.Refusal.TheVariants.{HoldsCritical, AlreadyHeld, NoMemory}
 use Rattle.gomp_types.specs.declared.reply.Reply.TheVariants.{NoChunk, Finished, Passed, Wait, Lock as LockMade, Got, Count, Refused}
-use Rattle.gomp_model.specs.Examples.{IsWrong, AreWrong, past_after_run, asks}
+use Rattle.gomp_model.specs.Past.{no_waits}
+use Rattle.gomp_model.specs.Examples.{waits_for, IsWrong, AreWrong, past_after_run, asks}
 use Rattle.gomp_model.specs.HoldExamples.{name_a, name_ab, name_b, holding, names_and_locks, names_to_the_end, destroyed_while_waiting, nest_of_two, names_in_a_loop}
 
 -- Names
@@ -148,11 +149,11 @@ numbers_used_again_are_wrong = search rules
 -- What is left
 
 -- a refused resume leaves the wait for the lock that was destroyed
-pub wait_for_a_destroyed_lock : map (λ steps. (past_after_run 2 (take steps destroyed_while_waiting)).waits 1) (3 ∷ 7 ∷ 9 ∷ 11 ∷ []) ≡ Some (Set 0) ∷ Some (Set 0) ∷ Some (Set 0) ∷ Some (Set 0) ∷ []
+pub wait_for_a_destroyed_lock : map (λ steps. (past_after_run 2 (take steps destroyed_while_waiting)).waits 1) (3 ∷ 7 ∷ 9 ∷ 11 ∷ []) ≡ waits_for (Set 0) ∷ waits_for (Set 0) ∷ waits_for (Set 0) ∷ waits_for (Set 0) ∷ []
 wait_for_a_destroyed_lock = refl
 
 -- an answered one does not
-pub wait_for_a_name : ((past_after_run 2 (take 6 names_and_locks)).waits 1 ≡ Some (CriticalStart name_a)) × ((past_after_run 2 (take 9 names_and_locks)).waits 1 ≡ None)
+pub wait_for_a_name : ((past_after_run 2 (take 6 names_and_locks)).waits 1 ≡ waits_for (CriticalStart name_a)) × ((past_after_run 2 (take 9 names_and_locks)).waits 1 ≡ no_waits)
 wait_for_a_name = (refl, refl)
 
 -- a destroyed lock leaves its place to none

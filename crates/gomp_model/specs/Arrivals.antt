@@ -1,9 +1,9 @@
 -- The rows of calls that arrive at a barrier, and of the ends of shares. OpenMP API 5.2, section 15.3.
-use Rattle.std.specs.Prelude.{ℕ, is_some, ◌≡◌, Bool, true, false, List, [], ◌∷◌, ◌++◌, Some}
+use Rattle.std.specs.Prelude.{ℕ, is_some, Bool, true, false, List, [], ◌∷◌, ◌++◌, Some}
 use Rattle.gomp_types.specs.declared.refusal.Refusal.TheVariants.{InsideShare, Mismatch}
 use Rattle.gomp_types.specs.declared.seen.Seen.{Seen}
 use Rattle.gomp_types.specs.declared.reply.Reply.{Reply}
-use Rattle.gomp_types.specs.declared.reply.Reply.TheVariants.{Passed, Wait}
+use Rattle.gomp_types.specs.declared.reply.Reply.TheVariants.{Passed}
 use Rattle.gomp_types.specs.declared.event.Arrival.{Arrival}
 use Rattle.gomp_types.specs.declared.event.Arrival.TheVariants.{Barrier as BarrierArrival, RegionEnd as RegionEndArrival}
 use Rattle.gomp_types.specs.declared.event.Event.{Event}
@@ -12,32 +12,27 @@ use Rattle.gomp_types.specs.Tests.{Test}
 use Rattle.gomp_types.specs.Compare.{tag_differs, tag_with}
 use Rattle.gomp_types.specs.Events.{shares_entered, barriers_passed, tag_at}
 use Rattle.gomp_types.specs.Goals.{may_pass}
+use Rattle.gomp_types.specs.TaskCalls.{outside_tasks_tests, group_open_tests, arrival_room, AwaitsTasks, starts_task}
 use Rattle.gomp_shares.specs.Starts.{leaves}
-use Rattle.gomp_model.specs.Row.{Row, outside_names}
-
--- the answer at a wait: passed if its goal is met, else wait
-abbrev pub Awaits : Bool → Reply → Type 0
-Awaits met Passed = met ≡ true
-Awaits met Wait = met ≡ false
-Awaits met _ = ⊥
+use Rattle.gomp_model.specs.Row.{Row, outside_row}
 
 -- an arrival is compared once with those of the other members at the same barrier
 abbrev pub compared_arrival : Arrival → Bool → ℕ → List Event → List Test
 compared_arrival kind true m h = []
 compared_arrival kind false m h = (tag_differs (tag_with kind (shares_entered m h)) (tag_at (barriers_passed m h) h), Mismatch) ∷ []
 
--- the member's next barrier is passed
+-- the member's next barrier is passed, or a task is started there
 abbrev pub passes : ℕ → List Event → Reply → List Event
 passes m h Passed = Pass (barriers_passed m h) m ∷ []
-passes m h _ = []
+passes m h reply = starts_task m reply
 
--- a call that arrives at a barrier, and passes it once all have arrived and the tasks bound to it are complete
+-- a call that arrives at a barrier, and passes it once all have arrived and the tasks bound to it are complete; until then it runs tasks
 abbrev pub arrival_row : Arrival → Row
-arrival_row kind = record outside_names {
+arrival_row kind = record outside_row {
   compared = λ repeated m p. compared_arrival kind repeated m p.events;
   arrives = Some kind;
   begins = λ m p. Arrive (barriers_passed m p.events) m (tag_with kind (shares_entered m p.events)) ∷ [];
-  may_reply = λ m p reply. Awaits (may_pass p.terms.members m p.events) reply;
+  may_reply = λ m p reply. AwaitsTasks m (may_pass p.terms.members m p.events) p.events reply;
   gives = λ m p reply. passes m p.events reply;
 }
 
@@ -52,10 +47,13 @@ ending tests row = record row {
 abbrev pub outside_tests : Seen → List Test
 outside_tests seen = (is_some seen.current, InsideShare) ∷ []
 
--- a barrier; it may find no memory
+-- a barrier; it asks for room, and may find no memory
 abbrev pub barrier_row : Row
-barrier_row = record (arrival_row BarrierArrival) { by_place = λ limits seen. outside_tests seen; memory = true }
+barrier_row = record (arrival_row BarrierArrival) { by_place = λ limits seen. outside_tests seen; room = arrival_room; memory = true }
 
--- the region's end
+-- the region's end, which leaves no group open
 abbrev pub region_end_row : Row
-region_end_row = record (arrival_row RegionEndArrival) { by_place = λ limits seen. outside_tests seen }
+region_end_row = record (arrival_row RegionEndArrival) {
+  by_place = λ limits seen. outside_tests seen;
+  by_task = λ m p. outside_tasks_tests m p.events ++ group_open_tests m p.events;
+}

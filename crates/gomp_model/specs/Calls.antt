@@ -1,7 +1,7 @@
 -- Each call's row: the one list of calls.
 use Rattle.std.specs.Prelude.{ℕ, ◌≡◌, true, List, [], ◌∷◌}
 use Rattle.gomp_types.specs.declared.call.Call.{Call}
-use Rattle.gomp_types.specs.declared.call.Call.TheVariants.{LoopStart, LoopNext, LoopEnd, LoopEndNowait, SectionsStart, SectionsNext, SectionsEnd, SectionsEndNowait, SingleStart, SingleCopyStart, SingleCopyEnd, OrderedStart, OrderedEnd, Barrier, RegionEnd, CriticalStart, CriticalEnd, LockInit, NestInit, LockDestroy, Set, Test as TestLock, Unset, SetNest, TestNest, UnsetNest, Resume, Stop}
+use Rattle.gomp_types.specs.declared.call.Call.TheVariants.{LoopStart, LoopNext, LoopEnd, LoopEndNowait, SectionsStart, SectionsNext, SectionsEnd, SectionsEndNowait, SingleStart, SingleCopyStart, SingleCopyEnd, OrderedStart, OrderedEnd, Barrier, RegionEnd, CriticalStart, CriticalEnd, LockInit, NestInit, LockDestroy, Set, Test as TestLock, Unset, SetNest, TestNest, UnsetNest, TaskCreate, TaskEnd, Taskwait, GroupStart, GroupEnd, Resume, Stop}
 use Rattle.gomp_types.specs.declared.refusal.Refusal.TheVariants.{NotInside}
 use Rattle.gomp_types.specs.declared.refusal.Place.TheVariants.{Stopped as AtStop}
 use Rattle.gomp_types.specs.declared.reply.Reply.{Reply}
@@ -17,6 +17,7 @@ use Rattle.gomp_model.specs.Arrivals.{barrier_row, region_end_row}
 use Rattle.gomp_types.specs.declared.lock.LockKind.TheVariants.{Simple, Nest}
 use Rattle.gomp_model.specs.CriticalNames.{critical_start_row, critical_end_row}
 use Rattle.gomp_model.specs.Locks.{init_row, destroy_row, set_row, test_row, unset_row, set_nest_row, test_nest_row, unset_nest_row}
+use Rattle.gomp_model.specs.Tasks.{task_create_row, task_end_row, taskwait_row, group_start_row, group_end_row}
 
 -- a resume with no wait open is refused, and so has no other answer
 abbrev pub resume_row : Row
@@ -59,5 +60,10 @@ row_of (Unset number) = unset_row number
 row_of (SetNest number) = set_nest_row number
 row_of (TestNest number) = test_nest_row number
 row_of (UnsetNest number) = unset_nest_row number
+row_of (TaskCreate desc) = task_create_row desc
+row_of TaskEnd = task_end_row
+row_of Taskwait = taskwait_row
+row_of GroupStart = group_start_row
+row_of GroupEnd = group_end_row
 row_of Stop = stop_row
 row_of Resume = resume_row

@@ -8,7 +8,8 @@ use Rattle.gomp_types.specs.declared.event.Event.{Event}
 use Rattle.gomp_types.specs.declared.event.Event.TheVariants.{Hold, Free}
 use Rattle.std.specs.Prelude.{nat_lt}
 use Rattle.gomp_locks.specs.CriticalNames.{critical_start_tests, EntersCritical, critical_end_tests}
-use Rattle.gomp_locks.specs.Holders.{current_task, asker, holder, holding_owner}
+use Rattle.gomp_types.specs.Tasks.{executed_task}
+use Rattle.gomp_locks.specs.Holders.{asker, holder, holding_owner}
 use Rattle.gomp_model.specs.Row.{Row, plain_row}
 
 -- whether the task holds it once more with this reply: it is done, it was free, or it has a count
@@ -26,12 +27,12 @@ is_freed _ = false
 
 -- the member's task holds it once more, if so
 abbrev pub held_once : Bool → Key → ℕ → List Event → List Event
-held_once true key m h = Hold key m (current_task m h) ∷ []
+held_once true key m h = Hold key m (executed_task m h) ∷ []
 held_once false key m h = []
 
 -- and frees it once, if so
 abbrev pub freed_once : Bool → Key → ℕ → List Event → List Event
-freed_once true key m h = Free key m (current_task m h) ∷ []
+freed_once true key m h = Free key m (executed_task m h) ∷ []
 freed_once false key m h = []
 
 -- the start of a critical construct with this name; it may find no memory

@@ -1,5 +1,5 @@
 -- Worked runs of a team, step by step, and answers that are wrong there. (own)
-use Rattle.std.specs.Prelude.{ℕ, ℤ, pos, negsuc, Result, Bool, true, false, List, [], ◌∷◌, ◌++◌, map}
+use Rattle.std.specs.Prelude.{ℕ, ℤ, pos, negsuc, Result, Bool, true, false, List, [], ◌∷◌, ◌++◌, map, Some}
 use Rattle.gomp_types.specs.declared.call.Call.{Call}
 use Rattle.gomp_types.specs.declared.call.Call.TheVariants.{LoopStart, LoopNext, LoopEnd, LoopEndNowait, Barrier, RegionEnd, Resume, Stop}
 use Rattle.gomp_types.specs.declared.call.Step.{Step}
@@ -10,16 +10,16 @@ use Rattle.gomp_types.specs.declared.loop_desc.EndKind.{EndKind}
 use Rattle.gomp_types.specs.declared.loop_desc.EndKind.TheVariants.{Wait as WaitEnd, Nowait}
 use Rattle.gomp_types.specs.declared.refusal.Place.TheVariants.{Share, Barrier as AtBarrier, Stopped as AtStop}
 use Rattle.gomp_types.specs.declared.refusal.Refusal.{Refusal}
-use Rattle.gomp_types.specs.declared.refusal.Refusal.TheVariants.{BadMember, Ended, Broken, Waiting, InsideShare, OutsideShare, InOrdered, HoldsCritical, ZeroStep, BadChunk, LoopTooLong, BadSections, EndDiffers, NotDrained, Drained, NotOrdered, OrderedBackwards, NotInside, NameTooLong, AlreadyHeld, NotHolder, NoLock, CountTooLarge, TooManyShares, Mismatch, NoMemory, BadTeam}
+use Rattle.gomp_types.specs.declared.refusal.Refusal.TheVariants.{BadMember, Ended, Broken, Waiting, InsideTask, NotInTask, InsideShare, OutsideShare, InOrdered, HoldsCritical, ZeroStep, BadChunk, LoopTooLong, BadSections, EndDiffers, NotDrained, Drained, NotOrdered, OrderedBackwards, NotInside, NoGroup, GroupOpen, TooDeep, TooManyTasks, NameTooLong, AlreadyHeld, NotHolder, NoLock, CountTooLarge, TooManyShares, Mismatch, TraceFull, NoMemory, BadTeam}
 use Rattle.gomp_types.specs.declared.reply.Reply.{Reply}
-use Rattle.gomp_types.specs.declared.reply.Reply.TheVariants.{Chunk, NoChunk, Section, Executor, Copied, Finished, Passed, Wait, Lock, Got, Count, Stopped, Refused}
+use Rattle.gomp_types.specs.declared.reply.Reply.TheVariants.{Chunk, NoChunk, Section, Executor, Copied, Finished, Passed, Wait, Created, Run as RunTask, TaskDone, Lock, Got, Count, Stopped, Refused}
 use Rattle.gomp_types.specs.Limits.{standard}
 use Rattle.gomp_types.specs.Tests.{first_refusal, outcome}
 use Rattle.gomp_types.specs.Iterations.{trip_count, loop_tests}
 use Rattle.gomp_types.specs.Least.{Answers}
 use Rattle.gomp_types.specs.EventLists.{newest_first}
 use Rattle.gomp_types.specs.declared.event.Event.{Event}
-use Rattle.gomp_model.specs.Past.{Terms, Past}
+use Rattle.gomp_model.specs.Past.{Terms, Waits, Past}
 use Rattle.gomp_model.specs.Row.{begun_past, row_tests}
 use Rattle.gomp_model.specs.Calls.{row_of}
 use Rattle.gomp_model.specs.Team.{Record, MayAnswer, Caused, before_all, past_of}
@@ -45,6 +45,10 @@ team_of members = record {
 abbrev pub past_after_run : ℕ → Run → Past
 past_after_run members run = past_of (team_of members) (run_recorded run [])
 
+-- a member waits for the answer to this call, and has started no task
+abbrev pub waits_for : Call → Waits
+waits_for call = record { open_call = Some call; beneath = [] }
+
 -- each reply of the run has its cause
 abbrev pub IsRunOf : Terms → Run → Type 0
 IsRunOf terms run = Caused terms (run_recorded run [])
@@ -62,9 +66,17 @@ abbrev pub AreWrong : ℕ → Run → Step → List Reply → Type 0
 AreWrong members run step [] = Unit {0}
 AreWrong members run step (reply ∷ replies) = IsWrong members run step reply × AreWrong members run step replies
 
+-- answers to a call on a task
+abbrev pub task_answers : List Reply
+task_answers = Created 0 ∷ Created 1 ∷ RunTask 1 7 70 false ∷ RunTask 1 7 70 true ∷ TaskDone 1 true ∷ TaskDone 1 false ∷ []
+
 -- answers to a call on a lock
 abbrev pub lock_answers : List Reply
 lock_answers = Lock 0 ∷ Lock 1 ∷ Got true ∷ Got false ∷ Count 0 ∷ Count 1 ∷ []
+
+-- answers to a call on a task or a lock
+abbrev pub later_answers : List Reply
+later_answers = task_answers ++ lock_answers
 
 -- answers to a call on a share, and of a barrier and a stop
 abbrev pub share_answers : List Reply
@@ -74,9 +86,9 @@ share_answers = Chunk (pos 0) 1 ∷ NoChunk ∷ Section 0 ∷ Section 1 ∷ Exec
 abbrev pub all_refusals : List Reply
 all_refusals =
     map Refused
-    (BadMember ∷ Ended ∷ Waiting ∷ InsideShare ∷ OutsideShare ∷ InOrdered ∷ HoldsCritical ∷ ZeroStep ∷ BadChunk ∷ LoopTooLong ∷ BadSections
-    ∷ EndDiffers ∷ NotDrained ∷ Drained ∷ NotOrdered ∷ OrderedBackwards ∷ NotInside ∷ NameTooLong ∷ AlreadyHeld ∷ NotHolder ∷ NoLock
-    ∷ CountTooLarge ∷ TooManyShares ∷ Mismatch ∷ BadTeam ∷ [])
+    (BadMember ∷ Ended ∷ Waiting ∷ InsideTask ∷ NotInTask ∷ InsideShare ∷ OutsideShare ∷ InOrdered ∷ HoldsCritical ∷ ZeroStep ∷ BadChunk
+    ∷ LoopTooLong ∷ BadSections ∷ EndDiffers ∷ NotDrained ∷ Drained ∷ NotOrdered ∷ OrderedBackwards ∷ NotInside ∷ NoGroup ∷ GroupOpen
+    ∷ TooDeep ∷ TooManyTasks ∷ NameTooLong ∷ AlreadyHeld ∷ NotHolder ∷ NoLock ∷ CountTooLarge ∷ TooManyShares ∷ Mismatch ∷ TraceFull ∷ BadTeam ∷ [])
 
 -- this run has an answer without a cause
 abbrev pub IsNoRun : ℕ → Run → Type 0

@@ -13,4 +13,6 @@ pub mod Sections
 pub mod ShareExamples
 pub mod Singles
 pub mod Starts
+pub mod TaskRuns
+pub mod Tasks
 pub mod Team

@@ -8,7 +8,7 @@ use Rattle.gomp_types.specs.Pieces.{shape_of}
 use Rattle.gomp_types.specs.Events.{open_share}
 use Rattle.gomp_shares.specs.Loops.{DealsOut, DealsNext, piece_given, next_given, next_tests, end_tests}
 use Rattle.gomp_shares.specs.Starts.{leaves}
-use Rattle.gomp_model.specs.Row.{Row, outside_names, at_once}
+use Rattle.gomp_model.specs.Row.{Row, outside_row, at_once}
 use Rattle.gomp_model.specs.Starts.{start_row}
 use Rattle.gomp_model.specs.Arrivals.{arrival_row, ending}
 
@@ -18,7 +18,7 @@ loop_start_row loop = start_row true (loop_tests loop) (shape_of loop) DealsOut 
 
 -- the next piece; of an ordered loop a member may wait for the turn first
 abbrev pub loop_next_row : Row
-loop_next_row = record outside_names {
+loop_next_row = record outside_row {
   by_place = λ limits seen. next_tests seen;
   stays = true;
   may_reply = λ m p reply. DealsNext p.terms.members m (open_share m p.events) reply p.events;

@@ -1,15 +1,26 @@
 -- All that a definition may read of what was before a step. (own)
-use Rattle.std.specs.Prelude.{ℕ, Bool, List, Option}
+use Rattle.std.specs.Prelude.{ℕ, Bool, List, [], Option, None}
 use Rattle.gomp_types.specs.declared.call.Call.{Call}
 use Rattle.gomp_types.specs.declared.limits.Limits.{Limits}
 use Rattle.gomp_types.specs.declared.lock.LockKind.{LockKind}
 use Rattle.gomp_types.specs.declared.event.Event.{Event}
 
--- what a team is made with; a limit above the standard one counts as that. That of tasks and of events, and whether there is cancellation, decide no reply before there are tasks, stored events and cancellation
+-- what a team is made with; a limit above the standard one counts as that, and no definition reads yet whether there is cancellation
 pub record Terms : Type 0 where
   pub members : ℕ
   pub limits : Limits
   pub cancellation : Bool
+
+-- the calls of a member that are not answered whole
+pub record Waits : Type 0 where
+  -- the call whose answer was to wait, if one is open
+  pub open_call : Option Call
+  -- the calls at which the member started the tasks that it has not ended, the innermost first: each goes on when its task has ended
+  pub beneath : List Call
+
+-- none
+abbrev pub no_waits : Waits
+no_waits = record { open_call = None; beneath = [] }
 
 -- what was before a step
 pub record Past : Type 0 where
@@ -17,7 +28,9 @@ pub record Past : Type 0 where
   pub terms : Terms
   -- all that happened, the newest first
   pub events : List Event
-  -- the call of each member whose answer was to wait, if one is open
-  pub waits : ℕ → Option Call
+  -- the calls of each member that are not answered whole
+  pub waits : ℕ → Waits
+  -- for so many events room was asked for
+  pub room : ℕ
   -- the locks that were made, by their numbers; None in the place of one that was destroyed
   pub locks : List (Option LockKind)

@@ -1,5 +1,5 @@
 -- All that there is to say of one call, and what each of its fields means to a step. (own)
-use Rattle.std.specs.Prelude.{ℕ, ◌≡◌, Bool, true, false, List, [], ◌∷◌, ◌++◌, Option, None}
+use Rattle.std.specs.Prelude.{ℕ, ◌+◌, ◌≡◌, Bool, true, false, List, [], ◌∷◌, ◌++◌, Option, None}
 use Rattle.gomp_types.specs.declared.key.Key.{Key}
 use Rattle.gomp_types.specs.declared.limits.Limits.{Limits}
 use Rattle.gomp_types.specs.declared.lock.LockKind.{LockKind}
@@ -8,16 +8,18 @@ use Rattle.gomp_types.specs.declared.shape.Shape.{Shape}
 use Rattle.gomp_types.specs.declared.refusal.Place.{Place}
 use Rattle.gomp_types.specs.declared.refusal.Place.TheVariants.{Barrier as AtBarrier}
 use Rattle.gomp_types.specs.declared.refusal.Refusal.{Refusal}
-use Rattle.gomp_types.specs.declared.refusal.Refusal.TheVariants.{Mismatch}
+use Rattle.gomp_types.specs.declared.refusal.Refusal.TheVariants.{Mismatch, NoMemory}
 use Rattle.gomp_types.specs.declared.reply.Reply.{Reply}
-use Rattle.gomp_types.specs.declared.reply.Reply.TheVariants.{Finished, Refused}
+use Rattle.gomp_types.specs.declared.reply.Reply.TheVariants.{Finished, Wait, Run, Refused}
 use Rattle.gomp_types.specs.declared.event.Arrival.{Arrival}
 use Rattle.gomp_types.specs.declared.event.Event.{Event}
 use Rattle.gomp_types.specs.declared.event.Event.TheVariants.{Break}
+use Rattle.gomp_types.specs.declared.task.TaskDesc.{TaskDesc}
 use Rattle.gomp_types.specs.Tests.{Test}
 use Rattle.gomp_types.specs.Limits.{shown_number}
 use Rattle.gomp_types.specs.Events.{barriers_passed}
 use Rattle.gomp_types.specs.Seen.{seen_of}
+use Rattle.gomp_types.specs.TaskCalls.{outside_tasks_tests, room_tests}
 use Rattle.gomp_locks.specs.CriticalNames.{critical_tests}
 use Rattle.gomp_locks.specs.Holders.{asker, holds_critical}
 use Rattle.gomp_model.specs.Past.{Past}
@@ -26,12 +28,16 @@ use Rattle.gomp_model.specs.Past.{Past}
 pub record Row : Type 1 where
   -- its tests that the member's place among the shares decides
   pub by_place : Limits → Seen → List Test
+  -- those that tasks and groups decide
+  pub by_task : ℕ → Past → List Test
   -- those that names and locks decide
   pub by_team : ℕ → Past → List Test
   -- those on whether the lock that it asks for is there, which are made of a repeated call too
   pub missing : ℕ → Past → List Test
   -- those that compare its construct with other members'; the flag says that a resume repeats the call
   pub compared : Bool → ℕ → Past → List Test
+  -- for how many events it asks room
+  pub room : ℕ
   -- whether it may find no memory
   pub memory : Bool
   -- the share that it starts, by what the team compares of it
@@ -40,9 +46,11 @@ pub record Row : Type 1 where
   pub stays : Bool
   -- at what kind of barrier it arrives
   pub arrives : Option Arrival
+  -- which task it creates, by what is asked for, if one
+  pub creates : Option TaskDesc
   -- whether it puts words for the other members
   pub puts : Bool
-  -- whether the book of names and locks answers it, and not the shares and the barriers
+  -- whether the book of names and locks answers it, and not the shares and the board
   pub asks_book : Bool
   -- which critical name or lock it holds or frees, if one
   pub holds : Option Key
@@ -61,13 +69,16 @@ pub record Row : Type 1 where
 abbrev pub plain_row : Row
 plain_row = record {
   by_place = λ limits seen. [];
+  by_task = λ m p. [];
   by_team = λ m p. [];
   missing = λ m p. [];
   compared = λ repeated m p. [];
+  room = 0;
   memory = false;
   starts = None;
   stays = false;
   arrives = None;
+  creates = None;
   puts = false;
   asks_book = false;
   holds = None;
@@ -78,13 +89,16 @@ plain_row = record {
   place = λ m h. AtBarrier (shown_number (barriers_passed m h));
 }
 
--- a call that no task makes while it holds a critical name
-abbrev pub outside_names : Row
-outside_names = record plain_row { by_team = λ m p. critical_tests (holds_critical (asker m p.events) p.events) }
+-- a call on a work-share or a barrier: no explicit task makes it, nor a task that holds a critical name
+abbrev pub outside_row : Row
+outside_row = record plain_row {
+  by_task = λ m p. outside_tasks_tests m p.events;
+  by_team = λ m p. critical_tests (holds_critical (asker m p.events) p.events);
+}
 
 -- one that is done at once, with these tests, and gives these events
 abbrev pub at_once : (Seen → List Test) → (ℕ → List Event → List Event) → Row
-at_once tests events = record outside_names { by_place = λ limits seen. tests seen; begins = λ m p. events m p.events }
+at_once tests events = record outside_row { by_place = λ limits seen. tests seen; begins = λ m p. events m p.events }
 
 -- these events, unless the call is repeated
 abbrev pub unless_repeated : List Event → Bool → List Event
@@ -101,6 +115,11 @@ abbrev pub place_tests : Bool → Row → ℕ → Past → List Test
 place_tests true row m p = row.compared true m p
 place_tests false row m p = row.by_place p.terms.limits (seen_of m p.events) ++ row.compared false m p
 
+-- those that tasks and groups decide, and whether there is room for the events that it asks for; one that is repeated has its room
+abbrev pub board_tests : Bool → Row → ℕ → Past → List Test
+board_tests true row m p = []
+board_tests false row m p = row.by_task m p ++ room_tests p.terms.limits p.room row.room
+
 -- those that names and locks decide; of one that is repeated only whether its lock is there
 abbrev pub book_tests : Bool → Row → ℕ → Past → List Test
 book_tests true row m p = row.missing m p
@@ -108,7 +127,7 @@ book_tests false row m p = row.by_team m p ++ row.missing m p
 
 -- the tests of a call
 abbrev pub row_tests : Bool → Row → ℕ → Past → List Test
-row_tests repeated row m p = place_tests repeated row m p ++ book_tests repeated row m p
+row_tests repeated row m p = place_tests repeated row m p ++ (board_tests repeated row m p ++ book_tests repeated row m p)
 
 -- what a reply that is no refusal may be
 abbrev pub MayReply : Row → Bool → ℕ → Past → Reply → Type 0
@@ -128,7 +147,37 @@ abbrev pub events_after : Bool → Row → ℕ → Past → Reply → List Event
 events_after repeated row m p (Refused refusal) = refusal_gives refusal m (row.place m p.events) ++ p.events
 events_after repeated row m p reply = given_after row repeated m p reply
 
+-- the room that was asked for then: a refused call asks for none, and one that is repeated for no more
+abbrev pub room_after : Bool → Row → Reply → ℕ → ℕ
+room_after repeated row (Refused refusal) room = room
+room_after true row reply room = room
+room_after false row reply room = room + row.room
+
 -- which locks there are then; a refusal changes none
 abbrev pub locks_after : Row → Reply → List (Option LockKind) → List (Option LockKind)
 locks_after row (Refused refusal) locks = locks
 locks_after row reply locks = row.locks reply locks
+
+-- the past after the call and its reply, but for what waits; a refusal leaves it as it was, and a break is none of this
+abbrev pub past_given : Row → Bool → ℕ → Past → Reply → Past
+past_given row repeated m p (Refused refusal) = p
+past_given row repeated m p reply = record p {
+  events = given_after row repeated m p reply;
+  room = room_after repeated row reply p.room;
+  locks = locks_after row reply p.locks;
+}
+
+-- whether a call goes on after its reply: it waits, or a task is executed before it is repeated
+abbrev pub goes_on : Reply → Bool
+goes_on Wait = true
+goes_on (Run task code arg own) = true
+goes_on _ = false
+
+-- a call that may go on after a reply
+abbrev pub MayGoOn : Row → ℕ → Type 0
+MayGoOn row m = (q : Past) × (reply : Reply) × (goes_on reply ≡ true) × row.may_reply m q reply
+
+-- a reply is want of memory, of a call that may find none; or it is one that the row has
+abbrev pub MayGive : Row → Bool → ℕ → Past → Reply → Type 0
+MayGive row repeated m p (Refused NoMemory) = row.memory ≡ true
+MayGive row repeated m p reply = MayReply row repeated m p reply

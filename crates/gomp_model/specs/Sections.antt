@@ -7,7 +7,7 @@ use Rattle.gomp_types.specs.Sections.{sections_shape, sections_tests}
 use Rattle.gomp_types.specs.Events.{open_share}
 use Rattle.gomp_shares.specs.Sections.{DealsSections, section_given, section_next_given, section_next_tests, sections_end_tests}
 use Rattle.gomp_shares.specs.Starts.{leaves}
-use Rattle.gomp_model.specs.Row.{Row, outside_names, at_once}
+use Rattle.gomp_model.specs.Row.{Row, outside_row, at_once}
 use Rattle.gomp_model.specs.Starts.{start_row}
 use Rattle.gomp_model.specs.Arrivals.{arrival_row, ending}
 
@@ -17,7 +17,7 @@ sections_start_row count end_kind = start_row true (sections_tests count) (secti
 
 -- the next section
 abbrev pub sections_next_row : Row
-sections_next_row = record outside_names {
+sections_next_row = record outside_row {
   by_place = λ limits seen. section_next_tests seen;
   stays = true;
   may_reply = λ m p reply. DealsSections p.terms.members m (open_share m p.events) reply p.events;

@@ -1,10 +1,10 @@
--- A step of a team: its tests, its reply, and what it leaves. The past before a step decides its reply, save that memory may be refused. (own)
+-- A step of a team: its tests, its reply, and what it leaves. The past before a step decides its reply, save which task is run of those that may be, and that memory may be refused. (own)
 use Rattle.std.specs.Prelude.{ℕ, nat_le, ◌==◌, ◌≡◌, ◌≢◌, ◌⊎◌, if◌then◌else◌, is_some, Bool, true, false, IsTrue, List, [], ◌∷◌, ◌++◌, Option, Some, None}
 use Rattle.gomp_types.specs.declared.call.Call.{Call}
 use Rattle.gomp_types.specs.declared.call.Call.TheVariants.{Resume, Stop}
 use Rattle.gomp_types.specs.declared.call.Step.{Step}
 use Rattle.gomp_types.specs.declared.reply.Reply.{Reply}
-use Rattle.gomp_types.specs.declared.reply.Reply.TheVariants.{Wait, Refused}
+use Rattle.gomp_types.specs.declared.reply.Reply.TheVariants.{Wait, Run, TaskDone, Refused}
 use Rattle.gomp_types.specs.declared.refusal.Clash.{Clash}
 use Rattle.gomp_types.specs.declared.refusal.Refusal.{Refusal}
 use Rattle.gomp_types.specs.declared.refusal.Refusal.TheVariants.{BadMember, Ended, Broken, Waiting, NoMemory}
@@ -13,8 +13,9 @@ use Rattle.gomp_types.specs.Tests.{Test}
 use Rattle.gomp_types.specs.Limits.{capped_limits}
 use Rattle.gomp_types.specs.Least.{least}
 use Rattle.gomp_types.specs.Events.{has_left_region, clash_of}
-use Rattle.gomp_model.specs.Past.{Terms, Past}
-use Rattle.gomp_model.specs.Row.{Row, begun_past, row_tests, events_after, locks_after}
+use Rattle.gomp_types.specs.TaskCalls.{first_room}
+use Rattle.gomp_model.specs.Past.{Terms, Waits, no_waits, Past}
+use Rattle.gomp_model.specs.Row.{Row, begun_past, row_tests, events_after, room_after, locks_after}
 use Rattle.gomp_model.specs.Calls.{row_of}
 
 -- what was asked and answered, the newest pair first
@@ -39,7 +40,7 @@ is_resume _ = false
 
 -- the row of the call that a step makes or repeats
 abbrev pub row_at : Past → Step → Row
-row_at p step = row_of (call_meant step.call (p.waits step.member))
+row_at p step = row_of (call_meant step.call (p.waits step.member).open_call)
 
 -- Tests
 
@@ -62,7 +63,7 @@ wait_tests _ waiting = (is_some waiting, Waiting) ∷ []
 abbrev pub tests_of : Past → Step → List Test
 tests_of p step =
     member_tests p.terms.members step.member p.events
-    ++ (wait_tests step.call (p.waits step.member) ++ row_tests (is_resume step.call) (row_at p step) step.member p)
+    ++ (wait_tests step.call (p.waits step.member).open_call ++ row_tests (is_resume step.call) (row_at p step) step.member p)
 
 -- a step is refused by that of its tests that hold whose refusal has the least number
 abbrev pub refusal_of : Past → Step → Option Refusal
@@ -84,23 +85,31 @@ MayAnswer p step reply =
 
 -- What a step leaves
 
--- a refusal leaves a member's wait, Wait opens one, every other reply closes it
-abbrev pub wait_after : Reply → Call → Option Call → Option Call
-wait_after (Refused refusal) call waiting = waiting
-wait_after Wait call waiting = Some (call_meant call waiting)
-wait_after _ call waiting = None
+-- the first of these calls waits again, if there is one
+abbrev pub open_first : List Call → Waits
+open_first [] = no_waits
+open_first (call ∷ calls) = record { open_call = Some call; beneath = calls }
 
--- the past after a step and its reply: the row's events, the member's wait, and the row's locks
+-- a refusal leaves a member's waits, Wait opens one, and a task is run above the call at which it was started, which waits again when the task has ended; every other reply closes the wait, the run of a task of the call's own among them
+abbrev pub waits_after : Reply → Call → Waits → Waits
+waits_after (Refused refusal) call waits = waits
+waits_after Wait call waits = record waits { open_call = Some (call_meant call waits.open_call) }
+waits_after (Run task code arg false) call waits = record { open_call = None; beneath = call_meant call waits.open_call ∷ waits.beneath }
+waits_after (TaskDone task true) call waits = open_first waits.beneath
+waits_after _ call waits = record waits { open_call = None }
+
+-- the past after a step and its reply: the row's events, the member's waits, the room, and the row's locks
 abbrev pub past_after : Past → Step → Reply → Past
 past_after p step reply = record p {
   events = events_after (is_resume step.call) (row_at p step) step.member p reply;
-  waits = λ m. if step.member == m then wait_after reply step.call (p.waits m) else p.waits m;
+  waits = λ m. if step.member == m then waits_after reply step.call (p.waits m) else p.waits m;
+  room = room_after (is_resume step.call) (row_at p step) reply p.room;
   locks = locks_after (row_at p step) reply p.locks;
 }
 
--- a new team, of which nothing was asked: no limit of it is above the standard one
+-- a new team, of which nothing was asked: no limit of it is above the standard one, and it has room for the end of its region
 abbrev pub before_all : Terms → Past
-before_all terms = record { terms = record terms { limits = capped_limits terms.limits }; events = []; waits = λ m. None; locks = [] }
+before_all terms = record { terms = record terms { limits = capped_limits terms.limits }; events = []; waits = λ m. no_waits; room = first_room terms.members; locks = [] }
 
 -- what is known of a record, the newest step first
 abbrev pub past_of : Terms → Record → Past
@@ -116,9 +125,14 @@ abbrev pub Caused : Terms → Record → Type 0
 Caused terms [] = Unit {0}
 Caused terms (pair ∷ earlier) = MayAnswer (past_of terms earlier) pair.0 pair.1 × Caused terms earlier
 
--- two replies are one, or one of them is want of memory
+-- whether both replies have the member execute a task; which of those that it may start is open
+abbrev pub both_run : Reply → Reply → Bool
+both_run (Run task code arg own) (Run other other_code other_arg other_own) = true
+both_run _ _ = false
+
+-- two replies are one, or run a task each, or one of them is want of memory
 abbrev pub OneReply : Reply → Reply → Type 0
-OneReply a b = (a ≡ b) ⊎ (a ≡ Refused NoMemory) ⊎ (b ≡ Refused NoMemory)
+OneReply a b = (a ≡ b) ⊎ (both_run a b ≡ true) ⊎ (a ≡ Refused NoMemory) ⊎ (b ≡ Refused NoMemory)
 
 -- some reply to the step, other than want of memory, has its cause
 abbrev pub SomeReply : Past → Step → Type 0

@@ -1,4 +1,11 @@
 pub mod Refused
-pub mod Answered
+pub mod ShareEvents
+pub mod BoardEvents
+pub mod OpAnswers
+pub mod CallOps
 pub mod Words
+pub mod ShareRows
+pub mod Reserved
+pub mod Answered
+pub mod Laws
 pub mod PartExamples

@@ -1,30 +1,45 @@
--- What is kept of words, and what is known of a call that no test refuses.
-use Rattle.std.proofs.Common.{◌≡◌, Bool, true, false, List, [], ◌∷◌, Some, None, refl, arith}
-use Rattle.gomp_types.specs.declared.reply.Reply.TheVariants.{Passed, Stopped}
-use Rattle.gomp_types.specs.declared.refusal.Place.TheVariants.{Stopped as AtStop}
-use Rattle.gomp_types.specs.declared.refusal.Refusal.TheVariants.{InsideShare, EndDiffers}
+-- What is known of a call that no test refuses, and what the parts stand for: each clause has a list of events or an answer that it alone refuses.
+use Rattle.std.specs.Prelude.{pos, map}
+use Rattle.std.proofs.Common.{◌≡◌, Bool, true, false, List, [], ◌∷◌, Option, Some, None, refl, ap, arith, subst, sym, ◌∙◌}
+use Rattle.gomp_types.specs.declared.call.Call.TheVariants as calls
+use Rattle.gomp_types.specs.declared.event.Arrival.TheVariants.{Barrier}
 use Rattle.gomp_types.specs.declared.event.Event.{Event}
-use Rattle.gomp_types.specs.declared.event.Event.TheVariants.{Enter, End, Pass}
+use Rattle.gomp_types.specs.declared.event.Event.TheVariants.{Enter, End, Put, Pass, Got, Take}
+use Rattle.gomp_types.specs.declared.loop_desc.EndKind.TheVariants as ends
+use Rattle.gomp_types.specs.declared.refusal.Place.TheVariants.{Stopped as AtStop}
+use Rattle.gomp_types.specs.declared.refusal.Refusal.TheVariants.{InsideShare, EndDiffers, NoMemory, Mismatch}
+use Rattle.gomp_types.specs.declared.reply.Reply.TheVariants.{Passed, Finished, Wait, Refused}
+use Rattle.gomp_types.specs.Compare.{tag_with}
+use Rattle.gomp_types.specs.declared.shape.Shape.{Shape}
+use Rattle.gomp_types.specs.Events.{share_number}
+use Rattle.gomp_types.specs.Shapes.{is_copy}
+use Rattle.gomp_types.specs.Laws.{Always}
 use Rattle.gomp_types.specs.Limits.{standard}
+use Rattle.gomp_types.specs.Sections.{sections_shape}
 use Rattle.gomp_types.specs.Singles.{single_shape}
 use Rattle.gomp_model.specs.Past.{Terms, Past}
-use Rattle.gomp_model.specs.Row.{Row, plain_row, given_after}
-use Rattle.gomp_model.specs.Loops.{loop_end_nowait_row}
+use Rattle.gomp_model.specs.Row.{Row, plain_row, given_after, goes_on}
+use Rattle.gomp_model.specs.Loops.{loop_end_nowait_row, loop_next_row}
+use Rattle.gomp_model.specs.Singles.{single_copy_start_row}
 use Rattle.gomp_model.specs.Arrivals.{barrier_row}
-use Rattle.gomp_model.specs.Calls.{resume_row}
+use Rattle.gomp_model.specs.Tasks.{task_end_row, taskwait_row}
+use Rattle.gomp_model.specs.Calls.{resume_row, stop_row}
 use Rattle.gomp_model.specs.Team.{before_all}
-use Rattle.gomp_parts.specs.Payloads.{there}
-use Rattle.gomp_parts.specs.Answers.{ComesFirst, in_place, IsReady, left_once, broken_after}
+use Rattle.gomp_board.specs.declared.op.Op.TheVariants as ops
+use Rattle.gomp_board.specs.Boards.{BoardView, kept_by, members_of}
+use Rattle.gomp_board.specs.Examples.{seven, words, first_waits, first_left, stopped}
+use Rattle.gomp_parts.specs.Answers.{ComesFirst, in_place, room_left, PutsInside, PartsStand, KeepsStart, IsReady, LeavesBoard, AnswersCall}
+use Rattle.gomp_parts.specs.Serves.{asked_once, is_finished, KeepsMore, arrival_op, group_op, board_op, NotesWords, of_shares, IsShareEvent, left_once}
 
 -- what two members are made with
 abbrev two_members : Terms
 two_members = record { members = 2; limits = standard; cancellation = false }
 
--- the words at a place are those of their own share
-pub words_at_a_place :
-    (there 9 (Some (Some (record { share = 9; words = 7 ∷ [] }))) ≡ Some (7 ∷ [])) × (there 1 (Some (Some (record { share = 9; words = 7 ∷ [] }))) ≡ None)
-    × (there 1 (Some None) ≡ None) × (there 1 None ≡ None)
-words_at_a_place = (refl, refl, refl, refl)
+-- two members, after these events
+abbrev two_after : List Event → Past
+two_after h = record (before_all two_members) { events = h }
+
+-- Tests
 
 -- a row whose comparison has this test
 abbrev compared_by : Bool → Row
@@ -38,20 +53,35 @@ place_comes_first = (λ m p. refl, tt, λ first. absurd (let other = first 0 (be
 pub shown_in_place : (in_place true false ≡ true) × (in_place true true ≡ true) × (in_place false false ≡ true) × (in_place false true ≡ false)
 shown_in_place = (refl, refl, refl, refl)
 
--- two members, after these events
-abbrev two_after : List Event → Past
-two_after h = record (before_all two_members) { events = h }
+-- A call that is ready
 
--- a call is ready in a past of its own team, outside of every share; and a resume that repeats nothing, and a repeated call that never waits, are not
-pub ready_calls :
-    IsReady barrier_row 2 false 0 (two_after []) × (IsReady barrier_row 3 false 0 (two_after []) → ⊥) × (IsReady barrier_row 2 false 0 (two_after (Enter 0 0 (single_shape true) ∷ [])) → ⊥)
-    × (IsReady resume_row 2 true 0 (two_after []) → ⊥) × (IsReady loop_end_nowait_row 2 true 0 (two_after []) → ⊥)
-ready_calls = (
-  record { members_are = refl; place = λ e. refl; compared = refl; waits = λ e. absurd (cc) },
-  λ ready. absurd (let members = ready.members_are in omega arith),
+-- at first a barrier is, and a member that waits there may stop the team
+pub ready_calls : (board : BoardView) → IsReady barrier_row false 0 board (two_after []) × IsReady stop_row false 0 board (two_after first_waits)
+ready_calls board = (
+  record { place = λ shown. refl; compared = refl; tasks = refl; waits = λ again. absurd (cc); inside = refl; whole = refl; barrier = λ never. refl; kept = λ again. absurd (cc) },
+  record { place = λ shown. refl; compared = refl; tasks = refl; waits = λ again. absurd (cc); inside = refl; whole = refl; barrier = λ never. absurd (never (two_after []) refl); kept = λ again. absurd (cc) },
+)
+
+-- not a barrier inside a share, a resume that repeats nothing, the end of no task, a repeated call that never waits
+pub calls_not_ready :
+    (board : BoardView) → (IsReady barrier_row false 0 board (two_after (Enter 0 0 (single_shape true) ∷ [])) → ⊥) × (IsReady resume_row false 0 board (two_after []) → ⊥) × (IsReady task_end_row false 0 board (two_after []) → ⊥)
+    × (IsReady loop_end_nowait_row true 0 board (two_after []) → ⊥)
+calls_not_ready board = (
   λ ready. absurd (let place = ready.place refl in cc),
   λ ready. absurd (let compared = ready.compared in cc),
-  λ ready. absurd (let waits = (ready.waits refl).1 in cc),
+  λ ready. absurd (let tasks = ready.tasks in cc),
+  λ ready. let (q, reply, goes, may) = ready.waits refl in absurd (let done : goes_on reply ≡ false = rw may refl in let both = sym goes ∙ done in cc),
+)
+
+-- nor a call after the region's end, one of a broken team, one while its member waits at a barrier, or a start that waits without its room
+pub members_not_ready :
+    (board : BoardView) → (IsReady stop_row false 0 board (two_after first_left) → ⊥) × (IsReady stop_row false 0 board (two_after stopped) → ⊥) × (IsReady taskwait_row false 0 board (two_after first_waits) → ⊥)
+    × (kept_by 0 board ≡ 0 → IsReady single_copy_start_row true 0 board (two_after []) → ⊥)
+members_not_ready board = (
+  λ ready. absurd (let inside = ready.inside in cc),
+  λ ready. absurd (let whole = ready.whole in cc),
+  λ ready. absurd (let waits = ready.barrier (λ q may. may) in cc),
+  λ none ready. let kept = ready.kept refl in omega (arith, none, kept),
 )
 
 -- what has begun with the call does not begin again: a repeated barrier is passed without a second arrival, a share is left once
@@ -60,6 +90,134 @@ pub given_once :
     × (left_once true 0 (Enter 0 0 (single_shape true) ∷ []) ≡ Enter 0 0 (single_shape true) ∷ [])
 given_once = (refl, refl, refl)
 
--- by whom a team is broken after an answer, and where
-pub broken_by : (broken_after None 2 Stopped ≡ Some (record { member = 2; place = AtStop })) × (broken_after None 2 Passed ≡ None)
-broken_by = (refl, refl)
+-- Room
+
+-- of no share, of sections with a barrier and without, and of singles with words and without
+pub rooms_left :
+    map room_left (None ∷ Some (0, sections_shape 3 ends.Wait) ∷ Some (0, sections_shape 3 ends.Nowait) ∷ Some (4, single_shape true) ∷ Some (4, single_shape false) ∷ []) ≡ 0 ∷ 2 ∷ 0 ∷ 1 ∷ 0 ∷ []
+rooms_left = refl
+
+pub rooms_asked_once : (map (asked_once false) (0 ∷ 3 ∷ []) ≡ 0 ∷ 3 ∷ []) × (map (asked_once true) (0 ∷ 3 ∷ []) ≡ 0 ∷ 0 ∷ [])
+rooms_asked_once = (refl, refl)
+
+-- a start needs its own
+pub start_needs_room : (board : BoardView) → KeepsStart barrier_row 0 board × (kept_by 0 board ≡ 1 → KeepsStart single_copy_start_row 0 board) × (kept_by 0 board ≡ 0 → KeepsStart single_copy_start_row 0 board → ⊥)
+start_needs_room board = (tt, λ one. omega (arith, one), λ none kept. omega (arith, none, kept))
+
+-- room that is not kept, is kept of another member, is not asked for
+pub more_is_kept :
+    (board after : BoardView) → (KeepsMore 2 0 board after → kept_by 0 after ≡ kept_by 0 board → ⊥) × (KeepsMore 2 0 board after → kept_by 1 board ≡ 0 → kept_by 1 after ≡ 2 → ⊥) × (KeepsMore 2 0 board after → after.room ≡ board.room → ⊥)
+more_is_kept board after = (
+  λ keeps same. let own = keeps.own in omega (arith, own, same),
+  λ keeps none two. let others = keeps.others 1 (λ e. cc) in omega (arith, others, none, two),
+  λ keeps same. let room = keeps.room in omega (arith, room, same),
+)
+
+-- Parts
+
+-- words outside of every share, and those of another share, are put by no member of their share
+pub puts_inside_shares :
+    Always PutsInside (Put 0 0 words ∷ Enter 0 0 (single_shape true) ∷ []) × (Always PutsInside (Put 0 0 words ∷ []) → ⊥) × (Always PutsInside (Put 1 0 words ∷ Enter 0 0 (single_shape true) ∷ []) → ⊥)
+    × (Always PutsInside (Put 0 1 words ∷ Enter 0 0 (single_shape true) ∷ []) → ⊥)
+puts_inside_shares = (
+  ((single_shape true, refl), (tt, tt)),
+  λ puts. absurd (let inside = puts.0.1 in cc),
+  λ puts. let number : 0 ≡ 1 = ap share_number puts.0.1 in omega (arith, number),
+  λ puts. absurd (let inside = puts.0.1 in cc),
+)
+
+-- the parts stand for no past of another size or other limits, with another room, with a share that has no room, or with words put outside
+pub parts_that_do_not_stand :
+    {S : Type 0} (stands : S → List Event → Type 0) (shares : S) (board : BoardView) → (members_of board ≡ 3 → PartsStand stands shares board (two_after []) → ⊥) × (board.room ≡ 6 → PartsStand stands shares board (two_after []) → ⊥)
+    × (kept_by 0 board ≡ 0 → PartsStand stands shares board (two_after (Enter 0 0 (single_shape true) ∷ [])) → ⊥) × (PartsStand stands shares board (two_after (Put 0 0 words ∷ [])) → ⊥)
+parts_that_do_not_stand stands shares board = (
+  λ three parts. let members = parts.members in omega (arith, members, three),
+  λ six parts. let room = parts.room in omega (arith, room, six),
+  λ none parts. let kept = parts.kept 0 in omega (arith, none, kept),
+  λ parts. absurd (let inside = parts.puts.0.1 in cc),
+)
+
+pub limits_are_the_board_s : {S : Type 0} (stands : S → List Event → Type 0) (shares : S) (board : BoardView) → board.limits.tasks ≡ 3 → PartsStand stands shares board (two_after []) → ⊥
+limits_are_the_board_s stands shares board three parts = absurd (let same = subst (λ limits. limits.tasks ≡ 3) (sym parts.limits) three in cc)
+
+-- a reply leaves what another member keeps
+pub others_keep_theirs : (board after : BoardView) → kept_by 1 board ≡ 2 → kept_by 1 after ≡ 0 → LeavesBoard 0 board after → ⊥
+others_keep_theirs board after two none leaves = let same = leaves.others 1 (λ e. cc) in omega (arith, two, none, same)
+
+-- Answers
+
+-- no refusal but want of memory, and that neither of a call that asks for no room nor of one that is repeated
+pub refusals_that_are_no_answers :
+    {S : Type 0} (stands : S → List Event → Type 0) (shares after : S) (board board_after : BoardView) → (AnswersCall stands shares after board board_after barrier_row false 0 (Refused Mismatch) → ⊥)
+    × (AnswersCall stands shares after board board_after loop_next_row false 0 (Refused NoMemory) → ⊥) × (AnswersCall stands shares after board board_after barrier_row true 0 (Refused NoMemory) → ⊥)
+    × ((after ≡ shares → ⊥) → AnswersCall stands shares after board board_after barrier_row false 0 (Refused NoMemory) → ⊥)
+refusals_that_are_no_answers stands shares after board board_after = (
+  λ answers. absurd (let other = answers.refuses Mismatch refl in cc),
+  λ answers. let room = (answers.lacks refl).2 in omega (arith, room),
+  λ answers. absurd (let once = (answers.lacks refl).1 in cc),
+  λ changed answers. changed (answers.lacks refl).0.0,
+)
+
+-- a wait that goes on and changes the shares or the board, and one of a start without its room
+pub waits_that_are_no_answers :
+    {S : Type 0} (stands : S → List Event → Type 0) (shares after : S) (board board_after : BoardView) → ((after ≡ shares → ⊥) → AnswersCall stands shares after board board_after barrier_row true 0 Wait → ⊥)
+    × ((board_after ≡ board → ⊥) → AnswersCall stands shares after board board_after barrier_row true 0 Wait → ⊥) × (kept_by 0 board_after ≡ 0 → AnswersCall stands shares after board board_after single_copy_start_row false 0 Wait → ⊥)
+waits_that_are_no_answers stands shares after board board_after = (
+  λ changed answers. changed (answers.waits refl refl).0,
+  λ changed answers. changed (answers.waits refl refl).1,
+  λ none answers. let keeps = answers.keeps refl in omega (arith, none, keeps),
+)
+
+-- a pass before all have arrived, and a first arrival after which the board has asked for no more room
+pub replies_that_are_no_answers :
+    {S : Type 0} (stands : S → List Event → Type 0) (shares after : S) (board board_after : BoardView) → PartsStand stands shares board (two_after []) → (AnswersCall stands shares after board board_after barrier_row false 0 Passed → ⊥)
+    × (board_after.room ≡ board.room → AnswersCall stands shares after board board_after barrier_row false 0 Wait → ⊥)
+replies_that_are_no_answers stands shares after board board_after stand = (
+  λ answers. absurd (let may = answers.answer (two_after []) stand (ready_calls board).0 in cc),
+  λ same answers. let after = (answers.stands_for (two_after []) stand (ready_calls board).0).room in let before = stand.room in omega (arith, same, after, before),
+)
+
+-- How the parts serve a call
+
+-- an arrival comes once, the end of a group too
+pub ops_of_waits : (map (λ repeated. arrival_op repeated (tag_with Barrier 3)) (false ∷ true ∷ []) ≡ ops.Arrive (tag_with Barrier 3) ∷ ops.AwaitBarrier ∷ []) × (map group_op (false ∷ true ∷ []) ≡ ops.EndGroup ∷ ops.AwaitGroup ∷ [])
+ops_of_waits = (refl, refl)
+
+-- the board alone answers calls on tasks and groups, and the stop
+pub ops_of_calls :
+    map (board_op false) (calls.TaskCreate seven ∷ calls.TaskEnd ∷ calls.Taskwait ∷ calls.GroupStart ∷ calls.GroupEnd ∷ calls.Stop ∷ calls.Barrier ∷ calls.LoopNext ∷ calls.LockInit ∷ [])
+    ≡ Some (ops.Create seven) ∷ Some ops.EndTask ∷ Some ops.AwaitChildren ∷ Some ops.OpenGroup ∷ Some ops.EndGroup ∷ Some (ops.Break AtStop) ∷ None ∷ None ∷ None ∷ []
+ops_of_calls = refl
+
+-- the shares answer neither arrivals nor words
+pub calls_of_shares :
+    map of_shares (calls.SectionsStart 3 ends.Wait ∷ calls.LoopNext ∷ calls.LoopEndNowait ∷ calls.SectionsNext ∷ calls.SectionsEndNowait ∷ calls.SingleStart ∷ calls.OrderedStart (pos 1) ∷ calls.OrderedEnd ∷ [])
+    ≡ true ∷ true ∷ true ∷ true ∷ true ∷ true ∷ true ∷ true ∷ []
+calls_of_shares = refl
+
+pub calls_of_others : map of_shares (calls.LoopEnd ∷ calls.SectionsEnd ∷ calls.SingleCopyStart ∷ calls.SingleCopyEnd words ∷ calls.Barrier ∷ calls.Taskwait ∷ calls.LockInit ∷ []) ≡ false ∷ false ∷ false ∷ false ∷ false ∷ false ∷ false ∷ []
+calls_of_others = refl
+
+pub done_replies : map is_finished (Finished ∷ Wait ∷ Refused NoMemory ∷ []) ≡ true ∷ false ∷ false ∷ []
+done_replies = refl
+
+-- whether it is a share with words
+abbrev shape_copies : Option Shape → Bool
+shape_copies None = false
+shape_copies (Some shape) = is_copy shape.kind
+
+-- an entry of another member, or into another share, and words are no events of a member's share alone
+pub events_of_a_share :
+    IsShareEvent 0 (Some (single_shape true)) (Enter 3 0 (single_shape true)) × IsShareEvent 0 None (Take 3 0 0 1) × (IsShareEvent 0 (Some (single_shape true)) (Enter 3 1 (single_shape true)) → ⊥)
+    × (IsShareEvent 0 (Some (single_shape false)) (Enter 3 0 (single_shape true)) → ⊥) × (IsShareEvent 0 None (Got 3 0 words) → ⊥)
+events_of_a_share = (
+  (refl, refl),
+  tt,
+  λ is. absurd (let same = is.0 in cc),
+  λ is. absurd (let same : false ≡ true = ap shape_copies is.1 in cc),
+  λ is. is,
+)
+
+-- a reply that gives no words changes nothing of the board
+pub no_words_noted : (board after : BoardView) → (after ≡ board → ⊥) → NotesWords 3 0 Wait board after → ⊥
+no_words_noted board after changed notes = changed notes

@@ -19,7 +19,7 @@ use Rattle.gomp_shares.specs.Calls.{MayOpenAs}
 use Rattle.gomp_shares.proofs.Admitted.{outcome_err}
 use Rattle.gomp_model.specs.Past.{Past}
 use Rattle.gomp_model.specs.Row.{Row, place_tests}
-use Rattle.gomp_parts.specs.Answers.{ComesFirst, ByPlace, StartsShare, Admits, in_place}
+use Rattle.gomp_parts.specs.Answers.{ComesFirst, ByPlace, StartsShare, Admits}
 
 -- tests in the order of their numbers
 pub rising_least : (found : Option Refusal) (tests : List Test) → found ≡ first_refusal tests → from 0 tests ≡ true → found ≡ least tests
@@ -70,11 +70,6 @@ by_place row limits seen found is low high = record { place = is; first = comes_
 -- a call with no such test
 no_place : (row : Row) (limits : Limits) (seen : Seen) → None ≡ least (row.by_place limits seen) → ByPlace row limits seen None
 no_place row limits seen is = record { place = is; first = tt }
-
--- a call that is repeated is in its place only if its member stays there
-pub stays_there : (stays : Bool) → in_place stays true ≡ true → stays ≡ true
-stays_there true there = refl
-stays_there false there = there
 
 -- The refusal of a call
 

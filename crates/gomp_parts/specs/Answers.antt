@@ -1,30 +1,30 @@
--- What a team knows of a call that no test refuses, and what its parts stand for after the answer. OpenMP API 5.2, chapters 11 and 15, section 5.7.2.
-use Rattle.std.specs.Prelude.{ℕ, ◌≡◌, not, Bool, true, false, List, [], ◌++◌, Option, Some, None, IfSome, Result, IfOk}
+-- What a team knows of a call that no test refuses, and what its parts stand for after the answer. OpenMP API 5.2, chapters 11, 12 and 15, section 5.7.2.
+use Rattle.std.specs.Prelude.{ℕ, ◌≤◌, ◌<◌, ◌≡◌, ◌≢◌, ◌&&◌, is_some, not, Bool, true, false, List, Option, Some, None, IfSome, Result, IfOk}
 use Rattle.std.specs.Result.{result_err}
 use Rattle.gomp_types.specs.declared.shape.Shape.{Shape}
 use Rattle.gomp_types.specs.declared.limits.Limits.{Limits}
-use Rattle.gomp_types.specs.declared.refusal.Clash.{Clash}
-use Rattle.gomp_types.specs.declared.refusal.Place.TheVariants.{Stopped as AtStop}
 use Rattle.gomp_types.specs.declared.refusal.Refusal.{Refusal}
+use Rattle.gomp_types.specs.declared.refusal.Refusal.TheVariants.{NoMemory}
 use Rattle.gomp_types.specs.declared.reply.Reply.{Reply}
-use Rattle.gomp_types.specs.declared.reply.Reply.TheVariants.{Wait, Stopped}
+use Rattle.gomp_types.specs.declared.reply.Reply.TheVariants.{Wait, Stopped, Refused}
 use Rattle.gomp_types.specs.declared.event.Event.{Event}
+use Rattle.gomp_types.specs.declared.event.Event.TheVariants.{Put}
+use Rattle.gomp_types.specs.Events.{open_share, has_left_region, clash_of}
+use Rattle.gomp_types.specs.Laws.{Always}
 use Rattle.gomp_types.specs.Least.{lesser, least}
 use Rattle.gomp_types.specs.declared.seen.Seen.{Seen}
 use Rattle.gomp_types.specs.Seen.{seen_of}
 use Rattle.gomp_shares.specs.Calls.{MayOpenAs}
-use Rattle.gomp_shares.specs.Starts.{leaves}
 use Rattle.gomp_model.specs.Past.{Past}
-use Rattle.gomp_model.specs.Row.{Row, unless_repeated, MayReply, given_after}
-use Rattle.gomp_model.specs.Arrivals.{arrival_row, ending}
-use Rattle.gomp_types.specs.declared.event.Arrival.TheVariants.{ShareEnd}
+use Rattle.gomp_model.specs.Row.{Row, board_tests, MayGoOn, MayGive, past_given}
+use Rattle.gomp_model.specs.Starts.{share_room}
 use Rattle.gomp_barrier.specs.Stands.{BarriersView, Stands as BarriersStand}
-use Rattle.gomp_parts.specs.declared.payloads.Put.{Put}
-use Rattle.gomp_parts.specs.Payloads.{PayloadsStand}
+use Rattle.gomp_board.specs.Ops.{awaits_barrier}
+use Rattle.gomp_board.specs.Boards.{BoardView, Stands as BoardStands, IsSame, members_of, kept_by}
 
 -- Tests
 
--- no comparison of the call has a lesser number than this refusal by the member's place, if it is one
+-- the refusal, if there is one, comes first: no comparison of the call has one with a lesser number
 abbrev pub ComesFirst : Row → Option Refusal → Type 0
 ComesFirst row found =
     IfSome found (λ refusal. (m : ℕ) (p : Past) → lesser (Some refusal) (least (row.compared false m p)) ≡ Some refusal)
@@ -50,72 +50,90 @@ abbrev pub in_place : Bool → Bool → Bool
 in_place true repeated = true
 in_place false repeated = not repeated
 
--- Answers
-
--- none of the tests of a call with this row by its place or by comparison holds, in a past of a team of so many members; one that is repeated is one that may wait
-pub record IsReady (row : Row) (members : ℕ) (repeated : Bool) (m : ℕ) (p : Past) : Type 0 where
-  pub members_are : p.terms.members ≡ members
-  pub place : in_place row.stays repeated ≡ true → least (row.by_place p.terms.limits (seen_of m p.events)) ≡ None
-  pub compared : least (row.compared repeated m p) ≡ None
-  pub waits : repeated ≡ true → (q : Past) × row.may_reply m q Wait
-
--- no test that the place of a member which sees this decides holds, by some limits
-abbrev pub IsPlaced : Row → Seen → Type 0
-IsPlaced row seen = (limits : Limits) × (least (row.by_place limits seen) ≡ None)
-
--- the row of a loop's end with a barrier, and of that of sections, but for their tests
-abbrev pub end_of_a_share : Row
-end_of_a_share = ending (λ seen. []) (arrival_row ShareEnd)
-
--- the events after a member has left its share, unless its call is repeated
-abbrev pub left_once : Bool → ℕ → List Event → List Event
-left_once repeated m h = unless_repeated (leaves m h) repeated ++ h
-
--- by whom and where the team is broken after a reply that is no refusal: a member that stops it breaks it
-abbrev pub broken_after : Option Clash → ℕ → Reply → Option Clash
-broken_after broken m Stopped = Some (record { member = m; place = AtStop })
-broken_after broken m _ = broken
-
 -- Parts
 
 -- the shares and the barriers stand for these events
 abbrev pub BothStand : {S : Type 0} → (S → List Event → Type 0) → S → BarriersView → List Event → Type 0
 BothStand stands shares barriers h = stands shares h × BarriersStand barriers h
 
--- the shares and the words that were put
-abbrev pub WordsStand : {S : Type 0} → (S → List Event → Type 0) → ℕ → S → List (Option Put) → List Event → Type 0
-WordsStand stands members shares payloads h = stands shares h × PayloadsStand members payloads h
+-- words are put in the share that their member is in
+abbrev pub PutsInside : Event → List Event → Type 0
+PutsInside (Put share m words) earlier = (shape : Shape) × (open_share m earlier ≡ Some (share, shape))
+PutsInside _ earlier = Unit {0}
 
--- and all three
-abbrev pub PartsStand : {S : Type 0} → (S → List Event → Type 0) → ℕ → S → BarriersView → List (Option Put) → List Event → Type 0
-PartsStand stands members shares barriers payloads h = stands shares h × BarriersStand barriers h × PayloadsStand members payloads h
+-- what the board keeps for the share that a member is in, at least: the room that it asked for at its start
+abbrev pub room_left : Option (ℕ × Shape) → ℕ
+room_left None = 0
+room_left (Some (share, shape)) = share_room shape
 
--- none of them changes
-abbrev pub ArePartsKept : {S : Type 0} → S → BarriersView → List (Option Put) → S → BarriersView → List (Option Put) → Type 0
-ArePartsKept shares barriers payloads shares_after barriers_after payloads_after = (shares_after ≡ shares) × (barriers_after ≡ barriers) × (payloads_after ≡ payloads)
+-- the shares and the board stand for a past: for its events and its room, the board keeps what the members' shares need, and words were put by members of their share alone
+pub record PartsStand {S : Type 0} (stands : S → List Event → Type 0) (shares : S) (board : BoardView) (p : Past) : Type 0 where
+  pub shares_are : stands shares p.events
+  pub board_is : BoardStands board p.events
+  pub members : p.terms.members ≡ members_of board
+  pub limits : p.terms.limits ≡ board.limits
+  pub room : p.room ≡ board.room
+  pub kept : (k : ℕ) → room_left (open_share k p.events) ≤ kept_by k board
+  pub puts : Always PutsInside p.events
 
--- of each past of a team of so many members for whose events these parts stand, this holds
-abbrev pub EachPast : (List Event → Type 0) → ℕ → (Past → Type 0) → Type 0
-EachPast stand members P = (p : Past) → p.terms.members ≡ members → stand p.events → P p
+-- neither changes; there may be more memory
+abbrev pub ArePartsKept : {S : Type 0} → S → BoardView → S → BoardView → Type 0
+ArePartsKept shares board shares_after board_after = (shares_after ≡ shares) × IsSame board board_after
+
+-- the board keeps the room of the share that the call starts, if it starts one
+abbrev pub KeepsStart : Row → ℕ → BoardView → Type 0
+KeepsStart row m board = IfSome row.starts (λ (shape : Shape). share_room shape ≤ kept_by m board)
 
 -- A call that no test refuses
 
+-- none of the tests of a call with this row holds, those of names and locks aside; one that is repeated is one that may go on
+pub record IsReady (row : Row) (repeated : Bool) (m : ℕ) (board : BoardView) (p : Past) : Type 0 where
+  pub place : in_place row.stays repeated ≡ true → least (row.by_place p.terms.limits (seen_of m p.events)) ≡ None
+  pub compared : least (row.compared repeated m p) ≡ None
+  pub tasks : least (board_tests repeated row m p) ≡ None
+  pub waits : repeated ≡ true → MayGoOn row m
+  -- the member is in the region, and the team is not broken
+  pub inside : has_left_region m p.events ≡ false
+  pub whole : clash_of p.events ≡ None
+  -- a member that does not stop the team waits at a barrier if it repeats a call that arrived there, and only then
+  pub barrier : ((q : Past) → row.may_reply m q Stopped → ⊥) → awaits_barrier m p.events ≡ (repeated && is_some row.arrives)
+  -- a start that waits has its room
+  pub kept : repeated ≡ true → KeepsStart row m board
+
+-- no test that the place of a member which sees this decides holds, by some limits
+abbrev pub IsPlaced : Row → Seen → Type 0
+IsPlaced row seen = (limits : Limits) × (least (row.by_place limits seen) ≡ None)
+
 -- the parts stand for some past in which a call with this row is ready
-abbrev pub SomeReady : {S : Type 0} → (S → List Event → Type 0) → (S → ℕ) → S → BarriersView → List (Option Put) → Row → Bool → ℕ → Type 0
-SomeReady stands members shares barriers payloads row repeated m =
-    (p : Past) × PartsStand stands (members shares) shares barriers payloads p.events × IsReady row (members shares) repeated m p
+abbrev pub SomeReady : {S : Type 0} → (S → List Event → Type 0) → S → BoardView → Row → Bool → ℕ → Type 0
+SomeReady stands shares board row repeated m = (p : Past) × PartsStand stands shares board p × IsReady row repeated m board p
 
 -- of each such past this holds
-abbrev pub EachReady : {S : Type 0} → (S → List Event → Type 0) → (S → ℕ) → S → BarriersView → List (Option Put) → Row → Bool → ℕ → (Past → Type 0) → Type 0
-EachReady stands members shares barriers payloads row repeated m P =
-    (p : Past) → PartsStand stands (members shares) shares barriers payloads p.events → IsReady row (members shares) repeated m p → P p
+abbrev pub EachReady : {S : Type 0} → (S → List Event → Type 0) → S → BoardView → Row → Bool → ℕ → (Past → Type 0) → Type 0
+EachReady stands shares board row repeated m P = (p : Past) → PartsStand stands shares board p → IsReady row repeated m board p → P p
 
 -- and after the reply to it the parts stand for this past with what the reply gives
-abbrev pub StandAfter : {S : Type 0} → (S → List Event → Type 0) → ℕ → S → BarriersView → List (Option Put) → Row → Bool → ℕ → Reply → Past → Type 0
-StandAfter stands members shares barriers payloads row repeated m reply p = PartsStand stands members shares barriers payloads (given_after row repeated m p reply)
+abbrev pub StandAfter : {S : Type 0} → (S → List Event → Type 0) → S → BoardView → Row → Bool → ℕ → Reply → Past → Type 0
+StandAfter stands shares board row repeated m reply p = PartsStand stands shares board (past_given row repeated m p reply)
 
--- what the shares promise of their reply to such a call, whether it is repeated or not: a wait changes nothing, the reply is one that the row has, and they stand for what it gives
-pub record SharesServe {S : Type 0} (stands : S → List Event → Type 0) (members : ℕ) (before after : S) (payloads : List (Option Put)) (row : Row) (m : ℕ) (reply : Reply) : Type 0 where
-  pub waits : reply ≡ Wait → after ≡ before
-  pub answer : (repeated : Bool) (p : Past) → IsReady row members repeated m p → WordsStand stands members before payloads p.events → MayReply row repeated m p reply
-  pub stands_for : (repeated : Bool) (p : Past) → IsReady row members repeated m p → stands before p.events → stands after (given_after row repeated m p reply)
+-- what a reply leaves of a board beside: its size and its limits, and what it keeps for other members
+pub record LeavesBoard (m : ℕ) (board after : BoardView) : Type 0 where
+  pub members : members_of after ≡ members_of board
+  pub limits : after.limits ≡ board.limits
+  pub others : (k : ℕ) → k ≢ m → kept_by k after ≡ kept_by k board
+
+-- what the parts promise of their reply to a call that is ready, over each such past
+pub record AnswersCall {S : Type 0} (stands : S → List Event → Type 0) (shares shares_after : S) (board board_after : BoardView) (row : Row) (repeated : Bool) (m : ℕ) (reply : Reply) : Type 0 where
+  pub leaves : LeavesBoard m board board_after
+  -- a wait that goes on changes nothing
+  pub waits : repeated ≡ true → reply ≡ Wait → (shares_after ≡ shares) × (board_after ≡ board)
+  -- there is no memory: of a call that asks for room, once, and nothing changes
+  pub lacks : reply ≡ Refused NoMemory → ArePartsKept shares board shares_after board_after × (repeated ≡ false) × (0 < row.room)
+  -- there is no other refusal
+  pub refuses : (refusal : Refusal) → reply ≡ Refused refusal → refusal ≡ NoMemory
+  -- the reply is one that the row has
+  pub answer : EachReady stands shares board row repeated m (λ p. MayGive row repeated m p reply)
+  -- and the parts then stand for the past after it
+  pub stands_for : EachReady stands shares board row repeated m (StandAfter stands shares_after board_after row repeated m reply)
+  -- a start that waits has its room
+  pub keeps : reply ≡ Wait → KeepsStart row m board_after

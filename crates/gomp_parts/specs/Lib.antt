@@ -1,2 +1,2 @@
-pub mod Payloads
 pub mod Answers
+pub mod Serves

@@ -20,6 +20,7 @@ ghost use Rattle.gomp_parts.specs.Answers.{BothStand, StartsShare, Admits};
 ghost use Rattle.gomp_types.specs.declared.refusal.Place.TheVariants.{Share};
 
 use gomp_barrier::Barriers;
+use gomp_sections::admission::{admit_single, copy_end_refusal};
 use gomp_shares::admission::{end_refusal, next_refusal};
 use gomp_shares::{Construct, Shares};
 use gomp_types::{Arrival, Call, EndKind, Limits, Place, Refusal, Seen, Shape, Tag};
@@ -47,9 +48,11 @@ pub fn unless_refused(
 }
 
 /// The shape of the share that the call starts, if it starts one, unless one of its own tests
-/// refuses it: those on the member's place among the shares, and the comparison with other members'
-/// calls. A call that is repeated (`repeated`) is only compared: its place was tested when it was
-/// made. What names and locks refuse is none of this.
+/// refuses it: those on the place of the member, numbered from 0, among the shares (E8 to E22, E34),
+/// and the comparison with other members' calls (`Mismatch`). A call that is repeated (`repeated`) is
+/// only compared: its place was tested when it was made. What names and locks refuse is none of this,
+/// nor what tasks and groups do ([`task_refusal`](crate::task_refusal); OpenMP API 5.2, chapter 11 and
+/// section 17.1).
 pub fn admit_call<S: Shares>(
     shares: &mut S,
     barriers: &Barriers,
@@ -99,12 +102,8 @@ fn admit_place<S: Shares>(
         Call::SectionsStart { count, end_kind } => {
             share_started(gomp_sections::admission::admit_start(&seen, limits, *count, *end_kind))
         }
-        Call::SingleStart => share_started(gomp_sections::admission::admit_single(
-            &seen, limits, false,
-        )),
-        Call::SingleCopyStart => {
-            share_started(gomp_sections::admission::admit_single(&seen, limits, true))
-        }
+        Call::SingleStart => share_started(admit_single(&seen, limits, false)),
+        Call::SingleCopyStart => share_started(admit_single(&seen, limits, true)),
         Call::LoopNext => none_started(next_refusal(&seen, Construct::Loop)),
         Call::LoopEnd => none_started(end_refusal(&seen, Construct::Loop, EndKind::Wait)),
         Call::LoopEndNowait => none_started(end_refusal(&seen, Construct::Loop, EndKind::Nowait)),
@@ -113,10 +112,12 @@ fn admit_place<S: Shares>(
         Call::SectionsEndNowait => {
             none_started(end_refusal(&seen, Construct::Sections, EndKind::Nowait))
         }
-        Call::SingleCopyEnd(_) => none_started(gomp_sections::admission::copy_end_refusal(&seen)),
+        Call::SingleCopyEnd(_) => none_started(copy_end_refusal(&seen)),
         Call::OrderedStart(value) => none_started(part_refusal(&seen, *value)),
         Call::OrderedEnd => none_started(part_end_refusal(&seen)),
         Call::Barrier | Call::RegionEnd => none_started(barrier_refusal(&seen)),
+        Call::TaskCreate(_) | Call::TaskEnd | Call::Taskwait | Call::GroupStart | Call::GroupEnd =>
+            Ok(None),
         Call::Stop | Call::Resume => Ok(None),
         Call::CriticalStart(_)
         | Call::CriticalEnd(_)
@@ -223,6 +224,8 @@ fn compared_refusal<S: Shares>(
         | Call::OrderedStart(_)
         | Call::OrderedEnd
         | Call::Stop => None,
+        Call::TaskCreate(_) | Call::TaskEnd | Call::Taskwait | Call::GroupStart | Call::GroupEnd =>
+            None,
         Call::CriticalStart(_)
         | Call::CriticalEnd(_)
         | Call::LockInit

@@ -1,49 +1,48 @@
-//! The calls that change the shares alone: starts, nexts, ordered parts, ends with no barrier, and
-//! the stop of the team, which changes nothing of them.
+//! The calls on the shares: starts, which ask for room first, nexts, ordered parts, ends with no
+//! barrier, and the words of singles.
 //!
-//! OpenMP API 5.2, sections 11.1, 11.3, 11.5 and 15.10.2.
+//! OpenMP API 5.2, sections 11.1, 11.3, 11.5, 15.10.2 and 5.7.2.
 
-ghost use Rattle.std.specs.Prelude.{◌≡◌, ◌<◌, List, false, true, None};
+ghost use Rattle.std.specs.Prelude.{◌≡◌, ◌<◌, List, None, true};
 ghost use Rattle.gomp_types.specs.declared.event.Event.{Event};
-ghost use Rattle.gomp_types.specs.declared.call.Call.TheVariants.{Resume, Stop};
-ghost use Rattle.gomp_types.specs.declared.reply.Reply.TheVariants.{Wait, Stopped};
+ghost use Rattle.gomp_types.specs.declared.reply.Reply.TheVariants.{Wait};
+ghost use Rattle.gomp_types.specs.Events.{open_number};
+ghost use Rattle.gomp_types.specs.Laws.{Always};
+ghost use Rattle.gomp_types.specs.Least.{least};
 ghost use Rattle.gomp_types.specs.Singles.{single_shape};
-ghost use Rattle.gomp_shares.specs.Calls.{CanOpen, EachStands};
+ghost use Rattle.gomp_shares.specs.Calls.{CanOpen, EachStands, events_left};
 ghost use Rattle.gomp_shares.specs.Starts.{AnswersBegin};
-ghost use Rattle.gomp_shares.specs.Singles.{DealsCopy, copy_started};
+ghost use Rattle.gomp_shares.specs.Singles.{DealsCopy, copy_started, put_tests};
 ghost use Rattle.gomp_model.specs.Calls.{row_of};
-ghost use Rattle.gomp_parts.specs.Answers.{IsPlaced, SharesServe, StartsShare, WordsStand};
+ghost use Rattle.gomp_board.specs.declared.op.Op.TheVariants.{Put};
+ghost use Rattle.gomp_board.specs.Boards.{Stands as BoardStands, Performs, members_of};
+ghost use Rattle.gomp_parts.specs.Answers.{IsPlaced, StartsShare, PutsInside};
+ghost use Rattle.gomp_parts.specs.Serves.{of_shares, SharesServe, GivesShareEvents, NotesWords};
 
-use crate::payloads::Payloads;
+use gomp_board::{Board, Op};
 use gomp_shares::Shares;
 use gomp_shares::ends::leave_at_once;
-use gomp_types::{Call, Reply, Shape};
+use gomp_types::{Call, Payload, Reply, Shape};
 
-/// Answers a call that neither arrives at a barrier nor puts words, or goes on with it: that it is
+/// Answers a call that neither arrives at a barrier nor has words, or goes on with it: that it is
 /// repeated changes nothing. `starts` is the shape of the share that it starts, if it starts one.
 ///
-/// The call was tested: here it is performed.
-pub fn share_reply<S: Shares>(
+/// The call was tested, and its room is kept: here it is performed.
+pub(crate) fn share_reply<S: Shares>(
     shares: &mut S,
-    payloads: &Payloads,
     member: u16,
     call: &Call,
     starts: &Option<Shape>,
 ) -> Reply
     requires member { member < S.members shares.old }
-    requires meant { call.now ≡ Resume → ⊥ }
-    requires aside { (row_of call.now).asks_book ≡ false }
-    requires aloof { (row_of call.now).arrives ≡ None }
-    requires silent { (row_of call.now).puts ≡ false }
+    requires served { of_shares call.now ≡ true }
     requires starts { StartsShare (row_of call.now) (S.seen shares.old member) starts.now }
     requires place { IsPlaced (row_of call.now) (S.seen shares.old member) }
-    requires known { (h : List Event) ×
-        WordsStand S.stands (S.members shares.old) shares.old payloads.now h }
-    ensures apart { ((row_of call.now).arrives ≡ None) × ((row_of call.now).puts ≡ false) }
+    requires known { (h : List Event) × S.stands shares.old h }
     ensures members { S.members shares.new ≡ S.members shares.old }
-    ensures stops { result ≡ Stopped → call.now ≡ Stop }
-    ensures serves { SharesServe S.stands (S.members shares.old) shares.old shares.new payloads.now
-        (row_of call.now) member result }
+    ensures serves { SharesServe (S.stands shares.old) S.stands (S.members shares.old)
+        shares.old shares.new (row_of call.now) member result }
+    ensures events { GivesShareEvents (row_of call.now) member result }
 {
     match call {
         Call::LoopStart(_) => {
@@ -59,44 +58,75 @@ pub fn share_reply<S: Shares>(
         Call::SectionsNext => gomp_sections::take_section(shares, member),
         Call::SectionsEndNowait => leave_at_once(shares, member),
         Call::SingleStart => gomp_sections::begin_single(shares, member),
-        Call::SingleCopyStart => copy_reply(shares, payloads, member),
         Call::OrderedStart(value) => gomp_ordered::begin_part(shares, member, *value),
         Call::OrderedEnd => gomp_ordered::finish_part(shares, member),
-        Call::Stop => Reply::Stopped,
-        Call::LoopEnd
-        | Call::SectionsEnd
-        | Call::SingleCopyEnd(_)
-        | Call::Barrier
-        | Call::RegionEnd
-        | Call::Resume => unreachable!(),
-        Call::CriticalStart(_)
-        | Call::CriticalEnd(_)
-        | Call::LockInit
-        | Call::NestInit
-        | Call::LockDestroy(_)
-        | Call::Set(_)
-        | Call::Test(_)
-        | Call::Unset(_)
-        | Call::SetNest(_)
-        | Call::TestNest(_)
-        | Call::UnsetNest(_) => unreachable!(),
+        _ => unreachable!(),
     }
 }
 
 /// Answers the start of a `single` with words for the other members, by those that were put in the
-/// member's next share.
-fn copy_reply<S: Shares>(shares: &mut S, payloads: &Payloads, member: u16) -> Reply
+/// member's next share; if the member is given them, the board notes that.
+pub(crate) fn copy_reply<S: Shares>(shares: &mut S, board: &mut Board, member: u16) -> Reply
+    requires team { members_of board.old ≡ S.members shares.old }
     requires place { CanOpen (S.members shares.old) member (single_shape true)
         (S.seen shares.old member) }
-    requires known { (h : List Event) ×
-        WordsStand S.stands (S.members shares.old) shares.old payloads.now h }
     ensures members { S.members shares.new ≡ S.members shares.old }
-    ensures answer { EachStands (WordsStand S.stands (S.members shares.old) shares.old payloads.now)
-        (AnswersBegin (single_shape true) DealsCopy (S.members shares.old) member result) }
+    ensures answer { EachStands (S.stands shares.old)
+        (λ h. BoardStands board.old h → Always PutsInside h →
+        AnswersBegin (single_shape true) DealsCopy (S.members shares.old) member result h) }
     ensures stands { EachStands (S.stands shares.old)
         (λ h. S.stands shares.new (copy_started member result h)) }
     ensures waits { result ≡ Wait → shares.new ≡ shares.old }
+    ensures words { NotesWords (S.seen shares.old member).entered member result
+        board.old board.new }
 {
-    let put = payloads.at(shares.look(member).entered);
-    gomp_sections::begin_copy(shares, member, put)
+    let entered = shares.look(member).entered;
+    let reply = gomp_sections::begin_copy(shares, member, board.payload(entered));
+    note_words(board, member, entered, &reply);
+    reply
+}
+
+/// Notes the words of this share that the reply gives the member, if it gives some.
+fn note_words(board: &mut Board, member: u16, share: u64, reply: &Reply)
+    requires member { member < members_of board.old }
+    ensures { NotesWords share member reply.now board.old board.new }
+{
+    if let Reply::Copied(words) = reply {
+        let _ = board.step(
+            member,
+            Op::Got {
+                share,
+                words: words.copied(),
+            },
+        );
+    }
+}
+
+/// The executor of a `single` puts its words, and leaves it.
+pub(crate) fn put_words<S: Shares>(
+    shares: &mut S,
+    board: &mut Board,
+    member: u16,
+    words: &Payload,
+) -> Reply
+    requires member { member < S.members shares.old }
+    requires team { members_of board.old ≡ S.members shares.old }
+    requires place { least (put_tests (S.seen shares.old member)) ≡ None }
+    ensures members { S.members shares.new ≡ S.members shares.old }
+    ensures puts { EachStands (S.stands shares.old)
+        (λ h. Performs (Put (open_number member h) words.now) member board.old board.new result) }
+    ensures left { EachStands (S.stands shares.old)
+        (λ h. S.stands shares.new (events_left member h)) }
+{
+    let Some((share, _)) = shares.look(member).current else {
+        unreachable!()
+    };
+    shares.leave(member);
+    board.step(
+        member,
+        Op::Put {
+            share,
+            words: words.copied(),
+        },
+    )
 }

@@ -1,7 +1,8 @@
--- A list of tasks: what a put and a take leave, and when a task stands twice.
-use Rattle.std.proofs.Common.{◌≡◌, ℕ, List, [], ◌∷◌, ◌++◌, Some, None, slice_get, refl}
+-- A list of tasks: what a put and a take leave, when a task stands twice, and for how many more there is room.
+use Rattle.std.proofs.Common.{◌≡◌, ℕ, List, [], ◌∷◌, ◌++◌, Some, slice_get, refl, arith}
+use Rattle.std.specs.Prelude.{map}
 use Rattle.std.specs.List.{remove}
-use Rattle.gomp_ready.specs.Ready.{AreOnce}
+use Rattle.gomp_ready.specs.Ready.{AreOnce, ready_room}
 
 -- two tasks, and three
 abbrev two : List ℕ
@@ -47,3 +48,15 @@ first_twice once = absurd (let none = once.0 in cc)
 -- a later one does
 pub later_twice : AreOnce (4 ∷ 7 ∷ 7 ∷ []) → ⊥
 later_twice once = absurd (let none = once.1.0 in cc)
+
+-- if there is no room, 64 places besides the one that is asked for, and a sixteenth from 1040 tasks on
+pub ready_room_by_steps : map (λ count. ready_room count 0) (0 ∷ 7 ∷ 1039 ∷ 1040 ∷ 16000 ∷ []) ≡ 65 ∷ 65 ∷ 65 ∷ 66 ∷ 1001 ∷ []
+ready_room_by_steps = refl
+
+-- if there is some, it stays
+pub ready_room_stays : map (ready_room 16000) (1 ∷ 2 ∷ 5000 ∷ []) ≡ 1 ∷ 2 ∷ 5000 ∷ []
+ready_room_stays = refl
+
+-- it does not double, and is not made for one alone
+pub ready_room_never_doubles : (ready_room 16000 0 ≡ 16000 → ⊥) × (ready_room 16000 0 ≡ 1 → ⊥)
+ready_room_never_doubles = (λ e. absurd (let wrong : 1001 ≡ 16000 = e in omega (arith, wrong)), λ e. absurd (let wrong : 1001 ≡ 1 = e in omega (arith, wrong)))

@@ -2,9 +2,16 @@
 
 ghost use Rattle.std.specs.Prelude.{◌≡◌, ◌<◌, ◌≤◌, ◌+◌, [], ◌∷◌, ◌++◌, Some, length, slice_get, OnOk, OnErr, IsOk, IsTrue, ◌↔◌};
 ghost use Rattle.std.specs.List.{remove};
+ghost use Rattle.gomp_ready.specs.Ready.{ready_room};
 
 use std::alloc::{AllocError, Global};
 use std::marker::Model;
+
+/// The list grows by this part of the tasks in it.
+const STEP_PART: usize = 16;
+
+/// It grows by so many places at least, besides the one that is asked for.
+const LEAST_STEP: usize = 64;
 
 /// The tasks that may be taken, by their numbers, the one that was put first at the front.
 #[derive(Debug, Drop)]
@@ -31,15 +38,23 @@ impl Ready {
         }
     }
 
-    /// Makes room for one more task. It fails, and nothing changes, if the memory is refused.
+    /// Makes room for one more task. The room grows in steps, so that the list is seldom moved. It
+    /// fails, and nothing changes, if the memory is refused.
     pub fn reserve(&mut self) -> Result<(), AllocError>
         ensures ids { self.new.ids ≡ self.old.ids }
         ensures room { OnOk result (0 < self.new.room) }
+        ensures memory { OnOk result
+            (self.new.room ≡ ready_room (length self.old.ids) self.old.room) }
         ensures grows { self.old.room ≤ self.new.room }
         ensures there { 0 < self.old.room → IsOk result }
         ensures err { OnErr result (self.new ≡ self.old) }
     {
-        self.ids.reserve(1)
+        let count = self.len();
+        if count < self.ids.capacity() {
+            return Ok(());
+        }
+        let step = (count / STEP_PART).max(LEAST_STEP);
+        self.ids.reserve_exact(step + 1)
     }
 
     /// Puts a task at the end. It takes no memory.

@@ -1,30 +1,30 @@
 -- What the lines of a text say, computed: each word, each number at its ends, each fault and which comes first. (own)
 use Rattle.std.proofs.Common.{◌≡◌, pos, negsuc, true, false, [], ◌∷◌, ◌++◌, Some, None, Ok, Err, codes, refl}
 use Rattle.std.specs.Prelude.{map, replicate}
-use Rattle.gomp_types.specs.declared.call.Call.TheVariants.{LoopStart, LoopNext, LoopEnd, LoopEndNowait, SectionsStart, SectionsNext, SectionsEnd, SectionsEndNowait, SingleStart, SingleCopyStart, SingleCopyEnd, OrderedStart, OrderedEnd, Barrier, RegionEnd, CriticalStart, CriticalEnd, LockInit, NestInit, LockDestroy, Set, Test, Unset, SetNest, TestNest, UnsetNest, Resume, Stop}
+use Rattle.gomp_types.specs.declared.call.Call.TheVariants.{LoopStart, LoopNext, LoopEnd, LoopEndNowait, SectionsStart, SectionsNext, SectionsEnd, SectionsEndNowait, SingleStart, SingleCopyStart, SingleCopyEnd, OrderedStart, OrderedEnd, Barrier, RegionEnd, CriticalStart, CriticalEnd, LockInit, NestInit, LockDestroy, Set, Test, Unset, SetNest, TestNest, UnsetNest, TaskCreate, TaskEnd, Taskwait, GroupStart, GroupEnd, Resume, Stop}
 use Rattle.gomp_types.specs.declared.loop_desc.EndKind.TheVariants.{Wait, Nowait}
 use Rattle.gomp_types.specs.declared.loop_desc.Sched.TheVariants.{Static, Dynamic, Guided, Runtime}
 use Rattle.gomp_script.specs.declared.parse.Why.TheVariants.{NotAscii, FirstLine, UnknownWord, MissingWord, BadNumber, ExtraWord}
-use Rattle.gomp_script.specs.StepText.{read_line, step_of, plain_step, loop_step, sections_step, copy_end_step, ordered_step, critical_step, critical_end_step, lock_step, team_of}
-use Rattle.gomp_script.specs.Examples.{parts, steps_said, teams_said, calls, each_bad, by_first, loop_of_four}
+use Rattle.gomp_script.specs.StepText.{read_line, step_of, plain_step, loop_step, sections_step, copy_end_step, ordered_step, critical_step, critical_end_step, lock_step, task_step, team_of}
+use Rattle.gomp_script.specs.Examples.{parts, steps_said, teams_said, calls, each_bad, by_first, loop_of_four, task_of}
 
 -- the calls that stand alone, each by its word
-pub calls_alone : steps_said (calls (codes "next|end|end_nowait|section_next|sections_end|sections_end_nowait|single|single_copy|ordered_end|barrier|region_end|lock_init|nest_init|resume|stop")) ≡ map by_first (LoopNext ∷ LoopEnd ∷ LoopEndNowait ∷ SectionsNext ∷ SectionsEnd ∷ SectionsEndNowait ∷ SingleStart ∷ SingleCopyStart ∷ OrderedEnd ∷ Barrier ∷ RegionEnd ∷ LockInit ∷ NestInit ∷ Resume ∷ Stop ∷ [])
+pub calls_alone : steps_said (calls (codes "next|end|end_nowait|section_next|sections_end|sections_end_nowait|single|single_copy|ordered_end|barrier|region_end|lock_init|nest_init|task_end|taskwait|group|group_end|resume|stop")) ≡ map by_first (LoopNext ∷ LoopEnd ∷ LoopEndNowait ∷ SectionsNext ∷ SectionsEnd ∷ SectionsEndNowait ∷ SingleStart ∷ SingleCopyStart ∷ OrderedEnd ∷ Barrier ∷ RegionEnd ∷ LockInit ∷ NestInit ∷ TaskEnd ∷ Taskwait ∷ GroupStart ∷ GroupEnd ∷ Resume ∷ Stop ∷ [])
 unfolding plain_step loop_step sections_step copy_end_step ordered_step team_of
 calls_alone = refl
 
 -- each of them with a letter too few
-pub calls_shortened : steps_said (calls (codes "nex|en|end_nowai|section_nex|sections_en|sections_end_nowai|singl|single_cop|ordered_en|barrie|region_en|lock_ini|nest_ini|resum|sto")) ≡ each_bad 15 UnknownWord
+pub calls_shortened : steps_said (calls (codes "nex|en|end_nowai|section_nex|sections_en|sections_end_nowai|singl|single_cop|ordered_en|barrie|region_en|lock_ini|nest_ini|task_en|taskwai|grou|group_en|resum|sto")) ≡ each_bad 19 UnknownWord
 unfolding plain_step loop_step sections_step copy_end_step ordered_step team_of
 calls_shortened = refl
 
 -- with a letter too many
-pub calls_lengthened : steps_said (calls (codes "nexts|ends|end_nowaits|section_nexts|sections_ends|sections_end_nowaits|singles|single_copys|ordered_ends|barriers|region_ends|lock_inits|nest_inits|resumes|stops")) ≡ each_bad 15 UnknownWord
+pub calls_lengthened : steps_said (calls (codes "nexts|ends|end_nowaits|section_nexts|sections_ends|sections_end_nowaits|singles|single_copys|ordered_ends|barriers|region_ends|lock_inits|nest_inits|task_ends|taskwaits|groups|group_ends|resumes|stops")) ≡ each_bad 19 UnknownWord
 unfolding plain_step loop_step sections_step copy_end_step ordered_step team_of
 calls_lengthened = refl
 
 -- and with a capital
-pub calls_in_capitals : steps_said (calls (codes "Next|End|End_nowait|Section_next|Sections_end|Sections_end_nowait|Single|Single_copy|Ordered_end|Barrier|Region_end|Lock_init|Nest_init|Resume|Stop")) ≡ each_bad 15 UnknownWord
+pub calls_in_capitals : steps_said (calls (codes "Next|End|End_nowait|Section_next|Sections_end|Sections_end_nowait|Single|Single_copy|Ordered_end|Barrier|Region_end|Lock_init|Nest_init|Task_end|Taskwait|Group|Group_end|Resume|Stop")) ≡ each_bad 19 UnknownWord
 unfolding plain_step loop_step sections_step copy_end_step ordered_step team_of
 calls_in_capitals = refl
 
@@ -152,6 +152,31 @@ bad_members_that_hold = refl
 pub more_than_a_lock : steps_said (calls (codes "critical a b|critical_end a b c|lock_init 0|nest_init 0|lock_destroy 0 1|set 0 1|test 0 1|unset 0 1|set_nest 0 1|test_nest 0 1|unset_nest 0 1")) ≡ each_bad 11 ExtraWord
 unfolding plain_step critical_step critical_end_step lock_step
 more_than_a_lock = refl
+
+-- a task, by its code and its argument, up to the largest numbers of their types
+pub tasks_said : steps_said (calls (codes "task 7 5|task 0 18446744073709551615|task 18446744073709551615 0|task 007 00")) ≡ map (λ task. by_first (TaskCreate task)) (task_of 7 5 ∷ task_of 0 18446744073709551615 ∷ task_of 18446744073709551615 0 ∷ task_of 7 0 ∷ [])
+unfolding plain_step task_step
+tasks_said = refl
+
+-- its word with a letter too few, with one too many and with a capital
+pub task_miswritten : steps_said (calls (codes "tas 7 5|tasks 7 5|Task 7 5|task_create 7 5|x")) ≡ each_bad 5 UnknownWord
+unfolding plain_step task_step
+task_miswritten = refl
+
+-- a task without its code or its argument, before a bad number
+pub task_missing : steps_said (parts (codes "0 task|0 task 7|0 task x|x task 7")) ≡ each_bad 4 MissingWord
+unfolding plain_step task_step
+task_missing = refl
+
+-- a word that is no number of a task or of its member, or one beyond its type, before a word too many
+pub bad_tasks : steps_said (parts (codes "0 task x 5|0 task 7 x|0 task -1 5|0 task 7 -0|0 task +7 5|0 task 18446744073709551616 5|0 task 7 18446744073709551616|0 task if0 5|x task 7 5|65536 task 7 5|0 task 7 x if0|x task 7 5 6|x task_end 1|x group 1")) ≡ each_bad 14 BadNumber
+unfolding plain_step task_step
+bad_tasks = refl
+
+-- a word too many
+pub more_than_a_task : steps_said (calls (codes "task 7 5 6|task 7 5 if0|task 7 5 final|task 7 5 in 100|task 7 5 foo in|task_end 1|taskwait 1|taskwait in 100|group 1|group_end 0")) ≡ each_bad 10 ExtraWord
+unfolding plain_step task_step
+more_than_a_task = refl
 
 -- numbers beyond their types
 pub numbers_beyond : steps_said (parts (codes "0 sections 4294967296 wait|0 sections -1 wait|0 ordered 9223372036854775808|0 ordered -9223372036854775809|0 single_copy_end 18446744073709551616|0 single_copy_end -1|65536 next|-1 next|x single_copy_end")) ≡ each_bad 9 BadNumber

@@ -1,10 +1,10 @@
 -- What the lines of a talk ask for, computed, before and after a team stands. (own)
 use Rattle.std.proofs.Common.{◌≡◌, true, false, [], ◌∷◌, Some, None, Ok, Err, codes, refl}
 use Rattle.std.specs.Prelude.{map}
-use Rattle.gomp_types.specs.declared.call.Call.TheVariants.{Barrier, UnsetNest}
+use Rattle.gomp_types.specs.declared.call.Call.TheVariants.{Barrier, UnsetNest, TaskCreate}
 use Rattle.gomp_script.specs.declared.live.LiveLine.TheVariants.{NewTeam, NextStep}
 use Rattle.gomp_script.specs.declared.parse.Why.TheVariants.{FirstLine, UnknownWord, MissingWord, BadNumber, ExtraWord}
-use Rattle.gomp_script.specs.StepText.{plain_step, loop_step, sections_step, copy_end_step, ordered_step, lock_step, team_of}
+use Rattle.gomp_script.specs.StepText.{plain_step, loop_step, sections_step, copy_end_step, ordered_step, lock_step, task_step, team_of}
 use Rattle.gomp_script.specs.LiveText.{read_live_line}
 use Rattle.gomp_script.specs.Examples.{parts}
 
@@ -22,6 +22,11 @@ steps_asked = (refl, refl)
 pub lock_asked : read_live_line true (codes "3 unset_nest 7") ≡ Ok (Some (NextStep (record { member = 3; call = UnsetNest 7 })))
 unfolding lock_step
 lock_asked = refl
+
+-- a step on tasks
+pub task_asked : read_live_line true (codes "3 task 7 5") ≡ Ok (Some (NextStep (record { member = 3; call = TaskCreate (record { code = 7; arg = 5 }) })))
+unfolding task_step
+task_asked = refl
 
 -- lines that ask for nothing
 pub lines_that_ask_nothing : map (read_live_line true) (parts (codes "|  |# 3 barrier|#")) ≡ Ok None ∷ Ok None ∷ Ok None ∷ Ok None ∷ []

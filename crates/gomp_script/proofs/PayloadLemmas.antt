@@ -2,7 +2,7 @@
 use Rattle.std.proofs.Common.{◌≡◌, ℕ, ◌+◌, ◌-◌, ◌<◌, zero, suc, List, [], ◌∷◌, ◌++◌, Result, Ok, Err, take, drop, refl, ap, sym, append_assoc, arith}
 use Rattle.std.proofs.lemmas.List.{append-nil}
 use Rattle.gomp_script.specs.declared.parse.Why.{Why}
-use Rattle.gomp_script.specs.StepText.{payload_of, payload_word, payload_words, no_more_words, ◌>>=◌}
+use Rattle.gomp_script.specs.StepText.{payload_of, unsigned_of, payload_words, no_more_words, ◌>>=◌}
 
 -- these words, and those that are read later
 abbrev pub with_words : List ℕ → Result (List ℕ) Why → Result (List ℕ) Why
@@ -15,7 +15,7 @@ words_end payload zero words none = rw none (ap Ok (append-nil payload))
 words_end payload (suc most) words none = rw none (ap Ok (append-nil payload))
 
 -- a word that is no number
-pub word_fault : (payload : List ℕ) (i : ℕ) (word : List ℕ) (words : List (List ℕ)) (why : Why) → i < 8 → payload_word word ≡ Err why → with_words payload (payload_of (8 - i) (word ∷ words)) ≡ Err why
+pub word_fault : (payload : List ℕ) (i : ℕ) (word : List ℕ) (words : List (List ℕ)) (why : Why) → i < 8 → unsigned_of word ≡ Err why → with_words payload (payload_of (8 - i) (word ∷ words)) ≡ Err why
 word_fault payload i word words why less fault =
     let here : 8 - i ≡ suc (8 - (i + 1)) = omega (arith, less) in
     rw (here, fault) refl
@@ -26,7 +26,7 @@ kept_first payload number (Ok later) (Err why) = refl
 kept_first payload number (Err why) done = refl
 
 -- one that is kept
-pub word_kept : (payload : List ℕ) (i number : ℕ) (word : List ℕ) (words : List (List ℕ)) → i < 8 → payload_word word ≡ Ok number → with_words payload (payload_of (8 - i) (word ∷ words)) ≡ with_words (payload ++ number ∷ []) (payload_of (8 - (i + 1)) words)
+pub word_kept : (payload : List ℕ) (i number : ℕ) (word : List ℕ) (words : List (List ℕ)) → i < 8 → unsigned_of word ≡ Ok number → with_words payload (payload_of (8 - i) (word ∷ words)) ≡ with_words (payload ++ number ∷ []) (payload_of (8 - (i + 1)) words)
 word_kept payload i number word words less read =
     let here : 8 - i ≡ suc (8 - (i + 1)) = omega (arith, less) in
     rw (here, read) (kept_first payload number (payload_words (take (8 - (i + 1)) words)) (no_more_words (drop (8 - (i + 1)) words)))

@@ -7,6 +7,7 @@ use Rattle.gomp_types.specs.declared.call.Step.{Step}
 use Rattle.gomp_types.specs.declared.loop_desc.EndKind.{EndKind}
 use Rattle.gomp_types.specs.declared.loop_desc.LoopDesc.{LoopDesc}
 use Rattle.gomp_types.specs.declared.loop_desc.Sched.{Sched}
+use Rattle.gomp_types.specs.declared.task.TaskDesc.{TaskDesc}
 use Rattle.gomp_script.specs.declared.parse.BadLine.{BadLine}
 use Rattle.gomp_script.specs.declared.parse.Why.{Why}
 use Rattle.gomp_script.specs.StepText.{read_line, step_of, team_of, steps_of, bad_line}
@@ -38,6 +39,10 @@ by_first call = Ok (Some (record { member = 0; call = call }))
 -- a loop over 0 to 3 by 1, without a chunk
 abbrev pub loop_of_four : Sched → EndKind → Bool → LoopDesc
 loop_of_four sched end_kind ordered = record { start = pos 0; end = pos 4; incr = pos 1; sched = sched; chunk = pos 0; ordered = ordered; end_kind = end_kind }
+
+-- a task with this code and this argument
+abbrev pub task_of : ℕ → ℕ → TaskDesc
+task_of code arg = record { code = code; arg = arg }
 
 -- the step by which member 0 asks for its next chunk
 abbrev pub next_step : Step

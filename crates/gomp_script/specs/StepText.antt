@@ -1,9 +1,9 @@
 -- The text of steps: a line `team N`, and then a line `MEMBER CALL` for each step. (own)
 use Rattle.std.specs.Prelude.{ℕ, ℤ, ◌≡◌, ◌≢◌, ◌+◌, ◌++◌, ◌==◌, Bool, true, false, if◌then◌else◌, List, [], ◌∷◌, take, drop, Option, Some, None, Result, Ok, Err, MatchResult, codes}
 use Rattle.std.specs.Borrow.{Bor}
-use Rattle.std.specs.Option.{option_map_or}
+use Rattle.std.specs.Option.{option_map_or, option_or}
 use Rattle.gomp_types.specs.declared.call.Call.{Call}
-use Rattle.gomp_types.specs.declared.call.Call.TheVariants.{LoopStart, LoopNext, LoopEnd, LoopEndNowait, SectionsStart, SectionsNext, SectionsEnd, SectionsEndNowait, SingleStart, SingleCopyStart, SingleCopyEnd, OrderedStart, OrderedEnd, Barrier, RegionEnd, CriticalStart, CriticalEnd, LockInit, NestInit, LockDestroy, Set, Test, Unset, SetNest, TestNest, UnsetNest, Resume, Stop}
+use Rattle.gomp_types.specs.declared.call.Call.TheVariants.{LoopStart, LoopNext, LoopEnd, LoopEndNowait, SectionsStart, SectionsNext, SectionsEnd, SectionsEndNowait, SingleStart, SingleCopyStart, SingleCopyEnd, OrderedStart, OrderedEnd, Barrier, RegionEnd, CriticalStart, CriticalEnd, LockInit, NestInit, LockDestroy, Set, Test, Unset, SetNest, TestNest, UnsetNest, TaskCreate, TaskEnd, Taskwait, GroupStart, GroupEnd, Resume, Stop}
 use Rattle.gomp_types.specs.declared.call.Step.{Step}
 use Rattle.gomp_types.specs.declared.loop_desc.Sched.{Sched}
 use Rattle.gomp_types.specs.declared.loop_desc.Sched.TheVariants.{Static, Dynamic, Guided, Runtime}
@@ -57,6 +57,10 @@ member_of word = or_why BadNumber (unsigned 65535 word)
 abbrev pub count_of : List ℕ → Result ℕ Why
 count_of word = or_why BadNumber (unsigned 4294967295 word)
 
+-- a word of a payload, the code of a task or its argument, a u64
+abbrev pub unsigned_of : List ℕ → Result ℕ Why
+unsigned_of word = or_why BadNumber (unsigned 18446744073709551615 word)
+
 -- a number of a loop, an i64
 abbrev pub number_of : List ℕ → Result ℤ Why
 number_of word = or_why BadNumber (signed word)
@@ -87,6 +91,15 @@ share_call_of word =
     else if same_word word (codes "single_copy") then Some SingleCopyStart
     else None
 
+-- the calls on tasks and groups that stand alone
+abbrev pub task_call_of : List ℕ → Option Call
+task_call_of word =
+    if same_word word (codes "task_end") then Some TaskEnd
+    else if same_word word (codes "taskwait") then Some Taskwait
+    else if same_word word (codes "group") then Some GroupStart
+    else if same_word word (codes "group_end") then Some GroupEnd
+    else None
+
 -- the calls that stand alone
 abbrev pub call_of : List ℕ → Option Call
 call_of word =
@@ -97,7 +110,7 @@ call_of word =
     else if same_word word (codes "nest_init") then Some NestInit
     else if same_word word (codes "resume") then Some Resume
     else if same_word word (codes "stop") then Some Stop
-    else share_call_of word
+    else option_or (task_call_of word) (share_call_of word)
 
 -- Steps
 
@@ -145,14 +158,11 @@ sections_step member words = do
   done ← no_more_words ending.1
   Ok (record { member = number; call = SectionsStart sections end_kind })
 
--- a word of a payload, a u64
-abbrev pub payload_word : List ℕ → Result ℕ Why
-payload_word word = or_why BadNumber (unsigned 18446744073709551615 word)
-
+-- the words of a payload
 abbrev pub payload_words : List (List ℕ) → Result (List ℕ) Why
 payload_words [] = Ok []
 payload_words (word ∷ words) = do
-  first ← payload_word word
+  first ← unsigned_of word
   later ← payload_words words
   Ok (first ∷ later)
 
@@ -230,6 +240,17 @@ lock_step call member words = do
   done ← no_more_words lock.1
   Ok (record { member = number; call = call locked })
 
+-- `MEMBER task CODE ARG`
+unfoldable pub task_step : List ℕ → List (List ℕ) → Result Step Why
+task_step member words = do
+  code ← next_word words
+  arg ← next_word code.1
+  number ← member_of member
+  job ← unsigned_of code.0
+  argument ← unsigned_of arg.0
+  done ← no_more_words arg.1
+  Ok (record { member = number; call = TaskCreate (record { code = job; arg = argument }) })
+
 -- the step of a member, by the word of its call and those that follow
 abbrev pub call_step : List ℕ → List ℕ → List (List ℕ) → Result Step Why
 call_step member call words =
@@ -239,6 +260,7 @@ call_step member call words =
     else if same_word call (codes "ordered") then ordered_step member words
     else if same_word call (codes "critical") then critical_step member words
     else if same_word call (codes "critical_end") then critical_end_step member words
+    else if same_word call (codes "task") then task_step member words
     else option_map_or (λ lock_call. lock_step lock_call member words) (lock_call_of call) (plain_step member call words)
 
 abbrev pub step_of : List (List ℕ) → Result Step Why

@@ -12,6 +12,7 @@ mod ordered;
 mod payload;
 mod plain;
 mod sections;
+mod task;
 mod words;
 
 use critical::{critical_end_step, critical_step};
@@ -24,6 +25,7 @@ use payload::copy_end_step;
 use plain::plain_step;
 use sections::sections_step;
 use std::alloc::{AllocError, AllocFailed, Global};
+use task::task_step;
 use words::{count_of, finish, take_word};
 
 /// Why a line is bad. A line is tested for these in this order.
@@ -257,6 +259,9 @@ fn call_step(member: &[u8], call: &[u8], rest: &[u8]) -> Result<Step, Why>
     }
     if is_word(call, b"critical_end") {
         return critical_end_step(member, rest);
+    }
+    if is_word(call, b"task") {
+        return task_step(member, rest);
     }
     match lock_call_of(call) {
         Some(lock_call) => lock_step(lock_call, member, rest),

@@ -1,5 +1,5 @@
 -- The value of a team's shares, and their fields: what is known of the one is of the others; new shares stand for no events.
-use Rattle.std.proofs.Common.{◌≡◌, ℕ, ◌^◌, ◌<◌, List, [], ◌∷◌, length, get_or, slice_get, Some, None, refl, ◌∙◌, sym, subst, arith, replicate}
+use Rattle.std.proofs.Common.{◌≡◌, ℕ, ◌^◌, ◌<◌, List, [], length, get_or, slice_get, Some, None, refl, ◌∙◌, sym, subst, arith, replicate}
 use Rattle.std.proofs.lemmas.Bool.Decides.{nat_tests}
 use Rattle.std.proofs.lemmas.List.{get_or-replicate, length-replicate}
 use Rattle.std.proofs.lemmas.Option.{slice_get_within, slice_get_read, get_or_from_slice_get}

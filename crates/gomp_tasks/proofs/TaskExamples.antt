@@ -1,5 +1,6 @@
 -- When rows and stacks stand for events, and what the calls ask for: for each line of a definition what it says, and what it alone refuses.
 use Rattle.std.proofs.Common.{◌≡◌, ℕ, ◌<◌, true, false, List, [], ◌∷◌, Option, Some, None, slice_get, refl, subst, ap, arith, suc, zero}
+use Rattle.std.specs.Prelude.{map}
 use Rattle.gomp_types.specs.declared.refusal.Place.{Place}
 use Rattle.gomp_types.specs.declared.shape.Shape.{Shape}
 use Rattle.gomp_types.specs.declared.key.Key.{Key}
@@ -15,7 +16,7 @@ use Rattle.gomp_tasks.specs.declared.rows.TaskState.TheVariants as states
 use Rattle.gomp_tasks.specs.declared.rows.TaskRow.{TaskRow}
 use Rattle.gomp_tasks.specs.Rows.{is_started, is_over, Follows, desc_of, first_of, IsState, IsParent, RowStands}
 use Rattle.gomp_tasks.specs.Stands.{TasksView, members_of, count_of, IsNumber, IsTask, Stands, AreSame, AreTasks}
-use Rattle.gomp_tasks.specs.Calls.{MayCreateNext, task_or_implicit, is_under_all, IsAside}
+use Rattle.gomp_tasks.specs.Calls.{MayCreateNext, task_or_implicit, is_under_all, tasks_room, IsAside}
 use Rattle.gomp_tasks.proofs.TasksKeep.{executed_number}
 use Rattle.gomp_tasks.specs.Examples.{first_desc, one_created, two_created, two_started, second_done, first_with, second_with, first_running, second_running, tasks_with, both_running}
 
@@ -267,6 +268,18 @@ under_the_first = (refl, refl)
 -- the first does not lie under the second, nor the second under itself
 pub not_under_all : (is_under_all (2 ∷ []) 1 two_started ≡ false) × (is_under_all (2 ∷ 1 ∷ []) 2 two_started ≡ false)
 not_under_all = (refl, refl)
+
+-- if there is no room, 64 rows besides the one that is asked for, and a sixteenth from 1040 tasks on
+pub tasks_room_by_steps : map (λ count. tasks_room count 0) (0 ∷ 7 ∷ 1039 ∷ 1040 ∷ 16000 ∷ []) ≡ 65 ∷ 65 ∷ 65 ∷ 66 ∷ 1001 ∷ []
+tasks_room_by_steps = refl
+
+-- if there is some, it stays
+pub tasks_room_stays : map (tasks_room 16000) (1 ∷ 2 ∷ 5000 ∷ []) ≡ 1 ∷ 2 ∷ 5000 ∷ []
+tasks_room_stays = refl
+
+-- it does not double, and is not made for one alone
+pub tasks_room_never_doubles : (tasks_room 16000 0 ≡ 16000 → ⊥) × (tasks_room 16000 0 ≡ 1 → ⊥)
+tasks_room_never_doubles = (λ e. absurd (let wrong : 1001 ≡ 16000 = e in omega (arith, wrong)), λ e. absurd (let wrong : 1001 ≡ 1 = e in omega (arith, wrong)))
 
 -- the tasks see what creates, starts and ends one
 pub tasks_are_found : (t m : ℕ) (parent : Task) (desc : TaskDesc) → (IsAside (Create t m parent desc) → ⊥) × (IsAside (Start t m) → ⊥) × (IsAside (Done t m) → ⊥)

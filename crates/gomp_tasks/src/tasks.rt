@@ -9,7 +9,7 @@ ghost use Rattle.gomp_types.specs.Goals.{is_ready, may_descend, may_start};
 ghost use Rattle.gomp_types.specs.TaskRules.{MayStart};
 ghost use Rattle.gomp_tasks.specs.Rows.{IsState, IsParent, RowStands};
 ghost use Rattle.gomp_tasks.specs.Stands.{Stands, AreSame, members_of, count_of, IsNumber, IsTask};
-ghost use Rattle.gomp_tasks.specs.Calls.{MayCreateNext, task_or_implicit, is_under_all};
+ghost use Rattle.gomp_tasks.specs.Calls.{MayCreateNext, task_or_implicit, is_under_all, tasks_room};
 
 use crate::rows::{TaskRow, TaskState};
 use crate::stack::Stack;
@@ -17,10 +17,17 @@ use gomp_types::{Task, TaskDesc};
 use std::alloc::{AllocError, Global};
 use std::marker::Model;
 
-/// The most explicit tasks that a team creates: the largest number that one can have.
+/// The largest number of a task. A team refuses more than its limits allow, at most 1,048,576, before.
 pub const MAX_TASKS: u32 = 4_294_967_295;
 
-/// The explicit tasks of one team, numbered from 1. Only `make` and `reserve` take memory.
+/// The rows grow by this part of the tasks that there are.
+const STEP_PART: usize = 16;
+
+/// They grow by so many rows at least, besides the one that is asked for.
+const LEAST_STEP: usize = 64;
+
+/// The explicit tasks of one team, numbered from 1 in the order in which they are created: a task is a
+/// number from 1 to `count`. Only `make` and `reserve` take memory (OpenMP API 5.2, section 12.5).
 #[derive(Debug, Drop)]
 pub struct Tasks {
     rows: Vec<TaskRow>,
@@ -171,18 +178,25 @@ impl Tasks {
         self.is_ready(task) && self.may_descend(member, at_barrier, task)
     }
 
-    /// Makes room for one more task. It fails, and nothing changes, if there is none and its memory
-    /// is refused.
+    /// Makes room for one more task. The room grows in steps, so that the rows are seldom moved. It
+    /// fails, and nothing changes, if there is none and its memory is refused.
     pub fn reserve(&mut self) -> Result<(), AllocError>
         ensures room { OnOk result (0 < self.new.room) }
         ensures grown { self.old.room ≤ self.new.room }
+        ensures memory { OnOk result
+            (self.new.room ≡ tasks_room (count_of self.old) self.old.room) }
         ensures tasks { AreSame self.new self.old }
         ensures known { (h : List Event) × Stands self.old h }
         ensures stands { (h : List Event) → Stands self.old h → Stands self.new h }
         ensures kept { OnErr result (self.new ≡ self.old) }
         ensures full { OnErr result (self.old.room ≡ 0) }
     {
-        self.rows.reserve(1)
+        let count = self.rows.len();
+        if count < self.rows.capacity() {
+            return Ok(());
+        }
+        let step = (count / STEP_PART).max(LEAST_STEP);
+        self.rows.reserve_exact(step + 1)
     }
 
     /// The member, numbered from 0, creates a task in the one that it executes. `odd` says whether

@@ -6,6 +6,8 @@
 #[cfg(test)]
 mod barriers;
 #[cfg(test)]
+mod boards;
+#[cfg(test)]
 mod budget;
 #[cfg(test)]
 mod checks;

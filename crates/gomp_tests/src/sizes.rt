@@ -54,7 +54,8 @@ fn are_refused(rt: &impl Abort, alloc: Global, members: u16, count: usize) -> Re
     Ok(())
 }
 
-/// That the members of a team of this size meet at a barrier, where it has so many of what is limited.
+/// That the members of a team of this size, which has so many of what is limited, meet: at a barrier, or, if its events
+/// are too few to meet there, at the region's end.
 fn meet(rt: &impl Abort, alloc: Global, count: u16, number: u32) -> Result<(), Fail> {
     let limits = Limits {
         shares: number,
@@ -64,13 +65,28 @@ fn meet(rt: &impl Abort, alloc: Global, count: u16, number: u32) -> Result<(), F
     // A team within one of that many members: of more than one member that is an active level.
     let icv = child_icv(&Icv::initial(), count as u32);
     let mut team: Team<PlainShares> = Team::with_limits(alloc, count, icv, limits)?;
+    let is_full = number < u32::MAX;
+    if is_full {
+        let reply = team.step(0, Call::Barrier);
+        let expected = Reply::Refused(Refusal::TraceFull);
+        same(rt, &reply, &expected, "a full team of", count as u64);
+    }
     for member in 1..count {
-        let reply = team.step(member, Call::Barrier);
+        let reply = team.step(member, arrival(is_full));
         same(rt, &reply, &Reply::Wait, "a team of", count as u64);
     }
-    let reply = team.step(0, Call::Barrier);
+    let reply = team.step(0, arrival(is_full));
     same(rt, &reply, &Reply::Passed, "a team of", count as u64);
     Ok(())
+}
+
+/// The call of a member of a team that has no room for the events of a barrier, or has it.
+fn arrival(is_full: bool) -> Call {
+    if is_full {
+        Call::RegionEnd
+    } else {
+        Call::Barrier
+    }
 }
 
 #[test]

@@ -1,11 +1,11 @@
-//! Teams of `gomp_core` called as a library: a team with a lower limit, and teams at the places where a caller may
+//! Teams of `gomp_core` called as a library: teams with lower limits, and teams at the places where a caller may
 //! keep them.
 
 use crate::checks::{LOOP, same};
 use gomp_core::Team;
 use gomp_icv::Icv;
 use gomp_share_plain::PlainShares;
-use gomp_types::{Call, EndKind, Limits, LoopDesc, Refusal, Reply};
+use gomp_types::{Call, EndKind, Limits, LoopDesc, Refusal, Reply, TaskDesc};
 use std::alloc::Global;
 use std::sync::Mutex;
 use std::test::Fail;
@@ -33,6 +33,48 @@ fn one_share_too_many(alloc: Global) -> Result<[Reply; 4], Fail> {
         team.step(0, Call::LoopStart(SHORT_LOOP)),
     ])
 }
+
+/// The call that creates a task.
+fn task_create() -> Call {
+    Call::TaskCreate(TaskDesc { code: 5, arg: 9 })
+}
+
+/// What a member alone is answered whose team creates one task and stores six events at most: a task asks for room for
+/// three, a barrier for two, and the team is made with three. No more is asked for at the region's end, nor by the task.
+fn one_task_and_six_events(alloc: Global) -> Result<[Reply; 6], Fail> {
+    let limits = Limits {
+        shares: 0,
+        tasks: 1,
+        events: 6,
+    };
+    let mut team: Team<PlainShares> = Team::with_limits(alloc, 1, Icv::initial(), limits)?;
+    Ok([
+        team.step(0, task_create()),
+        team.step(0, task_create()),
+        team.step(0, Call::Barrier),
+        team.step(0, Call::RegionEnd),
+        team.step(0, Call::TaskEnd),
+        team.step(0, Call::Resume),
+    ])
+}
+
+/// These are the replies then.
+const ONE_TASK: [Reply; 6] = [
+    Reply::Created(1),
+    Reply::Refused(Refusal::TooManyTasks),
+    Reply::Refused(Refusal::TraceFull),
+    Reply::Run {
+        task: 1,
+        code: 5,
+        arg: 9,
+        own: false,
+    },
+    Reply::TaskDone {
+        task: 1,
+        waiting: true,
+    },
+    Reply::Passed,
+];
 
 /// Teams at the places where a caller may keep them.
 #[derive(Drop)]
@@ -70,6 +112,8 @@ fn limits_and_places(rt: HostRuntime) -> Result<(), Fail> {
     ];
     let replies = one_share_too_many(rt.alloc())?;
     same(&rt, &replies, &expected, "replies at a limit", 4);
+    let replies = one_task_and_six_events(rt.alloc())?;
+    same(&rt, &replies, &ONE_TASK, "replies at limits", 6);
     let mut pool = pool_of(rt.alloc())?;
     let listed = pool.step(0, 0, Call::Barrier);
     same(&rt, &listed, &Some(Reply::Passed), "listed", 1);

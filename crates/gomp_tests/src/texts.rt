@@ -130,6 +130,12 @@ const CALLS: &[&str] = &[
     "set_nest 0",
     "test_nest 4294967295",
     "unset_nest 0",
+    "task 0 18446744073709551615",
+    "task 18446744073709551615 0",
+    "task_end",
+    "taskwait",
+    "group",
+    "group_end",
     "resume",
     "stop",
 ];
@@ -179,6 +185,15 @@ const BAD_TEXTS: &[BadRow] = &[
     ("team 1\n0 next", " x", " y\n", 0, 2, Why::ExtraWord),
     ("team 1\n0 critical x", "x", " y\n", 0, 2, Why::ExtraWord),
     ("team 1\n0 set ", "0", "4294967296\n", 0, 2, Why::BadNumber),
+    ("team 1\n0 task 1 2", " x", " y\n", 0, 2, Why::ExtraWord),
+    (
+        "team 1\n0 task ",
+        "0",
+        "18446744073709551616 0\n",
+        0,
+        2,
+        Why::BadNumber,
+    ),
     ("te", "a", "mm 1\n", 0, 1, Why::FirstLine),
 ];
 

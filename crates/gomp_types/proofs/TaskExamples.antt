@@ -1,12 +1,11 @@
 -- What a list of events says of tasks and groups: of another task, member or group it says another thing, and what comes later counts.
-use Rattle.std.proofs.Common.{◌≡◌, ℕ, true, false, List, [], ◌∷◌, ◌++◌, Some, None, refl}
+use Rattle.std.proofs.Common.{◌≡◌, true, false, [], ◌∷◌, ◌++◌, Some, None, refl}
 use Rattle.std.specs.Prelude.{◌==◌, nat_lt, nat_le, map}
 use Rattle.gomp_types.specs.declared.task.Task.TheVariants.{Implicit, Explicit}
 use Rattle.gomp_types.specs.declared.event.Arrival.TheVariants.{Barrier, RegionEnd}
-use Rattle.gomp_types.specs.declared.event.Event.{Event}
-use Rattle.gomp_types.specs.declared.event.Event.TheVariants.{Create, Start, Done, Group, GroupEnd, Waited, Arrive, Pass}
+use Rattle.gomp_types.specs.declared.event.Event.TheVariants.{Create, Start, Done, Group, GroupEnd, Arrive, Pass}
 use Rattle.gomp_types.specs.EventLists.{at}
-use Rattle.gomp_types.specs.Events.{barriers_passed, at_barrier}
+use Rattle.gomp_types.specs.Events.{barriers_passed}
 use Rattle.gomp_types.specs.Tasks.{same_task, of_explicit, contains, after_first, tasks_created, is_created, every_task, some_task, task_stack, innermost_task, executed_task, in_task, has_started, task_runner, is_complete, all_complete, how_many, open_tasks, task_desc, is_child, is_ancestor, task_depth, depth_of, epoch, epoch_of_child, is_odd}
 use Rattle.gomp_types.specs.Groups.{groups_opened, open_groups, groups_around, in_group, group_complete}
 use Rattle.gomp_types.specs.Goals.{bound_complete, barrier_met, region_met, may_pass, children_complete, is_ready, each_of, may_descend, may_start, some_startable}
@@ -153,6 +152,10 @@ pub barriers_of_tasks :
     × (map (λ t. epoch t (after (Pass 0 0 ∷ Create 1 1 (Implicit 1) one_job ∷ Create 2 0 (Implicit 0) one_job ∷ []))) (1 ∷ 2 ∷ []) ≡ 0 ∷ 1 ∷ [])
 barriers_of_tasks = (refl, refl, refl, refl, refl)
 
+-- whoever creates it there
+pub barrier_of_the_implicit_task : epoch 1 (after (Pass 0 0 ∷ Create 1 1 (Implicit 0) one_job ∷ [])) ≡ 1
+barrier_of_the_implicit_task = refl
+
 -- and so would a new child of each be
 pub barriers_of_new_tasks :
     map (λ p. epoch_of_child p (after across_barrier)) (Implicit 0 ∷ Implicit 1 ∷ Explicit 1 ∷ Explicit 2 ∷ []) ≡ 1 ∷ 0 ∷ 1 ∷ 1 ∷ []
@@ -178,6 +181,10 @@ pub groups_around_tasks :
     × (groups_around 5 (after (nested_groups ++ GroupEnd 2 0 ∷ Create 5 0 (Explicit 2) one_job ∷ [])) ≡ 1 ∷ 0 ∷ [])
     × (groups_around 3 (after (nested_groups ++ GroupEnd 2 0 ∷ [])) ≡ 2 ∷ 1 ∷ 0 ∷ [])
 groups_around_tasks = (refl, refl, refl)
+
+-- whoever creates it there
+pub groups_around_of_the_implicit_task : groups_around 1 (after (Group 0 0 ∷ Create 1 1 (Implicit 0) one_job ∷ [])) ≡ 0 ∷ []
+groups_around_of_the_implicit_task = refl
 
 -- which tasks are in a group
 pub tasks_of_groups :

@@ -1,18 +1,14 @@
 -- Each part of each law of tasks and groups by itself refuses an event after some others, and the law allows one beside it.
 -- Of each law there are events that it alone refuses, while all others hold. All is computed, with none of the lemmas that prove the laws.
-use Rattle.std.proofs.Common.{◌≡◌, ℕ, ◌+◌, ◌<◌, ◌≤◌, true, false, List, [], ◌∷◌, ◌++◌, zero, suc, refl, arith, rules, inl, inr}
-use Rattle.std.specs.Prelude.{◌==◌, ◌≢◌}
-use Rattle.std.proofs.lemmas.Bool.{cases_Bool}
+use Rattle.std.proofs.Common.{◌≡◌, ℕ, List, [], ◌∷◌, refl, arith, rules, inl, inr}
+use Rattle.std.specs.Prelude.{◌≢◌}
 use Rattle.gomp_types.specs.declared.task.Task.TheVariants.{Implicit, Explicit}
 use Rattle.gomp_types.specs.declared.event.Arrival.TheVariants.{Barrier, RegionEnd}
 use Rattle.gomp_types.specs.declared.event.Event.{Event}
 use Rattle.gomp_types.specs.declared.event.Event.TheVariants.{Create, Start, Done, Group, GroupEnd, Waited, Arrive, Pass}
 use Rattle.gomp_types.specs.EventLists.{at}
-use Rattle.gomp_types.specs.Laws.{Always, Happened}
-use Rattle.gomp_types.specs.Tasks.{is_ancestor}
 use Rattle.gomp_types.specs.TaskLaws.{IsCreated, IsDone, CreatesOnce, CreatesInItsOwn, StartsOnce, StartsDescendant, EndsItsOwn, WaitsForTasks, OpensOnce, EndsItsGroup, PassesAfterTasks, CreatesLater, EndsAfterTasks, TaskLaws, BoundIsDone}
 use Rattle.gomp_types.specs.TaskExamples.{after, Allows, Forbids, TaskLaw, CreatedOnce, CreatedIn, StartedOnce, Descendants, EndedOnce, Waits, OpenedOnce, GroupsEnded, Passes, Later, AtTheEnd, law_of, RefusedAlone, one_job, other_job, task_tree, child_ended, across_barrier, whole_region}
-use Rattle.gomp_types.proofs.Booleans.{is_equal}
 use Rattle.gomp_types.proofs.TasksKeep.{tasks_keep}
 use Rattle.gomp_types.proofs.TaskRuleExamples.{whole_region_keeps_task_rule, whole_region_keeps_arrival_rule}
 
@@ -199,6 +195,10 @@ end_group_of_the_parent law = absurd (let last = law.1.1 in cc)
 pub end_group_twice : Forbids EndsItsGroup (Group 0 0 ∷ Group 0 0 ∷ GroupEnd 0 0 ∷ []) (GroupEnd 0 0)
 end_group_twice law = law.2 0 (inl refl)
 
+-- by whomever
+pub end_group_ended_by_another : Forbids EndsItsGroup (Group 0 0 ∷ Group 0 1 ∷ GroupEnd 0 1 ∷ []) (GroupEnd 0 0)
+end_group_ended_by_another law = law.2 1 (inl refl)
+
 -- the inner group, then the outer one
 pub end_group_inner : Allows EndsItsGroup (Group 0 0 ∷ Group 1 0 ∷ []) (GroupEnd 1 0)
 end_group_inner = (inl refl, (0 ∷ [], refl), search rules)
@@ -278,6 +278,11 @@ end_all_done ended t made = elim made.3 [
 pub bound_done_late : BoundIsDone (after (Create 1 0 (Implicit 0) one_job ∷ Pass 0 0 ∷ Done 1 0 ∷ [])) → ⊥
 bound_done_late law =
     elim (law (Done 1 0 ∷ []) (Create 1 0 (Implicit 0) one_job ∷ []) 0 0 refl 1 (0, Implicit 0, one_job, inr (inr (inl refl))) (omega arith)).1 [ inl e ↦ absurd (cc) | inr never ↦ never ]
+
+-- or to an earlier one
+pub bound_done_later_still : BoundIsDone (after (Create 1 0 (Implicit 0) one_job ∷ Pass 1 0 ∷ Done 1 0 ∷ [])) → ⊥
+bound_done_later_still law =
+    elim (law (Done 1 0 ∷ []) (Create 1 0 (Implicit 0) one_job ∷ []) 1 0 refl 1 (0, Implicit 0, one_job, inr (inr (inl refl))) (omega arith)).1 [ inl e ↦ absurd (cc) | inr never ↦ never ]
 
 -- or is created after that
 pub bound_created_late : BoundIsDone (after (Pass 0 0 ∷ Create 1 1 (Implicit 1) one_job ∷ Done 1 0 ∷ [])) → ⊥

@@ -3,6 +3,7 @@
 use crate::critical_name::CriticalName;
 use crate::loop_desc::{EndKind, LoopDesc};
 use crate::payload::Payload;
+use crate::task::TaskDesc;
 
 /// One call of a member, in the form that does not wait: if it would, the answer is
 /// [`Reply::Wait`](crate::Reply::Wait), and `Resume` asks again.
@@ -81,6 +82,20 @@ pub enum Call {
     /// Unsets the nestable lock of this number, which the member's task holds, once, and asks how
     /// often it is set still.
     UnsetNest(u32),
+    /// Creates a task in the task that the member executes, to run this code with this argument, and
+    /// asks for its number (OpenMP API 5.2, section 12.5; libgomp's `GOMP_task`).
+    TaskCreate(TaskDesc),
+    /// Ends the explicit task that the member executes.
+    TaskEnd,
+    /// Waits for the children of the task that the member executes (OpenMP API 5.2, section 15.5;
+    /// libgomp's `GOMP_taskwait`).
+    Taskwait,
+    /// Opens a group of tasks in that task (OpenMP API 5.2, section 15.4; libgomp's
+    /// `GOMP_taskgroup_start`).
+    GroupStart,
+    /// Ends the last open group of that task, once the tasks created in it, and all that descend from
+    /// these, are complete.
+    GroupEnd,
     /// Repeats the call whose answer was to wait.
     Resume,
     /// Stops the team, whatever its members are doing: it is broken from then on (own).

@@ -28,8 +28,8 @@ pub enum Reply {
     /// The number of the task that was created, from 1.
     Created(u32),
     /// The member executes this task from now on, of which this was asked when it was created, and
-    /// ends it by a call; `own` if it is the undeferred task of this very call. No call is answered
-    /// so yet.
+    /// ends it by `TaskEnd`; `own` if it is the undeferred task of this very call, which no call
+    /// creates yet.
     Run {
         task: u32,
         code: u64,

@@ -10,7 +10,7 @@ ghost use Rattle.gomp_types.specs.Owners.{same_owner, same_member};
 pub enum Task {
     /// The implicit task of the member with this number: the region's body.
     Implicit(u16),
-    /// The explicit task with this number, from 1. No call makes one yet.
+    /// The explicit task with this number, from 1.
     Explicit(u32),
 }
 

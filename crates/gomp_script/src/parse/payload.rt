@@ -3,19 +3,12 @@
 ghost use Rattle.std.specs.Prelude.{◌≡◌};
 ghost use Rattle.gomp_text.specs.Words.{words_of};
 ghost use Rattle.gomp_types.specs.declared.payload.TheConstants.{MAX_WORDS};
-ghost use Rattle.gomp_script.specs.StepText.{payload_word, payload_of, copy_end_step};
+ghost use Rattle.gomp_script.specs.StepText.{payload_of, copy_end_step};
 
 use crate::parse::Why;
-use crate::parse::words::{finish, member_of};
-use gomp_text::{next_word, unsigned};
+use crate::parse::words::{finish, member_of, unsigned_of};
+use gomp_text::next_word;
 use gomp_types::{Call, MAX_WORDS, Payload, Step};
-
-/// The word of a payload that this word writes, a `u64`.
-fn payload_word(word: &[u8]) -> Result<u64, Why>
-    ensures { result ≡ payload_word word.now }
-{
-    unsigned(word, u64::MAX).ok_or(Why::BadNumber)
-}
 
 /// The payload of all words of the rest of a line. What follows the most that it may have is a word
 /// too many.
@@ -28,7 +21,7 @@ fn payload_of(words: &[u8]) -> Result<Payload, Why>
         let Some((word, after)) = next_word(rest) else {
             return Ok(payload);
         };
-        payload.push(payload_word(word)?);
+        payload.push(unsigned_of(word)?);
         rest = after;
     }
     finish(rest)?;

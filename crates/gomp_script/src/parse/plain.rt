@@ -5,6 +5,7 @@ ghost use Rattle.gomp_text.specs.Words.{words_of};
 ghost use Rattle.gomp_script.specs.StepText.{share_call_of, call_of, plain_step};
 
 use crate::parse::Why;
+use crate::parse::task::task_call_of;
 use crate::parse::words::{finish, member_of};
 use gomp_text::is_word;
 use gomp_types::{Call, Step};
@@ -65,7 +66,7 @@ fn call_of(word: &[u8]) -> Option<Call>
     if is_word(word, b"stop") {
         return Some(Call::Stop);
     }
-    share_call_of(word)
+    task_call_of(word).or_else(|| share_call_of(word))
 }
 
 /// The step of this member whose call is one word, behind which the line ends.

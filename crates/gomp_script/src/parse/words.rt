@@ -2,7 +2,7 @@
 
 ghost use Rattle.std.specs.Prelude.{◌≡◌};
 ghost use Rattle.gomp_text.specs.Words.{words_of};
-ghost use Rattle.gomp_script.specs.StepText.{TakesWord, no_more_words, end_of, member_of, count_of, number_of};
+ghost use Rattle.gomp_script.specs.StepText.{TakesWord, no_more_words, end_of, member_of, count_of, number_of, unsigned_of};
 
 use crate::parse::Why;
 use gomp_text::{is_word, next_word, signed, unsigned};
@@ -56,6 +56,14 @@ pub(crate) fn count_of(word: &[u8]) -> Result<u32, Why>
         Some(number) => Ok(number as u32),
         None => Err(Why::BadNumber),
     }
+}
+
+/// The unsigned number of 64 bits that this word writes: a word of a payload, the code of a task or
+/// its argument.
+pub(crate) fn unsigned_of(word: &[u8]) -> Result<u64, Why>
+    ensures { result ≡ unsigned_of word.now }
+{
+    unsigned(word, u64::MAX).ok_or(Why::BadNumber)
 }
 
 /// The number of a loop that this word writes: a chunk, a bound, an increment or a value.

@@ -4,8 +4,8 @@ use Rattle.gomp_model.specs.Past.{Terms}
 use Rattle.gomp_model.specs.Team.{Caused}
 use Rattle.gomp_core.specs.Stands.{Stands, standard_terms, OnlyTakersLack}
 use Rattle.gomp_core.specs.Resolved.{record_of}
-use Rattle.gomp_laws.proofs.Laws.{headline_holds, replies_on_names_and_locks}
-use Rattle.gomp_core.proofs.Stepping.{resolved_grows, moved_on, all_done, terms_are, takers_more}
+use Rattle.gomp_laws.proofs.Laws.{headline_holds, replies_on_names_and_locks, replies_on_tasks}
+use Rattle.gomp_core.proofs.Lists.{resolved_grows, moved_on, all_done, terms_are, takers_more}
 use Rattle.gomp_core.proofs.steps.run.Given.{Over}
 use Rattle.gomp_core.proofs.steps.run.Goals as goal
 
@@ -80,3 +80,6 @@ returns-in-None-clause-headline g c = headline_holds (standard_terms c.args.coun
 
 pub returns-in-None-clause-replies : goal.returns-in-None-clause-replies
 returns-in-None-clause-replies g c = replies_on_names_and_locks (standard_terms c.args.count c.args.icv) (record_of c.args.icv c.args.steps.items c.loop-step.replies.items) (returns-in-None-clause-caused g c)
+
+pub returns-in-None-clause-tasks : goal.returns-in-None-clause-tasks
+returns-in-None-clause-tasks g c = replies_on_tasks (standard_terms c.args.count c.args.icv) (record_of c.args.icv c.args.steps.items c.loop-step.replies.items) (returns-in-None-clause-caused g c)

@@ -13,7 +13,7 @@ invariant-loop-step g l = record {
   room : length l.fn.steps.items ≤ vec_capacity l.replies;
   members : members_of l.team ≡ l.fn.count;
   icv : l.team.icv ≡ l.fn.icv;
-  limits : l.team.limits ≡ standard;
+  limits : l.team.board.limits ≡ standard;
   memory : OnlyTakersLack l.yielded l.replies.items;
   stands : Stands g.S.Shares.stands g.S.Shares.members l.team (record_of l.fn.icv l.yielded l.replies.items);
 }

@@ -1,8 +1,6 @@
-use Rattle.std.proofs.Common.{rules, ◌≡◌, ◌≢◌, List, [], ℕ, length, refl, ap, arith}
+use Rattle.std.proofs.Common.{rules, ◌≡◌, ◌≢◌, [], length, refl, ap, arith}
 use Rattle.std.specs.Prelude.{IfSome, string_bytes}
 use Rattle.std.specs.Io.BufRead.{take_through}
-use Rattle.std.specs.Io.KnownBytes.{Appends}
-use Rattle.gomp_live.specs.Serving.{ServesLive, SomeAnswered}
 use Rattle.gomp_live.proofs.ServeLemmas.{on_no_error, talk_begins, talk_ends, talk_breaks, line_served}
 use Rattle.gomp_live.proofs.serve.serve_live.Goals as goal
 

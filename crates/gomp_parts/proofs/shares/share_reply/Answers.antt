@@ -1,4 +1,4 @@
-use Rattle.std.proofs.Common.{rules, refl, subst, sym, true, false, ℕ, [], ◌++◌}
+use Rattle.std.proofs.Common.{rules, subst, sym, true, false, ℕ, [], ◌++◌, refl}
 use Rattle.gomp_types.specs.declared.loop_desc.EndKind.TheVariants.{Nowait}
 use Rattle.gomp_types.specs.Events.{open_share}
 use Rattle.gomp_types.specs.Iterations.{loop_tests}
@@ -8,18 +8,16 @@ use Rattle.gomp_types.specs.Singles.{single_shape}
 use Rattle.gomp_shares.specs.Starts.{leaves}
 use Rattle.gomp_shares.specs.Loops.{DealsOut, DealsNext, end_tests, next_given, piece_given}
 use Rattle.gomp_shares.specs.Sections.{DealsSections, section_given, sections_end_tests}
-use Rattle.gomp_shares.specs.Singles.{DealsSingle, DealsCopy, copy_given, single_given}
-use Rattle.gomp_shares.specs.OrderedParts.{BeginsPart}
+use Rattle.gomp_shares.specs.Singles.{DealsSingle, single_given}
+use Rattle.gomp_shares.specs.OrderedParts.{BeginsPart, part_end_tests, part_end_events}
 use Rattle.gomp_shares.specs.declared.admission.Construct.TheVariants.{Loop, Sections}
 use Rattle.gomp_shares.proofs.Admitted.{end_lets_leave}
-use Rattle.gomp_parts.proofs.Refused.{start_has_a_share, start_has_its_share, opens_own}
-use Rattle.gomp_parts.proofs.Answered.{begin_may, done_serves, start_serves, next_stops, section_stops, part_stops}
+use Rattle.gomp_parts.proofs.Refused.{start_has_its_share, opens_own}
+use Rattle.gomp_parts.proofs.ShareEvents.{piece_share_events, section_share_events, single_share_events, next_share_events, section_next_share_events, part_share_events}
+use Rattle.gomp_parts.proofs.ShareRows.{start_serves, start_events, done_serves, done_events, piece_refuses, next_refuses, section_refuses, single_refuses, part_refuses}
 use Rattle.gomp_parts.proofs.shares.share_reply.Goals as goal
 
 -- Starts
-
-pub unreachable-requires : goal.unreachable-requires
-unreachable-requires g c = start_has_a_share c.args.starts.now _ c.in_default.is (rw c.in-LoopStart.is at c.requires.starts.0)
 
 pub begin_loop-requires : goal.begin_loop-requires
 begin_loop-requires g c = record { place = opens_own c.args.starts.now _ c.in-Some.shape c.in-Some.is c.requires.starts.1 (g.S.Shares.members c.args.shares.now) c.args.member c.requires.member }
@@ -28,17 +26,14 @@ pub returns-in-Some-clause-serves : goal.returns-in-Some-clause-serves
 returns-in-Some-clause-serves g c =
     let loop = c.in-LoopStart.field-0 in
     let is = start_has_its_share c.args.starts.now c.in-Some.shape (shape_of loop) c.in-Some.is (rw c.in-LoopStart.is at c.requires.starts.0) in
-    rw c.in-LoopStart.is (start_serves g.S.Shares.stands (g.S.Shares.members c.args.shares.now) c.args.shares.now c.begin_loop.new.shares c.args.payloads.now true (loop_tests loop) (shape_of loop) DealsOut piece_given c.args.member c.begin_loop.result
-    (rw (← is) at c.begin_loop.ensures.serves))
+    let serves = rw (← is) at c.begin_loop.ensures.serves in
+    rw c.in-LoopStart.is (start_serves (g.S.Shares.stands c.args.shares.now) g.S.Shares.stands (g.S.Shares.members c.args.shares.now) c.args.shares.now c.begin_loop.new.shares true (loop_tests loop) (shape_of loop) DealsOut piece_given c.args.member c.begin_loop.result piece_refuses
+    serves.waits serves.answer serves.stands_for)
 
-pub returns-in-Some-clause-stops : goal.returns-in-Some-clause-stops
-returns-in-Some-clause-stops g c = λ stopped.
-    let (h, words) = c.requires.known in
-    let answers = rw stopped at (c.begin_loop.ensures.serves.answer h words.0) in
-    absurd (answers.1.1)
-
-pub unreachable-requires-in_default-starts : goal.unreachable-requires-in_default-starts
-unreachable-requires-in_default-starts g c = start_has_a_share c.args.starts.now _ c.in_default-starts.is (rw c.in-SectionsStart.is at c.requires.starts.0)
+pub returns-in-Some-clause-events : goal.returns-in-Some-clause-events
+returns-in-Some-clause-events g c =
+    let loop = c.in-LoopStart.field-0 in
+    rw c.in-LoopStart.is (start_events true (loop_tests loop) (shape_of loop) DealsOut piece_given c.args.member c.begin_loop.result piece_share_events)
 
 pub begin_sections-requires-clause-sections : goal.begin_sections-requires-clause-sections
 begin_sections-requires-clause-sections g c =
@@ -53,26 +48,27 @@ returns-in-Some-starts-clause-serves g c =
     let count = c.in-SectionsStart.count in
     let end_kind = c.in-SectionsStart.end_kind in
     let is = start_has_its_share c.args.starts.now c.in-Some-starts.shape (sections_shape count end_kind) c.in-Some-starts.is (rw c.in-SectionsStart.is at c.requires.starts.0) in
-    rw c.in-SectionsStart.is (start_serves g.S.Shares.stands (g.S.Shares.members c.args.shares.now) c.args.shares.now c.begin_sections.new.shares c.args.payloads.now true (sections_tests count) (sections_shape count end_kind) DealsSections section_given c.args.member c.begin_sections.result
-    (rw (← is) at c.begin_sections.ensures.serves))
+    let serves = rw (← is) at c.begin_sections.ensures.serves in
+    rw c.in-SectionsStart.is (start_serves (g.S.Shares.stands c.args.shares.now) g.S.Shares.stands (g.S.Shares.members c.args.shares.now) c.args.shares.now c.begin_sections.new.shares true (sections_tests count) (sections_shape count end_kind) DealsSections section_given c.args.member c.begin_sections.result section_refuses
+    serves.waits serves.answer serves.stands_for)
+
+pub returns-in-Some-starts-clause-events : goal.returns-in-Some-starts-clause-events
+returns-in-Some-starts-clause-events g c =
+    let count = c.in-SectionsStart.count in
+    let end_kind = c.in-SectionsStart.end_kind in
+    rw c.in-SectionsStart.is (start_events true (sections_tests count) (sections_shape count end_kind) DealsSections section_given c.args.member c.begin_sections.result section_share_events)
 
 pub begin_single-requires : goal.begin_single-requires
 begin_single-requires g c = record { place = opens_own c.args.starts.now _ (single_shape false) (rw c.in-SingleStart.is at c.requires.starts.0) c.requires.starts.1 (g.S.Shares.members c.args.shares.now) c.args.member c.requires.member }
 
 pub returns-in-SingleStart-clause-serves : goal.returns-in-SingleStart-clause-serves
 returns-in-SingleStart-clause-serves g c =
-    rw c.in-SingleStart.is (start_serves g.S.Shares.stands (g.S.Shares.members c.args.shares.now) c.args.shares.now c.begin_single.new.shares c.args.payloads.now false [] (single_shape false) DealsSingle single_given c.args.member c.begin_single.result c.begin_single.ensures.serves)
+    let serves = c.begin_single.ensures.serves in
+    rw c.in-SingleStart.is (start_serves (g.S.Shares.stands c.args.shares.now) g.S.Shares.stands (g.S.Shares.members c.args.shares.now) c.args.shares.now c.begin_single.new.shares false [] (single_shape false) DealsSingle single_given c.args.member c.begin_single.result single_refuses
+    serves.waits serves.answer serves.stands_for)
 
-pub copy_reply-requires-clause-place : goal.copy_reply-requires-clause-place
-copy_reply-requires-clause-place g c = opens_own c.args.starts.now _ (single_shape true) (rw c.in-SingleCopyStart.is at c.requires.starts.0) c.requires.starts.1 (g.S.Shares.members c.args.shares.now) c.args.member c.requires.member
-
-pub returns-in-SingleCopyStart-clause-serves : goal.returns-in-SingleCopyStart-clause-serves
-returns-in-SingleCopyStart-clause-serves g c =
-    rw c.in-SingleCopyStart.is (record {
-      waits = c.copy_reply.ensures.waits;
-      answer = λ repeated p ready words. begin_may true [] (single_shape true) DealsCopy copy_given (g.S.Shares.members c.args.shares.now) repeated c.args.member p c.copy_reply.result ready (c.copy_reply.ensures.answer p.events words);
-      stands_for = λ repeated p ready st. c.copy_reply.ensures.stands p.events st;
-    })
+pub returns-in-SingleStart-clause-events : goal.returns-in-SingleStart-clause-events
+returns-in-SingleStart-clause-events g c = rw c.in-SingleStart.is (start_events false [] (single_shape false) DealsSingle single_given c.args.member c.begin_single.result single_share_events)
 
 -- Nexts
 
@@ -85,20 +81,16 @@ returns-in-LoopNext-clause-serves g c =
     let serves = c.take_next.ensures.serves in
     rw c.in-LoopNext.is (record {
       waits = serves.waits;
-      answer = λ repeated p ready words. subst (λ (n : ℕ). DealsNext n m (open_share m p.events) c.take_next.result p.events) (sym ready.members_are) (serves.answer p.events words.0);
-      stands_for = λ repeated p ready st. subst (λ (n : ℕ). g.S.Shares.stands c.take_next.new.shares (next_given n (open_share m p.events) m p.events c.take_next.result ++ p.events)) (sym ready.members_are) (serves.stands_for p.events st);
+      answer = λ repeated p size st goes. subst (λ (n : ℕ). DealsNext n m (open_share m p.events) c.take_next.result p.events) (sym size) (serves.answer p.events st);
+      accepts = λ repeated p refusal may. next_refuses p.terms.members m (open_share m p.events) refusal p.events may;
+      stands_for = λ repeated p size st goes. subst (λ (n : ℕ). g.S.Shares.stands c.take_next.new.shares (next_given n (open_share m p.events) m p.events c.take_next.result ++ p.events)) (sym size) (serves.stands_for p.events st);
     })
 
-pub returns-in-LoopNext-clause-stops : goal.returns-in-LoopNext-clause-stops
-returns-in-LoopNext-clause-stops g c = λ stopped.
-    let (h, words) = c.requires.known in
-    absurd (next_stops (g.S.Shares.members c.args.shares.now) c.args.member (open_share c.args.member h) h (rw stopped at (c.take_next.ensures.serves.answer h words.0)))
+pub returns-in-LoopNext-clause-events : goal.returns-in-LoopNext-clause-events
+returns-in-LoopNext-clause-events g c = rw c.in-LoopNext.is (λ repeated p. (tt, next_share_events p.terms.members c.args.member _ (open_share c.args.member p.events) p.events c.take_next.result))
 
 pub take_section-requires-clause-place : goal.take_section-requires-clause-place
 take_section-requires-clause-place g c = let (limits, none) = c.requires.place in rw c.in-SectionsNext.is at none
-
-pub take_section-requires-clause-known : goal.take_section-requires-clause-known
-take_section-requires-clause-known g c = let (h, words) = c.requires.known in (h, words.0)
 
 pub returns-in-SectionsNext-clause-serves : goal.returns-in-SectionsNext-clause-serves
 returns-in-SectionsNext-clause-serves g c =
@@ -106,38 +98,43 @@ returns-in-SectionsNext-clause-serves g c =
     let serves = c.take_section.ensures.serves in
     rw c.in-SectionsNext.is (record {
       waits = serves.waits;
-      answer = λ repeated p ready words. subst (λ (n : ℕ). DealsSections n m (open_share m p.events) c.take_section.result p.events) (sym ready.members_are) (serves.answer p.events words.0);
-      stands_for = λ repeated p ready st. serves.stands_for p.events st;
+      answer = λ repeated p size st goes. subst (λ (n : ℕ). DealsSections n m (open_share m p.events) c.take_section.result p.events) (sym size) (serves.answer p.events st);
+      accepts = λ repeated p refusal may. section_refuses p.terms.members m (open_share m p.events) refusal p.events may;
+      stands_for = λ repeated p size st goes. serves.stands_for p.events st;
     })
 
-pub returns-in-SectionsNext-clause-stops : goal.returns-in-SectionsNext-clause-stops
-returns-in-SectionsNext-clause-stops g c = λ stopped.
-    let (h, words) = c.requires.known in
-    absurd (section_stops (g.S.Shares.members c.args.shares.now) c.args.member (open_share c.args.member h) h (rw stopped at (c.take_section.ensures.serves.answer h words.0)))
+pub returns-in-SectionsNext-clause-events : goal.returns-in-SectionsNext-clause-events
+returns-in-SectionsNext-clause-events g c = rw c.in-SectionsNext.is (λ repeated p. (tt, section_next_share_events c.args.member _ (open_share c.args.member p.events) c.take_section.result))
 
 -- Ends
 
 pub leave_at_once-requires : goal.leave_at_once-requires
 leave_at_once-requires g c =
-    let (h, words) = c.requires.known in
-    let e = g.met.S.Shares.agrees c.args.shares.now h c.args.member words.0 c.requires.member in
+    let (h, st) = c.requires.known in
+    let e = g.met.S.Shares.agrees c.args.shares.now h c.args.member st c.requires.member in
     let (limits, none) = c.requires.place in
-    record { place = end_lets_leave Loop Nowait (g.S.Shares.members c.args.shares.now) c.args.member _ h (g.met.S.Shares.ruled c.args.shares.now h words.0) e c.requires.member (rw c.in-LoopEndNowait.is at none) }
+    record { place = end_lets_leave Loop Nowait (g.S.Shares.members c.args.shares.now) c.args.member _ h (g.met.S.Shares.ruled c.args.shares.now h st) e c.requires.member (rw c.in-LoopEndNowait.is at none) }
 
 pub returns-in-LoopEndNowait-clause-serves : goal.returns-in-LoopEndNowait-clause-serves
 returns-in-LoopEndNowait-clause-serves g c =
-    rw c.in-LoopEndNowait.is (done_serves g.S.Shares.stands (g.S.Shares.members c.args.shares.now) c.args.shares.now c.leave_at_once.new.shares c.args.payloads.now (end_tests Nowait) leaves c.args.member c.leave_at_once.result c.leave_at_once.ensures.serves)
+    rw c.in-LoopEndNowait.is (done_serves g.S.Shares.stands (g.S.Shares.members c.args.shares.now) c.args.shares.now c.leave_at_once.new.shares (end_tests Nowait) leaves c.args.member c.leave_at_once.result c.leave_at_once.ensures.serves)
+
+pub returns-in-LoopEndNowait-clause-events : goal.returns-in-LoopEndNowait-clause-events
+returns-in-LoopEndNowait-clause-events g c = rw c.in-LoopEndNowait.is (done_events (end_tests Nowait) leaves c.args.member c.leave_at_once.result (λ h. (tt, tt)))
 
 pub leave_at_once-requires-in-SectionsEndNowait : goal.leave_at_once-requires-in-SectionsEndNowait
 leave_at_once-requires-in-SectionsEndNowait g c =
-    let (h, words) = c.requires.known in
-    let e = g.met.S.Shares.agrees c.args.shares.now h c.args.member words.0 c.requires.member in
+    let (h, st) = c.requires.known in
+    let e = g.met.S.Shares.agrees c.args.shares.now h c.args.member st c.requires.member in
     let (limits, none) = c.requires.place in
-    record { place = end_lets_leave Sections Nowait (g.S.Shares.members c.args.shares.now) c.args.member _ h (g.met.S.Shares.ruled c.args.shares.now h words.0) e c.requires.member (rw c.in-SectionsEndNowait.is at none) }
+    record { place = end_lets_leave Sections Nowait (g.S.Shares.members c.args.shares.now) c.args.member _ h (g.met.S.Shares.ruled c.args.shares.now h st) e c.requires.member (rw c.in-SectionsEndNowait.is at none) }
 
 pub returns-in-SectionsEndNowait-clause-serves : goal.returns-in-SectionsEndNowait-clause-serves
 returns-in-SectionsEndNowait-clause-serves g c =
-    rw c.in-SectionsEndNowait.is (done_serves g.S.Shares.stands (g.S.Shares.members c.args.shares.now) c.args.shares.now c.leave_at_once-in-SectionsEndNowait.new.shares c.args.payloads.now (sections_end_tests Nowait) leaves c.args.member c.leave_at_once-in-SectionsEndNowait.result c.leave_at_once-in-SectionsEndNowait.ensures.serves)
+    rw c.in-SectionsEndNowait.is (done_serves g.S.Shares.stands (g.S.Shares.members c.args.shares.now) c.args.shares.now c.leave_at_once-in-SectionsEndNowait.new.shares (sections_end_tests Nowait) leaves c.args.member c.leave_at_once-in-SectionsEndNowait.result c.leave_at_once-in-SectionsEndNowait.ensures.serves)
+
+pub returns-in-SectionsEndNowait-clause-events : goal.returns-in-SectionsEndNowait-clause-events
+returns-in-SectionsEndNowait-clause-events g c = rw c.in-SectionsEndNowait.is (done_events (sections_end_tests Nowait) leaves c.args.member c.leave_at_once-in-SectionsEndNowait.result (λ h. (tt, tt)))
 
 -- Ordered parts
 
@@ -147,48 +144,17 @@ returns-in-OrderedStart-clause-serves g c =
     let serves = c.begin_part.ensures.serves in
     rw c.in-OrderedStart.is (record {
       waits = serves.waits;
-      answer = λ repeated p ready words. subst (λ (n : ℕ). BeginsPart n m (open_share m p.events) c.begin_part.result p.events) (sym ready.members_are) (serves.answer p.events words.0);
+      answer = λ repeated p size st goes. subst (λ (n : ℕ). BeginsPart n m (open_share m p.events) c.begin_part.result p.events) (sym size) (serves.answer p.events st);
+      accepts = λ repeated p refusal may. part_refuses p.terms.members m (open_share m p.events) refusal p.events may;
       stands_for = search rules;
     })
 
-pub returns-in-OrderedStart-clause-stops : goal.returns-in-OrderedStart-clause-stops
-returns-in-OrderedStart-clause-stops g c = λ stopped.
-    let (h, words) = c.requires.known in
-    absurd (part_stops (g.S.Shares.members c.args.shares.now) c.args.member (open_share c.args.member h) h (rw stopped at (c.begin_part.ensures.serves.answer h words.0)))
+pub returns-in-OrderedStart-clause-events : goal.returns-in-OrderedStart-clause-events
+returns-in-OrderedStart-clause-events g c = rw c.in-OrderedStart.is (λ repeated p. (tt, part_share_events c.args.member _ (open_share c.args.member p.events) c.in-OrderedStart.value c.begin_part.result))
 
--- The team's stop
+pub returns-in-OrderedEnd-clause-serves : goal.returns-in-OrderedEnd-clause-serves
+returns-in-OrderedEnd-clause-serves g c =
+    rw c.in-OrderedEnd.is (done_serves g.S.Shares.stands (g.S.Shares.members c.args.shares.now) c.args.shares.now c.finish_part.new.shares part_end_tests part_end_events c.args.member c.finish_part.result c.finish_part.ensures.serves)
 
-pub returns-in-Stop-clause-stops : goal.returns-in-Stop-clause-stops
-returns-in-Stop-clause-stops g c = λ stopped. c.in-Stop.is
-
--- None of them arrives or puts words
-
-pub returns-in-Some-clause-apart : goal.returns-in-Some-clause-apart
-returns-in-Some-clause-apart g c = rw c.in-LoopStart.is (refl, refl)
-
-pub returns-in-LoopNext-clause-apart : goal.returns-in-LoopNext-clause-apart
-returns-in-LoopNext-clause-apart g c = rw c.in-LoopNext.is (refl, refl)
-
-pub returns-in-LoopEndNowait-clause-apart : goal.returns-in-LoopEndNowait-clause-apart
-returns-in-LoopEndNowait-clause-apart g c = rw c.in-LoopEndNowait.is (refl, refl)
-
-pub returns-in-Some-starts-clause-apart : goal.returns-in-Some-starts-clause-apart
-returns-in-Some-starts-clause-apart g c = rw c.in-SectionsStart.is (refl, refl)
-
-pub returns-in-SectionsNext-clause-apart : goal.returns-in-SectionsNext-clause-apart
-returns-in-SectionsNext-clause-apart g c = rw c.in-SectionsNext.is (refl, refl)
-
-pub returns-in-SectionsEndNowait-clause-apart : goal.returns-in-SectionsEndNowait-clause-apart
-returns-in-SectionsEndNowait-clause-apart g c = rw c.in-SectionsEndNowait.is (refl, refl)
-
-pub returns-in-SingleStart-clause-apart : goal.returns-in-SingleStart-clause-apart
-returns-in-SingleStart-clause-apart g c = rw c.in-SingleStart.is (refl, refl)
-
-pub returns-in-SingleCopyStart-clause-apart : goal.returns-in-SingleCopyStart-clause-apart
-returns-in-SingleCopyStart-clause-apart g c = rw c.in-SingleCopyStart.is (refl, refl)
-
-pub returns-in-OrderedStart-clause-apart : goal.returns-in-OrderedStart-clause-apart
-returns-in-OrderedStart-clause-apart g c = rw c.in-OrderedStart.is (refl, refl)
-
-pub returns-in-Stop-clause-apart : goal.returns-in-Stop-clause-apart
-returns-in-Stop-clause-apart g c = rw c.in-Stop.is (refl, refl)
+pub returns-in-OrderedEnd-clause-events : goal.returns-in-OrderedEnd-clause-events
+returns-in-OrderedEnd-clause-events g c = rw c.in-OrderedEnd.is (done_events part_end_tests part_end_events c.args.member c.finish_part.result (λ h. (tt, tt)))

@@ -1,4 +1,4 @@
-use Rattle.std.proofs.Common.{rules, ◌≡◌, ◌<◌, ◌^◌, map, length}
+use Rattle.std.proofs.Common.{rules, ◌<◌, ◌^◌, map, length}
 use Rattle.std.proofs.lemmas.List.{length-map}
 use Rattle.gomp_command.specs.CommandLine.{asked_by, asked_of, faults_of}
 use Rattle.gomp_command.specs.declared.command.Service.TheVariants.{Live, Steps}

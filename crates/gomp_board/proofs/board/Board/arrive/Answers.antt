@@ -1,12 +1,9 @@
-use Rattle.std.proofs.Common.{◌≡◌, ◌<◌, ◌+◌, ◌∙◌, ap, sym, subst, arith, length, length-set, refl}
-use Rattle.std.specs.Prelude.{ℕ, List, reverse}
+use Rattle.std.proofs.Common.{◌≡◌, ◌<◌, ◌+◌, ◌∙◌, ap, sym, subst, arith, length, length-set}
+use Rattle.std.specs.Prelude.{ℕ}
 use Rattle.std.proofs.lemmas.List.{get_or_default}
-use Rattle.gomp_types.specs.declared.event.Event.{Event}
-use Rattle.gomp_types.specs.Goals.{may_pass}
-use Rattle.gomp_types.specs.TaskCalls.{AwaitsTasks}
 use Rattle.gomp_board.specs.declared.op.Op.TheVariants.{Arrive}
-use Rattle.gomp_board.specs.Ops.{arrival_asks, arrival_keeps, begun}
-use Rattle.gomp_board.specs.Boards.{BoardView, Stands, IsAdmitted, HasSpare, ArrivesFirst, members_of, kept_by}
+use Rattle.gomp_board.specs.Ops.{arrival_asks, arrival_keeps}
+use Rattle.gomp_board.specs.Boards.{BoardView, Stands, IsAdmitted, HasSpare, members_of, kept_by}
 use Rattle.gomp_board.specs.contracts.board.Board.{the_view}
 use Rattle.gomp_board.proofs.Joined.{stands_before}
 use Rattle.gomp_board.proofs.AdmittedArrivals.{arrives_of, arrival_stays_small}

@@ -1,4 +1,4 @@
-use Rattle.std.proofs.Common.{◌≡◌, refl, ◌∙◌, sym, arith}
+use Rattle.std.proofs.Common.{◌∙◌, sym, arith}
 use Rattle.std.specs.Prelude.{reverse}
 use Rattle.std.proofs.lemmas.List.{set-get_or}
 use Rattle.gomp_types.specs.Goals.{may_pass}
@@ -16,5 +16,5 @@ returns c = record {
       let own = reverse c.args.self.now.history in
       let reply : IsReply c.await_pass.result = awaits_is_reply c.args.member (may_pass (members_of c.args.self.now) c.args.member own) own c.await_pass.result (c.await_pass.ensures.answer own c.await_pass.ensures.known) in
       op_performed AwaitBarrier c.args.member c.args.self.now c.await_pass.new.self c.await_pass.result reply c.requires.admitted c.await_pass.ensures.answer c.await_pass.ensures.stands c.await_pass.ensures.limits (omega (arith, room))
-      (c.await_pass.ensures.kept ∙ sym (set-get_or c.args.self.now.kept c.args.member 0));
+      (c.await_pass.ensures.kept ∙ sym (set-get_or c.args.self.now.kept c.args.member 0)) (λ wait goes. c.await_pass.ensures.waits wait);
 }

@@ -1,4 +1,4 @@
-use Rattle.std.proofs.Common.{◌≡◌, reverse, refl, sym, ◌∙◌, arith}
+use Rattle.std.proofs.Common.{reverse, refl, sym, ◌∙◌, arith}
 use Rattle.gomp_types.specs.declared.reply.Reply.TheVariants.{Passed}
 use Rattle.gomp_types.specs.Tasks.{executed_task}
 use Rattle.gomp_types.specs.Goals.{children_complete}
@@ -15,7 +15,7 @@ returns-then-children_done c =
       performs = op_performed AwaitChildren m now now Passed tt c.requires.admitted
           (λ h st. sym (c.children_done.ensures.value h st) ∙ c.if-children_done.true)
           (λ h st. waited_stands now m h c.children_done.ensures.members c.requires.member (sym (c.children_done.ensures.value h st) ∙ c.if-children_done.true) st)
-          refl (omega arith) (sym (set_same now.kept m));
+          refl (omega arith) (sym (set_same now.kept m)) (λ wait goes. refl);
     }
 
 pub returns-else-children_done : goal.returns-else-children_done
@@ -26,5 +26,5 @@ returns-else-children_done c =
       performs = op_performed AwaitChildren m now c.run_or_wait.new.self reply (runs_is_reply m (reverse now.history) reply own) c.requires.admitted
           (λ h st. runs_unmet m (children_complete (executed_task m h) h) h reply (sym (c.children_done.ensures.value h st) ∙ c.if-children_done.false) (c.run_or_wait.ensures.answer h st))
           (λ h st. rw (waited_runs m h reply (c.run_or_wait.ensures.answer h st)) (c.run_or_wait.ensures.stands h st))
-          c.run_or_wait.ensures.limits (omega (arith, room)) (c.run_or_wait.ensures.kept ∙ sym (set_same now.kept m));
+          c.run_or_wait.ensures.limits (omega (arith, room)) (c.run_or_wait.ensures.kept ∙ sym (set_same now.kept m)) (λ wait goes. c.run_or_wait.ensures.waits wait);
     }

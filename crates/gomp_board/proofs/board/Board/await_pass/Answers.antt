@@ -1,8 +1,6 @@
-use Rattle.std.proofs.Common.{◌≡◌, ◌<◌, ◌∷◌, true, false, ap, ◌∙◌, sym, subst, arith}
-use Rattle.std.specs.Prelude.{ℕ, Bool, List, reverse, vec_capacity}
-use Rattle.gomp_types.specs.declared.event.Event.{Event}
+use Rattle.std.proofs.Common.{◌≡◌, ◌<◌, ◌∷◌, false, ap, ◌∙◌, sym, subst, arith}
+use Rattle.std.specs.Prelude.{ℕ, Bool, reverse, vec_capacity}
 use Rattle.gomp_types.specs.declared.event.Event.TheVariants.{Pass}
-use Rattle.gomp_types.specs.Events.{barriers_passed}
 use Rattle.gomp_types.specs.Goals.{may_pass}
 use Rattle.gomp_barrier.specs.Calls.{turn_after}
 use Rattle.gomp_barrier.specs.Stands.{BarriersView, Stands as BarriersStand, members_of as barrier_members}
@@ -64,3 +62,7 @@ returns-clause-answer c = λ h st0.
     let st = stands_too _ _ h c.self.view_is st0 in
     let size : barrier_members c.self.inside.barriers ≡ members_of c.args.self.now = c.self.invariant.members.barriers ∙ ap (λ (b : BoardView). members_of b) c.self.view_is in
     rw (← size) (sym (c.turn.ensures.answer h st.barriers) ∙ c.if-not-turn.false)
+
+pub returns-then-not-turn-clause-waits : goal.returns-then-not-turn-clause-waits
+returns-then-not-turn-clause-waits c = λ wait.
+    c.run_or_wait.ensures.waits wait ∙ ap (λ (x : BarriersView). record (the_view c.self.inside) { barriers = x }) (c.turn.ensures.kept c.if-not-turn.true) ∙ c.self.view_is

@@ -1,9 +1,9 @@
-use Rattle.std.proofs.Common.{◌≡◌, ◌<◌, ◌≤◌, ◌+◌, ◌∷◌, [], ◌++◌, ℕ, suc, reverse, refl, sym, subst, ap, ◌∙◌, arith, true, List}
+use Rattle.std.proofs.Common.{◌≡◌, ◌<◌, ◌+◌, ◌∷◌, [], ◌++◌, ℕ, suc, reverse, refl, sym, subst, ap, ◌∙◌, arith, List}
 use Rattle.gomp_types.specs.declared.event.Event.{Event}
 use Rattle.gomp_types.specs.declared.event.Event.TheVariants.{Create}
 use Rattle.gomp_types.specs.declared.reply.Reply.TheVariants.{Created}
 use Rattle.gomp_types.specs.declared.task.Task.{Task}
-use Rattle.gomp_types.specs.Tasks.{tasks_created, executed_task}
+use Rattle.gomp_types.specs.Tasks.{tasks_created}
 use Rattle.gomp_types.specs.TaskRules.{MayCreate}
 use Rattle.gomp_tasks.specs.Stands.{Stands as TasksStand, members_of as task_members}
 use Rattle.gomp_groups.specs.Stands.{Stands as GroupsStand, members_of as group_members}
@@ -14,7 +14,7 @@ use Rattle.gomp_board.specs.Boards.{BoardView, Stands, members_of}
 use Rattle.gomp_board.specs.contracts.board.Board.{the_view}
 use Rattle.gomp_board.proofs.OwedKeeps.{create_owes}
 use Rattle.gomp_board.proofs.Performed.{op_performed}
-use Rattle.gomp_board.proofs.TaskEvents.{task_member, group_member, barrier_member, board_asked, members_with, rule_of, created_stands, more_task_room, more_room, at_ok, set_same}
+use Rattle.gomp_board.proofs.TaskEvents.{task_member, group_member, board_asked, members_with, rule_of, created_stands, more_task_room, more_room, at_ok, set_same}
 use Rattle.gomp_board.proofs.TaskSteps.{creates_so, creates_next, create_binds, next_task_number}
 use Rattle.gomp_board.proofs.board.Board.create.Goals as goal
 
@@ -44,14 +44,14 @@ invariant_of-self-2 c =
     let next_barriers = c.bind.ensures.stands own (suc (tasks_created own)) m p desc st.barriers (create_binds b m p c.child_is_odd-odd.result own c.self.invariant.members low current parity st) in
     let longer = c.push_reserved.ensures.items ∙ ap (λ (es : List Event). es ++ Create t m p desc ∷ []) c.reserve_task.ensures.history in
     let more = c.put.ensures.ids ∙ ap (λ (ids : List ℕ). ids ++ t ∷ []) (ap (λ (v : ReadyView). v.ids) c.reserve_task.ensures.ready) in
-    let capacity = c.push_reserved.ensures.capacity in let len = c.len.ensures in let items = c.self.inside.history.ok.0 in let room = c.self.invariant.room in
+    let capacity = c.push_reserved.ensures.capacity in
     let space = at_ok c.reserve_task.result _ (sym c.is_err.ensures.value ∙ c.if-is_err.false) c.reserve_task.ensures.space in
     board_asked _ _ 3 b (Create t m p desc) c.self.invariant (create_owes (members_of b) m t p desc own (rule_of b own c.self.invariant.members st)) _ longer
     (created_stands b c.push_reserved.new.self.items (c.self.inside.room + 3) c.create-task.new.self c.create.new.self c.bind.new.self c.put.new.self.ids t m p desc own longer more number
     (subst (λ (q : Task). TasksStand c.create-task.new.self (Create t m q desc ∷ own)) (sym current) next)
     (subst (λ (n : ℕ). GroupsStand c.create.new.self (Create n m p desc ∷ own)) (sym number) next_groups)
     (subst (λ (n : ℕ). BarriersStand c.bind.new.self (Create n m p desc ∷ own)) (sym number) next_barriers) st)
-    (members_with b _ c.self.invariant.members refl (c.create-task.ensures.members ∙ same_tasks) (c.create.ensures.members ∙ same_groups) c.bind.ensures.members) refl refl refl (omega (arith, capacity, len, items, room, space))
+    (members_with b _ c.self.invariant.members refl (c.create-task.ensures.members ∙ same_tasks) (c.create.ensures.members ∙ same_groups) c.bind.ensures.members) refl refl refl (omega (arith, capacity, space))
 
 pub returns : goal.returns
 returns c =
@@ -85,5 +85,5 @@ returns c =
           (subst (λ (n : ℕ). GroupsStand c.create.new.self (Create n m p desc ∷ h)) (sym number) next_groups)
           (subst (λ (n : ℕ). BarriersStand c.bind.new.self (Create n m p desc ∷ h)) (sym number) next_barriers) st in
           rw (← number, ← current) stands)
-          (ap (λ (v : BoardView). v.limits) c.self.view_is) (ap (λ (n : ℕ). n + 3) room) (ap (λ (v : BoardView). v.kept) c.self.view_is ∙ sym (set_same now.kept m));
+          (ap (λ (v : BoardView). v.limits) c.self.view_is) (ap (λ (n : ℕ). n + 3) room) (ap (λ (v : BoardView). v.kept) c.self.view_is ∙ sym (set_same now.kept m)) (λ wait goes. absurd (cc));
     }

@@ -1,5 +1,4 @@
-use Rattle.std.proofs.Common.{◌≡◌, ◌<◌, ◌∷◌, ◌++◌, ℕ, reverse, refl, sym, subst, ap, ◌∙◌, arith, true, List}
-use Rattle.gomp_types.specs.declared.event.Event.{Event}
+use Rattle.std.proofs.Common.{◌≡◌, ◌<◌, ◌∷◌, reverse, refl, sym, subst, ap, ◌∙◌, arith, true}
 use Rattle.gomp_types.specs.declared.event.Event.TheVariants.{Done}
 use Rattle.gomp_types.specs.declared.reply.Reply.TheVariants.{TaskDone}
 use Rattle.gomp_types.specs.declared.task.Task.{Task}
@@ -10,7 +9,7 @@ use Rattle.gomp_board.specs.Boards.{BoardView, Stands, members_of}
 use Rattle.gomp_board.specs.contracts.board.Board.{the_view}
 use Rattle.gomp_board.proofs.OwedKeeps.{end_owes}
 use Rattle.gomp_board.proofs.Performed.{op_performed}
-use Rattle.gomp_board.proofs.TaskEvents.{task_member, group_member, memory_for, board_after, members_with, rule_of, ended_stands, executed_open, set_same}
+use Rattle.gomp_board.proofs.TaskEvents.{group_member, memory_for, board_after, members_with, rule_of, ended_stands, executed_open, set_same}
 use Rattle.gomp_board.proofs.TaskSteps.{never_the_implicit_task, member_executes, end_releases}
 use Rattle.gomp_board.proofs.board.Board.end_task.Goals as goal
 
@@ -77,5 +76,5 @@ returns c =
           let groups = c.complete.ensures.stands h m st.groups (record { member = group_member b m c.self.invariant.members low; current = current }) in
           let barriers = c.release.ensures.stands h t m st.barriers (end_releases b m t c.is_odd-odd.result h st current (c.is_odd-odd.ensures.value (Done t m ∷ h) next)) in
           ended_stands b c.push_reserved.new.self.items c.finish.new.self c.complete.new.self c.release.new.self t m h c.push_reserved.ensures.items current next groups barriers st)
-          (ap (λ (v : BoardView). v.limits) c.self.view_is) (omega (arith, room)) (ap (λ (v : BoardView). v.kept) c.self.view_is ∙ sym (set_same now.kept m));
+          (ap (λ (v : BoardView). v.limits) c.self.view_is) (omega (arith, room)) (ap (λ (v : BoardView). v.kept) c.self.view_is ∙ sym (set_same now.kept m)) (λ wait goes. absurd (cc));
     }

@@ -1,4 +1,4 @@
-use Rattle.std.proofs.Common.{◌≡◌, refl}
+use Rattle.std.proofs.Common.{refl}
 use Rattle.gomp_board.proofs.board.Board.end_task_refusal.Goals as goal
 
 pub returns : goal.returns

@@ -1,4 +1,4 @@
-use Rattle.std.proofs.Common.{◌≡◌, sym, subst, ap, ◌∙◌}
+use Rattle.std.proofs.Common.{sym, subst, ap, ◌∙◌}
 use Rattle.gomp_barrier.specs.declared.barriers.AtBarrier.{AtBarrier}
 use Rattle.gomp_board.specs.Boards.{BoardView, Stands, kept_by}
 use Rattle.gomp_board.proofs.RefusalOrder.{left_refusal, broken_refusal, own_refusal}

@@ -1,8 +1,8 @@
-use Rattle.std.proofs.Common.{◌≡◌, ◌<◌, ◌≤◌, ◌+◌, ◌∷◌, [], ◌++◌, ℕ, reverse, refl, sym, subst, ap, ◌∙◌, arith, true, List}
+use Rattle.std.proofs.Common.{◌≡◌, ◌<◌, ◌+◌, ◌∷◌, [], ◌++◌, ℕ, reverse, refl, sym, subst, ap, ◌∙◌, arith, List}
 use Rattle.gomp_types.specs.declared.event.Event.{Event}
 use Rattle.gomp_types.specs.declared.event.Event.TheVariants.{Group}
 use Rattle.gomp_types.specs.declared.reply.Reply.TheVariants.{Finished}
-use Rattle.gomp_groups.specs.Stands.{members_of as group_members, GroupsView}
+use Rattle.gomp_groups.specs.Stands.{members_of as group_members}
 use Rattle.gomp_board.specs.declared.op.Op.TheVariants.{OpenGroup}
 use Rattle.gomp_board.specs.Boards.{BoardView, Stands, members_of}
 use Rattle.gomp_board.specs.contracts.board.Board.{the_view}
@@ -21,11 +21,11 @@ invariant_of-self-2 c =
     let current = c.current-task.ensures.value own (subst (λ (v : BoardView). Stands v own) c.self.view_is st) in
     let next = c.open-group.ensures.stands own m groups (record { member = omega (arith, inside, same); current = sym current }) in
     let longer = c.push_reserved.ensures.items ∙ ap (λ (es : List Event). es ++ Group c.open-group.result m ∷ []) c.reserve_group.ensures.history in
-    let capacity = c.push_reserved.ensures.capacity in let len = c.len.ensures in let items = c.self.inside.history.ok.0 in let room = c.self.invariant.room in
+    let capacity = c.push_reserved.ensures.capacity in
     let space = at_ok c.reserve_group.result _ (sym c.is_err.ensures.value ∙ c.if-is_err.false) c.reserve_group.ensures.space in
     board_asked _ _ 2 b (Group c.open-group.result m) c.self.invariant (group_owes (members_of b) m c.open-group.result own (rule_of b own c.self.invariant.members st)) _ longer
     (opened_stands b c.push_reserved.new.self.items (c.self.inside.room + 2) c.open-group.new.self c.open-group.result m own c.self.invariant.members low longer (c.open-group.ensures.number own groups) next st)
-    (members_with b _ c.self.invariant.members refl refl (c.open-group.ensures.members ∙ same) refl) refl refl refl (omega (arith, capacity, len, items, room, space))
+    (members_with b _ c.self.invariant.members refl refl (c.open-group.ensures.members ∙ same) refl) refl refl refl (omega (arith, capacity, space))
 
 pub returns : goal.returns
 returns c =
@@ -43,5 +43,5 @@ returns c =
           let next = c.open-group.ensures.stands h m groups (record { member = omega (arith, inside, same); current = sym (c.current-task.ensures.value h now_st) }) in
           let number = c.open-group.ensures.number h groups in
           rw (← number) (opened_stands b c.push_reserved.new.self.items (c.self.inside.room + 2) c.open-group.new.self c.open-group.result m h c.self.invariant.members low longer number next st))
-          (ap (λ (v : BoardView). v.limits) c.self.view_is) (ap (λ (n : ℕ). n + 2) room) (ap (λ (v : BoardView). v.kept) c.self.view_is ∙ sym (set_same now.kept m));
+          (ap (λ (v : BoardView). v.limits) c.self.view_is) (ap (λ (n : ℕ). n + 2) room) (ap (λ (v : BoardView). v.kept) c.self.view_is ∙ sym (set_same now.kept m)) (λ wait goes. absurd (cc));
     }

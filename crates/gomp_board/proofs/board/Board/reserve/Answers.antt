@@ -1,10 +1,8 @@
 use Rattle.std.proofs.Common.{◌≡◌, ◌<◌, ◌+◌, ◌∙◌, ap, sym, subst, arith, refl}
-use Rattle.std.specs.Prelude.{ℕ, List}
+use Rattle.std.specs.Prelude.{ℕ}
 use Rattle.std.proofs.lemmas.List.{get_or_default}
-use Rattle.gomp_types.specs.declared.event.Event.{Event}
-use Rattle.gomp_types.specs.declared.reply.Reply.TheVariants.{Finished}
 use Rattle.gomp_board.specs.declared.op.Op.TheVariants.{Reserve}
-use Rattle.gomp_board.specs.Boards.{BoardView, Stands, IsAdmitted, HasSpare, members_of, kept_by}
+use Rattle.gomp_board.specs.Boards.{BoardView, IsAdmitted, HasSpare, members_of, kept_by}
 use Rattle.gomp_board.specs.contracts.board.Board.{the_view}
 use Rattle.gomp_board.proofs.Joined.{keeping_board}
 use Rattle.gomp_board.proofs.AdmittedArrivals.{reserve_stays_small}

@@ -1,5 +1,4 @@
-use Rattle.std.proofs.Common.{◌≡◌, ◌-◌, ◌<◌, List, length, reverse, sym, subst, ◌∙◌, arith}
-use Rattle.gomp_types.specs.declared.event.Event.{Event}
+use Rattle.std.proofs.Common.{◌-◌, reverse, sym, subst, ◌∙◌, arith}
 use Rattle.gomp_board.specs.Boards.{BoardView, Stands}
 use Rattle.gomp_board.specs.contracts.board.Board.{the_view}
 use Rattle.gomp_board.proofs.Startables.{ready_number_at, startable_at, none_at_end, none_ready_before, none_ready_at_all}

@@ -1,4 +1,4 @@
-use Rattle.std.proofs.Common.{◌≡◌, Some, None, Ok, Err, refl}
+use Rattle.std.proofs.Common.{◌≡◌, Some, Ok, Err, refl}
 use Rattle.std.specs.Prelude.{string_bytes, is_some}
 use Rattle.gomp_script.specs.declared.live.LiveLine.TheVariants.{NewTeam, NextStep}
 use Rattle.gomp_script.specs.LiveText.{read_live_line}

@@ -1,17 +1,17 @@
 use Rattle.std.proofs.Common.{◌≡◌, ◌-◌, ◌∙◌, Err, sym, rules, arith}
 use Rattle.std.proofs.lemmas.Grind.{common_steps}
 use Rattle.gomp_text.specs.Words.{words_of}
-use Rattle.gomp_script.specs.StepText.{payload_word, no_more_words}
+use Rattle.gomp_script.specs.StepText.{unsigned_of, no_more_words}
 use Rattle.gomp_script.proofs.PayloadLemmas.{words_end, word_fault, word_kept, words_done, ninth_word}
 use Rattle.gomp_script.proofs.parse.payload.payload_of.Goals as goal
 
 pub returns-in_default : goal.returns-in_default
 returns-in_default c = grind (arith, words_end)
 
-pub returns-in_err-payload_word : goal.returns-in_err-payload_word
-returns-in_err-payload_word c =
-    let why = c.in_err-payload_word.field-0.0 in
-    let fault : payload_word c.in-Some.word.now ≡ Err why = sym c.payload_word.ensures ∙ c.in_err-payload_word.was in
+pub returns-in_err-unsigned_of : goal.returns-in_err-unsigned_of
+returns-in_err-unsigned_of c =
+    let why = c.in_err-unsigned_of.field-0.0 in
+    let fault : unsigned_of c.in-Some.word.now ≡ Err why = sym c.unsigned_of.ensures ∙ c.in_err-unsigned_of.was in
     let given : c.from_residual.result ≡ Err why = search rules in
     let told = word_fault c.loop-i.payload c.loop-i._i c.in-Some.word.now (words_of c.in-Some.after.now) why c.loop-i-test.true fault in
     given ∙ sym told ∙ (rw c.in-Some.ensures.words at c.loop-i.invariant.read)

@@ -1,4 +1,4 @@
-use Rattle.std.proofs.Common.{sym, ◌∙◌, arith, refl}
+use Rattle.std.proofs.Common.{sym, ◌∙◌, arith}
 use Rattle.std.proofs.lemmas.List.{length-set}
 use Rattle.gomp_shares.specs.Calls.{CanClaim}
 use Rattle.gomp_types.proofs.Laws.{pieces_tile_the_share}

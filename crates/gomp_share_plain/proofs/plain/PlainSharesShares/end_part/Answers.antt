@@ -1,4 +1,3 @@
-use Rattle.std.proofs.Common.{refl}
 use Rattle.std.proofs.lemmas.List.{length-set}
 use Rattle.gomp_shares.specs.Calls.{CanEndPart}
 use Rattle.gomp_share_plain.proofs.Views.{own_seat, known_by}

@@ -1,4 +1,4 @@
-use Rattle.std.proofs.Common.{ap, arith, refl, ◌∙◌, sym}
+use Rattle.std.proofs.Common.{ap, arith, ◌∙◌, sym}
 use Rattle.std.specs.Prelude.{option_copied, is_some}
 use Rattle.gomp_types.proofs.Booleans.{some_of, and_left, and_right, is_equal}
 use Rattle.gomp_shares.specs.Calls.{CanHandOn}

@@ -1,4 +1,3 @@
-use Rattle.std.proofs.Common.{refl}
 use Rattle.std.proofs.lemmas.List.{length-set}
 use Rattle.gomp_shares.specs.Calls.{CanLeave}
 use Rattle.gomp_shares.proofs.AnswerRules.{leave_rule}

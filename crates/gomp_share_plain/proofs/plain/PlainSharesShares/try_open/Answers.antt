@@ -1,4 +1,4 @@
-use Rattle.std.proofs.Common.{◌≡◌, ◌<◌, ◌^◌, arith, rules, refl, ◌∙◌, sym, ap, subst, length, not, true, false}
+use Rattle.std.proofs.Common.{◌≡◌, ◌<◌, ◌^◌, arith, rules, ◌∙◌, sym, ap, subst, length, not, true, false}
 use Rattle.std.specs.Prelude.{option_copied, IsTrue}
 use Rattle.std.proofs.lemmas.List.{length-set}
 use Rattle.gomp_types.specs.Events.{has_room}

@@ -1,0 +1,96 @@
+// Tasks (#pragma omp task, taskwait, taskgroup, taskyield). The engine says which member executes which task,
+// and when: in its reply `run` at a barrier, a region's end, a taskwait or a taskgroup's end. Outside of
+// every region the thread executes a task at once, as with libgomp: the adapter makes a call of taskwait
+// behind it.
+#include "task.h"
+
+#include "message.h"
+#include "place.h"
+
+#include <stdlib.h>
+#include <string.h>
+
+// The flags of GOMP_task that change something; `untied` and `mergeable` do not.
+enum { FLAG_FINAL = 1 << 1, FLAG_DEPEND = 1 << 3, FLAG_PRIORITY = 1 << 4, FLAG_DETACH = 1 << 13 };
+
+static _Noreturn void end_clause_not_served(const struct context *context, const char *clause)
+{
+    static struct text text;
+    claim_end();
+    text_add(&text, "#pragma omp task with %s", clause);
+    place_add(context->address, &text);
+    end_not_served(text.bytes);
+}
+
+static void end_if_not_served(const struct context *context, bool if_clause, unsigned flags, int priority)
+{
+    if (flags & FLAG_DEPEND)
+        end_clause_not_served(context, "a depend clause");
+    if (flags & FLAG_DETACH)
+        end_clause_not_served(context, "a detach clause");
+    if (flags & FLAG_FINAL)
+        end_clause_not_served(context, "a final clause that is true");
+    if (!if_clause)
+        end_clause_not_served(context, "an if clause that is false");
+    if (flags & FLAG_PRIORITY && priority > 0)
+        end_clause_not_served(context, "a priority above 0");
+}
+
+// A task of the member's current one, with a copy of its data: by the program's function, if it has one.
+static struct task *task_make(struct context *context, void (*function)(void *), void *data,
+                              void (*copy)(void *, void *), size_t size, size_t alignment)
+{
+    const struct task *parent = context_task(context);
+    struct task *task = malloc(sizeof *task + size + alignment);
+    if (task == NULL)
+        end_by_fault("no memory for a task");
+    *task = (struct task){
+        .parent = parent != NULL ? parent->number : 0,
+        .creator = context->number,
+        .address = context->address,
+        .function = function,
+        .variables = context->variables,
+        .data = (void *)(((uintptr_t)task->bytes + alignment - 1) & ~(uintptr_t)(alignment - 1)),
+    };
+    if (copy != NULL)
+        copy(task->data, data);
+    else if (size > 0)
+        memcpy(task->data, data, size);
+    return task;
+}
+
+EXPORT void GOMP_task(void (*function)(void *), void *data, void (*copy)(void *, void *), long size,
+                      long alignment, bool if_clause, unsigned flags, void **depend, int priority,
+                      void *detach)
+{
+    struct context *context = ENTER();
+    (void)depend, (void)detach;
+    end_if_not_served(context, if_clause, flags, priority);
+    void *address = context->address;
+    struct task *task = task_make(context, function, data, copy, (size_t)size, (size_t)alignment);
+    context->address = address; // the copying may have called
+    context_call(context, (struct call){.kind = CALL_TASK, .task = task});
+    if (context->region == NULL)
+        context_call(context, (struct call){.kind = CALL_TASKWAIT});
+}
+
+// Executes the task that the member was given, up to its end.
+void task_execute(struct context *context)
+{
+    struct task *task = context_task(context);
+    struct variables variables = context->variables;
+    context->variables = task->variables;
+    task->function(task->data);
+    context->variables = variables;
+    context->address = task->address;
+    context_call(context, (struct call){.kind = CALL_TASK_END, .task = task});
+    free(task);
+}
+
+EXPORT void GOMP_taskwait(void) { context_call(ENTER(), (struct call){.kind = CALL_TASKWAIT}); }
+
+EXPORT void GOMP_taskgroup_start(void) { context_call(ENTER(), (struct call){.kind = CALL_GROUP}); }
+
+EXPORT void GOMP_taskgroup_end(void) { context_call(ENTER(), (struct call){.kind = CALL_GROUP_END}); }
+
+EXPORT void GOMP_taskyield(void) {}

@@ -1,0 +1,31 @@
+// E25 GroupOpen: a taskgroup in a task is left by longjmp, and then the task ends.
+// words: the end of #pragma omp task
+#include "../check.h"
+#include <setjmp.h>
+
+static int parts;
+
+__attribute__((noinline)) static void part(jmp_buf *back) {
+#pragma omp taskgroup
+    {
+        COUNT(parts);
+        longjmp(*back, 1);
+    }
+}
+
+__attribute__((noinline)) static void body(void) {
+    jmp_buf back;
+    if (!setjmp(back))
+        part(&back);
+}
+
+int main(void) {
+#pragma omp parallel
+    {
+#pragma omp single
+#pragma omp task
+        body();
+    }
+    CHECK(parts == 1, "%d parts", parts);
+    return told();
+}

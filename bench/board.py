@@ -1,0 +1,121 @@
+#!/usr/bin/env python3
+"""Times the board alone: nanoseconds a step, and bytes a task.
+
+It makes a folder outside the repository with copies of gomp_board and the crates below it and with one program, whose
+text is board/main.rt.txt, has it proved and built there by `rt run`, and runs it:
+
+tasks      one member creates so many tasks, and four members execute them at a barrier
+tree       a tree of so many tasks, each of which creates two children at most, waits for them and ends
+barriers   four members meet at so many barriers, and no task is created
+
+A step is one operation that the board answers, be it with a wait. The instructions and the memory are less those of a
+run with no task. `requested` is what was asked of malloc at the peak, with memory that is taken ahead; `resident` are the
+pages that the program has written at the end, when nothing is given back yet. Instructions and `requested` are valgrind's,
+and are left out without it, and for more than 100,000, where it takes long.
+
+With one word, the path of a program that was built, it runs that one; with `--keep FOLDER` it builds in a folder that stays."""
+
+import os
+import re
+import shutil
+import subprocess
+import sys
+import tempfile
+
+BENCH = os.path.dirname(os.path.abspath(__file__))
+ROOT = os.path.dirname(BENCH)
+KINDS = [("tasks", (1_000, 10_000, 100_000)), ("tree", (1_000, 10_000, 100_000)), ("barriers", (10_000, 100_000, 1_000_000))]
+RUNS = 5
+MOST_COUNTED = 100_000
+SOURCES = ("src", "specs", "proofs")
+
+
+def crates_below(name):
+    """This crate of the repository and those that it stands on, with their lines of crates.txt."""
+    with open(os.path.join(ROOT, "crates.txt")) as file:
+        lines = dict(line.split(":", 1) for line in file if ":" in line and not line.startswith("#"))
+    found, wanted = {}, [name]
+    while wanted:
+        crate = wanted.pop()
+        if crate in lines and crate not in found:
+            found[crate] = lines[crate].strip()
+            wanted += lines[crate].split()
+    return found
+
+
+def build(folder):
+    """Proves and builds the program in this folder, which has nothing yet; where it lies."""
+    crates = crates_below("gomp_board")
+    for crate in crates:
+        for part in SOURCES:
+            source = os.path.join(ROOT, "crates", crate, part)
+            if os.path.isdir(source):
+                shutil.copytree(source, os.path.join(folder, "crates", crate, part))
+    own = os.path.join(folder, "crates", "board_work")
+    os.makedirs(os.path.join(own, "src"))
+    shutil.copy(os.path.join(BENCH, "board", "main.rt.txt"), os.path.join(own, "src", "main.rt"))
+    with open(os.path.join(folder, "crates.txt"), "w") as file:
+        file.writelines(f"{crate}: {below}\n" for crate, below in crates.items())
+        file.write("board_work: gomp_types gomp_board\n")
+    subprocess.run(["git", "init", "-q", folder], check=True)
+    done = subprocess.run(["rt", "run", "--", "tasks", "0"], cwd=own, stdin=subprocess.DEVNULL, capture_output=True, text=True)
+    if done.returncode != 0:
+        sys.exit(done.stdout + done.stderr)
+    return os.path.join(own, "out", "board_work")
+
+
+def run(program, kind, size):
+    """Nanoseconds, steps, and the bytes of memory that the program has written at the end of one run."""
+    with subprocess.Popen([program, kind, str(size)], stdin=subprocess.PIPE, stdout=subprocess.PIPE, text=True) as child:
+        steps, ended, passes, spent = map(int, child.stdout.readline().split())
+        with open(f"/proc/{child.pid}/status") as file:
+            written = int(re.search(r"RssAnon:\s+(\d+) kB", file.read())[1]) * 1024
+        child.stdin.close()
+    expected = (0, 4 * size) if kind == "barriers" else (size, 4)
+    if child.returncode != 0 or (ended, passes) != expected:
+        sys.exit(f"{kind} {size}: {ended} tasks ended, {passes} barriers passed, status {child.returncode}")
+    return spent, steps, written
+
+
+def counted(program, kind, size):
+    """Instructions, and bytes asked of malloc at the peak, as valgrind counts them."""
+    with tempfile.NamedTemporaryFile("r") as file:
+        for tool, pattern in (("callgrind", r"^summary: (\d+)"), ("massif", r"^mem_heap_B=(\d+)")):
+            command = ["valgrind", f"--tool={tool}", f"--{tool}-out-file={file.name}", program, kind, str(size)]
+            subprocess.run(command, stdin=subprocess.DEVNULL, capture_output=True, check=True)
+            with open(file.name) as found:
+                yield max(map(int, re.findall(pattern, found.read(), re.M)))
+
+
+def row(program, kind, size, none):
+    """Prints the best of some runs; `none` is what a run with no task has."""
+    spent, steps, written = (min(each) for each in zip(*(run(program, kind, size) for _ in range(RUNS))))
+    line = f"{kind:9} {size:8} {steps:8} {spent / steps:8.0f} {(written - none[0]) / size:9.0f}"
+    if len(none) > 1 and size <= MOST_COUNTED:
+        instructions, asked = counted(program, kind, size)
+        line += f" {(asked - none[2]) / size:10.0f} {(instructions - none[1]) / steps:13.0f}"
+    print(line, flush=True)
+
+
+def measure(program):
+    none = [min(run(program, "tasks", 0)[2] for _ in range(RUNS))]
+    if shutil.which("valgrind"):
+        none += counted(program, "tasks", 0)
+    print("work          size    steps  ns/step  resident  requested  instr./step")
+    for kind, sizes in KINDS:
+        for size in sizes:
+            row(program, kind, size, none)
+
+
+def main():
+    if len(sys.argv) > 2 and sys.argv[1] == "--keep":
+        measure(build(sys.argv[2]))
+    elif len(sys.argv) > 1:
+        measure(sys.argv[1])
+    else:
+        with tempfile.TemporaryDirectory() as folder:
+            measure(build(folder))
+
+
+if __name__ == "__main__":
+    main()

@@ -1,0 +1,124 @@
+-- What an operation does to a board: for each clause of its contract a board that it does not leave.
+use Rattle.std.proofs.Common.{◌≡◌, ℕ, ◌+◌, true, false, List, [], ◌∷◌, Some, None, length, refl, ap, arith}
+use Rattle.std.specs.Prelude.{map}
+use Rattle.gomp_types.specs.declared.limits.Limits.{Limits}
+use Rattle.gomp_types.specs.declared.refusal.Clash.{Clash}
+use Rattle.gomp_types.specs.declared.refusal.Place.TheVariants.{Stopped as AtStop}
+use Rattle.gomp_types.specs.declared.refusal.Refusal.TheVariants.{NotInTask, TraceFull, NoMemory}
+use Rattle.gomp_types.specs.declared.reply.Reply.{Reply}
+use Rattle.gomp_types.specs.declared.reply.Reply.TheVariants.{Finished, Passed, Wait, Stopped, Refused}
+use Rattle.gomp_types.specs.declared.event.Arrival.TheVariants.{Barrier}
+use Rattle.gomp_types.specs.declared.event.Event.{Event}
+use Rattle.gomp_types.specs.declared.event.Event.TheVariants.{Pass}
+use Rattle.gomp_types.specs.EventLists.{at}
+use Rattle.gomp_board.specs.declared.op.Op.{Op}
+use Rattle.gomp_board.specs.declared.op.Op.TheVariants.{Create as CreateTask, EndTask, AwaitChildren, OpenGroup, EndGroup, Arrive as ArriveAt, AwaitBarrier, Reserve, Put as PutWords, Got as GiveWords, Break as BreakAt}
+use Rattle.gomp_board.specs.Ops.{goes_on_waiting}
+use Rattle.gomp_board.specs.Boards.{BoardView, Stands, IsSame, Performs}
+use Rattle.gomp_board.specs.Examples.{seven, words}
+
+-- this board is not left by the first member's operation with this reply
+abbrev Leaves : Op → BoardView → BoardView → Reply → Type 0
+Leaves op board after reply = Performs op 0 board after reply → ⊥
+
+-- a board with one event more
+abbrev longer : BoardView → BoardView
+longer board = record board { history = Pass 0 0 ∷ board.history }
+
+never_longer : (board : BoardView) → (longer board).history ≡ board.history → ⊥
+never_longer board same = let size = ap (λ (events : List Event). length events) same in omega (arith, size)
+
+-- one for which more room was asked
+abbrev roomier : BoardView → BoardView
+roomier board = record board { room = board.room + 3 }
+
+-- one whose members keep this
+abbrev keeping : List ℕ → BoardView → BoardView
+keeping kept board = record board { kept = kept }
+
+-- The same board
+
+-- has no other history
+pub same_but_for_an_event : (board : BoardView) → IsSame board (longer board) → ⊥
+same_but_for_an_event board is = never_longer board is.history
+
+-- no more room
+pub same_but_for_room : (board : BoardView) → IsSame board (roomier board) → ⊥
+same_but_for_room board is = let room = is.room in omega (arith, room)
+
+-- its members keep no more
+pub same_but_for_what_is_kept : (board : BoardView) → IsSame (keeping (1 ∷ []) board) (keeping (2 ∷ []) board) → ⊥
+same_but_for_what_is_kept board is = absurd (let kept = is.kept in cc)
+
+-- and it is not broken, if the other is not
+pub same_but_for_a_break : (board : BoardView) (clash : Clash) (h : List Event) → Stands board h → board.clash ≡ None → IsSame board (record board { clash = Some clash }) → ⊥
+same_but_for_a_break board clash h st whole is = absurd (let now = (is.stands h st).clash in let before = st.clash in cc)
+
+-- Performed
+
+-- the answer is the operation's
+pub performed_with_another_answer : (board after : BoardView) (h : List Event) → Stands board h → Leaves (Reserve 2) board after Passed
+performed_with_another_answer board after h st does = absurd (let answer = (does.answer h st).1 in cc)
+
+-- its events are stored
+pub performed_without_its_event : (board : BoardView) (h : List Event) → Stands board h → Leaves (BreakAt AtStop) board board Stopped
+performed_without_its_event board h st does =
+    let now = ap (λ (events : List Event). length events) (does.stands h st).history in
+    let before = ap (λ (events : List Event). length events) st.history in
+    omega (arith, now, before)
+
+-- and no others in their place
+pub performed_with_another_event : (board : BoardView) (h : List Event) → Stands (record board { history = [] }) h →
+    Leaves (BreakAt AtStop) (record board { history = [] }) (record board { history = Pass 0 0 ∷ [] }) Stopped
+performed_with_another_event board h st does = absurd (let now = (does.stands h st).history in cc)
+
+-- the limits stay
+pub performed_with_other_limits : (board : BoardView) → Leaves AwaitChildren board (record board { limits = record board.limits { tasks = board.limits.tasks + 1 } }) Passed
+performed_with_other_limits board does = let tasks = ap (λ (limits : Limits). limits.tasks) does.limits in omega (arith, tasks)
+
+-- so does the number of members
+pub performed_with_another_member : (board : BoardView) → Leaves AwaitChildren board (keeping (0 ∷ board.kept) board) Passed
+performed_with_another_member board does = let members = does.members in omega (arith, members)
+
+-- the room that it asks for is taken
+pub performed_without_its_room : (board : BoardView) → Leaves OpenGroup board board Finished
+performed_without_its_room board does = let room = does.room in omega (arith, room)
+
+-- unless it is refused
+pub refused_with_its_room : (board : BoardView) → Leaves (CreateTask seven) board (roomier board) (Refused NoMemory)
+refused_with_its_room board does = let room = does.room in omega (arith, room)
+
+-- what it keeps is kept
+pub performed_without_keeping : (board : BoardView) → Leaves (Reserve 2) (keeping (3 ∷ []) board) (keeping (3 ∷ []) board) Finished
+performed_without_keeping board does = absurd (let kept = does.kept in cc)
+
+-- by its member alone
+pub performed_keeping_for_another : (board : BoardView) → Leaves (Reserve 2) (keeping (3 ∷ 3 ∷ []) board) (keeping (3 ∷ 5 ∷ []) board) Finished
+performed_keeping_for_another board does = absurd (let kept = does.kept in cc)
+
+-- unless it is refused
+pub refused_and_kept : (board : BoardView) → Leaves (Reserve 2) (keeping (3 ∷ []) board) (keeping (5 ∷ []) board) (Refused NoMemory)
+refused_and_kept board does = absurd (let kept = does.kept in cc)
+
+-- a refusal changes nothing, be it of a test or want of memory
+pub refused_and_changed : (board : BoardView) → Leaves EndTask board (longer board) (Refused NotInTask) × Leaves OpenGroup board (longer board) (Refused TraceFull) × Leaves OpenGroup board (longer board) (Refused NoMemory)
+refused_and_changed board = (
+  λ does. never_longer board (does.same NotInTask refl (λ e. absurd (cc))).history,
+  λ does. never_longer board (does.same TraceFull refl (λ e. absurd (cc))).history,
+  λ does. never_longer board (does.same NoMemory refl (λ e. absurd (cc))).history,
+)
+
+-- nor does a wait that goes on
+pub waited_and_changed : (board : BoardView) → Leaves AwaitChildren board (longer board) Wait × Leaves EndGroup board (longer board) Wait × Leaves AwaitBarrier board (longer board) Wait
+waited_and_changed board = (
+  λ does. never_longer board (ap (λ (b : BoardView). b.history) (does.waits refl refl)),
+  λ does. never_longer board (ap (λ (b : BoardView). b.history) (does.waits refl refl)),
+  λ does. never_longer board (ap (λ (b : BoardView). b.history) (does.waits refl refl)),
+)
+
+-- these three go on with a wait, and no other operation
+pub operations_that_go_on :
+    map goes_on_waiting
+    (CreateTask seven ∷ EndTask ∷ AwaitChildren ∷ OpenGroup ∷ EndGroup ∷ ArriveAt (at Barrier 0) ∷ AwaitBarrier ∷ Reserve 4 ∷ PutWords 3 words ∷ GiveWords 3 words ∷ BreakAt AtStop ∷ [])
+    ≡ false ∷ false ∷ true ∷ false ∷ true ∷ false ∷ true ∷ false ∷ false ∷ false ∷ false ∷ []
+operations_that_go_on = refl

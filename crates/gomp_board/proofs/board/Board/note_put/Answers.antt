@@ -1,0 +1,42 @@
+use Rattle.std.proofs.Common.{◌≡◌, ◌<◌, ◌%◌, ◌∷◌, ap, ◌∙◌, sym, subst, refl}
+use Rattle.std.specs.Prelude.{ℕ, List, Option, Some, reverse, slice_set}
+use Rattle.std.proofs.lemmas.List.{get_or_default}
+use Rattle.gomp_types.specs.declared.limits.TheConstants.{OPEN_SHARES}
+use Rattle.gomp_types.specs.declared.event.Event.TheVariants.{Put}
+use Rattle.gomp_board.specs.declared.payloads.Put.{Put as Kept}
+use Rattle.gomp_board.specs.Ops.{words_ask, words_keep}
+use Rattle.gomp_board.specs.Payloads.{PayloadsStand}
+use Rattle.gomp_board.specs.Boards.{BoardView, HasSpare, members_of, kept_by}
+use Rattle.gomp_board.specs.contracts.board.Board.{the_view}
+use Rattle.gomp_board.proofs.Joined.{stands_too}
+use Rattle.gomp_board.proofs.OwedKeeps.{put_owes}
+use Rattle.gomp_board.proofs.PayloadsKeep.{payloads_with}
+use Rattle.gomp_board.proofs.WordsNoted.{words_fit, words_board, put_words_stand}
+use Rattle.gomp_board.proofs.board.Board.note_put.Goals as goal
+
+pub push_reserved-requires : goal.push_reserved-requires
+push_reserved-requires c =
+    let low = subst (λ (v : BoardView). c.args.member < members_of v) (sym c.self.view_is) c.requires.member in
+    let spare = subst (λ (v : BoardView). HasSpare (words_ask (kept_by c.args.member v)) v) (sym c.self.view_is) c.requires.spare in
+    rw c.self.inside.history.ok.0 (words_fit _ c.args.member _ c.self.invariant low spare)
+
+pub invariant_of-self : goal.invariant_of-self
+invariant_of-self c =
+    let b = the_view c.self.inside in let m = c.args.member in let own = reverse b.history in let st = c.self.invariant.stands in
+    let low = subst (λ (v : BoardView). m < members_of v) (sym c.self.view_is) c.requires.member in
+    let spare = subst (λ (v : BoardView). HasSpare (words_ask (kept_by m v)) v) (sym c.self.view_is) c.requires.spare in
+    let kept : c.words_keep.result ≡ words_keep (kept_by m b) = c.words_keep.ensures ∙ ap words_keep (c.index.ensures ∙ get_or_default c.self.inside.kept.items m _ 0 low) in
+    let placed : c.put.new.self ≡ slice_set b.payloads (c.args.share % OPEN_SHARES) (Some (record { share = c.args.share; words = c.args.words })) =
+    c.put.ensures ∙ ap (λ (words : List ℕ). slice_set b.payloads (c.args.share % OPEN_SHARES) (Some (record { share = c.args.share; words = words }))) c.copied.ensures in
+    let next = subst (λ (places : List (Option Kept)). PayloadsStand places (Put c.args.share m c.args.words ∷ own)) (sym placed) (payloads_with b.payloads c.args.share m c.args.words own st.payloads) in
+    words_board _ m b c.self.invariant low spare _ _ (Put c.args.share m c.args.words) (put_owes (members_of b) c.args.share m c.args.words own) c.push_reserved.ensures.items
+    (put_words_stand b _ _ _ c.args.share m c.args.words own c.push_reserved.ensures.items next st) (ap (λ (n : ℕ). slice_set b.kept m n) kept) refl refl refl refl refl c.push_reserved.ensures.capacity
+
+pub returns-clause-stands : goal.returns-clause-stands
+returns-clause-stands c = λ h now_st.
+    let b = the_view c.self.inside in let m = c.args.member in
+    let st = stands_too _ _ h c.self.view_is now_st in
+    let placed : c.put.new.self ≡ slice_set b.payloads (c.args.share % OPEN_SHARES) (Some (record { share = c.args.share; words = c.args.words })) =
+    c.put.ensures ∙ ap (λ (words : List ℕ). slice_set b.payloads (c.args.share % OPEN_SHARES) (Some (record { share = c.args.share; words = words }))) c.copied.ensures in
+    let next = subst (λ (places : List (Option Kept)). PayloadsStand places (Put c.args.share m c.args.words ∷ h)) (sym placed) (payloads_with b.payloads c.args.share m c.args.words h st.payloads) in
+    put_words_stand b _ _ _ c.args.share m c.args.words h c.push_reserved.ensures.items next st

@@ -1,0 +1,97 @@
+//! What a team asks its board before it makes a call: its barriers, why it is broken, and which of
+//! the tests of a call hold. OpenMP API 5.2, chapter 12 and sections 15.3 to 15.5.
+
+ghost use Rattle.std.specs.Prelude.{◌≡◌, ◌<◌, List};
+ghost use Rattle.gomp_types.specs.declared.event.Event.{Event};
+ghost use Rattle.gomp_types.specs.Least.{least};
+ghost use Rattle.gomp_types.specs.TaskCalls.{outside_tasks_tests, group_open_tests, create_tests, end_task_tests, end_group_tests, room_tests};
+ghost use Rattle.gomp_barrier.specs.Stands.{members_of as barrier_members};
+ghost use Rattle.gomp_board.specs.Boards.{Stands, members_of};
+
+use crate::board::Board;
+use crate::refusals::first;
+use gomp_barrier::Barriers;
+use gomp_types::{Clash, Limits, Refusal};
+
+impl Board {
+    /// The team's barriers: who has arrived where.
+    pub fn barriers(&self) -> &Barriers
+        ensures value { result.now ≡ self.now.barriers }
+        ensures members { barrier_members result.now ≡ members_of self.now }
+    {
+        &self.barriers
+    }
+
+    /// By whom and where the team was broken, if it was.
+    pub fn clash(&self) -> Option<Clash>
+        ensures value { result ≡ self.now.clash }
+    {
+        self.clash
+    }
+
+    /// The team's limits, none above the standard one.
+    pub fn limits(&self) -> Limits
+        ensures value { result ≡ self.now.limits }
+    {
+        self.limits
+    }
+
+    /// Why the member, numbered from 0, does not make a call that no explicit task makes:
+    /// `InsideTask` if it executes one (OpenMP API 5.2, section 17.1).
+    pub fn inside_task_refusal(&self, member: u16) -> Option<Refusal>
+        requires member { member < members_of self.now }
+        ensures value { (h : List Event) → Stands self.now h →
+            result ≡ least (outside_tasks_tests member h) }
+    {
+        first(self.in_task(member), Refusal::InsideTask, None)
+    }
+
+    /// Why it does not end the region: `GroupOpen` if the task that it executes has a group open.
+    pub fn group_open_refusal(&self, member: u16) -> Option<Refusal>
+        requires member { member < members_of self.now }
+        ensures value { (h : List Event) → Stands self.now h →
+            result ≡ least (group_open_tests member h) }
+    {
+        first(self.has_group_open(member), Refusal::GroupOpen, None)
+    }
+
+    /// Why it does not create a task: `TooDeep` if the task that it executes lies as deep as a task
+    /// may, `TooManyTasks` if the team has created as many as its limits allow (section 12.5).
+    pub fn creation_refusal(&self, member: u16) -> Option<Refusal>
+        requires member { member < members_of self.now }
+        ensures value { (h : List Event) → Stands self.now h →
+            result ≡ least (create_tests self.now.limits member h) }
+    {
+        let many = first(self.has_all_tasks(), Refusal::TooManyTasks, None);
+        first(self.is_deepest(member), Refusal::TooDeep, many)
+    }
+
+    /// Why it does not end a task: `NotInTask` if it executes none, `GroupOpen` if that has a group
+    /// open.
+    pub fn task_end_refusal(&self, member: u16) -> Option<Refusal>
+        requires member { member < members_of self.now }
+        ensures value { (h : List Event) → Stands self.now h →
+            result ≡ least (end_task_tests member h) }
+    {
+        let open = self.group_open_refusal(member);
+        first(!self.in_task(member), Refusal::NotInTask, open)
+    }
+
+    /// Why it does not end a group: `NoGroup` if the task that it executes has none open (section
+    /// 15.4).
+    pub fn group_end_refusal(&self, member: u16) -> Option<Refusal>
+        requires member { member < members_of self.now }
+        ensures value { (h : List Event) → Stands self.now h →
+            result ≡ least (end_group_tests member h) }
+    {
+        first(!self.has_group_open(member), Refusal::NoGroup, None)
+    }
+
+    /// Why no room is asked for so many events more: `TraceFull` if the team's limit does not allow
+    /// it. There is always room for none.
+    pub fn room_refusal(&self, more: u32) -> Option<Refusal>
+        ensures value { result ≡ least (room_tests self.now.limits self.now.room more) }
+    {
+        first(self.lacks_room(more), Refusal::TraceFull, None)
+    }
+}

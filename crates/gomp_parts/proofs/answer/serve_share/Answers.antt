@@ -1,0 +1,36 @@
+use Rattle.std.proofs.Common.{◌<◌, ℕ, subst}
+use Rattle.gomp_model.specs.Calls.{row_of}
+use Rattle.gomp_parts.specs.Serves.{asked_once, KeepsMore}
+use Rattle.gomp_parts.proofs.ShareRows.{call_is_share_row, ready_in_place}
+use Rattle.gomp_parts.proofs.Reserved.{reserve_fine, no_room_answers}
+use Rattle.gomp_parts.proofs.Answered.{share_answers}
+use Rattle.gomp_parts.proofs.answer.serve_share.Goals as goal
+
+pub keep_room-requires-clause-admitted : goal.keep_room-requires-clause-admitted
+keep_room-requires-clause-admitted g c = λ much.
+    let is = call_is_share_row c.args.call.now c.requires.served in
+    let asked = c.asked_once.ensures in
+    let (h, st, fine) = reserve_fine g.S.Shares.stands c.args.shares.now (row_of c.args.call.now) is c.args.repeated c.args.member c.args.board.now c.requires.ready (subst (λ (n : ℕ). 0 < n) asked much) in
+    (h, st, rw asked fine)
+
+pub returns-then-not-keep_room-clause-answers : goal.returns-then-not-keep_room-clause-answers
+returns-then-not-keep_room-clause-answers g c =
+    let is = call_is_share_row c.args.call.now c.requires.served in
+    let (much, same, limits) = c.keep_room.ensures.lacks c.if-not-keep_room.true in
+    no_room_answers g.S.Shares.stands c.args.shares.now (row_of c.args.call.now) is c.args.repeated c.args.member c.args.board.now c.keep_room.new.board (subst (λ (n : ℕ). 0 < n) c.asked_once.ensures much) same limits
+
+pub share_reply-requires-clause-place : goal.share_reply-requires-clause-place
+share_reply-requires-clause-place g c =
+    let is = call_is_share_row c.args.call.now c.requires.served in
+    let (p, parts, ready) = c.requires.ready in
+    (p.terms.limits, rw (g.met.S.Shares.agrees c.args.shares.now p.events c.args.member parts.shares_are c.requires.member) (ready_in_place (row_of c.args.call.now) is c.args.repeated c.args.member c.args.board.now p ready))
+
+pub share_reply-requires-clause-known : goal.share_reply-requires-clause-known
+share_reply-requires-clause-known g c = let (p, parts, ready) = c.requires.ready in (p.events, parts.shares_are)
+
+pub returns-clause-answers : goal.returns-clause-answers
+returns-clause-answers g c =
+    let is = call_is_share_row c.args.call.now c.requires.served in
+    let more = subst (λ (n : ℕ). KeepsMore n c.args.member c.args.board.now c.keep_room.new.board) c.asked_once.ensures (c.keep_room.ensures.kept c.if-not-keep_room.false) in
+    share_answers (g.S.Shares.stands c.args.shares.now) g.S.Shares.stands (g.S.Shares.members c.args.shares.now) c.args.shares.now c.share_reply.new.shares (row_of c.args.call.now) c.args.repeated c.args.member c.args.board.now c.keep_room.new.board c.share_reply.result c.requires.team is.fits
+    c.requires.ready more (λ p parts. parts.shares_are) c.share_reply.ensures.serves c.share_reply.ensures.events

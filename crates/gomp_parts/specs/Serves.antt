@@ -1,0 +1,122 @@
+-- What each part promises of a call that the parts answer together: the shares of theirs, the board of an operation on it. (own; OpenMP API 5.2, chapters 11, 12 and 15, section 5.7.2)
+use Rattle.std.specs.Prelude.{ℕ, ◌+◌, ◌≡◌, ◌≢◌, Bool, true, false, List, [], ◌∷◌, ◌++◌, Option, Some, None}
+use Rattle.gomp_types.specs.declared.call.Call.{Call}
+use Rattle.gomp_types.specs.declared.call.Call.TheVariants.{LoopStart, LoopNext, LoopEndNowait, SectionsStart, SectionsNext, SectionsEndNowait, SingleStart, OrderedStart, OrderedEnd, TaskCreate, TaskEnd, Taskwait, GroupStart, GroupEnd, Stop}
+use Rattle.gomp_types.specs.declared.event.Event.{Event}
+use Rattle.gomp_types.specs.declared.event.Event.TheVariants.{Enter}
+use Rattle.gomp_types.specs.declared.event.Tag.{Tag}
+use Rattle.gomp_types.specs.declared.refusal.Place.TheVariants.{Stopped}
+use Rattle.gomp_types.specs.declared.refusal.Refusal.{Refusal}
+use Rattle.gomp_types.specs.declared.reply.Reply.{Reply}
+use Rattle.gomp_types.specs.declared.reply.Reply.TheVariants.{Finished, Wait, Copied, Refused}
+use Rattle.gomp_types.specs.declared.shape.Shape.{Shape}
+use Rattle.gomp_types.specs.Least.{least}
+use Rattle.gomp_shares.specs.Starts.{leaves}
+use Rattle.gomp_model.specs.Past.{Past}
+use Rattle.gomp_model.specs.Row.{Row, unless_repeated, begun_past, MayReply, given_after, MayGoOn}
+use Rattle.gomp_board.specs.declared.op.Op.{Op}
+use Rattle.gomp_board.specs.declared.op.Op.TheVariants as ops
+use Rattle.gomp_board.specs.Stored.{IsAside}
+use Rattle.gomp_board.specs.Boards.{BoardView, Stands as BoardStands, Performs, members_of, kept_by}
+
+-- Room
+
+-- this room, unless the call is repeated: then it was asked for
+abbrev pub asked_once : Bool → ℕ → ℕ
+asked_once true room = 0
+asked_once false room = room
+
+-- whether a reply says that the call is done
+abbrev pub is_finished : Reply → Bool
+is_finished Finished = true
+is_finished _ = false
+
+-- the board keeps so much more room of a member
+pub record KeepsMore (more m : ℕ) (board after : BoardView) : Type 0 where
+  pub stands : (h : List Event) → BoardStands board h → BoardStands after h
+  pub members : members_of after ≡ members_of board
+  pub limits : after.limits ≡ board.limits
+  pub room : after.room ≡ board.room + more
+  pub own : kept_by m after ≡ kept_by m board + more
+  pub others : (k : ℕ) → k ≢ m → kept_by k after ≡ kept_by k board
+  pub nothing : more ≡ 0 → after ≡ board
+
+-- Operations on the board
+
+-- an arrival with this tag, or the wait after it
+abbrev pub arrival_op : Bool → Tag → Op
+arrival_op true tag = ops.AwaitBarrier
+arrival_op false tag = ops.Arrive tag
+
+-- the end of a group, or the wait for its tasks that goes on
+abbrev pub group_op : Bool → Op
+group_op true = ops.AwaitGroup
+group_op false = ops.EndGroup
+
+-- how the board alone answers a call, if it does
+abbrev pub board_op : Bool → Call → Option Op
+board_op repeated (TaskCreate desc) = Some (ops.Create desc)
+board_op repeated TaskEnd = Some ops.EndTask
+board_op repeated Taskwait = Some ops.AwaitChildren
+board_op repeated GroupStart = Some ops.OpenGroup
+board_op repeated GroupEnd = Some (group_op repeated)
+board_op repeated Stop = Some (ops.Break Stopped)
+board_op repeated _ = None
+
+-- the words that a reply gives a member are noted; another reply changes nothing
+abbrev pub NotesWords : ℕ → ℕ → Reply → BoardView → BoardView → Type 0
+NotesWords share m (Copied words) board after = (noted : Reply) × Performs (ops.Got share words) m board after noted
+NotesWords share m _ board after = after ≡ board
+
+-- Calls on the shares
+
+-- a call that the shares answer, with room for its share: no arrival, and no words
+abbrev pub of_shares : Call → Bool
+of_shares (LoopStart loop) = true
+of_shares LoopNext = true
+of_shares LoopEndNowait = true
+of_shares (SectionsStart count end_kind) = true
+of_shares SectionsNext = true
+of_shares SectionsEndNowait = true
+of_shares SingleStart = true
+of_shares (OrderedStart value) = true
+of_shares OrderedEnd = true
+of_shares _ = false
+
+-- an event that changes nothing for the board; an entry is this member's, into a share of this shape
+abbrev pub IsShareEvent : ℕ → Option Shape → Event → Type 0
+IsShareEvent m starts (Enter share n shape) = (n ≡ m) × (starts ≡ Some shape)
+IsShareEvent m starts event = IsAside event
+
+-- each of these
+abbrev pub AreShareEvents : ℕ → Option Shape → List Event → Type 0
+AreShareEvents m starts [] = Unit {0}
+AreShareEvents m starts (event ∷ earlier) = IsShareEvent m starts event × AreShareEvents m starts earlier
+
+-- its construct differs from no other member's, and if it is repeated it may go on
+pub record GoesOn (row : Row) (repeated : Bool) (m : ℕ) (p : Past) : Type 0 where
+  pub compared : least (row.compared repeated m p) ≡ None
+  pub waits : repeated ≡ true → MayGoOn row m
+
+-- of each past of a team of so many members for whose events the parts stand and in which the call goes on, this holds
+abbrev pub EachServed : (List Event → Type 0) → ℕ → Row → ℕ → (Bool → Past → Type 0) → Type 0
+EachServed stand members row m P = (repeated : Bool) (p : Past) → p.terms.members ≡ members → stand p.events → GoesOn row repeated m p → P repeated p
+
+-- what the shares promise of their reply to such a call, whether it is repeated or not, if the parts stand so before it
+pub record SharesServe {S : Type 0} (stand : List Event → Type 0) (stands : S → List Event → Type 0) (members : ℕ) (before after : S) (row : Row) (m : ℕ) (reply : Reply) : Type 0 where
+  -- a wait changes nothing
+  pub waits : reply ≡ Wait → after ≡ before
+  -- the reply is one that the row has, and no refusal
+  pub answer : EachServed stand members row m (λ repeated p. MayReply row repeated m p reply)
+  pub accepts : (repeated : Bool) (p : Past) (refusal : Refusal) → MayReply row repeated m p (Refused refusal) → ⊥
+  -- the shares stand for what it gives
+  pub stands_for : EachServed stand members row m (λ repeated p. stands after (given_after row repeated m p reply))
+
+-- the events of such a call and its reply change nothing for the board
+abbrev pub GivesShareEvents : Row → ℕ → Reply → Type 0
+GivesShareEvents row m reply =
+    (repeated : Bool) (p : Past) → AreShareEvents m row.starts (unless_repeated (row.begins m p) repeated) × AreShareEvents m row.starts (row.gives m (begun_past repeated row m p) reply)
+
+-- the events after a member has left its share, unless its call is repeated
+abbrev pub left_once : Bool → ℕ → List Event → List Event
+left_once repeated m h = unless_repeated (leaves m h) repeated ++ h

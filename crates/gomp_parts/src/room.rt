@@ -1,0 +1,82 @@
+//! The room for events that a call asks for.
+
+ghost use Rattle.std.specs.Prelude.{◌≡◌, ◌<◌, List, true, false, None};
+ghost use Rattle.gomp_types.specs.declared.event.Event.{Event};
+ghost use Rattle.gomp_model.specs.Calls.{row_of};
+ghost use Rattle.gomp_model.specs.Starts.{end_room};
+ghost use Rattle.gomp_board.specs.declared.op.Op.TheVariants.{Reserve};
+ghost use Rattle.gomp_board.specs.Ops.{op_refusal};
+ghost use Rattle.gomp_board.specs.Boards.{Stands as BoardStands, IsSame, members_of, kept_by};
+ghost use Rattle.gomp_parts.specs.Serves.{asked_once, is_finished, KeepsMore};
+
+use gomp_board::{Board, Op};
+use gomp_types::{Call, EndKind, Reply};
+
+/// The room that a task asks for: it is created, started and ended.
+const TASK_ROOM: u32 = 3;
+
+/// The room that a group asks for: it is opened and ended.
+const GROUP_ROOM: u32 = 2;
+
+/// The room that an arrival asks for: itself and the pass.
+const ARRIVAL_ROOM: u32 = 2;
+
+/// The room that words ask for: that they are put, or given to a member.
+const WORDS_ROOM: u32 = 1;
+
+/// For how many events the call asks room (own): for those of a task or a group, for an arrival at a
+/// barrier, and at the start of a construct for the barrier at its end, or for its words.
+pub(crate) fn room_asked(call: &Call) -> u32
+    ensures { result ≡ (row_of call.now).room }
+{
+    match call {
+        Call::LoopStart(desc) => end_room(desc.end_kind),
+        Call::SectionsStart { end_kind, .. } => end_room(*end_kind),
+        Call::SingleCopyStart => WORDS_ROOM,
+        Call::Barrier => ARRIVAL_ROOM,
+        Call::TaskCreate(_) => TASK_ROOM,
+        Call::GroupStart => GROUP_ROOM,
+        _ => 0,
+    }
+}
+
+/// The room for the arrival at a construct's end, if it has a barrier there.
+fn end_room(kind: EndKind) -> u32
+    ensures { result ≡ end_room kind }
+{
+    match kind {
+        EndKind::Wait => ARRIVAL_ROOM,
+        EndKind::Nowait => 0,
+    }
+}
+
+/// The same, if the call is not repeated: then its room was asked for.
+pub(crate) fn asked_once(repeated: bool, call: &Call) -> u32
+    ensures { result ≡ asked_once repeated (row_of call.now).room }
+{
+    if repeated { 0 } else { room_asked(call) }
+}
+
+/// Has the board keep so much more room of the member: whether it does. If there is no memory for
+/// it, nothing changes.
+pub(crate) fn keep_room(board: &mut Board, member: u16, more: u32) -> bool
+    requires member { member < members_of board.old }
+    requires admitted { 0 < more → (h : List Event) × BoardStands board.old h ×
+        (op_refusal board.old.limits board.old.room (kept_by member board.old)
+        member (Reserve more) h ≡ None) }
+    ensures kept { result ≡ true → KeepsMore more member board.old board.new }
+    ensures lacks { result ≡ false → (0 < more) × IsSame board.old board.new ×
+        (board.new.limits ≡ board.old.limits) }
+{
+    if more == 0 {
+        return true;
+    }
+    is_finished(&board.step(member, Op::Reserve(more)))
+}
+
+/// Whether the reply says that the call is done.
+fn is_finished(reply: &Reply) -> bool
+    ensures { result ≡ is_finished reply.now }
+{
+    matches!(reply, Reply::Finished)
+}

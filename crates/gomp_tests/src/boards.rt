@@ -1,0 +1,283 @@
+//! Boards called as a library: at every size an operation that asks for memory gets it, and one that was refused for want
+//! of memory is answered, when it is asked again, as if nothing had happened.
+
+ghost use Rattle.std.specs.Prelude.{◌≡◌, ◌<◌, IfOk};
+ghost use Rattle.gomp_types.specs.Limits.{IsTeamSize};
+ghost use Rattle.gomp_board.specs.Boards.{members_of};
+
+use crate::checks::{SIZES, same};
+use gomp_board::{Board, Op};
+use gomp_groups::Groups;
+use gomp_ready::Ready;
+use gomp_tasks::Tasks;
+use gomp_types::{Arrival, Limits, Payload, Refusal, Reply, Tag, TaskDesc};
+use std::alloc::{AllocError, Global};
+use std::process::Abort;
+use std::test::Fail;
+
+/// What a member asks of its board, and is answered.
+#[derive(Clone, Copy, Debug)]
+enum Ask {
+    /// It creates a task, the next one by its number.
+    Create,
+    /// It waits for its children, and is given one of them to execute.
+    Run,
+    /// It ends this one.
+    End,
+    /// It waits for its children, which are complete.
+    Children,
+    /// It opens a group.
+    Open,
+    /// It ends a group.
+    Close,
+    /// It puts the words of a single.
+    Put,
+    /// It is given them.
+    Got,
+    /// It keeps room for words.
+    Reserve,
+    /// It arrives, with this tag and before another member.
+    Arrive(Arrival),
+    /// It arrives, with this tag and after all others.
+    ArriveLast(Arrival),
+    /// It waits on, and passes.
+    WaitOn,
+}
+
+const CODE: u64 = 7;
+
+impl Ask {
+    /// The operation; `next` is the number of the next task.
+    fn op(self, next: u32) -> Op {
+        match self {
+            Ask::Create => Op::Create(TaskDesc {
+                code: CODE,
+                arg: next as u64,
+            }),
+            Ask::Run | Ask::Children => Op::AwaitChildren,
+            Ask::End => Op::EndTask,
+            Ask::Open => Op::OpenGroup,
+            Ask::Close => Op::EndGroup,
+            Ask::Put => Op::Put {
+                share: 0,
+                words: Payload::new(),
+            },
+            Ask::Got => Op::Got {
+                share: 0,
+                words: Payload::new(),
+            },
+            Ask::Reserve => Op::Reserve(1),
+            Ask::Arrive(kind) | Ask::ArriveLast(kind) => Op::Arrive(Tag { kind, shares: 0 }),
+            Ask::WaitOn => Op::AwaitBarrier,
+        }
+    }
+
+    /// The reply, without the number of a task that is run or ended: no rule says which of several is run.
+    fn reply(self, next: u32) -> Reply {
+        match self {
+            Ask::Create => Reply::Created(next),
+            Ask::Run => Reply::Run {
+                task: 0,
+                code: CODE,
+                arg: 0,
+                own: false,
+            },
+            Ask::End => Reply::TaskDone {
+                task: 0,
+                waiting: true,
+            },
+            Ask::Open | Ask::Put | Ask::Got | Ask::Reserve => Reply::Finished,
+            Ask::Arrive(_) => Reply::Wait,
+            Ask::Children | Ask::Close | Ask::ArriveLast(_) | Ask::WaitOn => Reply::Passed,
+        }
+    }
+}
+
+/// A reply without the number of a task that is run or ended. A task was created with its number as what it works on.
+fn without_number(reply: Reply) -> Reply {
+    match reply {
+        Reply::Run {
+            task,
+            code,
+            arg,
+            own,
+        } if arg == task as u64 => Reply::Run {
+            task: 0,
+            code,
+            arg: 0,
+            own,
+        },
+        Reply::TaskDone { waiting, .. } => Reply::TaskDone { task: 0, waiting },
+        reply => reply,
+    }
+}
+
+/// A board, the number of its next task, and how many refusals for want of memory it is forgiven.
+#[derive(Drop)]
+struct Trial {
+    board: Board,
+    members: u16,
+    next: u32,
+    forgiven: u32,
+    ghost size: { members_of board ≡ members },
+    ghost some: { 0 < members },
+}
+
+/// A new board. It is asked for again if it is forgiven that it had no memory.
+fn board_of(alloc: Global, members: u16, forgiven: u32) -> Result<Board, AllocError>
+    requires size { IsTeamSize members }
+    ensures members { IfOk result (λ board. members_of board ≡ members) }
+{
+    match Board::new(alloc, members, Limits::STANDARD) {
+        Err(_) if forgiven > 0 => Board::new(alloc, members, Limits::STANDARD),
+        board => board,
+    }
+}
+
+fn trial_of(alloc: Global, members: u16, forgiven: u32) -> Result<Trial, AllocError>
+    requires size { IsTeamSize members }
+{
+    let board = board_of(alloc, members, forgiven)?;
+    Ok(Trial {
+        board,
+        members,
+        next: 1,
+        forgiven,
+    })
+}
+
+impl Trial {
+    /// What the board answers, and answers again if it is forgiven that it had no memory: nothing has changed then.
+    fn answer(&mut self, rt: &impl Abort, member: u16, ask: Ask) -> Reply {
+        let member = member.min(self.members - 1);
+        let before = (self.board.current(member), self.board.history().len());
+        let reply = self.board.step(member, ask.op(self.next));
+        if self.forgiven == 0 || reply != Reply::Refused(Refusal::NoMemory) {
+            return reply;
+        }
+        self.forgiven -= 1;
+        let after = (self.board.current(member), self.board.history().len());
+        same(rt, &after, &before, "no memory for member", member as u64);
+        self.board.step(member, ask.op(self.next))
+    }
+
+    /// That the member asks this so many times, and is answered.
+    fn is_answered(&mut self, rt: &impl Abort, member: u16, asks: &[Ask], count: usize) {
+        for _ in 0..count {
+            for ask in asks {
+                let found = without_number(self.answer(rt, member, *ask));
+                let expected = ask.reply(self.next);
+                same(rt, &found, &expected, "answer to member", member as u64);
+                if matches!(ask, Ask::Create) {
+                    self.next = self.next.wrapping_add(1);
+                }
+            }
+        }
+    }
+
+    /// That all members arrive, and pass.
+    fn meet(&mut self, rt: &impl Abort, kind: Arrival) {
+        for member in 1..self.members {
+            self.is_answered(rt, member, &[Ask::Arrive(kind)], 1);
+        }
+        self.is_answered(rt, 0, &[Ask::ArriveLast(kind)], 1);
+        for member in 1..self.members {
+            self.is_answered(rt, member, &[Ask::WaitOn], 1);
+        }
+    }
+}
+
+/// What each member asks so many times, one member after another.
+const ASKS: &[&[Ask]] = &[
+    &[Ask::Create],
+    &[Ask::Run, Ask::End],
+    &[Ask::Children],
+    &[Ask::Open],
+    &[Ask::Close],
+    &[Ask::Put],
+    &[Ask::Got],
+    &[Ask::Reserve],
+    &[Ask::Put],
+];
+
+/// The stored events of a member, if all this, a barrier and the end of a share come so many times: of a task three, of a
+/// group two, of words three, and two at each meeting; and those at the region's end.
+fn events_of(count: usize) -> usize {
+    count.wrapping_mul(12).wrapping_add(2)
+}
+
+/// A team of this size asks all this so many times, meets at as many barriers and ends of shares, and leaves its region.
+fn region(
+    rt: &impl Abort,
+    alloc: Global,
+    members: u16,
+    count: usize,
+    forgiven: u32,
+) -> Result<Trial, AllocError>
+    requires size { IsTeamSize members }
+{
+    let mut trial = trial_of(alloc, members, forgiven)?;
+    for asks in ASKS {
+        for member in 0..members {
+            trial.is_answered(rt, member, *asks, count);
+        }
+    }
+    for _ in 0..count {
+        trial.meet(rt, Arrival::Barrier);
+        trial.meet(rt, Arrival::ShareEnd);
+    }
+    trial.meet(rt, Arrival::RegionEnd);
+    let stored = trial.board.history().len();
+    let expected = events_of(count).wrapping_mul(members as usize);
+    same(rt, &stored, &expected, "events of", count as u64);
+    Ok(trial)
+}
+
+/// That the parts of a board for so many members, and lists of so many ready tasks, are made.
+fn parts(rt: &impl Abort, alloc: Global, members: u16, count: usize) -> Result<(), AllocError> {
+    let mut tasks = Tasks::make(alloc, members)?;
+    tasks.reserve()?;
+    let mut groups = Groups::make(alloc, members)?;
+    groups.reserve_task()?;
+    groups.reserve_group()?;
+    let mut ready = Ready::new(alloc);
+    for _ in 0..count {
+        ready.reserve()?;
+        ready.put(1);
+    }
+    same(rt, &ready.len(), &count, "ready tasks", members as u64);
+    Ok(())
+}
+
+#[test]
+fn boards_give_up_nothing(rt: HostRuntime) -> Result<(), Fail> {
+    for count in SIZES {
+        region(&rt, rt.alloc(), 1, *count, 0)?;
+        parts(&rt, rt.alloc(), 1, *count)?;
+    }
+    for members in 1..=64 {
+        for count in 0..3 {
+            region(&rt, rt.alloc(), members, count, 0)?;
+        }
+        parts(&rt, rt.alloc(), members, 2)?;
+    }
+    for members in &[0, 65, 255, 256, 65_535] {
+        parts(&rt, rt.alloc(), *members, 0)?;
+    }
+    Ok(())
+}
+
+/// An operation that was refused memory is asked again, and at the end the board has the events that it has if no memory
+/// is refused. Here none is: the script `refuse-allocations` refuses each allocation in turn, in a run of its own.
+#[test]
+fn refused_memory_is_asked_for_again(rt: HostRuntime) -> Result<(), Fail> {
+    for members in [1, 3] {
+        for count in &[1, 70] {
+            let one = region(&rt, rt.alloc(), members, *count, 1)?;
+            let other = region(&rt, rt.alloc(), members, *count, 1)?;
+            let (one, other) = (one.board.history(), other.board.history());
+            same(&rt, &one, &other, "histories of", *count as u64);
+        }
+    }
+    Ok(())
+}
