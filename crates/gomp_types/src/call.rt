@@ -1,9 +1,11 @@
 //! What a member of a team asks.
 
 use crate::critical_name::CriticalName;
+use crate::depend::Deps;
 use crate::loop_desc::{EndKind, LoopDesc};
 use crate::payload::Payload;
 use crate::task::TaskDesc;
+use std::mem::size_of;
 
 /// One call of a member, in the form that does not wait: if it would, the answer is
 /// [`Reply::Wait`](crate::Reply::Wait), and `Resume` asks again.
@@ -87,9 +89,10 @@ pub enum Call {
     TaskCreate(TaskDesc),
     /// Ends the explicit task that the member executes.
     TaskEnd,
-    /// Waits for the children of the task that the member executes (OpenMP API 5.2, section 15.5;
-    /// libgomp's `GOMP_taskwait`).
-    Taskwait,
+    /// Waits for the children of the task that the member executes, with items for those of them that
+    /// a child with these items waits for (OpenMP API 5.2, section 15.5; libgomp's `GOMP_taskwait`
+    /// and `GOMP_taskwait_depend`).
+    Taskwait(Deps),
     /// Opens a group of tasks in that task (OpenMP API 5.2, section 15.4; libgomp's
     /// `GOMP_taskgroup_start`).
     GroupStart,
@@ -110,3 +113,6 @@ pub struct Step {
     /// What it asks.
     pub call: Call,
 }
+
+// A record has one for each step.
+const _: () = prove!(size_of::<Call>() <= 80);

@@ -1,0 +1,3 @@
+pub mod Calls
+pub mod Rows
+pub mod Stands
