@@ -1,0 +1,3 @@
+pub mod RowLists
+pub mod RowsKeep
+pub mod TaskFacts

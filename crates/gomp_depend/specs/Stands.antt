@@ -1,5 +1,5 @@
 -- When the counts of a team's tasks stand for a list of events. (own)
-use Rattle.std.specs.Prelude.{ℕ, ◌≡◌, ◌&&◌, not, Bool, true, false, if◌then◌else◌, List, [], ◌∷◌, ◌++◌}
+use Rattle.std.specs.Prelude.{ℕ, ◌≡◌, ◌==◌, ◌&&◌, not, Bool, true, false, if◌then◌else◌, List, [], ◌∷◌, ◌++◌}
 use Rattle.std.proofs.Common.{zero, suc}
 use Rattle.gomp_types.specs.declared.task.Task.{Task}
 use Rattle.gomp_types.specs.declared.task.Task.TheVariants.{Implicit}
@@ -29,7 +29,7 @@ task_parent t (_ ∷ earlier) = task_parent t earlier
 
 -- what the events say of a task: its count is the number of open tasks for which it waits
 abbrev pub row_of : ℕ → List Event → DependRow
-row_of t h = record { task = t; parent = task_parent t h; items = task_items t h; open = open_tasks (λ q. waits_for t q h) h }
+row_of t h = record { task = t; parent = task_parent t h; items = task_items t h; open_count = open_tasks (λ q. waits_for t q h) h }
 
 -- whether the task has a row: it has items, and is not complete
 abbrev pub has_row : ℕ → List Event → Bool

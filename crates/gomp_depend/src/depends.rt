@@ -5,7 +5,7 @@ ghost use Rattle.std.proofs.Common.{suc};
 ghost use Rattle.gomp_types.specs.declared.task.TaskDesc.{TaskDesc};
 ghost use Rattle.gomp_types.specs.declared.event.Event.{Event};
 ghost use Rattle.gomp_types.specs.declared.event.Event.TheVariants.{Create, Done};
-ghost use Rattle.gomp_types.specs.Tasks.{tasks_created, is_complete, open_tasks, all_complete};
+ghost use Rattle.gomp_types.specs.Tasks.{tasks_created, open_tasks, all_complete};
 ghost use Rattle.gomp_types.specs.Depends.{child_waits, is_free};
 ghost use Rattle.gomp_depend.specs.Stands.{Stands, IsOpen, has_items};
 ghost use Rattle.gomp_depend.specs.Calls.{rows_room};
@@ -68,15 +68,15 @@ impl Depends {
         self.count_named(parent, items) == 0
     }
 
-    /// Whether all tasks that the task with this number, from 1, waits for are complete. It is not
-    /// complete itself.
+    /// Whether all tasks that the task with this number, from 1, which is open, waits for are
+    /// complete.
     pub fn is_free(&self, task: u32) -> bool
         ensures known { (h : List Event) × Stands self.now h }
-        ensures value { (h : List Event) → Stands self.now h → is_complete task h ≡ false →
+        ensures value { (h : List Event) → Stands self.now h → IsOpen task h →
             result ≡ is_free task h }
     {
         match place_of(&self.rows, task) {
-            Some(place) => self.rows[place].open == 0,
+            Some(place) => self.rows[place].open_count == 0,
             None => true,
         }
     }
@@ -114,12 +114,12 @@ impl Depends {
         if items.as_slice().is_empty() {
             return;
         }
-        let open = count_named(&self.rows, parent, items.as_slice());
+        let open_count = count_named(&self.rows, parent, items.as_slice());
         self.rows.push_reserved(DependRow {
             task,
             parent,
             items,
-            open,
+            open_count,
         });
     }
 

@@ -1,10 +1,10 @@
 //! What is kept of an open task that has items.
 
-ghost use Rattle.std.specs.Prelude.{◌≡◌, map, length, None, IfSome, IfNone, slice_get, remove};
-ghost use Rattle.std.specs.List.{count_by};
+ghost use Rattle.std.specs.Prelude.{◌≡◌, map};
+ghost use Rattle.std.specs.List.{count_by, list_any, position_from};
 ghost use Rattle.gomp_types.specs.Tasks.{same_task};
-ghost use Rattle.gomp_types.specs.Depends.{items_wait};
-ghost use Rattle.gomp_depend.specs.Rows.{waits_for_row, lowered, row_of_task, without_task};
+ghost use Rattle.gomp_types.specs.Depends.{item_waits, items_wait};
+ghost use Rattle.gomp_depend.specs.Rows.{waits_for_row, lowered, is_row};
 
 use gomp_types::{Dep, Deps, Task};
 
@@ -18,15 +18,21 @@ pub struct DependRow {
     /// The items of its clause.
     pub items: Deps,
     /// How many of the tasks for which it waits are open.
-    pub open: usize,
+    pub open_count: usize,
+}
+
+/// Whether the item depends on one of these, which are of an earlier clause.
+fn depends_on_some(item: &Dep, old: &[Dep]) -> bool
+    ensures { result ≡ list_any (item_waits item.now) old.now }
+{
+    old.iter().any(|earlier| item.waits_for(earlier))
 }
 
 /// Whether an item of a clause depends on an item of an earlier one.
 fn items_wait(new: &[Dep], old: &[Dep]) -> bool
     ensures { result ≡ items_wait new.now old.now }
 {
-    new.iter()
-        .any(|item| old.iter().any(|earlier| item.waits_for(earlier)))
+    new.iter().any(|item| depends_on_some(item, old))
 }
 
 /// Whether both are one task.
@@ -54,10 +60,7 @@ pub(crate) fn count_named(rows: &[DependRow], parent: Task, items: &[Dep]) -> us
 
 /// The place of the task among these.
 pub(crate) fn place_of(rows: &[DependRow], task: u32) -> Option<usize>
-    ensures within { IfSome result (λ place. place < length rows.now) }
-    ensures found { IfSome result (λ place. row_of_task task rows.now ≡ slice_get rows.now place) }
-    ensures rest { IfSome result (λ place. without_task task rows.now ≡ remove rows.now place) }
-    ensures none { IfNone result (row_of_task task rows.now ≡ None) }
+    ensures { result ≡ position_from (is_row task) 0 rows.now }
 {
     rows.iter().position(|row| row.task == task)
 }
@@ -67,7 +70,7 @@ fn lower(row: &mut DependRow, done: &DependRow)
     ensures { row.new ≡ lowered done.now row.old }
 {
     if done.task < row.task && is_waited_for(done, row.parent, row.items.as_slice()) {
-        row.open = row.open.saturating_sub(1);
+        row.open_count = row.open_count.saturating_sub(1);
     }
 }
 

@@ -29,8 +29,8 @@ pub use depend::{Dep, DepKind, Deps};
 pub use event::{Arrival, Event, Tag};
 pub use key::Key;
 pub use limits::{
-    Limits, MAX_CHUNK, MAX_DEPENDS, MAX_MEMBERS, MAX_SECTIONS, MAX_TASK_DEPTH, MAX_TRIPS, OPEN_SHARES,
-    is_team_size,
+    Limits, MAX_CHUNK, MAX_DEPENDS, MAX_MEMBERS, MAX_SECTIONS, MAX_TASK_DEPTH, MAX_TRIPS,
+    OPEN_SHARES, is_team_size,
 };
 pub use lock::{Held, LockKind, MAX_COUNT, MAX_LOCKS};
 pub use loop_desc::{EndKind, LoopDesc, Sched, trips};
