@@ -1,15 +1,14 @@
 -- What the rows of tasks say, and which events they stand for. All is computed.
-use Rattle.std.proofs.Common.{◌≡◌, true, false, List, [], ◌∷◌, Some, None, refl, arith, rules}
+use Rattle.std.proofs.Common.{◌≡◌, true, false, [], ◌∷◌, Some, None, refl, rules}
 use Rattle.std.specs.Prelude.{map}
 use Rattle.gomp_types.specs.declared.task.Task.TheVariants.{Implicit, Explicit}
 use Rattle.gomp_types.specs.declared.depend.DepKind.TheVariants.{DepIn, DepOut}
 use Rattle.gomp_types.specs.declared.event.Event.TheVariants.{Create, Start, Done, Waited}
 use Rattle.gomp_types.specs.Laws.{Always}
-use Rattle.gomp_depend.specs.declared.rows.DependRow.{DependRow}
 use Rattle.gomp_depend.specs.Calls.{rows_room, IsAside}
 use Rattle.gomp_depend.specs.Rows.{waits_for_row, lowered, is_row, row_of_task, without_task}
-use Rattle.gomp_depend.specs.Stands.{has_items, task_parent, row_of, has_row, rows_up_to, rows_of, IsOpen, InOrder, RowsStand}
-use Rattle.gomp_depend.specs.Examples.{item, with_items, row_with, two_readers, two_writers, writer_done, five_rows, four_rows}
+use Rattle.gomp_depend.specs.Stands.{has_items, task_parent, row_of, has_row, rows_up_to, rows_of, InOrder, RowsStand}
+use Rattle.gomp_depend.specs.Examples.{item, with_items, row_with, two_writers, writer_done, five_rows, four_rows}
 
 -- Rows
 

@@ -14,9 +14,9 @@ use Rattle.gomp_types.specs.Depends.{kind_waits, item_waits, items_wait, task_it
 use Rattle.gomp_types.specs.Goals.{is_unstarted, is_ready, may_start, is_own, is_startable, some_startable, taskwait_met}
 use Rattle.gomp_types.specs.TaskRules.{TaskRule}
 use Rattle.gomp_types.specs.TaskLaws.{StartsAfterNamed, StartsItsOwn, WaitsForTasks}
-use Rattle.gomp_types.specs.TaskExamples.{after, Allows, Forbids, TaskLaw, StartedOnce, AfterNamed, OwnAlone, Waits, law_of, RefusedAlone, item, with_items, one_job, other_job, at_once, last_of_all, task_tree}
+use Rattle.gomp_types.specs.TaskExamples.{after, Allows, Forbids, TaskLaw, StartedOnce, AfterNamed, OwnAlone, Waits, law_of, RefusedAlone, item, with_items, one_job, other_job, at_once, last_of_all}
 use Rattle.gomp_types.proofs.Booleans.{is_equal}
-use Rattle.gomp_types.proofs.TaskLawExamples.{NoItems, starts_without_items}
+use Rattle.gomp_types.proofs.TaskLawExamples.{starts_without_items}
 
 -- Items
 

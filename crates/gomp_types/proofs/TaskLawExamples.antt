@@ -9,8 +9,8 @@ use Rattle.gomp_types.specs.declared.event.Arrival.TheVariants.{Barrier, RegionE
 use Rattle.gomp_types.specs.declared.event.Event.{Event}
 use Rattle.gomp_types.specs.declared.event.Event.TheVariants.{Create, Start, Done, Group, GroupEnd, Waited, Arrive, Pass}
 use Rattle.gomp_types.specs.EventLists.{at}
-use Rattle.gomp_types.specs.TaskLaws.{IsCreated, IsDone, CreatesOnce, CreatesInItsOwn, StartsOnce, StartsAfterNamed, StartsItsOwn, StartsDescendant, EndsItsOwn, WaitsForTasks, OpensOnce, EndsItsGroup, PassesAfterTasks, CreatesLater, EndsAfterTasks, TaskLaws, BoundIsDone}
-use Rattle.gomp_types.specs.TaskExamples.{after, Allows, Forbids, TaskLaw, CreatedOnce, CreatedIn, StartedOnce, AfterNamed, OwnAlone, Descendants, EndedOnce, Waits, OpenedOnce, GroupsEnded, Passes, Later, AtTheEnd, law_of, RefusedAlone, one_job, other_job, task_tree, child_ended, across_barrier, whole_region}
+use Rattle.gomp_types.specs.TaskLaws.{IsCreated, IsDone, CreatesOnce, CreatesInItsOwn, StartsOnce, StartsAfterNamed, StartsDescendant, EndsItsOwn, WaitsForTasks, OpensOnce, EndsItsGroup, PassesAfterTasks, CreatesLater, EndsAfterTasks, TaskLaws, BoundIsDone}
+use Rattle.gomp_types.specs.TaskExamples.{after, Allows, Forbids, TaskLaw, CreatedOnce, CreatedIn, StartedOnce, AfterNamed, Descendants, EndedOnce, Waits, OpenedOnce, GroupsEnded, Passes, Later, AtTheEnd, law_of, RefusedAlone, one_job, other_job, task_tree, child_ended, across_barrier, whole_region}
 use Rattle.gomp_types.specs.Tasks.{is_child}
 use Rattle.gomp_types.specs.Depends.{waits_for}
 use Rattle.gomp_types.proofs.Booleans.{and_false, not_both}
