@@ -1,7 +1,7 @@
 //! What is kept of an explicit task.
 
 ghost use Rattle.std.specs.Prelude.{◌≡◌};
-ghost use Rattle.gomp_tasks.specs.Rows.{desc_of};
+ghost use Rattle.gomp_tasks.specs.Rows.{unstarted_row};
 
 use gomp_types::{Task, TaskDesc};
 
@@ -9,7 +9,7 @@ use gomp_types::{Task, TaskDesc};
 #[derive(Clone, Copy, Debug, PartialEq, Eq)]
 pub enum TaskState {
     /// No member has started it.
-    Ready,
+    Unstarted,
     /// A member has started it, and not ended it.
     Running,
     /// It is complete.
@@ -29,6 +29,10 @@ pub struct TaskRow {
     pub depth: u8,
     /// Whether the number of the barrier to which it is bound is odd.
     pub odd: bool,
+    /// Whether its creator waits until it is done.
+    pub undeferred: bool,
+    /// Whether the tasks created in it are undeferred.
+    pub final_task: bool,
     /// The member that started it, if one has.
     pub runner: Option<u16>,
     /// What has become of it.
@@ -36,13 +40,35 @@ pub struct TaskRow {
 }
 
 impl TaskRow {
-    /// What was asked for when the task was created.
-    pub fn desc(&self) -> TaskDesc
-        ensures { result ≡ desc_of self.now }
+    /// A new task, which nobody has started: created in a final task or not.
+    pub(crate) fn unstarted(
+        desc: &TaskDesc,
+        parent: Task,
+        depth: u8,
+        odd: bool,
+        in_final: bool,
+    ) -> TaskRow
+        ensures { result ≡ unstarted_row desc.now parent depth odd in_final }
     {
-        TaskDesc {
-            code: self.code,
-            arg: self.arg,
+        TaskRow {
+            code: desc.code,
+            arg: desc.arg,
+            parent,
+            depth,
+            odd,
+            undeferred: desc.undeferred || in_final,
+            final_task: desc.final_task || in_final,
+            runner: None,
+            state: TaskState::Unstarted,
         }
     }
+}
+
+/// What a task is to do: two numbers, which mean that to the program.
+#[derive(Clone, Copy, Debug, PartialEq, Eq)]
+pub struct Job {
+    /// What it does.
+    pub code: u64,
+    /// On what it does it.
+    pub arg: u64,
 }

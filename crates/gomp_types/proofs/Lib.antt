@@ -17,6 +17,7 @@ pub mod LeastTests
 pub mod Lists
 pub mod Numbering
 pub mod OpenTasks
+pub mod OwnTasks
 pub mod Owned
 pub mod RefusalExamples
 pub mod ShapeExamples
