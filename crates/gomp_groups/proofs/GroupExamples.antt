@@ -246,7 +246,7 @@ grandchild_stands = record { opened = refl; created = refl; nested = three_are_n
       (
         record { member = omega arith; number = refl },
         (
-          record { member = omega arith; may = refl },
+          record { member = omega arith; may = refl; own = λ undeferred. absurd (cc) },
           (
             record { member = omega arith; number = refl; current = refl; away = λ free. refl; shallow = omega arith },
             (

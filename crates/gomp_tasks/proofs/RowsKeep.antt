@@ -28,19 +28,18 @@ aside_row t row _ h is st = record {
   odd = st.odd;
   undeferred = st.undeferred;
   final_is = st.final_is;
-  runner = st.runner;
-  state = record { started = st.state.started; complete = st.state.complete };
+  state = record { started = st.state.started; complete = st.state.complete; runner = st.state.runner };
 }
 
 -- A task that is started, or ends
 
 -- the row once this member has started the task
 abbrev pub started_by : ℕ → TaskRow → TaskRow
-started_by m row = record row { runner = Some m; state = states.Running }
+started_by m row = record row { state = states.Running m }
 
--- the row once the task is complete
-abbrev pub completed : TaskRow → TaskRow
-completed row = record row { state = states.Done }
+-- the row once this member has ended it
+abbrev pub completed : ℕ → TaskRow → TaskRow
+completed m row = record row { state = states.Done m }
 
 pub started_row : (t m : ℕ) (row : TaskRow) (h : List Event) → is_complete t h ≡ false → RowStands t row h → RowStands t (started_by m row) (Start t m ∷ h)
 started_row t m row h open' st = record {
@@ -50,8 +49,7 @@ started_row t m row h open' st = record {
   odd = st.odd;
   undeferred = st.undeferred;
   final_is = st.final_is;
-  runner = rw (same_number t) refl;
-  state = record { started = rw (same_number t) refl; complete = open' };
+  state = record { started = rw (same_number t) refl; complete = open'; runner = rw (same_number t) refl };
 }
 
 pub other_started_row : (task m t : ℕ) (row : TaskRow) (h : List Event) → (task == t) ≡ false → RowStands t row h → RowStands t row (Start task m ∷ h)
@@ -62,20 +60,18 @@ other_started_row task m t row h other st = record {
   odd = st.odd;
   undeferred = st.undeferred;
   final_is = st.final_is;
-  runner = rw other st.runner;
-  state = record { started = rw other st.state.started; complete = st.state.complete };
+  state = record { started = rw other st.state.started; complete = st.state.complete; runner = rw other st.state.runner };
 }
 
-pub completed_row : (t m : ℕ) (row : TaskRow) (h : List Event) → has_started t h ≡ true → RowStands t row h → RowStands t (completed row) (Done t m ∷ h)
-completed_row t m row h on st = record {
+pub completed_row : (t m : ℕ) (row : TaskRow) (h : List Event) → has_started t h ≡ true → task_runner t h ≡ Some m → RowStands t row h → RowStands t (completed m row) (Done t m ∷ h)
+completed_row t m row h on who st = record {
   job = st.job;
   parent = record { children = st.parent.children; ancestors = st.parent.ancestors; older = st.parent.older };
   depth = st.depth;
   odd = st.odd;
   undeferred = st.undeferred;
   final_is = st.final_is;
-  runner = st.runner;
-  state = record { started = on; complete = rw (same_number t) refl };
+  state = record { started = on; complete = rw (same_number t) refl; runner = who };
 }
 
 pub other_completed_row : (task m t : ℕ) (row : TaskRow) (h : List Event) → (task == t) ≡ false → RowStands t row h → RowStands t row (Done task m ∷ h)
@@ -86,8 +82,7 @@ other_completed_row task m t row h other st = record {
   odd = st.odd;
   undeferred = st.undeferred;
   final_is = st.final_is;
-  runner = st.runner;
-  state = record { started = st.state.started; complete = rw other st.state.complete };
+  state = record { started = st.state.started; complete = rw other st.state.complete; runner = st.state.runner };
 }
 
 -- A task that is created
@@ -122,13 +117,12 @@ old_row task m t p desc row h other older st = record {
   odd = ap is_odd (epoch_of_old_task t task m p desc h other) ∙ st.odd;
   undeferred = rw other st.undeferred;
   final_is = rw other st.final_is;
-  runner = st.runner;
-  state = record { started = st.state.started; complete = st.state.complete };
+  state = record { started = st.state.started; complete = st.state.complete; runner = st.state.runner };
 }
 
-pub new_row : (t m : ℕ) (p : Task) (desc : TaskDesc) (depth : ℕ) (odd in_final : Bool) (h : List Event) → IsState t states.Unstarted h → task_runner t h ≡ None → ((q : ℕ) → p ≡ Explicit q → (0 < q) × (q < t)) → depth ≡ depth_of p h + 1 → odd ≡ is_odd (epoch_of_child p h) → in_final ≡ of_explicit (λ q. is_final q h) p →
+pub new_row : (t m : ℕ) (p : Task) (desc : TaskDesc) (depth : ℕ) (odd in_final : Bool) (h : List Event) → IsState t states.Unstarted h → ((q : ℕ) → p ≡ Explicit q → (0 < q) × (q < t)) → depth ≡ depth_of p h + 1 → odd ≡ is_odd (epoch_of_child p h) → in_final ≡ of_explicit (λ q. is_final q h) p →
     RowStands t (unstarted_row desc p depth odd in_final) (Create t m p desc ∷ h)
-new_row t m p desc depth odd in_final h state nobody older deep odd_is final_is = record {
+new_row t m p desc depth odd in_final h state older deep odd_is final_is = record {
   job = rw (same_number t) (refl, refl);
   parent = record {
     children = λ q. rw (same_number t) refl;
@@ -139,8 +133,7 @@ new_row t m p desc depth odd in_final h state nobody older deep odd_is final_is 
   odd = ap is_odd (epoch_of_new_task t m p desc h) ∙ sym odd_is;
   undeferred = rw (same_number t, final_is) refl;
   final_is = rw (same_number t, final_is) refl;
-  runner = nobody;
-  state = record { started = state.started; complete = state.complete };
+  state = record { started = state.started; complete = state.complete; runner = state.runner };
 }
 
 -- The rows of a list

@@ -15,7 +15,7 @@ use Rattle.gomp_types.specs.Tasks.{task_stack, executed_task, innermost_task}
 use Rattle.gomp_tasks.specs.declared.tasks.TheConstants.{MAX_TASKS}
 use Rattle.gomp_tasks.specs.declared.rows.TaskState.TheVariants as states
 use Rattle.gomp_tasks.specs.declared.rows.TaskRow.{TaskRow}
-use Rattle.gomp_tasks.specs.Rows.{is_started, is_over, Follows, first_of, IsState, IsParent, RowStands}
+use Rattle.gomp_tasks.specs.Rows.{is_started, is_over, Follows, runner_of, first_of, IsState, IsParent, RowStands}
 use Rattle.gomp_tasks.specs.Stands.{TasksView, members_of, count_of, IsNumber, IsTask, Stands, AreSame, AreTasks}
 use Rattle.gomp_tasks.specs.Calls.{MayCreateNext, task_or_implicit, is_under_all, tasks_room, IsAside}
 use Rattle.gomp_tasks.proofs.TasksKeep.{executed_number}
@@ -24,19 +24,19 @@ use Rattle.gomp_tasks.specs.Examples.{first_desc, one_created, two_created, two_
 -- What is kept of a task
 
 -- a task that runs was started, and one that is complete too
-pub states_started : (is_started states.Unstarted ≡ false) × (is_started states.Running ≡ true) × (is_started states.Done ≡ true)
+pub states_started : (is_started states.Unstarted ≡ false) × (is_started (states.Running 3) ≡ true) × (is_started (states.Done 3) ≡ true)
 states_started = (refl, refl, refl)
 
 -- only the latter is complete
-pub states_over : (is_over states.Unstarted ≡ false) × (is_over states.Running ≡ false) × (is_over states.Done ≡ true)
+pub states_over : (is_over states.Unstarted ≡ false) × (is_over (states.Running 3) ≡ false) × (is_over (states.Done 3) ≡ true)
 states_over = (refl, refl, refl)
 
 -- a state stays, or moves forward
-pub states_that_follow : Follows states.Unstarted states.Unstarted × Follows states.Unstarted states.Running × Follows states.Unstarted states.Done × Follows states.Running states.Running × Follows states.Running states.Done × Follows states.Done states.Done
+pub states_that_follow : Follows states.Unstarted states.Unstarted × Follows states.Unstarted (states.Running 3) × Follows states.Unstarted (states.Done 3) × Follows (states.Running 3) (states.Running 3) × Follows (states.Running 3) (states.Done 3) × Follows (states.Done 3) (states.Done 3)
 states_that_follow = (tt, tt, tt, tt, tt, tt)
 
 -- and never back
-pub states_that_do_not : (Follows states.Running states.Unstarted → ⊥) × (Follows states.Done states.Unstarted → ⊥) × (Follows states.Done states.Running → ⊥)
+pub states_that_do_not : (Follows (states.Running 3) states.Unstarted → ⊥) × (Follows (states.Done 3) states.Unstarted → ⊥) × (Follows (states.Done 3) (states.Running 3) → ⊥)
 states_that_do_not = (λ is. is, λ is. is, λ is. is)
 
 -- the innermost of two tasks, and of none
@@ -46,16 +46,24 @@ first_of_a_stack = (refl, refl)
 -- When a state does
 
 -- a task that nobody has started, one that runs, one that is complete
-pub states_told : IsState 2 states.Unstarted two_created × IsState 2 states.Running two_started × IsState 2 states.Done second_done
-states_told = (record { started = refl; complete = refl }, record { started = refl; complete = refl }, record { started = refl; complete = refl })
+pub states_told : IsState 2 states.Unstarted two_created × IsState 2 (states.Running 0) two_started × IsState 2 (states.Done 0) second_done
+states_told = (record { started = refl; complete = refl; runner = refl }, record { started = refl; complete = refl; runner = refl }, record { started = refl; complete = refl; runner = refl })
 
 -- a task that runs, as if nobody had started it
 pub state_not_started : IsState 2 states.Unstarted two_started → ⊥
 state_not_started is = absurd (let on = is.started in cc)
 
 -- one that is complete, as if it runner_has_started
-pub state_not_complete : IsState 2 states.Running second_done → ⊥
+pub state_not_complete : IsState 2 (states.Running 0) second_done → ⊥
 state_not_complete is = absurd (let over = is.complete in cc)
+
+-- one that another member runs
+pub state_of_another_runner : IsState 2 (states.Running 1) two_started → ⊥
+state_of_another_runner is = absurd (let runner = is.runner in cc)
+
+-- who started a task
+pub runners_of_states : (runner_of states.Unstarted ≡ None) × (runner_of (states.Running 3) ≡ Some 3) × (runner_of (states.Done 3) ≡ Some 3)
+runners_of_states = (refl, refl, refl)
 
 -- When a parent does
 
@@ -93,10 +101,10 @@ parent_is_none is = absurd (let some = (is.older 0 refl).0 in omega arith)
 -- When a row does
 
 first_row_stands : RowStands 1 first_running two_started
-first_row_stands = record { job = (refl, refl); parent = implicit_is_parent; depth = refl; odd = refl; undeferred = refl; final_is = refl; runner = refl; state = record { started = refl; complete = refl } }
+first_row_stands = record { job = (refl, refl); parent = implicit_is_parent; depth = refl; odd = refl; undeferred = refl; final_is = refl; state = record { started = refl; complete = refl; runner = refl } }
 
 second_row_stands : RowStands 2 second_running two_started
-second_row_stands = record { job = (refl, refl); parent = first_is_parent; depth = refl; odd = refl; undeferred = refl; final_is = refl; runner = refl; state = record { started = refl; complete = refl } }
+second_row_stands = record { job = (refl, refl); parent = first_is_parent; depth = refl; odd = refl; undeferred = refl; final_is = refl; state = record { started = refl; complete = refl; runner = refl } }
 
 -- the rows of both tasks
 pub rows_stand : RowStands 1 first_running two_started × RowStands 2 second_running two_started
@@ -127,11 +135,11 @@ pub row_of_no_final : RowStands 2 (record second_running { final_task = false })
 row_of_no_final row = absurd (let final_is = row.final_is in cc)
 
 -- started by another member
-pub row_of_another_runner : RowStands 2 (record second_running { runner = Some 1 }) two_started → ⊥
-row_of_another_runner row = absurd (let runner = row.runner in cc)
+pub row_of_another_runner : RowStands 2 (record second_running { state = states.Running 1 }) two_started → ⊥
+row_of_another_runner row = absurd (let runner = row.state.runner in cc)
 
 -- done while it runs
-pub row_of_another_state : RowStands 2 (record second_running { state = states.Done }) two_started → ⊥
+pub row_of_another_state : RowStands 2 (record second_running { state = states.Done 0 }) two_started → ⊥
 row_of_another_state row = absurd (let over = row.state.complete in cc)
 
 -- When all do
@@ -177,8 +185,8 @@ pub tasks_without_a_row : Stands (tasks_with [] [] [] 3) one_created → ⊥
 tasks_without_a_row stands = absurd (let count = stands.count in omega arith)
 
 -- a row that does not stand for the events
-pub tasks_of_another_row : Stands (tasks_with (first_running ∷ second_with None states.Unstarted ∷ []) (2 ∷ 1 ∷ []) [] 3) two_started → ⊥
-tasks_of_another_row stands = absurd (let row = stands.row (1) (second_with None states.Unstarted) refl in let runner = row.runner in cc)
+pub tasks_of_another_row : Stands (tasks_with (first_running ∷ second_with states.Unstarted ∷ []) (2 ∷ 1 ∷ []) [] 3) two_started → ⊥
+tasks_of_another_row stands = absurd (let row = stands.row (1) (second_with states.Unstarted) refl in let runner = row.state.runner in cc)
 
 -- the oldest task as the innermost
 pub tasks_of_another_order : Stands (tasks_with (first_running ∷ second_running ∷ []) (1 ∷ 2 ∷ []) [] 3) two_started → ⊥
@@ -189,7 +197,7 @@ pub tasks_on_no_member : Stands (tasks_with (first_running ∷ second_running �
 tasks_on_no_member stands = absurd (let stack = stands.stack 0 (1 ∷ []) refl in let same = ap first_of stack in cc)
 
 -- a task that two members started
-pub tasks_started_twice : Stands (tasks_with (first_with (Some 1) states.Running ∷ []) (1 ∷ []) (1 ∷ []) 3) (Start 1 1 ∷ Start 1 0 ∷ one_created) → ⊥
+pub tasks_started_twice : Stands (tasks_with (first_with (states.Running 1) ∷ []) (1 ∷ []) (1 ∷ []) 3) (Start 1 1 ∷ Start 1 0 ∷ one_created) → ⊥
 tasks_started_twice stands = absurd (let may = stands.rule.0.may in cc)
 
 -- Numbers

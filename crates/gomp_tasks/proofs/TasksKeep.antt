@@ -120,13 +120,13 @@ task_start_keeps rows stacks m t row ts h st at at_row rule =
 -- A task that ends
 
 pub task_end_keeps : (rows : List TaskRow) (stacks : List (List ℕ)) (m t : ℕ) (row : TaskRow) (ts : List ℕ) (h : List Event) → RowsStand rows stacks h → m < length stacks → slice_get stacks m ≡ Some ts → slice_get rows (t - 1) ≡ Some row → executed_task m h ≡ Explicit t →
-    RowsStand (slice_set rows (t - 1) (completed row)) (slice_set stacks m (after_first ts)) (Done t m ∷ h)
+    RowsStand (slice_set rows (t - 1) (completed m row)) (slice_set stacks m (after_first ts)) (Done t m ∷ h)
 task_end_keeps rows stacks m t row ts h st member at at_row top =
     let is = current_open (length stacks) m t h st.rule top in
     let low = created_low t h is.0 in record {
-      count = st.count ∙ sym (length-set rows (t - 1) (completed row));
-      row = λ k found at_k. elim (row_set rows t (completed row) k found low at_k) [
-        | inl here ↦ row_named (suc k) t found (completed row) (Done t m ∷ h) here.0 here.1 (completed_row t m row h (runner_has_started t m h is.2) (task_row_of rows stacks t row h st low at_row))
+      count = st.count ∙ sym (length-set rows (t - 1) (completed m row));
+      row = λ k found at_k. elim (row_set rows t (completed m row) k found low at_k) [
+        | inl here ↦ row_named (suc k) t found (completed m row) (Done t m ∷ h) here.0 here.1 (completed_row t m row h (runner_has_started t m h is.2) is.2 (task_row_of rows stacks t row h st low at_row))
         | inr away ↦ other_completed_row t m (suc k) found h (other_number t (suc k) (λ same. away.0 (sym same))) (st.row k found away.1)
       ];
       stack = λ k us at_k. elim (stack_set stacks m (after_first ts) k us at_k) [
@@ -159,7 +159,7 @@ task_create_keeps rows stacks m t depth odd in_final p desc h st rule deep odd_i
       count = omega (arith, count, longer);
       row = λ k found at. elim (row_appended rows (unstarted_row desc p depth odd in_final) k found at) [
         | inl here ↦ row_named (suc k) t found (unstarted_row desc p depth odd in_final) (Create t m p desc ∷ h) (let n = here.0 in omega (arith, n, number, count)) here.1
-            (new_row t m p desc depth odd in_final h (record { started = new.0; complete = new.1 }) (not_run_yet (length stacks) t h st.rule (omega (arith, number))) older deep odd_is final_is)
+            (new_row t m p desc depth odd in_final h (record { started = new.0; complete = new.1; runner = not_run_yet (length stacks) t h st.rule (omega (arith, number)) }) older deep odd_is final_is)
         | inr away ↦
             let lt = away.0 in
             old_row t m (suc k) p desc found h (other_number t (suc k) (λ same. omega (arith, same, lt, number, count)))

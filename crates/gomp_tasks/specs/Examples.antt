@@ -33,18 +33,18 @@ abbrev pub second_done : List Event
 second_done = Done 2 0 ∷ two_started
 
 -- what is kept of the first task, and of the second
-abbrev pub first_with : Option ℕ → TaskState → TaskRow
-first_with runner state = record { code = 7; arg = 3; parent = Implicit 0; depth = 1; odd = true; undeferred = false; final_task = true; runner = runner; state = state }
+abbrev pub first_with : TaskState → TaskRow
+first_with state = record { code = 7; arg = 3; parent = Implicit 0; depth = 1; odd = true; undeferred = false; final_task = true; state = state }
 
-abbrev pub second_with : Option ℕ → TaskState → TaskRow
-second_with runner state = record { code = 7; arg = 4; parent = Explicit 1; depth = 2; odd = true; undeferred = true; final_task = true; runner = runner; state = state }
+abbrev pub second_with : TaskState → TaskRow
+second_with state = record { code = 7; arg = 4; parent = Explicit 1; depth = 2; odd = true; undeferred = true; final_task = true; state = state }
 
 -- while both run
 abbrev pub first_running : TaskRow
-first_running = first_with (Some 0) states.Running
+first_running = first_with (states.Running 0)
 
 abbrev pub second_running : TaskRow
-second_running = second_with (Some 0) states.Running
+second_running = second_with (states.Running 0)
 
 -- the tasks of two members, with room for this many more
 abbrev pub tasks_with : List TaskRow → List ℕ → List ℕ → ℕ → TasksView

@@ -1,19 +1,32 @@
 //! What is kept of an explicit task.
 
 ghost use Rattle.std.specs.Prelude.{◌≡◌};
-ghost use Rattle.gomp_tasks.specs.Rows.{unstarted_row};
+ghost use Rattle.gomp_tasks.specs.Rows.{runner_of, unstarted_row};
 
 use gomp_types::{Task, TaskDesc};
+use std::mem::size_of;
 
 /// What has become of a task.
 #[derive(Clone, Copy, Debug, PartialEq, Eq)]
 pub enum TaskState {
     /// No member has started it.
     Unstarted,
-    /// A member has started it, and not ended it.
-    Running,
-    /// It is complete.
-    Done,
+    /// The member with this number has started it, and not ended it.
+    Running(u16),
+    /// It is complete: this member has ended it.
+    Done(u16),
+}
+
+impl TaskState {
+    /// The member that started the task, numbered from 0, if one has.
+    pub fn runner(self) -> Option<u16>
+        ensures { result ≡ runner_of self }
+    {
+        match self {
+            TaskState::Unstarted => None,
+            TaskState::Running(member) | TaskState::Done(member) => Some(member),
+        }
+    }
 }
 
 /// An explicit task.
@@ -25,6 +38,8 @@ pub struct TaskRow {
     pub arg: u64,
     /// The task in which it was created.
     pub parent: Task,
+    /// What has become of it.
+    pub state: TaskState,
     /// How deep it lies in the tree of tasks, from 1.
     pub depth: u8,
     /// Whether the number of the barrier to which it is bound is odd.
@@ -33,11 +48,10 @@ pub struct TaskRow {
     pub undeferred: bool,
     /// Whether the tasks created in it are undeferred.
     pub final_task: bool,
-    /// The member that started it, if one has.
-    pub runner: Option<u16>,
-    /// What has become of it.
-    pub state: TaskState,
 }
+
+// A team keeps one for each task.
+const _: () = prove!(size_of::<TaskRow>() <= 32);
 
 impl TaskRow {
     /// A new task, which nobody has started: created in a final task or not.
@@ -54,12 +68,11 @@ impl TaskRow {
             code: desc.code,
             arg: desc.arg,
             parent,
+            state: TaskState::Unstarted,
             depth,
             odd,
             undeferred: desc.undeferred || in_final,
             final_task: desc.final_task || in_final,
-            runner: None,
-            state: TaskState::Unstarted,
         }
     }
 }

@@ -168,7 +168,7 @@ impl Tasks {
         ensures known { (h : List Event) × Stands self.now h }
         ensures value { (h : List Event) → Stands self.now h → task_runner task h ≡ result }
     {
-        self.row(task).runner
+        self.state(task).runner()
     }
 
     /// What has become of the task.
@@ -278,8 +278,7 @@ impl Tasks {
             MayStart (members_of self.old) task member h → Stands self.new (Start task member ∷ h) }
     {
         let row = &mut self.rows[task as usize - 1];
-        row.runner = Some(member);
-        row.state = TaskState::Running;
+        row.state = TaskState::Running(member);
         self.stacks[member as usize].push(task);
     }
 
@@ -301,7 +300,7 @@ impl Tasks {
         let Some(task) = self.innermost(member) else {
             return None;
         };
-        self.rows[task as usize - 1].state = TaskState::Done;
+        self.rows[task as usize - 1].state = TaskState::Done(member);
         self.stacks[member as usize].pop();
         Some(task)
     }
