@@ -168,7 +168,7 @@ impl Tasks {
         ensures known { (h : List Event) × Stands self.now h }
         ensures value { (h : List Event) → Stands self.now h → task_runner task h ≡ result }
     {
-        self.state(task).runner()
+        self.row(task).state.runner()
     }
 
     /// What has become of the task.
