@@ -8,7 +8,7 @@ use Rattle.gomp_types.specs.declared.task.TaskDesc.{TaskDesc}
 use Rattle.gomp_types.specs.declared.limits.TheConstants.{MAX_TASK_DEPTH}
 use Rattle.gomp_types.specs.declared.event.Event.{Event}
 use Rattle.gomp_types.specs.declared.event.Event.TheVariants.{Create, Start, Done}
-use Rattle.gomp_types.specs.Tasks.{tasks_created, task_stack, executed_task, innermost_task, after_first, task_runner, depth_of, epoch_of_child, is_odd, of_explicit, is_final, same_task, is_child, is_created_by}
+use Rattle.gomp_types.specs.Tasks.{tasks_created, task_stack, executed_task, innermost_task, after_first, task_runner, depth_of, epoch_of_child, is_odd, of_explicit, is_final}
 use Rattle.gomp_types.specs.Laws.{Always}
 use Rattle.gomp_types.specs.TaskRules.{TaskRule, MayCreate, MayStart}
 use Rattle.gomp_types.proofs.Booleans.{same_number, other_number}

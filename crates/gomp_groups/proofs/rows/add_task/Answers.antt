@@ -1,4 +1,4 @@
-use Rattle.std.proofs.Common.{◌≡◌, ℕ, Option, Some, List, subst, arith}
+use Rattle.std.proofs.Common.{◌≡◌, ℕ, Option, List, subst, arith}
 use Rattle.gomp_groups.specs.declared.rows.GroupRow.{GroupRow}
 use Rattle.gomp_groups.proofs.Counting.{IsLeft, adds_next, all_counted}
 use Rattle.gomp_groups.proofs.rows.add_task.Goals as goal

@@ -1,4 +1,4 @@
-use Rattle.std.proofs.Common.{◌≡◌, ℕ, Option, Some, List, sym, subst, arith}
+use Rattle.std.proofs.Common.{◌≡◌, ℕ, Option, List, sym, subst, arith}
 use Rattle.gomp_groups.specs.declared.rows.GroupRow.{GroupRow}
 use Rattle.gomp_groups.proofs.Counting.{IsLeft, removes_next, all_counted}
 use Rattle.gomp_groups.proofs.rows.remove_task.Goals as goal

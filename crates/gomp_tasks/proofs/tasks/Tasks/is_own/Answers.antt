@@ -1,5 +1,4 @@
 use Rattle.std.proofs.Common.{ap, ◌∙◌, sym}
-use Rattle.gomp_types.specs.declared.task.Task.{Task}
 use Rattle.gomp_types.specs.Tasks.{same_task, executed_task}
 use Rattle.gomp_types.proofs.OwnTasks.{child_of_current_is_own}
 use Rattle.gomp_tasks.specs.Stands.{members_of}
