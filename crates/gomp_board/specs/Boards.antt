@@ -90,11 +90,12 @@ pub record IsSame (board after : BoardView) : Type 0 where
   pub kept : after.kept ≡ board.kept
   pub stands : (h : List Event) → Stands board h → Stands after h
 
--- the room that is asked for, and what the member keeps of it: a refused operation keeps none
+-- the room that was asked for after an operation; one that is refused asks for none
 abbrev pub room_after : Op → ℕ → Reply → ℕ → ℕ
 room_after op kept (Refused refusal) room = room
 room_after op kept reply room = room + op_asks op kept
 
+-- what each member keeps of it then: the one whose operation it is what the operation leaves, unless it is refused
 abbrev pub kept_after : Op → ℕ → Reply → List ℕ → List ℕ
 kept_after op m (Refused refusal) kept = kept
 kept_after op m reply kept = slice_set kept m (op_keeps op (slice_index_or kept m 0))

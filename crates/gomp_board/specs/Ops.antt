@@ -58,6 +58,7 @@ arrival_keeps _ kept = kept
 abbrev pub words_keep : ℕ → ℕ
 words_keep kept = if nat_le words_room kept then kept - words_room else kept
 
+-- what its member keeps after an operation
 abbrev pub op_keeps : Op → ℕ → ℕ
 op_keeps (Arrive tag) kept = arrival_keeps tag.kind kept
 op_keeps (Reserve more) kept = kept + more

@@ -1,4 +1,4 @@
--- What a board keeps of the words that the executors of singles put: the newest of each eighth share. (own; OpenMP API 5.2, section 5.7.2)
+-- What a board keeps of the words that the executors of singles put: the newest of all shares whose numbers leave the same rest by OPEN_SHARES. (own; OpenMP API 5.2, section 5.7.2)
 use Rattle.std.specs.Prelude.{ℕ, ◌<◌, ◌≡◌, ◌%◌, ◌==◌, if◌then◌else◌, List, [], ◌∷◌, Option, Some, None, length, slice_get}
 use Rattle.gomp_types.specs.declared.limits.TheConstants.{OPEN_SHARES}
 use Rattle.gomp_types.specs.declared.event.Event.{Event}
@@ -21,7 +21,7 @@ abbrev pub words_at : ℕ → Option (Option Put) → Option (List ℕ)
 words_at i None = None
 words_at i (Some put) = words_of i put
 
--- as many places as shares may be open, and at each the newest words whose share leaves its number
+-- as many places as shares may be open, and at each the newest words of the shares whose numbers leave the rest that is the number of the place
 pub record PayloadsStand (places : List (Option Put)) (h : List Event) : Type 0 where
   pub size : length places ≡ OPEN_SHARES
   pub newest : (rest : ℕ) → rest < OPEN_SHARES → slice_get places rest ≡ Some (newest_put rest h)

@@ -1,4 +1,4 @@
--- Which tasks of a board's list a member may start. OpenMP API 5.2, section 12.6.
+-- Which tasks of a board's list a member may start. OpenMP API 5.2, section 12.9.
 use Rattle.std.specs.Prelude.{ℕ, ◌<◌, ◌≡◌, true, false, List, length, slice_index_or}
 use Rattle.gomp_types.specs.declared.event.Event.{Event}
 use Rattle.gomp_types.specs.Goals.{may_start, some_startable}

@@ -23,7 +23,7 @@ abbrev pub stored : List Event → List Event
 stored [] = []
 stored (event ∷ earlier) = if is_stored event then event ∷ stored earlier else stored earlier
 
--- an event that changes nothing for a board: it is not stored, and no task goes on after its children
+-- an event that changes nothing for a board: it is not stored, and it ends no taskwait
 abbrev pub IsAside : Event → Type 0
 IsAside (Waited m) = ⊥
 IsAside event = OnTrue (is_stored event) ⊥

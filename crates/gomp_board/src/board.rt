@@ -76,7 +76,9 @@ impl Board {
     }
 
     /// Answers an operation of the member, numbered from 0. A refusal has the least number of those
-    /// whose tests hold.
+    /// whose tests hold ([`first_refusal`](Board::first_refusal)); if none holds, an operation that asks
+    /// for room may find no memory (`NoMemory`). A refusal changes nothing, save that `Mismatch` breaks
+    /// the team (OpenMP API 5.2, chapter 12, sections 15.3 to 15.5).
     pub fn step(&mut self, member: u16, op: Op) -> Reply
         requires member { member < members_of self.old }
         ensures performs { Performs op member self.old self.new result }
@@ -87,8 +89,9 @@ impl Board {
         }
     }
 
-    /// Answers an operation that no test refuses ([`first_refusal`](Board::first_refusal) finds
-    /// none).
+    /// Answers an operation of the member, numbered from 0, that no test refuses
+    /// ([`first_refusal`](Board::first_refusal) finds none). `NoMemory`, if it asks for room and its
+    /// memory is refused, is the one refusal that is left; then nothing changes.
     pub fn perform(&mut self, member: u16, op: Op) -> Reply
         requires member { member < members_of self.old }
         requires admitted { IsAdmitted op member self.old }

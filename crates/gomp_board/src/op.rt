@@ -16,7 +16,8 @@ pub enum Op {
     OpenGroup,
     /// Ends the last open group of that task, or waits for the group's tasks.
     EndGroup,
-    /// Waits on for these, and ends the group. It is let in if no group is open, and then waits.
+    /// Waits on for these, or ends the group once they are complete. With no group open it waits, or
+    /// executes a task.
     AwaitGroup,
     /// Arrives with this tag at the member's next barrier (section 15.3).
     Arrive(Tag),

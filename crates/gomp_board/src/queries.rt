@@ -37,7 +37,7 @@ impl Board {
     }
 
     /// Why the member, numbered from 0, does not make a call that no explicit task makes:
-    /// `InsideTask` if it executes one (OpenMP API 5.2, section 15.3).
+    /// `InsideTask` if it executes one (OpenMP API 5.2, section 17.1).
     pub fn inside_task_refusal(&self, member: u16) -> Option<Refusal>
         requires member { member < members_of self.now }
         ensures value { (h : List Event) → Stands self.now h →

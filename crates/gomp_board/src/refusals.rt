@@ -23,7 +23,10 @@ use gomp_types::{Arrival, MAX_TASK_DEPTH, Place, Refusal, Tag, Task};
 
 impl Board {
     /// Why the operation of the member, numbered from 0, is refused, want of memory aside: of the
-    /// tests that hold the one whose refusal has the least number.
+    /// tests that hold the one whose refusal has the least number. `Ended` and `Broken` may refuse
+    /// any; `Waiting`, `InsideTask`, `NotInTask`, `NotInside`, `NoGroup`, `GroupOpen`, `TooDeep`,
+    /// `TooManyTasks`, `Mismatch` and `TraceFull` those that have such a test (`op_tests` in
+    /// specs/Ops.antt).
     pub fn first_refusal(&self, member: u16, op: &Op) -> Option<Refusal>
         requires member { member < members_of self.now }
         ensures value { (h : List Event) → Stands self.now h → result ≡ op_refusal

@@ -1,4 +1,4 @@
-//! Waits at which a member executes tasks. OpenMP API 5.2, sections 12.6 and 15.5.
+//! Waits at which a member executes tasks. OpenMP API 5.2, sections 12.9 and 15.5.
 
 ghost use Rattle.std.specs.Prelude.{◌≡◌, ◌≢◌, ◌<◌, ◌++◌, List, MatchOption, reverse};
 ghost use Rattle.gomp_types.specs.declared.event.Event.{Event};

@@ -18,8 +18,8 @@ use std::alloc::AllocError;
 const WORDS_ROOM: u32 = 1;
 
 impl Board {
-    /// The words that were put in this share. None if none were, or if words were put later in
-    /// another share whose number leaves the same rest by OPEN_SHARES.
+    /// The words that were put in this share, numbered from 0. None if none were, or if words were put
+    /// later in another share whose number leaves the same rest by OPEN_SHARES (section 5.7.2).
     pub fn payload(&self, share: u64) -> Option<&Payload>
         ensures known { Stands self.now (reverse self.now.history) }
         ensures value { (h : List AnyEvent) → Stands self.now h →

@@ -17,6 +17,7 @@ abbrev pub resolved_call : Variables → Call → Call
 resolved_call icv (LoopStart loop) = LoopStart (resolved_loop icv.sched icv.chunk loop)
 resolved_call icv call = call
 
+-- a step, and steps, with such calls
 abbrev pub resolved_step : Variables → Step → Step
 resolved_step icv step = record { member = step.member; call = resolved_call icv step.call }
 

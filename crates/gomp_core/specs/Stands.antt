@@ -1,5 +1,5 @@
 -- When a team stands for a record. (own)
-use Rattle.std.specs.Prelude.{ℕ, ◌<◌, ◌≡◌, ◌≢◌, ◌⊎◌, true, List, [], ◌∷◌, Some, length, slice_get}
+use Rattle.std.specs.Prelude.{ℕ, ◌<◌, ◌≡◌, ◌≢◌, ◌⊎◌, true, List, [], ◌∷◌, Some, None, length, slice_get}
 use Rattle.gomp_types.specs.declared.call.Call.{Call}
 use Rattle.gomp_types.specs.declared.call.Call.TheVariants.{Resume}
 use Rattle.gomp_types.specs.declared.call.Step.{Step}
@@ -16,7 +16,7 @@ use Rattle.gomp_locks.specs.Book.{BookView}
 use Rattle.gomp_model.specs.Past.{Terms, Waits, no_waits, Past}
 use Rattle.gomp_model.specs.Row.{Row}
 use Rattle.gomp_model.specs.Calls.{row_of}
-use Rattle.gomp_model.specs.Team.{Record, past_of, Caused}
+use Rattle.gomp_model.specs.Team.{Record, call_meant, past_of, Caused}
 use Rattle.gomp_icv.specs.Variables.{Variables}
 use Rattle.gomp_board.specs.declared.op.Op.TheVariants.{Break}
 use Rattle.gomp_board.specs.Boards.{BoardView, IsSame, Performs}
@@ -34,6 +34,7 @@ pub record TeamView (S : Type 0) : Type 0 where
   pub book : BookView
   pub shares : S
 
+-- its size
 abbrev pub members_of : {S : Type 0} → TeamView S → ℕ
 members_of team = length team.waits
 
@@ -99,6 +100,10 @@ pub record Begins (terms : Terms) (book : BookView) (before : Record) : Type 0 w
   pub nobody : (m : ℕ) → (past_of terms before).waits m ≡ no_waits
   pub room : (past_of terms before).room ≡ first_room terms.members
   pub book_are : BookStands book (past_of terms before)
+
+-- what of a member is not answered whole once a task is started at this call, or at the one that it repeats
+abbrev pub suspended_at : Call → Waits → Waits
+suspended_at call waits = record { open_call = None; beneath = call_meant call waits.open_call ∷ waits.beneath }
 
 -- Memory
 

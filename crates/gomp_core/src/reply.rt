@@ -19,7 +19,8 @@ use gomp_types::{Call, Reply, Shape};
 /// (`starts`), or goes on with one that waits (`repeated`): by the book, if it asks for a name or a
 /// lock, and else by the parts.
 ///
-/// No test of the call holds. It may find no memory if it takes some; then nothing changes.
+/// No test of the call holds. It may find no memory if it takes some (`NoMemory`); then nothing
+/// changes (OpenMP API 5.2, chapters 11, 12 and 15, section 18.9).
 pub fn team_reply<S: Shares>(
     shares: &mut S,
     board: &mut Board,

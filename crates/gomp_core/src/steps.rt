@@ -30,12 +30,13 @@ use std::alloc::Global;
 /// arrived, and have left the constructs before it; a critical name and a lock have at most one owner
 /// at a time, which alone releases it; no member passes a barrier while it holds a critical name; no
 /// task is started twice, or before it is created, or by a member that may not start it; and each wait
-/// ends only after its tasks: those of the region so far at a barrier, all at its end, the children at
-/// a taskwait, those of a group and their descendants at the group's end.
+/// ends only after its tasks: those bound to it at a barrier, all of them at the region's end, the
+/// children at a taskwait, those of a group and their descendants at the group's end.
 ///
 /// A member waits for a name or a lock only while another owner holds it, and a count that is
 /// answered is the number of open holds of the lock (`HoldReplies`). A task is run with the code and
-/// the argument with which it was created, and its end tells who goes back to a wait (`TaskReplies`).
+/// the argument with which it was created, and the call at which it was started waits again when it
+/// has ended (`TaskReplies`).
 ///
 /// Refused with `BadTeam` (E38) if the size is not 1 to 64, and with `NoMemory` (E37) if the
 /// memory of the team or of the replies is refused; then the steps are dropped and nothing is kept.

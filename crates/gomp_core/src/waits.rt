@@ -6,6 +6,7 @@ ghost use Rattle.gomp_types.specs.declared.limits.TheConstants.{MAX_TASK_DEPTH};
 ghost use Rattle.gomp_types.specs.declared.reply.Reply.TheVariants.{Run, Wait};
 ghost use Rattle.gomp_model.specs.Past.{no_waits};
 ghost use Rattle.gomp_model.specs.Team.{call_meant, open_first, waits_after};
+ghost use Rattle.gomp_core.specs.Stands.{suspended_at};
 
 use gomp_types::{Call, MAX_TASK_DEPTH, Reply};
 use std::alloc::{AllocError, Global};
@@ -80,8 +81,7 @@ impl Waits {
     /// A task is started at the call, or at that which it repeats.
     fn suspend(&mut self, call: Call)
         requires room { length self.old.beneath < MAX_TASK_DEPTH }
-        ensures { (task code arg : ℕ) →
-            self.new ≡ waits_after (Run task code arg false) call self.old }
+        ensures { self.new ≡ suspended_at call self.old }
     {
         let open = self.open.take();
         self.beneath.push_reserved(meant_call(call, open));

@@ -19,8 +19,8 @@ use gomp_types::Task;
 use std::alloc::{AllocError, Global};
 use std::marker::Model;
 
-/// The groups of one team's tasks. After `make`, `reserve_task` and `reserve_group` no call takes
-/// memory.
+/// The groups of one team's tasks, numbered from 0 in the order in which they are opened. Only `make`,
+/// `reserve_task` and `reserve_group` take memory (OpenMP API 5.2, section 15.4).
 #[derive(Debug, Drop)]
 pub struct Groups {
     groups: Vec<GroupRow>,

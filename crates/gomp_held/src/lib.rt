@@ -73,9 +73,9 @@ pub fn held_refusal(
     }
 }
 
-/// Answers a call on names and locks that no test refuses, by this member, which executes this task,
-/// or goes on with one that waits (`repeated`). Only the first start of a name and the making of a lock take memory; a refused
-/// growth changes nothing.
+/// Answers a call on names and locks that no test refuses, by this member, numbered from 0, which
+/// executes this task, or goes on with one that waits (`repeated`). Only the first start of a name and
+/// the making of a lock take memory: if it is refused, the answer is `NoMemory` and nothing changes.
 pub fn held_reply(
     book: &mut LockBook,
     member: u16,

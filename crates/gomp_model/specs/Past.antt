@@ -5,7 +5,7 @@ use Rattle.gomp_types.specs.declared.limits.Limits.{Limits}
 use Rattle.gomp_types.specs.declared.lock.LockKind.{LockKind}
 use Rattle.gomp_types.specs.declared.event.Event.{Event}
 
--- what a team is made with; a limit above the standard one counts as that. Whether there is cancellation decides no reply before there is any
+-- what a team is made with; a limit above the standard one counts as that, and no definition reads yet whether there is cancellation
 pub record Terms : Type 0 where
   pub members : ℕ
   pub limits : Limits

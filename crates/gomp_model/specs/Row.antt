@@ -158,7 +158,7 @@ abbrev pub locks_after : Row → Reply → List (Option LockKind) → List (Opti
 locks_after row (Refused refusal) locks = locks
 locks_after row reply locks = row.locks reply locks
 
--- the past after the call and its reply, but for what waits; a refusal that breaks no team leaves it as it was
+-- the past after the call and its reply, but for what waits; a refusal leaves it as it was, and a break is none of this
 abbrev pub past_given : Row → Bool → ℕ → Past → Reply → Past
 past_given row repeated m p (Refused refusal) = p
 past_given row repeated m p reply = record p {

@@ -90,7 +90,7 @@ abbrev pub open_first : List Call → Waits
 open_first [] = no_waits
 open_first (call ∷ calls) = record { open_call = Some call; beneath = calls }
 
--- a refusal leaves a member's waits, Wait opens one, a task is run above the call that waits for it, whose wait is open again when the task has ended; every other reply closes the wait
+-- a refusal leaves a member's waits, Wait opens one, and a task is run above the call at which it was started, which waits again when the task has ended; every other reply closes the wait, the run of a task of the call's own among them
 abbrev pub waits_after : Reply → Call → Waits → Waits
 waits_after (Refused refusal) call waits = waits
 waits_after Wait call waits = record waits { open_call = Some (call_meant call waits.open_call) }

@@ -168,6 +168,15 @@ waits_that_are_no_answers stands shares after board board_after = (
   λ none answers. let keeps = answers.keeps refl in omega (arith, none, keeps),
 )
 
+-- a pass before all have arrived, and a first arrival after which the board has asked for no more room
+pub replies_that_are_no_answers :
+    {S : Type 0} (stands : S → List Event → Type 0) (shares after : S) (board board_after : BoardView) → PartsStand stands shares board (two_after []) → (AnswersCall stands shares after board board_after barrier_row false 0 Passed → ⊥)
+    × (board_after.room ≡ board.room → AnswersCall stands shares after board board_after barrier_row false 0 Wait → ⊥)
+replies_that_are_no_answers stands shares after board board_after stand = (
+  λ answers. absurd (let may = answers.answer (two_after []) stand (ready_calls board).0 in cc),
+  λ same answers. let after = (answers.stands_for (two_after []) stand (ready_calls board).0).room in let before = stand.room in omega (arith, same, after, before),
+)
+
 -- How the parts serve a call
 
 -- an arrival comes once, the end of a group too

@@ -24,7 +24,7 @@ use Rattle.gomp_board.specs.Boards.{BoardView, Stands as BoardStands, IsSame, me
 
 -- Tests
 
--- no comparison of the call has a lesser number than this refusal by the member's place, if it is one
+-- the refusal, if there is one, comes first: no comparison of the call has one with a lesser number
 abbrev pub ComesFirst : Row → Option Refusal → Type 0
 ComesFirst row found =
     IfSome found (λ refusal. (m : ℕ) (p : Past) → lesser (Some refusal) (least (row.compared false m p)) ≡ Some refusal)

@@ -48,10 +48,11 @@ pub fn unless_refused(
 }
 
 /// The shape of the share that the call starts, if it starts one, unless one of its own tests
-/// refuses it: those on the member's place among the shares, and the comparison with other members'
-/// calls. A call that is repeated (`repeated`) is only compared: its place was tested when it was
-/// made. What names and locks refuse is none of this, nor what tasks
-/// and groups do ([`task_refusal`](crate::task_refusal)).
+/// refuses it: those on the place of the member, numbered from 0, among the shares (E8 to E22, E34),
+/// and the comparison with other members' calls (`Mismatch`). A call that is repeated (`repeated`) is
+/// only compared: its place was tested when it was made. What names and locks refuse is none of this,
+/// nor what tasks and groups do ([`task_refusal`](crate::task_refusal); OpenMP API 5.2, chapter 11 and
+/// section 17.1).
 pub fn admit_call<S: Shares>(
     shares: &mut S,
     barriers: &Barriers,

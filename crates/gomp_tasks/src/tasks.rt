@@ -18,7 +18,7 @@ use gomp_types::{Task, TaskDesc};
 use std::alloc::{AllocError, Global};
 use std::marker::Model;
 
-/// The most explicit tasks that a team creates: the largest number that one can have.
+/// The largest number of a task. A team refuses more than its limits allow, at most 1,048,576, before.
 pub const MAX_TASKS: u32 = 4_294_967_295;
 
 /// The rows grow by this part of the tasks that there are.
@@ -27,7 +27,8 @@ const STEP_PART: usize = 16;
 /// They grow by so many rows at least, besides the one that is asked for.
 const LEAST_STEP: usize = 64;
 
-/// The explicit tasks of one team, numbered from 1. Only `make` and `reserve` take memory.
+/// The explicit tasks of one team, numbered from 1 in the order in which they are created: a task is a
+/// number from 1 to `count`. Only `make` and `reserve` take memory (OpenMP API 5.2, section 12.5).
 #[derive(Debug, Drop)]
 pub struct Tasks {
     rows: Vec<TaskRow>,
