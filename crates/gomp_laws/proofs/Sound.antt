@@ -239,7 +239,7 @@ pub record IsSound (row : Row) : Type 0 where
   -- a task that is run may be started, with what was asked for; its call neither stays in its place nor holds or creates anything, and gives its start alone
   pub runs : (m : ℕ) (p : Past) (task code arg : ℕ) (own : Bool) → row.may_reply m p (Run task code arg own) →
       (row.stays ≡ false) × (row.holds ≡ None) × (own ≡ false) × (may_start m task p.events ≡ true)
-      × (task_desc task p.events ≡ Some (record { code = code; arg = arg })) × (row.gives m p (Run task code arg own) ≡ Start task m ∷ []) × (row.creates ≡ None)
+      × (task_desc task p.events ≡ Some (job_with code arg [])) × (row.gives m p (Run task code arg own) ≡ Start task m ∷ []) × (row.creates ≡ None)
   -- a task that is done is the one that its member executes, which was started at a wait; its call gives its end alone
   pub ends : (m : ℕ) (p : Past) (task : ℕ) (waiting : Bool) → row.may_reply m p (TaskDone task waiting) →
       (is_some row.arrives ≡ false) × (waiting ≡ true) × (executed_task m p.events ≡ Explicit task) × (row.gives m p (TaskDone task waiting) ≡ Done task m ∷ [])

@@ -95,11 +95,11 @@ pub team_end_group : Allows (TeamRule 1) (Group 0 0 ∷ in_one_task ++ Done 1 0 
 team_end_group = record { member = omega arith; outer = []; last = refl; complete = refl }
 
 -- it waits for an open child, and goes on
-pub team_wait_open : RefusedAfter (TeamRule 1) (Create 1 0 (Implicit 0) one_job ∷ []) (Waited 0)
+pub team_wait_open : RefusedAfter (TeamRule 1) (Create 1 0 (Implicit 0) one_job ∷ []) (Waited 0 [])
 team_wait_open may = absurd (let complete = may.complete in cc)
 
 -- and once the child is done
-pub team_wait : Allows (TeamRule 1) (in_one_task ++ Done 1 0 ∷ []) (Waited 0)
+pub team_wait : Allows (TeamRule 1) (in_one_task ++ Done 1 0 ∷ []) (Waited 0 [])
 team_wait = search rules
 
 -- one who is no member opens a group, ends its group, and waits
@@ -109,7 +109,7 @@ team_open_group_stranger may = absurd (let member = may.member in omega arith)
 pub team_end_group_stranger : RefusedAfter (TeamRule 2) (Group 0 2 ∷ []) (GroupEnd 0 2)
 team_end_group_stranger may = absurd (let member = may.member in omega arith)
 
-pub team_wait_stranger : RefusedAfter (TeamRule 2) [] (Waited 2)
+pub team_wait_stranger : RefusedAfter (TeamRule 2) [] (Waited 2 [])
 team_wait_stranger may = absurd (let member = may.member in omega arith)
 
 -- Barriers

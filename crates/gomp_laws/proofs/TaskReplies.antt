@@ -66,7 +66,7 @@ runs_as_asked p step (Run task code arg own) may known =
     let sound = row_is_sound (call_meant step.call (p.waits step.member).open_call) in
     let run = sound.runs step.member q task code arg own may.1 in
     let before = since_keeps row sound repeated step.member p (λ now. task_desc task now ≡ task_desc task p.events) (desc_stays (gives_of row) step.member task p.events (creates_none row run.6)) refl in (
-      described_is_created task (record { code = code; arg = arg }) p.events (sym before ∙ run.4),
+      described_is_created task (job_with code arg []) p.events (sym before ∙ run.4),
       newest_happened (Start task step.member) (row.gives step.member q (Run task code arg own)) q.events run.5,
     )
 runs_as_asked p step _ may known = tt

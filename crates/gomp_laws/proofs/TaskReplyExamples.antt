@@ -41,16 +41,16 @@ created_one_job = (asks 0 (TaskCreate one_job), Created 1) ∷ []
 
 -- and executes it while it waits for it
 abbrev run_in_wait : Run
-run_in_wait = (asks 0 (TaskCreate one_job), Created 1) ∷ (asks 0 Taskwait, RunTask 1 7 70 false) ∷ []
+run_in_wait = (asks 0 (TaskCreate one_job), Created 1) ∷ (asks 0 (Taskwait []), RunTask 1 7 70 false) ∷ []
 
 -- another member ends the task
 abbrev run_ended_by_another : Run
-run_ended_by_another = (asks 0 (TaskCreate one_job), Created 1) ∷ (asks 0 Taskwait, RunTask 1 7 70 false) ∷ (asks 1 TaskEnd, TaskDone 1 true) ∷ []
+run_ended_by_another = (asks 0 (TaskCreate one_job), Created 1) ∷ (asks 0 (Taskwait []), RunTask 1 7 70 false) ∷ (asks 1 TaskEnd, TaskDone 1 true) ∷ []
 
 -- it ends the task, and goes on
 abbrev done_in_wait : Run
 done_in_wait =
-    (asks 0 (TaskCreate one_job), Created 1) ∷ (asks 0 Taskwait, RunTask 1 7 70 false) ∷ (asks 0 TaskEnd, TaskDone 1 true) ∷ (asks 0 Resume, Passed) ∷ []
+    (asks 0 (TaskCreate one_job), Created 1) ∷ (asks 0 (Taskwait []), RunTask 1 7 70 false) ∷ (asks 0 TaskEnd, TaskDone 1 true) ∷ (asks 0 Resume, Passed) ∷ []
 
 -- The number of a task
 
@@ -75,21 +75,21 @@ told_number_of_other_job law = elim law.2 [
 ]
 
 -- who creates no task is told the number of one
-pub told_number_unasked : RefusesReply TellsItsNumber created_one_job (asks 0 Taskwait) (Created 1)
+pub told_number_unasked : RefusesReply TellsItsNumber created_one_job (asks 0 (Taskwait [])) (Created 1)
 told_number_unasked law = absurd (let asked = law.1 in cc)
 
 -- The task that is to be executed
 
 -- it was not created
-pub runs_uncreated : RefusesReply RunsAsAsked created_one_job (asks 0 Taskwait) (RunTask 2 7 70 false)
+pub runs_uncreated : RefusesReply RunsAsAsked created_one_job (asks 0 (Taskwait [])) (RunTask 2 7 70 false)
 runs_uncreated law = elim law.0.2 [ inl e ↦ absurd (cc) | inr never ↦ never ]
 
 -- it was created with another code
-pub runs_other_code : RefusesReply RunsAsAsked created_one_job (asks 0 Taskwait) (RunTask 1 8 70 false)
+pub runs_other_code : RefusesReply RunsAsAsked created_one_job (asks 0 (Taskwait [])) (RunTask 1 8 70 false)
 runs_other_code law = elim law.0.2 [ inl e ↦ absurd (let made = ap (λ (event : Event). code_of (job_of event)) e in omega (arith, made)) | inr never ↦ never ]
 
 -- or with another argument
-pub runs_other_argument : RefusesReply RunsAsAsked created_one_job (asks 0 Taskwait) (RunTask 1 7 80 false)
+pub runs_other_argument : RefusesReply RunsAsAsked created_one_job (asks 0 (Taskwait [])) (RunTask 1 7 80 false)
 runs_other_argument law = elim law.0.2 [ inl e ↦ absurd (let made = ap (λ (event : Event). argument_of (job_of event)) e in omega (arith, made)) | inr never ↦ never ]
 
 -- the call is none that starts it

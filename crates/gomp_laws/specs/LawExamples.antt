@@ -195,7 +195,7 @@ ended_beneath = Create 1 0 (Implicit 0) one_job ∷ Start 1 0 ∷ Create 2 0 (Ex
 
 -- a taskwait goes on while a child of its task is open
 abbrev pub waited_too_short : List Event
-waited_too_short = Create 1 0 (Implicit 0) one_job ∷ Waited 0 ∷ []
+waited_too_short = Create 1 0 (Implicit 0) one_job ∷ Waited 0 [] ∷ []
 
 -- a group ends while a task of it is open
 abbrev pub group_ended_early : List Event
@@ -227,7 +227,7 @@ abbrev pub region_with_tasks : List Event
 region_with_tasks =
     Create 1 0 (Implicit 0) one_job ∷ Arrive 0 1 (at Barrier 0) ∷ Start 1 1 ∷ Hold (Critical (97 ∷ [])) 1 (Explicit 1) ∷ Free (Critical (97 ∷ [])) 1 (Explicit 1) ∷ Done 1 1
     ∷ Group 0 0 ∷ Create 2 0 (Implicit 0) other_job ∷ Start 2 0 ∷ Done 2 0 ∷ GroupEnd 0 0
-    ∷ Create 3 0 (Implicit 0) one_job ∷ Start 3 0 ∷ Done 3 0 ∷ Waited 0
+    ∷ Create 3 0 (Implicit 0) one_job ∷ Start 3 0 ∷ Done 3 0 ∷ Waited 0 []
     ∷ Arrive 0 0 (at Barrier 0) ∷ Pass 0 0 ∷ Pass 0 1 ∷ Arrive 1 0 (at RegionEnd 0) ∷ Arrive 1 1 (at RegionEnd 0) ∷ Pass 1 0 ∷ Pass 1 1 ∷ []
 
 -- The team

@@ -45,7 +45,7 @@ pub goes_on_after :
 goes_on_after = (refl, refl)
 
 -- so a barrier does, and a taskwait: the one waits for the other member, the other runs a task
-pub calls_that_go_on : MayGoOn (row_of Barrier) 0 × MayGoOn (row_of Taskwait) 0
+pub calls_that_go_on : MayGoOn (row_of Barrier) 0 × MayGoOn (row_of (Taskwait [])) 0
 calls_that_go_on = ((past_with 2 [], Wait, refl, (refl, refl)), (past_with 1 (Create 1 0 (Implicit 0) one_job ∷ []), RunTask 1 7 70 false, refl, (refl, refl, refl, refl)))
 
 -- a call that is done at once does not

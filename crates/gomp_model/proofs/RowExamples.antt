@@ -409,7 +409,7 @@ both_at kind before after = past_with 2 (before ++ (Arrive 0 0 (at kind 0) ∷ A
 
 -- a member creates a task in its implicit task
 abbrev creates : ℕ → ℕ → Event
-creates task m = Create task m (Implicit m) (record { code = 5; arg = 9 })
+creates task m = Create task m (Implicit m) (job_with 5 9 [])
 
 -- a task that is bound to the barrier is open, and nobody has started it: whoever waits runs it, at a barrier, at the end of a loop and at the region's end
 abbrev task_open : Arrival → Past

@@ -26,7 +26,7 @@ use Rattle.gomp_model.proofs.RowExamples.{starts, nexts, ends, arrivals, in_team
 
 -- the calls on tasks and groups
 abbrev pub on_tasks : List Call
-on_tasks = TaskCreate one_job ∷ TaskEnd ∷ Taskwait ∷ GroupStart ∷ GroupEnd ∷ []
+on_tasks = TaskCreate one_job ∷ TaskEnd ∷ Taskwait [] ∷ GroupStart ∷ GroupEnd ∷ []
 
 -- and all others
 abbrev pub on_no_tasks : List Call
@@ -120,7 +120,7 @@ given m call (reply ∷ replies) = (row_of call).gives m (past_with 2 nested_gro
 -- the end of a task, of whichever it is; what was waited for, or run; the next group, and the end of the task's last one
 pub given_by_tasks :
     (given 0 TaskEnd (TaskDone 2 true ∷ TaskDone 3 false ∷ []) ≡ Done 2 0 ∷ Done 3 0 ∷ [])
-    × (given 0 Taskwait (Passed ∷ RunTask 3 8 80 false ∷ []) ≡ Waited 0 ∷ Start 3 0 ∷ []) × (given 1 Taskwait (Passed ∷ RunTask 4 7 70 false ∷ []) ≡ Waited 1 ∷ Start 4 1 ∷ [])
+    × (given 0 (Taskwait []) (Passed ∷ RunTask 3 8 80 false ∷ []) ≡ Waited 0 [] ∷ Start 3 0 ∷ []) × (given 1 (Taskwait []) (Passed ∷ RunTask 4 7 70 false ∷ []) ≡ Waited 1 [] ∷ Start 4 1 ∷ [])
     × (given 0 GroupStart (Finished ∷ []) ≡ Group 4 0 ∷ []) × (given 1 GroupStart (Finished ∷ []) ≡ Group 4 1 ∷ [])
     × (given 0 GroupEnd (Passed ∷ RunTask 3 8 80 false ∷ []) ≡ GroupEnded 2 0 ∷ Start 3 0 ∷ []) × (given 1 GroupEnd (Passed ∷ []) ≡ GroupEnded 3 1 ∷ [])
 given_by_tasks = (refl, refl, refl, refl, refl, refl, refl)
@@ -139,7 +139,7 @@ no_end = Chunk (pos 0) 1 ∷ NoChunk ∷ Section 0 ∷ Section 1 ∷ Executor tr
 -- a creation gives nothing beside what it has begun with, and no call on a task anything at another call's answer
 pub none_given_by_tasks :
     given 0 (TaskCreate one_job) (Finished ∷ Passed ∷ RunTask 3 8 80 false ∷ TaskDone 2 true ∷ no_end) ++ given 0 TaskEnd (Finished ∷ Passed ∷ RunTask 3 8 80 false ∷ no_end)
-    ++ given 0 Taskwait (Finished ∷ TaskDone 2 true ∷ no_end) ++ given 0 GroupStart (Passed ∷ RunTask 3 8 80 false ∷ TaskDone 2 true ∷ no_end)
+    ++ given 0 (Taskwait []) (Finished ∷ TaskDone 2 true ∷ no_end) ++ given 0 GroupStart (Passed ∷ RunTask 3 8 80 false ∷ TaskDone 2 true ∷ no_end)
     ++ given 0 GroupEnd (Finished ∷ TaskDone 2 true ∷ no_end) ≡ []
 none_given_by_tasks = refl
 
@@ -151,8 +151,8 @@ left_by_tasks = refl
 
 -- among groups: a member runs the child of its task, at a taskwait and at the end of its group; another runs its own, and ends its group, which was opened after it
 pub answered_among_groups :
-    MayReplyAfter false 2 nested_groups 0 Taskwait (RunTask 3 8 80 false) × MayReplyAfter false 2 nested_groups 0 GroupEnd (RunTask 3 8 80 false)
-    × MayReplyAfter false 2 nested_groups 1 Taskwait (RunTask 4 7 70 false) × MayReplyAfter false 2 nested_groups 1 GroupEnd Passed
+    MayReplyAfter false 2 nested_groups 0 (Taskwait []) (RunTask 3 8 80 false) × MayReplyAfter false 2 nested_groups 0 GroupEnd (RunTask 3 8 80 false)
+    × MayReplyAfter false 2 nested_groups 1 (Taskwait []) (RunTask 4 7 70 false) × MayReplyAfter false 2 nested_groups 1 GroupEnd Passed
     × MayReplyAfter false 2 nested_groups 0 TaskEnd (TaskDone 2 true) × MayReplyAfter false 2 nested_groups 0 (TaskCreate one_job) (Created 5)
     × MayReplyAfter false 2 nested_groups 1 (TaskCreate one_job) (Created 5) × MayReplyAfter false 2 nested_groups 1 GroupStart Finished
 answered_among_groups = ((refl, refl, refl, refl), (refl, refl, refl, refl), (refl, refl, refl, refl), refl, refl, refl, refl, refl)
