@@ -88,7 +88,7 @@ aside_allowed members (Start t m) h is = absurd is
 aside_allowed members (Done t m) h is = absurd is
 aside_allowed members (Group q m) h is = absurd is
 aside_allowed members (GroupEnd q m) h is = absurd is
-aside_allowed members (Waited m) h is = absurd is
+aside_allowed members (Waited m []) h is = absurd is
 aside_allowed members _ h is = tt
 
 -- so what a member does in its shares changes nothing of a board, nor what names and locks keep

@@ -235,7 +235,7 @@ after_a_task = refl
 
 -- after a taskwait that is passed, that runs a task, or that waits
 pub after_a_taskwait :
-    map (λ reply. op_after 0 AwaitChildren reply one_ready) (Passed ∷ Run 1 7 9 false ∷ Wait ∷ []) ≡ (Waited 0 ∷ one_ready) ∷ one_runs ∷ one_ready ∷ []
+    map (λ reply. op_after 0 AwaitChildren reply one_ready) (Passed ∷ Run 1 7 9 false ∷ Wait ∷ []) ≡ (Waited 0 [] ∷ one_ready) ∷ one_runs ∷ one_ready ∷ []
 after_a_taskwait = refl
 
 -- after a group was opened, and after its end is passed, runs a task, or waits

@@ -14,10 +14,10 @@ use Rattle.gomp_board.proofs.ReadyKeeps.{none_ready, created_ready, started_read
 
 -- the first member of a team of two creates a task, and the second another
 abbrev one_created : List Event
-one_created = Create 1 0 (Implicit 0) (record { code = 7; arg = 9 }) ∷ []
+one_created = Create 1 0 (Implicit 0) (job_with 7 9 []) ∷ []
 
 abbrev two_created : List Event
-two_created = Create 2 1 (Implicit 1) (record { code = 5; arg = 0 }) ∷ one_created
+two_created = Create 2 1 (Implicit 1) (job_with 5 0 []) ∷ one_created
 
 -- the first member starts the first task, and ends it
 abbrev one_started : List Event
@@ -35,10 +35,10 @@ none_at_first = none_ready
 
 -- then those that were created, in their order
 pub first_is_ready : AreReady (1 ∷ []) one_created
-first_is_ready = created_ready 2 1 0 (Implicit 0) (record { code = 7; arg = 9 }) [] [] tt refl none_ready
+first_is_ready = created_ready 2 1 0 (Implicit 0) (job_with 7 9 []) [] [] tt refl none_ready
 
 pub both_are_ready : AreReady (1 ∷ 2 ∷ []) two_created
-both_are_ready = created_ready 2 2 1 (Implicit 1) (record { code = 5; arg = 0 }) (1 ∷ []) one_created created_so refl first_is_ready
+both_are_ready = created_ready 2 2 1 (Implicit 1) (job_with 5 0 []) (1 ∷ []) one_created created_so refl first_is_ready
 
 -- or in another order
 pub order_is_free : AreReady (2 ∷ 1 ∷ []) two_created

@@ -189,7 +189,7 @@ pub replies_end : map (ends_task 1) (TaskDone 3 true ∷ Run 3 7 9 false ∷ Pas
 replies_end = refl
 
 -- a taskwait is passed
-pub taskwaits_give : map (waited 1) (Passed ∷ Run 3 7 9 false ∷ Wait ∷ []) ≡ (Waited 1 ∷ []) ∷ (Start 3 1 ∷ []) ∷ [] ∷ []
+pub taskwaits_give : map (waited 1) (Passed ∷ Run 3 7 9 false ∷ Wait ∷ []) ≡ (Waited 1 [] ∷ []) ∷ (Start 3 1 ∷ []) ∷ [] ∷ []
 taskwaits_give = refl
 
 -- a group gets the next number

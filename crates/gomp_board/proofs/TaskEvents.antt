@@ -179,15 +179,15 @@ closed_stands b history groups q m h may longer next st = record {
 
 -- A taskwait is passed
 
-pub waited_stands : (b : BoardView) (m : ℕ) (h : List Event) → HasMembers b → m < members_of b → children_complete (executed_task m h) h ≡ true → Stands b h → Stands b (Waited m ∷ h)
+pub waited_stands : (b : BoardView) (m : ℕ) (h : List Event) → HasMembers b → m < members_of b → children_complete (executed_task m h) h ≡ true → Stands b h → Stands b (Waited m [] ∷ h)
 waited_stands b m h has low complete st = record {
-  tasks = events_aside_keep_tasks b.tasks h (Waited m) tt (record { member = task_member b m has low; complete = complete }) st.tasks;
-  groups = events_aside_keep_groups b.groups h (Waited m) tt (record { member = group_member b m has low; complete = complete }) st.groups;
-  barriers = events_aside_keep_barriers b.barriers h (Waited m) tt st.barriers;
-  ready = aside_ready (Waited m) b.ready h tt st.ready;
+  tasks = events_aside_keep_tasks b.tasks h (Waited m []) tt (record { member = task_member b m has low; complete = complete }) st.tasks;
+  groups = events_aside_keep_groups b.groups h (Waited m []) tt (record { member = group_member b m has low; complete = complete }) st.groups;
+  barriers = events_aside_keep_barriers b.barriers h (Waited m []) tt st.barriers;
+  ready = aside_ready (Waited m []) b.ready h tt st.ready;
   clash = st.clash;
-  payloads = payloads_stay b.payloads (Waited m) h tt st.payloads;
-  history = stored_aside b.history (Waited m) h refl st.history;
+  payloads = payloads_stay b.payloads (Waited m []) h tt st.payloads;
+  history = stored_aside b.history (Waited m []) h refl st.history;
 }
 
 -- What a member keeps
