@@ -1,6 +1,6 @@
 //! Tasks: their creation and their end. OpenMP API 5.2, section 12.5.
 
-ghost use Rattle.std.specs.Prelude.{◌≡◌, ◌<◌, ◌≤◌, ◌+◌, ◌++◌, ◌∷◌, List, [], true, false, IfOk, OnOk, IsOk, IsErr};
+ghost use Rattle.std.specs.Prelude.{◌≡◌, ◌<◌, ◌≤◌, ◌+◌, ◌++◌, ◌∷◌, List, [], true, false, not, IfOk, OnOk, IsOk, IsErr};
 ghost use Rattle.std.proofs.Common.{suc};
 ghost use Rattle.std.specs.Vec.{vec_capacity};
 ghost use Rattle.gomp_types.specs.declared.event.Event.{Event as Happening};
@@ -11,6 +11,7 @@ ghost use Rattle.gomp_types.specs.Goals.{may_start};
 ghost use Rattle.gomp_types.specs.TaskCalls.{creates, task_room, CreatesTask, starts_task};
 ghost use Rattle.gomp_depend.specs.Stands.{has_items};
 ghost use Rattle.gomp_board.specs.Boards.{IsAdmitted, IsSame, Performs, Stands, members_of};
+ghost use Rattle.gomp_board.specs.ReadyTasks.{listed_with};
 ghost use Rattle.gomp_board.specs.Startable.{MayStartApart};
 ghost use Rattle.gomp_board.specs.declared.op.Op.TheVariants.{Create, AwaitOwn, EndTask};
 
@@ -78,14 +79,12 @@ impl Board {
             &mut self.ready,
         )?;
         let TaskCopies { stored, items } = copies;
-        let listed = !self.becomes_undeferred(member, desc) && items.as_slice().is_empty();
+        let listed = !self.becomes_undeferred(member, desc) && has_no_items(&items);
         let task = self.tasks.create(member, odd, desc);
         self.groups.create(parent);
         self.barriers.bind(odd);
         self.depends.create(task, parent, items);
-        if listed {
-            self.ready.put(task);
-        }
+        put_if(&mut self.ready, listed, task);
         self.history.push_reserved(Event::Create {
             task,
             member,
@@ -205,6 +204,23 @@ fn copy_items(alloc: Global, desc: &TaskDesc) -> Result<TaskCopies, AllocError>
         },
         items,
     })
+}
+
+/// Whether a clause has no items.
+fn has_no_items(items: &Deps) -> bool
+    ensures { result ≡ not (has_items items.now) }
+{
+    items.as_slice().is_empty()
+}
+
+/// Puts the task at the end of the list, if it is to stand there.
+fn put_if(ready: &mut Ready, listed: bool, task: u32)
+    requires room { 0 < ready.old.room }
+    ensures ids { ready.new.ids ≡ listed_with listed task ready.old.ids }
+{
+    if listed {
+        ready.put(task);
+    }
 }
 
 /// Makes memory for so many events in all, and for one more task.

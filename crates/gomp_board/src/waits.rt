@@ -1,16 +1,18 @@
 //! Waits at which a member executes tasks. OpenMP API 5.2, sections 12.9 and 15.5.
 
-ghost use Rattle.std.specs.Prelude.{◌≡◌, ◌≢◌, ◌<◌, ◌++◌, List, MatchOption, reverse};
+ghost use Rattle.std.specs.Prelude.{◌≡◌, ◌≢◌, true, ◌<◌, ◌++◌, List, MatchOption, reverse};
 ghost use Rattle.gomp_types.specs.declared.event.Event.{Event};
 ghost use Rattle.gomp_types.specs.declared.reply.Reply.TheVariants.{Wait};
 ghost use Rattle.gomp_types.specs.Tasks.{executed_task};
-ghost use Rattle.gomp_types.specs.Goals.{taskwait_met};
+ghost use Rattle.gomp_types.specs.Events.{at_barrier as waits_at_barrier};
+ghost use Rattle.gomp_types.specs.Goals.{is_startable, taskwait_met};
 ghost use Rattle.gomp_types.specs.TaskCalls.{starts_task};
 ghost use Rattle.gomp_board.specs.Boards.{IsAdmitted, Performs, RunsOrWaits, Stands, HasMembers, members_of};
-ghost use Rattle.gomp_board.specs.Startable.{MayStartAt, MayStartNoneListed, MayStartApart, MayStartNone, RunsTask};
+ghost use Rattle.gomp_board.specs.Startable.{IsRowOf, MayStartAt, MayStartNoneListed, MayStartApart, MayStartNone, RunsTask};
 ghost use Rattle.gomp_board.specs.declared.op.Op.TheVariants.{AwaitChildren};
 
 use crate::board::Board;
+use gomp_depend::DependRow;
 use gomp_tasks::Job;
 use gomp_types::{Dep, Event, Reply};
 
@@ -112,15 +114,28 @@ impl Board {
         let waits = self.barriers.at_barrier(member);
         let rows = self.depends.as_slice();
         for place in 0..rows.len() {
-            let task = rows[place].task;
-            if rows[place].open_count == 0
-                && !self.tasks.is_undeferred(task)
-                && self.tasks.may_run(member, waits, task)
-            {
-                return Some(task);
+            if self.may_start_row(member, waits, &rows[place]) {
+                return Some(rows[place].task);
             }
         }
         None
+    }
+
+    /// Whether the member, which waits at a barrier or elsewhere, may start the task of this row there:
+    /// it is deferred, waits for no open task, and may be run.
+    fn may_start_row(&self, member: u16, at_barrier: bool, row: &DependRow) -> bool
+        requires member { member < members_of self.now }
+        requires row { (h : List Event) → Stands self.now h → IsRowOf row.now h }
+        ensures value { (h : List Event) → Stands self.now h →
+            at_barrier ≡ waits_at_barrier member h →
+            result ≡ is_startable member row.now.task h }
+        ensures may { ((h : List Event) → Stands self.now h →
+            at_barrier ≡ waits_at_barrier member h) → result ≡ true →
+            MayStartApart member row.now.task false self.now }
+    {
+        row.open_count == 0
+            && !self.tasks.is_undeferred(row.task)
+            && self.tasks.may_run(member, at_barrier, row.task)
     }
 
     /// The member starts the task at this place of the list.
