@@ -49,6 +49,15 @@ impl Depends {
         }
     }
 
+    /// The open tasks that have items, in the order of their creation, each with the number of open
+    /// tasks for which it waits.
+    pub fn as_slice(&self) -> &[DependRow]
+        ensures known { (h : List Event) × Stands self.now h }
+        ensures value { result.now ≡ self.now.rows }
+    {
+        self.rows.as_slice()
+    }
+
     /// How many open children of the task a new child with these items would wait for.
     pub fn count_named(&self, parent: Task, items: &[Dep]) -> usize
         ensures known { (h : List Event) × Stands self.now h }

@@ -1,10 +1,10 @@
 //! The explicit tasks of a team that one thread steps.
 
-ghost use Rattle.std.specs.Prelude.{◌≡◌, ◌<◌, ◌≤◌, ◌+◌, ◌-◌, ℕ, List, [], ◌∷◌, Some, None, IfOk, OnOk, OnErr, IfSome, replicate, slice_get};
+ghost use Rattle.std.specs.Prelude.{◌≡◌, ◌<◌, ◌≤◌, ◌+◌, ◌-◌, ℕ, List, [], ◌∷◌, Some, None, ◌⊎◌, IfOk, OnOk, OnErr, IfSome, replicate, slice_get};
 ghost use Rattle.gomp_types.specs.declared.event.Event.{Event};
 ghost use Rattle.gomp_types.specs.declared.event.Event.TheVariants.{Create, Start, Done};
 ghost use Rattle.gomp_types.specs.Events.{at_barrier as waits_at_barrier};
-ghost use Rattle.gomp_types.specs.Tasks.{same_task, tasks_created, task_stack, executed_task, depth_of, epoch, is_odd, task_desc, task_runner, is_ancestor, of_explicit, is_final, is_undeferred};
+ghost use Rattle.gomp_types.specs.Tasks.{same_task, tasks_created, task_stack, executed_task, depth_of, epoch, is_odd, task_desc, task_runner, is_ancestor, of_explicit, is_final, is_undeferred, newest_child};
 ghost use Rattle.gomp_types.specs.Goals.{is_unstarted, may_descend, is_own};
 ghost use Rattle.gomp_types.specs.TaskCalls.{HasJob};
 ghost use Rattle.gomp_types.specs.TaskRules.{MayStart};
@@ -163,6 +163,21 @@ impl Tasks {
         self.row(task).parent
     }
 
+    /// The task that was created last in this one; 0 if none was. It costs a step for each task that
+    /// was created since.
+    pub fn newest_child(&self, parent: Task) -> u32
+        ensures known { (h : List Event) × Stands self.now h }
+        ensures number { (result ≡ 0) ⊎ IsNumber result self.now }
+        ensures value { (h : List Event) → Stands self.now h → result ≡ newest_child parent h }
+    {
+        for place in (0..self.rows.len()).rev() {
+            if is_same(self.rows[place].parent, parent) {
+                return place as u32 + 1;
+            }
+        }
+        0
+    }
+
     /// The member that started the task, numbered from 0, if one has.
     pub fn runner(&self, task: u32) -> Option<u16>
         requires task { IsNumber task self.now }
@@ -208,8 +223,9 @@ impl Tasks {
     }
 
     /// Whether the member, numbered from 0, may start the task at a wait, which is at a barrier or
-    /// elsewhere, if the task waits for no other: nobody has started it, and it descends from all tasks that the member has started
-    /// and not ended, and from its implicit one unless it waits at a barrier (own).
+    /// elsewhere, if the task waits for no other: nobody has started it, and it descends from all
+    /// tasks that the member has started and not ended, and from its implicit one unless it waits at a
+    /// barrier (own).
     pub fn may_run(&self, member: u16, at_barrier: bool, task: u32) -> bool
         requires member { member < members_of self.now }
         requires task { IsNumber task self.now }
