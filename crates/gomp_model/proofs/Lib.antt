@@ -11,6 +11,7 @@ pub mod TaskTestExamples
 pub mod TestExamples
 pub mod RunsWithCauses
 pub mod WrongAnswers
+pub mod WrongDependAnswers
 pub mod WrongHoldAnswers
 pub mod WrongShareAnswers
 pub mod WrongTaskAnswers
