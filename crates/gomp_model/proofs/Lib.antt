@@ -1,4 +1,5 @@
 pub mod CauseExamples
+pub mod DependRecordExamples
 pub mod GivenExamples
 pub mod LoopLimits
 pub mod RecordExamples
