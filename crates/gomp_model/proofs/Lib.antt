@@ -1,5 +1,8 @@
 pub mod CauseExamples
+pub mod DependCauseExamples
 pub mod DependRecordExamples
+pub mod DependRowExamples
+pub mod DependTestExamples
 pub mod GivenExamples
 pub mod LoopLimits
 pub mod RecordExamples
