@@ -191,9 +191,11 @@ group_of_another_task = search rules
 pub group_of_two_tasks : IsWrongAfter 1 (Group 0 0 ∷ Create 1 0 (Implicit 0) one_job ∷ Create 2 0 (Implicit 0) other_job ∷ Start 1 0 ∷ []) 0 GroupEnd Passed
 group_of_two_tasks = search rules
 
--- a repeated call creates no second task, and is answered by the number of the newest
-pub created_at_a_resume : MayReplyAfter true 2 nested_groups 0 (TaskCreate one_job) (Created 4) × (MayReplyAfter true 2 nested_groups 0 (TaskCreate one_job) (Created 5) → ⊥)
-created_at_a_resume = (refl, (λ e. absurd (cc)))
+-- a repeated call creates no second task, and is answered by the number of the newest in the executed task
+pub created_at_a_resume :
+    MayReplyAfter true 2 nested_groups 0 (TaskCreate one_job) (Created 3) × (MayReplyAfter true 2 nested_groups 0 (TaskCreate one_job) (Created 4) → ⊥)
+    × (MayReplyAfter true 2 nested_groups 0 (TaskCreate one_job) (Created 5) → ⊥) × MayReplyAfter true 2 nested_groups 1 (TaskCreate one_job) (Created 4)
+created_at_a_resume = (refl, (λ e. absurd (cc)), (λ e. absurd (cc)), refl)
 
 -- Which replies are one
 

@@ -10,7 +10,7 @@ use Rattle.gomp_types.specs.declared.reply.Reply.TheVariants.{TaskDone}
 use Rattle.gomp_types.specs.declared.event.Arrival.TheVariants.{Barrier, RegionEnd}
 use Rattle.gomp_types.specs.declared.event.Event.TheVariants.{Arrive, Pass, Hold, Free, Create, Start, Done, Group, GroupEnd, Waited, Break}
 use Rattle.gomp_types.specs.EventLists.{newest_first, at}
-use Rattle.gomp_types.specs.TaskExamples.{one_job, other_job}
+use Rattle.gomp_types.specs.TaskExamples.{one_job, other_job, job_with}
 use Rattle.gomp_model.specs.Past.{Waits, no_waits}
 use Rattle.gomp_model.specs.Team.{row_at, events}
 use Rattle.gomp_model.specs.Examples.{Run, waits_for, run_recorded, team_of, past_after_run, asks}

@@ -6,7 +6,7 @@ use Rattle.gomp_types.specs.declared.call.Call.TheVariants.{LoopNext, LoopEnd, L
 use Rattle.gomp_types.specs.declared.event.Event.{Event}
 use Rattle.gomp_types.specs.declared.loop_desc.EndKind.TheVariants.{Wait as WaitEnd, Nowait}
 use Rattle.gomp_types.specs.declared.refusal.Refusal.{Refusal}
-use Rattle.gomp_types.specs.declared.refusal.Refusal.TheVariants.{InsideTask, NotInTask, InsideShare, HoldsCritical, GroupOpen, TooDeep, TooManyTasks, Mismatch, TraceFull, NoMemory, BadSections}
+use Rattle.gomp_types.specs.declared.refusal.Refusal.TheVariants.{InsideTask, NotInTask, InsideShare, HoldsCritical, GroupOpen, TooDeep, TooManyTasks, TooManyDepends, Mismatch, TraceFull, NoMemory, BadSections}
 use Rattle.gomp_types.specs.declared.reply.Reply.{Reply}
 use Rattle.gomp_types.specs.declared.reply.Reply.TheVariants.{Chunk, NoChunk, Section, Executor, Finished, Passed, Wait, Created, Run as RunTask, TaskDone, Lock, Stopped, Refused}
 use Rattle.gomp_types.specs.Events.{has_left_region, clash_of}
@@ -224,7 +224,7 @@ abbrev used_up : Past
 used_up = record (past_with 1 []) { room = 16777216 }
 
 pub tests_if_used_up :
-    (board_tests false (row_of (Taskwait [])) 0 used_up ≡ (false, TraceFull) ∷ []) × (board_tests false (row_of (TaskCreate one_job)) 0 used_up ≡ (false, TooDeep) ∷ (false, TooManyTasks) ∷ (true, TraceFull) ∷ [])
+    (board_tests false (row_of (Taskwait [])) 0 used_up ≡ (false, TooManyDepends) ∷ (false, TraceFull) ∷ []) × (board_tests false (row_of (TaskCreate one_job)) 0 used_up ≡ (false, TooDeep) ∷ (false, TooManyTasks) ∷ (false, TooManyDepends) ∷ (true, TraceFull) ∷ [])
     × (board_tests false (row_of GroupStart) 0 used_up ≡ (true, TraceFull) ∷ []) × (board_tests true (row_of Barrier) 0 used_up ≡ [])
 tests_if_used_up = (refl, refl, refl, refl)
 
