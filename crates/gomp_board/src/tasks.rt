@@ -179,6 +179,7 @@ impl Board {
 }
 
 /// What is copied of a description when its task is created.
+#[derive(Drop)]
 struct TaskCopies {
     /// What the history keeps.
     stored: TaskDesc,
