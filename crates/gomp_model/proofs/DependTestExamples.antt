@@ -1,5 +1,5 @@
 -- The test on the number of items, at a creation and at a taskwait: the last number that is let in and the first that is refused, and which refusal comes first.
-use Rattle.std.proofs.Common.{◌≡◌, ℕ, true, false, List, [], ◌∷◌, Some, None, refl}
+use Rattle.std.proofs.Common.{◌≡◌, ℕ, true, false, List, [], ◌∷◌, Some, None, refl, rules}
 use Rattle.std.specs.Prelude.{Option, take, map, length}
 use Rattle.gomp_types.specs.declared.call.Call.{Call}
 use Rattle.gomp_types.specs.declared.call.Call.TheVariants.{Barrier, RegionEnd, TaskEnd, Taskwait, Resume, Stop}
@@ -8,13 +8,13 @@ use Rattle.gomp_types.specs.declared.event.Event.{Event}
 use Rattle.gomp_types.specs.declared.refusal.Place.TheVariants.{Stopped as AtStop}
 use Rattle.gomp_types.specs.declared.refusal.Refusal.{Refusal}
 use Rattle.gomp_types.specs.declared.refusal.Refusal.TheVariants.{BadMember, Ended, Broken, Waiting, TooDeep, TooManyTasks, TooManyDepends, TraceFull}
-use Rattle.gomp_types.specs.declared.reply.Reply.TheVariants.{Passed, Stopped}
+use Rattle.gomp_types.specs.declared.reply.Reply.TheVariants.{Passed, Run as RunTask, TaskDone, Stopped, Refused}
 use Rattle.gomp_types.specs.Events.{has_left_region, clash_of}
 use Rattle.gomp_types.specs.Tasks.{tasks_created, executed_task, depth_of}
 use Rattle.gomp_model.specs.Past.{Past}
 use Rattle.gomp_model.specs.Row.{board_tests}
 use Rattle.gomp_model.specs.Calls.{row_of}
-use Rattle.gomp_model.specs.Team.{refusal_of, before_all, past_of}
+use Rattle.gomp_model.specs.Team.{MayAnswer, refusal_of, before_all, past_of}
 use Rattle.gomp_model.specs.Examples.{Run, run_recorded, past_with, past_after_run, team_of, asks}
 use Rattle.gomp_model.specs.TaskRuns.{with_events, one_task, room_for_one_task}
 use Rattle.gomp_model.specs.DependRuns.{creates_with, creates_at_once, down_at_once, nested_at_once, writer_before_its_own, waits_for_its_own, reads, repeats}
@@ -117,6 +117,12 @@ pub deepest_undeferred_tasks :
     (refusals_after (down_at_once 63) (creates_at_once 1 [] ∷ []) ≡ None ∷ [])
     × (refusals_after (down_at_once 64) (creates_at_once 1 [] ∷ creates_with 1 [] ∷ creates_with 1 (reads 17) ∷ TaskEnd ∷ []) ≡ Some TooDeep ∷ Some TooDeep ∷ Some TooDeep ∷ None ∷ [])
 deepest_undeferred_tasks = (refl, refl)
+
+-- the sixty-fourth is run as its creation's own, and they end from there
+pub answers_of_the_deepest :
+    MayAnswer (past_after_run 1 (down_at_once 63)) (asks 0 (creates_at_once 1 [])) (RunTask 64 1 0 true) × MayAnswer (past_after_run 1 (down_at_once 64)) (asks 0 (creates_at_once 1 [])) (Refused TooDeep)
+    × MayAnswer (past_after_run 1 (down_at_once 64)) (asks 0 TaskEnd) (TaskDone 64 false) × MayAnswer (past_after_run 1 (take 127 (nested_at_once 64))) (asks 0 TaskEnd) (TaskDone 1 false)
+answers_of_the_deepest = search rules
 
 -- once they have ended another may be created
 pub undeferred_after_all : refusals_after (nested_at_once 64) (creates_at_once 1 [] ∷ Barrier ∷ []) ≡ None ∷ None ∷ []

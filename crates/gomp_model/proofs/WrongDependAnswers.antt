@@ -5,9 +5,12 @@ use Rattle.gomp_types.specs.declared.call.Call.TheVariants.{Barrier, CriticalSta
 use Rattle.gomp_types.specs.declared.depend.DepKind.TheVariants.{DepIn, DepOut, DepInout, DepInoutset, DepMutex}
 use Rattle.gomp_types.specs.declared.refusal.Refusal.TheVariants.{Waiting, InsideTask, NotInTask, HoldsCritical, NotInside, TooDeep, TooManyTasks, TooManyDepends, TraceFull, NoMemory}
 use Rattle.gomp_types.specs.declared.reply.Reply.TheVariants.{Finished, Passed, Wait, Created, Run as RunTask, TaskDone, Refused}
-use Rattle.gomp_model.specs.Examples.{IsWrong, AreWrong, asks, share_answers, lock_answers, all_refusals}
+use Rattle.gomp_types.specs.TaskExamples.{item}
+use Rattle.gomp_model.specs.Team.{MayAnswer, past_of}
+use Rattle.gomp_model.specs.TaskRuns.{with_events, one_task, room_for_one_task}
+use Rattle.gomp_model.specs.Examples.{run_recorded, past_after_run, IsWrong, AreWrong, asks, share_answers, lock_answers, all_refusals}
 use Rattle.gomp_model.specs.HoldExamples.{name_a}
-use Rattle.gomp_model.specs.DependRuns.{creates_with, creates_at_once, creates_final, one_item, undeferred_alone, child_of_an_undeferred_task, wait_in_an_undeferred_task, down_at_once, writer_before_its_own, waits_for_its_own, another_before_its_own, task_in_a_final_task, children_of_a_final_task, reader_at_a_barrier, readers_between_writers, sets_together, mutexes_in_order, pair_of_kinds, items_of_others, waits_for_one_item, passes_beside_another, runs_the_unnamed, waits_for_the_held, child_of_a_kind, reads, repeats, as_many_items, names_of_an_undeferred_task}
+use Rattle.gomp_model.specs.DependRuns.{creates_with, creates_at_once, creates_final, one_item, undeferred_alone, child_of_an_undeferred_task, wait_in_an_undeferred_task, down_at_once, writer_before_its_own, waits_for_its_own, another_before_its_own, task_in_a_final_task, children_of_a_final_task, reader_at_a_barrier, readers_between_writers, sets_together, mutexes_in_order, two_writers, pair_of_kinds, items_of_others, waits_for_one_item, passes_beside_another, runs_the_unnamed, waits_for_the_held, child_of_a_kind, reads, repeats, as_many_items, names_of_an_undeferred_task}
 
 -- The creation of an undeferred task
 
@@ -277,7 +280,24 @@ pub items_refused_otherwise_are_wrong :
     × AreWrong 1 [] (asks 0 (Taskwait (reads 17))) (Refused NoMemory ∷ Refused TooDeep ∷ Refused TooManyTasks ∷ Refused TraceFull ∷ Refused InsideTask ∷ [])
 items_refused_otherwise_are_wrong = search rules
 
+-- a test of a greater number comes before: that on items before those on depth and on the number of tasks, and that on room before it
+pub refused_out_of_order_is_wrong :
+    AreWrong 1 (down_at_once 64) (asks 0 (creates_with 1 (reads 17))) (Refused TooManyDepends ∷ Refused TooManyTasks ∷ Refused TraceFull ∷ Created 65 ∷ [])
+    × (MayAnswer (past_of one_task (run_recorded (take 1 room_for_one_task) [])) (asks 0 (creates_with 1 (reads 17))) (Refused TooManyDepends) → ⊥)
+    × (MayAnswer (past_of one_task (run_recorded (take 1 room_for_one_task) [])) (asks 0 (creates_with 1 (reads 17))) (Refused TraceFull) → ⊥)
+    × (MayAnswer (past_of (with_events 1 5) []) (asks 0 (creates_with 1 (reads 17))) (Refused TraceFull) → ⊥)
+refused_out_of_order_is_wrong = search rules
+
 -- a taskwait with items is refused for want of memory
 pub memory_at_taskwait_with_items_is_wrong :
     IsWrong 1 [] (asks 0 (Taskwait (one_item DepIn 100))) (Refused NoMemory) × IsWrong 1 (take 2 waits_for_one_item) (asks 0 (Taskwait (one_item DepIn 100))) (Refused NoMemory)
 memory_at_taskwait_with_items_is_wrong = search rules
+
+-- Either of two tasks
+
+-- of two readers a member may run either, and so may a creator whose own task is held of two others
+pub either_reader_may_run :
+    MayAnswer (past_after_run 2 (take 7 readers_between_writers)) (asks 0 Resume) (RunTask 2 2 0 false) × MayAnswer (past_after_run 2 (take 7 readers_between_writers)) (asks 0 Resume) (RunTask 3 3 0 false)
+    × MayAnswer (past_after_run 1 two_writers) (asks 0 (creates_at_once 3 (item DepIn 100 ∷ item DepIn 200 ∷ []))) (RunTask 1 1 0 false)
+    × MayAnswer (past_after_run 1 two_writers) (asks 0 (creates_at_once 3 (item DepIn 100 ∷ item DepIn 200 ∷ []))) (RunTask 2 2 0 false)
+either_reader_may_run = search rules

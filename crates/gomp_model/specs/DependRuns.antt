@@ -233,6 +233,23 @@ mutexes_in_order =
     ∷ (asks 0 Resume, RunTask 3 3 0 false)
     ∷ []
 
+-- two writers of two addresses
+abbrev pub two_writers : Run
+two_writers = (asks 0 (creates_with 1 (one_item DepOut 100)), Created 1) ∷ (asks 0 (creates_with 2 (one_item DepOut 200)), Created 2) ∷ []
+
+-- a creator whose own task names both runs both before it
+abbrev pub both_before_its_own : Run
+both_before_its_own =
+    two_writers
+    ++ (asks 0 (creates_at_once 3 (item DepIn 100 ∷ item DepIn 200 ∷ [])), RunTask 1 1 0 false)
+    ∷ (asks 0 TaskEnd, TaskDone 1 true)
+    ∷ (asks 0 Resume, RunTask 2 2 0 false)
+    ∷ (asks 0 TaskEnd, TaskDone 2 true)
+    ∷ (asks 0 Resume, RunTask 3 3 0 true)
+    ∷ (asks 0 TaskEnd, TaskDone 3 false)
+    ∷ (asks 0 (Taskwait []), Passed)
+    ∷ []
+
 -- an earlier task, which another member runs, and a later one on the same address: the creator waits at a barrier
 abbrev pub pair_of_kinds : DepKind → DepKind → Run
 pair_of_kinds new old =

@@ -1,4 +1,4 @@
--- The rows of the calls on tasks and groups. OpenMP API 5.2, chapter 12 and sections 15.4 and 15.5.
+-- The rows of the calls on tasks and groups. OpenMP API 5.2, chapter 12 and sections 15.4, 15.5 and 15.9.5.
 use Rattle.std.specs.Prelude.{true, List, Some}
 use Rattle.gomp_types.specs.declared.depend.Dep.{Dep}
 use Rattle.gomp_types.specs.declared.task.TaskDesc.{TaskDesc}
