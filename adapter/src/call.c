@@ -206,8 +206,8 @@ void call_words(const struct call *call, const struct call *share, struct text *
     }
 }
 
-// A task's creation is answered `created`; that of an undeferred one `run`: of this task, or while it waits for
-// those that it depends on, of another.
+// A task's creation is answered `created`; that of an undeferred one `run`: of this task, or of another while
+// it waits for those that it depends on.
 static bool may_be_answered_creation(const struct task *task, const struct reply *answer)
 {
     if (!task->is_undeferred)
@@ -271,7 +271,8 @@ static bool read_task(const char *line, struct reply *reply)
         snprintf(printed, sizeof printed, "run %lu %lu %lu%s", reply->count, reply->code, reply->argument,
                  reply->is_own ? " own" : "");
     } else if (sscanf(line, "task_done %lu", &reply->count) == 1) {
-        snprintf(printed, sizeof printed, "task_done %lu %s", reply->count, reply->is_waiting ? "waiting" : "free");
+        snprintf(printed, sizeof printed, "task_done %lu %s", reply->count,
+                 reply->is_waiting ? "waiting" : "free");
         kind = REPLY_TASK_DONE;
     }
     if (*printed == 0 || strcmp(line, printed) != 0)

@@ -8,7 +8,8 @@
 
 #include "items.h"
 
-enum { LINE_SIZE = 256, CALL_LINE_SIZE = 1024, TEXT_SIZE = 32768 }; // a call with items is longer than a reply
+// A call with items is longer than a reply.
+enum { LINE_SIZE = 256, CALL_LINE_SIZE = 1024, TEXT_SIZE = 32768 };
 
 enum call_kind {
     CALL_NONE,

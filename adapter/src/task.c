@@ -13,16 +13,6 @@
 // The flags of GOMP_task that change something; `untied`, `mergeable` and `priority` do not.
 enum { FLAG_FINAL = 1 << 1, FLAG_DEPEND = 1 << 3, FLAG_DETACH = 1 << 13 };
 
-static void end_clause_not_served(const void *argument, const char *clause)
-{
-    const struct context *context = argument;
-    static struct text text;
-    claim_end();
-    text_add(&text, "%s", clause);
-    place_add(context->address, &text);
-    end_not_served(text.bytes);
-}
-
 // A task of the member's current one, with a copy of its data: by the program's function, if it has one.
 static struct task *task_make(struct context *context, void (*function)(void *), void *data,
                               void (*copy)(void *, void *), size_t size, size_t alignment)
@@ -64,10 +54,10 @@ EXPORT void GOMP_task(void (*function)(void *), void *data, void (*copy)(void *,
     struct context *context = ENTER();
     (void)priority, (void)detach;
     if (flags & FLAG_DETACH)
-        end_clause_not_served(context, "#pragma omp task with a detach clause");
+        end_clause_not_served("#pragma omp task with a detach clause", context->address);
     struct items items = {0};
     if (flags & FLAG_DEPEND)
-        items = items_read(depend, end_clause_not_served, context);
+        items = items_read(depend, context->address);
     void *address = context->address;
     struct task *task = task_make(context, function, data, copy, (size_t)size, (size_t)alignment);
     context->address = address; // the copying may have called
@@ -97,7 +87,7 @@ EXPORT void GOMP_taskwait(void) { context_call(ENTER(), (struct call){.kind = CA
 EXPORT void GOMP_taskwait_depend(void **depend)
 {
     struct context *context = ENTER();
-    struct items items = items_read(depend, end_clause_not_served, context);
+    struct items items = items_read(depend, context->address);
     context_call(context, (struct call){.kind = CALL_TASKWAIT, .items = items.count > 0 ? &items : NULL});
 }
 

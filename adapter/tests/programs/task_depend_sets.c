@@ -15,8 +15,10 @@ static void exclusive(void) {
 #pragma omp task depend(mutexinoutset : counter)
     {
         CHECK(counter >= 1000, "%d", counter);
-        CHECK(++inside == 1, "%d are inside", inside);
-        counter++;
+        int now = ++inside, before = counter;
+        usleep(100);
+        CHECK(now == 1 && inside == 1, "%d are inside", inside);
+        counter = before + 1;
         inside--;
     }
 #pragma omp task depend(in : counter)
