@@ -145,7 +145,7 @@ abbrev pub ends_task : ℕ → Reply → List Event
 ends_task m (TaskDone task waiting) = Done task m ∷ []
 ends_task m _ = []
 
--- a taskwait with these items that is passed
+-- a taskwait with these items: a reply that it is passed gives the wait, and a reply Run the start of the task that it has the member execute
 abbrev pub waited : ℕ → List Dep → Reply → List Event
 waited m items Passed = Waited m items ∷ []
 waited m items reply = starts_task m reply
@@ -160,7 +160,7 @@ abbrev pub ends_first : List ℕ → ℕ → List Event
 ends_first [] m = []
 ends_first (q ∷ outer) m = GroupEnd q m ∷ []
 
--- the end of the last open group, once it is passed
+-- the end of the last open group: a reply that it is passed gives its end, and a reply Run the start of the task that it has the member execute
 abbrev pub ends_group : ℕ → List Event → Reply → List Event
 ends_group m h Passed = ends_first (open_groups (executed_task m h) h) m
 ends_group m h reply = starts_task m reply

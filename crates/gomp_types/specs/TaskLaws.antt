@@ -87,7 +87,7 @@ abbrev pub PassesAfterTasks : Event → List Event → Type 0
 PassesAfterTasks (Pass barrier m) earlier = (t : ℕ) → IsCreated t earlier → epoch t earlier ≤ barrier → IsDone t earlier
 PassesAfterTasks _ earlier = Unit {0}
 
--- no task that is bound to a barrier is created after a member passed it
+-- no task that is bound to a barrier, or to an earlier one, is created after a member passed it
 abbrev pub CreatesLater : Event → List Event → Type 0
 CreatesLater (Create t m parent desc) earlier = (barrier n : ℕ) → Happened (Pass barrier n) earlier → barrier < epoch t (Create t m parent desc ∷ earlier)
 CreatesLater _ earlier = Unit {0}

@@ -62,7 +62,8 @@ pub enum Call {
     /// Makes a simple lock, which is not set, and asks for its number (OpenMP API 5.2, section
     /// 18.9.1).
     LockInit,
-    /// Makes a nestable lock, which is not set, and asks for its number.
+    /// Makes a nestable lock, which is not set, and asks for its number (OpenMP API 5.2, section
+    /// 18.9.1).
     NestInit,
     /// Destroys the lock of this number, of either kind; the number is not used again (OpenMP API
     /// 5.2, section 18.9.3).
@@ -76,18 +77,18 @@ pub enum Call {
     /// 18.9.5).
     Unset(u32),
     /// Sets the nestable lock of this number once more, once no other task holds it, and asks how
-    /// often the task has set it.
+    /// often the task has set it (OpenMP API 5.2, section 18.9.4).
     SetNest(u32),
     /// Sets the nestable lock of this number once more if no other task holds it, and asks how often
-    /// the task has set it; 0 if another task holds it.
+    /// the task has set it; 0 if another task holds it (OpenMP API 5.2, section 18.9.6).
     TestNest(u32),
     /// Unsets the nestable lock of this number, which the member's task holds, once, and asks how
-    /// often it is set still.
+    /// often it is set still (OpenMP API 5.2, section 18.9.5).
     UnsetNest(u32),
     /// Creates a task in the task that the member executes, to run this code with this argument, and
     /// asks for its number (OpenMP API 5.2, section 12.5; libgomp's `GOMP_task`).
     TaskCreate(TaskDesc),
-    /// Ends the explicit task that the member executes.
+    /// Ends the explicit task that the member executes (OpenMP API 5.2, section 12.5).
     TaskEnd,
     /// Waits for the children of the task that the member executes, with items for those of them that
     /// a child with these items waits for (OpenMP API 5.2, section 15.5; libgomp's `GOMP_taskwait`
@@ -97,7 +98,7 @@ pub enum Call {
     /// `GOMP_taskgroup_start`).
     GroupStart,
     /// Ends the last open group of that task, once the tasks created in it, and all that descend from
-    /// these, are complete.
+    /// these, are complete (OpenMP API 5.2, section 15.4).
     GroupEnd,
     /// Repeats the call whose answer was to wait.
     Resume,

@@ -1,8 +1,7 @@
-use Rattle.std.proofs.Common.{◌≡◌, ◌<◌, ◌≤◌, ◌-◌, ◌+◌, ℕ, length, refl, ◌∙◌, sym, subst, arith}
+use Rattle.std.proofs.Common.{◌≡◌, ◌-◌, ◌+◌, length, refl, ◌∙◌, sym, arith}
 use Rattle.std.proofs.lemmas.Option.{slice_get_read}
-use Rattle.gomp_types.specs.Tasks.{newest_child}
 use Rattle.gomp_tasks.proofs.TasksKeep.{tasks_of_view_stand}
-use Rattle.gomp_tasks.proofs.NewestChild.{NoneFrom, newest_is, none_is_newest, child_by_row, tasks_all_have_rows, less_one}
+use Rattle.gomp_tasks.proofs.NewestChild.{newest_is, none_is_newest, child_by_row, tasks_all_have_rows, less_one}
 use Rattle.gomp_tasks.proofs.tasks.Tasks.newest_child.Goals as goal
 
 pub loop-place-init : goal.loop-place-init
