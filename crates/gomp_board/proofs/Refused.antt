@@ -18,7 +18,7 @@ use Rattle.gomp_types.specs.Events.{barriers_passed, clash_of}
 use Rattle.gomp_types.specs.Tests.{Test}
 use Rattle.gomp_types.specs.Least.{lesser, least}
 use Rattle.gomp_board.specs.declared.op.Op.{Op}
-use Rattle.gomp_board.specs.declared.op.Op.TheVariants.{Create, EndTask, AwaitChildren, OpenGroup, EndGroup, AwaitGroup, Arrive, AwaitBarrier, Reserve, Put, Got, Break}
+use Rattle.gomp_board.specs.declared.op.Op.TheVariants.{Create, AwaitOwn, EndTask, AwaitChildren, OpenGroup, EndGroup, AwaitGroup, Arrive, AwaitBarrier, Reserve, Put, Got, Break}
 use Rattle.gomp_board.specs.Ops.{broken_tests, member_tests, end_tests, op_tests, op_refusal, op_place, refusal_gives, OpAnswer}
 use Rattle.gomp_board.specs.Boards.{BoardView, Stands, Performs, members_of, kept_by}
 
@@ -60,9 +60,10 @@ end_is_low ShareEnd m h = tt
 end_is_low RegionEnd m h = (omega arith, tt)
 
 own_are_low : (limits : Limits) (room kept m : ℕ) (op : Op) (h : List Event) → AreLow (op_tests limits room kept m op h)
-own_are_low limits room kept m (Create desc) h = (omega arith, (omega arith, (omega arith, (omega arith, tt))))
+own_are_low limits room kept m (Create desc) h = (omega arith, (omega arith, (omega arith, (omega arith, (omega arith, tt)))))
+own_are_low limits room kept m AwaitOwn h = (omega arith, tt)
 own_are_low limits room kept m EndTask h = (omega arith, (omega arith, (omega arith, tt)))
-own_are_low limits room kept m AwaitChildren h = (omega arith, tt)
+own_are_low limits room kept m (AwaitChildren items) h = (omega arith, tt)
 own_are_low limits room kept m OpenGroup h = (omega arith, (omega arith, tt))
 own_are_low limits room kept m EndGroup h = (omega arith, (omega arith, tt))
 own_are_low limits room kept m AwaitGroup h = (omega arith, tt)
