@@ -1,5 +1,5 @@
 -- The refusal of an operation is that of the first test that holds, since the tests stand in the order of their numbers.
-use Rattle.std.proofs.Common.{◌≡◌, ℕ, Bool, true, false, List, ◌∷◌, ◌++◌, Option, Some, None, refl, ◌∙◌}
+use Rattle.std.proofs.Common.{◌≡◌, ℕ, Bool, true, false, List, ◌∷◌, ◌++◌, Option, Some, None, refl, ◌∙◌, sym, []}
 use Rattle.std.specs.Prelude.{nat_le}
 use Rattle.gomp_types.specs.declared.limits.Limits.{Limits}
 use Rattle.gomp_types.specs.declared.refusal.Clash.{Clash}
@@ -10,7 +10,7 @@ use Rattle.gomp_types.specs.declared.event.Arrival.TheVariants.{Barrier, ShareEn
 use Rattle.gomp_types.specs.declared.event.Event.{Event}
 use Rattle.gomp_types.specs.Compare.{tag_differs}
 use Rattle.gomp_types.specs.Events.{barriers_passed, tag_at, has_left_region, clash_of}
-use Rattle.gomp_types.specs.Tests.{first_refusal}
+use Rattle.gomp_types.specs.Tests.{Test, first_refusal}
 use Rattle.gomp_types.specs.TaskCalls.{outside_tasks_tests, room_tests}
 use Rattle.gomp_types.proofs.LeastTests.{from, first_is_least}
 use Rattle.gomp_board.specs.declared.op.Op.{Op}

@@ -15,6 +15,7 @@ use Rattle.gomp_types.specs.EventLists.{at, four}
 use Rattle.gomp_types.specs.TaskCalls.{first_room}
 use Rattle.gomp_board.specs.Stored.{is_stored, stored, IsAside, AreAside}
 use Rattle.gomp_board.specs.Owed.{owed_by_tasks, has_group_ended, count_below, owed_by_groups, owed_by_member, owed_by_members, owed_for_break, owed, events_memory}
+use Rattle.gomp_types.specs.TaskExamples.{job_with}
 use Rattle.gomp_board.specs.Examples.{creates_root, one_ready, one_runs, one_done, other_runs, group_empty, group_done, first_waits, both_wait, second_ends, both_end, first_left, stopped}
 
 -- Stored events

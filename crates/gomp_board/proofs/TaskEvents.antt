@@ -24,7 +24,7 @@ use Rattle.gomp_barrier.specs.Calls.{IsParent}
 use Rattle.gomp_barrier.specs.Stands.{BarriersView, Stands as BarriersStand, members_of as barrier_members}
 use Rattle.gomp_barrier.proofs.Laws.{events_aside_keep_barriers}
 use Rattle.gomp_depend.proofs.Laws.{events_aside_keep_depends}
-use Rattle.gomp_depend.specs.Stands.{DependsView, RowsStand, Stands as DependsStand, has_items}
+use Rattle.gomp_depend.specs.Stands.{DependsView, RowsStand, Stands as DependsStand, has_items, IsOpen}
 use Rattle.gomp_depend.specs.declared.rows.DependRow.{DependRow}
 use Rattle.gomp_board.specs.ReadyTasks.{is_listed, listed_with}
 use Rattle.gomp_board.specs.Owed.{owed}
@@ -189,6 +189,9 @@ ended_stands b history tasks groups barriers depends t m h longer current next_t
 
 pub executed_open : (b : BoardView) (m t : ℕ) (h : List Event) → Stands b h → executed_task m h ≡ Explicit t → (is_created t h ≡ true) × (is_complete t h ≡ false)
 executed_open b m t h st current = let is = current_open (task_members b.tasks) m t h st.tasks.rule current in (is.0, is.1)
+
+pub task_open : (b : BoardView) (m t : ℕ) (h : List Event) → Stands b h → executed_task m h ≡ Explicit t → IsOpen t h
+task_open b m t h st current = let is = executed_open b m t h st current in record { created = is.0; incomplete = is.1 }
 
 -- A group is opened and ended
 

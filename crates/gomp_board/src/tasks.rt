@@ -1,6 +1,6 @@
 //! Tasks: their creation and their end. OpenMP API 5.2, section 12.5.
 
-ghost use Rattle.std.specs.Prelude.{◌≡◌, ◌<◌, ◌≤◌, ◌+◌, ◌++◌, ◌∷◌, List, [], true, false, not, IfOk, OnOk, IsOk, IsErr};
+ghost use Rattle.std.specs.Prelude.{◌≡◌, ◌<◌, ◌≤◌, ◌+◌, ◌++◌, ◌∷◌, List, [], true, false, not, ◌&&◌, IfOk, OnOk, IsOk, IsErr};
 ghost use Rattle.std.proofs.Common.{suc};
 ghost use Rattle.std.specs.Vec.{vec_capacity};
 ghost use Rattle.gomp_types.specs.declared.event.Event.{Event as Happening};
@@ -79,7 +79,7 @@ impl Board {
             &mut self.ready,
         )?;
         let TaskCopies { stored, items } = copies;
-        let listed = !self.becomes_undeferred(member, desc) && has_no_items(&items);
+        let listed = is_listed(self.becomes_undeferred(member, desc), &items);
         let task = self.tasks.create(member, odd, desc);
         self.groups.create(parent);
         self.barriers.bind(odd);
@@ -207,11 +207,11 @@ fn copy_items(alloc: Global, desc: &TaskDesc) -> Result<TaskCopies, AllocError>
     })
 }
 
-/// Whether a clause has no items.
-fn has_no_items(items: &Deps) -> bool
-    ensures { result ≡ not (has_items items.now) }
+/// Whether a task that is created is to stand in the list: it is deferred and has no items.
+fn is_listed(undeferred: bool, items: &Deps) -> bool
+    ensures { result ≡ (not undeferred && not (has_items items.now)) }
 {
-    items.as_slice().is_empty()
+    !undeferred && items.as_slice().is_empty()
 }
 
 /// Puts the task at the end of the list, if it is to stand there.
