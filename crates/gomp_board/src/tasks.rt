@@ -68,6 +68,7 @@ impl Board {
     {
         let parent = self.current(member);
         let odd = self.child_is_odd(member);
+        let undeferred = self.becomes_undeferred(member, desc);
         let room = self.room + TASK_ROOM;
         let copies = copy_items(self.alloc, desc)?;
         reserve_task(
@@ -79,7 +80,7 @@ impl Board {
             &mut self.ready,
         )?;
         let TaskCopies { stored, items } = copies;
-        let listed = is_listed(self.becomes_undeferred(member, desc), &items);
+        let listed = is_listed(undeferred, &items);
         let task = self.tasks.create(member, odd, desc);
         self.groups.create(parent);
         self.barriers.bind(odd);

@@ -22,7 +22,8 @@ use Rattle.gomp_board.proofs.board.Board.add_task.Goals as goal
 pub overflow_add-room : goal.overflow_add-room
 overflow_add-room c =
     let b = the_view c.self.inside in
-    creation_fits c.args.self.now b c.args.member c.args.desc.now _ c.self.view_is c.self.invariant c.requires.admitted
+    let small = creation_fits c.args.self.now b c.args.member c.args.desc.now _ c.self.view_is c.self.invariant c.requires.admitted in
+    omega (arith, small)
 
 pub create-task-requires-clause-few : goal.create-task-requires-clause-few
 create-task-requires-clause-few c =
@@ -57,15 +58,15 @@ bind-requires-clause-may c =
     let now_st = subst (λ (v : BoardView). Stands v own) c.self.view_is st in
     (own, suc (tasks_created own), c.current-parent.result, st.barriers, create_binds b m c.current-parent.result c.child_is_odd-odd.result own c.self.invariant.members low (c.current-parent.ensures.value own now_st) (c.child_is_odd-odd.ensures.value own now_st) st)
 
-pub invariant_of-self-3 : goal.invariant_of-self-3
-invariant_of-self-3 c =
+pub invariant_of-self-2 : goal.invariant_of-self-2
+invariant_of-self-2 c =
     let now = c.args.self.now in let b = the_view c.self.inside in let m = c.args.member in let t = c.create-task.result in let p = c.current-parent.result in
     let d = c.args.desc.now in
     let low = subst (λ (v : BoardView). m < members_of v) (sym c.self.view_is) c.requires.member in
     let same_tasks : task_members c.reserve_task.new.tasks ≡ task_members b.tasks = ap task_members c.reserve_task.ensures.tasks in
     let same_groups : group_members c.reserve_task.new.groups ≡ group_members b.groups = ap group_members c.reserve_task.ensures.groups in
     let in_tasks = task_member b m c.self.invariant.members low in let in_groups = group_member b m c.self.invariant.members low in
-    let stored : c.in_ok-copies.field-0.stored ≡ d = c.in_ok-copies.ensures.stored in
+    let stored : c.in_ok-copies.copies.stored ≡ d = c.in_ok-copies.ensures.stored in
     let longer = c.push_reserved.ensures.items ∙ ap (λ (x : TaskDesc). c.reserve_task.new.history.items ++ Create t m p x ∷ []) stored ∙ ap (λ (es : List Event). es ++ Create t m p d ∷ []) c.reserve_task.ensures.history in
     let more = c.put_if.ensures.ids ∙ ap (λ (ids : List ℕ). listed_with c.is_listed-listed.result t ids) (ap (λ (v : ReadyView). v.ids) c.reserve_task.ensures.ready) in
     let own = reverse b.history in let st = c.self.invariant.stands in
@@ -80,7 +81,7 @@ invariant_of-self-3 c =
     let next_groups = c.create.ensures.stands own m d groups (subst (λ (q : Task). MayCreate (group_members c.reserve_task.new.groups) (suc (tasks_created own)) m q own) (sym current) may) in
     let next_barriers = c.bind.ensures.stands own (suc (tasks_created own)) m p d st.barriers (create_binds b m p c.child_is_odd-odd.result own c.self.invariant.members low current parity st) in
     let next_depends = c.create-2.ensures.stands own m d depends number (sym c.in_ok-copies.ensures.items) in
-    let plain = listed_so c.is_listed-listed.result c.becomes_undeferred.result c.in_ok-copies.field-0.items d p own c.is_listed-listed.ensures (c.becomes_undeferred.ensures.value own now_st) current c.in_ok-copies.ensures.items in
+    let plain = listed_so c.is_listed-listed.result c.becomes_undeferred-undeferred.result c.in_ok-copies.copies.items d p own c.is_listed-listed.ensures (c.becomes_undeferred-undeferred.ensures.value own now_st) current c.in_ok-copies.ensures.items in
     let stands = created_stands b c.push_reserved.new.self.items (c.self.inside.room + 3) c.create-task.new.self c.create.new.self c.bind.new.self c.create-2.new.self c.put_if.new.ready.ids t m c.is_listed-listed.result p d own longer more number plain
     (subst (λ (q : Task). TasksStand c.create-task.new.self (Create t m q d ∷ own)) (sym current) next)
     (subst (λ (n : ℕ). GroupsStand c.create.new.self (Create n m p d ∷ own)) (sym number) next_groups)
@@ -98,7 +99,7 @@ returns-clause-stands c = λ h given.
     let same_tasks : task_members c.reserve_task.new.tasks ≡ task_members b.tasks = ap task_members c.reserve_task.ensures.tasks in
     let same_groups : group_members c.reserve_task.new.groups ≡ group_members b.groups = ap group_members c.reserve_task.ensures.groups in
     let in_tasks = task_member b m c.self.invariant.members low in let in_groups = group_member b m c.self.invariant.members low in
-    let stored : c.in_ok-copies.field-0.stored ≡ d = c.in_ok-copies.ensures.stored in
+    let stored : c.in_ok-copies.copies.stored ≡ d = c.in_ok-copies.ensures.stored in
     let longer = c.push_reserved.ensures.items ∙ ap (λ (x : TaskDesc). c.reserve_task.new.history.items ++ Create t m p x ∷ []) stored ∙ ap (λ (es : List Event). es ++ Create t m p d ∷ []) c.reserve_task.ensures.history in
     let more = c.put_if.ensures.ids ∙ ap (λ (ids : List ℕ). listed_with c.is_listed-listed.result t ids) (ap (λ (v : ReadyView). v.ids) c.reserve_task.ensures.ready) in
     let st = subst (λ (v : BoardView). Stands v h) (sym c.self.view_is) given in
@@ -113,7 +114,7 @@ returns-clause-stands c = λ h given.
     let next_groups = c.create.ensures.stands h m d groups (subst (λ (q : Task). MayCreate (group_members c.reserve_task.new.groups) (suc (tasks_created h)) m q h) (sym current) may) in
     let next_barriers = c.bind.ensures.stands h (suc (tasks_created h)) m p d st.barriers (create_binds b m p c.child_is_odd-odd.result h c.self.invariant.members low current parity st) in
     let next_depends = c.create-2.ensures.stands h m d depends number (sym c.in_ok-copies.ensures.items) in
-    let plain = listed_so c.is_listed-listed.result c.becomes_undeferred.result c.in_ok-copies.field-0.items d p h c.is_listed-listed.ensures (c.becomes_undeferred.ensures.value h now_st) current c.in_ok-copies.ensures.items in
+    let plain = listed_so c.is_listed-listed.result c.becomes_undeferred-undeferred.result c.in_ok-copies.copies.items d p h c.is_listed-listed.ensures (c.becomes_undeferred-undeferred.ensures.value h now_st) current c.in_ok-copies.ensures.items in
     let stands = created_stands b c.push_reserved.new.self.items (c.self.inside.room + 3) c.create-task.new.self c.create.new.self c.bind.new.self c.create-2.new.self c.put_if.new.ready.ids t m c.is_listed-listed.result p d h longer more number plain
     (subst (λ (q : Task). TasksStand c.create-task.new.self (Create t m q d ∷ h)) (sym current) next)
     (subst (λ (n : ℕ). GroupsStand c.create.new.self (Create n m p d ∷ h)) (sym number) next_groups)
