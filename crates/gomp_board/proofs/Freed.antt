@@ -3,13 +3,19 @@ use Rattle.std.proofs.Common.{◌≡◌, ℕ, ◌+◌, ◌<◌, ◌≤◌, Bool,
 use Rattle.std.specs.Prelude.{◌&&◌, ◌==◌, nat_lt, nat_le, not, if◌then◌else◌, slice_index_or, ◌⊎◌}
 use Rattle.std.proofs.lemmas.Bool.{cases_Bool, cases_lt}
 use Rattle.std.proofs.lemmas.Bool.Decides.{nat_tests}
+use Rattle.gomp_types.specs.declared.depend.Dep.{Dep}
+use Rattle.gomp_types.specs.declared.task.Task.{Task}
 use Rattle.gomp_types.specs.declared.event.Event.{Event}
-use Rattle.gomp_types.specs.Tasks.{contains, tasks_created, is_created, has_started, is_complete, is_undeferred}
-use Rattle.gomp_types.specs.Depends.{task_items, waits_for, is_free}
-use Rattle.gomp_types.specs.Goals.{is_unstarted, is_startable, some_startable, may_descend}
-use Rattle.gomp_types.proofs.Booleans.{and_left, not_false, false_of_not, same_number, is_equal, every_by}
+use Rattle.gomp_types.specs.declared.event.Event.TheVariants.{Create}
+use Rattle.gomp_types.specs.Laws.{Always}
+use Rattle.gomp_types.specs.Tasks.{contains, same_task, tasks_created, executed_task, is_child, newest_child, all_complete, is_created, has_started, is_complete, is_undeferred}
+use Rattle.gomp_types.specs.Depends.{task_items, child_waits, waits_for, is_free}
+use Rattle.gomp_types.specs.Goals.{is_unstarted, is_startable, some_startable, may_descend, may_start, children_complete, taskwait_met}
+use Rattle.gomp_types.specs.TaskRules.{TaskRule, MayStart}
+use Rattle.gomp_types.proofs.Booleans.{and_left, and_false, other_number, not_false, false_of_not, same_number, is_equal, every_by}
 use Rattle.gomp_types.proofs.OpenTasks.{created_low, created_high}
-use Rattle.gomp_types.proofs.Suspended.{unstarted_is_fresh}
+use Rattle.gomp_types.proofs.Suspended.{unstarted_is_fresh, created_stays}
+use Rattle.gomp_types.proofs.OwnTasks.{child_of_current_is_own}
 use Rattle.gomp_tasks.specs.Calls.{may_run}
 use Rattle.gomp_depend.specs.declared.rows.DependRow.{DependRow}
 use Rattle.gomp_depend.specs.Rows.{is_row, row_of_task}
@@ -18,7 +24,7 @@ use Rattle.gomp_depend.proofs.TaskFacts.{done_is}
 use Rattle.gomp_depend.proofs.RowsKeep.{row_found, free_without_items}
 use Rattle.gomp_board.specs.ReadyTasks.{is_listed, AreReady}
 use Rattle.gomp_board.specs.Boards.{BoardView, Stands}
-use Rattle.gomp_board.specs.Startable.{IsRowOf, MayStartNone}
+use Rattle.gomp_board.specs.Startable.{IsRowOf, MayStartNoneListed, MayStartNone}
 use Rattle.gomp_board.proofs.ReadyKeeps.{listed_is_unstarted, listed_is_deferred, listed_has_none, place_of}
 
 -- A task that nobody has started
@@ -127,3 +133,99 @@ nothing_startable m b h st listed freed = rw (every_by (tasks_created h) (λ k. 
             ]
           ]
     ]
+
+-- An undeferred task
+
+-- was created
+pub undeferred_is_created : (members t : ℕ) (h : List Event) → Always (TaskRule members) h → is_undeferred t h ≡ true → is_created t h ≡ true
+undeferred_is_created members t [] all is = absurd (cc)
+undeferred_is_created members t (Create task m parent desc ∷ earlier) all is = elim (cases_Bool (task == t)) [
+  | inl same ↦ let number = all.0.number in let e = is_equal task t same in made t (suc (tasks_created earlier)) (omega (arith, number, e)) (omega (arith, number, e))
+  | inr other ↦ created_stays t earlier (undeferred_is_created members t earlier all.1 (rw other at is))
+]
+undeferred_is_created members t (_ ∷ earlier) all is = undeferred_is_created members t earlier all.1 is
+
+-- the newest child of a task is one of those created
+newest_low : (members : ℕ) (p : Task) (h : List Event) → Always (TaskRule members) h → newest_child p h ≤ tasks_created h
+newest_low members p [] all = omega arith
+newest_low members p (Create task m parent desc ∷ earlier) all =
+    let number = all.0.number in let before = newest_low members p earlier all.1 in
+    elim (cases_Bool (same_task parent p)) [
+      | inl here ↦ rw here (omega (arith, number))
+      | inr other ↦ rw other (omega (arith, before))
+    ]
+newest_low members p (_ ∷ earlier) all = newest_low members p earlier all.1
+
+-- and its child
+newest_is_child : (members : ℕ) (p : Task) (t : ℕ) (h : List Event) → Always (TaskRule members) h → 0 < t → t ≡ newest_child p h → is_child p t h ≡ true
+newest_is_child members p t [] all low e = absurd (omega (arith, low, e))
+newest_is_child members p t (Create task m parent desc ∷ earlier) all low e =
+    let number = all.0.number in
+    elim (cases_Bool (same_task parent p)) [
+      | inl here ↦ let same : task ≡ t = sym (rw here at e) in rw (← same, same_number task) here
+      | inr other ↦
+          let old : t ≡ newest_child p earlier = rw other at e in
+          let high = newest_low members p earlier all.1 in
+          let away : (task == t) ≡ false = other_number task t (λ same. omega (arith, number, old, high, same)) in
+          rw away (newest_is_child members p t earlier all.1 low old)
+    ]
+newest_is_child members p t (_ ∷ earlier) all low e = newest_is_child members p t earlier all.1 low e
+
+-- if it is undeferred and may be started, the member that executes its parent may start it
+pub own_rule : (n m t : ℕ) (h : List Event) → Always (TaskRule n) h → m < n → t ≡ newest_child (executed_task m h) h → is_undeferred t h ≡ true → may_start m t h ≡ true → MayStart n t m h
+own_rule n m t h all low newest undeferred may =
+    let created = undeferred_is_created n t h all undeferred in
+    record { member = low; may = may; own = λ is. child_of_current_is_own n m t h all ∙ newest_is_child n (executed_task m h) t h all (created_low t h created) newest }
+
+-- it does not stand in the list
+pub undeferred_is_apart : (t : ℕ) (h : List Event) → is_undeferred t h ≡ true → is_listed t h ≡ false
+undeferred_is_apart t h is = rw is (and_false (is_unstarted t h) false refl)
+
+-- nor does one with items
+pub items_are_apart : (t : ℕ) (h : List Event) → has_items (task_items t h) ≡ true → is_listed t h ≡ false
+items_are_apart t h items = rw items (and_false (is_unstarted t h) (not (is_undeferred t h) && false) (and_false (not (is_undeferred t h)) false refl))
+
+-- what it takes to start a task: it may be run, and is free
+pub run_and_free : (m t : ℕ) (h : List Event) → (may_run m t h && is_free t h) ≡ may_start m t h
+run_and_free m t h = swap (is_unstarted t h) (may_descend m t h) (is_free t h)
+  where
+    swap : (a b c : Bool) → ((a && b) && c) ≡ ((a && c) && b)
+    swap true true c = right c
+      where
+        right : (d : Bool) → d ≡ (d && true)
+        right true = refl
+        right false = refl
+    swap true false c = sym (and_false c false refl)
+    swap false b c = refl
+
+pub not_run : (m t : ℕ) (h : List Event) → may_run m t h ≡ false → false ≡ may_start m t h
+not_run m t h no = rw no at (run_and_free m t h)
+
+pub run_then_free : (m t : ℕ) (free : Bool) (h : List Event) → may_run m t h ≡ true → free ≡ is_free t h → free ≡ may_start m t h
+run_then_free m t free h runs e = e ∙ rw runs at (run_and_free m t h)
+
+pub run_is_open : (m t : ℕ) (h : List Event) → may_run m t h ≡ true → IsOpen t h
+run_is_open m t h runs = unstarted_is_open t h (and_left (is_unstarted t h) (may_descend m t h) runs)
+
+-- What a taskwait waits for
+
+pub met_without : (p : Task) (items : List Dep) (h : List Event) → (length items == 0) ≡ true → children_complete p h ≡ taskwait_met p items h
+met_without p [] h e = refl
+met_without p (item ∷ items) h e = absurd (cc)
+
+pub met_with : (p : Task) (items : List Dep) (h : List Event) → (length items == 0) ≡ false → all_complete (λ t. child_waits p items t h) h ≡ taskwait_met p items h
+met_with p [] h e = absurd (cc)
+met_with p (item ∷ items) h e = refl
+
+-- As the rows are read
+
+pub read_row : (rows : List DependRow) (i : ℕ) (other row : DependRow) → slice_get rows i ≡ Some row → slice_index_or rows i other ≡ row
+read_row [] i other row e = absurd (cc)
+read_row (x ∷ xs) zero other row e = cc
+read_row (x ∷ xs) (suc i) other row e = read_row xs i other row e
+
+pub none_startable_now : (now b : BoardView) (m from : ℕ) (rows : List DependRow) → b ≡ now → rows ≡ b.depends.rows → length rows ≤ from → MayStartNoneListed m now → ((h : List Event) → Stands now h → NoneFreed m from rows h) → MayStartNone m now
+none_startable_now now b m from rows e same past listed freed = λ h st.
+    let own = subst (λ (v : BoardView). Stands v h) (sym e) st in
+    let here : rows ≡ now.depends.rows = same ∙ ap (λ (v : BoardView). v.depends.rows) e in
+    nothing_startable m now h st (listed h st) (λ place row low at. freed h st place row (let long = ap {A = List DependRow} length here in omega (arith, low, past, long)) (subst (λ (xs : List DependRow). slice_get xs place ≡ Some row) (sym here) at))

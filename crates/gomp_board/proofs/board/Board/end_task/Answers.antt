@@ -26,15 +26,15 @@ is_odd-odd-requires c =
     let next = c.finish.ensures.stands own c.in-Some.task c.in-Some.is st.tasks in
     record { task = created_tasks_have_numbers c.finish.new.self (Done c.in-Some.task m ∷ own) c.in-Some.task next (executed_open b m c.in-Some.task own st current).0 }
 
-pub is_undeferred-requires : goal.is_undeferred-requires
-is_undeferred-requires c =
+pub is_undeferred-waiting-requires : goal.is_undeferred-waiting-requires
+is_undeferred-waiting-requires c =
     let b = the_view c.self.inside in let m = c.args.member in let own = reverse b.history in let st = c.self.invariant.stands in
     let current = member_executes m c.in-Some.task c.finish.result own (c.finish.ensures.answer own st.tasks) c.in-Some.is in
     let next = c.finish.ensures.stands own c.in-Some.task c.in-Some.is st.tasks in
     record { task = created_tasks_have_numbers c.finish.new.self (Done c.in-Some.task m ∷ own) c.in-Some.task next (executed_open b m c.in-Some.task own st current).0 }
 
-pub complete-2-requires : goal.complete-2-requires
-complete-2-requires c =
+pub complete-requires-2 : goal.complete-requires-2
+complete-requires-2 c =
     let b = the_view c.self.inside in let m = c.args.member in let own = reverse b.history in let st = c.self.invariant.stands in
     let current = member_executes m c.in-Some.task c.finish.result own (c.finish.ensures.answer own st.tasks) c.in-Some.is in
     record { «open» = (own, st.depends, task_open b m c.in-Some.task own st current) }
@@ -79,12 +79,12 @@ returns c =
     let low = subst (λ (v : BoardView). m < members_of v) (sym c.self.view_is) c.requires.member in
     let room : b.room ≡ now.room = ap (λ (v : BoardView). v.room) c.self.view_is in
     record {
-      performs = op_performed EndTask m now _ (TaskDone t (not c.is_undeferred.result)) tt c.requires.admitted
+      performs = op_performed EndTask m now _ (TaskDone t (not c.is_undeferred-waiting.result)) tt c.requires.admitted
           (λ h now_st.
           let st = subst (λ (v : BoardView). Stands v h) (sym c.self.view_is) now_st in
           let current = member_executes m t c.finish.result h (c.finish.ensures.answer h st.tasks) c.in-Some.is in
           let next = c.finish.ensures.stands h t c.in-Some.is st.tasks in
-          subst (λ (p : Task). EndsTask p h (TaskDone t (not c.is_undeferred.result))) (sym current) (ap (λ (u : Bool). TaskDone t (not u)) (c.is_undeferred.ensures.value (Done t m ∷ h) next)))
+          subst (λ (p : Task). EndsTask p h (TaskDone t (not c.is_undeferred-waiting.result))) (sym current) (ap (λ (u : Bool). TaskDone t (not u)) (c.is_undeferred-waiting.ensures.value (Done t m ∷ h) next)))
           (λ h now_st.
           let st = subst (λ (v : BoardView). Stands v h) (sym c.self.view_is) now_st in
           let current = member_executes m t c.finish.result h (c.finish.ensures.answer h st.tasks) c.in-Some.is in
