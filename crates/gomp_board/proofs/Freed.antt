@@ -199,7 +199,7 @@ run_and_free m t h = swap (is_unstarted t h) (may_descend m t h) (is_free t h)
     swap false b c = refl
 
 pub not_run : (m t : ℕ) (h : List Event) → may_run m t h ≡ false → false ≡ may_start m t h
-not_run m t h no = rw no at (run_and_free m t h)
+not_run m t h fails = rw fails at (run_and_free m t h)
 
 pub run_then_free : (m t : ℕ) (free : Bool) (h : List Event) → may_run m t h ≡ true → free ≡ is_free t h → free ≡ may_start m t h
 run_then_free m t free h runs e = e ∙ rw runs at (run_and_free m t h)
@@ -211,7 +211,7 @@ run_is_open m t h runs = unstarted_is_open t h (and_left (is_unstarted t h) (may
 
 pub met_without : (p : Task) (items : List Dep) (h : List Event) → (length items == 0) ≡ true → children_complete p h ≡ taskwait_met p items h
 met_without p [] h e = refl
-met_without p (item ∷ items) h e = absurd (cc)
+met_without p (item ∷ items) h e = absurd (let none = is_equal (length (item ∷ items)) 0 e in omega (arith, none))
 
 pub met_with : (p : Task) (items : List Dep) (h : List Event) → (length items == 0) ≡ false → all_complete (λ t. child_waits p items t h) h ≡ taskwait_met p items h
 met_with p [] h e = absurd (cc)
