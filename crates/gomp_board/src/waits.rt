@@ -173,6 +173,7 @@ impl Board {
         ensures members { members_of self.new ≡ members_of self.old }
         ensures room { self.new.room ≡ self.old.room }
         ensures kept { self.new.kept ≡ self.old.kept }
+        ensures runs { result ≢ Wait }
     {
         let Job { code, arg } = self.tasks.job(task);
         self.tasks.start(member, task);

@@ -39,4 +39,4 @@ returns-then-may_run-clause-may c = λ yes.
 pub returns-else-may_run-clause-value : goal.returns-else-may_run-clause-value
 returns-else-may_run-clause-value c = λ h now_st.
     let st = subst (λ (v : BoardView). Stands v h) (sym c.self.view_is) now_st in
-    not_run c.args.member c.args.task h (sym (c.may_run.ensures.value h st.tasks (c.at_barrier-waits.ensures.value h st.barriers)) ∙ c.if-may_run.false)
+    c.if-may_run.false ∙ not_run c.args.member c.args.task h (sym (c.may_run.ensures.value h st.tasks (c.at_barrier-waits.ensures.value h st.barriers)) ∙ c.if-may_run.false)
