@@ -20,6 +20,7 @@ pub mod Laws
 pub mod Layers
 pub mod Locks
 pub mod Loops
+pub mod NewestChild
 pub mod OneReply
 pub mod OrderedClauses
 pub mod OrderedParts
