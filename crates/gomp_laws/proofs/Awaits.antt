@@ -149,16 +149,16 @@ some_creator members false m t h all = (Created t, refl)
 -- which runs its own task, or one that it may start at a wait
 pub record CreatorRuns (m t task code arg : ℕ) (own : Bool) (h : List Event) : Type 0 where
   pub held : is_undeferred t h ≡ true
-  pub own : own ≡ true → task ≡ t
+  pub newest : own ≡ true → task ≡ t
   pub undeferred : is_undeferred task h ≡ own
   pub may : may_start m task h ≡ true
   pub job : HasJob (task_desc task h) code arg
 
 own_runs : (m t task code arg : ℕ) (own : Bool) (h : List Event) → is_undeferred t h ≡ true → AwaitsOwn m t h (Run task code arg own) → CreatorRuns m t task code arg own h
-own_runs m t task code arg true h held may = rw may.0 (record { held = held; own = λ e. refl; undeferred = held; may = may.1; job = may.2 })
+own_runs m t task code arg true h held may = rw may.0 (record { held = held; newest = λ e. refl; undeferred = held; may = may.1; job = may.2 })
 own_runs m t task code arg false h held may = record {
   held = held;
-  own = λ e. absurd (cc);
+  newest = λ e. absurd (cc);
   undeferred = startable_is_deferred m task h may.2;
   may = startable_may_start m task h may.2;
   job = may.3;
@@ -196,7 +196,7 @@ started_keeps members m met h (Run task code arg own) lt may all = (
 started_keeps members m met h _ lt may all = all
 
 -- the newest child of the task that a member executes is its own
-newest_is_own : (members m t : ℕ) (h : List Event) → Always (TaskRule members) h → newest_child (executed_task m h) h ≡ t → is_created t h ≡ true → is_own m t h ≡ true
+pub newest_is_own : (members m t : ℕ) (h : List Event) → Always (TaskRule members) h → newest_child (executed_task m h) h ≡ t → is_created t h ≡ true → is_own m t h ≡ true
 newest_is_own members m t h all newest made = child_of_current_is_own members m t h all ∙ newest_is_child members (executed_task m h) t h all newest (created_low t h made)
 
 own_keeps_rule : (members m t : ℕ) (h : List Event) (reply : Reply) → m < members → newest_child (executed_task m h) h ≡ t → AwaitsOwn m t h reply → Always (TeamRule members) h → Always (TeamRule members) (starts_task m reply ++ h)

@@ -6,6 +6,7 @@ pub mod CallsKeep
 pub mod ChunksCount
 pub mod ClauseExamples
 pub mod CopiesKeep
+pub mod CoversKeep
 pub mod CriticalNames
 pub mod EveryMemberExamples
 pub mod HandedOn

@@ -144,7 +144,7 @@ task_create_sound desc = record {
   lasts = λ repeated m p ready all may. outside_lasts ready refl (λ arrives. absurd (cc)) may;
   waits_for = λ key m p holds may. absurd (cc);
   tells_count = λ key repeated m count p holds ready all may. absurd (cc);
-  runs = λ m p task code arg own may. let is = creator_answer m task code arg own p.events may in (refl, refl, is.undeferred, is.may, is.job, refl, λ e. (refl, (desc, refl), is.own e));
+  runs = λ m p task code arg own may. let is = creator_answer m task code arg own p.events may in (refl, refl, is.undeferred, is.may, is.job, refl, λ e. (refl, (desc, refl), is.newest e));
   ends = λ m p task waiting may. let t = newest_child (executed_task m p.events) p.events in absurd (no_end (is_undeferred t p.events) m t p.events task waiting may);
   created = λ repeated m p task ready may. (desc, refl, created_once desc repeated m task p ready may);
   no_memory = λ m p. (refl, refl, refl, refl, λ repeated. refl);
