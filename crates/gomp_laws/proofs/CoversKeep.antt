@@ -42,7 +42,7 @@ made_stays members row p (Create task m parent desc) h all leaves made = λ aske
     let old : (task == newest_child p h) ≡ false = other_number task (newest_child p h) (λ same. omega (arith, same, number, below)) in
     let now : List Event = Create task m parent desc ∷ h in
     let newest : newest_child p now ≡ newest_child p h = rw leaves refl in
-    subst (λ (t : ℕ). (task_desc t now ≡ Some asked) × (is_undeferred t now ≡ true)) (sym newest) (rw (old, old) was)
+    subst (λ (t : ℕ). (task_desc t now ≡ Some asked) × (is_undeferred t now ≡ true)) (sym newest) (rw old was)
 made_stays members row p _ h all leaves made = made
 
 -- a task that was created is undeferred or not for good
@@ -117,7 +117,7 @@ stack_open members k h all = (tasks_stacked members h all k).1
 abbrev CoversBy : ℕ → ℕ → List Call → List Event → Type 0
 CoversBy members k calls now = Always (TeamRule members) now → Covers k calls (task_stack k now) now
 
-quiet_covers : (members k : ℕ) (event : Event) (h : List Event) (calls : List Call) → Always (TeamRule members) (event ∷ h) → ((p : Task) → Leaves p event) → Covers k calls (task_stack k h) h → Covers k calls (task_stack k h) (event ∷ h)
+pub quiet_covers : (members k : ℕ) (event : Event) (h : List Event) (calls : List Call) → Always (TeamRule members) (event ∷ h) → ((p : Task) → Leaves p event) → Covers k calls (task_stack k h) h → Covers k calls (task_stack k h) (event ∷ h)
 quiet_covers members k event h calls rules leaves covers =
     event_covers members k event h calls (task_stack k h) (task_rules members (event ∷ h) rules) (stack_open members k h (task_rules members h rules.1)) (leaves_all k event (task_stack k h) leaves) covers
 
@@ -148,8 +148,14 @@ made_by_another can reply members k m row e (Create task n parent desc) h by kep
     let all = task_rules members (Create task n parent desc ∷ h) rules in
     let leaves = other_leaves members k n task parent (executed_task k h) desc h other all (open_executes k (task_stack k h) h (stack_open members k h all.1)) in
     made_stays members row (executed_task k h) (Create task n parent desc) h all leaves (kept rules.1)
-made_by_another can reply members k m row e (Start task n) h by kept = λ rules. let other : (n == k) ≡ false = rw by.0 e in rw other (kept rules.1)
-made_by_another can reply members k m row e (Done task n) h by kept = λ rules. let other : (n == k) ≡ false = rw by.0 e in rw other (kept rules.1)
+made_by_another can reply members k m row e (Start task n) h by kept = λ rules.
+    let other : (n == k) ≡ false = rw by.0 e in
+    let same : task_stack k (Start task n ∷ h) ≡ task_stack k h = rw other refl in
+    subst (λ (ts : List ℕ). HasCreated row (innermost_task k ts) (Start task n ∷ h)) (sym same) (kept rules.1)
+made_by_another can reply members k m row e (Done task n) h by kept = λ rules.
+    let other : (n == k) ≡ false = rw by.0 e in
+    let same : task_stack k (Done task n ∷ h) ≡ task_stack k h = rw other refl in
+    subst (λ (ts : List ℕ). HasCreated row (innermost_task k ts) (Done task n ∷ h)) (sym same) (kept rules.1)
 made_by_another can reply members k m row e _ h by kept = λ rules. kept rules.1
 
 pub created_other : (row : Row) → IsSound row → (repeated : Bool) (members k m : ℕ) (p : Past) (reply : Reply) (waiting : Option Call) → (m == k) ≡ false → Always (TeamRule members) (events_after repeated row m p reply) →
