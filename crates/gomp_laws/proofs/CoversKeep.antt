@@ -1,18 +1,18 @@
 -- What a creation that is not answered whole has created stays as it is: only a member that executes a task creates children in it.
-use Rattle.std.proofs.Common.{◌≡◌, ℕ, Bool, true, false, List, [], ◌∷◌, ◌++◌, Option, Some, None, refl, sym, ◌∙◌, subst, arith, inl, inr}
-use Rattle.std.specs.Prelude.{◌==◌, ◌||◌, ◌⊎◌}
+use Rattle.std.proofs.Common.{◌≡◌, ℕ, Bool, true, false, List, [], ◌∷◌, Option, Some, None, refl, sym, ◌∙◌, subst, arith, inl, inr}
+use Rattle.std.specs.Prelude.{◌==◌}
 use Rattle.std.proofs.lemmas.Bool.{cases_Bool}
 use Rattle.gomp_types.specs.declared.call.Call.{Call}
 use Rattle.gomp_types.specs.declared.reply.Reply.{Reply}
 use Rattle.gomp_types.specs.declared.task.Task.{Task}
-use Rattle.gomp_types.specs.declared.task.Task.TheVariants.{Implicit, Explicit}
+use Rattle.gomp_types.specs.declared.task.Task.TheVariants.{Explicit}
 use Rattle.gomp_types.specs.declared.task.TaskDesc.{TaskDesc}
 use Rattle.gomp_types.specs.declared.event.Event.{Event}
 use Rattle.gomp_types.specs.declared.event.Event.TheVariants.{Create, Start, Done}
 use Rattle.gomp_types.specs.Laws.{Always}
-use Rattle.gomp_types.specs.Tasks.{same_task, contains, tasks_created, is_created, task_stack, innermost_task, executed_task, task_runner, task_desc, newest_child, is_undeferred}
+use Rattle.gomp_types.specs.Tasks.{same_task, contains, is_created, task_stack, innermost_task, executed_task, task_runner, task_desc, newest_child, is_undeferred}
 use Rattle.gomp_types.specs.TaskRules.{TaskRule}
-use Rattle.gomp_types.proofs.Booleans.{same_number, is_equal, other_number, or_right, not_both}
+use Rattle.gomp_types.proofs.Booleans.{same_number, other_number, or_right, not_both}
 use Rattle.gomp_types.proofs.GroupsKeep.{same_is_one, Executes, executed_by, one_executes}
 use Rattle.gomp_types.proofs.LaterTasks.{not_new}
 use Rattle.gomp_types.proofs.Suspended.{Apart, IsOpen, tasks_stacked}
@@ -24,7 +24,7 @@ use Rattle.gomp_laws.proofs.NewestChild.{newest_below}
 use Rattle.gomp_laws.proofs.TeamShares.{task_rules}
 use Rattle.gomp_laws.proofs.Sound.{is_run, is_end, HasCreated, IsSound, gives_of, Gives}
 use Rattle.gomp_laws.proofs.CallsKeep.{OwnKeeps, LastKeeps, since_keeps, step_keeps}
-use Rattle.gomp_laws.proofs.Waiting.{WaitCreated, CoversOne, Covers}
+use Rattle.gomp_laws.proofs.Waiting.{WaitCreated, Covers}
 
 -- One event
 
@@ -150,11 +150,11 @@ made_by_another can reply members k m row e (Create task n parent desc) h by kep
     made_stays members row (executed_task k h) (Create task n parent desc) h all leaves (kept rules.1)
 made_by_another can reply members k m row e (Start task n) h by kept = λ rules.
     let other : (n == k) ≡ false = rw by.0 e in
-    let same : task_stack k (Start task n ∷ h) ≡ task_stack k h = rw other refl in
+    let same : task_stack k (Start task n ∷ h) ≡ task_stack k h = rw other (refl {a = task_stack k h}) in
     subst (λ (ts : List ℕ). HasCreated row (innermost_task k ts) (Start task n ∷ h)) (sym same) (kept rules.1)
 made_by_another can reply members k m row e (Done task n) h by kept = λ rules.
     let other : (n == k) ≡ false = rw by.0 e in
-    let same : task_stack k (Done task n ∷ h) ≡ task_stack k h = rw other refl in
+    let same : task_stack k (Done task n ∷ h) ≡ task_stack k h = rw other (refl {a = task_stack k h}) in
     subst (λ (ts : List ℕ). HasCreated row (innermost_task k ts) (Done task n ∷ h)) (sym same) (kept rules.1)
 made_by_another can reply members k m row e _ h by kept = λ rules. kept rules.1
 

@@ -32,7 +32,7 @@ use Rattle.gomp_laws.proofs.Sound.{is_run, is_end, shows, Lasts, HasCreated, act
 use Rattle.gomp_laws.proofs.CallsKeep.{step_keeps}
 use Rattle.gomp_laws.proofs.Calls.{row_is_sound, call_has_created}
 use Rattle.gomp_laws.proofs.CoversKeep.{covers_other, created_other, covers_begun, covers_own, quiet_covers, covers_started, covers_ended}
-use Rattle.gomp_laws.proofs.Places.{seen_other, SameBarriers, barriers_other, barriers_own, was_whole, stack_other, stack_own, stack_begun, lasts_other, lasts_own}
+use Rattle.gomp_laws.proofs.Places.{seen_other, SameBarriers, barriers_other, barriers_own, was_whole, stack_own, stack_begun, lasts_other, lasts_own}
 use Rattle.gomp_laws.proofs.Waiting.{Pending, WaitLasts, WaitCreated, IsMadeIn, Covers, has_arrived, some_arrived, IsAway, Fresh, WaitKnown, neither_holds, covers_none, none_arrived, pending_same, lasts_at_break, created_at_break, started_stack, ended_stack, wait_opens_again, ended_undeferred_covers}
 
 -- the rule holds, what the calls that wait rely on does, and words are still to come

@@ -15,7 +15,7 @@ use Rattle.gomp_types.proofs.LeastTests.{AllFail}
 use Rattle.gomp_model.specs.Past.{Waits}
 use Rattle.gomp_model.specs.Calls.{row_of}
 use Rattle.gomp_model.specs.Team.{open_first}
-use Rattle.gomp_model.specs.Row.{goes_on, MayGoOn}
+use Rattle.gomp_model.specs.Row.{MayGoOn}
 use Rattle.gomp_laws.proofs.Sound.{Lasts, HasCreated}
 
 -- What is known while a wait is open
