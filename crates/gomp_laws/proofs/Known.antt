@@ -401,7 +401,7 @@ known_at_run p step task code arg may known rule =
     let rules : Always (TeamRule p.terms.members) (Start task m ∷ q.events) = subst (λ (h : List Event). Always (TeamRule p.terms.members) h) given rule in
     let stack : task_stack m q.events ≡ task_stack m p.events = stack_begun row s repeated m p in
     let made : HasCreated row (executed_task m p.events) (Start task m ∷ q.events) =
-      subst (λ (h : List Event). HasCreated row (executed_task m p.events) h) given (call_has_created call repeated m p (Run task code arg false) ready may.1 refl) in
+    subst (λ (h : List Event). HasCreated row (executed_task m p.events) h) given (call_has_created call repeated m p (Run task code arg false) ready may.1 refl) in
     let is_made : IsMadeIn m call (task_stack m q.events) (Start task m ∷ q.events) = record {
       outside = λ arrives. stack ∙ no_task_outside m p.events (outside_of_tasks ready arrives (s.outside arrives m p));
       created = subst (λ (tasks : List ℕ). HasCreated row (innermost_task m tasks) (Start task m ∷ q.events)) (sym stack) made;

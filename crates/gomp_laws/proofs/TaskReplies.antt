@@ -97,7 +97,7 @@ runs_its_own p step (Run task code arg true) may known =
     let given = run_events row sound repeated m p task code arg true may.1 in
     let executes : executed_task m q.events ≡ parent = ap (innermost_task m) (stack_begun row sound repeated m p) in
     let made : HasCreated row parent (Start task m ∷ q.events) =
-      subst (λ (h : List Event). HasCreated row parent h) given (call_has_created call repeated m p (Run task code arg true) ready may.1 refl) in
+    subst (λ (h : List Event). HasCreated row parent h) given (call_has_created call repeated m p (Run task code arg true) ready may.1 refl) in
     let newest : task ≡ newest_child parent q.events = subst (λ (t : Task). task ≡ newest_child t q.events) executes own.2 in
     let asked : task_desc task q.events ≡ Some desc = subst (λ (t : ℕ). task_desc t q.events ≡ Some desc) (sym newest) ((made desc own.1.1).0) in
     let all = task_rules p.terms.members q.events (begun_rule p step may.0 known) in
