@@ -9,7 +9,8 @@ use Rattle.gomp_types.specs.declared.task.Task.TheVariants.{Implicit, Explicit}
 use Rattle.gomp_types.specs.Singles.{single_shape}
 use Rattle.gomp_laws.specs.Headline.{Headline}
 use Rattle.gomp_types.specs.EventLists.{newest_first, four, static_four, even_four, at}
-use Rattle.gomp_types.specs.TaskExamples.{one_job, other_job}
+use Rattle.gomp_types.specs.declared.depend.DepKind.TheVariants.{DepIn, DepOut}
+use Rattle.gomp_types.specs.TaskExamples.{one_job, other_job, at_once as undeferred_job, item, with_items}
 
 -- no team of this size has these events
 abbrev pub NeverHappens : ℕ → List Event → Type 0
@@ -184,6 +185,14 @@ started_beside = Create 1 0 (Implicit 0) one_job ∷ Create 2 0 (Implicit 0) one
 -- a member starts another's task, and does not wait at a barrier
 abbrev pub started_elsewhere : List Event
 started_elsewhere = Create 1 0 (Implicit 0) one_job ∷ Start 1 1 ∷ []
+
+-- a reader is started before the writer that it names is done
+abbrev pub started_before_writer : List Event
+started_before_writer = Create 1 0 (Implicit 0) (with_items (item DepOut 1 ∷ [])) ∷ Create 2 0 (Implicit 0) (with_items (item DepIn 1 ∷ [])) ∷ Start 2 0 ∷ []
+
+-- a member that waits at a barrier starts an undeferred task of another's
+abbrev pub undeferred_of_another : List Event
+undeferred_of_another = Create 1 0 (Implicit 0) undeferred_job ∷ Arrive 0 1 (at Barrier 0) ∷ Start 1 1 ∷ []
 
 -- a member ends a task that another has started
 abbrev pub ended_for_another : List Event

@@ -53,10 +53,10 @@ pub record IsAsAsked (task code arg m : ℕ) (own : Bool) (h : List Event) : Typ
   pub parent : Task
   pub desc : TaskDesc
   pub created : Happened (Create task creator parent desc) h
-  pub code : desc.code ≡ code
-  pub arg : desc.arg ≡ arg
+  pub same_code : desc.code ≡ code
+  pub same_arg : desc.arg ≡ arg
   pub started : Happened (Start task m) h
-  pub own : own ≡ is_undeferred task h
+  pub undeferred : own ≡ is_undeferred task h
 
 -- Run: what a member is to execute is a task that was created so, which it has started.
 abbrev pub RunsAsAsked : Past → Step → Reply → Type 0
