@@ -53,7 +53,7 @@ newest_is members p t (_ ∷ earlier) all high child later = newest_is members p
 -- if none is a child there is no newest
 pub none_is_newest : (members : ℕ) (p : Task) (h : List Event) → Always (TaskRule members) h → NoneFrom p 1 h → 0 ≡ newest_child p h
 none_is_newest members p [] all none = refl
-none_is_newest members p (Create task m parent desc ∷ earlier) all none = 
+none_is_newest members p (Create task m parent desc ∷ earlier) all none =
     let number = all.0.number in
     let other : same_task parent p ≡ false = (let mine = none task (omega (arith, number)) (omega (arith, number)) in rw (same_number task) at mine) in
     rw other (none_is_newest members p earlier all.1 (λ u low up. let away : (task == u) ≡ false = other_number task u (λ e. omega (arith, number, e, up)) in rw away at (none u low (omega (arith, up)))))
