@@ -69,7 +69,7 @@ row_in (suc k) i row h e = elim (cases_Bool (has_row (suc k) h)) [
   | inr none ↦ let found = row_in k i row h (rw none at e) in let high = found.high in record { task = found.task; low = found.low; high = omega (arith, high); has = found.has; is = found.is }
 ]
 
-made : (t n : ℕ) → 0 < t → t ≤ n → (nat_lt 0 t && nat_le t n) ≡ true
+pub made : (t n : ℕ) → 0 < t → t ≤ n → (nat_lt 0 t && nat_le t n) ≡ true
 made t n low high = grind (arith, nat_tests, low, high)
 
 row_tells : (t : ℕ) (row : DependRow) (h : List Event) → 0 < t → t ≤ tasks_created h → has_row t h ≡ true → row ≡ row_of t h → IsRowOf row h
@@ -146,7 +146,7 @@ undeferred_is_created members t (Create task m parent desc ∷ earlier) all is =
 undeferred_is_created members t (_ ∷ earlier) all is = undeferred_is_created members t earlier all.1 is
 
 -- the newest child of a task is one of those created
-newest_low : (members : ℕ) (p : Task) (h : List Event) → Always (TaskRule members) h → newest_child p h ≤ tasks_created h
+pub newest_low : (members : ℕ) (p : Task) (h : List Event) → Always (TaskRule members) h → newest_child p h ≤ tasks_created h
 newest_low members p [] all = omega arith
 newest_low members p (Create task m parent desc ∷ earlier) all =
     let number = all.0.number in let before = newest_low members p earlier all.1 in

@@ -112,7 +112,7 @@ impl Board {
         ensures kept { self.new.kept ≡ self.old.kept }
         ensures waits { result ≡ Wait → self.new ≡ self.old }
     {
-        if task == 0 || !self.tasks.is_undeferred(task) {
+        if !self.newest_is_undeferred(member, task) {
             return Reply::Created(task);
         }
         if self.may_start_own(member, task) {
@@ -120,6 +120,17 @@ impl Board {
         } else {
             self.run_or_wait(member)
         }
+    }
+
+    /// Whether this task, the newest in the one that the member executes, is undeferred; false if there
+    /// is none and the number is 0.
+    fn newest_is_undeferred(&self, member: u16, task: u32) -> bool
+        requires newest { (h : List Happening) → Stands self.now h →
+            task ≡ newest_child (executed_task member h) h }
+        ensures value { (h : List Happening) → Stands self.now h →
+            result ≡ is_undeferred task h }
+    {
+        task != 0 && self.tasks.is_undeferred(task)
     }
 
     /// Whether the member may start this task, the newest in the one that it executes, which is
