@@ -5,7 +5,7 @@ use Rattle.std.proofs.lemmas.Bool.{cases_Bool}
 use Rattle.gomp_types.specs.declared.depend.Dep.{Dep}
 use Rattle.gomp_types.specs.declared.task.TaskDesc.{TaskDesc}
 use Rattle.gomp_types.specs.declared.reply.Reply.{Reply}
-use Rattle.gomp_types.specs.declared.reply.Reply.TheVariants.{Passed, Wait, Created, Run}
+use Rattle.gomp_types.specs.declared.reply.Reply.TheVariants.{Passed, Wait, Created, Run, Refused}
 use Rattle.gomp_types.specs.declared.event.Event.{Event}
 use Rattle.gomp_types.specs.declared.event.Event.TheVariants.{Create}
 use Rattle.gomp_types.specs.Laws.{Always}
@@ -19,6 +19,7 @@ use Rattle.gomp_tasks.specs.Stands.{IsNumber}
 use Rattle.gomp_tasks.proofs.Laws.{created_tasks_have_numbers}
 use Rattle.gomp_board.specs.Boards.{BoardView, Stands, IsBoard}
 use Rattle.gomp_board.specs.Startable.{RunsTask}
+use Rattle.gomp_board.proofs.Waiting.{IsReply}
 use Rattle.gomp_board.proofs.Freed.{undeferred_is_created, newest_low, made}
 
 -- no task has the number 0
@@ -34,6 +35,15 @@ newest_has_number b m zero h st newest some = absurd (cc)
 newest_has_number b m (suc k) h st newest some =
     let high = newest_low _ (executed_task m h) h st.tasks.rule in
     created_tasks_have_numbers b.tasks h (suc k) st.tasks (made (suc k) (tasks_created h) (omega arith) (omega (arith, newest, high)))
+
+-- no answer of it is a refusal
+pub creator_is_answered : (m : ℕ) (h : List Event) (reply : Reply) → CreatesTask m h reply → IsReply reply
+creator_is_answered m h (Refused refusal) may = never (is_undeferred (newest_child (executed_task m h) h) h) may
+  where
+    never : (b : Bool) → AnswersCreator b m (newest_child (executed_task m h) h) h (Refused refusal) → ⊥
+    never true may = may
+    never false may = absurd (cc)
+creator_is_answered m h _ may = tt
 
 -- of a deferred task its number
 pub creator_told : (m t : ℕ) (h : List Event) → t ≡ newest_child (executed_task m h) h → is_undeferred t h ≡ false → CreatesTask m h (Created t)

@@ -1,12 +1,11 @@
 //! Tasks: their creation and their end. OpenMP API 5.2, section 12.5.
 
-ghost use Rattle.std.specs.Prelude.{◌≡◌, ◌<◌, ◌≤◌, ◌+◌, ◌++◌, ◌∷◌, List, [], true, false, not, ◌&&◌, IfOk, OnOk, IsOk, IsErr};
-ghost use Rattle.std.proofs.Common.{suc};
+ghost use Rattle.std.specs.Prelude.{◌≡◌, ◌<◌, ◌≤◌, ◌+◌, ◌++◌, ◌∷◌, List, [], true, false, not, ◌&&◌, reverse, IfOk, OnOk, IsOk, IsErr};
 ghost use Rattle.std.specs.Vec.{vec_capacity};
 ghost use Rattle.gomp_types.specs.declared.event.Event.{Event as Happening};
 ghost use Rattle.gomp_types.specs.declared.event.Event.TheVariants.{Create as Creation};
 ghost use Rattle.gomp_types.specs.declared.reply.Reply.TheVariants.{Wait};
-ghost use Rattle.gomp_types.specs.Tasks.{tasks_created, executed_task, epoch_of_child, is_odd, newest_child, is_undeferred, becomes_undeferred};
+ghost use Rattle.gomp_types.specs.Tasks.{executed_task, epoch_of_child, is_odd, newest_child, is_undeferred, becomes_undeferred};
 ghost use Rattle.gomp_types.specs.Goals.{may_start};
 ghost use Rattle.gomp_types.specs.TaskCalls.{creates, task_room, CreatesTask, starts_task};
 ghost use Rattle.gomp_depend.specs.Stands.{has_items};
@@ -37,7 +36,7 @@ impl Board {
     {
         match self.add_task(member, desc) {
             Err(_) => Reply::Refused(Refusal::NoMemory),
-            Ok(task) => self.answer_creator(member, task),
+            Ok(()) => self.answer_creator(member),
         }
     }
 
@@ -47,17 +46,14 @@ impl Board {
         requires admitted { IsAdmitted AwaitOwn member self.old }
         ensures performs { Performs AwaitOwn member self.old self.new result }
     {
-        let task = self.tasks.newest_child(self.tasks.current(member));
-        self.answer_creator(member, task)
+        self.answer_creator(member)
     }
 
     /// The next task, in the one that the member executes. It fails, and nothing changes, if memory is
     /// refused.
-    fn add_task(&mut self, member: u16, desc: &TaskDesc) -> Result<u32, AllocError>
+    fn add_task(&mut self, member: u16, desc: &TaskDesc) -> Result<(), AllocError>
         requires member { member < members_of self.old }
         requires admitted { IsAdmitted (Create desc.now) member self.old }
-        ensures number { (h : List Happening) → Stands self.old h →
-            IfOk result (λ task. task ≡ suc (tasks_created h)) }
         ensures stands { (h : List Happening) → Stands self.old h →
             OnOk result (Stands self.new (creates member desc.now h ++ h)) }
         ensures limits { self.new.limits ≡ self.old.limits }
@@ -93,16 +89,15 @@ impl Board {
             desc: stored,
         });
         self.room = room;
-        Ok(task)
+        Ok(())
     }
 
-    /// Answers the creator of this task, the newest in the one that the member executes: with its number
+    /// Answers the creator of the newest task in the one that the member executes: with its number
     /// unless it is undeferred; else the member starts it if it may, and if not it executes another, or
     /// waits. If the member has created none there, the number is 0.
-    fn answer_creator(&mut self, member: u16, task: u32) -> Reply
+    fn answer_creator(&mut self, member: u16) -> Reply
         requires member { member < members_of self.old }
-        requires newest { (h : List Happening) → Stands self.old h →
-            task ≡ newest_child (executed_task member h) h }
+        ensures known { Stands self.old (reverse self.old.history) }
         ensures answer { (h : List Happening) → Stands self.old h → CreatesTask member h result }
         ensures stands { (h : List Happening) → Stands self.old h →
             Stands self.new (starts_task member result ++ h) }
@@ -112,6 +107,7 @@ impl Board {
         ensures kept { self.new.kept ≡ self.old.kept }
         ensures waits { result ≡ Wait → self.new ≡ self.old }
     {
+        let task = self.newest_task(member);
         if !self.newest_is_undeferred(member, task) {
             return Reply::Created(task);
         }
@@ -120,6 +116,16 @@ impl Board {
         } else {
             self.run_or_wait(member)
         }
+    }
+
+    /// The newest task in the one that the member executes; 0 if there is none.
+    fn newest_task(&self, member: u16) -> u32
+        requires member { member < members_of self.now }
+        ensures known { Stands self.now (reverse self.now.history) }
+        ensures value { (h : List Happening) → Stands self.now h →
+            result ≡ newest_child (executed_task member h) h }
+    {
+        self.tasks.newest_child(self.tasks.current(member))
     }
 
     /// Whether this task, the newest in the one that the member executes, is undeferred; false if there
