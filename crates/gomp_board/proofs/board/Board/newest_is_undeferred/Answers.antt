@@ -1,4 +1,5 @@
 use Rattle.std.proofs.Common.{◌≡◌, reverse, refl, sym, subst, ◌∙◌}
+use Rattle.std.specs.Prelude.{not, ◌==◌, false}
 use Rattle.gomp_types.proofs.Booleans.{other_number}
 use Rattle.gomp_tasks.specs.Stands.{members_of as task_members}
 use Rattle.gomp_board.specs.Boards.{BoardView, Stands}
@@ -16,5 +17,6 @@ pub returns-else-task-ne0 : goal.returns-else-task-ne0
 returns-else-task-ne0 c = record {
   value = λ h now_st.
       let st = subst (λ (v : BoardView). Stands v h) (sym c.self.view_is) now_st in
-      sym (none_is_deferred (task_members (the_view c.self.inside).tasks) c.args.task h st.tasks.rule c.if-task-ne0.false);
+      let none : not (c.args.task == 0) ≡ false = rw c.if-task-ne0.false refl in
+      none ∙ sym (none_is_deferred (task_members (the_view c.self.inside).tasks) c.args.task h st.tasks.rule c.if-task-ne0.false);
 }
