@@ -1,6 +1,6 @@
 //! Why an operation is refused.
 
-ghost use Rattle.std.specs.Prelude.{◌≡◌, ◌<◌, List, [], ◌∷◌, ◌++◌, Option, Some, None, if◌then◌else◌, nat_le, nat_lt, length};
+ghost use Rattle.std.specs.Prelude.{◌≡◌, ◌<◌, List, [], ◌∷◌, ◌++◌, Option, Some, None, if◌then◌else◌, nat_le, nat_lt, length, reverse};
 ghost use Rattle.gomp_types.specs.declared.event.Event.{Event};
 ghost use Rattle.gomp_types.specs.declared.depend.Dep.{Dep as Item};
 ghost use Rattle.gomp_types.specs.declared.task.TaskDesc.{TaskDesc};
@@ -43,6 +43,7 @@ impl Board {
     /// Why no task with these items is created, by all tests of a creation.
     pub(crate) fn creation_first(&self, member: u16, items: &[Dep]) -> Option<Refusal>
         requires member { member < members_of self.now }
+        ensures known { Stands self.now (reverse self.now.history) }
         ensures value { (h : List Event) (desc : TaskDesc) → Stands self.now h →
             desc.deps ≡ items.now → result ≡ op_refusal self.now.limits self.now.room
             (kept_by member self.now) member (Create desc) h }
@@ -56,6 +57,7 @@ impl Board {
     /// Why a member does not wait for children, by all tests of such a wait.
     pub(crate) fn taskwait_first(&self, member: u16) -> Option<Refusal>
         requires member { member < members_of self.now }
+        ensures known { Stands self.now (reverse self.now.history) }
         ensures value { (h : List Event) (items : List Item) → Stands self.now h →
             result ≡ op_refusal self.now.limits self.now.room (kept_by member self.now) member
             (AwaitChildren items) h }
@@ -70,6 +72,7 @@ impl Board {
     /// broken.
     fn team_refusal(&self, member: u16) -> Option<Refusal>
         requires member { member < members_of self.now }
+        ensures known { Stands self.now (reverse self.now.history) }
         ensures value { (h : List Event) → Stands self.now h →
             result ≡ first_refusal (member_tests member h) }
     {
