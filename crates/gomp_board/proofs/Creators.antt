@@ -1,23 +1,19 @@
 -- What the creator of a task is answered, by whether the task is undeferred and may be started.
-use Rattle.std.proofs.Common.{◌≡◌, ℕ, ◌+◌, ◌<◌, ◌≤◌, Bool, true, false, List, [], ◌∷◌, ◌++◌, None, refl, ap, ◌∙◌, sym, subst, arith, suc, zero, inl, inr}
-use Rattle.std.specs.Prelude.{◌==◌, ◌≢◌, reverse}
+use Rattle.std.proofs.Common.{◌≡◌, ℕ, Bool, true, false, List, refl, subst, arith, suc, zero, inl, inr}
+use Rattle.std.specs.Prelude.{◌==◌}
 use Rattle.std.proofs.lemmas.Bool.{cases_Bool}
-use Rattle.gomp_types.specs.declared.depend.Dep.{Dep}
-use Rattle.gomp_types.specs.declared.task.TaskDesc.{TaskDesc}
 use Rattle.gomp_types.specs.declared.reply.Reply.{Reply}
 use Rattle.gomp_types.specs.declared.reply.Reply.TheVariants.{Passed, Wait, Created, Run, Refused}
 use Rattle.gomp_types.specs.declared.event.Event.{Event}
-use Rattle.gomp_types.specs.declared.event.Event.TheVariants.{Create}
 use Rattle.gomp_types.specs.Laws.{Always}
-use Rattle.gomp_types.specs.Tasks.{same_task, tasks_created, executed_task, is_undeferred, newest_child}
+use Rattle.gomp_types.specs.Tasks.{tasks_created, executed_task, is_undeferred, newest_child}
 use Rattle.gomp_types.specs.Goals.{may_start}
 use Rattle.gomp_types.specs.TaskRules.{TaskRule}
-use Rattle.gomp_types.specs.TaskCalls.{AnswersCreator, CreatesTask, AwaitsOwn, AwaitsTasks, creates}
-use Rattle.gomp_types.proofs.Booleans.{not_both, other_number}
+use Rattle.gomp_types.specs.TaskCalls.{AnswersCreator, CreatesTask, AwaitsOwn, AwaitsTasks}
 use Rattle.gomp_types.proofs.OpenTasks.{created_low}
 use Rattle.gomp_tasks.specs.Stands.{IsNumber}
 use Rattle.gomp_tasks.proofs.Laws.{created_tasks_have_numbers}
-use Rattle.gomp_board.specs.Boards.{BoardView, Stands, IsBoard}
+use Rattle.gomp_board.specs.Boards.{BoardView, Stands}
 use Rattle.gomp_board.specs.Startable.{RunsTask}
 use Rattle.gomp_board.proofs.Waiting.{IsReply}
 use Rattle.gomp_board.proofs.Freed.{undeferred_is_created, newest_low, made}

@@ -1,6 +1,6 @@
 -- The tasks with items, as the rows of the open ones tell: which of them may be started, and that none may if neither these nor those of the list may.
-use Rattle.std.proofs.Common.{◌≡◌, ℕ, ◌+◌, ◌<◌, ◌≤◌, Bool, true, false, List, [], ◌∷◌, ◌++◌, Option, Some, None, refl, ap, ◌∙◌, sym, subst, arith, suc, zero, inl, inr, length, slice_get}
-use Rattle.std.specs.Prelude.{◌&&◌, ◌==◌, nat_lt, nat_le, not, if◌then◌else◌, slice_index_or, ◌⊎◌}
+use Rattle.std.proofs.Common.{◌≡◌, ℕ, ◌+◌, ◌<◌, ◌≤◌, Bool, true, false, List, [], ◌∷◌, ◌++◌, Some, None, refl, ap, ◌∙◌, sym, subst, arith, suc, zero, inl, inr, length, slice_get}
+use Rattle.std.specs.Prelude.{◌&&◌, ◌==◌, nat_lt, nat_le, not, slice_index_or, ◌⊎◌}
 use Rattle.std.proofs.lemmas.Bool.{cases_Bool, cases_lt}
 use Rattle.std.proofs.lemmas.Bool.Decides.{nat_tests}
 use Rattle.gomp_types.specs.declared.depend.Dep.{Dep}
@@ -8,21 +8,21 @@ use Rattle.gomp_types.specs.declared.task.Task.{Task}
 use Rattle.gomp_types.specs.declared.event.Event.{Event}
 use Rattle.gomp_types.specs.declared.event.Event.TheVariants.{Create}
 use Rattle.gomp_types.specs.Laws.{Always}
-use Rattle.gomp_types.specs.Tasks.{contains, same_task, tasks_created, executed_task, is_child, newest_child, all_complete, is_created, has_started, is_complete, is_undeferred}
+use Rattle.gomp_types.specs.Tasks.{contains, same_task, tasks_created, executed_task, is_child, newest_child, all_complete, is_created, is_complete, is_undeferred}
 use Rattle.gomp_types.specs.Depends.{task_items, child_waits, waits_for, is_free}
 use Rattle.gomp_types.specs.Goals.{is_unstarted, is_startable, some_startable, may_descend, may_start, children_complete, taskwait_met}
 use Rattle.gomp_types.specs.TaskRules.{TaskRule, MayStart}
-use Rattle.gomp_types.proofs.Booleans.{and_left, and_false, other_number, not_false, false_of_not, same_number, is_equal, every_by}
-use Rattle.gomp_types.proofs.OpenTasks.{created_low, created_high}
+use Rattle.gomp_types.proofs.Booleans.{and_left, and_false, other_number, not_false, same_number, is_equal, every_by}
+use Rattle.gomp_types.proofs.OpenTasks.{created_low}
 use Rattle.gomp_types.proofs.Suspended.{unstarted_is_fresh, created_stays}
 use Rattle.gomp_types.proofs.OwnTasks.{child_of_current_is_own}
 use Rattle.gomp_tasks.specs.Calls.{may_run}
 use Rattle.gomp_depend.specs.declared.rows.DependRow.{DependRow}
 use Rattle.gomp_depend.specs.Rows.{is_row, row_of_task}
-use Rattle.gomp_depend.specs.Stands.{has_items, row_of, has_row, rows_up_to, rows_of, IsOpen, RowsStand}
+use Rattle.gomp_depend.specs.Stands.{has_items, row_of, has_row, rows_up_to, IsOpen}
 use Rattle.gomp_depend.proofs.TaskFacts.{done_is}
 use Rattle.gomp_depend.proofs.RowsKeep.{row_found, free_without_items}
-use Rattle.gomp_board.specs.ReadyTasks.{is_listed, AreReady}
+use Rattle.gomp_board.specs.ReadyTasks.{is_listed}
 use Rattle.gomp_board.specs.Boards.{BoardView, Stands}
 use Rattle.gomp_board.specs.Startable.{IsRowOf, MayStartNoneListed, MayStartNone}
 use Rattle.gomp_board.proofs.ReadyKeeps.{listed_is_unstarted, listed_is_deferred, listed_has_none, place_of}

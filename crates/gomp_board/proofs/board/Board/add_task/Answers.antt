@@ -1,16 +1,14 @@
-use Rattle.std.proofs.Common.{◌≡◌, ◌<◌, ◌+◌, ◌∷◌, [], ◌++◌, ℕ, suc, reverse, refl, sym, subst, ap, ◌∙◌, arith, List, Bool}
-use Rattle.std.specs.Prelude.{not, ◌&&◌}
+use Rattle.std.proofs.Common.{◌≡◌, ◌<◌, ◌+◌, ◌∷◌, [], ◌++◌, ℕ, suc, reverse, refl, sym, subst, ap, ◌∙◌, arith, List}
 use Rattle.gomp_types.specs.declared.event.Event.{Event}
 use Rattle.gomp_types.specs.declared.event.Event.TheVariants.{Create}
 use Rattle.gomp_types.specs.declared.task.Task.{Task}
 use Rattle.gomp_types.specs.declared.task.TaskDesc.{TaskDesc}
-use Rattle.gomp_types.specs.Tasks.{tasks_created, becomes_undeferred}
+use Rattle.gomp_types.specs.Tasks.{tasks_created}
 use Rattle.gomp_types.specs.TaskRules.{MayCreate}
 use Rattle.gomp_tasks.specs.Stands.{Stands as TasksStand, members_of as task_members, count_of}
 use Rattle.gomp_groups.specs.Stands.{Stands as GroupsStand, members_of as group_members}
 use Rattle.gomp_ready.specs.Ready.{ReadyView}
 use Rattle.gomp_barrier.specs.Stands.{Stands as BarriersStand}
-use Rattle.gomp_depend.specs.Stands.{has_items}
 use Rattle.gomp_board.specs.Boards.{BoardView, Stands, members_of}
 use Rattle.gomp_board.specs.ReadyTasks.{listed_with}
 use Rattle.gomp_board.specs.contracts.board.Board.{the_view}

@@ -1,6 +1,4 @@
-use Rattle.std.proofs.Common.{reverse, sym, subst, ◌∙◌}
-use Rattle.gomp_types.proofs.Booleans.{not_false}
-use Rattle.gomp_board.specs.Boards.{BoardView, Stands}
+use Rattle.std.proofs.Common.{sym, ◌∙◌}
 use Rattle.gomp_board.proofs.Creators.{creator_starts, creator_waits}
 use Rattle.gomp_board.proofs.board.Board.answer_creator.Goals as goal
 

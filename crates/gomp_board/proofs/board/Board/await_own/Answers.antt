@@ -1,6 +1,5 @@
-use Rattle.std.proofs.Common.{reverse, refl, sym, ◌∙◌, arith}
+use Rattle.std.proofs.Common.{reverse, sym, ◌∙◌, arith}
 use Rattle.gomp_board.specs.declared.op.Op.TheVariants.{AwaitOwn}
-use Rattle.gomp_board.specs.Boards.{BoardView, Stands}
 use Rattle.gomp_board.proofs.Performed.{op_performed}
 use Rattle.gomp_board.proofs.TaskEvents.{set_same}
 use Rattle.gomp_board.proofs.Creators.{creator_is_answered}

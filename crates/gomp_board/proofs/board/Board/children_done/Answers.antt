@@ -1,4 +1,4 @@
-use Rattle.std.proofs.Common.{reverse, sym, subst, ap, ◌∙◌}
+use Rattle.std.proofs.Common.{sym, subst, ap, ◌∙◌}
 use Rattle.gomp_types.specs.declared.task.Task.{Task}
 use Rattle.gomp_types.specs.Goals.{taskwait_met}
 use Rattle.gomp_board.specs.Boards.{BoardView, Stands}

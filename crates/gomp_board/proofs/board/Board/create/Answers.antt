@@ -1,7 +1,6 @@
-use Rattle.std.proofs.Common.{◌≡◌, ◌++◌, reverse, refl, sym, ap, ◌∙◌, arith}
+use Rattle.std.proofs.Common.{◌++◌, reverse, sym, ◌∙◌}
 use Rattle.gomp_types.specs.TaskCalls.{creates}
 use Rattle.gomp_board.specs.declared.op.Op.TheVariants.{Create}
-use Rattle.gomp_board.specs.Boards.{BoardView, Stands}
 use Rattle.gomp_board.proofs.Performed.{op_performed}
 use Rattle.gomp_board.proofs.TaskEvents.{set_same}
 use Rattle.gomp_board.proofs.Creators.{creator_is_answered}

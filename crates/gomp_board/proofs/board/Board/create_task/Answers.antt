@@ -1,4 +1,4 @@
-use Rattle.std.proofs.Common.{reverse, refl, sym, ◌∙◌}
+use Rattle.std.proofs.Common.{reverse, sym, ◌∙◌}
 use Rattle.gomp_board.specs.declared.op.Op.TheVariants.{Create}
 use Rattle.gomp_board.specs.Boards.{kept_by}
 use Rattle.gomp_board.proofs.Refused.{op_refused, creation_no_clash}

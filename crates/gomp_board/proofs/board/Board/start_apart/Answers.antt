@@ -1,6 +1,5 @@
-use Rattle.std.proofs.Common.{◌≡◌, ◌<◌, ℕ, reverse, refl, sym, subst, arith}
+use Rattle.std.proofs.Common.{◌<◌, reverse, refl, sym, subst, arith}
 use Rattle.gomp_types.specs.declared.event.Event.TheVariants.{Start}
-use Rattle.gomp_types.specs.TaskRules.{MayStart}
 use Rattle.gomp_tasks.specs.Stands.{members_of as task_members}
 use Rattle.gomp_board.specs.Boards.{BoardView, Stands, members_of}
 use Rattle.gomp_board.specs.contracts.board.Board.{the_view}

@@ -1,4 +1,4 @@
-use Rattle.std.proofs.Common.{◌≡◌, ℕ, refl, sym, subst, ap, ◌∙◌, arith, false}
+use Rattle.std.proofs.Common.{refl, sym, subst, ◌∙◌, false}
 use Rattle.std.proofs.lemmas.Option.{slice_get_read}
 use Rattle.gomp_depend.specs.declared.rows.DependRow.{DependRow}
 use Rattle.gomp_board.specs.Boards.{BoardView, Stands}
