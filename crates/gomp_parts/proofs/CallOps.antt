@@ -25,7 +25,7 @@ use Rattle.gomp_types.proofs.LeastTests.{AllFail, all_fail}
 use Rattle.gomp_model.specs.Past.{Past}
 use Rattle.gomp_model.specs.Row.{Row, board_tests, goes_on}
 use Rattle.gomp_model.specs.Arrivals.{compared_arrival, passes, barrier_row, region_end_row}
-use Rattle.gomp_model.specs.Tasks.{task_create_row, task_end_row, taskwait_row, group_start_row, group_end_row}
+use Rattle.gomp_model.specs.Tasks.{task_create_row, task_end_row, (taskwait_row items), group_start_row, group_end_row}
 use Rattle.gomp_model.specs.Calls.{row_of, stop_row}
 use Rattle.gomp_board.specs.declared.op.Op.{Op}
 use Rattle.gomp_board.specs.declared.op.Op.TheVariants as ops
@@ -179,9 +179,9 @@ task_end_is_op stands shares false m board p parts ready =
       no_words = refl;
     }
 
-taskwait_is_op : {S : Type 0} (stands : S → List Event → Type 0) (shares : S) (repeated : Bool) (m : ℕ) (board : BoardView) (p : Past) → PartsStand stands shares board p → IsReady taskwait_row repeated m board p → IsCallOp ops.AwaitChildren taskwait_row repeated m board p
+taskwait_is_op : {S : Type 0} (stands : S → List Event → Type 0) (shares : S) (repeated : Bool) (m : ℕ) (board : BoardView) (p : Past) → PartsStand stands shares board p → IsReady (taskwait_row items) repeated m board p → IsCallOp (ops.AwaitChildren items) (taskwait_row items) repeated m board p
 taskwait_is_op stands shares repeated m board p parts ready = record {
-  fine = ready_op_fine stands shares taskwait_row repeated m board p parts ready ops.AwaitChildren (waits_nowhere taskwait_row repeated m board p refl (λ q may. may) ready, tt);
+  fine = ready_op_fine stands shares (taskwait_row items) repeated m board p parts ready (ops.AwaitChildren items) (waits_nowhere (taskwait_row items) repeated m board p refl (λ q may. may) ready, tt);
   asks = none_more repeated;
   memory = λ much. not_lower much;
   begins = refl;
@@ -244,7 +244,7 @@ stop_is_op stands shares repeated m board p parts ready = record {
 pub board_call_is_op : {S : Type 0} (stands : S → List Event → Type 0) (shares : S) (call : Call) (op : Op) (repeated : Bool) (m : ℕ) (board : BoardView) (p : Past) → board_op repeated call ≡ Some op → PartsStand stands shares board p → IsReady (row_of call) repeated m board p → IsCallOp op (row_of call) repeated m board p
 board_call_is_op stands shares (calls.TaskCreate desc) op repeated m board p is parts ready = let same : ops.Create desc ≡ op = cc in subst (λ (o : Op). IsCallOp o (task_create_row desc) repeated m board p) same (create_is_op stands shares desc repeated m board p parts ready)
 board_call_is_op stands shares calls.TaskEnd op repeated m board p is parts ready = let same : ops.EndTask ≡ op = cc in subst (λ (o : Op). IsCallOp o task_end_row repeated m board p) same (task_end_is_op stands shares repeated m board p parts ready)
-board_call_is_op stands shares calls.Taskwait op repeated m board p is parts ready = let same : ops.AwaitChildren ≡ op = cc in subst (λ (o : Op). IsCallOp o taskwait_row repeated m board p) same (taskwait_is_op stands shares repeated m board p parts ready)
+board_call_is_op stands shares (calls.Taskwait items) op repeated m board p is parts ready = let same : (ops.AwaitChildren items) ≡ op = cc in subst (λ (o : Op). IsCallOp o (taskwait_row items) repeated m board p) same (taskwait_is_op stands shares repeated m board p parts ready)
 board_call_is_op stands shares calls.GroupStart op repeated m board p is parts ready = let same : ops.OpenGroup ≡ op = cc in subst (λ (o : Op). IsCallOp o group_start_row repeated m board p) same (group_start_is_op stands shares repeated m board p parts ready)
 board_call_is_op stands shares calls.GroupEnd op repeated m board p is parts ready = let same : group_op repeated ≡ op = cc in subst (λ (o : Op). IsCallOp o group_end_row repeated m board p) same (group_end_is_op stands shares repeated m board p parts ready)
 board_call_is_op stands shares calls.Stop op repeated m board p is parts ready = let same : ops.Break AtStop ≡ op = cc in subst (λ (o : Op). IsCallOp o stop_row repeated m board p) same (stop_is_op stands shares repeated m board p parts ready)
@@ -253,7 +253,7 @@ board_call_is_op stands shares _ op repeated m board p is parts ready = absurd (
 pub board_call_starts_none : (call : Call) (op : Op) (repeated : Bool) → board_op repeated call ≡ Some op → (row_of call).starts ≡ None
 board_call_starts_none (calls.TaskCreate desc) op repeated is = refl
 board_call_starts_none calls.TaskEnd op repeated is = refl
-board_call_starts_none calls.Taskwait op repeated is = refl
+board_call_starts_none (calls.Taskwait items) op repeated is = refl
 board_call_starts_none calls.GroupStart op repeated is = refl
 board_call_starts_none calls.GroupEnd op repeated is = refl
 board_call_starts_none calls.Stop op repeated is = refl
@@ -263,7 +263,7 @@ board_call_starts_none _ op repeated is = absurd (cc)
 pub board_call_goes_on : (call : Call) (op : Op) (repeated : Bool) (m : ℕ) (board : BoardView) (p : Past) → board_op repeated call ≡ Some op → IsReady (row_of call) repeated m board p → repeated ≡ true → goes_on_waiting op ≡ true
 board_call_goes_on (calls.TaskCreate desc) op repeated m board p is ready again = absurd (let once = made_once (task_create_row desc) repeated m board p (λ q reply may. rw may refl) ready in let both = sym again ∙ once in cc)
 board_call_goes_on calls.TaskEnd op repeated m board p is ready again = absurd (let once = made_once task_end_row repeated m board p (λ q reply may. ends_never_wait (executed_task m q.events) reply may) ready in let both = sym again ∙ once in cc)
-board_call_goes_on calls.Taskwait op repeated m board p is ready again = let same : ops.AwaitChildren ≡ op = cc in subst (λ (o : Op). goes_on_waiting o ≡ true) same refl
+board_call_goes_on (calls.Taskwait items) op repeated m board p is ready again = let same : (ops.AwaitChildren items) ≡ op = cc in subst (λ (o : Op). goes_on_waiting o ≡ true) same refl
 board_call_goes_on calls.GroupStart op repeated m board p is ready again = absurd (let once = made_once group_start_row repeated m board p (λ q reply may. rw may refl) ready in let both = sym again ∙ once in cc)
 board_call_goes_on calls.GroupEnd op repeated m board p is ready again = let same : group_op repeated ≡ op = cc in subst (λ (o : Op). goes_on_waiting o ≡ true) same (rw again refl)
 board_call_goes_on calls.Stop op repeated m board p is ready again = absurd (let once = made_once stop_row repeated m board p (λ q reply may. rw may refl) ready in let both = sym again ∙ once in cc)
