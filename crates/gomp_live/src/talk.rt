@@ -6,7 +6,7 @@ ghost use Rattle.gomp_live.specs.Stands.{TalkStands, AnswersLine, BeginsTeam, Ma
 use gomp_core::Team;
 use gomp_icv::Icv;
 use gomp_locks::LockBook;
-use gomp_script::{BadLine, LiveLine, parse_live_line, print_bad_line, print_refusal, print_reply};
+use gomp_script::{BadLine, LineError, LiveLine, parse_live_line, print_bad_line, print_refusal, print_reply};
 use gomp_shares::Shares;
 use gomp_steps::answer::team_size;
 use gomp_types::{Refusal, Step, is_team_size};
@@ -54,7 +54,7 @@ impl<S: Shares + Drop> Talk<S> {
     {
         let number = self.number;
         self.number = number.saturating_add(1);
-        match parse_live_line(line, self.team.is_some()) {
+        match parse_live_line(alloc, line, self.team.is_some()) {
             Ok(Some(LiveLine::NewTeam(count))) => {
                 begin_team(alloc, self.icv.copied(), &mut self.team, count)
             }
@@ -63,7 +63,8 @@ impl<S: Shares + Drop> Talk<S> {
                 None => unreachable!(),
             },
             Ok(None) => Ok(String::new(alloc)),
-            Err(why) => print_bad_line(alloc, &BadLine { line: number, why }),
+            Err(LineError::Fault(why)) => print_bad_line(alloc, &BadLine { line: number, why }),
+            Err(LineError::NoMemory) => Err(AllocError),
         }
     }
 }

@@ -25,7 +25,7 @@ use Rattle.gomp_types.proofs.LeastTests.{AllFail, all_fail}
 use Rattle.gomp_model.specs.Past.{Past}
 use Rattle.gomp_model.specs.Row.{Row, board_tests, goes_on}
 use Rattle.gomp_model.specs.Arrivals.{compared_arrival, passes, barrier_row, region_end_row}
-use Rattle.gomp_model.specs.Tasks.{task_create_row, task_end_row, (taskwait_row items), group_start_row, group_end_row}
+use Rattle.gomp_model.specs.Tasks.{task_create_row, task_end_row, taskwait_row, group_start_row, group_end_row}
 use Rattle.gomp_model.specs.Calls.{row_of, stop_row}
 use Rattle.gomp_board.specs.declared.op.Op.{Op}
 use Rattle.gomp_board.specs.declared.op.Op.TheVariants as ops
