@@ -86,7 +86,7 @@ keeps_what_is_left = record {
 }
 
 -- one that finds no memory changes nothing
-pub keeps_without_memory : Keeps one_waits one_waits (TaskCreate (record { code = 1; arg = 2 })) (Refused NoMemory)
+pub keeps_without_memory : Keeps one_waits one_waits (TaskCreate (record { code = 1; arg = 2; undeferred = false; final_task = false; deps = [] })) (Refused NoMemory)
 keeps_without_memory = record {
   members = refl;
   icv = refl;
