@@ -1,5 +1,5 @@
 -- What is known of a step that no test refuses, from a record whose replies have their causes.
-use Rattle.std.proofs.Common.{◌≡◌, ◌≤◌, ℕ, ◌<◌, Bool, true, false, List, [], ◌∷◌, ◌++◌, Option, Some, None, length, refl, ap, sym, ◌∙◌, subst, suc, arith, inl, inr}
+use Rattle.std.proofs.Common.{◌≡◌, ◌≤◌, ℕ, ◌<◌, Bool, true, false, List, [], ◌∷◌, ◌++◌, Option, Some, None, length, refl, ap, sym, ◌∙◌, subst, arith, inl, inr}
 use Rattle.std.specs.Prelude.{if◌then◌else◌, ◌==◌}
 use Rattle.std.proofs.lemmas.Bool.{cases_lt}
 use Rattle.gomp_types.specs.declared.call.Call.{Call}
@@ -130,7 +130,7 @@ step_below p step good =
 
 -- there are as many of them as tasks at most
 covers_length : (k : ℕ) (calls : List Call) (tasks : List ℕ) (h : List Event) → Covers k calls tasks h → length calls ≤ length tasks
-covers_length k calls [] h covers = rw covers (arith)
+covers_length k calls [] h covers = rw covers (omega arith)
 covers_length k calls (task ∷ tasks) h (inl own) = let most : length calls ≤ length tasks = covers_length k calls tasks h own.1 in omega (arith, most)
 covers_length k [] (task ∷ tasks) h (inr other) = absurd (other.1)
 covers_length k (call ∷ calls) (task ∷ tasks) h (inr other) = let most : length calls ≤ length tasks = covers_length k calls tasks h other.1.1 in omega (arith, most)

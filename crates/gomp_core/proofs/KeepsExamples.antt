@@ -25,6 +25,7 @@ plain_board = record {
   tasks = record { rows = []; stacks = [] ∷ [] ∷ []; room = 0 };
   groups = record { groups = []; tasks = []; members = []; task_room = 0; group_room = 0 };
   barriers = record { seats = []; front = record { odd = false; number = 0; tag = None; next = None }; tasks = record { even = 0; odd = 0 } };
+  depends = record { rows = []; room = 0 };
   ready = [];
   payloads = replicate OPEN_SHARES None;
 }
