@@ -4,7 +4,9 @@ use crate::checks::{SIZES, each_is, same, text_of};
 use gomp_script::{
     BadLine, ParseError, Why, parse_steps, print_bad_line, print_replies, print_reply,
 };
-use gomp_types::{Call, Clash, Payload, Place, Refusal, Reply, Step};
+use gomp_types::{
+    Call, Clash, Dep, DepKind, Deps, Payload, Place, Refusal, Reply, Step, TaskDesc,
+};
 use std::alloc::Global;
 use std::process::Abort;
 use std::test::Fail;
@@ -132,8 +134,12 @@ const CALLS: &[&str] = &[
     "unset_nest 0",
     "task 0 18446744073709551615",
     "task 18446744073709551615 0",
+    "task 1 0 if0",
+    "task 1 0 final",
+    "task 1 0 if0 final in 0 out 18446744073709551615 inout 1 inoutset 2 mutexinoutset 3",
     "task_end",
     "taskwait",
+    "taskwait mutexinoutset 0 in 18446744073709551615",
     "group",
     "group_end",
     "resume",
@@ -186,6 +192,38 @@ const BAD_TEXTS: &[BadRow] = &[
     ("team 1\n0 critical x", "x", " y\n", 0, 2, Why::ExtraWord),
     ("team 1\n0 set ", "0", "4294967296\n", 0, 2, Why::BadNumber),
     ("team 1\n0 task 1 2", " x", " y\n", 0, 2, Why::ExtraWord),
+    (
+        "team 1\n0 task 1 2 if0",
+        " in 3",
+        " out\n",
+        0,
+        2,
+        Why::MissingWord,
+    ),
+    (
+        "team 1\n0 task 1 2 in 3",
+        " in 3",
+        " final\n",
+        0,
+        2,
+        Why::ExtraWord,
+    ),
+    (
+        "team 1\n0 taskwait",
+        " in 3",
+        " out x\n",
+        0,
+        2,
+        Why::BadNumber,
+    ),
+    (
+        "team 1\n0 taskwait",
+        " out 3",
+        " if0\n",
+        0,
+        2,
+        Why::ExtraWord,
+    ),
     (
         "team 1\n0 task ",
         "0",
@@ -267,6 +305,45 @@ fn has_faults_of_byte(rt: &impl Abort, alloc: Global, byte: u8) {
     );
 }
 
+/// So many items of one kind and address.
+fn items_of(alloc: Global, count: usize) -> Result<Deps, Fail> {
+    let mut items = Deps::new(alloc);
+    for _ in 0..count {
+        items.push(Dep {
+            kind: DepKind::DepInoutset,
+            addr: 7,
+        })?;
+    }
+    Ok(items)
+}
+
+/// That so many items of a task and of a taskwait are read.
+fn reads_items(rt: &impl Abort, alloc: Global, count: usize) -> Result<(), Fail> {
+    let clauses = text_of(alloc, "", " inoutset 7", count, "")?;
+    let text =
+        format!(in alloc; "team 1\n0 task 5 6 if0 final{clauses}\n0 taskwait{clauses}\n")?;
+    let steps = steps_of(rt, alloc, text.as_str(), (1, 2), "items", count as u64);
+    let expected = [
+        Step {
+            member: 0,
+            call: Call::TaskCreate(TaskDesc {
+                code: 5,
+                arg: 6,
+                undeferred: true,
+                final_task: true,
+                deps: items_of(alloc, count)?,
+            }),
+        },
+        Step {
+            member: 0,
+            call: Call::Taskwait(items_of(alloc, count)?),
+        },
+    ];
+    let found = steps.as_slice();
+    same(rt, &found, &expected.as_slice(), "items", count as u64);
+    Ok(())
+}
+
 /// Texts of every size are read whole: steps, and comments and empty lines before, between and behind.
 #[test]
 fn good_texts(rt: HostRuntime) -> Result<(), Fail> {
@@ -280,6 +357,9 @@ fn good_texts(rt: HostRuntime) -> Result<(), Fail> {
         for member in &[0, 64, 65_535] {
             reads_call(&rt, rt.alloc(), *member, *call)?;
         }
+    }
+    for count in SIZES {
+        reads_items(&rt, rt.alloc(), *count)?;
     }
     Ok(())
 }
