@@ -94,11 +94,11 @@ step_of_talk {S} stands members icv number old team after None step answer same 
 
 -- a value that a line gave is what was read of it
 pub line_asked : {A : Type 0} (given : Result A LineError) (read : Result A Why) (value : A) → Reads given read → given ≡ Ok value → Ok value ≡ read
-line_asked given read value reads is = sym (subst (λ (r : Result A LineError). Reads r read) is reads)
+line_asked {A = A} given read value reads is = sym (subst (λ (r : Result A LineError). Reads r read) is reads)
 
 -- so is a fault
 pub line_fault : {A : Type 0} (given : Result A LineError) (read : Result A Why) (why : Why) → Reads given read → given ≡ Err (Fault why) → Err why ≡ read
-line_fault given read why reads is = sym (subst (λ (r : Result A LineError). Reads r read) is reads)
+line_fault {A = A} given read why reads is = sym (subst (λ (r : Result A LineError). Reads r read) is reads)
 
 -- what follows of each value follows of that which there is
 pub if_ok_then : {X E : Type 0} {P Q : X → Type 0} (result : Result X E) → ((x : X) → P x → Q x) → IfOk result P → IfOk result Q

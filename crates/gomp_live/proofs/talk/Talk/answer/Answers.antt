@@ -8,7 +8,7 @@ use Rattle.gomp_live.proofs.talk.Talk.answer.Goals as goal
 pub returns-in-Ok-Some-NewTeam-clause-answer : goal.returns-in-Ok-Some-NewTeam-clause-answer
 returns-in-Ok-Some-NewTeam-clause-answer g c = λ lines said stood.
     let before = rw (← c.self.view_is) at stood in
-    let read = line_asked c.parse_live_line.result (read_live_line c.is_some.result c.args.line.now) (Some (NewTeam c.in-Ok-Some-NewTeam.count)) c.parse_live_line.ensures.asked c.in-Ok-Some-NewTeam.is in
+    let read = line_asked c.parse_live_line.result (read_live_line c.is_some.result c.args.line.now) (Some (NewTeam c.in-Ok-Some-NewTeam.count)) c.parse_live_line.ensures.asked (let is = c.in-Ok-Some-NewTeam.is in let some = c.in-Ok-Some-NewTeam.field-0-is in let line = c.in-Ok-Some-NewTeam.field-0-0-is in cc) in
     let asked : Ok (Some (NewTeam c.in-Ok-Some-NewTeam.count)) ≡ read_live_line (is_some c.self.inside.team) c.args.line.now = let some = c.is_some.ensures in cc in
     let begins = rw c.copied.ensures at c.begin_team.ensures in
     if_ok_then c.begin_team.result
@@ -21,7 +21,7 @@ returns-in-Ok-Some-NewTeam-clause-answer g c = λ lines said stood.
 pub returns-in-Some-clause-answer : goal.returns-in-Some-clause-answer
 returns-in-Some-clause-answer g c = λ lines said stood.
     let before = rw (← c.self.view_is) at stood in
-    let read = line_asked c.parse_live_line.result (read_live_line c.is_some.result c.args.line.now) (Some (NextStep c.in-Ok-Some-NextStep.step)) c.parse_live_line.ensures.asked c.in-Ok-Some-NextStep.is in
+    let read = line_asked c.parse_live_line.result (read_live_line c.is_some.result c.args.line.now) (Some (NextStep c.in-Ok-Some-NextStep.step)) c.parse_live_line.ensures.asked (let is = c.in-Ok-Some-NextStep.is in let some = c.in-Ok-Some-NextStep.field-0-is in let line = c.in-Ok-Some-NextStep.field-0-0-is in cc) in
     let asked : Ok (Some (NextStep c.in-Ok-Some-NextStep.step)) ≡ read_live_line (is_some c.self.inside.team) c.args.line.now = let some = c.is_some.ensures in cc in
     if_ok_then c.step_team.result
     (λ answer steps.
@@ -33,7 +33,7 @@ returns-in-Some-clause-answer g c = λ lines said stood.
 pub returns-in-Err-Fault-clause-answer : goal.returns-in-Err-Fault-clause-answer
 returns-in-Err-Fault-clause-answer g c = λ lines said stood.
     let before = rw (← c.self.view_is) at stood in
-    let read = line_fault c.parse_live_line.result (read_live_line c.is_some.result c.args.line.now) c.in-Err-Fault.why c.parse_live_line.ensures.asked c.in-Err-Fault.is in
+    let read = line_fault c.parse_live_line.result (read_live_line c.is_some.result c.args.line.now) c.in-Err-Fault.why c.parse_live_line.ensures.asked (let is = c.in-Err-Fault.is in let fault = c.in-Err-Fault.field-0-is in cc) in
     let asked : Err c.in-Err-Fault.why ≡ read_live_line (is_some c.self.inside.team) c.args.line.now = let some = c.is_some.ensures in cc in
     if_ok_then c.print_bad_line.result
     (λ answer text.
