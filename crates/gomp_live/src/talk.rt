@@ -6,7 +6,9 @@ ghost use Rattle.gomp_live.specs.Stands.{TalkStands, AnswersLine, BeginsTeam, Ma
 use gomp_core::Team;
 use gomp_icv::Icv;
 use gomp_locks::LockBook;
-use gomp_script::{BadLine, LineError, LiveLine, parse_live_line, print_bad_line, print_refusal, print_reply};
+use gomp_script::{
+    BadLine, LineError, LiveLine, parse_live_line, print_bad_line, print_refusal, print_reply,
+};
 use gomp_shares::Shares;
 use gomp_steps::answer::team_size;
 use gomp_types::{Refusal, Step, is_team_size};
