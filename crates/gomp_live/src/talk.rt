@@ -47,7 +47,8 @@ impl<S: Shares + Drop> Talk<S> {
     /// The answer to the next line, which has no line feed: the one that the lines before it leave.
     /// A line that is skipped has an empty one.
     ///
-    /// The error is want of memory outside of a step; the talk should end with it.
+    /// The error is want of memory outside of a step: for the items of a line, whose step is then not
+    /// made, for a new team, or for the text of an answer. The talk should end with it.
     pub fn answer(&mut self, alloc: Global, line: &[u8]) -> Result<String, AllocError>
         ensures icv { self.new.icv ≡ self.old.icv }
         ensures answer { AnswersLine S.stands S.members line.now self.old self.new result }

@@ -18,8 +18,9 @@ use gomp_board::{Board, Op, items_refusal};
 use gomp_types::{Call, Place, Refusal, Reply, TaskDesc};
 
 /// Why tasks, groups or want of room for events refuse the call of the member, numbered from 0:
-/// `InsideTask` if no explicit task may make it, `TooDeep`, `TooManyTasks`, `NotInTask`, `NoGroup`,
-/// `GroupOpen` or `TraceFull`. A call that is repeated (`repeated`) was tested when it was made.
+/// `InsideTask` if no explicit task may make it, `TooDeep`, `TooManyTasks`, `TooManyDepends`,
+/// `NotInTask`, `NoGroup`, `GroupOpen` or `TraceFull`. A call that is repeated (`repeated`) was tested
+/// when it was made.
 pub fn task_refusal(board: &Board, member: u16, call: &Call, repeated: bool) -> Option<Refusal>
     requires member { member < members_of board.now }
     ensures least { (p : Past) → BoardStands board.now p.events →

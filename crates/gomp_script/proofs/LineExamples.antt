@@ -1,12 +1,13 @@
 -- What the lines of a text say, computed: each word, each number at its ends, each fault and which comes first. (own)
-use Rattle.std.proofs.Common.{◌≡◌, pos, negsuc, true, false, [], ◌∷◌, ◌++◌, Some, None, Ok, Err, codes, refl}
+use Rattle.std.proofs.Common.{◌≡◌, ℕ, pos, negsuc, Bool, true, false, List, [], ◌∷◌, ◌++◌, Some, None, Ok, Err, Bor, length, codes, refl, ap, arith}
 use Rattle.std.specs.Prelude.{map, replicate}
 use Rattle.gomp_types.specs.declared.call.Call.TheVariants.{LoopStart, LoopNext, LoopEnd, LoopEndNowait, SectionsStart, SectionsNext, SectionsEnd, SectionsEndNowait, SingleStart, SingleCopyStart, SingleCopyEnd, OrderedStart, OrderedEnd, Barrier, RegionEnd, CriticalStart, CriticalEnd, LockInit, NestInit, LockDestroy, Set, Test, Unset, SetNest, TestNest, UnsetNest, TaskCreate, TaskEnd, Taskwait, GroupStart, GroupEnd, Resume, Stop}
 use Rattle.gomp_types.specs.declared.depend.DepKind.TheVariants.{DepIn, DepOut, DepInout, DepInoutset, DepMutex}
 use Rattle.gomp_types.specs.declared.loop_desc.EndKind.TheVariants.{Wait, Nowait}
 use Rattle.gomp_types.specs.declared.loop_desc.Sched.TheVariants.{Static, Dynamic, Guided, Runtime}
 use Rattle.gomp_script.specs.declared.parse.Why.TheVariants.{NotAscii, FirstLine, UnknownWord, MissingWord, BadNumber, ExtraWord}
-use Rattle.gomp_script.specs.StepText.{read_line, step_of, plain_step, loop_step, sections_step, copy_end_step, ordered_step, critical_step, critical_end_step, lock_step, task_step, taskwait_step, team_of}
+use Rattle.gomp_text.specs.Words.{words_of}
+use Rattle.gomp_script.specs.StepText.{IsBehindItems, IsItem, TakesOption, behind_items, fault_in, first_item, items_of, option_of, without_value, read_line, step_of, plain_step, loop_step, sections_step, copy_end_step, ordered_step, critical_step, critical_end_step, lock_step, task_step, taskwait_step, team_of}
 use Rattle.gomp_script.specs.Examples.{parts, steps_said, teams_said, calls, each_bad, by_first, loop_of_four, task_of, task_with, item_of}
 
 -- the calls that stand alone, each by its word
@@ -218,6 +219,37 @@ more_than_a_task = refl
 pub kinds_miswritten : steps_said (calls (codes "task 7 5 i 100|task 7 5 ou 100|task 7 5 inou 100|task 7 5 inoutse 100|task 7 5 mutexinoutse 100|taskwait ins 100|taskwait outs 100|taskwait inouts 100|taskwait inoutsets 100|taskwait mutexinoutsets 100|task 7 5 In 100|task 7 5 Out 100|task 7 5 Inout 100|task 7 5 Inoutset 100|task 7 5 Mutexinoutset 100")) ≡ each_bad 15 ExtraWord
 unfolding plain_step task_step taskwait_step
 kinds_miswritten = refl
+
+-- an option that stands in front is taken; another, or one behind, is not
+pub options_taken : (option_of (codes "if0") (codes "if0" ∷ codes "in" ∷ []) ≡ (true, codes "in" ∷ [])) × (option_of (codes "if0") (codes "final" ∷ codes "if0" ∷ []) ≡ (false, codes "final" ∷ codes "if0" ∷ [])) × (option_of (codes "final") [] ≡ (false, []))
+options_taken = (refl, refl, refl)
+
+-- the item in front, whatever its address is; none, and one without its address
+pub first_items : map (λ line. first_item (words_of line)) (parts (codes "in x foo|mutexinoutset 1|foo 1 in 1|foo||in")) ≡ Ok (Some (DepIn, codes "x", codes "foo" ∷ [])) ∷ Ok (Some (DepMutex, codes "1", [])) ∷ Ok None ∷ Ok None ∷ Ok None ∷ Err MissingWord ∷ []
+first_items = refl
+
+-- the words behind the items, whatever their addresses are
+pub words_behind_items : map (λ line. behind_items (words_of line)) (parts (codes "in 1 out x foo in|foo in 1|in 1|in 1 out")) ≡ Ok (codes "foo" ∷ codes "in" ∷ []) ∷ Ok (codes "foo" ∷ codes "in" ∷ codes "1" ∷ []) ∷ Ok [] ∷ Err MissingWord ∷ []
+words_behind_items = refl
+
+-- the first fault of the items themselves; a word behind them is none
+pub faults_of_items : map (λ line. without_value (items_of (words_of line))) (parts (codes "in 1 out 2|in 1 foo|foo|in x out|in 1 out x|in")) ≡ Ok tt ∷ Ok tt ∷ Ok tt ∷ Err BadNumber ∷ Err BadNumber ∷ Err MissingWord ∷ []
+faults_of_items = refl
+
+-- what stands in front is not handed on once more, and a line without the option is handed on whole
+pub other_rest_of_an_option : (rest : Bor (List ℕ)) → (rest.now ≡ codes "if0 in" → TakesOption (codes "if0") (codes "if0 in") (true, rest) → ⊥) × (rest.now ≡ codes "in" → TakesOption (codes "if0") (codes "if0 in") (false, rest) → ⊥)
+other_rest_of_an_option rest = (
+  λ same taken. let both = rw same at taken in let count : 1 ≡ 2 = ap (λ (parts : Bool × List (List ℕ)). length parts.1) both in absurd (omega (arith, count)),
+  λ same taken. let flag : true ≡ false = ap (λ (parts : Bool × List (List ℕ)). parts.0) taken in absurd (cc),
+)
+
+-- nor are items whose end was not reached
+pub other_rest_of_items : (rest : Bor (List ℕ)) → rest.now ≡ codes "out 2" → IsBehindItems (codes "in 1 out 2") (Ok rest) → ⊥
+other_rest_of_items rest same passed = let other = rw same at passed in absurd (cc)
+
+-- an item is not passed over, and an item without its address is a fault
+pub other_first_items : (IsItem (codes "in 1") (Ok None) → ⊥) × (IsItem (codes "in") (Ok None) → ⊥) × (IsItem (codes "in") (Err BadNumber) → ⊥)
+other_first_items = (λ same. absurd (cc), λ same. absurd (cc), λ same. let fault : Some MissingWord ≡ Some BadNumber = ap fault_in same in absurd (cc))
 
 -- numbers beyond their types
 pub numbers_beyond : steps_said (parts (codes "0 sections 4294967296 wait|0 sections -1 wait|0 ordered 9223372036854775808|0 ordered -9223372036854775809|0 single_copy_end 18446744073709551616|0 single_copy_end -1|65536 next|-1 next|x single_copy_end")) ≡ each_bad 9 BadNumber
