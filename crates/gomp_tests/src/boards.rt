@@ -5,13 +5,13 @@ ghost use Rattle.std.specs.Prelude.{◌≡◌, ◌<◌, IfOk};
 ghost use Rattle.gomp_types.specs.Limits.{IsTeamSize};
 ghost use Rattle.gomp_board.specs.Boards.{members_of};
 
-use crate::checks::{SIZES, same};
+use crate::checks::{SIZES, items_of, same};
 use gomp_board::{Board, Op};
 use gomp_depend::Depends;
 use gomp_groups::Groups;
 use gomp_ready::Ready;
 use gomp_tasks::Tasks;
-use gomp_types::{Arrival, Dep, DepKind, Deps, Limits, Payload, Refusal, Reply, Tag, TaskDesc};
+use gomp_types::{Arrival, DepKind, Deps, Limits, Payload, Refusal, Reply, Tag, TaskDesc};
 use std::alloc::{AllocError, Global};
 use std::process::Abort;
 use std::test::Fail;
@@ -57,26 +57,6 @@ enum Ask {
 
 const CODE: u64 = 7;
 
-/// The items of a clause that names this many addresses, from 0.
-fn items_of(alloc: Global, kind: DepKind, count: usize) -> Result<Deps, AllocError> {
-    let mut items = Deps::new(alloc);
-    for addr in 0..count {
-        items.push(Dep {
-            kind,
-            addr: addr as u64,
-        })?;
-    }
-    Ok(items)
-}
-
-/// One item. It is asked for again if it is forgiven that there was no memory.
-fn item(alloc: Global, kind: DepKind, forgiven: u32) -> Result<Deps, AllocError> {
-    match items_of(alloc, kind, 1) {
-        Err(_) if forgiven > 0 => items_of(alloc, kind, 1),
-        items => items,
-    }
-}
-
 /// The creation of the task with this number.
 fn creation(next: u32, undeferred: bool, deps: Deps) -> Op {
     Op::Create(TaskDesc {
@@ -89,15 +69,15 @@ fn creation(next: u32, undeferred: bool, deps: Deps) -> Op {
 }
 
 impl Ask {
-    /// The operation; `next` is the number of the next task, and its items are asked for again if that is forgiven.
-    fn op(self, alloc: Global, next: u32, forgiven: u32) -> Result<Op, AllocError> {
+    /// The operation; `next` is the number of the next task.
+    fn op(self, alloc: Global, next: u32) -> Result<Op, AllocError> {
         Ok(match self {
             Ask::Create => creation(next, false, Deps::new(alloc)),
-            Ask::CreateWriter => creation(next, false, item(alloc, DepKind::DepOut, forgiven)?),
-            Ask::CreateOwn => creation(next, true, item(alloc, DepKind::DepIn, forgiven)?),
+            Ask::CreateWriter => creation(next, false, items_of(alloc, DepKind::DepOut, 1)?),
+            Ask::CreateOwn => creation(next, true, items_of(alloc, DepKind::DepIn, 1)?),
             Ask::Run | Ask::Children => Op::AwaitChildren(Deps::new(alloc)),
             Ask::RunWriter | Ask::Writers => {
-                Op::AwaitChildren(item(alloc, DepKind::DepIn, forgiven)?)
+                Op::AwaitChildren(items_of(alloc, DepKind::DepIn, 1)?)
             }
             Ask::End | Ask::EndOwn => Op::EndTask,
             Ask::Open => Op::OpenGroup,
@@ -114,11 +94,6 @@ impl Ask {
             Ask::Arrive(kind) | Ask::ArriveLast(kind) => Op::Arrive(Tag { kind, shares: 0 }),
             Ask::WaitOn => Op::AwaitBarrier,
         })
-    }
-
-    /// Whether it creates a task.
-    fn creates(self) -> bool {
-        matches!(self, Ask::Create | Ask::CreateWriter | Ask::CreateOwn)
     }
 
     /// The reply, without the number of a task that is run or ended: no rule says which of several is run.
@@ -185,33 +160,24 @@ fn board_of(alloc: Global, members: u16, forgiven: u32) -> Result<Board, AllocEr
     }
 }
 
-fn trial_of(alloc: Global, members: u16, forgiven: u32) -> Result<Trial, AllocError>
-    requires size { IsTeamSize members }
-{
-    let board = board_of(alloc, members, forgiven)?;
-    Ok(Trial {
-        alloc,
-        board,
-        members,
-        next: 1,
-        forgiven,
-    })
-}
-
 impl Trial {
-    /// What the board answers, and answers again if it is forgiven that it had no memory: nothing has changed then.
+    /// What the board answers, and answers again if it is forgiven that it had no memory: nothing has changed then. So it
+    /// is with what the operation holds.
     fn answer(&mut self, rt: &impl Abort, member: u16, ask: Ask) -> Result<Reply, AllocError> {
         let member = member.min(self.members - 1);
         let before = (self.board.current(member), self.board.history().len());
-        let op = ask.op(self.alloc, self.next, self.forgiven)?;
-        let reply = self.board.step(member, op);
+        let op = match ask.op(self.alloc, self.next) {
+            Err(_) if self.forgiven > 0 => ask.op(self.alloc, self.next),
+            op => op,
+        };
+        let reply = self.board.step(member, op?);
         if self.forgiven == 0 || reply != Reply::Refused(Refusal::NoMemory) {
             return Ok(reply);
         }
         self.forgiven -= 1;
         let after = (self.board.current(member), self.board.history().len());
         same(rt, &after, &before, "no memory for member", member as u64);
-        let op = ask.op(self.alloc, self.next, 0)?;
+        let op = ask.op(self.alloc, self.next)?;
         Ok(self.board.step(member, op))
     }
 
@@ -228,7 +194,7 @@ impl Trial {
                 let found = without_number(self.answer(rt, member, *ask)?);
                 let expected = ask.reply(self.next);
                 same(rt, &found, &expected, "answer to member", member as u64);
-                if ask.creates() {
+                if matches!(ask, Ask::Create | Ask::CreateWriter | Ask::CreateOwn) {
                     self.next = self.next.wrapping_add(1);
                 }
             }
@@ -264,12 +230,6 @@ const ASKS: &[&[Ask]] = &[
     &[Ask::Put],
 ];
 
-/// The stored events of a member, if all this, a barrier and the end of a share come so many times: of three tasks three
-/// each, of a group two, of words three, and two at each meeting; and those at the region's end.
-fn events_of(count: usize) -> usize {
-    count.wrapping_mul(18).wrapping_add(2)
-}
-
 /// A team of this size asks all this so many times, meets at as many barriers and ends of shares, and leaves its region.
 fn region(
     rt: &impl Abort,
@@ -280,7 +240,14 @@ fn region(
 ) -> Result<Trial, AllocError>
     requires size { IsTeamSize members }
 {
-    let mut trial = trial_of(alloc, members, forgiven)?;
+    let board = board_of(alloc, members, forgiven)?;
+    let mut trial = Trial {
+        alloc,
+        board,
+        members,
+        next: 1,
+        forgiven,
+    };
     for asks in ASKS {
         for member in 0..members {
             trial.is_answered(rt, member, *asks, count)?;
@@ -291,8 +258,10 @@ fn region(
         trial.meet(rt, Arrival::ShareEnd)?;
     }
     trial.meet(rt, Arrival::RegionEnd)?;
+    // of three tasks three each, of a group two, of words three, two at each meeting, and those at the region's end
+    let of_member = count.wrapping_mul(18).wrapping_add(2);
     let stored = trial.board.history().len();
-    let expected = events_of(count).wrapping_mul(members as usize);
+    let expected = of_member.wrapping_mul(members as usize);
     same(rt, &stored, &expected, "events of", count as u64);
     Ok(trial)
 }
@@ -318,7 +287,7 @@ fn parts(rt: &impl Abort, alloc: Global, members: u16, count: usize) -> Result<(
 }
 
 /// That a board creates a task with so many items, if they are not too many, and that a member then waits for it by as
-/// many, of which a wait may have any number.
+/// many, of which this wait may have any number. They are copied whole.
 fn counts_items(
     rt: &impl Abort,
     alloc: Global,
@@ -335,6 +304,8 @@ fn counts_items(
     };
     same(rt, &created, &expected, "creation by items", count as u64);
     let items = items_of(alloc, DepKind::DepOut, count)?;
+    let copy = items.copied(alloc)?;
+    same(rt, &copy, &items, "copied items", count as u64);
     let waited = without_number(board.step(0, Op::AwaitChildren(items)));
     let expected = if few {
         Ask::Run.reply(1)
@@ -354,19 +325,6 @@ const KINDS: &[DepKind] = &[
 ];
 
 #[test]
-fn tasks_have_up_to_sixteen_items(rt: HostRuntime) -> Result<(), Fail> {
-    for kind in KINDS {
-        for count in 0..=18 {
-            counts_items(&rt, rt.alloc(), *kind, count)?;
-        }
-        for count in SIZES {
-            counts_items(&rt, rt.alloc(), *kind, *count)?;
-        }
-    }
-    Ok(())
-}
-
-#[test]
 fn boards_give_up_nothing(rt: HostRuntime) -> Result<(), Fail> {
     for count in SIZES {
         region(&rt, rt.alloc(), 1, *count, 0)?;
@@ -380,6 +338,14 @@ fn boards_give_up_nothing(rt: HostRuntime) -> Result<(), Fail> {
     }
     for members in &[0, 65, 255, 256, 65_535] {
         parts(&rt, rt.alloc(), *members, 0)?;
+    }
+    for kind in KINDS {
+        for count in 0..=18 {
+            counts_items(&rt, rt.alloc(), *kind, count)?;
+        }
+        for count in SIZES {
+            counts_items(&rt, rt.alloc(), *kind, *count)?;
+        }
     }
     Ok(())
 }

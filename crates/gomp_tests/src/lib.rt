@@ -12,8 +12,6 @@ mod budget;
 #[cfg(test)]
 mod checks;
 #[cfg(test)]
-mod depends;
-#[cfg(test)]
 mod faults;
 #[cfg(test)]
 mod names;
