@@ -6,8 +6,8 @@ of it in nested tasks, with items of all five kinds on a few addresses; some tas
 items. Members ask in random order: who waits asks again, who is given a task executes it. A relation of this program's own, by the
 writers and the readers of each address so far, says which tasks one waits for. Checked of each reply:
 
-run          the task was created and not begun, and those that it waits for have ended; it descends from what the member executes,
-             save at the region's end; the task of an undeferred creation is `own`, and no other
+run          the task was created and not begun, and those that it waits for have ended; it descends from each task that the member
+             executes, of its implicit one unless it waits at the region's end; the task of an undeferred creation is `own`, and no other
 wait         there is nothing else: what it waits for is not met, and no task may be begun
 passed       it is met: the children that a taskwait names, or all, have ended; at the region's end all tasks
 task_done    `free` for an undeferred task, `waiting` for others
@@ -219,7 +219,7 @@ class Run:
         kind, what = member.waits[-1]
         if reply == "wait":
             self.need(not self.is_met(kind, what), f"member {number} waits at {kind}, though it is met")
-            could = [task.number for task in self.unbegun if task.is_free() and self.may_begin(member, kind, task)]
+            could = [task.number for task in self.unbegun if task.is_free() and self.may_begin(member, task)]
             self.need(not could, f"member {number} waits at {kind}, though it may begin task {could and could[0]}")
             member.is_asked = True
             return
@@ -241,7 +241,7 @@ class Run:
         self.need(is_own or not task.is_undeferred, f"task {task.number} is undeferred, and another call's")
         for other in task.waits_for:
             self.need(other.ended, f"task {task.number} is begun before task {other.number}, for which it waits, has ended")
-        self.need(is_own or self.may_begin(member, kind, task), f"task {task.number} does not descend from what the member executes")
+        self.need(is_own or self.may_begin(member, task), f"task {task.number} does not descend from what the member executes")
         task.begun = True
         if is_own:
             member.waits.pop()
@@ -259,8 +259,10 @@ class Run:
         return self.arrived == self.size and all(task.ended for task in self.tasks)
 
     @staticmethod
-    def may_begin(member, kind, task):
-        return kind == "region_end" or all(task.descends_from(begun) for begun in member.stack)
+    def may_begin(member, task):
+        """Every task that the member executes is an ancestor; so is its implicit task, unless the member waits at the region's end."""
+        at_end = any(kind == "region_end" for calls in [member.waits, *member.beneath] for kind, what in calls)
+        return all(task.descends_from(begun) for begun in member.stack[1 if at_end else 0:])
 
     def moved(self):
         for member in self.members:
