@@ -16,7 +16,7 @@ use Rattle.gomp_tasks.proofs.Laws.{created_tasks_have_numbers}
 use Rattle.gomp_board.specs.Boards.{BoardView, Stands}
 use Rattle.gomp_board.specs.Startable.{RunsTask}
 use Rattle.gomp_board.proofs.Waiting.{IsReply}
-use Rattle.gomp_board.proofs.Freed.{undeferred_is_created, newest_low, made}
+use Rattle.gomp_board.proofs.Freed.{undeferred_is_created, newest_low, number_in_range}
 
 -- no task has the number 0
 pub none_is_deferred : (members : ℕ) (t : ℕ) (h : List Event) → Always (TaskRule members) h → t ≡ 0 → is_undeferred t h ≡ false
@@ -30,7 +30,7 @@ pub newest_has_number : (b : BoardView) (m t : ℕ) (h : List Event) → Stands 
 newest_has_number b m zero h st newest some = absurd (cc)
 newest_has_number b m (suc k) h st newest some =
     let high = newest_low _ (executed_task m h) h st.tasks.rule in
-    created_tasks_have_numbers b.tasks h (suc k) st.tasks (made (suc k) (tasks_created h) (omega arith) (omega (arith, newest, high)))
+    created_tasks_have_numbers b.tasks h (suc k) st.tasks (number_in_range (suc k) (tasks_created h) (omega arith) (omega (arith, newest, high)))
 
 -- no answer of it is a refusal
 pub creator_is_answered : (m : ℕ) (h : List Event) (reply : Reply) → CreatesTask m h reply → IsReply reply
@@ -42,8 +42,8 @@ creator_is_answered m h (Refused refusal) may = never (is_undeferred (newest_chi
 creator_is_answered m h _ may = tt
 
 -- of a deferred task its number
-pub creator_told : (m t : ℕ) (h : List Event) → t ≡ newest_child (executed_task m h) h → is_undeferred t h ≡ false → CreatesTask m h (Created t)
-creator_told m t h newest deferred = subst (λ (n : ℕ). AnswersCreator (is_undeferred n h) m n h (Created t)) newest (rw deferred refl)
+pub creator_gets_number : (m t : ℕ) (h : List Event) → t ≡ newest_child (executed_task m h) h → is_undeferred t h ≡ false → CreatesTask m h (Created t)
+creator_gets_number m t h newest deferred = subst (λ (n : ℕ). AnswersCreator (is_undeferred n h) m n h (Created t)) newest (rw deferred refl)
 
 undeferred_answer : (m t : ℕ) (h : List Event) (reply : Reply) → t ≡ newest_child (executed_task m h) h → is_undeferred t h ≡ true → AwaitsOwn m t h reply → CreatesTask m h reply
 undeferred_answer m t h reply newest undeferred own = subst (λ (n : ℕ). AnswersCreator (is_undeferred n h) m n h reply) newest (rw undeferred own)
@@ -65,5 +65,5 @@ own_waits m t h (Run task code arg true) held waits = absurd (let never = waits.
 own_waits m t h (Run task code arg false) held waits = (held, waits.1, waits.2, waits.3)
 own_waits m t h _ held waits = absurd waits
 
-pub creator_waits : (m t : ℕ) (h : List Event) (reply : Reply) → t ≡ newest_child (executed_task m h) h → is_undeferred t h ≡ true → may_start m t h ≡ false → AwaitsTasks m false h reply → CreatesTask m h reply
-creator_waits m t h reply newest undeferred held waits = undeferred_answer m t h reply newest undeferred (own_waits m t h reply held waits)
+pub creator_has_to_wait : (m t : ℕ) (h : List Event) (reply : Reply) → t ≡ newest_child (executed_task m h) h → is_undeferred t h ≡ true → may_start m t h ≡ false → AwaitsTasks m false h reply → CreatesTask m h reply
+creator_has_to_wait m t h reply newest undeferred held waits = undeferred_answer m t h reply newest undeferred (own_waits m t h reply held waits)

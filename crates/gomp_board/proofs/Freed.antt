@@ -20,7 +20,7 @@ use Rattle.gomp_tasks.specs.Calls.{may_run}
 use Rattle.gomp_depend.specs.declared.rows.DependRow.{DependRow}
 use Rattle.gomp_depend.specs.Rows.{is_row, row_of_task}
 use Rattle.gomp_depend.specs.Stands.{has_items, row_of, has_row, rows_up_to, IsOpen}
-use Rattle.gomp_depend.proofs.TaskFacts.{done_is}
+use Rattle.gomp_depend.proofs.TaskFacts.{none_open_is_complete}
 use Rattle.gomp_depend.proofs.RowsKeep.{row_found, free_without_items}
 use Rattle.gomp_board.specs.ReadyTasks.{is_listed}
 use Rattle.gomp_board.specs.Boards.{BoardView, Stands}
@@ -69,14 +69,14 @@ row_in (suc k) i row h e = elim (cases_Bool (has_row (suc k) h)) [
   | inr none ↦ let found = row_in k i row h (rw none at e) in let high = found.high in record { task = found.task; low = found.low; high = omega (arith, high); has = found.has; is = found.is }
 ]
 
-pub made : (t n : ℕ) → 0 < t → t ≤ n → (nat_lt 0 t && nat_le t n) ≡ true
-made t n low high = grind (arith, nat_tests, low, high)
+pub number_in_range : (t n : ℕ) → 0 < t → t ≤ n → (nat_lt 0 t && nat_le t n) ≡ true
+number_in_range t n low high = grind (arith, nat_tests, low, high)
 
 row_tells : (t : ℕ) (row : DependRow) (h : List Event) → 0 < t → t ≤ tasks_created h → has_row t h ≡ true → row ≡ row_of t h → IsRowOf row h
 row_tells t row h low high has e = rw e (record {
-  created = made t (tasks_created h) low high;
+  created = number_in_range t (tasks_created h) low high;
   items = and_left (has_items (task_items t h)) (not (is_complete t h)) has;
-  free = done_is (λ q. waits_for t q h) h;
+  free = none_open_is_complete (λ q. waits_for t q h) h;
 })
 
 pub row_at_place : (b : BoardView) (rows : List DependRow) (i : ℕ) (row : DependRow) (h : List Event) → Stands b h → rows ≡ b.depends.rows → slice_get rows i ≡ Some row → IsRowOf row h
@@ -140,7 +140,7 @@ nothing_startable m b h st listed freed = rw (every_by (tasks_created h) (λ k. 
 pub undeferred_is_created : (members t : ℕ) (h : List Event) → Always (TaskRule members) h → is_undeferred t h ≡ true → is_created t h ≡ true
 undeferred_is_created members t [] all is = absurd (cc)
 undeferred_is_created members t (Create task m parent desc ∷ earlier) all is = elim (cases_Bool (task == t)) [
-  | inl same ↦ let number = all.0.number in let e = is_equal task t same in made t (suc (tasks_created earlier)) (omega (arith, number, e)) (omega (arith, number, e))
+  | inl same ↦ let number = all.0.number in let e = is_equal task t same in number_in_range t (suc (tasks_created earlier)) (omega (arith, number, e)) (omega (arith, number, e))
   | inr other ↦ created_stays t earlier (undeferred_is_created members t earlier all.1 (rw other at is))
 ]
 undeferred_is_created members t (_ ∷ earlier) all is = undeferred_is_created members t earlier all.1 is
@@ -157,9 +157,9 @@ newest_low members p (Create task m parent desc ∷ earlier) all =
 newest_low members p (_ ∷ earlier) all = newest_low members p earlier all.1
 
 -- and its child
-newest_is_child : (members : ℕ) (p : Task) (t : ℕ) (h : List Event) → Always (TaskRule members) h → 0 < t → t ≡ newest_child p h → is_child p t h ≡ true
-newest_is_child members p t [] all low e = absurd (omega (arith, low, e))
-newest_is_child members p t (Create task m parent desc ∷ earlier) all low e =
+newest_child_is_child : (members : ℕ) (p : Task) (t : ℕ) (h : List Event) → Always (TaskRule members) h → 0 < t → t ≡ newest_child p h → is_child p t h ≡ true
+newest_child_is_child members p t [] all low e = absurd (omega (arith, low, e))
+newest_child_is_child members p t (Create task m parent desc ∷ earlier) all low e =
     let number = all.0.number in
     elim (cases_Bool (same_task parent p)) [
       | inl here ↦ let same : task ≡ t = sym (rw here at e) in rw (← same, same_number task) here
@@ -167,15 +167,15 @@ newest_is_child members p t (Create task m parent desc ∷ earlier) all low e =
           let old : t ≡ newest_child p earlier = rw other at e in
           let high = newest_low members p earlier all.1 in
           let away : (task == t) ≡ false = other_number task t (λ same. omega (arith, number, old, high, same)) in
-          rw away (newest_is_child members p t earlier all.1 low old)
+          rw away (newest_child_is_child members p t earlier all.1 low old)
     ]
-newest_is_child members p t (_ ∷ earlier) all low e = newest_is_child members p t earlier all.1 low e
+newest_child_is_child members p t (_ ∷ earlier) all low e = newest_child_is_child members p t earlier all.1 low e
 
 -- if it is undeferred and may be started, the member that executes its parent may start it
 pub own_rule : (n m t : ℕ) (h : List Event) → Always (TaskRule n) h → m < n → t ≡ newest_child (executed_task m h) h → is_undeferred t h ≡ true → may_start m t h ≡ true → MayStart n t m h
 own_rule n m t h all low newest undeferred may =
     let created = undeferred_is_created n t h all undeferred in
-    record { member = low; may = may; own = λ is. child_of_current_is_own n m t h all ∙ newest_is_child n (executed_task m h) t h all (created_low t h created) newest }
+    record { member = low; may = may; own = λ is. child_of_current_is_own n m t h all ∙ newest_child_is_child n (executed_task m h) t h all (created_low t h created) newest }
 
 -- it does not stand in the list
 pub undeferred_is_apart : (t : ℕ) (h : List Event) → is_undeferred t h ≡ true → is_listed t h ≡ false

@@ -26,8 +26,8 @@ one_started = Start 1 0 ∷ two_created
 abbrev one_done : List Event
 one_done = Done 1 0 ∷ one_started
 
-created_so : Always (TaskRule 2) one_created
-created_so = (record { member = omega arith; number = refl; current = refl; away = λ out. refl; shallow = omega arith }, tt)
+one_created_keeps_rules : Always (TaskRule 2) one_created
+one_created_keeps_rules = (record { member = omega arith; number = refl; current = refl; away = λ out. refl; shallow = omega arith }, tt)
 
 -- no task is ready at the beginning
 pub none_at_first : AreReady [] []
@@ -38,7 +38,7 @@ pub first_is_ready : AreReady (1 ∷ []) one_created
 first_is_ready = created_ready 2 1 0 true (Implicit 0) (job_with 7 9 []) [] [] tt refl refl none_ready
 
 pub both_are_ready : AreReady (1 ∷ 2 ∷ []) two_created
-both_are_ready = created_ready 2 2 1 true (Implicit 1) (job_with 5 0 []) (1 ∷ []) one_created created_so refl refl first_is_ready
+both_are_ready = created_ready 2 2 1 true (Implicit 1) (job_with 5 0 []) (1 ∷ []) one_created one_created_keeps_rules refl refl first_is_ready
 
 -- or in another order
 pub order_is_free : AreReady (2 ∷ 1 ∷ []) two_created

@@ -22,9 +22,9 @@ use Rattle.gomp_board.specs.ReadyTasks.{is_listed, listed_with, Apart, AreReady}
 
 -- Lists of numbers
 
-and_true : (b : Bool) → (b && true) ≡ b
-and_true true = refl
-and_true false = refl
+and_true_is_same : (b : Bool) → (b && true) ≡ b
+and_true_is_same true = refl
+and_true_is_same false = refl
 
 or_nothing : (b : Bool) → (b || false) ≡ b
 or_nothing true = refl
@@ -72,7 +72,7 @@ contains_remove u t (x ∷ xs) zero apart at =
           rw (same.0, gone) (sym (and_false (x == u || false) false refl))
       | inr other ↦
           let away : (x == u) ≡ false = rw first other.0 in
-          rw (other.0, away) (sym (and_true (contains u xs)))
+          rw (other.0, away) (sym (and_true_is_same (contains u xs)))
     ]
 contains_remove u t (x ∷ xs) (suc place) apart at =
     let rest = contains_remove u t xs place apart.1 at in
@@ -129,7 +129,7 @@ new_ready listed t u m p desc ids h number new plain was =
           let off : has_started u h ≡ false = subst (λ (n : ℕ). has_started n h ≡ false) same.1 new.0 in
           let incomplete : is_complete u h ≡ false = subst (λ (n : ℕ). is_complete n h ≡ false) same.1 new.1 in
           let none : contains u ids ≡ false = was ∙ rw not_yet refl in
-          contains_listed listed u t ids ∙ rw (none, same.0, last, off, incomplete) (and_true listed ∙ plain)
+          contains_listed listed u t ids ∙ rw (none, same.0, last, off, incomplete) (and_true_is_same listed ∙ plain)
       | inr other ↦
           let before = made_before u (tasks_created h) (subst (λ (n : ℕ). (n == u) ≡ false) number other.0) in
           contains_listed listed u t ids ∙ rw (other.0, before) (ap (λ (b : Bool). contains u ids || b) (and_false listed false refl) ∙ or_nothing (contains u ids) ∙ was)
@@ -153,7 +153,7 @@ started_ready t m ids place h at are = record { ready = each; apart = apart_remo
     each : (u : ℕ) → contains u (remove ids place) ≡ is_listed u (Start t m ∷ h)
     each u = contains_remove u t ids place are.apart at ∙ elim (cases_Bool (t == u)) [
       | inl same ↦ rw same (and_false (contains u ids) false refl ∙ sym (nothing_left (is_created u h) (not (is_undeferred u h) && not (has_items (task_items u h)))))
-      | inr other ↦ rw other (and_true (contains u ids) ∙ are.ready u)
+      | inr other ↦ rw other (and_true_is_same (contains u ids) ∙ are.ready u)
     ]
 
 -- one that does not stand there changes nothing

@@ -166,8 +166,8 @@ pub ended_answer : EndsTask (Explicit 2) [] (TaskDone 2 true)
 ended_answer = refl
 
 -- unless it is undeferred: then its creator goes on
-pub own_ended : EndsTask (Explicit 1) own_ready (TaskDone 1 false) × (EndsTask (Explicit 1) own_ready (TaskDone 1 true) → ⊥)
-own_ended = search rules
+pub own_task_ended : EndsTask (Explicit 1) own_ready (TaskDone 1 false) × (EndsTask (Explicit 1) own_ready (TaskDone 1 true) → ⊥)
+own_task_ended = search rules
 
 pub wrong_ended_answers : (EndsTask (Explicit 2) [] (TaskDone 1 true) → ⊥) × (EndsTask (Explicit 2) [] (TaskDone 2 false) → ⊥) × (EndsTask (Explicit 2) [] Passed → ⊥) × (EndsTask (Implicit 2) [] (TaskDone 2 true) → ⊥)
 wrong_ended_answers = search rules

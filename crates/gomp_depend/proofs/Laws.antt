@@ -11,7 +11,7 @@ use Rattle.gomp_types.proofs.Booleans.{other_number, unequal_numbers}
 use Rattle.gomp_types.proofs.OpenTasks.{open_done, open_done_other}
 use Rattle.gomp_depend.specs.Calls.{IsAside}
 use Rattle.gomp_depend.specs.Stands.{DependsView, Stands, IsOpen, InOrder, row_of, has_row, rows_up_to, rows_of}
-use Rattle.gomp_depend.proofs.TaskFacts.{done_is}
+use Rattle.gomp_depend.proofs.TaskFacts.{none_open_is_complete}
 
 row_aside : (k : ℕ) (event : Event) (h : List Event) → IsAside event → (row_of k (event ∷ h) ≡ row_of k h) × (has_row k (event ∷ h) ≡ has_row k h)
 row_aside k (Create t m parent desc) h is = absurd is
@@ -46,18 +46,18 @@ one_is_none_more m n e = rw e (by n)
       | inr other ↦ let differ : k + 1 ≢ 1 = (λ same. let low = unequal_numbers k 0 other.0 in low (omega (arith, same))) in rw (other.0, other_number (k + 1) 1 differ) refl
     ]
 
-none_before : (m n : ℕ) → m ≡ n + 1 → (m == 0) ≡ false
-none_before m n e = other_number m 0 (λ same. omega (arith, e, same))
+no_task_before : (m n : ℕ) → m ≡ n + 1 → (m == 0) ≡ false
+no_task_before m n e = other_number m 0 (λ same. omega (arith, e, same))
 
 -- after the end of a task another is free if it was before, or if it waited for that task and for no other
 pub end_frees : (t d m : ℕ) (h : List Event) → IsOpen d h → is_free t (Done d m ∷ h) ≡ (is_free t h || (waits_for t d h && (open_tasks (λ q. waits_for t q h) h == 1)))
 end_frees t d m h is =
-    let before = done_is (λ q. waits_for t q h) h in
-    let after = done_is (λ q. waits_for t q h) (Done d m ∷ h) in
+    let before = none_open_is_complete (λ q. waits_for t q h) h in
+    let after = none_open_is_complete (λ q. waits_for t q h) (Done d m ∷ h) in
     elim (cases_Bool (waits_for t d h)) [
       | inl waits ↦
           let less = open_done (λ q. waits_for t q h) d m h is.created waits is.incomplete in
-          let held : is_free t h ≡ false = sym before ∙ none_before _ _ less in
+          let held : is_free t h ≡ false = sym before ∙ no_task_before _ _ less in
           sym after ∙ one_is_none_more _ _ less ∙ rw (held, waits) refl
       | inr other ↦
           let same = open_done_other (λ q. waits_for t q h) d m h other in

@@ -32,15 +32,15 @@ pub record IsPlace (t i p : ℕ) (rows : List DependRow) : Type 0 where
   pub at : row_of_task t rows ≡ slice_get rows place
   pub rest : without_task t rows ≡ remove rows place
 
-pub place_is : (t i p : ℕ) (rows : List DependRow) → position_from (is_row t) i rows ≡ Some p → IsPlace t i p rows
-place_is t i p [] e = absurd (cc)
-place_is t i p (row ∷ rows) e = elim (cases_Bool (is_row t row)) [
+pub place_of_row : (t i p : ℕ) (rows : List DependRow) → position_from (is_row t) i rows ≡ Some p → IsPlace t i p rows
+place_of_row t i p [] e = absurd (cc)
+place_of_row t i p (row ∷ rows) e = elim (cases_Bool (is_row t row)) [
   | inl here ↦
       let some : Some i ≡ Some p = rw here at e in
       let same : i ≡ p = cc in
       record { place = 0; is = omega (arith, same); within = omega arith; at = rw here refl; rest = rw here refl }
   | inr away ↦
-      let later = place_is t (i + 1) p rows (rw away at e) in
+      let later = place_of_row t (i + 1) p rows (rw away at e) in
       let is = later.is in let within = later.within in
       record { place = suc later.place; is = omega (arith, is); within = omega (arith, within); at = rw away later.at; rest = rw away (ap (λ xs. row ∷ xs) later.rest) }
 ]
@@ -61,7 +61,7 @@ pub record IsFound (t p : ℕ) (rows : List DependRow) : Type 0 where
 
 pub found_at : (t p : ℕ) (rows : List DependRow) → position_from (is_row t) 0 rows ≡ Some p → IsFound t p rows
 found_at t p rows e =
-    let place = place_is t 0 p rows e in
+    let place = place_of_row t 0 p rows e in
     let is = place.is in
     let same : place.place ≡ p = omega (arith, is) in
     record { within = rw (← same) place.within; at = rw (← same) place.at; rest = rw (← same) place.rest }
@@ -71,9 +71,9 @@ pub row_at : (t p : ℕ) (rows : List DependRow) (row : DependRow) → IsFound t
 row_at t p rows row is read = is.at ∙ slice_get-get_or rows p row is.within ∙ ap Some (sym read)
 
 -- one row more is changed by a loop
-pub one_more : (f : DependRow → DependRow) (rows before : List DependRow) (i : ℕ) (row new : DependRow) → i < length rows → before ≡ map f (take i rows) ++ drop i rows → row ≡ get_or before i row → new ≡ f (get_or before i row) →
+pub one_row_more : (f : DependRow → DependRow) (rows before : List DependRow) (i : ℕ) (row new : DependRow) → i < length rows → before ≡ map f (take i rows) ++ drop i rows → row ≡ get_or before i row → new ≡ f (get_or before i row) →
     set before i new ≡ map f (take (i + 1) rows) ++ drop (i + 1) rows
-one_more f rows before i row new within so read is =
+one_row_more f rows before i row new within so read is =
     ap (λ (x : DependRow). set before i x) (is ∙ ap f (sym read)) ∙ map_over_more f rows before i row within so read
 
 -- A row at the end

@@ -20,7 +20,7 @@ use Rattle.gomp_depend.specs.declared.rows.DependRow.{DependRow}
 use Rattle.gomp_depend.specs.Rows.{waits_for_row, lowered, is_row, row_of_task, without_task}
 use Rattle.gomp_depend.specs.Stands.{DependsView, InOrder, IsOpen, RowsStand, has_items, task_parent, row_of, has_row, rows_up_to, rows_of}
 use Rattle.gomp_depend.proofs.RowLists.{IsFound, row_at, nothing_to_wait_for, find_at_end, find_before_end, without_none, without_end, without_before_end, count_at_end, map_same}
-use Rattle.gomp_depend.proofs.TaskFacts.{and_true, done_is, uncreated, waits_not_for_uncreated, parent_is, waits_is}
+use Rattle.gomp_depend.proofs.TaskFacts.{and_true, none_open_is_complete, later_is_no_child, waits_not_for_uncreated, child_by_parent, wait_by_items}
 
 -- the task 1 to n is among those created
 pub is_created_up_to : (k : ℕ) (h : List Event) → suc k ≤ tasks_created h → is_created (suc k) h ≡ true
@@ -44,10 +44,10 @@ not_counted p items k h none = elim (cases_Bool (has_items (task_items k h))) [
       rw (never, and_false (is_child p k h) false refl) refl
 ]
 
-counted : (p : Task) (items : List Dep) (k : ℕ) (h : List Event) → Always InOrder h → is_created k h ≡ true → has_row k h ≡ true → (child_waits p items k h && not (is_complete k h)) ≡ waits_for_row p items (row_of k h)
-counted p items k h all made kept =
+wait_counts : (p : Task) (items : List Dep) (k : ℕ) (h : List Event) → Always InOrder h → is_created k h ≡ true → has_row k h ≡ true → (child_waits p items k h && not (is_complete k h)) ≡ waits_for_row p items (row_of k h)
+wait_counts p items k h all made kept =
     let incomplete : not (is_complete k h) ≡ true = and_right (has_items (task_items k h)) (not (is_complete k h)) kept in
-    rw (incomplete, parent_is h all k made p) (and_true (same_task (task_parent k h) p && items_wait items (task_items k h)))
+    rw (incomplete, child_by_parent h all k made p) (and_true (same_task (task_parent k h) p && items_wait items (task_items k h)))
 
 rows_count : (p : Task) (items : List Dep) (h : List Event) → Always InOrder h → (k : ℕ) → k ≤ tasks_created h → count_by (waits_for_row p items) (rows_up_to k h) ≡ how_many k (λ q. child_waits p items q h && not (is_complete q h))
 rows_count p items h all zero le = refl
@@ -55,7 +55,7 @@ rows_count p items h all (suc k) le =
     let rest = rows_count p items h all k (omega (arith, le)) in
     elim (cases_Bool (has_row (suc k) h)) [
       | inl kept ↦
-          let here = counted p items (suc k) h all (is_created_up_to k h le) kept in
+          let here = wait_counts p items (suc k) h all (is_created_up_to k h le) kept in
           rw (kept, here, count_at_end (waits_for_row p items) (rows_up_to k h) (row_of (suc k) h), rest) refl
       | inr none ↦ rw (none, not_counted p items (suc k) h none) rest
     ]
@@ -75,13 +75,13 @@ same_row t p r xs ys m n a b c = rw (a, b, c) refl
 old_count : (k m : ℕ) (p : Task) (desc : TaskDesc) (h : List Event) → Always InOrder h → (suc (tasks_created h) == k) ≡ false →
     open_tasks (λ q. waits_for k q (Create (suc (tasks_created h)) m p desc ∷ h)) (Create (suc (tasks_created h)) m p desc ∷ h) ≡ open_tasks (λ q. waits_for k q h) h
 old_count k m p desc h all other =
-    let new = uncreated h all (suc (tasks_created h)) (omega arith) in
+    let new = later_is_no_child h all (suc (tasks_created h)) (omega arith) in
     let none : waits_for k (suc (tasks_created h)) (Create (suc (tasks_created h)) m p desc ∷ h) ≡ false = rw other (waits_not_for_uncreated h all (suc (tasks_created h)) (omega arith) k) in
     open_created (λ q. waits_for k q h) (λ q. waits_for k q (Create (suc (tasks_created h)) m p desc ∷ h)) m p desc h new.1 (λ q le. rw other refl)
     ∙ rw none refl
 
-old_row : (k m : ℕ) (p : Task) (desc : TaskDesc) (h : List Event) → Always InOrder h → (suc (tasks_created h) == k) ≡ false → row_of k (Create (suc (tasks_created h)) m p desc ∷ h) ≡ row_of k h
-old_row k m p desc h all other =
+row_of_older : (k m : ℕ) (p : Task) (desc : TaskDesc) (h : List Event) → Always InOrder h → (suc (tasks_created h) == k) ≡ false → row_of k (Create (suc (tasks_created h)) m p desc ∷ h) ≡ row_of k h
+row_of_older k m p desc h all other =
     same_row k (task_parent k (Create (suc (tasks_created h)) m p desc ∷ h)) (task_parent k h) (task_items k (Create (suc (tasks_created h)) m p desc ∷ h)) (task_items k h) _ _
     (rw other refl) (rw other refl) (old_count k m p desc h all other)
 
@@ -90,37 +90,37 @@ old_rows m p desc h all zero le = refl
 old_rows m p desc h all (suc k) le =
     let other : (suc (tasks_created h) == suc k) ≡ false = other_number (suc (tasks_created h)) (suc k) (λ e. omega (arith, e, le)) in
     let kept : has_row (suc k) (Create (suc (tasks_created h)) m p desc ∷ h) ≡ has_row (suc k) h = rw other refl in
-    rw (kept, old_row (suc k) m p desc h all other, old_rows m p desc h all k (omega (arith, le))) refl
+    rw (kept, row_of_older (suc k) m p desc h all other, old_rows m p desc h all k (omega (arith, le))) refl
 
 new_count : (m : ℕ) (p : Task) (desc : TaskDesc) (h : List Event) → Always InOrder h →
     open_tasks (λ q. waits_for (suc (tasks_created h)) q (Create (suc (tasks_created h)) m p desc ∷ h)) (Create (suc (tasks_created h)) m p desc ∷ h) ≡ open_tasks (λ q. child_waits p desc.deps q h) h
 new_count m p desc h all =
-    let new = uncreated h all (suc (tasks_created h)) (omega arith) in
+    let new = later_is_no_child h all (suc (tasks_created h)) (omega arith) in
     let own = same_number (suc (tasks_created h)) in
     let none : waits_for (suc (tasks_created h)) (suc (tasks_created h)) (Create (suc (tasks_created h)) m p desc ∷ h) ≡ false = rw (own, new.0 p) refl in
     open_created (λ q. child_waits p desc.deps q h) (λ q. waits_for (suc (tasks_created h)) q (Create (suc (tasks_created h)) m p desc ∷ h)) m p desc h new.1 (λ q le. rw own refl)
     ∙ rw none refl
 
-new_row : (m : ℕ) (p : Task) (desc : TaskDesc) (h : List Event) → Always InOrder h →
+row_of_newest : (m : ℕ) (p : Task) (desc : TaskDesc) (h : List Event) → Always InOrder h →
     row_of (suc (tasks_created h)) (Create (suc (tasks_created h)) m p desc ∷ h) ≡ row_with (suc (tasks_created h)) p desc.deps (open_tasks (λ q. child_waits p desc.deps q h) h)
-new_row m p desc h all =
+row_of_newest m p desc h all =
     let own = same_number (suc (tasks_created h)) in
     same_row (suc (tasks_created h)) (task_parent (suc (tasks_created h)) (Create (suc (tasks_created h)) m p desc ∷ h)) p (task_items (suc (tasks_created h)) (Create (suc (tasks_created h)) m p desc ∷ h)) desc.deps _ _
     (rw own refl) (rw own refl) (new_count m p desc h all)
 
 new_has_row : (m : ℕ) (p : Task) (desc : TaskDesc) (h : List Event) → Always InOrder h → has_row (suc (tasks_created h)) (Create (suc (tasks_created h)) m p desc ∷ h) ≡ has_items desc.deps
 new_has_row m p desc h all =
-    let new = uncreated h all (suc (tasks_created h)) (omega arith) in
+    let new = later_is_no_child h all (suc (tasks_created h)) (omega arith) in
     rw (same_number (suc (tasks_created h)), new.1) (and_true (has_items desc.deps))
 
 created_rows : (m : ℕ) (p : Task) (desc : TaskDesc) (h : List Event) → Always InOrder h →
     rows_of (Create (suc (tasks_created h)) m p desc ∷ h)
     ≡ (if has_items desc.deps then rows_of h ++ row_with (suc (tasks_created h)) p desc.deps (open_tasks (λ q. child_waits p desc.deps q h) h) ∷ [] else rows_of h)
-created_rows m p desc h all = rw (new_has_row m p desc h all, new_row m p desc h all, old_rows m p desc h all (tasks_created h) (omega arith)) refl
+created_rows m p desc h all = rw (new_has_row m p desc h all, row_of_newest m p desc h all, old_rows m p desc h all (tasks_created h) (omega arith)) refl
 
 -- after a creation without items the same rows stand
-pub create_keeps : (rows : List DependRow) (task m : ℕ) (p : Task) (desc : TaskDesc) (h : List Event) → RowsStand rows h → task ≡ suc (tasks_created h) → has_items desc.deps ≡ false → RowsStand rows (Create task m p desc ∷ h)
-create_keeps rows task m p desc h st number none = rw number (record {
+pub rows_keep_at_create : (rows : List DependRow) (task m : ℕ) (p : Task) (desc : TaskDesc) (h : List Event) → RowsStand rows h → task ≡ suc (tasks_created h) → has_items desc.deps ≡ false → RowsStand rows (Create task m p desc ∷ h)
+rows_keep_at_create rows task m p desc h st number none = rw number (record {
   rows_are = st.rows_are ∙ sym (created_rows m p desc h st.order ∙ rw none refl);
   order = (refl, st.order);
 })
@@ -129,11 +129,11 @@ create_keeps rows task m p desc h st number none = rw number (record {
 pub create_adds : (rows now : List DependRow) (task m n : ℕ) (p : Task) (desc : TaskDesc) (items : List Dep) (h : List Event) → RowsStand rows h → task ≡ suc (tasks_created h) → desc.deps ≡ items → has_items items ≡ true →
     n ≡ count_by (waits_for_row p items) rows → now ≡ rows ++ (record { task = task; parent = p; items = items; open_count = n }) ∷ [] → RowsStand now (Create task m p desc ∷ h)
 create_adds rows now task m n p desc items h st number deps some count is =
-    let counted : n ≡ open_tasks (λ q. child_waits p desc.deps q h) h = rw deps (count ∙ named_are_counted rows p items h st) in
+    let wait_counts : n ≡ open_tasks (λ q. child_waits p desc.deps q h) h = rw deps (count ∙ named_are_counted rows p items h st) in
     let made = created_rows m p desc h st.order in
     let there : has_items desc.deps ≡ true = rw deps some in
     rw number (record {
-      rows_are = is ∙ rw (number, counted, ← deps, st.rows_are) (sym (made ∙ rw there refl));
+      rows_are = is ∙ rw (number, wait_counts, ← deps, st.rows_are) (sym (made ∙ rw there refl));
       order = (refl, st.order);
     })
 
@@ -142,7 +142,7 @@ create_adds rows now task m n p desc items h st number deps some count is =
 -- once a task is done, another waits for one less if it waits for that one
 lower_row : (t k m : ℕ) (h : List Event) → Always InOrder h → IsOpen t h → is_created k h ≡ true → row_of k (Done t m ∷ h) ≡ lowered (row_of t h) (row_of k h)
 lower_row t k m h all is made =
-    let waits : waits_for k t h ≡ (nat_lt t k && waits_for_row (task_parent k h) (task_items k h) (row_of t h)) = waits_is h all k made t ∙ rw (parent_is h all t is.created (task_parent k h)) refl in
+    let waits : waits_for k t h ≡ (nat_lt t k && waits_for_row (task_parent k h) (task_items k h) (row_of t h)) = wait_by_items h all k made t ∙ rw (child_by_parent h all t is.created (task_parent k h)) refl in
     elim (cases_Bool (waits_for k t h)) [
       | inl named ↦
           let one = open_done (λ q. waits_for k q h) t m h is.created named is.incomplete in
@@ -192,9 +192,9 @@ done_rows t m h all is (suc k) le =
     ]
 
 -- the row of a task, if it has one
-found : (t k : ℕ) (h : List Event) → 0 < t → t ≤ k → row_of_task t (rows_up_to k h) ≡ (if has_row t h then Some (row_of t h) else None)
-found t zero h low le = absurd (omega (arith, low, le))
-found t (suc k) h low le = elim (cases_lt k t) [
+row_is_found : (t k : ℕ) (h : List Event) → 0 < t → t ≤ k → row_of_task t (rows_up_to k h) ≡ (if has_row t h then Some (row_of t h) else None)
+row_is_found t zero h low le = absurd (omega (arith, low, le))
+row_is_found t (suc k) h low le = elim (cases_lt k t) [
   | inl last ↦
       let here : t ≡ suc k = omega (arith, last, le) in
       let before = found_later t k h last in
@@ -204,7 +204,7 @@ found t (suc k) h low le = elim (cases_lt k t) [
         | inr none ↦ let same : has_row t h ≡ false = rw here none in rw (none, same) before
       ]
   | inr past ↦
-      let rest = found t k h low past in
+      let rest = row_is_found t k h low past in
       let other : is_row t (row_of (suc k) h) ≡ false = other_number (suc k) t (λ e. omega (arith, e, past)) in
       elim (cases_Bool (has_row (suc k) h)) [
         | inl kept ↦ rw kept (find_before_end t (rows_up_to k h) (row_of (suc k) h) other ∙ rest)
@@ -213,7 +213,7 @@ found t (suc k) h low le = elim (cases_lt k t) [
 ]
 
 pub row_found : (rows : List DependRow) (t : ℕ) (h : List Event) → RowsStand rows h → IsOpen t h → row_of_task t rows ≡ (if has_row t h then Some (row_of t h) else None)
-row_found rows t h st is = rw st.rows_are (found t (tasks_created h) h (created_low t h is.created) (created_high t h is.created))
+row_found rows t h st is = rw st.rows_are (row_is_found t (tasks_created h) h (created_low t h is.created) (created_high t h is.created))
 
 -- an open task without a row has no items
 no_row_no_items : (rows : List DependRow) (t : ℕ) (h : List Event) → RowsStand rows h → IsOpen t h → row_of_task t rows ≡ None → task_items t h ≡ []
@@ -226,28 +226,28 @@ no_row_no_items rows t h st is none = elim (cases_Bool (has_row t h)) [
     and_true_left b e = sym (and_true b) ∙ rw (is.incomplete) at e
 
 -- the row of a task that has one
-row_is : (rows : List DependRow) (t : ℕ) (row : DependRow) (h : List Event) → RowsStand rows h → IsOpen t h → row_of_task t rows ≡ Some row → row ≡ row_of t h
-row_is rows t row h st is at = elim (cases_Bool (has_row t h)) [
+open_row_is : (rows : List DependRow) (t : ℕ) (row : DependRow) (h : List Event) → RowsStand rows h → IsOpen t h → row_of_task t rows ≡ Some row → row ≡ row_of t h
+open_row_is rows t row h st is at = elim (cases_Bool (has_row t h)) [
   | inl kept ↦ let e : Some (row_of t h) ≡ Some row = sym (row_found rows t h st is ∙ rw kept refl) ∙ at in cc
   | inr none ↦ absurd (let e : None ≡ Some row = sym (row_found rows t h st is ∙ rw none refl) ∙ at in cc)
 ]
 
 -- an open task is free exactly if its count is zero
 pub count_tells : (rows : List DependRow) (t : ℕ) (row : DependRow) (h : List Event) → RowsStand rows h → IsOpen t h → row_of_task t rows ≡ Some row → (row.open_count == 0) ≡ is_free t h
-count_tells rows t row h st is at = rw (row_is rows t row h st is at) (done_is (λ q. waits_for t q h) h)
+count_tells rows t row h st is at = rw (open_row_is rows t row h st is at) (none_open_is_complete (λ q. waits_for t q h) h)
 
 -- one without items is
 pub free_without_items : (rows : List DependRow) (t : ℕ) (h : List Event) → RowsStand rows h → IsOpen t h → row_of_task t rows ≡ None → true ≡ is_free t h
 free_without_items rows t h st is none =
     let items = no_row_no_items rows t h st is none in
-    let never : (q : ℕ) → waits_for t q h ≡ false = λ q. waits_is h st.order t is.created q ∙ rw items (and_false (nat_lt q t) (is_child (task_parent t h) q h && false) (and_false (is_child (task_parent t h) q h) false refl)) in
+    let never : (q : ℕ) → waits_for t q h ≡ false = λ q. wait_by_items h st.order t is.created q ∙ rw items (and_false (nat_lt q t) (is_child (task_parent t h) q h && false) (and_false (is_child (task_parent t h) q h) false refl)) in
     let zero_open : open_tasks (λ q. waits_for t q h) h ≡ 0 = counts_none (tasks_created h) (λ q. waits_for t q h && not (is_complete q h)) (λ q low high. rw (never q) refl) in
-    rw zero_open at (done_is (λ q. waits_for t q h) h)
+    rw zero_open at (none_open_is_complete (λ q. waits_for t q h) h)
 
 -- the end of a task that has a row
 pub complete_lowers : (rows now : List DependRow) (t m : ℕ) (row : DependRow) (h : List Event) → RowsStand rows h → IsOpen t h → row_of_task t rows ≡ Some row → now ≡ map (lowered row) (without_task t rows) → RowsStand now (Done t m ∷ h)
 complete_lowers rows now t m row h st is at e = record {
-  rows_are = e ∙ rw (row_is rows t row h st is at, st.rows_are) (sym (done_rows t m h st.order is (tasks_created h) (omega arith)));
+  rows_are = e ∙ rw (open_row_is rows t row h st is at, st.rows_are) (sym (done_rows t m h st.order is (tasks_created h) (omega arith)));
   order = (is, st.order);
 }
 
@@ -260,8 +260,8 @@ lowers_none t h items row =
     rw never refl
 
 -- and the end of one that has none
-pub complete_keeps : (rows : List DependRow) (t m : ℕ) (h : List Event) → RowsStand rows h → IsOpen t h → row_of_task t rows ≡ None → RowsStand rows (Done t m ∷ h)
-complete_keeps rows t m h st is none =
+pub rows_keep_at_done : (rows : List DependRow) (t m : ℕ) (h : List Event) → RowsStand rows h → IsOpen t h → row_of_task t rows ≡ None → RowsStand rows (Done t m ∷ h)
+rows_keep_at_done rows t m h st is none =
     let items = no_row_no_items rows t h st is none in
     let left : without_task t (rows_of h) ≡ rows_of h = without_none t (rows_of h) (rw st.rows_are at none) in
     record {
@@ -271,8 +271,8 @@ complete_keeps rows t m h st is none =
 
 -- As the calls read and write them
 
-pub view_stands : (view now : DependsView) (h : List Event) → view ≡ now → RowsStand now.rows h → RowsStand view.rows h
-view_stands view now h e st = rw e st
+pub same_rows_stand : (view now : DependsView) (h : List Event) → view ≡ now → RowsStand now.rows h → RowsStand view.rows h
+same_rows_stand view now h e st = rw e st
 
 pub open_view : (view now : DependsView) (t : ℕ) → view ≡ now → (h : List Event) × RowsStand now.rows h × IsOpen t h → (h : List Event) × RowsStand view.rows h × IsOpen t h
 open_view view now t e is = (is.0, rw e is.1, is.2)
@@ -291,11 +291,11 @@ pub count_read : (p : Task) (items seen : List Dep) (rows at : List DependRow) (
 count_read p items seen rows at n e a b = e ∙ rw (a, b) refl
 
 -- a slice that was written whole
-slice_written : (new old : List DependRow) (n : ℕ) → n ≡ length new → take n (new ++ drop (length new) old) ≡ new
-slice_written new old n e = rw e (take-append_seam new (drop (length new) old))
+written_before_rest : (new old : List DependRow) (n : ℕ) → n ≡ length new → take n (new ++ drop (length new) old) ≡ new
+written_before_rest new old n e = rw e (take-append_seam new (drop (length new) old))
 
-pub complete_writes : (rows left at new : List DependRow) (t p m n : ℕ) (row : DependRow) (h : List Event) → RowsStand rows h → IsOpen t h → IsFound t p rows → row ≡ get_or rows p row →
+pub rows_written_at_done : (rows left at new : List DependRow) (t p m n : ℕ) (row : DependRow) (h : List Event) → RowsStand rows h → IsOpen t h → IsFound t p rows → row ≡ get_or rows p row →
     left ≡ remove rows p → at ≡ left → new ≡ map (lowered row) at → length new ≡ length at → n ≡ length left → RowsStand (take n (new ++ drop (length new) left)) (Done t m ∷ h)
-complete_writes rows left at new t p m n row h st is place read removed seen low same_size size =
-    rw (slice_written new left n (size ∙ sym (same_size ∙ ap length seen)))
+rows_written_at_done rows left at new t p m n row h st is place read removed seen low same_size size =
+    rw (written_before_rest new left n (size ∙ sym (same_size ∙ ap length seen)))
     (complete_lowers rows new t m row h st is (row_at t p rows row place read) (low ∙ ap (map (lowered row)) (seen ∙ removed ∙ sym place.rest)))

@@ -20,8 +20,8 @@ and_true true = refl
 and_true false = refl
 
 -- a count is zero exactly if all are complete
-pub done_is : (test : ℕ → Bool) (h : List Event) → (open_tasks test h == 0) ≡ all_complete test h
-done_is test h =
+pub none_open_is_complete : (test : ℕ → Bool) (h : List Event) → (open_tasks test h == 0) ≡ all_complete test h
+none_open_is_complete test h =
     elim (cases_Bool (all_complete test h)) [
       | inl all ↦ rw (closed_all test h all, all) refl
       | inr some ↦
@@ -30,37 +30,37 @@ done_is test h =
     ]
 
 -- a task that was not created is nobody's child, and not complete
-pub uncreated : (h : List Event) → Always InOrder h → (t : ℕ) → tasks_created h < t → ((p : Task) → is_child p t h ≡ false) × (is_complete t h ≡ false)
-uncreated [] all t lt = ((λ p. refl), refl)
-uncreated (Create task m parent desc ∷ earlier) all t lt =
-    let was = uncreated earlier all.1 t (omega (arith, lt)) in
+pub later_is_no_child : (h : List Event) → Always InOrder h → (t : ℕ) → tasks_created h < t → ((p : Task) → is_child p t h ≡ false) × (is_complete t h ≡ false)
+later_is_no_child [] all t lt = ((λ p. refl), refl)
+later_is_no_child (Create task m parent desc ∷ earlier) all t lt =
+    let was = later_is_no_child earlier all.1 t (omega (arith, lt)) in
     let number = all.0 in
     let other : (task == t) ≡ false = other_number task t (λ e. omega (arith, number, e, lt)) in
     ((λ p. rw other (was.0 p)), was.1)
-uncreated (Done task m ∷ earlier) all t lt =
-    let was = uncreated earlier all.1 t lt in
+later_is_no_child (Done task m ∷ earlier) all t lt =
+    let was = later_is_no_child earlier all.1 t lt in
     let high = created_high task earlier all.0.created in
     let other : (task == t) ≡ false = other_number task t (λ e. omega (arith, high, e, lt)) in
     (was.0, rw other was.1)
-uncreated (_ ∷ earlier) all t lt = uncreated earlier all.1 t lt
+later_is_no_child (_ ∷ earlier) all t lt = later_is_no_child earlier all.1 t lt
 
 -- and no task waits for it
 pub waits_not_for_uncreated : (h : List Event) → Always InOrder h → (q : ℕ) → tasks_created h < q → (k : ℕ) → waits_for k q h ≡ false
 waits_not_for_uncreated [] all q lt k = refl
 waits_not_for_uncreated (Create task m parent desc ∷ earlier) all q lt k = elim (cases_Bool (task == k)) [
-  | inl same ↦ let nobody = (uncreated earlier all.1 q (omega (arith, lt))).0 parent in rw (same, nobody) refl
+  | inl same ↦ let nobody = (later_is_no_child earlier all.1 q (omega (arith, lt))).0 parent in rw (same, nobody) refl
   | inr other ↦ rw other (waits_not_for_uncreated earlier all.1 q (omega (arith, lt)) k)
 ]
 waits_not_for_uncreated (_ ∷ earlier) all q lt k = waits_not_for_uncreated earlier all.1 q lt k
 
 -- a task is a child of the one in which it was created, and of no other
-pub parent_is : (h : List Event) → Always InOrder h → (q : ℕ) → is_created q h ≡ true → (p : Task) → is_child p q h ≡ same_task (task_parent q h) p
-parent_is [] all q made p = absurd (let low = created_low q [] made in let high = created_high q [] made in omega (arith, low, high))
-parent_is (Create task m parent desc ∷ earlier) all q made p = elim (cases_Bool (task == q)) [
+pub child_by_parent : (h : List Event) → Always InOrder h → (q : ℕ) → is_created q h ≡ true → (p : Task) → is_child p q h ≡ same_task (task_parent q h) p
+child_by_parent [] all q made p = absurd (let low = created_low q [] made in let high = created_high q [] made in omega (arith, low, high))
+child_by_parent (Create task m parent desc ∷ earlier) all q made p = elim (cases_Bool (task == q)) [
   | inl same ↦ rw same refl
-  | inr other ↦ rw other (parent_is earlier all.1 q (old_created q task earlier all.0 other made) p)
+  | inr other ↦ rw other (child_by_parent earlier all.1 q (old_created q task earlier all.0 other made) p)
 ]
-parent_is (_ ∷ earlier) all q made p = parent_is earlier all.1 q made p
+child_by_parent (_ ∷ earlier) all q made p = child_by_parent earlier all.1 q made p
 
 -- for which tasks a new task waits
 at_creation : (q k task : ℕ) (parent : Task) (items : List Dep) (own : List Dep) (h : List Event) → Always InOrder h → task ≡ suc (tasks_created h) → task ≡ k →
@@ -73,7 +73,7 @@ at_creation q k task parent items own h all number same = elim (cases_lt q k) [
       rw (older, other) refl
   | inr after ↦
       let newer : nat_lt q k ≡ false = grind (arith, nat_tests, after) in
-      let nobody : is_child parent q h ≡ false = (uncreated h all q (omega (arith, number, same, after))).0 parent in
+      let nobody : is_child parent q h ≡ false = (later_is_no_child h all q (omega (arith, number, same, after))).0 parent in
       rw (newer, nobody) refl
 ]
 
@@ -91,25 +91,25 @@ past_creation q k task p r items own h all number old was = elim (cases_Bool (ta
 ]
 
 -- of the same task and items it is the same
-moved : (p r : Task) (xs ys : List Dep) (q k : ℕ) (h : List Event) → p ≡ r → xs ≡ ys → (nat_lt q k && child_waits r ys q h) ≡ (nat_lt q k && child_waits p xs q h)
-moved p r xs ys q k h a b = rw (a, b) refl
+same_child_waits : (p r : Task) (xs ys : List Dep) (q k : ℕ) (h : List Event) → p ≡ r → xs ≡ ys → (nat_lt q k && child_waits r ys q h) ≡ (nat_lt q k && child_waits p xs q h)
+same_child_waits p r xs ys q k h a b = rw (a, b) refl
 
 -- a task waits for the older children of its parent on whose items one of its items depends
-pub waits_is : (h : List Event) → Always InOrder h → (k : ℕ) → is_created k h ≡ true → (q : ℕ) → waits_for k q h ≡ (nat_lt q k && child_waits (task_parent k h) (task_items k h) q h)
-waits_is [] all k made q = absurd (let low = created_low k [] made in let high = created_high k [] made in omega (arith, low, high))
-waits_is (Create task m parent desc ∷ earlier) all k made q = elim (cases_Bool (task == k)) [
+pub wait_by_items : (h : List Event) → Always InOrder h → (k : ℕ) → is_created k h ≡ true → (q : ℕ) → waits_for k q h ≡ (nat_lt q k && child_waits (task_parent k h) (task_items k h) q h)
+wait_by_items [] all k made q = absurd (let low = created_low k [] made in let high = created_high k [] made in omega (arith, low, high))
+wait_by_items (Create task m parent desc ∷ earlier) all k made q = elim (cases_Bool (task == k)) [
   | inl same ↦
       let own : task_parent k (Create task m parent desc ∷ earlier) ≡ parent = rw same refl in
       let items : task_items k (Create task m parent desc ∷ earlier) ≡ desc.deps = rw same refl in
       let now : waits_for k q (Create task m parent desc ∷ earlier) ≡ child_waits parent desc.deps q earlier = rw same refl in
       now ∙ at_creation q k task parent desc.deps desc.deps earlier all.1 all.0 (is_equal task k same)
-      ∙ moved (task_parent k (Create task m parent desc ∷ earlier)) parent (task_items k (Create task m parent desc ∷ earlier)) desc.deps q k (Create task m parent desc ∷ earlier) own items
+      ∙ same_child_waits (task_parent k (Create task m parent desc ∷ earlier)) parent (task_items k (Create task m parent desc ∷ earlier)) desc.deps q k (Create task m parent desc ∷ earlier) own items
   | inr other ↦
       let old = old_created k task earlier all.0 other made in
       let own : task_parent k (Create task m parent desc ∷ earlier) ≡ task_parent k earlier = rw other refl in
       let items : task_items k (Create task m parent desc ∷ earlier) ≡ task_items k earlier = rw other refl in
       let now : waits_for k q (Create task m parent desc ∷ earlier) ≡ waits_for k q earlier = rw other refl in
-      now ∙ past_creation q k task (task_parent k earlier) parent (task_items k earlier) desc.deps earlier all.1 all.0 (created_high k earlier old) (waits_is earlier all.1 k old q)
-      ∙ moved (task_parent k (Create task m parent desc ∷ earlier)) (task_parent k earlier) (task_items k (Create task m parent desc ∷ earlier)) (task_items k earlier) q k (Create task m parent desc ∷ earlier) own items
+      now ∙ past_creation q k task (task_parent k earlier) parent (task_items k earlier) desc.deps earlier all.1 all.0 (created_high k earlier old) (wait_by_items earlier all.1 k old q)
+      ∙ same_child_waits (task_parent k (Create task m parent desc ∷ earlier)) (task_parent k earlier) (task_items k (Create task m parent desc ∷ earlier)) (task_items k earlier) q k (Create task m parent desc ∷ earlier) own items
 ]
-waits_is (_ ∷ earlier) all k made q = waits_is earlier all.1 k made q
+wait_by_items (_ ∷ earlier) all k made q = wait_by_items earlier all.1 k made q

@@ -48,8 +48,8 @@ startable_is_created m t h may = (startable_is_fresh m t h may).0
 pub startable_may_start : (m t : ℕ) (h : List Event) → is_startable m t h ≡ true → may_start m t h ≡ true
 startable_may_start m t h may = and_right (not (is_undeferred t h)) (may_start m t h) may
 
-pub startable_is_deferred : (m t : ℕ) (h : List Event) → is_startable m t h ≡ true → is_undeferred t h ≡ false
-startable_is_deferred m t h may = false_of_not (is_undeferred t h) (and_left (not (is_undeferred t h)) (may_start m t h) may)
+pub startable_not_undeferred : (m t : ℕ) (h : List Event) → is_startable m t h ≡ true → is_undeferred t h ≡ false
+startable_not_undeferred m t h may = false_of_not (is_undeferred t h) (and_left (not (is_undeferred t h)) (may_start m t h) may)
 
 -- and then some task may be
 pub startable_is_some : (m t : ℕ) (h : List Event) → is_startable m t h ≡ true → some_startable m h ≡ true
@@ -95,8 +95,8 @@ one_await m met h (Run task code arg own) _ x y = absurd y
 one_await m met h _ b x y = absurd x
 
 -- before its goal is met the answer is a task that may be started, or the wait itself
-unmet : {A : Type 0} → (members m : ℕ) (met : Bool) (h : List Event) → Always (TaskRule members) h → met ≡ false → ((task code arg : ℕ) → AwaitsTasks m met h (Run task code arg false) → A) → (AwaitsTasks m met h Wait → A) → A
-unmet members m met h all e runs waits = elim (cases_Bool (some_startable m h)) [
+unmet_wait_answers : {A : Type 0} → (members m : ℕ) (met : Bool) (h : List Event) → Always (TaskRule members) h → met ≡ false → ((task code arg : ℕ) → AwaitsTasks m met h (Run task code arg false) → A) → (AwaitsTasks m met h Wait → A) → A
+unmet_wait_answers members m met h all e runs waits = elim (cases_Bool (some_startable m h)) [
   | inl some ↦
       let found = task_to_start m h some in
       let told = created_is_described members found.0 h all (startable_is_created m found.0 h (startable_may_start m found.0 h found.1)) in
@@ -107,7 +107,7 @@ unmet members m met h all e runs waits = elim (cases_Bool (some_startable m h)) 
 pub some_await : (members m : ℕ) (met : Bool) (h : List Event) → Always (TaskRule members) h → (reply : Reply) × AwaitsTasks m met h reply
 some_await members m met h all = elim (cases_Bool met) [
   | inl e ↦ (Passed, e)
-  | inr e ↦ unmet members m met h all e (λ task code arg may. (Run task code arg false, may)) (λ may. (Wait, may))
+  | inr e ↦ unmet_wait_answers members m met h all e (λ task code arg may. (Run task code arg false, may)) (λ may. (Wait, may))
 ]
 
 pub await_tells : (m : ℕ) (met : Bool) (h : List Event) (reply : Reply) → AwaitsTasks m met h reply → (reply ≡ Passed) ⊎ (goes_on reply ≡ true)
@@ -134,7 +134,7 @@ some_own members m t h all = elim (cases_Bool (may_start m t h)) [
   | inl may ↦
       let told = created_is_described members t h all (startable_is_created m t h may) in
       (Run t told.0.code told.0.arg true, (refl, may, described_has_job told.0 (task_desc t h) told.1))
-  | inr e ↦ unmet members m (may_start m t h) h all e (λ task code arg may. (Run task code arg false, may)) (λ may. (Wait, may))
+  | inr e ↦ unmet_wait_answers members m (may_start m t h) h all e (λ task code arg may. (Run task code arg false, may)) (λ may. (Wait, may))
 ]
 
 -- and to that of any task
@@ -159,7 +159,7 @@ own_runs m t task code arg true h held may = rw may.0 (record { held = held; new
 own_runs m t task code arg false h held may = record {
   held = held;
   newest = λ e. absurd (cc);
-  undeferred = startable_is_deferred m task h may.2;
+  undeferred = startable_not_undeferred m task h may.2;
   may = startable_may_start m task h may.2;
   job = may.3;
 }
@@ -189,7 +189,7 @@ started_keeps members m met h (Run task code arg own) lt may all = (
   record {
     member = lt;
     may = startable_may_start m task h may.2;
-    own = λ held. absurd (not_both (is_undeferred task h) held (startable_is_deferred m task h may.2));
+    own = λ held. absurd (not_both (is_undeferred task h) held (startable_not_undeferred m task h may.2));
   },
   all,
 )

@@ -66,21 +66,21 @@ AreOpen k ts h = (t : ℕ) → contains t ts ≡ true → IsOpen k t h
 first_open : (k t : ℕ) (ts : List ℕ) (h : List Event) → AreOpen k (t ∷ ts) h → IsOpen k t h
 first_open k t ts h opened = opened t (rw (same_number t) refl)
 
-later_open : (k t : ℕ) (ts : List ℕ) (h : List Event) → AreOpen k (t ∷ ts) h → AreOpen k ts h
-later_open k t ts h opened = λ u there. opened u (or_right (t == u) (contains u ts) there)
+rest_is_open : (k t : ℕ) (ts : List ℕ) (h : List Event) → AreOpen k (t ∷ ts) h → AreOpen k ts h
+rest_is_open k t ts h opened = λ u there. opened u (or_right (t == u) (contains u ts) there)
 
 -- what covers its tasks stays
 event_covers : (members k : ℕ) (event : Event) (h : List Event) (calls : List Call) (ts : List ℕ) → Always (TaskRule members) (event ∷ h) → AreOpen k ts h → LeavesBeneath k event ts → Covers k calls ts h → Covers k calls ts (event ∷ h)
 event_covers members k event h calls [] all opened leaves covers = covers
 event_covers members k event h calls (t ∷ ts) all opened leaves (inl held) =
-    inl (undeferred_stays members t event h all (first_open k t ts h opened).0 ∙ held.0, event_covers members k event h calls ts all (later_open k t ts h opened) leaves.1 held.1)
+    inl (undeferred_stays members t event h all (first_open k t ts h opened).0 ∙ held.0, event_covers members k event h calls ts all (rest_is_open k t ts h opened) leaves.1 held.1)
 event_covers members k event h [] (t ∷ ts) all opened leaves (inr covers) = absurd covers.1
 event_covers members k event h (call ∷ calls) (t ∷ ts) all opened leaves (inr covers) =
     inr (
       undeferred_stays members t event h all (first_open k t ts h opened).0 ∙ covers.0,
       (
         record { outside = covers.1.0.outside; created = made_stays members (row_of call) (innermost_task k ts) event h all leaves.0 covers.1.0.created },
-        event_covers members k event h calls ts all (later_open k t ts h opened) leaves.1 covers.1.1,
+        event_covers members k event h calls ts all (rest_is_open k t ts h opened) leaves.1 covers.1.1,
       ),
     )
 
@@ -105,7 +105,7 @@ other_leaves_beneath : (members k n task : ℕ) (parent : Task) (desc : TaskDesc
     LeavesBeneath k (Create task n parent desc) ts
 other_leaves_beneath members k n task parent desc h [] other all opened = tt
 other_leaves_beneath members k n task parent desc h (t ∷ ts) other all opened =
-    let later = later_open k t ts h opened in (
+    let later = rest_is_open k t ts h opened in (
       other_leaves members k n task parent (innermost_task k ts) desc h other all (open_executes k ts h later),
       other_leaves_beneath members k n task parent desc h ts other all later,
     )
@@ -167,9 +167,9 @@ created_other row sound repeated members k m p reply (Some call) e rules made =
 -- The member's own events
 
 -- a member creates tasks in the one that it executes, which is none of those beneath
-not_the_first : (k t : ℕ) (ts : List ℕ) → contains t ts ≡ false → same_task (Explicit t) (innermost_task k ts) ≡ false
-not_the_first k t [] apart = refl
-not_the_first k t (u ∷ us) apart = other_number t u (λ same. let there : contains t (u ∷ us) ≡ true = rw (same, same_number u) refl in not_both (contains t (u ∷ us)) there apart)
+not_the_innermost : (k t : ℕ) (ts : List ℕ) → contains t ts ≡ false → same_task (Explicit t) (innermost_task k ts) ≡ false
+not_the_innermost k t [] apart = refl
+not_the_innermost k t (u ∷ us) apart = other_number t u (λ same. let there : contains t (u ∷ us) ≡ true = rw (same, same_number u) refl in not_both (contains t (u ∷ us)) there apart)
 
 not_later : (t u : ℕ) (us : List ℕ) → contains t (u ∷ us) ≡ false → contains t us ≡ false
 not_later t u us apart = elim (cases_Bool (contains t us)) [
@@ -179,7 +179,7 @@ not_later t u us apart = elim (cases_Bool (contains t us)) [
 
 executed_leaves : (k n task t x : ℕ) (desc : TaskDesc) (ts : List ℕ) → contains t ts ≡ false → LeavesBeneath k (Create task n (Explicit t) desc) (x ∷ ts)
 executed_leaves k n task t x desc [] apart = (refl, tt)
-executed_leaves k n task t x desc (u ∷ us) apart = (not_the_first k t (u ∷ us) apart, executed_leaves k n task t u desc us (not_later t u us apart))
+executed_leaves k n task t x desc (u ∷ us) apart = (not_the_innermost k t (u ∷ us) apart, executed_leaves k n task t u desc us (not_later t u us apart))
 
 own_leaves : (k n task : ℕ) (parent : Task) (desc : TaskDesc) (ts : List ℕ) → Apart ts → parent ≡ innermost_task k ts → LeavesBeneath k (Create task n parent desc) ts
 own_leaves k n task parent desc [] apart current = tt

@@ -24,7 +24,7 @@ use Rattle.gomp_model.specs.Past.{Past}
 use Rattle.gomp_model.specs.Row.{Row, begun_past, given_after, goes_on}
 use Rattle.gomp_model.specs.Tasks.{task_create_row, task_end_row, taskwait_row, group_start_row, group_end_row}
 use Rattle.gomp_laws.specs.Rules.{TeamRule}
-use Rattle.gomp_laws.proofs.Awaits.{startable_may_start, startable_is_deferred, one_await, some_await, one_creator, some_creator, CreatorRuns, creator_runs, creator_told, creator_waits, started_own, started_keeps, creator_keeps, begun_rules}
+use Rattle.gomp_laws.proofs.Awaits.{startable_may_start, startable_not_undeferred, one_await, some_await, one_creator, some_creator, CreatorRuns, creator_runs, creator_told, creator_waits, started_own, started_keeps, creator_keeps, begun_rules}
 use Rattle.gomp_laws.proofs.TeamShares.{task_rules}
 use Rattle.gomp_laws.proofs.Sound.{Same, AreGiven, HasCreated, Ready, IsSound, quiet, only_creates, outside_lasts}
 
@@ -101,9 +101,9 @@ creation_begins desc m p ready all = (
 )
 
 -- no refusal and no chunk
-no_refusal : (held : Bool) (m t : ℕ) (h : List Event) (refusal : Refusal) → AnswersCreator held m t h (Refused refusal) → ⊥
-no_refusal true m t h refusal may = may
-no_refusal false m t h refusal may = cc
+creator_not_refused : (held : Bool) (m t : ℕ) (h : List Event) (refusal : Refusal) → AnswersCreator held m t h (Refused refusal) → ⊥
+creator_not_refused true m t h refusal may = may
+creator_not_refused false m t h refusal may = cc
 
 no_chunk : (held : Bool) (m t : ℕ) (h : List Event) (first : ℤ) (count : ℕ) → AnswersCreator held m t h (Chunk first count) → ⊥
 no_chunk true m t h first count may = may
@@ -120,7 +120,7 @@ creator_answer m task code arg own h may =
 pub task_create_sound : (desc : TaskDesc) → IsSound (task_create_row desc)
 task_create_sound desc = record {
   decided = λ m p a b x y. let t = newest_child (executed_task m p.events) p.events in one_creator (is_undeferred t p.events) m t p.events a b x y;
-  accepts = λ m p refusal may. let t = newest_child (executed_task m p.events) p.events in no_refusal (is_undeferred t p.events) m t p.events refusal may;
+  accepts = λ m p refusal may. let t = newest_child (executed_task m p.events) p.events in creator_not_refused (is_undeferred t p.events) m t p.events refusal may;
   answered = λ repeated m p ready all.
       let row = task_create_row desc in
       let h = (begun_past repeated row m p).events in
@@ -240,7 +240,7 @@ taskwait_sound items = record {
   lasts = λ repeated m p ready all may. outside_lasts ready refl (λ arrives. absurd (cc)) may;
   waits_for = λ key m p holds may. absurd (cc);
   tells_count = λ key repeated m count p holds ready all may. absurd (cc);
-  runs = λ m p task code arg own may. (refl, refl, startable_is_deferred m task p.events may.2 ∙ sym may.1, startable_may_start m task p.events may.2, may.3, refl, λ e. absurd (let both = sym may.1 ∙ e in cc));
+  runs = λ m p task code arg own may. (refl, refl, startable_not_undeferred m task p.events may.2 ∙ sym may.1, startable_may_start m task p.events may.2, may.3, refl, λ e. absurd (let both = sym may.1 ∙ e in cc));
   ends = λ m p task waiting may. absurd may;
   created = λ repeated m p task ready may. absurd may;
   no_memory = λ m p. (refl, refl, refl, refl, λ repeated. refl);
@@ -319,7 +319,7 @@ group_end_sound = record {
   lasts = λ repeated m p ready all may. outside_lasts ready refl (λ arrives. absurd (cc)) may;
   waits_for = λ key m p holds may. absurd (cc);
   tells_count = λ key repeated m count p holds ready all may. absurd (cc);
-  runs = λ m p task code arg own may. (refl, refl, startable_is_deferred m task p.events may.2 ∙ sym may.1, startable_may_start m task p.events may.2, may.3, refl, λ e. absurd (let both = sym may.1 ∙ e in cc));
+  runs = λ m p task code arg own may. (refl, refl, startable_not_undeferred m task p.events may.2 ∙ sym may.1, startable_may_start m task p.events may.2, may.3, refl, λ e. absurd (let both = sym may.1 ∙ e in cc));
   ends = λ m p task waiting may. absurd may;
   created = λ repeated m p task ready may. absurd may;
   no_memory = λ m p. (refl, refl, refl, refl, λ repeated. refl);

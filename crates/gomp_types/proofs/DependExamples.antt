@@ -118,12 +118,12 @@ pub tasks_that_are_free :
     × (is_free 4 (after (readers ++ Done 1 0 ∷ Done 2 0 ∷ Done 3 0 ∷ [])) ≡ true)
 tasks_that_are_free = (refl, refl, refl, refl)
 
-pub tasks_that_are_ready :
+pub tasks_with_items_that_are_ready :
     (map (λ t. is_unstarted t (after (readers ++ Start 1 0 ∷ []))) (0 ∷ 1 ∷ 2 ∷ 5 ∷ 6 ∷ []) ≡ false ∷ false ∷ true ∷ true ∷ false ∷ [])
     × (map (λ t. is_ready t (after (readers ++ Start 1 0 ∷ []))) (0 ∷ 1 ∷ 2 ∷ 5 ∷ 6 ∷ []) ≡ false ∷ false ∷ false ∷ true ∷ false ∷ [])
     × (map (λ t. is_ready t (after (readers ++ Start 1 0 ∷ Done 1 0 ∷ []))) (1 ∷ 2 ∷ 4 ∷ []) ≡ false ∷ true ∷ false ∷ [])
     × (may_start 0 2 (after (readers ++ Start 1 0 ∷ [])) ≡ false) × (may_start 0 2 (after (readers ++ Start 1 0 ∷ Done 1 0 ∷ [])) ≡ true)
-tasks_that_are_ready = (refl, refl, refl, refl, refl)
+tasks_with_items_that_are_ready = (refl, refl, refl, refl, refl)
 
 -- Final and undeferred tasks
 

@@ -4,13 +4,13 @@ use Rattle.gomp_types.specs.declared.event.Event.TheVariants.{Done}
 use Rattle.gomp_depend.specs.Rows.{is_row}
 use Rattle.gomp_depend.specs.Stands.{DependsView}
 use Rattle.gomp_depend.proofs.RowLists.{found_at, place_none}
-use Rattle.gomp_depend.proofs.RowsKeep.{view_stands, complete_keeps, complete_writes}
+use Rattle.gomp_depend.proofs.RowsKeep.{same_rows_stand, rows_keep_at_done, rows_written_at_done}
 use Rattle.gomp_depend.proofs.depends.Depends.complete.Goals as goal
 
 pub returns-in_default-clause-stands : goal.returns-in_default-clause-stands
 returns-in_default-clause-stands c = λ h m st is.
     let rows = c.deref.ensures.value ∙ ap (λ (v : DependsView). v.rows) c.self.view_is in
-    complete_keeps c.args.self.now.rows c.args.task m h st is (place_none c.args.task 0 c.args.self.now.rows (ap (position_from (is_row c.args.task) 0) (sym rows) ∙ sym c.place_of.ensures ∙ c.in_default.is))
+    rows_keep_at_done c.args.self.now.rows c.args.task m h st is (place_none c.args.task 0 c.args.self.now.rows (ap (position_from (is_row c.args.task) 0) (sym rows) ∙ sym c.place_of.ensures ∙ c.in_default.is))
 
 pub remove-done-requires : goal.remove-done-requires
 remove-done-requires c =
@@ -22,7 +22,7 @@ remove-done-requires c =
 pub returns-clause-stands : goal.returns-clause-stands
 returns-clause-stands c = λ h m st is.
     let found = found_at c.args.task c.in-Some.place c.self.inside.rows.items (ap (position_from (is_row c.args.task) 0) (sym c.deref.ensures.value) ∙ sym c.place_of.ensures ∙ c.in-Some.is) in
-    complete_writes c.self.inside.rows.items c.remove-done.new.self.items c.deref_mut.result.now c.lower_all.new.rows c.args.task c.in-Some.place m c.remove-done.new.self.len c.remove-done.result h (view_stands _ _ h c.self.view_is st) is found
+    rows_written_at_done c.self.inside.rows.items c.remove-done.new.self.items c.deref_mut.result.now c.lower_all.new.rows c.args.task c.in-Some.place m c.remove-done.new.self.len c.remove-done.result h (same_rows_stand _ _ h c.self.view_is st) is found
     c.remove-done.ensures.value c.remove-done.ensures.items c.deref_mut.ensures.value c.lower_all.ensures c.lower_all.auto.rows c.remove-done.new.self.ok.0
 
 pub invariant_of-self : goal.invariant_of-self
