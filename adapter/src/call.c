@@ -56,7 +56,6 @@ static const char *plain_line(enum call_kind kind)
     case CALL_ORDERED_END: return "ordered_end";
     case CALL_REGION_END: return "region_end";
     case CALL_TASK_END: return "task_end";
-    case CALL_TASKWAIT: return "taskwait";
     case CALL_GROUP: return "group";
     case CALL_GROUP_END: return "group_end";
     case CALL_LOCK_INIT: return "lock_init";
@@ -89,8 +88,21 @@ static int hold_line(const struct call *call, int member, char line[LINE_SIZE])
                     *call->name != 0 ? " " : "", call->name);
 }
 
+// The line of a call that may have a depend clause.
+static size_t task_line(const struct call *call, int member, char line[CALL_LINE_SIZE])
+{
+    char items[CALL_LINE_SIZE / 4 * 3] = "";
+    const struct task *task = call->task;
+    if (call->items != NULL)
+        items_words(call->items, items, sizeof items);
+    if (call->kind == CALL_TASKWAIT)
+        return (size_t)snprintf(line, CALL_LINE_SIZE, "%d taskwait%s\n", member, items);
+    return (size_t)snprintf(line, CALL_LINE_SIZE, "%d task %lu %lu%s%s%s\n", member, task->code, task->number,
+                            task->has_false_if ? " if0" : "", task->has_final ? " final" : "", items);
+}
+
 // Writes the line of a member's call, with its line feed, and answers its length.
-size_t call_line(const struct call *call, int member, char line[LINE_SIZE])
+size_t call_line(const struct call *call, int member, char line[CALL_LINE_SIZE])
 {
     switch (call->kind) {
     case CALL_LOOP: return (size_t)loop_line(&call->loop, member, line);
@@ -100,8 +112,7 @@ size_t call_line(const struct call *call, int member, char line[LINE_SIZE])
         return (size_t)snprintf(line, LINE_SIZE, "%d single_copy_end %lu\n", member, call->word);
     case CALL_ORDERED: return (size_t)snprintf(line, LINE_SIZE, "%d ordered %ld\n", member, call->iteration);
     case CALL_TASK:
-        return (size_t)snprintf(line, LINE_SIZE, "%d task %lu %lu\n", member, call->task->code,
-                                call->task->number);
+    case CALL_TASKWAIT: return task_line(call, member, line);
     case CALL_CRITICAL:
     case CALL_CRITICAL_END: return (size_t)hold_line(call, member, line);
     default:
@@ -172,9 +183,11 @@ void call_words(const struct call *call, const struct call *share, struct text *
     case CALL_ORDERED_END: text_add(text, "the end of #pragma omp ordered"); break;
     case CALL_BARRIER: text_add(text, "#pragma omp barrier (or the barrier that ends a construct)"); break;
     case CALL_REGION_END: text_add(text, "the end of the parallel region"); break;
-    case CALL_TASK: text_add(text, "#pragma omp task"); break;
+    case CALL_TASK: text_add(text, "#pragma omp task%s", call->items != NULL ? " depend" : ""); break;
     case CALL_TASK_END: text_add(text, "the end of #pragma omp task"); break;
-    case CALL_TASKWAIT: text_add(text, "#pragma omp taskwait"); break;
+    case CALL_TASKWAIT:
+        text_add(text, "#pragma omp taskwait%s", call->items != NULL ? " depend" : "");
+        break;
     case CALL_GROUP: text_add(text, "#pragma omp taskgroup"); break;
     case CALL_GROUP_END: text_add(text, "the end of #pragma omp taskgroup"); break;
     case CALL_CRITICAL:
@@ -193,9 +206,20 @@ void call_words(const struct call *call, const struct call *share, struct text *
     }
 }
 
+// A task's creation is answered `created`; that of an undeferred one `run`: of this task, or of another while
+// it waits for those that it depends on.
+static bool may_be_answered_creation(const struct task *task, const struct reply *answer)
+{
+    if (!task->is_undeferred)
+        return answer->kind == REPLY_CREATED;
+    return answer->kind == REPLY_RUN && answer->is_own == (answer->count == task->number);
+}
+
 static bool may_be_answered(const struct call *call, const struct reply *answer)
 {
     enum reply_kind reply = answer->kind;
+    if (answer->is_own && call->kind != CALL_TASK)
+        return false;
     switch (call->kind) {
     case CALL_LOOP:
     case CALL_LOOP_NEXT: return reply == REPLY_CHUNK || reply == REPLY_NONE;
@@ -208,7 +232,7 @@ static bool may_be_answered(const struct call *call, const struct reply *answer)
     case CALL_REGION_END:
     case CALL_TASKWAIT:
     case CALL_GROUP_END: return reply == REPLY_PASSED || reply == REPLY_RUN;
-    case CALL_TASK: return reply == REPLY_CREATED;
+    case CALL_TASK: return may_be_answered_creation(call->task, answer);
     case CALL_TASK_END: return reply == REPLY_TASK_DONE;
     case CALL_LOCK_INIT:
     case CALL_NEST_INIT: return reply == REPLY_LOCK && answer->count < NO_LOCK;
@@ -235,15 +259,20 @@ static bool is_chunk(const char *line, const struct reply *reply)
     return strcmp(line, printed) == 0;
 }
 
-// Reads `run T CODE ARG`, and `task_done T waiting`.
+// Reads `run T CODE ARG`, which may have `own` behind it, and `task_done T`, with `waiting` or `free`.
 static bool read_task(const char *line, struct reply *reply)
 {
     char printed[96] = "";
     enum reply_kind kind = REPLY_RUN;
+    const char *last = strrchr(line, ' ');
+    reply->is_own = last != NULL && strcmp(last, " own") == 0;
+    reply->is_waiting = last != NULL && strcmp(last, " waiting") == 0;
     if (sscanf(line, "run %lu %lu %lu", &reply->count, &reply->code, &reply->argument) == 3) {
-        snprintf(printed, sizeof printed, "run %lu %lu %lu", reply->count, reply->code, reply->argument);
+        snprintf(printed, sizeof printed, "run %lu %lu %lu%s", reply->count, reply->code, reply->argument,
+                 reply->is_own ? " own" : "");
     } else if (sscanf(line, "task_done %lu", &reply->count) == 1) {
-        snprintf(printed, sizeof printed, "task_done %lu waiting", reply->count);
+        snprintf(printed, sizeof printed, "task_done %lu %s", reply->count,
+                 reply->is_waiting ? "waiting" : "free");
         kind = REPLY_TASK_DONE;
     }
     if (*printed == 0 || strcmp(line, printed) != 0)

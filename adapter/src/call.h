@@ -6,7 +6,10 @@
 #include <stddef.h>
 #include <stdint.h>
 
-enum { LINE_SIZE = 256, TEXT_SIZE = 32768 };
+#include "items.h"
+
+// A call with items is longer than a reply.
+enum { LINE_SIZE = 256, CALL_LINE_SIZE = 1024, TEXT_SIZE = 32768 };
 
 enum call_kind {
     CALL_NONE,
@@ -68,7 +71,8 @@ struct task;
 
 struct call {
     enum call_kind kind;
-    void *address; // where in the program it returns to
+    void *address;       // where in the program it returns to
+    struct items *items; // of its depend clause, NULL for none; they stand up to the reply
     union {
         struct loop loop;
         unsigned sections;
@@ -105,6 +109,8 @@ struct reply {
     unsigned long count; // of a chunk: iterations; the number of a section, a lock or a task; yes or no; a
                          // copied word; how often a nestable lock is set
     unsigned long code, argument; // of a task that is to be executed
+    bool is_own;                  // it is the undeferred task of this call
+    bool is_waiting;              // of a task that has ended: the wait at which it began is open again
     char text[LINE_SIZE];         // the line itself, of a refusal
 };
 
@@ -115,7 +121,7 @@ struct text {
 };
 void text_add(struct text *text, const char *format, ...) __attribute__((format(printf, 2, 3)));
 
-size_t call_line(const struct call *call, int member, char line[LINE_SIZE]);
+size_t call_line(const struct call *call, int member, char line[CALL_LINE_SIZE]);
 void call_words(const struct call *call, const struct call *share, struct text *text);
 struct reply reply_of(const struct call *call, const char *line);
 bool call_is_on_lock(const struct call *call);

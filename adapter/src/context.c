@@ -112,7 +112,10 @@ struct reply context_call(struct context *context, struct call call)
     call.address = context->address;
     struct reply reply = team_call(context->team, context->number, &call);
     while (reply.kind == REPLY_RUN) {
+        bool is_own = reply.is_own;
         task_execute(context);
+        if (is_own)
+            return reply;
         reply = team_resume(context->team, context->number, &call);
     }
     return reply;

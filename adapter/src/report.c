@@ -23,6 +23,7 @@ static const struct meaning limits[] = {
     {15, "a construct has more than 65,536 sections"},
     {26, "tasks are created inside of one another more than 64 deep"},
     {27, "a parallel region may have 1,048,576 tasks"},
+    {28, "a depend clause may have 16 items"},
     {29, "the name of a critical region has more than 32 bytes"},
     {33, "a nestable lock is set 65,535 times, or 4,294,967,295 locks were made"},
     {34, "a member may start 131,064 work-shares in one parallel region"},

@@ -10,31 +10,8 @@
 #include <stdlib.h>
 #include <string.h>
 
-// The flags of GOMP_task that change something; `untied` and `mergeable` do not.
-enum { FLAG_FINAL = 1 << 1, FLAG_DEPEND = 1 << 3, FLAG_PRIORITY = 1 << 4, FLAG_DETACH = 1 << 13 };
-
-static _Noreturn void end_clause_not_served(const struct context *context, const char *clause)
-{
-    static struct text text;
-    claim_end();
-    text_add(&text, "#pragma omp task with %s", clause);
-    place_add(context->address, &text);
-    end_not_served(text.bytes);
-}
-
-static void end_if_not_served(const struct context *context, bool if_clause, unsigned flags, int priority)
-{
-    if (flags & FLAG_DEPEND)
-        end_clause_not_served(context, "a depend clause");
-    if (flags & FLAG_DETACH)
-        end_clause_not_served(context, "a detach clause");
-    if (flags & FLAG_FINAL)
-        end_clause_not_served(context, "a final clause that is true");
-    if (!if_clause)
-        end_clause_not_served(context, "an if clause that is false");
-    if (flags & FLAG_PRIORITY && priority > 0)
-        end_clause_not_served(context, "a priority above 0");
-}
+// The flags of GOMP_task that change something; `untied`, `mergeable` and `priority` do not.
+enum { FLAG_FINAL = 1 << 1, FLAG_DEPEND = 1 << 3, FLAG_DETACH = 1 << 13 };
 
 // A task of the member's current one, with a copy of its data: by the program's function, if it has one.
 static struct task *task_make(struct context *context, void (*function)(void *), void *data,
@@ -59,18 +36,36 @@ static struct task *task_make(struct context *context, void (*function)(void *),
     return task;
 }
 
+// What a task is by its clauses and its parent, which is NULL for an implicit task: a child of a final task
+// is final and undeferred itself.
+static void set_clauses(struct task *task, const struct task *parent, bool has_false_if, bool has_final)
+{
+    bool is_in_final = parent != NULL && parent->is_final;
+    task->has_false_if = has_false_if;
+    task->has_final = has_final;
+    task->is_final = has_final || is_in_final;
+    task->is_undeferred = has_false_if || is_in_final;
+}
+
 EXPORT void GOMP_task(void (*function)(void *), void *data, void (*copy)(void *, void *), long size,
                       long alignment, bool if_clause, unsigned flags, void **depend, int priority,
                       void *detach)
 {
     struct context *context = ENTER();
-    (void)depend, (void)detach;
-    end_if_not_served(context, if_clause, flags, priority);
+    (void)priority, (void)detach;
+    if (flags & FLAG_DETACH)
+        end_clause_not_served("#pragma omp task with a detach clause", context->address);
+    struct items items = {0};
+    if (flags & FLAG_DEPEND)
+        items = items_read(depend, context->address);
     void *address = context->address;
     struct task *task = task_make(context, function, data, copy, (size_t)size, (size_t)alignment);
     context->address = address; // the copying may have called
-    context_call(context, (struct call){.kind = CALL_TASK, .task = task});
-    if (context->region == NULL)
+    set_clauses(task, context_task(context), !if_clause, flags & FLAG_FINAL);
+    bool is_at_once = context->region == NULL && !task->is_undeferred;
+    context_call(context, (struct call){
+                              .kind = CALL_TASK, .task = task, .items = items.count > 0 ? &items : NULL});
+    if (is_at_once)
         context_call(context, (struct call){.kind = CALL_TASKWAIT});
 }
 
@@ -88,6 +83,13 @@ void task_execute(struct context *context)
 }
 
 EXPORT void GOMP_taskwait(void) { context_call(ENTER(), (struct call){.kind = CALL_TASKWAIT}); }
+
+EXPORT void GOMP_taskwait_depend(void **depend)
+{
+    struct context *context = ENTER();
+    struct items items = items_read(depend, context->address);
+    context_call(context, (struct call){.kind = CALL_TASKWAIT, .items = items.count > 0 ? &items : NULL});
+}
 
 EXPORT void GOMP_taskgroup_start(void) { context_call(ENTER(), (struct call){.kind = CALL_GROUP}); }
 

@@ -32,9 +32,10 @@ static unsigned long code_of(struct tasks_made *made, void (*function)(void *), 
     return made->functions_count;
 }
 
-// Gives a task its number, and its function's.
-void tasks_made_add(struct tasks_made *made, struct task *task, int record)
+// Gives a task that is created its number, and its function's.
+void tasks_made_add(struct tasks_made *made, const struct call *call, int record)
 {
+    struct task *task = call->task;
     if (made->count == made->room) {
         made->room = grown(made->room);
         made->tasks = realloc(made->tasks, made->room * sizeof *made->tasks);
@@ -44,6 +45,8 @@ void tasks_made_add(struct tasks_made *made, struct task *task, int record)
     made->tasks[made->count++] = task;
     task->number = made->count;
     task->code = code_of(made, task->function, record);
+    task->has_items = call->items != NULL;
+    made->with_items += task->has_items && !task->is_undeferred;
 }
 
 // Begins the task that a member is to execute.
@@ -51,9 +54,11 @@ static void begin(struct tasks_made *made, struct task **current, const struct r
 {
     unsigned long number = reply->count;
     struct task *task = number > 0 && number <= made->count ? made->tasks[number - 1] : NULL;
-    if (task == NULL || task->is_begun || reply->argument != number || reply->code != task->code)
-        end_by_fault("the engine answered 'run %lu %lu %lu', and no such task waits", number, reply->code,
-                     reply->argument);
+    if (task == NULL || task->is_begun || reply->argument != number || reply->code != task->code ||
+        reply->is_own != task->is_undeferred)
+        end_by_fault("the engine answered 'run %lu %lu %lu%s', and no such task waits", number, reply->code,
+                     reply->argument, reply->is_own ? " own" : "");
+    made->with_items -= task->has_items && !task->is_undeferred;
     task->is_begun = true;
     task->beneath = *current;
     *current = task;
@@ -64,6 +69,9 @@ static void end(struct tasks_made *made, struct task **current, const struct rep
     struct task *task = *current;
     if (task == NULL || task->number != reply->count)
         end_by_fault("the engine answered 'task_done %lu' to the end of another task", reply->count);
+    if (reply->is_waiting == task->is_undeferred)
+        end_by_fault("the engine answered 'task_done %lu %s' to the end of a task that is %s", reply->count,
+                     reply->is_waiting ? "waiting" : "free", task->is_undeferred ? "undeferred" : "deferred");
     made->tasks[task->number - 1] = NULL;
     *current = task->beneath;
 }
@@ -87,5 +95,6 @@ void tasks_made_free(struct tasks_made *made)
         free(made->tasks[i]);
     free(made->tasks);
     free(made->functions);
+    addresses_free(&made->addresses);
     *made = (struct tasks_made){0};
 }

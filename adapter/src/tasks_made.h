@@ -13,7 +13,9 @@ struct task {
     void (*function)(void *);
     void *data;
     struct variables variables;
-    bool is_begun;
+    bool has_false_if, has_final; // its clauses
+    bool is_final, is_undeferred; // these, or a parent that is final
+    bool has_items, is_begun;
     struct task *beneath; // the one that its member has begun before and not ended, NULL for none
     char bytes[];         // the data stand here, aligned
 };
@@ -23,9 +25,11 @@ struct tasks_made {
     size_t count, room;
     void (**functions)(void *); // by code, from 1
     size_t functions_count, functions_room;
+    struct addresses addresses; // of depend clauses
+    size_t with_items;          // deferred tasks with a depend clause that are not begun
 };
 
-void tasks_made_add(struct tasks_made *made, struct task *task, int record);
+void tasks_made_add(struct tasks_made *made, const struct call *call, int record);
 void tasks_made_note(struct tasks_made *made, struct task **current, const struct reply *reply);
 void tasks_made_free(struct tasks_made *made);
 void *task_function(const struct task *task);

@@ -72,6 +72,7 @@ static enum wait waits_for(const struct call *call)
     case CALL_BARRIER:
     case CALL_BARRIER_OF_SHARE:
     case CALL_REGION_END: return WAIT_ARRIVAL;
+    case CALL_TASK: // an undeferred one
     case CALL_TASKWAIT: return WAIT_CHILDREN;
     case CALL_GROUP_END: return WAIT_GROUP;
     case CALL_LOOP_NEXT:
@@ -261,11 +262,21 @@ static void let_others_pass(struct team *team, unsigned let)
         let = ask_again(team, let);
 }
 
-// Who waits at a barrier is asked first, since it may begin any task.
-static void offer_task(struct team *team)
+// Who waits at a barrier is asked first, since it may begin any task; if it has to wait, so have the others
+// there. Answers whether a member is woken.
+static bool offer_task(struct team *team)
 {
-    if (!hand_on(team, WAIT_ARRIVAL, NULL))
-        hand_on(team, WAIT_CHILDREN | WAIT_GROUP, NULL);
+    int first = next_waiter(team, WAIT_ARRIVAL, NULL, 0);
+    if (first >= 0 && ask_one(team, first))
+        return true;
+    return hand_on(team, WAIT_CHILDREN | WAIT_GROUP, NULL);
+}
+
+// Offers the tasks that the end of one may have freed: which these are the engine alone knows.
+static void offer_freed(struct team *team)
+{
+    while (team->tasks_made.with_items > 0 && team->waiting > 0 && offer_task(team))
+        ;
 }
 
 // The member that executes the task which has created this one; -1 if there is none.
@@ -290,14 +301,16 @@ static void let_waiters_for_task_pass(struct team *team, const struct task *ende
 // Wakes those whom a call lets go on that was not answered `wait`.
 static void wake_others(struct team *team, const struct call *call, const struct reply *reply)
 {
-    if (frees_hold(call, reply))
+    if (frees_hold(call, reply)) {
         hand_on(team, WAIT_HOLD, call);
-    else if (call->kind == CALL_TASK)
-        offer_task(team);
-    else if (call->kind == CALL_TASK_END)
+    } else if (call->kind == CALL_TASK_END) {
         let_waiters_for_task_pass(team, call->task);
-    else
+        offer_freed(team);
+    } else if (reply->kind == REPLY_CREATED) {
+        offer_task(team);
+    } else {
         let_others_pass(team, lets_pass(call, reply));
+    }
 }
 
 static struct reply wait_for_reply(struct team *team, int number, const struct call *call)
@@ -347,12 +360,14 @@ static struct reply make_step(struct team *team, int number, const struct call *
 // member asks again.
 struct reply team_call(struct team *team, int number, const struct call *call)
 {
-    char line[LINE_SIZE];
+    char line[CALL_LINE_SIZE];
     pthread_mutex_lock(&team->lock);
     if (call_is_on_lock(call))
         locks_made_record(&team->locks_made, team->record, number);
     if (call->kind == CALL_TASK)
-        tasks_made_add(&team->tasks_made, call->task, team->record);
+        tasks_made_add(&team->tasks_made, call, team->record);
+    if (call->items != NULL)
+        items_number(call->items, &team->tasks_made.addresses);
     return make_step(team, number, call, line, call_line(call, number, line));
 }
 

@@ -73,7 +73,7 @@ pub tasks_are_seen : (task m : ℕ) (parent : Task) (desc : TaskDesc) → (IsAsi
 tasks_are_seen task m parent desc = (λ is. is, λ is. is)
 
 -- not its start, nor what a task waits for
-pub starts_are_aside : (task group m : ℕ) → IsAside (Start task m) × IsAside (Group group m) × IsAside (GroupEnd group m) × IsAside (Waited m)
+pub starts_are_aside : (task group m : ℕ) → IsAside (Start task m) × IsAside (Group group m) × IsAside (GroupEnd group m) × IsAside (Waited m [])
 starts_are_aside task group m = (tt, tt, tt, tt)
 
 -- and nothing else

@@ -220,7 +220,7 @@ release_the_other_parity may = absurd (let parity = may.parity in cc)
 -- the one member of a new team creates a task, and ends it
 pub one_task_stands : Stands (barriers_with (new_seat ∷ []) new_front (bound_with 1 0)) (creates 1 0 (Implicit 0) ∷ [])
 one_task_stands =
-    task_bound (new_seat ∷ []) new_front no_tasks 1 0 (Implicit 0) (record { code = 0; arg = 0 }) false [] (new_barriers_stand (new_seat ∷ []) 1 (omega arith) refl)
+    task_bound (new_seat ∷ []) new_front no_tasks 1 0 (Implicit 0) (record { code = 0; arg = 0; undeferred = false; final_task = false; deps = [] }) false [] (new_barriers_stand (new_seat ∷ []) 1 (omega arith) refl)
     (record { number = refl; parent_is = omega arith; parity = refl })
 
 pub ended_task_stands : Stands (barriers_with (new_seat ∷ []) new_front no_tasks) (Done 1 0 ∷ creates 1 0 (Implicit 0) ∷ [])

@@ -33,7 +33,7 @@ first_left = Pass 1 0 ∷ Arrive 1 0 at_end_tag ∷ Pass 0 0 ∷ second_ahead
 
 -- a member creates a task
 abbrev pub creates : ℕ → ℕ → Task → Event
-creates task member parent = Create task member parent (record { code = 0; arg = 0 })
+creates task member parent = Create task member parent (record { code = 0; arg = 0; undeferred = false; final_task = false; deps = [] })
 
 -- the first member creates a task, and a child of it; then both arrive at the first barrier
 abbrev pub two_tasks : List Event

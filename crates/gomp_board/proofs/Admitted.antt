@@ -64,7 +64,7 @@ pub create_few : (limits : Limits) (room kept m : ℕ) (desc : TaskDesc) (h : Li
 create_few limits room kept m desc h fine = leb-false limits.tasks (tasks_created h) (tests_fail limits room kept m (Create desc) h fine).1.1.0
 
 pub create_room : (limits : Limits) (room kept m : ℕ) (desc : TaskDesc) (h : List Event) → op_refusal limits room kept m (Create desc) h ≡ None → room + task_room ≤ limits.events
-create_room limits room kept m desc h fine = ltb-false limits.events (room + task_room) (tests_fail limits room kept m (Create desc) h fine).1.1.1.0
+create_room limits room kept m desc h fine = ltb-false limits.events (room + task_room) (tests_fail limits room kept m (Create desc) h fine).1.1.1.1.0
 
 -- it ends one
 pub end_within : (limits : Limits) (room kept m : ℕ) (h : List Event) → op_refusal limits room kept m EndTask h ≡ None → in_task m h ≡ true

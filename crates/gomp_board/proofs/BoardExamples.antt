@@ -73,11 +73,11 @@ pub performed_with_another_event : (board : BoardView) (h : List Event) → Stan
 performed_with_another_event board h st does = absurd (let now = (does.stands h st).history in cc)
 
 -- the limits stay
-pub performed_with_other_limits : (board : BoardView) → Leaves AwaitChildren board (record board { limits = record board.limits { tasks = board.limits.tasks + 1 } }) Passed
+pub performed_with_other_limits : (board : BoardView) → Leaves (AwaitChildren []) board (record board { limits = record board.limits { tasks = board.limits.tasks + 1 } }) Passed
 performed_with_other_limits board does = let tasks = ap (λ (limits : Limits). limits.tasks) does.limits in omega (arith, tasks)
 
 -- so does the number of members
-pub performed_with_another_member : (board : BoardView) → Leaves AwaitChildren board (keeping (0 ∷ board.kept) board) Passed
+pub performed_with_another_member : (board : BoardView) → Leaves (AwaitChildren []) board (keeping (0 ∷ board.kept) board) Passed
 performed_with_another_member board does = let members = does.members in omega (arith, members)
 
 -- the room that it asks for is taken
@@ -109,7 +109,7 @@ refused_and_changed board = (
 )
 
 -- nor does a wait that goes on
-pub waited_and_changed : (board : BoardView) → Leaves AwaitChildren board (longer board) Wait × Leaves EndGroup board (longer board) Wait × Leaves AwaitBarrier board (longer board) Wait
+pub waited_and_changed : (board : BoardView) → Leaves (AwaitChildren []) board (longer board) Wait × Leaves EndGroup board (longer board) Wait × Leaves AwaitBarrier board (longer board) Wait
 waited_and_changed board = (
   λ does. never_longer board (ap (λ (b : BoardView). b.history) (does.waits refl refl)),
   λ does. never_longer board (ap (λ (b : BoardView). b.history) (does.waits refl refl)),
@@ -119,6 +119,6 @@ waited_and_changed board = (
 -- these three go on with a wait, and no other operation
 pub operations_that_go_on :
     map goes_on_waiting
-    (CreateTask seven ∷ EndTask ∷ AwaitChildren ∷ OpenGroup ∷ EndGroup ∷ ArriveAt (at Barrier 0) ∷ AwaitBarrier ∷ Reserve 4 ∷ PutWords 3 words ∷ GiveWords 3 words ∷ BreakAt AtStop ∷ [])
+    (CreateTask seven ∷ EndTask ∷ AwaitChildren [] ∷ OpenGroup ∷ EndGroup ∷ ArriveAt (at Barrier 0) ∷ AwaitBarrier ∷ Reserve 4 ∷ PutWords 3 words ∷ GiveWords 3 words ∷ BreakAt AtStop ∷ [])
     ≡ false ∷ false ∷ true ∷ false ∷ true ∷ false ∷ true ∷ false ∷ false ∷ false ∷ false ∷ []
 operations_that_go_on = refl

@@ -16,6 +16,7 @@ use Rattle.gomp_barrier.specs.declared.barriers.AtBarrier.{AtBarrier}
 use Rattle.gomp_barrier.specs.Calls.{barrier_seen}
 use Rattle.gomp_barrier.specs.Stands.{BarriersView, Stands as BarriersStand, members_of as barrier_members}
 use Rattle.gomp_barrier.proofs.Laws.{events_aside_keep_barriers}
+use Rattle.gomp_depend.proofs.Laws.{events_aside_keep_depends}
 use Rattle.gomp_board.specs.Owed.{owed}
 use Rattle.gomp_board.specs.Ops.{arrival_asks, arrival_keeps}
 use Rattle.gomp_board.specs.Boards.{BoardView, Stands, HasMembers, HasSpare, IsBoard, ArrivesFirst, members_of, kept_by}
@@ -37,14 +38,14 @@ executed_task_seated space board m task is low executes =
 
 -- room changes nothing of what it stands for
 pub roomy_stands : (b : BoardView) (room : ℕ) (h : List Event) → Stands b h → Stands (record b { room = room }) h
-roomy_stands b room h st = record { tasks = st.tasks; groups = st.groups; barriers = st.barriers; ready = st.ready; clash = st.clash; payloads = st.payloads; history = st.history }
+roomy_stands b room h st = record { tasks = st.tasks; groups = st.groups; barriers = st.barriers; depends = st.depends; ready = st.ready; clash = st.clash; payloads = st.payloads; history = st.history }
 
 pub stands_before : (b : BoardView) (room : ℕ) (h : List Event) → Stands (record b { room = room }) h → Stands b h
-stands_before b room h st = record { tasks = st.tasks; groups = st.groups; barriers = st.barriers; ready = st.ready; clash = st.clash; payloads = st.payloads; history = st.history }
+stands_before b room h st = record { tasks = st.tasks; groups = st.groups; barriers = st.barriers; depends = st.depends; ready = st.ready; clash = st.clash; payloads = st.payloads; history = st.history }
 
 -- nor does what a member keeps
 pub keeping_stands : (b : BoardView) (room : ℕ) (kept : List ℕ) (h : List Event) → Stands b h → Stands (record b { room = room; kept = kept }) h
-keeping_stands b room kept h st = record { tasks = st.tasks; groups = st.groups; barriers = st.barriers; ready = st.ready; clash = st.clash; payloads = st.payloads; history = st.history }
+keeping_stands b room kept h st = record { tasks = st.tasks; groups = st.groups; barriers = st.barriers; depends = st.depends; ready = st.ready; clash = st.clash; payloads = st.payloads; history = st.history }
 
 pub keeping_board : (space m more : ℕ) (b : BoardView) → IsBoard space b → m < members_of b → HasSpare more b → IsBoard space (record b { kept = slice_set b.kept m (kept_by m b + more) })
 keeping_board space m more b is low spare =
@@ -75,6 +76,7 @@ arrived_stands b history barriers kept m barrier tag h more next st = record {
   tasks = events_aside_keep_tasks b.tasks h (Arrive barrier m tag) tt tt st.tasks;
   groups = events_aside_keep_groups b.groups h (Arrive barrier m tag) tt tt st.groups;
   barriers = next;
+  depends = events_aside_keep_depends b.depends h (Arrive barrier m tag) tt st.depends;
   ready = record { ready = st.ready.ready; apart = st.ready.apart };
   clash = st.clash;
   payloads = payloads_stay b.payloads (Arrive barrier m tag) h tt st.payloads;
@@ -94,6 +96,7 @@ passed_stands b history barriers m barrier h more next st = record {
   tasks = events_aside_keep_tasks b.tasks h (Pass barrier m) tt tt st.tasks;
   groups = events_aside_keep_groups b.groups h (Pass barrier m) tt tt st.groups;
   barriers = next;
+  depends = events_aside_keep_depends b.depends h (Pass barrier m) tt st.depends;
   ready = record { ready = st.ready.ready; apart = st.ready.apart };
   clash = st.clash;
   payloads = payloads_stay b.payloads (Pass barrier m) h tt st.payloads;
@@ -112,6 +115,7 @@ broken_stands b history m place h more whole st = record {
   tasks = events_aside_keep_tasks b.tasks h (Break m place) tt tt st.tasks;
   groups = events_aside_keep_groups b.groups h (Break m place) tt tt st.groups;
   barriers = events_aside_keep_barriers b.barriers h (Break m place) tt st.barriers;
+  depends = events_aside_keep_depends b.depends h (Break m place) tt st.depends;
   ready = record { ready = st.ready.ready; apart = st.ready.apart };
   clash = rw (st.clash ∙ whole) refl;
   payloads = payloads_stay b.payloads (Break m place) h tt st.payloads;

@@ -11,7 +11,9 @@ use Rattle.gomp_groups.specs.Calls.{IsAside as GroupsAside}
 use Rattle.gomp_groups.specs.Stands.{members_of as group_members}
 use Rattle.gomp_groups.proofs.Laws.{events_aside_keep_groups}
 use Rattle.gomp_barrier.specs.Calls.{IsAside as BarriersAside}
+use Rattle.gomp_depend.specs.Calls.{IsAside as DependsAside}
 use Rattle.gomp_barrier.proofs.Laws.{events_aside_keep_barriers}
+use Rattle.gomp_depend.proofs.Laws.{events_aside_keep_depends}
 use Rattle.gomp_board.specs.Stored.{is_stored, IsAside, AreAside}
 use Rattle.gomp_board.specs.Boards.{BoardView, Stands}
 use Rattle.gomp_board.proofs.PayloadsKeep.{IsNoPut, payloads_stay}
@@ -41,6 +43,11 @@ unstored_by_barriers (Create t m parent desc) e = absurd (cc)
 unstored_by_barriers (Done t m) e = absurd (cc)
 unstored_by_barriers _ e = tt
 
+unstored_by_depends : (event : Event) → is_stored event ≡ false → DependsAside event
+unstored_by_depends (Create t m parent desc) e = absurd (cc)
+unstored_by_depends (Done t m) e = absurd (cc)
+unstored_by_depends _ e = tt
+
 unstored_by_ready : (event : Event) → is_stored event ≡ false → ReadyAside event
 unstored_by_ready (Create t m parent desc) e = absurd (cc)
 unstored_by_ready (Start t m) e = absurd (cc)
@@ -62,6 +69,7 @@ event_unstored_keeps_board board event h is tasks groups st = record {
   tasks = events_aside_keep_tasks board.tasks h event (unstored_by_tasks event is) tasks st.tasks;
   groups = events_aside_keep_groups board.groups h event (unstored_by_groups event is) groups st.groups;
   barriers = events_aside_keep_barriers board.barriers h event (unstored_by_barriers event is) st.barriers;
+  depends = events_aside_keep_depends board.depends h event (unstored_by_depends event is) st.depends;
   ready = aside_ready event board.ready h (unstored_by_ready event is) st.ready;
   clash = unstored_keeps_clash event h is ∙ st.clash;
   payloads = payloads_stay board.payloads event h (unstored_by_payloads event is) st.payloads;
@@ -88,7 +96,7 @@ aside_allowed members (Start t m) h is = absurd is
 aside_allowed members (Done t m) h is = absurd is
 aside_allowed members (Group q m) h is = absurd is
 aside_allowed members (GroupEnd q m) h is = absurd is
-aside_allowed members (Waited m) h is = absurd is
+aside_allowed members (Waited m items) h is = absurd is
 aside_allowed members _ h is = tt
 
 -- so what a member does in its shares changes nothing of a board, nor what names and locks keep

@@ -3,6 +3,8 @@ pub mod AdmittedArrivals
 pub mod ArrivalPerformed
 pub mod BarrierNumbers
 pub mod BoardExamples
+pub mod Creators
+pub mod Freed
 pub mod GroupsOpen
 pub mod Joined
 pub mod Laws

@@ -30,29 +30,29 @@ wrong_task_end_answers = search rules
 -- Taskwaits
 
 -- passed if all children are complete
-pub taskwait_passed : Allows AwaitChildren one_done Passed
+pub taskwait_passed : Allows (AwaitChildren []) one_done Passed
 taskwait_passed = search rules
 
-pub wrong_at_passed_taskwait : ExcludesEach AwaitChildren one_done (Wait ∷ Run 1 7 9 false ∷ Finished ∷ [])
+pub wrong_at_passed_taskwait : ExcludesEach (AwaitChildren []) one_done (Wait ∷ Run 1 7 9 false ∷ Finished ∷ [])
 wrong_at_passed_taskwait = search rules
 
 -- else a task that may be started is run
-pub taskwait_runs : Allows AwaitChildren one_ready (Run 1 7 9 false)
+pub taskwait_runs : Allows (AwaitChildren []) one_ready (Run 1 7 9 false)
 taskwait_runs = search rules
 
 pub wrong_at_running_taskwait :
-    ExcludesEach AwaitChildren one_ready (Passed ∷ Wait ∷ Run 2 7 9 false ∷ Run 1 8 9 false ∷ Run 1 7 8 false ∷ Run 1 7 9 true ∷ [])
+    ExcludesEach (AwaitChildren []) one_ready (Passed ∷ Wait ∷ Run 2 7 9 false ∷ Run 1 8 9 false ∷ Run 1 7 8 false ∷ Run 1 7 9 true ∷ [])
 wrong_at_running_taskwait = search rules
 
 -- or, if another member runs it, the member waits
-pub taskwait_waits : Allows AwaitChildren other_runs Wait
+pub taskwait_waits : Allows (AwaitChildren []) other_runs Wait
 taskwait_waits = search rules
 
-pub wrong_at_waiting_taskwait : ExcludesEach AwaitChildren other_runs (Passed ∷ Run 1 7 9 false ∷ [])
+pub wrong_at_waiting_taskwait : ExcludesEach (AwaitChildren []) other_runs (Passed ∷ Run 1 7 9 false ∷ [])
 wrong_at_waiting_taskwait = search rules
 
 -- a task of another member does not count
-pub taskwait_of_another : Allows AwaitChildren (Create 1 1 (Implicit 1) seven ∷ []) Passed
+pub taskwait_of_another : Allows (AwaitChildren []) (Create 1 1 (Implicit 1) seven ∷ []) Passed
 taskwait_of_another = search rules
 
 -- Groups
@@ -217,7 +217,7 @@ no_memory_for_room = search rules
 pub no_memory_at_task_end : Excludes EndTask one_runs (Refused NoMemory)
 no_memory_at_task_end = search rules
 
-pub no_memory_at_taskwait : Excludes AwaitChildren one_ready (Refused NoMemory)
+pub no_memory_at_taskwait : Excludes (AwaitChildren []) one_ready (Refused NoMemory)
 no_memory_at_taskwait = search rules
 
 pub no_memory_at_group_end : Excludes EndGroup group_ready (Refused NoMemory)

@@ -31,14 +31,14 @@ words_ask_alike = (refl, refl)
 -- each operation asks for so much if its member has kept two
 pub operations_ask :
     map (λ op. op_asks op 2)
-    (CreateTask seven ∷ EndTask ∷ AwaitChildren ∷ OpenGroup ∷ EndGroup ∷ ArriveAt (at Barrier 0) ∷ ArriveAt (at ShareEnd 0) ∷ ArriveAt (at RegionEnd 0) ∷ AwaitBarrier ∷ Reserve 0 ∷ Reserve 4 ∷ PutWords 3 words ∷ GiveWords 3 words ∷ BreakAt AtStop ∷ [])
+    (CreateTask seven ∷ EndTask ∷ AwaitChildren [] ∷ OpenGroup ∷ EndGroup ∷ ArriveAt (at Barrier 0) ∷ ArriveAt (at ShareEnd 0) ∷ ArriveAt (at RegionEnd 0) ∷ AwaitBarrier ∷ Reserve 0 ∷ Reserve 4 ∷ PutWords 3 words ∷ GiveWords 3 words ∷ BreakAt AtStop ∷ [])
     ≡ 3 ∷ 0 ∷ 0 ∷ 2 ∷ 0 ∷ 2 ∷ 0 ∷ 0 ∷ 0 ∷ 0 ∷ 4 ∷ 0 ∷ 0 ∷ 0 ∷ []
 operations_ask = refl
 
 -- so for memory: those that ask for room
 pub operations_take_memory :
     map (λ op. asks_memory op 1)
-    (CreateTask seven ∷ EndTask ∷ AwaitChildren ∷ OpenGroup ∷ EndGroup ∷ ArriveAt (at Barrier 0) ∷ ArriveAt (at ShareEnd 0) ∷ ArriveAt (at RegionEnd 0) ∷ AwaitBarrier ∷ Reserve 0 ∷ Reserve 4 ∷ PutWords 3 words ∷ GiveWords 3 words ∷ BreakAt AtStop ∷ [])
+    (CreateTask seven ∷ EndTask ∷ AwaitChildren [] ∷ OpenGroup ∷ EndGroup ∷ ArriveAt (at Barrier 0) ∷ ArriveAt (at ShareEnd 0) ∷ ArriveAt (at RegionEnd 0) ∷ AwaitBarrier ∷ Reserve 0 ∷ Reserve 4 ∷ PutWords 3 words ∷ GiveWords 3 words ∷ BreakAt AtStop ∷ [])
     ≡ true ∷ false ∷ false ∷ true ∷ false ∷ true ∷ true ∷ false ∷ false ∷ false ∷ true ∷ false ∷ false ∷ false ∷ []
 operations_take_memory = refl
 
@@ -58,14 +58,14 @@ words_keep_room = refl
 -- a member keeps more after it has reserved it
 pub operations_keep_room :
     map (λ op. op_keeps op 3)
-    (CreateTask seven ∷ EndTask ∷ AwaitChildren ∷ OpenGroup ∷ EndGroup ∷ ArriveAt (at Barrier 0) ∷ ArriveAt (at ShareEnd 0) ∷ ArriveAt (at RegionEnd 0) ∷ AwaitBarrier ∷ Reserve 4 ∷ PutWords 3 words ∷ GiveWords 3 words ∷ BreakAt AtStop ∷ [])
+    (CreateTask seven ∷ EndTask ∷ AwaitChildren [] ∷ OpenGroup ∷ EndGroup ∷ ArriveAt (at Barrier 0) ∷ ArriveAt (at ShareEnd 0) ∷ ArriveAt (at RegionEnd 0) ∷ AwaitBarrier ∷ Reserve 4 ∷ PutWords 3 words ∷ GiveWords 3 words ∷ BreakAt AtStop ∷ [])
     ≡ 3 ∷ 3 ∷ 3 ∷ 3 ∷ 3 ∷ 3 ∷ 1 ∷ 3 ∷ 3 ∷ 7 ∷ 2 ∷ 2 ∷ 3 ∷ []
 operations_keep_room = refl
 
 -- Tests of every operation
 
 abbrev all_operations : List Op
-all_operations = CreateTask seven ∷ EndTask ∷ AwaitChildren ∷ OpenGroup ∷ EndGroup ∷ AwaitGroup ∷ ArriveAt (at Barrier 0) ∷ AwaitBarrier ∷ Reserve 4 ∷ PutWords 3 words ∷ GiveWords 3 words ∷ BreakAt AtStop ∷ []
+all_operations = CreateTask seven ∷ EndTask ∷ AwaitChildren [] ∷ OpenGroup ∷ EndGroup ∷ AwaitGroup ∷ ArriveAt (at Barrier 0) ∷ AwaitBarrier ∷ Reserve 4 ∷ PutWords 3 words ∷ GiveWords 3 words ∷ BreakAt AtStop ∷ []
 
 -- a member that has left the region
 pub refused_after_the_region :
@@ -80,8 +80,8 @@ pub refused_in_a_broken_team :
 refused_in_a_broken_team = refl
 
 pub each_refused_in_a_broken_team :
-    map (λ op. usual_refusal op stopped) (EndTask ∷ AwaitChildren ∷ OpenGroup ∷ AwaitGroup ∷ ArriveAt (at Barrier 0) ∷ AwaitBarrier ∷ Reserve 4 ∷ PutWords 3 words ∷ GiveWords 3 words ∷ [])
-    ≡ map (λ op. Some (Broken (record { member = 1; place = AtStop }))) (EndTask ∷ AwaitChildren ∷ OpenGroup ∷ AwaitGroup ∷ ArriveAt (at Barrier 0) ∷ AwaitBarrier ∷ Reserve 4 ∷ PutWords 3 words ∷ GiveWords 3 words ∷ [])
+    map (λ op. usual_refusal op stopped) (EndTask ∷ AwaitChildren [] ∷ OpenGroup ∷ AwaitGroup ∷ ArriveAt (at Barrier 0) ∷ AwaitBarrier ∷ Reserve 4 ∷ PutWords 3 words ∷ GiveWords 3 words ∷ [])
+    ≡ map (λ op. Some (Broken (record { member = 1; place = AtStop }))) (EndTask ∷ AwaitChildren [] ∷ OpenGroup ∷ AwaitGroup ∷ ArriveAt (at Barrier 0) ∷ AwaitBarrier ∷ Reserve 4 ∷ PutWords 3 words ∷ GiveWords 3 words ∷ [])
 each_refused_in_a_broken_team = refl
 
 -- a member that has left is told so, in a broken team too
@@ -235,7 +235,7 @@ after_a_task = refl
 
 -- after a taskwait that is passed, that runs a task, or that waits
 pub after_a_taskwait :
-    map (λ reply. op_after 0 AwaitChildren reply one_ready) (Passed ∷ Run 1 7 9 false ∷ Wait ∷ []) ≡ (Waited 0 ∷ one_ready) ∷ one_runs ∷ one_ready ∷ []
+    map (λ reply. op_after 0 (AwaitChildren []) reply one_ready) (Passed ∷ Run 1 7 9 false ∷ Wait ∷ []) ≡ (Waited 0 [] ∷ one_ready) ∷ one_runs ∷ one_ready ∷ []
 after_a_taskwait = refl
 
 -- after a group was opened, and after its end is passed, runs a task, or waits

@@ -30,7 +30,7 @@ pub newer_take_the_place : (newest_put 3 (Put 11 1 [] ∷ third_put) ≡ kept_in
 newer_take_the_place = (refl, refl)
 
 -- others do not, nor words that are given to a member, nor another event
-pub others_leave_the_place : map (λ event. newest_put 3 (event ∷ third_put)) (Put 4 1 [] ∷ Got 11 1 [] ∷ Waited 0 ∷ []) ≡ kept_in 3 words ∷ kept_in 3 words ∷ kept_in 3 words ∷ []
+pub others_leave_the_place : map (λ event. newest_put 3 (event ∷ third_put)) (Put 4 1 [] ∷ Got 11 1 [] ∷ Waited 0 [] ∷ []) ≡ kept_in 3 words ∷ kept_in 3 words ∷ kept_in 3 words ∷ []
 others_leave_the_place = refl
 
 -- The words of a share

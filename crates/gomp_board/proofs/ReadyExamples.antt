@@ -7,17 +7,17 @@ use Rattle.gomp_types.specs.declared.event.Event.TheVariants.{Create, Start, Don
 use Rattle.gomp_types.specs.declared.refusal.Place.TheVariants.{Stopped}
 use Rattle.gomp_types.specs.Laws.{Always}
 use Rattle.gomp_types.specs.Tasks.{contains}
-use Rattle.gomp_types.specs.Goals.{is_ready}
 use Rattle.gomp_types.specs.TaskRules.{TaskRule}
-use Rattle.gomp_board.specs.ReadyTasks.{Apart, AreReady}
+use Rattle.gomp_board.specs.ReadyTasks.{is_listed, Apart, AreReady}
+use Rattle.gomp_types.specs.TaskExamples.{job_with}
 use Rattle.gomp_board.proofs.ReadyKeeps.{none_ready, created_ready, started_ready, ended_ready, aside_ready}
 
 -- the first member of a team of two creates a task, and the second another
 abbrev one_created : List Event
-one_created = Create 1 0 (Implicit 0) (record { code = 7; arg = 9 }) ∷ []
+one_created = Create 1 0 (Implicit 0) (job_with 7 9 []) ∷ []
 
 abbrev two_created : List Event
-two_created = Create 2 1 (Implicit 1) (record { code = 5; arg = 0 }) ∷ one_created
+two_created = Create 2 1 (Implicit 1) (job_with 5 0 []) ∷ one_created
 
 -- the first member starts the first task, and ends it
 abbrev one_started : List Event
@@ -26,8 +26,8 @@ one_started = Start 1 0 ∷ two_created
 abbrev one_done : List Event
 one_done = Done 1 0 ∷ one_started
 
-created_so : Always (TaskRule 2) one_created
-created_so = (record { member = omega arith; number = refl; current = refl; away = λ out. refl; shallow = omega arith }, tt)
+one_created_keeps_rules : Always (TaskRule 2) one_created
+one_created_keeps_rules = (record { member = omega arith; number = refl; current = refl; away = λ out. refl; shallow = omega arith }, tt)
 
 -- no task is ready at the beginning
 pub none_at_first : AreReady [] []
@@ -35,10 +35,10 @@ none_at_first = none_ready
 
 -- then those that were created, in their order
 pub first_is_ready : AreReady (1 ∷ []) one_created
-first_is_ready = created_ready 2 1 0 (Implicit 0) (record { code = 7; arg = 9 }) [] [] tt refl none_ready
+first_is_ready = created_ready 2 1 0 true (Implicit 0) (job_with 7 9 []) [] [] tt refl refl none_ready
 
 pub both_are_ready : AreReady (1 ∷ 2 ∷ []) two_created
-both_are_ready = created_ready 2 2 1 (Implicit 1) (record { code = 5; arg = 0 }) (1 ∷ []) one_created created_so refl first_is_ready
+both_are_ready = created_ready 2 2 1 true (Implicit 1) (job_with 5 0 []) (1 ∷ []) one_created one_created_keeps_rules refl refl first_is_ready
 
 -- or in another order
 pub order_is_free : AreReady (2 ∷ 1 ∷ []) two_created
@@ -88,7 +88,7 @@ pub one_is_in_twice : AreReady (1 ∷ 1 ∷ []) one_created → ⊥
 one_is_in_twice are = absurd (let e = are.apart.0 in cc)
 
 -- that list has the tasks that are ready, and no others: it is the second line that refuses it
-pub twice_has_the_same : (t : ℕ) → contains t (1 ∷ 1 ∷ []) ≡ is_ready t one_created
+pub twice_has_the_same : (t : ℕ) → contains t (1 ∷ 1 ∷ []) ≡ is_listed t one_created
 twice_has_the_same t = once (1 == t) ∙ first_is_ready.ready t
   where
     once : (b : Bool) → (b || (b || false)) ≡ (b || false)

@@ -1,5 +1,5 @@
 -- The list of the tasks that may be started after each event of tasks, and what it tells of them.
-use Rattle.std.proofs.Common.{◌≡◌, ℕ, ◌<◌, ◌≤◌, Bool, true, false, List, [], ◌∷◌, ◌++◌, Some, refl, ap, ◌∙◌, sym, subst, arith, suc, zero, inl, inr, length, slice_get}
+use Rattle.std.proofs.Common.{◌≡◌, ℕ, ◌<◌, Bool, true, false, List, [], ◌∷◌, ◌++◌, Some, refl, ap, ◌∙◌, sym, subst, arith, suc, zero, inl, inr, length, slice_get}
 use Rattle.std.specs.Prelude.{◌&&◌, ◌||◌, ◌==◌, nat_lt, nat_le, not, slice_index_or}
 use Rattle.std.specs.List.{remove}
 use Rattle.std.proofs.lemmas.Bool.{cases_Bool, or_parts}
@@ -10,20 +10,21 @@ use Rattle.gomp_types.specs.declared.task.TaskDesc.{TaskDesc}
 use Rattle.gomp_types.specs.declared.event.Event.{Event}
 use Rattle.gomp_types.specs.declared.event.Event.TheVariants.{Create, Start, Done}
 use Rattle.gomp_types.specs.Laws.{Always}
-use Rattle.gomp_types.specs.Tasks.{contains, tasks_created, executed_task, is_created, has_started, is_complete}
-use Rattle.gomp_types.specs.Goals.{is_ready, may_start, some_startable}
+use Rattle.gomp_types.specs.Tasks.{contains, tasks_created, executed_task, is_created, has_started, is_complete, is_undeferred, becomes_undeferred}
+use Rattle.gomp_types.specs.Depends.{task_items}
+use Rattle.gomp_types.specs.Goals.{is_unstarted}
 use Rattle.gomp_types.specs.TaskRules.{TaskRule}
-use Rattle.gomp_types.proofs.Booleans.{and_left, and_false, or_tells, or_right, same_number, other_number, is_equal, not_both, every_by}
-use Rattle.gomp_types.proofs.OpenTasks.{created_low, created_high}
+use Rattle.gomp_types.proofs.Booleans.{and_left, and_right, and_false, false_of_not, or_tells, or_right, same_number, other_number, is_equal, not_both}
 use Rattle.gomp_types.proofs.Suspended.{runner_has_started, current_open}
 use Rattle.gomp_types.proofs.TaskRoom.{uncreated_not_started}
-use Rattle.gomp_board.specs.ReadyTasks.{Apart, AreReady}
+use Rattle.gomp_depend.specs.Stands.{has_items}
+use Rattle.gomp_board.specs.ReadyTasks.{is_listed, listed_with, Apart, AreReady}
 
 -- Lists of numbers
 
-and_true : (b : Bool) → (b && true) ≡ b
-and_true true = refl
-and_true false = refl
+and_true_is_same : (b : Bool) → (b && true) ≡ b
+and_true_is_same true = refl
+and_true_is_same false = refl
 
 or_nothing : (b : Bool) → (b || false) ≡ b
 or_nothing true = refl
@@ -71,7 +72,7 @@ contains_remove u t (x ∷ xs) zero apart at =
           rw (same.0, gone) (sym (and_false (x == u || false) false refl))
       | inr other ↦
           let away : (x == u) ≡ false = rw first other.0 in
-          rw (other.0, away) (sym (and_true (contains u xs)))
+          rw (other.0, away) (sym (and_true_is_same (contains u xs)))
     ]
 contains_remove u t (x ∷ xs) (suc place) apart at =
     let rest = contains_remove u t xs place apart.1 at in
@@ -92,14 +93,14 @@ apart_remove t (x ∷ xs) (suc place) apart at = (
 
 -- After each event
 
--- no task may be started at the beginning
+-- no task stands there at the beginning
 no_number : (t : ℕ) → (nat_lt 0 t && nat_le t 0) ≡ false
 no_number t = grind (arith, nat_tests)
 
 pub none_ready : AreReady [] []
 none_ready = record { ready = λ t. sym (rw (no_number t) refl); apart = tt }
 
--- a task that is created is ready, the last one
+-- a task that is created comes to its end, if it is to stand there
 made_last : (u n : ℕ) → u ≡ suc n → (nat_lt 0 u && nat_le u (suc n)) ≡ true
 made_last u n e = grind (arith, nat_tests, e)
 
@@ -109,40 +110,69 @@ made_later u n e = grind (arith, nat_tests, e)
 made_before : (u n : ℕ) → (suc n == u) ≡ false → (nat_lt 0 u && nat_le u (suc n)) ≡ (nat_lt 0 u && nat_le u n)
 made_before u n other = grind (arith, nat_tests, other)
 
-new_ready : (t u m : ℕ) (p : Task) (desc : TaskDesc) (ids : List ℕ) (h : List Event) → t ≡ suc (tasks_created h) → (has_started t h ≡ false) × (is_complete t h ≡ false) → contains u ids ≡ is_ready u h → contains u (ids ++ t ∷ []) ≡ is_ready u (Create t m p desc ∷ h)
-new_ready t u m p desc ids h number new was =
+-- a list to which the task was put, or was not
+contains_listed : (listed : Bool) (u t : ℕ) (ids : List ℕ) → contains u (listed_with listed t ids) ≡ (contains u ids || (listed && (t == u)))
+contains_listed true u t ids = contains_push u t ids
+contains_listed false u t ids = sym (or_nothing (contains u ids))
+
+apart_listed : (listed : Bool) (t : ℕ) (ids : List ℕ) → Apart ids → contains t ids ≡ false → Apart (listed_with listed t ids)
+apart_listed true t ids apart new = apart_push t ids apart new
+apart_listed false t ids apart new = apart
+
+new_ready : (listed : Bool) (t u m : ℕ) (p : Task) (desc : TaskDesc) (ids : List ℕ) (h : List Event) → t ≡ suc (tasks_created h) → (has_started t h ≡ false) × (is_complete t h ≡ false) → listed ≡ (not (becomes_undeferred desc p h) && not (has_items desc.deps)) →
+    contains u ids ≡ is_listed u h → contains u (listed_with listed t ids) ≡ is_listed u (Create t m p desc ∷ h)
+new_ready listed t u m p desc ids h number new plain was =
     elim (eqb_tells t u) [
       | inl same ↦
           let last : (nat_lt 0 u && nat_le u (suc (tasks_created h))) ≡ true = made_last u (tasks_created h) (sym same.1 ∙ number) in
+          let not_yet : (nat_lt 0 u && nat_le u (tasks_created h)) ≡ false = made_later u (tasks_created h) (sym same.1 ∙ number) in
           let off : has_started u h ≡ false = subst (λ (n : ℕ). has_started n h ≡ false) same.1 new.0 in
           let incomplete : is_complete u h ≡ false = subst (λ (n : ℕ). is_complete n h ≡ false) same.1 new.1 in
-          contains_push u t ids ∙ rw (same.0, last, off, incomplete) (or_right (contains u ids) true refl)
+          let none : contains u ids ≡ false = was ∙ rw not_yet refl in
+          contains_listed listed u t ids ∙ rw (none, same.0, last, off, incomplete) (and_true_is_same listed ∙ plain)
       | inr other ↦
           let before = made_before u (tasks_created h) (subst (λ (n : ℕ). (n == u) ≡ false) number other.0) in
-          contains_push u t ids ∙ rw (other.0, before) (or_nothing (contains u ids) ∙ was)
+          contains_listed listed u t ids ∙ rw (other.0, before) (ap (λ (b : Bool). contains u ids || b) (and_false listed false refl) ∙ or_nothing (contains u ids) ∙ was)
     ]
 
-pub created_ready : (members t m : ℕ) (p : Task) (desc : TaskDesc) (ids : List ℕ) (h : List Event) → Always (TaskRule members) h → t ≡ suc (tasks_created h) → AreReady ids h → AreReady (ids ++ t ∷ []) (Create t m p desc ∷ h)
-created_ready members t m p desc ids h all number are =
+pub created_ready : (members t m : ℕ) (listed : Bool) (p : Task) (desc : TaskDesc) (ids : List ℕ) (h : List Event) → Always (TaskRule members) h → t ≡ suc (tasks_created h) → listed ≡ (not (becomes_undeferred desc p h) && not (has_items desc.deps)) →
+    AreReady ids h → AreReady (listed_with listed t ids) (Create t m p desc ∷ h)
+created_ready members t m listed p desc ids h all number plain are =
     let new = uncreated_not_started members h all t (omega (arith, number)) in
-    let not_yet : is_ready t h ≡ false = rw (made_later t (tasks_created h) number) refl in
-    record { ready = λ u. new_ready t u m p desc ids h number new (are.ready u); apart = apart_push t ids are.apart (are.ready t ∙ not_yet) }
+    let not_yet : is_listed t h ≡ false = rw (made_later t (tasks_created h) number) refl in
+    record { ready = λ u. new_ready listed t u m p desc ids h number new plain (are.ready u); apart = apart_listed listed t ids are.apart (are.ready t ∙ not_yet) }
 
 -- a task that is started no longer is
+nothing_left : (a b : Bool) → ((a && false) && b) ≡ false
+nothing_left true b = refl
+nothing_left false b = refl
+
 pub started_ready : (t m : ℕ) (ids : List ℕ) (place : ℕ) (h : List Event) → slice_get ids place ≡ Some t → AreReady ids h → AreReady (remove ids place) (Start t m ∷ h)
 started_ready t m ids place h at are = record { ready = each; apart = apart_remove t ids place are.apart at }
   where
-    each : (u : ℕ) → contains u (remove ids place) ≡ is_ready u (Start t m ∷ h)
+    each : (u : ℕ) → contains u (remove ids place) ≡ is_listed u (Start t m ∷ h)
     each u = contains_remove u t ids place are.apart at ∙ elim (cases_Bool (t == u)) [
-      | inl same ↦ rw same (and_false (contains u ids) false refl ∙ sym (and_false (is_created u h) false refl))
-      | inr other ↦ rw other (and_true (contains u ids) ∙ are.ready u)
+      | inl same ↦ rw same (and_false (contains u ids) false refl ∙ sym (nothing_left (is_created u h) (not (is_undeferred u h) && not (has_items (task_items u h)))))
+      | inr other ↦ rw other (and_true_is_same (contains u ids) ∙ are.ready u)
+    ]
+
+-- one that does not stand there changes nothing
+pub started_apart : (t m : ℕ) (ids : List ℕ) (h : List Event) → is_listed t h ≡ false → AreReady ids h → AreReady ids (Start t m ∷ h)
+started_apart t m ids h away are = record { ready = each; apart = are.apart }
+  where
+    each : (u : ℕ) → contains u ids ≡ is_listed u (Start t m ∷ h)
+    each u = are.ready u ∙ elim (eqb_tells t u) [
+      | inl same ↦
+          let gone : is_listed u h ≡ false = subst (λ (n : ℕ). is_listed n h ≡ false) same.1 away in
+          rw same.0 (gone ∙ sym (nothing_left (is_created u h) (not (is_undeferred u h) && not (has_items (task_items u h)))))
+      | inr other ↦ rw other.0 refl
     ]
 
 -- a task that is ended was not
 pub ended_ready : (t m : ℕ) (ids : List ℕ) (h : List Event) → has_started t h ≡ true → AreReady ids h → AreReady ids (Done t m ∷ h)
 ended_ready t m ids h on are = record { ready = each; apart = are.apart }
   where
-    each : (u : ℕ) → contains u ids ≡ is_ready u (Done t m ∷ h)
+    each : (u : ℕ) → contains u ids ≡ is_listed u (Done t m ∷ h)
     each u = are.ready u ∙ elim (eqb_tells t u) [
       | inl same ↦ let there : has_started u h ≡ true = subst (λ (n : ℕ). has_started n h ≡ true) same.1 on in rw there refl
       | inr other ↦ rw other.0 refl
@@ -159,7 +189,7 @@ IsAside (Done t m) = ⊥
 IsAside _ = Unit {0}
 
 -- changes nothing
-same_ready : (event : Event) (u : ℕ) (h : List Event) → IsAside event → is_ready u h ≡ is_ready u (event ∷ h)
+same_ready : (event : Event) (u : ℕ) (h : List Event) → IsAside event → is_listed u h ≡ is_listed u (event ∷ h)
 same_ready (Create t m parent desc) u h is = absurd is
 same_ready (Start t m) u h is = absurd is
 same_ready (Done t m) u h is = absurd is
@@ -170,22 +200,18 @@ aside_ready event ids h is are = record { ready = λ u. are.ready u ∙ same_rea
 
 -- What the list tells
 
--- a task at a place of the list is ready
-pub ready_at : (ids : List ℕ) (place t : ℕ) (h : List Event) → AreReady ids h → slice_get ids place ≡ Some t → is_ready t h ≡ true
+-- a task at a place of the list stands there by the events
+pub ready_at : (ids : List ℕ) (place t : ℕ) (h : List Event) → AreReady ids h → slice_get ids place ≡ Some t → is_listed t h ≡ true
 ready_at ids place t h are at = sym (are.ready t) ∙ contains_at ids place t at
 
--- so it was created
-pub ready_created : (t : ℕ) (h : List Event) → is_ready t h ≡ true → (0 < t) × (t ≤ tasks_created h)
-ready_created t h ready =
-    let made = and_left (is_created t h) (not (has_started t h) && not (is_complete t h)) ready in
-    (created_low t h made, created_high t h made)
+-- so nobody has started it
+pub listed_is_unstarted : (t : ℕ) (h : List Event) → is_listed t h ≡ true → is_unstarted t h ≡ true
+listed_is_unstarted t h listed = and_left (is_unstarted t h) (not (is_undeferred t h) && not (has_items (task_items t h))) listed
 
--- if the member may start none of them, it may start no task
-pub none_startable : (m : ℕ) (ids : List ℕ) (h : List Event) → AreReady ids h → ((place : ℕ) → place < length ids → may_start m (slice_index_or ids place 0) h ≡ false) → some_startable m h ≡ false
-none_startable m ids h are none = rw (every_by (tasks_created h) (λ k. not (may_start m (suc k) h)) (λ k lt. rw (each (suc k)) refl)) refl
-  where
-    each : (t : ℕ) → may_start m t h ≡ false
-    each t = elim (cases_Bool (contains t ids)) [
-      | inl there ↦ let found = place_of t ids there in subst (λ (u : ℕ). may_start m u h ≡ false) found.2 (none found.0 found.1)
-      | inr away ↦ rw (sym (are.ready t) ∙ away) refl
-    ]
+-- it is deferred
+pub listed_is_deferred : (t : ℕ) (h : List Event) → is_listed t h ≡ true → not (is_undeferred t h) ≡ true
+listed_is_deferred t h listed = and_left (not (is_undeferred t h)) (not (has_items (task_items t h))) (and_right (is_unstarted t h) (not (is_undeferred t h) && not (has_items (task_items t h))) listed)
+
+-- and it has no items
+pub listed_has_none : (t : ℕ) (h : List Event) → is_listed t h ≡ true → has_items (task_items t h) ≡ false
+listed_has_none t h listed = false_of_not (has_items (task_items t h)) (and_right (not (is_undeferred t h)) (not (has_items (task_items t h))) (and_right (is_unstarted t h) (not (is_undeferred t h) && not (has_items (task_items t h))) listed))

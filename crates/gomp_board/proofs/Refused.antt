@@ -1,5 +1,5 @@
 -- A refusal by a test is the answer, and changes nothing, unless a construct differs.
-use Rattle.std.proofs.Common.{◌≡◌, ◌≢◌, ℕ, ◌<◌, true, false, List, [], ◌∷◌, ◌++◌, Option, Some, None, refl, arith, ◌⊎◌, inl, inr}
+use Rattle.std.proofs.Common.{◌≡◌, ◌≢◌, ℕ, ◌<◌, true, false, List, [], ◌∷◌, ◌++◌, Option, Some, None, refl, sym, ◌∙◌, arith, ◌⊎◌, inl, inr}
 use Rattle.std.specs.Prelude.{nat_le}
 use Rattle.std.proofs.lemmas.Bool.{cases_Bool}
 use Rattle.gomp_types.specs.declared.limits.Limits.{Limits}
@@ -11,6 +11,8 @@ use Rattle.gomp_types.specs.declared.refusal.Refusal.TheVariants.{Mismatch, NoMe
 use Rattle.gomp_types.specs.declared.reply.Reply.TheVariants.{Refused}
 use Rattle.gomp_types.specs.declared.event.Arrival.{Arrival}
 use Rattle.gomp_types.specs.declared.event.Arrival.TheVariants.{Barrier, ShareEnd, RegionEnd}
+use Rattle.gomp_types.specs.declared.depend.Dep.{Dep}
+use Rattle.gomp_types.specs.declared.task.TaskDesc.{TaskDesc}
 use Rattle.gomp_types.specs.declared.event.Event.{Event}
 use Rattle.gomp_types.specs.RefusalTexts.{number_of}
 use Rattle.gomp_types.specs.Limits.{shown_number}
@@ -18,7 +20,7 @@ use Rattle.gomp_types.specs.Events.{barriers_passed, clash_of}
 use Rattle.gomp_types.specs.Tests.{Test}
 use Rattle.gomp_types.specs.Least.{lesser, least}
 use Rattle.gomp_board.specs.declared.op.Op.{Op}
-use Rattle.gomp_board.specs.declared.op.Op.TheVariants.{Create, EndTask, AwaitChildren, OpenGroup, EndGroup, AwaitGroup, Arrive, AwaitBarrier, Reserve, Put, Got, Break}
+use Rattle.gomp_board.specs.declared.op.Op.TheVariants.{Create, AwaitOwn, EndTask, AwaitChildren, OpenGroup, EndGroup, AwaitGroup, Arrive, AwaitBarrier, Reserve, Put, Got, Break}
 use Rattle.gomp_board.specs.Ops.{broken_tests, member_tests, end_tests, op_tests, op_refusal, op_place, refusal_gives, OpAnswer}
 use Rattle.gomp_board.specs.Boards.{BoardView, Stands, Performs, members_of, kept_by}
 
@@ -60,9 +62,10 @@ end_is_low ShareEnd m h = tt
 end_is_low RegionEnd m h = (omega arith, tt)
 
 own_are_low : (limits : Limits) (room kept m : ℕ) (op : Op) (h : List Event) → AreLow (op_tests limits room kept m op h)
-own_are_low limits room kept m (Create desc) h = (omega arith, (omega arith, (omega arith, (omega arith, tt))))
+own_are_low limits room kept m (Create desc) h = (omega arith, (omega arith, (omega arith, (omega arith, (omega arith, tt)))))
+own_are_low limits room kept m AwaitOwn h = (omega arith, tt)
 own_are_low limits room kept m EndTask h = (omega arith, (omega arith, (omega arith, tt)))
-own_are_low limits room kept m AwaitChildren h = (omega arith, tt)
+own_are_low limits room kept m (AwaitChildren items) h = (omega arith, tt)
 own_are_low limits room kept m OpenGroup h = (omega arith, (omega arith, tt))
 own_are_low limits room kept m EndGroup h = (omega arith, (omega arith, tt))
 own_are_low limits room kept m AwaitGroup h = (omega arith, tt)
@@ -81,6 +84,38 @@ refusal_is_low limits room kept m op h found e =
 refusal_answers : (limits : Limits) (room kept members m : ℕ) (op : Op) (h : List Event) (found : Refusal) → op_refusal limits room kept m op h ≡ Some found → OpAnswer limits room kept members m op h (Refused found)
 refusal_answers limits room kept members m op h NoMemory e = absurd (omega (arith, refusal_is_low limits room kept m op h NoMemory e))
 refusal_answers limits room kept members m op h _ e = e
+
+-- A creation and a wait for children are not refused because a construct differs
+
+-- none of these tests is for that
+abbrev NoClash : List Test → Type 0
+NoClash [] = Unit {0}
+NoClash (test ∷ tests) = (test.1 ≢ Mismatch) × NoClash tests
+
+least_is_no_clash : (tests : List Test) (found : Refusal) → NoClash tests → least tests ≡ Some found → found ≢ Mismatch
+least_is_no_clash [] found none e = absurd (cc)
+least_is_no_clash ((true, refusal) ∷ tests) found none e =
+    elim (lesser_is_one refusal found (least tests) e) [
+      | inl same ↦ λ clash. none.0 (same ∙ clash)
+      | inr later ↦ least_is_no_clash tests found none.1 later
+    ]
+least_is_no_clash ((false, refusal) ∷ tests) found none e = least_is_no_clash tests found none.1 e
+
+broken_no_clash : (clash : Option Clash) (tests : List Test) → NoClash tests → NoClash (broken_tests clash ++ tests)
+broken_no_clash None tests none = none
+broken_no_clash (Some clash) tests none = ((λ e. absurd (cc)), none)
+
+pub creation_no_clash : (limits : Limits) (room kept m : ℕ) (desc : TaskDesc) (h : List Event) (found : Refusal) → Some found ≡ op_refusal limits room kept m (Create desc) h → found ≢ Mismatch
+creation_no_clash limits room kept m desc h found e =
+    least_is_no_clash (member_tests m h ++ op_tests limits room kept m (Create desc) h) found
+    ((λ e. absurd (cc)), broken_no_clash (clash_of h) (op_tests limits room kept m (Create desc) h) ((λ e. absurd (cc)), ((λ e. absurd (cc)), ((λ e. absurd (cc)), ((λ e. absurd (cc)), ((λ e. absurd (cc)), tt))))))
+    (sym e)
+
+pub taskwait_no_clash : (limits : Limits) (room kept m : ℕ) (items : List Dep) (h : List Event) (found : Refusal) → Some found ≡ op_refusal limits room kept m (AwaitChildren items) h → found ≢ Mismatch
+taskwait_no_clash limits room kept m items h found e =
+    least_is_no_clash (member_tests m h ++ op_tests limits room kept m (AwaitChildren items) h) found
+    ((λ e. absurd (cc)), broken_no_clash (clash_of h) (op_tests limits room kept m (AwaitChildren items) h) ((λ e. absurd (cc)), tt))
+    (sym e)
 
 -- What a refusal changes
 

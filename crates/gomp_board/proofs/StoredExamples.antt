@@ -15,6 +15,7 @@ use Rattle.gomp_types.specs.EventLists.{at, four}
 use Rattle.gomp_types.specs.TaskCalls.{first_room}
 use Rattle.gomp_board.specs.Stored.{is_stored, stored, IsAside, AreAside}
 use Rattle.gomp_board.specs.Owed.{owed_by_tasks, has_group_ended, count_below, owed_by_groups, owed_by_member, owed_by_members, owed_for_break, owed, events_memory}
+use Rattle.gomp_types.specs.TaskExamples.{job_with}
 use Rattle.gomp_board.specs.Examples.{creates_root, one_ready, one_runs, one_done, other_runs, group_empty, group_done, first_waits, both_wait, second_ends, both_end, first_left, stopped}
 
 -- Stored events
@@ -45,7 +46,7 @@ pub shares_are_not_stored : (share m low high k : ℕ) (shape : Shape) →
 shares_are_not_stored share m low high k shape = (refl, refl, refl, refl, refl, refl, refl)
 
 -- nor what names and locks keep, nor a taskwait
-pub holders_are_not_stored : (key : Key) (m : ℕ) (p : Task) → (is_stored (Hold key m p) ≡ false) × (is_stored (Free key m p) ≡ false) × (is_stored (Waited m) ≡ false)
+pub holders_are_not_stored : (key : Key) (m : ℕ) (p : Task) → (is_stored (Hold key m p) ≡ false) × (is_stored (Free key m p) ≡ false) × (is_stored (Waited m []) ≡ false)
 holders_are_not_stored key m p = (refl, refl, refl)
 
 -- what a member does in its shares changes nothing for a board
@@ -67,7 +68,7 @@ arrivals_concern_boards barrier m tag = (λ is. is, λ is. is)
 pub tasks_concern_boards : (t m : ℕ) (p : Task) (desc : TaskDesc) → (IsAside (Create t m p desc) → ⊥) × (IsAside (Start t m) → ⊥) × (IsAside (Done t m) → ⊥)
 tasks_concern_boards t m p desc = (λ is. is, λ is. is, λ is. is)
 
-pub groups_concern_boards : (q m : ℕ) → (IsAside (Group q m) → ⊥) × (IsAside (GroupEnd q m) → ⊥) × (IsAside (Waited m) → ⊥)
+pub groups_concern_boards : (q m : ℕ) → (IsAside (Group q m) → ⊥) × (IsAside (GroupEnd q m) → ⊥) × (IsAside (Waited m []) → ⊥)
 groups_concern_boards q m = (λ is. is, λ is. is, λ is. is)
 
 pub breaks_concern_boards : (m : ℕ) (place : Place) → IsAside (Break m place) → ⊥
@@ -78,7 +79,7 @@ pub all_leave_boards : AreAside (End 0 1 ∷ Drained 0 1 ∷ []) × (AreAside (E
 all_leave_boards = ((tt, (tt, tt)), λ all. all.1.0, λ all. all.0)
 
 -- the others stay in their order
-pub stored_of_a_list : stored (Waited 0 ∷ Done 1 0 ∷ Enter 0 0 (four false) ∷ Start 1 0 ∷ Waited 1 ∷ Create 1 0 (Implicit 0) (record { code = 7; arg = 9 }) ∷ Take 0 1 0 2 ∷ []) ≡ one_done
+pub stored_of_a_list : stored (Waited 0 [] ∷ Done 1 0 ∷ Enter 0 0 (four false) ∷ Start 1 0 ∷ Waited 1 [] ∷ Create 1 0 (Implicit 0) (job_with 7 9 []) ∷ Take 0 1 0 2 ∷ []) ≡ one_done
 stored_of_a_list = refl
 
 pub stored_of_none : stored [] ≡ []
@@ -109,7 +110,7 @@ pub group_end_is_seen : map (λ q. has_group_ended q (GroupEnd 1 0 ∷ Group 1 0
 group_end_is_seen = refl
 
 -- and still after other events
-pub group_end_is_kept : map (λ q. has_group_ended q (GroupEnd 0 0 ∷ Waited 0 ∷ GroupEnd 1 0 ∷ Group 1 0 ∷ Group 0 0 ∷ [])) (0 ∷ 1 ∷ 2 ∷ []) ≡ true ∷ true ∷ false ∷ []
+pub group_end_is_kept : map (λ q. has_group_ended q (GroupEnd 0 0 ∷ Waited 0 [] ∷ GroupEnd 1 0 ∷ Group 1 0 ∷ Group 0 0 ∷ [])) (0 ∷ 1 ∷ 2 ∷ []) ≡ true ∷ true ∷ false ∷ []
 group_end_is_kept = refl
 
 -- numbers below three are 0, 1 and 2

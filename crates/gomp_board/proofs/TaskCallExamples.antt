@@ -7,9 +7,19 @@ use Rattle.gomp_types.specs.declared.reply.Reply.{Reply}
 use Rattle.gomp_types.specs.declared.reply.Reply.TheVariants.{NoChunk, Finished, Passed, Wait, Created, Run, TaskDone, Stopped, Refused}
 use Rattle.gomp_types.specs.declared.event.Event.{Event}
 use Rattle.gomp_types.specs.declared.event.Event.TheVariants.{Create, Start, Done, Group, GroupEnd, Waited}
+use Rattle.gomp_types.specs.declared.depend.DepKind.TheVariants.{DepIn, DepOut}
+use Rattle.gomp_types.specs.TaskExamples.{at_once, item, with_items}
 use Rattle.gomp_types.specs.Least.{least}
 use Rattle.gomp_types.specs.TaskCalls.{outside_tasks_tests, has_some, group_is_open, group_open_tests, create_tests, end_task_tests, end_group_tests, lacks_room, room_tests, task_room, group_room, arrival_room, first_room, AwaitsTasks, CreatesTask, EndsTask, AwaitsChildren, last_complete, AwaitsGroup, creates, starts_task, ends_task, waited, opens_group, ends_first, ends_group}
 use Rattle.gomp_board.specs.Examples.{seven, eight, creates_root, creates_in, one_ready, one_runs, one_done, other_runs, nested, group_empty, group_ready, group_done, first_waits, limits_of}
+
+-- a member creates an undeferred task
+abbrev own_ready : List Event
+own_ready = Create 1 0 (Implicit 0) at_once ∷ []
+
+-- one that waits for another, which the second member runs
+abbrev own_held : List Event
+own_held = Create 2 0 (Implicit 0) (record at_once { deps = item DepIn 9 ∷ [] }) ∷ Start 1 1 ∷ Create 1 0 (Implicit 0) (with_items (item DepOut 9 ∷ [])) ∷ []
 
 -- Tests
 
@@ -30,8 +40,8 @@ tested_for_open_groups = refl
 
 -- of a creation: the depth of the task that creates, and how many there are
 pub tested_creations :
-    (map (λ depth. least (create_tests (limits_of 64 0) 0 (nested depth))) (0 ∷ 63 ∷ 64 ∷ []) ≡ None ∷ None ∷ Some TooDeep ∷ [])
-    × (map (λ limit. least (create_tests (limits_of limit 0) 0 one_done)) (0 ∷ 1 ∷ 2 ∷ []) ≡ Some TooManyTasks ∷ Some TooManyTasks ∷ None ∷ [])
+    (map (λ depth. least (create_tests (limits_of 64 0) [] 0 (nested depth))) (0 ∷ 63 ∷ 64 ∷ []) ≡ None ∷ None ∷ Some TooDeep ∷ [])
+    × (map (λ limit. least (create_tests (limits_of limit 0) [] 0 one_done)) (0 ∷ 1 ∷ 2 ∷ []) ≡ Some TooManyTasks ∷ Some TooManyTasks ∷ None ∷ [])
 tested_creations = (refl, refl)
 
 -- of the end of a task
@@ -138,28 +148,39 @@ no_other_answer = search rules
 -- Answers
 
 -- to a creator the new task's number
-pub created_answer : CreatesTask one_ready (Created 1)
+pub created_answer : CreatesTask 0 one_ready (Created 1)
 created_answer = refl
 
-pub wrong_created_answers : (CreatesTask one_ready (Created 2) → ⊥) × (CreatesTask one_ready Finished → ⊥)
+-- to that of an undeferred one the task, and if it may not be started another, or to wait
+pub own_answers : CreatesTask 0 own_ready (Run 1 7 70 true) × CreatesTask 0 own_held Wait
+own_answers = search rules
+
+pub wrong_own_answers : (CreatesTask 0 own_ready (Created 1) → ⊥) × (CreatesTask 0 own_ready Wait → ⊥) × (CreatesTask 0 own_ready (Run 1 7 70 false) → ⊥) × (CreatesTask 0 own_held (Run 2 7 70 true) → ⊥) × (CreatesTask 0 own_held (Created 2) → ⊥)
+wrong_own_answers = search rules
+
+pub wrong_created_answers : (CreatesTask 0 one_ready (Created 2) → ⊥) × (CreatesTask 0 one_ready Finished → ⊥)
 wrong_created_answers = search rules
 
 -- at its end the task's number, and that the wait at which it was started is open again
-pub ended_answer : EndsTask (Explicit 2) (TaskDone 2 true)
+pub ended_answer : EndsTask (Explicit 2) [] (TaskDone 2 true)
 ended_answer = refl
 
-pub wrong_ended_answers : (EndsTask (Explicit 2) (TaskDone 1 true) → ⊥) × (EndsTask (Explicit 2) (TaskDone 2 false) → ⊥) × (EndsTask (Explicit 2) Passed → ⊥) × (EndsTask (Implicit 2) (TaskDone 2 true) → ⊥)
+-- unless it is undeferred: then its creator goes on
+pub own_task_ended : EndsTask (Explicit 1) own_ready (TaskDone 1 false) × (EndsTask (Explicit 1) own_ready (TaskDone 1 true) → ⊥)
+own_task_ended = search rules
+
+pub wrong_ended_answers : (EndsTask (Explicit 2) [] (TaskDone 1 true) → ⊥) × (EndsTask (Explicit 2) [] (TaskDone 2 false) → ⊥) × (EndsTask (Explicit 2) [] Passed → ⊥) × (EndsTask (Implicit 2) [] (TaskDone 2 true) → ⊥)
 wrong_ended_answers = search rules
 
 -- at a taskwait: of the task that the member executes, and of its children alone
-pub taskwait_answers : AwaitsChildren 0 one_done Passed × AwaitsChildren 0 other_runs Wait × AwaitsChildren 1 other_runs Passed × AwaitsChildren 0 (creates_in 1 2 ∷ one_done) Passed
+pub taskwait_answers : AwaitsChildren 0 [] one_done Passed × AwaitsChildren 0 [] other_runs Wait × AwaitsChildren 1 [] other_runs Passed × AwaitsChildren 0 [] (creates_in 1 2 ∷ one_done) Passed
 taskwait_answers = search rules
 
-pub taskwait_within_a_task : AwaitsChildren 0 (creates_in 1 2 ∷ one_runs) (Run 2 7 9 false)
+pub taskwait_within_a_task : AwaitsChildren 0 [] (creates_in 1 2 ∷ one_runs) (Run 2 7 9 false)
 taskwait_within_a_task = search rules
 
 pub wrong_taskwait_answers :
-    (AwaitsChildren 0 other_runs Passed → ⊥) × (AwaitsChildren 0 one_done Wait → ⊥) × (AwaitsChildren 0 (creates_in 1 2 ∷ one_runs) Passed → ⊥) × (AwaitsChildren 0 one_ready Wait → ⊥)
+    (AwaitsChildren 0 [] other_runs Passed → ⊥) × (AwaitsChildren 0 [] one_done Wait → ⊥) × (AwaitsChildren 0 [] (creates_in 1 2 ∷ one_runs) Passed → ⊥) × (AwaitsChildren 0 [] one_ready Wait → ⊥)
 wrong_taskwait_answers = search rules
 
 -- the last open group alone counts
@@ -189,7 +210,7 @@ pub replies_end : map (ends_task 1) (TaskDone 3 true ∷ Run 3 7 9 false ∷ Pas
 replies_end = refl
 
 -- a taskwait is passed
-pub taskwaits_give : map (waited 1) (Passed ∷ Run 3 7 9 false ∷ Wait ∷ []) ≡ (Waited 1 ∷ []) ∷ (Start 3 1 ∷ []) ∷ [] ∷ []
+pub taskwaits_give : map (waited 1 []) (Passed ∷ Run 3 7 9 false ∷ Wait ∷ []) ≡ (Waited 1 [] ∷ []) ∷ (Start 3 1 ∷ []) ∷ [] ∷ []
 taskwaits_give = refl
 
 -- a group gets the next number

@@ -1,18 +1,20 @@
 -- A board after an event of tasks or groups: for what it stands, and that it is a board then.
-use Rattle.std.proofs.Common.{◌≡◌, ℕ, ◌+◌, ◌<◌, ◌≤◌, true, false, List, [], ◌∷◌, ◌++◌, Some, length, refl, ap, ◌∙◌, sym, subst, arith, suc, zero, slice_get}
-use Rattle.std.specs.Prelude.{reverse, sum, slice_index_or, slice_set, Result, Ok, Err, OnOk, is_err}
+use Rattle.std.proofs.Common.{◌≡◌, ℕ, ◌+◌, ◌<◌, ◌≤◌, Bool, true, false, List, [], ◌∷◌, ◌++◌, Some, length, refl, ap, ◌∙◌, sym, subst, arith, suc, zero, slice_get}
+use Rattle.std.specs.Prelude.{reverse, sum, slice_index_or, slice_set, Result, Ok, Err, OnOk, is_err, ◌&&◌, not}
 use Rattle.std.specs.List.{remove}
 use Rattle.gomp_types.specs.declared.task.Task.{Task}
 use Rattle.gomp_types.specs.declared.task.Task.TheVariants.{Implicit, Explicit}
 use Rattle.gomp_types.specs.declared.task.TaskDesc.{TaskDesc}
+use Rattle.gomp_types.specs.declared.depend.Dep.{Dep}
 use Rattle.gomp_types.specs.declared.event.Event.{Event}
 use Rattle.gomp_types.specs.declared.event.Event.TheVariants.{Create, Start, Done, Group, GroupEnd, Waited}
 use Rattle.gomp_types.specs.Limits.{IsTeamSize}
 use Rattle.gomp_types.specs.Laws.{Always}
-use Rattle.gomp_types.specs.Tasks.{tasks_created, executed_task, is_created, is_complete}
+use Rattle.gomp_types.specs.Tasks.{tasks_created, executed_task, is_created, is_complete, is_undeferred, becomes_undeferred}
 use Rattle.gomp_types.specs.Groups.{groups_opened}
-use Rattle.gomp_types.specs.Goals.{may_start, children_complete}
-use Rattle.gomp_types.specs.TaskRules.{TaskRule, MayEndGroup}
+use Rattle.gomp_types.specs.Goals.{may_start, is_startable, taskwait_met}
+use Rattle.gomp_types.specs.TaskRules.{TaskRule, MayStart, MayEndGroup}
+use Rattle.gomp_types.proofs.Booleans.{and_left, and_right, false_of_not, not_both}
 use Rattle.gomp_types.proofs.Suspended.{startable_is_fresh, current_open}
 use Rattle.gomp_tasks.specs.Stands.{TasksView, Stands as TasksStand, members_of as task_members, IsNumber}
 use Rattle.gomp_tasks.proofs.Laws.{events_aside_keep_tasks, created_tasks_have_numbers}
@@ -21,11 +23,15 @@ use Rattle.gomp_groups.proofs.Laws.{events_aside_keep_groups}
 use Rattle.gomp_barrier.specs.Calls.{IsParent}
 use Rattle.gomp_barrier.specs.Stands.{BarriersView, Stands as BarriersStand, members_of as barrier_members}
 use Rattle.gomp_barrier.proofs.Laws.{events_aside_keep_barriers}
+use Rattle.gomp_depend.proofs.Laws.{events_aside_keep_depends}
+use Rattle.gomp_depend.specs.Stands.{DependsView, RowsStand, Stands as DependsStand, has_items, IsOpen}
+use Rattle.gomp_depend.specs.declared.rows.DependRow.{DependRow}
+use Rattle.gomp_board.specs.ReadyTasks.{is_listed, listed_with}
 use Rattle.gomp_board.specs.Owed.{owed}
 use Rattle.gomp_board.specs.Boards.{BoardView, Stands, HasMembers, IsBoard, members_of}
 use Rattle.gomp_board.specs.Startable.{MayStartAt}
 use Rattle.gomp_board.proofs.Admitted.{implicit_is_own}
-use Rattle.gomp_board.proofs.ReadyKeeps.{created_ready, started_ready, done_ready, aside_ready}
+use Rattle.gomp_board.proofs.ReadyKeeps.{created_ready, started_ready, started_apart, done_ready, aside_ready}
 use Rattle.gomp_board.proofs.PayloadsKeep.{payloads_stay}
 use Rattle.gomp_board.proofs.RoomKeeps.{room_with}
 use Rattle.gomp_board.proofs.StoredKeeps.{stored_with, stored_aside, history_after}
@@ -87,24 +93,54 @@ get_index [] i x e = absurd (cc)
 get_index (y ∷ ys) zero x e = cc
 get_index (y ∷ ys) (suc i) x e = get_index ys i x e
 
-pub may_there : (now b : BoardView) (m place t : ℕ) (h : List Event) → b ≡ now → MayStartAt m place now → slice_get b.ready place ≡ Some t → Stands now h → may_start m t h ≡ true
+pub may_there : (now b : BoardView) (m place t : ℕ) (h : List Event) → b ≡ now → MayStartAt m place now → slice_get b.ready place ≡ Some t → Stands now h → is_startable m t h ≡ true
 may_there now b m place t h e may at st =
     let here : slice_index_or now.ready place 0 ≡ t = get_index now.ready place t (subst (λ (v : BoardView). slice_get v.ready place ≡ Some t) e at) in
-    subst (λ (x : ℕ). may_start m x h ≡ true) here (may.may h st)
+    subst (λ (x : ℕ). is_startable m x h ≡ true) here (may.may h st)
 
-pub may_own : (now b : BoardView) (space m place t : ℕ) → b ≡ now → IsBoard space b → MayStartAt m place now → slice_get b.ready place ≡ Some t → may_start m t (reverse b.history) ≡ true
+pub may_own : (now b : BoardView) (space m place t : ℕ) → b ≡ now → IsBoard space b → MayStartAt m place now → slice_get b.ready place ≡ Some t → is_startable m t (reverse b.history) ≡ true
 may_own now b space m place t e is may at = may_there now b m place t (reverse b.history) e may at (subst (λ (v : BoardView). Stands v (reverse b.history)) e is.stands)
+
+-- a task that may be started at a wait is deferred, and may be started
+pub startable_may : (m t : ℕ) (h : List Event) → is_startable m t h ≡ true → may_start m t h ≡ true
+startable_may m t h may = and_right (not (is_undeferred t h)) (may_start m t h) may
+
+pub startable_is_deferred : (m t : ℕ) (h : List Event) → is_startable m t h ≡ true → is_undeferred t h ≡ false
+startable_is_deferred m t h may = false_of_not (is_undeferred t h) (and_left (not (is_undeferred t h)) (may_start m t h) may)
+
+-- so the rule lets a member of the team start it
+pub start_rule : (n m t : ℕ) (h : List Event) → m < n → is_startable m t h ≡ true → MayStart n t m h
+start_rule n m t h low may = record { member = low; may = startable_may m t h may; own = λ undeferred. absurd (not_both (is_undeferred t h) undeferred (startable_is_deferred m t h may)) }
+
+-- the rule is one for every size of a team that has the member
+pub rule_for : (n k m t : ℕ) (h : List Event) → m < k → MayStart n t m h → MayStart k t m h
+rule_for n k m t h low rule = record { member = low; may = rule.may; own = rule.own }
 
 pub startable_number : (b : BoardView) (m t : ℕ) (h : List Event) → Stands b h → may_start m t h ≡ true → IsNumber t b.tasks
 startable_number b m t h st may = created_tasks_have_numbers b.tasks h t st.tasks (startable_is_fresh m t h may).0
 
-pub started_stands : (b : BoardView) (history : List Event) (tasks : TasksView) (ready : List ℕ) (place t m : ℕ) (h : List Event) → HasMembers b → m < members_of b → history ≡ b.history ++ Start t m ∷ [] → ready ≡ remove b.ready place → slice_get b.ready place ≡ Some t → may_start m t h ≡ true →
+pub started_stands : (b : BoardView) (history : List Event) (tasks : TasksView) (ready : List ℕ) (place t m : ℕ) (h : List Event) → HasMembers b → m < members_of b → history ≡ b.history ++ Start t m ∷ [] → ready ≡ remove b.ready place → slice_get b.ready place ≡ Some t → is_startable m t h ≡ true →
     TasksStand tasks (Start t m ∷ h) → Stands b h → Stands (record b { history = history; tasks = tasks; ready = ready }) (Start t m ∷ h)
 started_stands b history tasks ready place t m h has low longer less at may next st = record {
   tasks = next;
-  groups = events_aside_keep_groups b.groups h (Start t m) tt (record { member = group_member b m has low; may = may }) st.groups;
+  groups = events_aside_keep_groups b.groups h (Start t m) tt (start_rule (group_members b.groups) m t h (group_member b m has low) may) st.groups;
   barriers = events_aside_keep_barriers b.barriers h (Start t m) tt st.barriers;
+  depends = events_aside_keep_depends b.depends h (Start t m) tt st.depends;
   ready = rw less (started_ready t m b.ready place h at st.ready);
+  clash = st.clash;
+  payloads = payloads_stay b.payloads (Start t m) h tt st.payloads;
+  history = stored_with b.history history (Start t m) h refl longer st.history;
+}
+
+-- one that does not stand in the list
+pub apart_stands : (b : BoardView) (history : List Event) (tasks : TasksView) (t m : ℕ) (h : List Event) → HasMembers b → m < members_of b → history ≡ b.history ++ Start t m ∷ [] → MayStart (members_of b) t m h → is_listed t h ≡ false →
+    TasksStand tasks (Start t m ∷ h) → Stands b h → Stands (record b { history = history; tasks = tasks }) (Start t m ∷ h)
+apart_stands b history tasks t m h has low longer rule away next st = record {
+  tasks = next;
+  groups = events_aside_keep_groups b.groups h (Start t m) tt (rule_for (members_of b) (group_members b.groups) m t h (group_member b m has low) rule) st.groups;
+  barriers = events_aside_keep_barriers b.barriers h (Start t m) tt st.barriers;
+  depends = events_aside_keep_depends b.depends h (Start t m) tt st.depends;
+  ready = started_apart t m b.ready h away st.ready;
   clash = st.clash;
   payloads = payloads_stay b.payloads (Start t m) h tt st.payloads;
   history = stored_with b.history history (Start t m) h refl longer st.history;
@@ -112,14 +148,16 @@ started_stands b history tasks ready place t m h has low longer less at may next
 
 -- A task is created
 
-pub created_stands : (b : BoardView) (history : List Event) (room : ℕ) (tasks : TasksView) (groups : GroupsView) (barriers : BarriersView) (ready : List ℕ) (t m : ℕ) (p : Task) (desc : TaskDesc) (h : List Event) → history ≡ b.history ++ Create t m p desc ∷ [] → ready ≡ b.ready ++ t ∷ [] → t ≡ suc (tasks_created h) →
-    TasksStand tasks (Create t m p desc ∷ h) → GroupsStand groups (Create t m p desc ∷ h) → BarriersStand barriers (Create t m p desc ∷ h) → Stands b h →
-    Stands (record b { history = history; room = room; tasks = tasks; groups = groups; barriers = barriers; ready = ready }) (Create t m p desc ∷ h)
-created_stands b history room tasks groups barriers ready t m p desc h longer more number next_tasks next_groups next_barriers st = record {
+pub created_stands : (b : BoardView) (history : List Event) (room : ℕ) (tasks : TasksView) (groups : GroupsView) (barriers : BarriersView) (depends : DependsView) (ready : List ℕ) (t m : ℕ) (listed : Bool) (p : Task) (desc : TaskDesc) (h : List Event) → history ≡ b.history ++ Create t m p desc ∷ [] → ready ≡ listed_with listed t b.ready → t ≡ suc (tasks_created h) →
+    listed ≡ (not (becomes_undeferred desc p h) && not (has_items desc.deps)) →
+    TasksStand tasks (Create t m p desc ∷ h) → GroupsStand groups (Create t m p desc ∷ h) → BarriersStand barriers (Create t m p desc ∷ h) → DependsStand depends (Create t m p desc ∷ h) → Stands b h →
+    Stands (record b { history = history; room = room; tasks = tasks; groups = groups; barriers = barriers; depends = depends; ready = ready }) (Create t m p desc ∷ h)
+created_stands b history room tasks groups barriers depends ready t m listed p desc h longer more number plain next_tasks next_groups next_barriers next_depends st = record {
   tasks = next_tasks;
   groups = next_groups;
   barriers = next_barriers;
-  ready = rw more (created_ready (task_members b.tasks) t m p desc b.ready h st.tasks.rule number st.ready);
+  depends = next_depends;
+  ready = rw more (created_ready (task_members b.tasks) t m listed p desc b.ready h st.tasks.rule number plain st.ready);
   clash = st.clash;
   payloads = payloads_stay b.payloads (Create t m p desc) h tt st.payloads;
   history = stored_with b.history history (Create t m p desc) h refl longer st.history;
@@ -135,13 +173,14 @@ parent_is b m p h has low e st = parent_so (barrier_members b.barriers) (task_me
 
 -- A task is ended
 
-pub ended_stands : (b : BoardView) (history : List Event) (tasks : TasksView) (groups : GroupsView) (barriers : BarriersView) (t m : ℕ) (h : List Event) → history ≡ b.history ++ Done t m ∷ [] → executed_task m h ≡ Explicit t →
-    TasksStand tasks (Done t m ∷ h) → GroupsStand groups (Done t m ∷ h) → BarriersStand barriers (Done t m ∷ h) → Stands b h →
-    Stands (record b { history = history; tasks = tasks; groups = groups; barriers = barriers }) (Done t m ∷ h)
-ended_stands b history tasks groups barriers t m h longer current next_tasks next_groups next_barriers st = record {
+pub ended_stands : (b : BoardView) (history : List Event) (tasks : TasksView) (groups : GroupsView) (barriers : BarriersView) (depends : DependsView) (t m : ℕ) (h : List Event) → history ≡ b.history ++ Done t m ∷ [] → executed_task m h ≡ Explicit t →
+    TasksStand tasks (Done t m ∷ h) → GroupsStand groups (Done t m ∷ h) → BarriersStand barriers (Done t m ∷ h) → DependsStand depends (Done t m ∷ h) → Stands b h →
+    Stands (record b { history = history; tasks = tasks; groups = groups; barriers = barriers; depends = depends }) (Done t m ∷ h)
+ended_stands b history tasks groups barriers depends t m h longer current next_tasks next_groups next_barriers next_depends st = record {
   tasks = next_tasks;
   groups = next_groups;
   barriers = next_barriers;
+  depends = next_depends;
   ready = done_ready (task_members b.tasks) t m b.ready h st.tasks.rule current st.ready;
   clash = st.clash;
   payloads = payloads_stay b.payloads (Done t m) h tt st.payloads;
@@ -151,6 +190,9 @@ ended_stands b history tasks groups barriers t m h longer current next_tasks nex
 pub executed_open : (b : BoardView) (m t : ℕ) (h : List Event) → Stands b h → executed_task m h ≡ Explicit t → (is_created t h ≡ true) × (is_complete t h ≡ false)
 executed_open b m t h st current = let is = current_open (task_members b.tasks) m t h st.tasks.rule current in (is.0, is.1)
 
+pub task_open : (b : BoardView) (m t : ℕ) (h : List Event) → Stands b h → executed_task m h ≡ Explicit t → IsOpen t h
+task_open b m t h st current = let is = executed_open b m t h st current in record { created = is.0; incomplete = is.1 }
+
 -- A group is opened and ended
 
 pub opened_stands : (b : BoardView) (history : List Event) (room : ℕ) (groups : GroupsView) (q m : ℕ) (h : List Event) → HasMembers b → m < members_of b → history ≡ b.history ++ Group q m ∷ [] → q ≡ groups_opened h →
@@ -159,6 +201,7 @@ opened_stands b history room groups q m h has low longer number next st = record
   tasks = events_aside_keep_tasks b.tasks h (Group q m) tt (record { member = task_member b m has low; number = number }) st.tasks;
   groups = next;
   barriers = events_aside_keep_barriers b.barriers h (Group q m) tt st.barriers;
+  depends = events_aside_keep_depends b.depends h (Group q m) tt st.depends;
   ready = aside_ready (Group q m) b.ready h tt st.ready;
   clash = st.clash;
   payloads = payloads_stay b.payloads (Group q m) h tt st.payloads;
@@ -171,6 +214,7 @@ closed_stands b history groups q m h may longer next st = record {
   tasks = events_aside_keep_tasks b.tasks h (GroupEnd q m) tt may st.tasks;
   groups = next;
   barriers = events_aside_keep_barriers b.barriers h (GroupEnd q m) tt st.barriers;
+  depends = events_aside_keep_depends b.depends h (GroupEnd q m) tt st.depends;
   ready = aside_ready (GroupEnd q m) b.ready h tt st.ready;
   clash = st.clash;
   payloads = payloads_stay b.payloads (GroupEnd q m) h tt st.payloads;
@@ -179,15 +223,16 @@ closed_stands b history groups q m h may longer next st = record {
 
 -- A taskwait is passed
 
-pub waited_stands : (b : BoardView) (m : ℕ) (h : List Event) → HasMembers b → m < members_of b → children_complete (executed_task m h) h ≡ true → Stands b h → Stands b (Waited m ∷ h)
-waited_stands b m h has low complete st = record {
-  tasks = events_aside_keep_tasks b.tasks h (Waited m) tt (record { member = task_member b m has low; complete = complete }) st.tasks;
-  groups = events_aside_keep_groups b.groups h (Waited m) tt (record { member = group_member b m has low; complete = complete }) st.groups;
-  barriers = events_aside_keep_barriers b.barriers h (Waited m) tt st.barriers;
-  ready = aside_ready (Waited m) b.ready h tt st.ready;
+pub waited_stands : (b : BoardView) (m : ℕ) (items : List Dep) (h : List Event) → HasMembers b → m < members_of b → taskwait_met (executed_task m h) items h ≡ true → Stands b h → Stands b (Waited m items ∷ h)
+waited_stands b m items h has low complete st = record {
+  tasks = events_aside_keep_tasks b.tasks h (Waited m items) tt (record { member = task_member b m has low; complete = complete }) st.tasks;
+  groups = events_aside_keep_groups b.groups h (Waited m items) tt (record { member = group_member b m has low; complete = complete }) st.groups;
+  barriers = events_aside_keep_barriers b.barriers h (Waited m items) tt st.barriers;
+  depends = events_aside_keep_depends b.depends h (Waited m items) tt st.depends;
+  ready = aside_ready (Waited m items) b.ready h tt st.ready;
   clash = st.clash;
-  payloads = payloads_stay b.payloads (Waited m) h tt st.payloads;
-  history = stored_aside b.history (Waited m) h refl st.history;
+  payloads = payloads_stay b.payloads (Waited m items) h tt st.payloads;
+  history = stored_aside b.history (Waited m items) h refl st.history;
 }
 
 -- What a member keeps
@@ -210,6 +255,10 @@ more_task_room old new h e st = subst (λ (v : GroupsView). GroupsStand v h) (sy
 
 pub more_room : (old new : TasksView) (h : List Event) → new ≡ record old { room = new.room } → TasksStand old h → TasksStand new h
 more_room old new h e st = subst (λ (v : TasksView). TasksStand v h) (sym e) st
+
+-- the rows stand for the events whatever room there is for more
+pub same_rows : (old new : DependsView) (h : List Event) → new.rows ≡ old.rows → DependsStand old h → DependsStand new h
+same_rows old new h e st = subst (λ (rows : List DependRow). RowsStand rows h) (sym e) st
 
 -- what holds if nothing failed
 pub at_ok : {A E : Type 0} (r : Result A E) (P : Type 0) → is_err r ≡ false → OnOk r P → P

@@ -5,13 +5,14 @@ use Rattle.gomp_types.specs.declared.refusal.Refusal.{Refusal}
 use Rattle.gomp_types.specs.declared.reply.Reply.{Reply}
 use Rattle.gomp_types.specs.declared.reply.Reply.TheVariants.{Passed, Refused}
 use Rattle.gomp_types.specs.declared.event.Tag.{Tag}
+use Rattle.gomp_types.specs.declared.depend.Dep.{Dep}
 use Rattle.gomp_types.specs.declared.event.Event.{Event}
 use Rattle.gomp_types.specs.Tasks.{executed_task}
 use Rattle.gomp_types.specs.Groups.{open_groups}
-use Rattle.gomp_types.specs.Goals.{children_complete, may_pass}
+use Rattle.gomp_types.specs.Goals.{may_pass}
 use Rattle.gomp_types.specs.TaskCalls.{AwaitsTasks, starts_task, waited, ends_group, last_complete}
 use Rattle.gomp_board.specs.declared.op.Op.{Op}
-use Rattle.gomp_board.specs.declared.op.Op.TheVariants.{AwaitChildren, EndGroup, Arrive, AwaitBarrier}
+use Rattle.gomp_board.specs.declared.op.Op.TheVariants.{EndGroup, Arrive, AwaitBarrier}
 use Rattle.gomp_board.specs.Ops.{op_refusal, op_after, op_gives, begun, passes_barrier, OpReply, OpAnswer}
 
 -- a reply that is no refusal
@@ -43,9 +44,9 @@ pub runs_unmet : (m : ℕ) (met : Bool) (h : List Event) (reply : Reply) → met
 runs_unmet m met h reply unmet runs = subst (λ (b : Bool). AwaitsTasks m b h reply) (sym unmet) runs
 
 -- the reply gives the start of the task alone
-pub waited_runs : (m : ℕ) (h : List Event) (reply : Reply) → AwaitsTasks m false h reply → waited m reply ≡ starts_task m reply
-waited_runs m h Passed runs = absurd (cc)
-waited_runs m h _ runs = refl
+pub waited_runs : (m : ℕ) (items : List Dep) (h : List Event) (reply : Reply) → AwaitsTasks m false h reply → waited m items reply ≡ starts_task m reply
+waited_runs m items h Passed runs = absurd (cc)
+waited_runs m items h _ runs = refl
 
 pub ended_runs : (m : ℕ) (h : List Event) (reply : Reply) → AwaitsTasks m false h reply → ends_group m h reply ≡ starts_task m reply
 ended_runs m h Passed runs = absurd (cc)
@@ -55,11 +56,8 @@ pub passed_runs : (m : ℕ) (h : List Event) (reply : Reply) → AwaitsTasks m f
 passed_runs m h Passed runs = absurd (cc)
 passed_runs m h _ runs = refl
 
--- at a taskwait
+-- at waits that go on
 module _ (limits : Limits) (room kept members m : ℕ) (h : List Event) (reply : Reply) (runs : AwaitsTasks m false h reply) where
-  pub children_answered : op_refusal limits room kept m AwaitChildren h ≡ None → children_complete (executed_task m h) h ≡ false → OpAnswer limits room kept members m AwaitChildren h reply
-  children_answered fine unmet = op_answered limits room kept members m AwaitChildren h reply (runs_is_reply m h reply runs) fine (runs_unmet m (children_complete (executed_task m h) h) h reply unmet runs)
-
   pub group_answered : op_refusal limits room kept m EndGroup h ≡ None → last_complete (open_groups (executed_task m h) h) h ≡ false → OpAnswer limits room kept members m EndGroup h reply
   group_answered fine unmet = op_answered limits room kept members m EndGroup h reply (runs_is_reply m h reply runs) fine (runs_unmet m (last_complete (open_groups (executed_task m h) h) h) h reply unmet runs)
 
@@ -68,9 +66,6 @@ module _ (limits : Limits) (room kept members m : ℕ) (h : List Event) (reply :
 
 -- the events after it
 module _ (m : ℕ) (h : List Event) (reply : Reply) (runs : AwaitsTasks m false h reply) where
-  pub after_children : op_after m AwaitChildren reply h ≡ starts_task m reply ++ h
-  after_children = after_reply m AwaitChildren reply h (runs_is_reply m h reply runs) ∙ ap (λ es. es ++ h) (waited_runs m h reply runs)
-
   pub after_group : op_after m EndGroup reply h ≡ starts_task m reply ++ h
   after_group = after_reply m EndGroup reply h (runs_is_reply m h reply runs) ∙ ap (λ es. es ++ h) (ended_runs m h reply runs)
 

@@ -10,6 +10,7 @@ use Rattle.gomp_groups.specs.Stands.{members_of as group_members}
 use Rattle.gomp_groups.proofs.Laws.{events_aside_keep_groups}
 use Rattle.gomp_barrier.specs.Stands.{members_of as barrier_members}
 use Rattle.gomp_barrier.proofs.Laws.{events_aside_keep_barriers}
+use Rattle.gomp_depend.proofs.Laws.{events_aside_keep_depends}
 use Rattle.gomp_board.specs.declared.op.Op.{Op}
 use Rattle.gomp_board.specs.declared.payloads.Put.{Put as Kept}
 use Rattle.gomp_board.specs.Ops.{op_asks, op_keeps, op_gives, begun, words_ask, words_keep, OpReply}
@@ -33,6 +34,7 @@ put_words_stand b history kept payloads share m words h longer next st = record 
   tasks = events_aside_keep_tasks b.tasks h (PutEvent share m words) tt tt st.tasks;
   groups = events_aside_keep_groups b.groups h (PutEvent share m words) tt tt st.groups;
   barriers = events_aside_keep_barriers b.barriers h (PutEvent share m words) tt st.barriers;
+  depends = events_aside_keep_depends b.depends h (PutEvent share m words) tt st.depends;
   ready = aside_ready (PutEvent share m words) b.ready h tt st.ready;
   clash = st.clash;
   payloads = next;
@@ -45,6 +47,7 @@ given_words_stand b history kept share m words h longer st = record {
   tasks = events_aside_keep_tasks b.tasks h (GotEvent share m words) tt tt st.tasks;
   groups = events_aside_keep_groups b.groups h (GotEvent share m words) tt tt st.groups;
   barriers = events_aside_keep_barriers b.barriers h (GotEvent share m words) tt st.barriers;
+  depends = events_aside_keep_depends b.depends h (GotEvent share m words) tt st.depends;
   ready = aside_ready (GotEvent share m words) b.ready h tt st.ready;
   clash = st.clash;
   payloads = payloads_stay b.payloads (GotEvent share m words) h tt st.payloads;

@@ -14,6 +14,7 @@ use Rattle.gomp_types.specs.declared.refusal.Refusal.{Refusal}
 use Rattle.gomp_types.specs.declared.refusal.Refusal.TheVariants.{Mismatch}
 use Rattle.gomp_tasks.specs.Stands.{TasksView, Stands as TasksStand, members_of as task_members}
 use Rattle.gomp_groups.specs.Stands.{GroupsView, Stands as GroupsStand, members_of as group_members}
+use Rattle.gomp_depend.specs.Stands.{DependsView, Stands as DependsStand}
 use Rattle.gomp_barrier.specs.Stands.{BarriersView, Stands as BarriersStand, members_of as barrier_members}
 use Rattle.gomp_board.specs.declared.op.Op.{Op}
 use Rattle.gomp_board.specs.declared.payloads.Put.{Put}
@@ -36,7 +37,9 @@ pub record BoardView : Type 0 where
   pub tasks : TasksView
   pub groups : GroupsView
   pub barriers : BarriersView
-  -- the tasks that nobody has started, the oldest first
+  -- for which open tasks the tasks with items wait
+  pub depends : DependsView
+  -- the deferred tasks without items that nobody has started, the oldest first
   pub ready : List ℕ
   -- the words that executors of singles put, at most one share's at each of eight places
   pub payloads : List (Option Put)
@@ -54,6 +57,7 @@ pub record Stands (board : BoardView) (h : List Event) : Type 0 where
   pub tasks : TasksStand board.tasks h
   pub groups : GroupsStand board.groups h
   pub barriers : BarriersStand board.barriers h
+  pub depends : DependsStand board.depends h
   pub ready : AreReady board.ready h
   pub payloads : PayloadsStand board.payloads h
   pub clash : clash_of h ≡ board.clash

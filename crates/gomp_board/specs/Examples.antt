@@ -11,15 +11,16 @@ use Rattle.gomp_types.specs.declared.event.Arrival.TheVariants.{Barrier, RegionE
 use Rattle.gomp_types.specs.declared.event.Event.{Event}
 use Rattle.gomp_types.specs.declared.event.Event.TheVariants.{Arrive, Pass, Create, Start, Done, Group, Break}
 use Rattle.gomp_types.specs.EventLists.{at}
+use Rattle.gomp_types.specs.TaskExamples.{job_with}
 use Rattle.gomp_board.specs.declared.op.Op.{Op}
 use Rattle.gomp_board.specs.Ops.{op_refusal, OpAnswer}
 
 -- a task, and another
 abbrev pub seven : TaskDesc
-seven = record { code = 7; arg = 9 }
+seven = job_with 7 9 []
 
 abbrev pub eight : TaskDesc
-eight = record { code = 8; arg = 9 }
+eight = job_with 8 9 []
 
 -- Tasks of the first member
 

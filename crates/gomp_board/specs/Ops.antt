@@ -21,7 +21,7 @@ use Rattle.gomp_types.specs.Tasks.{executed_task, in_task}
 use Rattle.gomp_types.specs.Goals.{may_pass}
 use Rattle.gomp_types.specs.TaskCalls.{outside_tasks_tests, group_open_tests, create_tests, end_task_tests, end_group_tests, room_tests, task_room, group_room, arrival_room, AwaitsTasks, CreatesTask, EndsTask, AwaitsChildren, AwaitsGroup, creates, starts_task, ends_task, waited, opens_group, ends_group}
 use Rattle.gomp_board.specs.declared.op.Op.{Op}
-use Rattle.gomp_board.specs.declared.op.Op.TheVariants.{Create, EndTask, AwaitChildren, OpenGroup, EndGroup, AwaitGroup, Arrive, AwaitBarrier, Reserve, Put, Got, Break}
+use Rattle.gomp_board.specs.declared.op.Op.TheVariants.{Create, AwaitOwn, EndTask, AwaitChildren, OpenGroup, EndGroup, AwaitGroup, Arrive, AwaitBarrier, Reserve, Put, Got, Break}
 
 -- Room
 
@@ -97,9 +97,10 @@ is_stop _ = false
 
 -- the tests of an operation, if so much room was asked for, of which its member has kept so much
 abbrev pub op_tests : Limits → ℕ → ℕ → ℕ → Op → List Event → List Test
-op_tests limits room kept m (Create desc) h = busy_tests m h ++ (create_tests limits m h ++ room_tests limits room task_room)
+op_tests limits room kept m (Create desc) h = busy_tests m h ++ (create_tests limits desc.deps m h ++ room_tests limits room task_room)
+op_tests limits room kept m AwaitOwn h = busy_tests m h
 op_tests limits room kept m EndTask h = busy_tests m h ++ end_task_tests m h
-op_tests limits room kept m AwaitChildren h = busy_tests m h
+op_tests limits room kept m (AwaitChildren items) h = busy_tests m h
 op_tests limits room kept m OpenGroup h = busy_tests m h ++ room_tests limits room group_room
 op_tests limits room kept m EndGroup h = busy_tests m h ++ end_group_tests m h
 op_tests limits room kept m AwaitGroup h = busy_tests m h
@@ -143,9 +144,10 @@ breaks m place _ = []
 
 -- those that its reply gives
 abbrev pub op_gives : ℕ → Op → List Event → Reply → List Event
-op_gives m (Create desc) h reply = []
+op_gives m (Create desc) h reply = starts_task m reply
+op_gives m AwaitOwn h reply = starts_task m reply
 op_gives m EndTask h reply = ends_task m reply
-op_gives m AwaitChildren h reply = waited m reply
+op_gives m (AwaitChildren items) h reply = waited m items reply
 op_gives m OpenGroup h reply = opens_group m h reply
 op_gives m EndGroup h reply = ends_group m h reply
 op_gives m AwaitGroup h reply = ends_group m h reply
@@ -158,7 +160,8 @@ op_gives m (Break place) h reply = breaks m place reply
 
 -- an operation that goes on with a wait and gives no event before its reply
 abbrev pub goes_on_waiting : Op → Bool
-goes_on_waiting AwaitChildren = true
+goes_on_waiting AwaitOwn = true
+goes_on_waiting (AwaitChildren items) = true
 goes_on_waiting EndGroup = true
 goes_on_waiting AwaitGroup = true
 goes_on_waiting AwaitBarrier = true
@@ -183,9 +186,10 @@ op_after m op reply h = op_gives m op (begun m op h) reply ++ begun m op h
 
 -- the reply to an operation that no test refuses, by the events once it has begun
 abbrev pub OpReply : ℕ → ℕ → Op → List Event → Reply → Type 0
-OpReply members m (Create desc) h reply = CreatesTask h reply
-OpReply members m EndTask h reply = EndsTask (executed_task m h) reply
-OpReply members m AwaitChildren h reply = AwaitsChildren m h reply
+OpReply members m (Create desc) h reply = CreatesTask m h reply
+OpReply members m AwaitOwn h reply = CreatesTask m h reply
+OpReply members m EndTask h reply = EndsTask (executed_task m h) h reply
+OpReply members m (AwaitChildren items) h reply = AwaitsChildren m items h reply
 OpReply members m OpenGroup h reply = reply ≡ Finished
 OpReply members m EndGroup h reply = AwaitsGroup m h reply
 OpReply members m AwaitGroup h reply = AwaitsGroup m h reply

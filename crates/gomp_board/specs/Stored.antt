@@ -25,7 +25,7 @@ stored (event ∷ earlier) = if is_stored event then event ∷ stored earlier el
 
 -- an event that changes nothing for a board: it is not stored, and it ends no taskwait
 abbrev pub IsAside : Event → Type 0
-IsAside (Waited m) = ⊥
+IsAside (Waited m items) = ⊥
 IsAside event = OnTrue (is_stored event) ⊥
 
 -- each of these

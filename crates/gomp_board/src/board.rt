@@ -9,23 +9,27 @@ ghost use Rattle.gomp_types.specs.Tasks.{executed_task};
 ghost use Rattle.gomp_types.specs.TaskCalls.{first_room};
 ghost use Rattle.gomp_types.specs.TaskRules.{TaskRule};
 ghost use Rattle.gomp_board.specs.Boards.{Stands, IsAdmitted, Performs, members_of};
+ghost use Rattle.gomp_board.specs.declared.op.Op.TheVariants.{Create, AwaitChildren};
 
 use crate::op::Op;
 use crate::payloads::Payloads;
 use gomp_barrier::Barriers;
+use gomp_depend::Depends;
 use gomp_groups::Groups;
 use gomp_ready::Ready;
 use gomp_tasks::Tasks;
-use gomp_types::{Clash, Event, Limits, Reply, Task};
+use gomp_types::{Clash, Dep, Event, Limits, Reply, Task, TaskDesc};
 use std::alloc::{AllocError, Global};
 use std::marker::Model;
 
 /// The board of one team of 1 to 64 members, numbered from 0.
 ///
 /// Only `new`, and operations that ask for room for events (`Create`, `OpenGroup`, `Arrive` at a
-/// barrier, `Reserve`, `Put` and `Got` of a member that keeps none), take memory.
+/// barrier, `Reserve`, `Put` and `Got` of a member that keeps none), take memory. The items of a
+/// task are copied twice at its creation; a task without items takes no memory for them.
 #[derive(Debug, Drop)]
 pub struct Board {
+    pub(crate) alloc: Global,
     pub(crate) limits: Limits,
     pub(crate) history: Vec<Event>,
     pub(crate) room: u32,
@@ -34,6 +38,7 @@ pub struct Board {
     pub(crate) tasks: Tasks,
     pub(crate) groups: Groups,
     pub(crate) barriers: Barriers,
+    pub(crate) depends: Depends,
     pub(crate) ready: Ready,
     pub(crate) payloads: Payloads,
 }
@@ -44,9 +49,9 @@ impl Model for Board {
 
     ghost Value = { BoardView };
 
-    ghost view = { λ b. record { limits = b.limits; history = b.history.items; room = b.room; kept = b.kept.items; clash = b.clash; tasks = b.tasks; groups = b.groups; barriers = b.barriers; ready = b.ready.ids; payloads = b.payloads } };
+    ghost view = { λ b. record { limits = b.limits; history = b.history.items; room = b.room; kept = b.kept.items; clash = b.clash; tasks = b.tasks; groups = b.groups; barriers = b.barriers; depends = b.depends; ready = b.ready.ids; payloads = b.payloads } };
 
-    ghost invariant = { λ b. IsBoard (vec_capacity b.history) (record { limits = b.limits; history = b.history.items; room = b.room; kept = b.kept.items; clash = b.clash; tasks = b.tasks; groups = b.groups; barriers = b.barriers; ready = b.ready.ids; payloads = b.payloads }) };
+    ghost invariant = { λ b. IsBoard (vec_capacity b.history) (record { limits = b.limits; history = b.history.items; room = b.room; kept = b.kept.items; clash = b.clash; tasks = b.tasks; groups = b.groups; barriers = b.barriers; depends = b.depends; ready = b.ready.ids; payloads = b.payloads }) };
 }
 
 impl Board {
@@ -62,6 +67,7 @@ impl Board {
     {
         let room = 2 * count as u32 + 1;
         Ok(Board {
+            alloc,
             limits: limits.capped_limits(),
             history: Vec::with_capacity(alloc, room as usize)?,
             room,
@@ -70,6 +76,7 @@ impl Board {
             tasks: Tasks::make(alloc, count)?,
             groups: Groups::make(alloc, count)?,
             barriers: Barriers::make(alloc, count)?,
+            depends: Depends::new(alloc),
             ready: Ready::new(alloc),
             payloads: Payloads::new(),
         })
@@ -98,9 +105,10 @@ impl Board {
         ensures performs { Performs op member self.old self.new result }
     {
         match op {
-            Op::Create(desc) => self.create(member, desc),
+            Op::Create(desc) => self.create(member, &desc),
+            Op::AwaitOwn => self.await_own(member),
             Op::EndTask => self.end_task(member),
-            Op::AwaitChildren => self.await_children(member),
+            Op::AwaitChildren(items) => self.await_children(member, items.as_slice()),
             Op::OpenGroup => self.open_group(member),
             Op::EndGroup => self.end_group(member),
             Op::AwaitGroup => self.await_group(member),
@@ -110,6 +118,31 @@ impl Board {
             Op::Put { share, words } => self.put_words(member, share, words),
             Op::Got { share, words } => self.give_words(member, share, words),
             Op::Break(place) => self.stop(member, place),
+        }
+    }
+
+    /// The member, numbered from 0, creates a task in the one that it executes: the same as
+    /// [`step`](Board::step) with `Create`, of a description that the caller keeps.
+    pub fn create_task(&mut self, member: u16, desc: &TaskDesc) -> Reply
+        requires member { member < members_of self.old }
+        ensures performs { Performs (Create desc.now) member self.old self.new result }
+    {
+        match self.creation_first(member, desc.deps.as_slice()) {
+            None => self.create(member, desc),
+            Some(refusal) => Reply::Refused(refusal),
+        }
+    }
+
+    /// The member waits, or waits on, for the children of that task, with items for those that a child
+    /// with these items waits for: the same as [`step`](Board::step) with `AwaitChildren`, of items
+    /// that the caller keeps.
+    pub fn wait_for_children(&mut self, member: u16, items: &[Dep]) -> Reply
+        requires member { member < members_of self.old }
+        ensures performs { Performs (AwaitChildren items.now) member self.old self.new result }
+    {
+        match self.taskwait_first(member) {
+            None => self.await_children(member, items),
+            Some(refusal) => Reply::Refused(refusal),
         }
     }
 

@@ -22,3 +22,4 @@ mod words;
 
 pub use board::Board;
 pub use op::Op;
+pub use queries::items_refusal;

@@ -1,6 +1,6 @@
 //! What a team asks of its board.
 
-use gomp_types::{Payload, Place, Tag, TaskDesc};
+use gomp_types::{Deps, Payload, Place, Tag, TaskDesc};
 
 /// One call of a member, as far as it is the board's: the call itself, or the wait that a repeated
 /// call goes on with.
@@ -8,10 +8,14 @@ use gomp_types::{Payload, Place, Tag, TaskDesc};
 pub enum Op {
     /// Creates a task in the task that the member executes (OpenMP API 5.2, section 12.5).
     Create(TaskDesc),
+    /// Goes on with the creation of the task that was created last in that one: the member starts it
+    /// if it is undeferred and may be started, and else waits, or executes another.
+    AwaitOwn,
     /// Ends that task.
     EndTask,
-    /// Waits, or waits on, for the children of that task (section 15.5).
-    AwaitChildren,
+    /// Waits, or waits on, for the children of that task, with items for those of them that a child
+    /// with these items waits for (section 15.5). Any number of items is allowed here.
+    AwaitChildren(Deps),
     /// Opens a group in that task (section 15.4).
     OpenGroup,
     /// Ends the last open group of that task, or waits for the group's tasks.

@@ -4,14 +4,14 @@
 ghost use Rattle.std.specs.Prelude.{◌≡◌, ◌<◌, List};
 ghost use Rattle.gomp_types.specs.declared.event.Event.{Event};
 ghost use Rattle.gomp_types.specs.Least.{least};
-ghost use Rattle.gomp_types.specs.TaskCalls.{outside_tasks_tests, group_open_tests, create_tests, end_task_tests, end_group_tests, room_tests};
+ghost use Rattle.gomp_types.specs.TaskCalls.{outside_tasks_tests, group_open_tests, items_tests, create_tests, end_task_tests, end_group_tests, room_tests};
 ghost use Rattle.gomp_barrier.specs.Stands.{members_of as barrier_members};
 ghost use Rattle.gomp_board.specs.Boards.{Stands, members_of};
 
 use crate::board::Board;
-use crate::refusals::first;
+use crate::refusals::{first, has_too_many};
 use gomp_barrier::Barriers;
-use gomp_types::{Clash, Limits, Refusal};
+use gomp_types::{Clash, Dep, Limits, Refusal};
 
 impl Board {
     /// The team's barriers: who has arrived where.
@@ -56,13 +56,15 @@ impl Board {
     }
 
     /// Why it does not create a task: `TooDeep` if the task that it executes lies as deep as a task
-    /// may, `TooManyTasks` if the team has created as many as its limits allow (section 12.5).
-    pub fn creation_refusal(&self, member: u16) -> Option<Refusal>
+    /// may, `TooManyTasks` if the team has created as many as its limits allow, `TooManyDepends` if it
+    /// has more than 16 items (section 12.5).
+    pub fn creation_refusal(&self, member: u16, items: &[Dep]) -> Option<Refusal>
         requires member { member < members_of self.now }
         ensures value { (h : List Event) → Stands self.now h →
-            result ≡ least (create_tests self.now.limits member h) }
+            result ≡ least (create_tests self.now.limits items.now member h) }
     {
-        let many = first(self.has_all_tasks(), Refusal::TooManyTasks, None);
+        let named = items_refusal(items);
+        let many = first(self.has_all_tasks(), Refusal::TooManyTasks, named);
         first(self.is_deepest(member), Refusal::TooDeep, many)
     }
 
@@ -94,4 +96,12 @@ impl Board {
     {
         first(self.lacks_room(more), Refusal::TraceFull, None)
     }
+}
+
+/// Why no `depend` clause has these items: `TooManyDepends` if there are more than 16, counted as
+/// they are written (own).
+pub fn items_refusal(items: &[Dep]) -> Option<Refusal>
+    ensures { result ≡ least (items_tests items.now) }
+{
+    first(has_too_many(items), Refusal::TooManyDepends, None)
 }

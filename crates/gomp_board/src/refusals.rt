@@ -1,16 +1,18 @@
 //! Why an operation is refused.
 
-ghost use Rattle.std.specs.Prelude.{◌≡◌, ◌<◌, List, [], ◌∷◌, ◌++◌, Option, Some, None, if◌then◌else◌, nat_le};
+ghost use Rattle.std.specs.Prelude.{◌≡◌, ◌<◌, List, [], ◌∷◌, ◌++◌, Option, Some, None, if◌then◌else◌, nat_le, nat_lt, length, reverse};
 ghost use Rattle.gomp_types.specs.declared.event.Event.{Event};
-ghost use Rattle.gomp_types.specs.declared.limits.TheConstants.{MAX_TASK_DEPTH};
+ghost use Rattle.gomp_types.specs.declared.depend.Dep.{Dep as Item};
+ghost use Rattle.gomp_types.specs.declared.task.TaskDesc.{TaskDesc};
+ghost use Rattle.gomp_types.specs.declared.limits.TheConstants.{MAX_TASK_DEPTH, MAX_DEPENDS};
 ghost use Rattle.gomp_types.specs.declared.refusal.Refusal.TheVariants.{Mismatch};
 ghost use Rattle.gomp_types.specs.Compare.{tag_differs};
 ghost use Rattle.gomp_types.specs.Events.{barriers_passed, tag_at};
 ghost use Rattle.gomp_types.specs.Tasks.{executed_task, in_task, depth_of, tasks_created};
 ghost use Rattle.gomp_types.specs.Tests.{Test, first_refusal};
 ghost use Rattle.gomp_types.specs.TaskCalls.{group_is_open, lacks_room, create_tests, end_task_tests, end_group_tests, outside_tasks_tests, room_tests, task_room, group_room};
-ghost use Rattle.gomp_board.specs.declared.op.Op.TheVariants.{Arrive};
-ghost use Rattle.gomp_board.specs.Ops.{op_refusal, op_tests, busy_tests, end_tests, arrival_asks, words_ask, awaits_barrier};
+ghost use Rattle.gomp_board.specs.declared.op.Op.TheVariants.{Create, AwaitChildren, Arrive};
+ghost use Rattle.gomp_board.specs.Ops.{op_refusal, op_tests, member_tests, busy_tests, end_tests, arrival_asks, words_ask, awaits_barrier};
 ghost use Rattle.gomp_board.specs.Boards.{Stands, members_of, kept_by};
 
 use crate::arrivals::arrival_asks;
@@ -19,26 +21,68 @@ use crate::groups::GROUP_ROOM;
 use crate::op::Op;
 use crate::tasks::TASK_ROOM;
 use crate::words::words_ask;
-use gomp_types::{Arrival, MAX_TASK_DEPTH, Place, Refusal, Tag, Task};
+use gomp_types::{Arrival, Dep, MAX_DEPENDS, MAX_TASK_DEPTH, Place, Refusal, Tag, Task};
 
 impl Board {
     /// Why the operation of the member, numbered from 0, is refused, want of memory aside: of the
     /// tests that hold the one whose refusal has the least number. `Ended` and `Broken` may refuse
     /// any; `Waiting`, `InsideTask`, `NotInTask`, `NotInside`, `NoGroup`, `GroupOpen`, `TooDeep`,
-    /// `TooManyTasks`, `Mismatch` and `TraceFull` those that have such a test (`op_tests` in
+    /// `TooManyTasks`, `TooManyDepends`, `Mismatch` and `TraceFull` those that have such a test (`op_tests` in
     /// specs/Ops.antt).
     pub fn first_refusal(&self, member: u16, op: &Op) -> Option<Refusal>
         requires member { member < members_of self.now }
         ensures value { (h : List Event) → Stands self.now h → result ≡ op_refusal
             self.now.limits self.now.room (kept_by member self.now) member op.now h }
     {
+        match self.team_refusal(member) {
+            Some(refusal) => Some(refusal),
+            None => self.test_refusal(member, op),
+        }
+    }
+
+    /// Why no task with these items is created, by all tests of a creation.
+    pub(crate) fn creation_first(&self, member: u16, items: &[Dep]) -> Option<Refusal>
+        requires member { member < members_of self.now }
+        ensures known { Stands self.now (reverse self.now.history) }
+        ensures value { (h : List Event) (desc : TaskDesc) → Stands self.now h →
+            desc.deps ≡ items.now → result ≡ op_refusal self.now.limits self.now.room
+            (kept_by member self.now) member (Create desc) h }
+    {
+        match self.team_refusal(member) {
+            Some(refusal) => Some(refusal),
+            None => self.create_refusal(member, items),
+        }
+    }
+
+    /// Why a member does not wait for children, by all tests of such a wait.
+    pub(crate) fn taskwait_first(&self, member: u16) -> Option<Refusal>
+        requires member { member < members_of self.now }
+        ensures known { Stands self.now (reverse self.now.history) }
+        ensures value { (h : List Event) (items : List Item) → Stands self.now h →
+            result ≡ op_refusal self.now.limits self.now.room (kept_by member self.now) member
+            (AwaitChildren items) h }
+    {
+        match self.team_refusal(member) {
+            Some(refusal) => Some(refusal),
+            None => first(self.awaits_barrier(member), Refusal::Waiting, None),
+        }
+    }
+
+    /// Why any operation of the member is refused: it has passed the region's end, or the team is
+    /// broken.
+    fn team_refusal(&self, member: u16) -> Option<Refusal>
+        requires member { member < members_of self.now }
+        ensures known { Stands self.now (reverse self.now.history) }
+        ensures value { (h : List Event) → Stands self.now h →
+            result ≡ first_refusal (member_tests member h) }
+    {
         if self.barriers.look(member).left {
             return Some(Refusal::Ended);
         }
-        if let Some(clash) = self.clash {
-            return Some(Refusal::Broken(clash));
+        match self.clash {
+            Some(clash) => Some(Refusal::Broken(clash)),
+            None => None,
         }
-        self.test_refusal(member, op)
     }
 
     /// Why the tests of the operation itself refuse it.
@@ -48,9 +92,10 @@ impl Board {
             (op_tests self.now.limits self.now.room (kept_by member self.now) member op.now h) }
     {
         match op {
-            Op::Create(_) => self.create_refusal(member),
+            Op::Create(desc) => self.create_refusal(member, desc.deps.as_slice()),
+            Op::AwaitOwn => first(self.awaits_barrier(member), Refusal::Waiting, None),
             Op::EndTask => self.end_task_refusal(member),
-            Op::AwaitChildren => first(self.awaits_barrier(member), Refusal::Waiting, None),
+            Op::AwaitChildren(_) => first(self.awaits_barrier(member), Refusal::Waiting, None),
             Op::OpenGroup => self.open_group_refusal(member),
             Op::EndGroup => self.end_group_refusal(member),
             Op::AwaitGroup => first(self.awaits_barrier(member), Refusal::Waiting, None),
@@ -63,15 +108,16 @@ impl Board {
         }
     }
 
-    /// Why a task is not created.
-    fn create_refusal(&self, member: u16) -> Option<Refusal>
+    /// Why a task with these items is not created.
+    fn create_refusal(&self, member: u16, items: &[Dep]) -> Option<Refusal>
         requires member { member < members_of self.now }
         ensures value { (h : List Event) → Stands self.now h → result ≡ first_refusal
-            (busy_tests member h ++ (create_tests self.now.limits member h
+            (busy_tests member h ++ (create_tests self.now.limits items.now member h
             ++ room_tests self.now.limits self.now.room task_room)) }
     {
         let full = first(self.lacks_room(TASK_ROOM), Refusal::TraceFull, None);
-        let many = first(self.has_all_tasks(), Refusal::TooManyTasks, full);
+        let named = first(has_too_many(items), Refusal::TooManyDepends, full);
+        let many = first(self.has_all_tasks(), Refusal::TooManyTasks, named);
         let deep = first(self.is_deepest(member), Refusal::TooDeep, many);
         first(self.awaits_barrier(member), Refusal::Waiting, deep)
     }
@@ -258,6 +304,13 @@ impl Board {
         let wanted = self.room as u64 + more as u64;
         more > 0 && limit < wanted
     }
+}
+
+/// Whether a `depend` clause has more items than it may have.
+pub(crate) fn has_too_many(items: &[Dep]) -> bool
+    ensures { result ≡ nat_lt MAX_DEPENDS (length items.now) }
+{
+    MAX_DEPENDS < items.len()
 }
 
 /// The refusal if the test holds, and else the other one.

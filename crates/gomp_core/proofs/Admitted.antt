@@ -1,5 +1,5 @@
 -- What is known of a step that no test refuses, from a record whose replies have their causes.
-use Rattle.std.proofs.Common.{◌≡◌, ◌≤◌, ℕ, ◌<◌, Bool, true, false, List, [], ◌∷◌, ◌++◌, Option, Some, None, length, refl, ap, sym, ◌∙◌, subst, suc, arith, inl, inr}
+use Rattle.std.proofs.Common.{◌≡◌, ◌≤◌, ℕ, ◌<◌, Bool, true, false, List, [], ◌∷◌, ◌++◌, Option, Some, None, length, refl, ap, sym, ◌∙◌, subst, arith, inl, inr}
 use Rattle.std.specs.Prelude.{if◌then◌else◌, ◌==◌}
 use Rattle.std.proofs.lemmas.Bool.{cases_lt}
 use Rattle.gomp_types.specs.declared.call.Call.{Call}
@@ -128,11 +128,12 @@ step_below p step good =
 
 -- The calls at which tasks were started
 
-covers_length : (calls : List Call) (tasks : List ℕ) → Covers calls tasks → length calls ≡ length tasks
-covers_length [] [] covers = refl
-covers_length [] (task ∷ tasks) covers = absurd covers
-covers_length (call ∷ calls) [] covers = absurd covers
-covers_length (call ∷ calls) (task ∷ tasks) covers = ap suc (covers_length calls tasks covers)
+-- there are as many of them as tasks at most
+covers_length : (k : ℕ) (calls : List Call) (tasks : List ℕ) (h : List Event) → Covers k calls tasks h → length calls ≤ length tasks
+covers_length k calls [] h covers = rw covers (omega arith)
+covers_length k calls (task ∷ tasks) h (inl own) = let most : length calls ≤ length tasks = covers_length k calls tasks h own.1 in omega (arith, most)
+covers_length k [] (task ∷ tasks) h (inr other) = absurd (other.1)
+covers_length k (call ∷ calls) (task ∷ tasks) h (inr other) = let most : length calls ≤ length tasks = covers_length k calls tasks h other.1.1 in omega (arith, most)
 
 own_chosen : {A : Type 0} (n : ℕ) (x y : A) → (if n == n then x else y) ≡ x
 own_chosen n x y = rw (same_number n) refl
@@ -147,5 +148,5 @@ few_beneath terms run step task code arg caused =
     let after = waits_after (Run task code arg false) step.call (p.waits m) in
     let own : q.waits m ≡ after = own_chosen m after (p.waits m) in
     let most : length (task_stack m q.events) ≤ 64 = few_suspended q.terms.members m q.events (task_rules q.terms.members q.events known.rule) in
-    let all : length after.beneath ≡ length (task_stack m q.events) = covers_length after.beneath (task_stack m q.events) (subst (λ (w : Waits). Covers w.beneath (task_stack m q.events)) own (known.each m).covers) in
+    let all : length after.beneath ≤ length (task_stack m q.events) = covers_length m after.beneath (task_stack m q.events) q.events (subst (λ (w : Waits). Covers m w.beneath (task_stack m q.events) q.events) own (known.each m).covers) in
     omega (arith, most, all)

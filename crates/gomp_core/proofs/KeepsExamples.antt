@@ -25,6 +25,7 @@ plain_board = record {
   tasks = record { rows = []; stacks = [] ∷ [] ∷ []; room = 0 };
   groups = record { groups = []; tasks = []; members = []; task_room = 0; group_room = 0 };
   barriers = record { seats = []; front = record { odd = false; number = 0; tag = None; next = None }; tasks = record { even = 0; odd = 0 } };
+  depends = record { rows = []; room = 0 };
   ready = [];
   payloads = replicate OPEN_SHARES None;
 }
@@ -86,7 +87,7 @@ keeps_what_is_left = record {
 }
 
 -- one that finds no memory changes nothing
-pub keeps_without_memory : Keeps one_waits one_waits (TaskCreate (record { code = 1; arg = 2 })) (Refused NoMemory)
+pub keeps_without_memory : Keeps one_waits one_waits (TaskCreate (record { code = 1; arg = 2; undeferred = false; final_task = false; deps = [] })) (Refused NoMemory)
 keeps_without_memory = record {
   members = refl;
   icv = refl;

@@ -4,6 +4,9 @@ use Rattle.std.specs.Prelude.{pos}
 use Rattle.gomp_types.specs.declared.call.Call.{Call}
 use Rattle.gomp_types.specs.declared.call.Call.TheVariants.{LoopStart, LoopNext, LoopEndNowait, SectionsStart, SingleCopyStart, Barrier, RegionEnd, CriticalStart, CriticalEnd, LockInit, NestInit, LockDestroy, TaskCreate, TaskEnd, Taskwait, GroupStart, Resume, Stop}
 use Rattle.gomp_types.specs.declared.call.Step.{Step}
+use Rattle.gomp_types.specs.declared.depend.Dep.{Dep}
+use Rattle.gomp_types.specs.declared.depend.DepKind.TheVariants.{DepIn}
+use Rattle.gomp_types.specs.declared.task.TaskDesc.{TaskDesc}
 use Rattle.gomp_types.specs.declared.lock.LockKind.TheVariants.{Simple, Nest}
 use Rattle.gomp_types.specs.declared.loop_desc.EndKind.TheVariants.{Wait as WaitEnd, Nowait}
 use Rattle.gomp_types.specs.declared.loop_desc.LoopDesc.{LoopDesc}
@@ -35,10 +38,20 @@ made_by one other = step_by 0 one ∷ step_by 0 other ∷ []
 abbrev loop_nowait : LoopDesc
 loop_nowait = record (loop_by Guided 4) { end_kind = Nowait }
 
+-- a task without a clause, and one that waits for what was written and is undeferred
+abbrev plain_task : TaskDesc
+plain_task = record { code = 1; arg = 2; undeferred = false; final_task = false; deps = [] }
+
+abbrev written_before : Dep
+written_before = record { kind = DepIn; addr = 7 }
+
+abbrev undeferred_task : TaskDesc
+undeferred_task = record plain_task { undeferred = true; deps = written_before ∷ [] }
+
 -- the calls that take memory may find none: the start of a name, the making of a lock, and what asks for room
 pub memory_is_taken :
     OnlyTakersLack (made_by (CriticalStart []) NestInit) (Refused NoMemory ∷ Refused NoMemory ∷ []) × OnlyTakersLack (made_by Barrier GroupStart) (Refused NoMemory ∷ Refused NoMemory ∷ [])
-    × OnlyTakersLack (made_by (TaskCreate (record { code = 1; arg = 2 })) (LoopStart (loop_by Guided 4))) (Refused NoMemory ∷ Refused NoMemory ∷ []) × OnlyTakersLack (made_by SingleCopyStart (SectionsStart 2 WaitEnd)) (Refused NoMemory ∷ Refused NoMemory ∷ [])
+    × OnlyTakersLack (made_by (TaskCreate plain_task) (LoopStart (loop_by Guided 4))) (Refused NoMemory ∷ Refused NoMemory ∷ []) × OnlyTakersLack (made_by SingleCopyStart (SectionsStart 2 WaitEnd)) (Refused NoMemory ∷ Refused NoMemory ∷ [])
 memory_is_taken = (
   (λ lacks. (refl, inl refl), (λ lacks. (refl, inl refl), tt)),
   (λ lacks. (refl, inr (omega arith)), (λ lacks. (refl, inr (omega arith)), tt)),
@@ -46,9 +59,9 @@ memory_is_taken = (
   (λ lacks. (refl, inr (omega arith)), (λ lacks. (refl, inr (omega arith)), tt)),
 )
 
--- no other call does, in the first place and behind another reply: a taskwait, the start of a loop without a barrier, the end of a name, the end of the region
+-- no other call does, in the first place and behind another reply: a taskwait with an item, the start of a loop without a barrier, the end of a name, the end of the region
 pub memory_is_not_taken :
-    (OnlyTakersLack (made_by Taskwait LockInit) (Refused NoMemory ∷ LockMade 0 ∷ []) → ⊥) × (OnlyTakersLack (made_by LockInit (LoopStart loop_nowait)) (LockMade 0 ∷ Refused NoMemory ∷ []) → ⊥)
+    (OnlyTakersLack (made_by (Taskwait (written_before ∷ [])) LockInit) (Refused NoMemory ∷ LockMade 0 ∷ []) → ⊥) × (OnlyTakersLack (made_by LockInit (LoopStart loop_nowait)) (LockMade 0 ∷ Refused NoMemory ∷ []) → ⊥)
     × (OnlyTakersLack (made_by LockInit (CriticalEnd [])) (LockMade 0 ∷ Refused NoMemory ∷ []) → ⊥) × (OnlyTakersLack (made_by LockInit RegionEnd) (LockMade 0 ∷ Refused NoMemory ∷ []) → ⊥)
 memory_is_not_taken = (
   λ only. absurd (let memory = (only.0 refl).0 in cc),
@@ -84,7 +97,21 @@ waits_of waiting calls = record { open_call = waiting; beneath = calls }
 -- a wait is kept if the reply is to wait or a refusal; a task is run above the call, which waits again when the task has ended; every other reply closes the wait
 pub waits_that_are_kept :
     (waits_after Wait Barrier no_waits ≡ waits_of (Some Barrier) []) × (waits_after Wait Resume (waits_of (Some Barrier) []) ≡ waits_of (Some Barrier) []) × (waits_after (Refused InsideShare) LoopNext (waits_of (Some Barrier) []) ≡ waits_of (Some Barrier) [])
-    × (waits_after (Run 1 7 9 false) Resume (waits_of (Some Barrier) []) ≡ waits_of None (Barrier ∷ [])) × (waits_after (Run 2 7 9 false) Taskwait (waits_of None (Barrier ∷ [])) ≡ waits_of None (Taskwait ∷ Barrier ∷ []))
-    × (waits_after (TaskDone 2 true) TaskEnd (waits_of None (Taskwait ∷ Barrier ∷ [])) ≡ waits_of (Some Taskwait) (Barrier ∷ []))
-    × (waits_after Passed Resume (waits_of (Some Taskwait) (Barrier ∷ [])) ≡ waits_of None (Barrier ∷ [])) × (waits_after Finished LoopEndNowait no_waits ≡ no_waits)
+    × (waits_after (Run 1 7 9 false) Resume (waits_of (Some Barrier) []) ≡ waits_of None (Barrier ∷ [])) × (waits_after (Run 2 7 9 false) (Taskwait []) (waits_of None (Barrier ∷ [])) ≡ waits_of None (Taskwait [] ∷ Barrier ∷ []))
+    × (waits_after (TaskDone 2 true) TaskEnd (waits_of None (Taskwait [] ∷ Barrier ∷ [])) ≡ waits_of (Some (Taskwait [])) (Barrier ∷ []))
+    × (waits_after Passed Resume (waits_of (Some (Taskwait [])) (Barrier ∷ [])) ≡ waits_of None (Barrier ∷ [])) × (waits_after Finished LoopEndNowait no_waits ≡ no_waits)
 waits_that_are_kept = (refl, refl, refl, refl, refl, refl, refl, refl)
+
+-- an undeferred task closes the creation that starts it, at once or at a resume, and no call waits again when it has ended
+pub waits_of_an_undeferred_task :
+    (waits_after (Run 2 7 9 true) (TaskCreate undeferred_task) (waits_of None (Barrier ∷ [])) ≡ waits_of None (Barrier ∷ []))
+    × (waits_after (Run 2 7 9 true) Resume (waits_of (Some (TaskCreate undeferred_task)) (Barrier ∷ [])) ≡ waits_of None (Barrier ∷ []))
+    × (waits_after (TaskDone 2 false) TaskEnd (waits_of None (Barrier ∷ [])) ≡ waits_of None (Barrier ∷ []))
+waits_of_an_undeferred_task = (refl, refl, refl)
+
+-- while it may not begin its creation waits, and another task is run above that
+pub wait_of_a_held_task :
+    (waits_after Wait (TaskCreate undeferred_task) no_waits ≡ waits_of (Some (TaskCreate undeferred_task)) [])
+    × (waits_after (Run 1 7 9 false) (TaskCreate undeferred_task) no_waits ≡ waits_of None (TaskCreate undeferred_task ∷ []))
+    × (waits_after (TaskDone 1 true) TaskEnd (waits_of None (TaskCreate undeferred_task ∷ [])) ≡ waits_of (Some (TaskCreate undeferred_task)) [])
+wait_of_a_held_task = (refl, refl, refl)

@@ -76,7 +76,7 @@ none_under p step none known arrives =
     let m = step.member in
     let sound = row_is_sound (call_meant step.call (p.waits m).open_call) in
     let outside : in_task m p.events ≡ false = outside_of_tasks (unrefused_step_is_ready p step none known) arrives (λ fail. sound.outside arrives m p fail) in
-    covers_none (p.waits m).beneath (task_stack m p.events) (known.each m).covers (no_task_outside m p.events outside)
+    covers_none m (p.waits m).beneath (task_stack m p.events) p.events (known.each m).covers (no_task_outside m p.events outside)
 
 quiet_meant : (waiting : Option Call) (call : Call) → is_some (row_of (call_meant call waiting)).arrives ≡ false → has_arrived (Some (call_meant call waiting)) ≡ false
 quiet_meant waiting call silent = silent
@@ -176,7 +176,7 @@ awaits_if_repeated p step none known whole there goes = elim (cases_Bool (is_res
   | inr neither ↦ elim (cases_Bool (in_task m p.events)) [
     | inl inside ↦ rw (inside, neither) (in_no_task (at_barrier m p.events))
     | inr outside ↦
-        let under = none_arrived (p.waits m).beneath (covers_none (p.waits m).beneath (task_stack m p.events) (known.each m).covers (no_task_outside m p.events outside)) in
+        let under = none_arrived (p.waits m).beneath (covers_none m (p.waits m).beneath (task_stack m p.events) p.events (known.each m).covers (no_task_outside m p.events outside)) in
         let away = (known.each m).fresh whole (open_is_away m p step.call (p.waits m).open_call passes.wait goes neither) under in
         rw (away.1, neither) refl
   ]

@@ -29,14 +29,17 @@ use std::alloc::Global;
 /// members go through the same constructs in the same order; no member passes a barrier before all
 /// arrived, and have left the constructs before it; a critical name and a lock have at most one owner
 /// at a time, which alone releases it; no member passes a barrier while it holds a critical name; no
-/// task is started twice, or before it is created, or by a member that may not start it; and each wait
-/// ends only after its tasks: those bound to it at a barrier, all of them at the region's end, the
-/// children at a taskwait, those of a group and their descendants at the group's end.
+/// task is started twice, or before it is created, or before the tasks that its `depend` clause names
+/// are complete, or by a member that may not start it; an undeferred task is started by its creator
+/// alone; and each wait ends only after its tasks: those bound to it at a barrier, all of them at the
+/// region's end, the children at a taskwait, or those that its items name, those of a group and their
+/// descendants at the group's end.
 ///
 /// A member waits for a name or a lock only while another owner holds it, and a count that is
 /// answered is the number of open holds of the lock (`HoldReplies`). A task is run with the code and
-/// the argument with which it was created, and the call at which it was started waits again when it
-/// has ended (`TaskReplies`).
+/// the argument with which it was created; a creation and its resume run as their own the task that
+/// they created, and no other; the call at which a deferred task was started waits again when that has
+/// ended, and no call after an undeferred one (`TaskReplies`).
 ///
 /// Refused with `BadTeam` (E38) if the size is not 1 to 64, and with `NoMemory` (E37) if the
 /// memory of the team or of the replies is refused; then the steps are dropped and nothing is kept.

@@ -246,7 +246,7 @@ grandchild_stands = record { opened = refl; created = refl; nested = three_are_n
       (
         record { member = omega arith; number = refl },
         (
-          record { member = omega arith; may = refl },
+          record { member = omega arith; may = refl; own = λ undeferred. absurd (cc) },
           (
             record { member = omega arith; number = refl; current = refl; away = λ free. refl; shallow = omega arith },
             (
@@ -371,7 +371,7 @@ pub groups_are_seen : (q m : ℕ) → (IsAside (Group q m) → ⊥) × (IsAside 
 groups_are_seen q m = (λ is. is, λ is. is)
 
 -- a start and a wait are not, nor is what shares, barriers and locks see
-pub starts_change_no_group : (t m : ℕ) → IsAside (Start t m) × IsAside (Waited m)
+pub starts_change_no_group : (t m : ℕ) → IsAside (Start t m) × IsAside (Waited m [])
 starts_change_no_group t m = (tt, tt)
 
 pub share_events_are_aside : (share m low high k : ℕ) (shape : Shape) → IsAside (Enter share m shape) × IsAside (Take share m low high) × IsAside (Drained share m) × IsAside (End share m) × IsAside (HandOn share m k) × IsAside (Part share m k) × IsAside (PartEnd share m)

@@ -1,5 +1,5 @@
 -- Events, and the rows of groups and tasks that stand for them or do not, that the examples share. Each list has the newest event first. (own)
-use Rattle.std.specs.Prelude.{ℕ, List, [], ◌∷◌, Option, Some, None}
+use Rattle.std.specs.Prelude.{ℕ, false, List, [], ◌∷◌, Option, Some, None}
 use Rattle.gomp_types.specs.declared.task.Task.{Task}
 use Rattle.gomp_types.specs.declared.task.Task.TheVariants.{Implicit, Explicit}
 use Rattle.gomp_types.specs.declared.task.TaskDesc.{TaskDesc}
@@ -11,7 +11,7 @@ use Rattle.gomp_groups.specs.declared.rows.TaskRow.{TaskRow}
 
 -- what some task does
 abbrev pub some_desc : TaskDesc
-some_desc = record { code = 1; arg = 2 }
+some_desc = record { code = 1; arg = 2; undeferred = false; final_task = false; deps = [] }
 
 abbrev pub group_with : Option ℕ → ℕ → GroupRow
 group_with outer pending = record { outer = outer; pending = pending }

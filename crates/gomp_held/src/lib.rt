@@ -52,7 +52,7 @@ pub fn held_refusal(
         Call::Unset(number) => book.unset_refusal(owner, LockKind::Simple, *number),
         Call::SetNest(number) | Call::TestNest(number) => book.nest_refusal(owner, *number),
         Call::UnsetNest(number) => book.unset_refusal(owner, LockKind::Nest, *number),
-        Call::TaskCreate(_) | Call::Taskwait | Call::GroupStart | Call::GroupEnd => None,
+        Call::TaskCreate(_) | Call::Taskwait(_) | Call::GroupStart | Call::GroupEnd => None,
         Call::Stop | Call::Resume => None,
         Call::LoopStart(_)
         | Call::LoopNext

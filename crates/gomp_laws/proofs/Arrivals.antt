@@ -25,7 +25,7 @@ use Rattle.gomp_model.specs.Past.{Past}
 use Rattle.gomp_model.specs.Row.{Row, at_once, begun_past}
 use Rattle.gomp_model.specs.Arrivals.{compared_arrival, passes, arrival_row, ending, outside_tests, barrier_row, region_end_row}
 use Rattle.gomp_laws.proofs.AtOnce.{at_once_sound}
-use Rattle.gomp_laws.proofs.Awaits.{one_await, some_await, await_tells, started_own, started_keeps, begun_holds, begun_rules}
+use Rattle.gomp_laws.proofs.Awaits.{startable_may_start, startable_not_undeferred, one_await, some_await, await_tells, started_own, started_keeps, begun_holds, begun_rules}
 use Rattle.gomp_laws.proofs.TeamShares.{task_rules}
 use Rattle.gomp_laws.proofs.Sound.{AreGiven, memoryless, Ready, IsSound, only_arrives, outside_of_tasks, outside_lasts}
 
@@ -91,7 +91,7 @@ outside_sound kind more room memory clean = record {
   lasts = λ repeated m p ready all may. outside_lasts ready refl (λ arrives fail. fail.0) may;
   waits_for = λ key m p holds may. absurd (cc);
   tells_count = λ key repeated m count p holds ready all may. absurd (cc);
-  runs = λ m p task code arg own may. (refl, refl, may.1, may.2, may.3, refl, refl);
+  runs = λ m p task code arg own may. (refl, refl, startable_not_undeferred m task p.events may.2 ∙ sym may.1, startable_may_start m task p.events may.2, may.3, refl, λ e. absurd (let both = sym may.1 ∙ e in cc));
   ends = λ m p task waiting may. absurd may;
   created = λ repeated m p task ready may. absurd may;
   no_memory = λ m p. (refl, clean m p, refl, refl, λ repeated. compared_clean kind repeated m p.events);
@@ -147,7 +147,7 @@ end_arrival_sound tests kind is = record {
   lasts = λ repeated m p ready all may. outside_lasts ready refl (λ arrives fail. fail.0) may;
   waits_for = λ key m p holds may. absurd (cc);
   tells_count = λ key repeated m count p holds ready all may. absurd (cc);
-  runs = λ m p task code arg own may. (refl, refl, may.1, may.2, may.3, refl, refl);
+  runs = λ m p task code arg own may. (refl, refl, startable_not_undeferred m task p.events may.2 ∙ sym may.1, startable_may_start m task p.events may.2, may.3, refl, λ e. absurd (let both = sym may.1 ∙ e in cc));
   ends = λ m p task waiting may. absurd may;
   created = λ repeated m p task ready may. absurd may;
   no_memory = λ m p. (is.no_memory (seen_of m p.events), refl, refl, refl, λ repeated. compared_clean kind repeated m p.events);

@@ -1,24 +1,28 @@
 -- Waits at which tasks are run: that there is an answer, and one alone but for which task is run, and what the answers give.
-use Rattle.std.proofs.Common.{◌≡◌, ℕ, zero, suc, ◌<◌, Bool, true, false, List, [], ◌∷◌, ◌++◌, Some, refl, arith, inl, inr}
-use Rattle.std.specs.Prelude.{◌⊎◌, ◌==◌, ◌&&◌, not}
+use Rattle.std.proofs.Common.{◌≡◌, ℕ, zero, suc, ◌<◌, Bool, true, false, List, [], ◌∷◌, ◌++◌, Option, Some, refl, sym, ◌∙◌, arith, inl, inr}
+use Rattle.std.specs.Prelude.{◌⊎◌, ◌==◌, not}
 use Rattle.std.proofs.lemmas.Bool.{cases_Bool}
 use Rattle.gomp_types.specs.declared.reply.Reply.{Reply}
-use Rattle.gomp_types.specs.declared.reply.Reply.TheVariants.{Passed, Wait, Run}
+use Rattle.gomp_types.specs.declared.reply.Reply.TheVariants.{Passed, Wait, Created, Run}
 use Rattle.gomp_types.specs.declared.task.TaskDesc.{TaskDesc}
 use Rattle.gomp_types.specs.declared.event.Event.{Event}
 use Rattle.gomp_types.specs.declared.event.Event.TheVariants.{Create}
 use Rattle.gomp_types.specs.Events.{every_member}
 use Rattle.gomp_types.specs.Laws.{Always}
-use Rattle.gomp_types.specs.Tasks.{tasks_created, is_created, has_started, is_complete, task_desc}
-use Rattle.gomp_types.specs.Goals.{is_ready, may_descend, may_start, some_startable}
+use Rattle.gomp_types.specs.Tasks.{tasks_created, is_created, executed_task, task_desc, newest_child, is_undeferred}
+use Rattle.gomp_types.specs.Goals.{is_own, may_start, is_startable, some_startable}
 use Rattle.gomp_types.specs.TaskRules.{TaskRule}
-use Rattle.gomp_types.specs.TaskCalls.{AwaitsTasks, starts_task}
-use Rattle.gomp_types.proofs.Booleans.{and_left, not_both, not_false, false_of_not, every_tells}
+use Rattle.gomp_types.specs.TaskCalls.{HasJob, AwaitsTasks, AwaitsOwn, AnswersCreator, starts_task}
+use Rattle.gomp_types.proofs.Booleans.{and_left, and_right, not_both, not_false, false_of_not, every_tells}
 use Rattle.gomp_types.proofs.OpenTasks.{created_low, created_high}
 use Rattle.gomp_types.proofs.LaterTasks.{old_created}
+use Rattle.gomp_types.proofs.OwnTasks.{child_of_current_is_own}
+use Rattle.gomp_types.proofs.Suspended.{startable_is_fresh}
 use Rattle.gomp_model.specs.Past.{Past}
 use Rattle.gomp_model.specs.Row.{Row, unless_repeated, begun_past, goes_on}
 use Rattle.gomp_laws.specs.Rules.{TeamRule}
+use Rattle.gomp_laws.proofs.NewestChild.{newest_is_child}
+use Rattle.gomp_laws.proofs.TeamShares.{task_rules}
 use Rattle.gomp_laws.proofs.Sound.{Same, Gives, AreGiven, Ready}
 
 -- Tasks that may be started
@@ -30,27 +34,34 @@ some_member_fails (suc n) test e = elim (cases_Bool (test n)) [
   | inr fails ↦ (n, omega arith, fails)
 ]
 
--- if some task may be started, there is one
-pub task_to_start : (m : ℕ) (h : List Event) → some_startable m h ≡ true → (t : ℕ) × (may_start m t h ≡ true)
+-- if some task may be started at a wait, there is one
+pub task_to_start : (m : ℕ) (h : List Event) → some_startable m h ≡ true → (t : ℕ) × (is_startable m t h ≡ true)
 task_to_start m h some =
-    let found = some_member_fails (tasks_created h) (λ k. not (may_start m (suc k) h)) (false_of_not (every_member (tasks_created h) (λ k. not (may_start m (suc k) h))) some) in
-    (suc found.0, not_false (may_start m (suc found.0) h) found.2)
+    let found = some_member_fails (tasks_created h) (λ k. not (is_startable m (suc k) h)) (false_of_not (every_member (tasks_created h) (λ k. not (is_startable m (suc k) h))) some) in
+    (suc found.0, not_false (is_startable m (suc found.0) h) found.2)
 
 -- a task that may be started was created
 pub startable_is_created : (m t : ℕ) (h : List Event) → may_start m t h ≡ true → is_created t h ≡ true
-startable_is_created m t h may = and_left (is_created t h) (not (has_started t h) && not (is_complete t h)) (and_left (is_ready t h) (may_descend m t h) may)
+startable_is_created m t h may = (startable_is_fresh m t h may).0
+
+-- at a wait it may be started, and is not undeferred
+pub startable_may_start : (m t : ℕ) (h : List Event) → is_startable m t h ≡ true → may_start m t h ≡ true
+startable_may_start m t h may = and_right (not (is_undeferred t h)) (may_start m t h) may
+
+pub startable_not_undeferred : (m t : ℕ) (h : List Event) → is_startable m t h ≡ true → is_undeferred t h ≡ false
+startable_not_undeferred m t h may = false_of_not (is_undeferred t h) (and_left (not (is_undeferred t h)) (may_start m t h) may)
 
 -- and then some task may be
-pub startable_is_some : (m t : ℕ) (h : List Event) → may_start m t h ≡ true → some_startable m h ≡ true
-startable_is_some m zero h may = absurd (cc)
+pub startable_is_some : (m t : ℕ) (h : List Event) → is_startable m t h ≡ true → some_startable m h ≡ true
+startable_is_some m zero h may = absurd (let made = startable_is_created m zero h (startable_may_start m zero h may) in cc)
 startable_is_some m (suc k) h may =
-    let high = created_high (suc k) h (startable_is_created m (suc k) h may) in
+    let high = created_high (suc k) h (startable_is_created m (suc k) h (startable_may_start m (suc k) h may)) in
     elim (cases_Bool (some_startable m h)) [
       | inl some ↦ some
       | inr none ↦
-          let each = not_false (every_member (tasks_created h) (λ j. not (may_start m (suc j) h))) none in
-          let off = false_of_not (may_start m (suc k) h) (every_tells (tasks_created h) (λ j. not (may_start m (suc j) h)) k each (omega (arith, high))) in
-          absurd (not_both (may_start m (suc k) h) may off)
+          let each = not_false (every_member (tasks_created h) (λ j. not (is_startable m (suc j) h))) none in
+          let off = false_of_not (is_startable m (suc k) h) (every_tells (tasks_created h) (λ j. not (is_startable m (suc j) h)) k each (omega (arith, high))) in
+          absurd (not_both (is_startable m (suc k) h) may off)
     ]
 
 -- of a task that was created it is known what was asked for
@@ -61,6 +72,10 @@ created_is_described members t (Create task m parent desc ∷ earlier) all made 
   | inr other ↦ let was = created_is_described members t earlier all.1 (old_created t task earlier all.0.number other made) in (was.0, rw other was.1)
 ]
 created_is_described members t (_ ∷ earlier) all made = created_is_described members t earlier all.1 made
+
+-- so its code and its argument are
+described_has_job : (desc : TaskDesc) (told : Option TaskDesc) → told ≡ Some desc → HasJob told desc.code desc.arg
+described_has_job desc told is = rw is (refl, refl)
 
 -- Answers
 
@@ -79,16 +94,20 @@ one_await m met h Wait _ x y = absurd y
 one_await m met h (Run task code arg own) _ x y = absurd y
 one_await m met h _ b x y = absurd x
 
+-- before its goal is met the answer is a task that may be started, or the wait itself
+unmet_wait_answers : {A : Type 0} → (members m : ℕ) (met : Bool) (h : List Event) → Always (TaskRule members) h → met ≡ false → ((task code arg : ℕ) → AwaitsTasks m met h (Run task code arg false) → A) → (AwaitsTasks m met h Wait → A) → A
+unmet_wait_answers members m met h all e runs waits = elim (cases_Bool (some_startable m h)) [
+  | inl some ↦
+      let found = task_to_start m h some in
+      let told = created_is_described members found.0 h all (startable_is_created m found.0 h (startable_may_start m found.0 h found.1)) in
+      runs found.0 told.0.code told.0.arg (e, refl, found.1, described_has_job told.0 (task_desc found.0 h) told.1)
+  | inr none ↦ waits (e, none)
+]
+
 pub some_await : (members m : ℕ) (met : Bool) (h : List Event) → Always (TaskRule members) h → (reply : Reply) × AwaitsTasks m met h reply
 some_await members m met h all = elim (cases_Bool met) [
   | inl e ↦ (Passed, e)
-  | inr e ↦ elim (cases_Bool (some_startable m h)) [
-    | inl some ↦
-        let found = task_to_start m h some in
-        let told = created_is_described members found.0 h all (startable_is_created m found.0 h found.1) in
-        (Run found.0 told.0.code told.0.arg false, (e, refl, found.1, told.1))
-    | inr none ↦ (Wait, (e, none))
-  ]
+  | inr e ↦ unmet_wait_answers members m met h all e (λ task code arg may. (Run task code arg false, may)) (λ may. (Wait, may))
 ]
 
 pub await_tells : (m : ℕ) (met : Bool) (h : List Event) (reply : Reply) → AwaitsTasks m met h reply → (reply ≡ Passed) ⊎ (goes_on reply ≡ true)
@@ -97,6 +116,68 @@ await_tells m met h Wait may = inr refl
 await_tells m met h (Run task code arg own) may = inr refl
 await_tells m met h _ may = absurd may
 
+-- To the creator of an undeferred task
+
+one_own : (m t : ℕ) (h : List Event) (a b : Reply) → AwaitsOwn m t h a → AwaitsOwn m t h b → Same a b
+one_own m t h (Run task code arg own) (Run other other_code other_arg other_own) x y = inr refl
+one_own m t h (Run task code arg true) Wait x y = absurd (not_both (may_start m t h) x.1 y.0)
+one_own m t h (Run task code arg false) Wait x y = one_await m (may_start m t h) h (Run task code arg false) Wait x y
+one_own m t h Wait (Run task code arg true) x y = absurd (not_both (may_start m t h) y.1 x.0)
+one_own m t h Wait (Run task code arg false) x y = one_await m (may_start m t h) h Wait (Run task code arg false) x y
+one_own m t h Wait Wait x y = inl refl
+one_own m t h (Run task code arg own) _ x y = absurd y
+one_own m t h Wait _ x y = absurd y
+one_own m t h _ b x y = absurd x
+
+some_own : (members m t : ℕ) (h : List Event) → Always (TaskRule members) h → (reply : Reply) × AwaitsOwn m t h reply
+some_own members m t h all = elim (cases_Bool (may_start m t h)) [
+  | inl may ↦
+      let told = created_is_described members t h all (startable_is_created m t h may) in
+      (Run t told.0.code told.0.arg true, (refl, may, described_has_job told.0 (task_desc t h) told.1))
+  | inr e ↦ unmet_wait_answers members m (may_start m t h) h all e (λ task code arg may. (Run task code arg false, may)) (λ may. (Wait, may))
+]
+
+-- and to that of any task
+pub one_creator : (held : Bool) (m t : ℕ) (h : List Event) (a b : Reply) → AnswersCreator held m t h a → AnswersCreator held m t h b → Same a b
+one_creator true m t h a b x y = one_own m t h a b x y
+one_creator false m t h a b x y = inl (x ∙ sym y)
+
+pub some_creator : (members : ℕ) (held : Bool) (m t : ℕ) (h : List Event) → Always (TaskRule members) h → (reply : Reply) × AnswersCreator held m t h reply
+some_creator members true m t h all = some_own members m t h all
+some_creator members false m t h all = (Created t, refl)
+
+-- which runs its own task, or one that it may start at a wait
+pub record CreatorRuns (m t task code arg : ℕ) (own : Bool) (h : List Event) : Type 0 where
+  pub held : is_undeferred t h ≡ true
+  pub newest : own ≡ true → task ≡ t
+  pub undeferred : is_undeferred task h ≡ own
+  pub may : may_start m task h ≡ true
+  pub job : HasJob (task_desc task h) code arg
+
+own_runs : (m t task code arg : ℕ) (own : Bool) (h : List Event) → is_undeferred t h ≡ true → AwaitsOwn m t h (Run task code arg own) → CreatorRuns m t task code arg own h
+own_runs m t task code arg true h held may = rw may.0 (record { held = held; newest = λ e. refl; undeferred = held; may = may.1; job = may.2 })
+own_runs m t task code arg false h held may = record {
+  held = held;
+  newest = λ e. absurd (cc);
+  undeferred = startable_not_undeferred m task h may.2;
+  may = startable_may_start m task h may.2;
+  job = may.3;
+}
+
+pub creator_runs : (held : Bool) (m t task code arg : ℕ) (own : Bool) (h : List Event) → is_undeferred t h ≡ held → AnswersCreator held m t h (Run task code arg own) → CreatorRuns m t task code arg own h
+creator_runs true m t task code arg own h is may = own_runs m t task code arg own h is may
+creator_runs false m t task code arg own h is may = absurd (cc)
+
+-- a number is told only of a task that is not undeferred
+pub creator_told : (held : Bool) (m t task : ℕ) (h : List Event) → AnswersCreator held m t h (Created task) → (held ≡ false) × (task ≡ t)
+creator_told true m t task h may = absurd may
+creator_told false m t task h may = (refl, cc)
+
+-- and a creation goes on only for one that is
+pub creator_waits : (held : Bool) (m t : ℕ) (h : List Event) (reply : Reply) → goes_on reply ≡ true → AnswersCreator held m t h reply → held ≡ true
+creator_waits true m t h reply on may = refl
+creator_waits false m t h reply on may = absurd (let told : goes_on reply ≡ false = rw may refl in cc)
+
 -- What they give
 
 pub started_own : (can : Gives) (m : ℕ) (reply : Reply) → AreGiven can m reply (starts_task m reply)
@@ -104,8 +185,32 @@ started_own can m (Run task code arg own) = ((refl, refl), tt)
 started_own can m _ = tt
 
 pub started_keeps : (members m : ℕ) (met : Bool) (h : List Event) (reply : Reply) → m < members → AwaitsTasks m met h reply → Always (TeamRule members) h → Always (TeamRule members) (starts_task m reply ++ h)
-started_keeps members m met h (Run task code arg own) lt may all = (record { member = lt; may = may.2 }, all)
+started_keeps members m met h (Run task code arg own) lt may all = (
+  record {
+    member = lt;
+    may = startable_may_start m task h may.2;
+    own = λ held. absurd (not_both (is_undeferred task h) held (startable_not_undeferred m task h may.2));
+  },
+  all,
+)
 started_keeps members m met h _ lt may all = all
+
+-- the newest child of the task that a member executes is its own
+pub newest_is_own : (members m t : ℕ) (h : List Event) → Always (TaskRule members) h → newest_child (executed_task m h) h ≡ t → is_created t h ≡ true → is_own m t h ≡ true
+newest_is_own members m t h all newest made = child_of_current_is_own members m t h all ∙ newest_is_child members (executed_task m h) t h all newest (created_low t h made)
+
+own_keeps_rule : (members m t : ℕ) (h : List Event) (reply : Reply) → m < members → newest_child (executed_task m h) h ≡ t → AwaitsOwn m t h reply → Always (TeamRule members) h → Always (TeamRule members) (starts_task m reply ++ h)
+own_keeps_rule members m t h (Run task code arg true) lt newest may all = rw may.0 (
+  record { member = lt; may = may.1; own = λ held. newest_is_own members m t h (task_rules members h all) newest (startable_is_created m t h may.1) },
+  all,
+)
+own_keeps_rule members m t h (Run task code arg false) lt newest may all = started_keeps members m (may_start m t h) h (Run task code arg false) lt may all
+own_keeps_rule members m t h _ lt newest may all = all
+
+pub creator_keeps : (members : ℕ) (held : Bool) (m t : ℕ) (h : List Event) (reply : Reply) → m < members → newest_child (executed_task m h) h ≡ t → AnswersCreator held m t h reply → Always (TeamRule members) h →
+    Always (TeamRule members) (starts_task m reply ++ h)
+creator_keeps members true m t h reply lt newest may all = own_keeps_rule members m t h reply lt newest may all
+creator_keeps members false m t h reply lt newest may all = rw may all
 
 -- Calls that have begun
 

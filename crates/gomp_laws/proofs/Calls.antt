@@ -1,5 +1,5 @@
 -- Every call's row is sound: the second list of calls, in proofs alone.
-use Rattle.std.proofs.Common.{ℕ, List, ◌++◌, refl, sym, ◌∙◌, inl}
+use Rattle.std.proofs.Common.{◌≡◌, ℕ, Bool, true, List, ◌++◌, refl, sym, ◌∙◌, inl}
 use Rattle.gomp_types.specs.declared.call.Call.{Call}
 use Rattle.gomp_types.specs.declared.call.Call.TheVariants.{LoopStart, LoopNext, LoopEnd, LoopEndNowait, SectionsStart, SectionsNext, SectionsEnd, SectionsEndNowait, SingleStart, SingleCopyStart, SingleCopyEnd, Resume, OrderedStart, OrderedEnd, Barrier, RegionEnd, CriticalStart, CriticalEnd, LockInit, NestInit, LockDestroy, Set, Test as TestLock, Unset, SetNest, TestNest, UnsetNest, TaskCreate, TaskEnd, Taskwait, GroupStart, GroupEnd, Stop}
 use Rattle.gomp_types.specs.declared.lock.LockKind.TheVariants.{Simple, Nest}
@@ -7,9 +7,12 @@ use Rattle.gomp_types.specs.declared.reply.Reply.{Reply}
 use Rattle.gomp_types.specs.declared.reply.Reply.TheVariants.{Stopped}
 use Rattle.gomp_types.specs.declared.event.Event.{Event}
 use Rattle.gomp_types.specs.Laws.{Always}
+use Rattle.gomp_types.specs.Tasks.{executed_task}
 use Rattle.gomp_laws.specs.Rules.{TeamRule}
+use Rattle.gomp_model.specs.Past.{Past}
+use Rattle.gomp_model.specs.Row.{begun_past, given_after, goes_on}
 use Rattle.gomp_model.specs.Calls.{resume_row, stop_given, stop_row, row_of}
-use Rattle.gomp_laws.proofs.Sound.{AreGiven, IsSound, quiet}
+use Rattle.gomp_laws.proofs.Sound.{AreGiven, HasCreated, Ready, IsSound, quiet}
 use Rattle.gomp_laws.proofs.Loops.{loop_start_sound, loop_next_sound, loop_end_sound, loop_end_nowait_sound}
 use Rattle.gomp_laws.proofs.Sections.{sections_start_sound, sections_next_sound, sections_end_sound, sections_end_nowait_sound}
 use Rattle.gomp_laws.proofs.Singles.{single_start_sound, single_copy_start_sound, single_copy_end_sound}
@@ -17,7 +20,7 @@ use Rattle.gomp_laws.proofs.OrderedParts.{ordered_start_sound, ordered_end_sound
 use Rattle.gomp_laws.proofs.Arrivals.{barrier_sound, region_end_sound}
 use Rattle.gomp_laws.proofs.CriticalNames.{critical_start_sound, critical_end_sound}
 use Rattle.gomp_laws.proofs.Locks.{init_sound, destroy_sound, set_sound, test_sound, unset_sound, set_nest_sound, test_nest_sound, unset_nest_sound}
-use Rattle.gomp_laws.proofs.Tasks.{task_create_sound, task_end_sound, taskwait_sound, group_start_sound, group_end_sound}
+use Rattle.gomp_laws.proofs.Tasks.{creation_lasts, task_create_sound, task_end_sound, taskwait_sound, group_start_sound, group_end_sound}
 
 pub resume_sound : IsSound resume_row
 resume_sound = record {
@@ -108,8 +111,14 @@ row_is_sound (TestNest number) = test_nest_sound number
 row_is_sound (UnsetNest number) = unset_nest_sound number
 row_is_sound (TaskCreate desc) = task_create_sound desc
 row_is_sound TaskEnd = task_end_sound
-row_is_sound Taskwait = taskwait_sound
+row_is_sound (Taskwait items) = taskwait_sound items
 row_is_sound GroupStart = group_start_sound
 row_is_sound GroupEnd = group_end_sound
 row_is_sound Stop = stop_sound
 row_is_sound Resume = resume_sound
+
+-- a call that goes on and creates a task has created an undeferred one
+pub call_has_created : (call : Call) (repeated : Bool) (m : ℕ) (p : Past) (reply : Reply) → Ready (row_of call) repeated m p → (row_of call).may_reply m (begun_past repeated (row_of call) m p) reply → goes_on reply ≡ true →
+    HasCreated (row_of call) (executed_task m p.events) (given_after (row_of call) repeated m p reply)
+call_has_created (TaskCreate desc) repeated m p reply ready may on = creation_lasts desc repeated m p reply ready may on
+call_has_created _ repeated m p reply ready may on = λ desc is. absurd (cc)

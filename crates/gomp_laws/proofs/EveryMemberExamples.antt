@@ -355,7 +355,7 @@ pub team_end_group_of_the_first : RefusedAfter (TeamRule 2) (Group 0 0 ∷ []) (
 team_end_group_of_the_first may = absurd (let last = may.last in cc)
 
 -- it waits for its open child, and goes on
-pub team_wait_open_second : RefusedAfter (TeamRule 2) (Create 1 1 (Implicit 1) one_job ∷ []) (Waited 1)
+pub team_wait_open_second : RefusedAfter (TeamRule 2) (Create 1 1 (Implicit 1) one_job ∷ []) (Waited 1 [])
 team_wait_open_second may = absurd (let complete = may.complete in cc)
 
 -- the first passes in a task, and the second executes none

@@ -12,7 +12,7 @@ use Rattle.gomp_types.specs.Pieces.{Piece, pieces_of}
 use Rattle.gomp_types.specs.Laws.{Happened}
 use Rattle.gomp_types.specs.EventLists.{four, static_four, even_four, at}
 use Rattle.gomp_types.specs.TaskExamples.{one_job}
-use Rattle.gomp_laws.specs.LawExamples.{NeverHappens, taken_twice, taken_ahead, taken_outside, taken_from_another, even_from_another, left_early, nested, left_unentered, ninth_open, two_shapes, part_unordered, part_ahead, part_back, handed_on_open, handed_on_ahead, left_unhanded, put_in_a_loop, given_to_the_executor, left_without_words, passed_alone, arrived_twice, two_tags, stranger, barrier_skipped, share_miscounted, passed_unfinished, arrived_inside, held_by_two, name_held_twice, freed_by_another, passed_with_name, created_twice, created_for_another, uncreated_started, started_by_both, started_beside, started_elsewhere, ended_for_another, ended_beneath, waited_too_short, group_ended_early, group_opened_twice, outer_group_ended, passed_with_open_task, created_behind, ended_with_open_task, after_a_stop, after_the_end}
+use Rattle.gomp_laws.specs.LawExamples.{NeverHappens, taken_twice, taken_ahead, taken_outside, taken_from_another, even_from_another, left_early, nested, left_unentered, ninth_open, two_shapes, part_unordered, part_ahead, part_back, handed_on_open, handed_on_ahead, left_unhanded, put_in_a_loop, given_to_the_executor, left_without_words, passed_alone, arrived_twice, two_tags, stranger, barrier_skipped, share_miscounted, passed_unfinished, arrived_inside, held_by_two, name_held_twice, freed_by_another, passed_with_name, created_twice, created_for_another, uncreated_started, started_by_both, started_beside, started_elsewhere, started_before_writer, undeferred_of_another, ended_for_another, ended_beneath, waited_too_short, group_ended_early, group_opened_twice, outer_group_ended, passed_with_open_task, created_behind, ended_with_open_task, after_a_stop, after_the_end}
 use Rattle.gomp_locks.proofs.BookExamples.{zero_owner, other_owner}
 
 -- Shares
@@ -208,6 +208,14 @@ task_started_beside_never_happens laws = absurd (let down = laws.tasks.descendan
 -- a member starts another's task, and does not wait at a barrier
 pub task_started_elsewhere_never_happens : NeverHappens 2 started_elsewhere
 task_started_elsewhere_never_happens laws = absurd (let down = laws.tasks.descendants.0.1 refl in cc)
+
+-- a reader is started before the writer that it names is done
+pub reader_started_before_writer_never_happens : NeverHappens 1 started_before_writer
+reader_started_before_writer_never_happens laws = elim (laws.tasks.after_named.0 1 refl).1 [ inl e ↦ absurd (cc) | inr (inl e) ↦ absurd (cc) | inr (inr never) ↦ never ]
+
+-- a member that waits at a barrier starts an undeferred task of another's
+pub undeferred_task_of_another_never_started : NeverHappens 2 undeferred_of_another
+undeferred_task_of_another_never_started laws = elim (laws.tasks.own.0 refl).1 [ inl e ↦ absurd (cc) | inr (inl e) ↦ absurd (cc) | inr (inr never) ↦ never ]
 
 -- a member ends a task that another has started
 pub task_ended_for_another_never_happens : NeverHappens 2 ended_for_another

@@ -12,11 +12,11 @@ use Rattle.gomp_types.specs.declared.refusal.Refusal.TheVariants.{Mismatch}
 use Rattle.gomp_types.specs.declared.reply.Reply.{Reply}
 use Rattle.gomp_types.specs.declared.reply.Reply.TheVariants.{Passed, Wait, Run, TaskDone, Refused}
 use Rattle.gomp_types.specs.declared.event.Event.{Event}
-use Rattle.gomp_types.specs.declared.event.Event.TheVariants.{Arrive, Put, Pass}
+use Rattle.gomp_types.specs.declared.event.Event.TheVariants.{Arrive, Put, Pass, Start, Done, Break}
 use Rattle.gomp_types.specs.declared.task.Task.TheVariants.{Explicit}
 use Rattle.gomp_types.specs.Events.{barriers_passed, arrival, at_barrier, clash_of}
 use Rattle.gomp_types.specs.Laws.{Always}
-use Rattle.gomp_types.specs.Tasks.{innermost_task, task_stack, executed_task, in_task, after_first}
+use Rattle.gomp_types.specs.Tasks.{innermost_task, task_stack, executed_task, in_task, after_first, is_undeferred}
 use Rattle.gomp_laws.specs.Rules.{TeamRule}
 use Rattle.gomp_types.specs.Seen.{seen_of}
 use Rattle.gomp_types.proofs.Booleans.{is_equal, same_number, and_left, and_right, false_of_not}
@@ -28,11 +28,12 @@ use Rattle.gomp_model.specs.Row.{Row, unless_repeated, begun_past, place_tests, 
 use Rattle.gomp_types.specs.TaskCalls.{room_tests}
 use Rattle.gomp_model.specs.Calls.{stop_row, row_of}
 use Rattle.gomp_model.specs.Team.{Record, call_meant, is_resume, row_at, broken_tests, member_tests, wait_tests, refusal_of, MayAnswer, waits_after, past_after, before_all, past_of, events, Caused}
-use Rattle.gomp_laws.proofs.Sound.{is_run, is_end, shows, Lasts, acts_away, Ready, outside_of_tasks, IsSound, Gives, gives_of, IsLast}
+use Rattle.gomp_laws.proofs.Sound.{is_run, is_end, shows, Lasts, HasCreated, acts_away, Ready, outside_of_tasks, IsSound, Gives, gives_of, IsLast}
 use Rattle.gomp_laws.proofs.CallsKeep.{step_keeps}
-use Rattle.gomp_laws.proofs.Calls.{row_is_sound}
-use Rattle.gomp_laws.proofs.Places.{seen_other, SameBarriers, barriers_other, barriers_own, was_whole, stack_other, stack_own, stack_begun, lasts_other, lasts_own}
-use Rattle.gomp_laws.proofs.Waiting.{Pending, WaitLasts, Covers, has_arrived, some_arrived, IsAway, Fresh, WaitKnown, neither_holds, covers_none, none_arrived, pending_same, lasts_at_break, started_stack, ended_stack, wait_opens_again}
+use Rattle.gomp_laws.proofs.Calls.{row_is_sound, call_has_created}
+use Rattle.gomp_laws.proofs.CoversKeep.{covers_other, created_other, covers_begun, covers_own, quiet_covers, covers_started, covers_ended}
+use Rattle.gomp_laws.proofs.Places.{seen_other, SameBarriers, barriers_other, barriers_own, was_whole, stack_own, stack_begun, lasts_other, lasts_own}
+use Rattle.gomp_laws.proofs.Waiting.{Pending, WaitLasts, WaitCreated, IsMadeIn, Covers, has_arrived, some_arrived, IsAway, Fresh, WaitKnown, neither_holds, covers_none, none_arrived, pending_same, lasts_at_break, created_at_break, started_stack, ended_stack, wait_opens_again, ended_undeferred_covers}
 
 -- the rule holds, what the calls that wait rely on does, and words are still to come
 pub record Known (p : Past) : Type 0 where
@@ -41,7 +42,7 @@ pub record Known (p : Past) : Type 0 where
   pub words : WordsToCome p.events
 
 none_beneath : (k : ℕ) (p : Past) → Known p → in_task k p.events ≡ false → (p.waits k).beneath ≡ []
-none_beneath k p known outside = covers_none (p.waits k).beneath (task_stack k p.events) (known.each k).covers (no_task_outside k p.events outside)
+none_beneath k p known outside = covers_none k (p.waits k).beneath (task_stack k p.events) p.events (known.each k).covers (no_task_outside k p.events outside)
 
 -- What the tests of a step have shown
 
@@ -55,6 +56,11 @@ lasting_meant : (m : ℕ) (call : Call) (waiting : Option Call) (p : Past) → i
 lasting_meant m Resume None p repeated fail lasting = absurd (let never = fail.0 in cc)
 lasting_meant m Resume (Some call) p repeated fail lasting = lasting
 lasting_meant m _ waiting p repeated fail lasting = absurd (cc)
+
+made_meant : (m : ℕ) (call : Call) (waiting : Option Call) (p : Past) → is_resume call ≡ true → WaitCreated m waiting p.events → HasCreated (row_of (call_meant call waiting)) (executed_task m p.events) p.events
+made_meant m Resume None p repeated created = λ desc is. absurd (cc)
+made_meant m Resume (Some call) p repeated created = created
+made_meant m _ waiting p repeated created = absurd (cc)
 
 -- a call that is made while no wait is open
 first_meant : (call : Call) (waiting : Option Call) → is_resume call ≡ false → AllFail (wait_tests call waiting) → is_some (row_of (call_meant call waiting)).arrives ≡ true → has_arrived waiting ≡ false
@@ -109,6 +115,7 @@ made_passes row m p fail =
 record WaitShows (row : Row) (repeated : Bool) (m : ℕ) (p : Past) : Type 0 where
   pending : repeated ≡ true → row.stays ≡ true → AllFail (row.by_place p.terms.limits (seen_of m p.events))
   lasting : repeated ≡ true → Lasts row m p.events
+  made : repeated ≡ true → HasCreated row (executed_task m p.events) p.events
   first : repeated ≡ false → is_some row.arrives ≡ true → in_task m p.events ≡ false → arrival (barriers_passed m p.events) m p.events ≡ None
   away : acts_away row ≡ true → in_task m p.events ≡ false → at_barrier m p.events ≡ false
 
@@ -120,6 +127,7 @@ ready_by row sound true m p lt fail waits words = record {
   team = λ e. absurd (cc);
   missing = fail_later (row.compared true m p) (row.missing m p) fail;
   lasting = waits.lasting;
+  made = waits.made;
   compared = fail_first (row.compared true m p) (row.missing m p) fail;
   first = λ e. absurd (cc);
   away = waits.away;
@@ -133,6 +141,7 @@ ready_by row sound false m p lt fail waits words =
       team = λ e. made.team;
       missing = made.missing;
       lasting = λ e. absurd (cc);
+      made = λ e. absurd (cc);
       compared = made.compared;
       first = λ e arrives. waits.first refl arrives (sound.outside arrives m p made.task);
       away = waits.away;
@@ -176,6 +185,7 @@ unrefused_step_is_ready p step fine known =
     (record {
       pending = λ repeated. pending_meant p.terms.limits step.member step.call waiting p.events repeated old.pending;
       lasting = λ repeated. lasting_meant step.member step.call waiting p repeated all.row old.lasting;
+      made = λ repeated. made_meant step.member step.call waiting p repeated old.created;
       first = λ once arrives outside. (away_outside step.member p whole known (first_meant step.call waiting once all.wait arrives) outside).0;
       away = λ acts outside. (away_outside step.member p whole known (away_meant step.call waiting all.wait acts) outside).1;
     })
@@ -317,39 +327,67 @@ pub ended_task : (row : Row) → IsSound row → (repeated : Bool) (m : ℕ) (p 
 ended_task row sound repeated m p task waiting may =
     ap (innermost_task m) (sym (stack_begun row sound repeated m p)) ∙ (sound.ends m (begun_past repeated row m p) task waiting may).2
 
+-- what lies beneath the task that a call runs
+
+-- the events after it
+pub run_events : (row : Row) → IsSound row → (repeated : Bool) (m : ℕ) (p : Past) (task code arg : ℕ) (own : Bool) → row.may_reply m (begun_past repeated row m p) (Run task code arg own) →
+    events_after repeated row m p (Run task code arg own) ≡ Start task m ∷ (begun_past repeated row m p).events
+run_events row sound repeated m p task code arg own may =
+    let q = begun_past repeated row m p in ap (λ (events : List Event). events ++ q.events) (sound.runs m q task code arg own may).5
+
+pub end_events : (row : Row) → IsSound row → (repeated : Bool) (m : ℕ) (p : Past) (task : ℕ) (waiting : Bool) → row.may_reply m (begun_past repeated row m p) (TaskDone task waiting) →
+    events_after repeated row m p (TaskDone task waiting) ≡ Done task m ∷ (begun_past repeated row m p).events
+end_events row sound repeated m p task waiting may =
+    let q = begun_past repeated row m p in ap (λ (events : List Event). events ++ q.events) (sound.ends m q task waiting may).3
+
+-- a task that is started at a wait covers the call that waits
+covers_with_call : (members m task : ℕ) (h : List Event) (call : Call) (calls : List Call) → Always (TeamRule members) (Start task m ∷ h) → is_undeferred task h ≡ false → IsMadeIn m call (task_stack m h) (Start task m ∷ h) →
+    Covers m calls (task_stack m h) h → Covers m (call ∷ calls) (task_stack m (Start task m ∷ h)) (Start task m ∷ h)
+covers_with_call members m task h call calls rules deferred made covers = rw (same_number m) (inr (deferred, (made, covers_started members m task h calls rules covers)))
+
+-- and one that is the call's own covers none
+covers_without : (members m task : ℕ) (h : List Event) (calls : List Call) → Always (TeamRule members) (Start task m ∷ h) → is_undeferred task h ≡ true →
+    Covers m calls (task_stack m h) h → Covers m calls (task_stack m (Start task m ∷ h)) (Start task m ∷ h)
+covers_without members m task h calls rules held covers = rw (same_number m) (inl (held, covers_started members m task h calls rules covers))
+
 -- The waits after a step
 
 -- of its member, if the wait is closed
-known_when_closed : (p : Past) (step : Step) (reply : Reply) → is_run reply ≡ false → is_end reply ≡ false → Known p →
+known_when_closed : (p : Past) (step : Step) (reply : Reply) → is_run reply ≡ false → is_end reply ≡ false → Known p → Always (TeamRule p.terms.members) (past_after p step reply).events →
     Fresh step.member (record { open_call = None; beneath = (p.waits step.member).beneath }) (past_after p step reply).events →
     WaitKnown p.terms.limits step.member (record { open_call = None; beneath = (p.waits step.member).beneath }) (past_after p step reply).events
-known_when_closed p step reply run end known fresh = record {
+known_when_closed p step reply run end known rule fresh = record {
   pending = tt;
   lasting = tt;
-  covers = subst (λ (tasks : List ℕ). Covers (p.waits step.member).beneath tasks)
-      (sym (stack_own (row_at p step) (row_is_sound (call_meant step.call (p.waits step.member).open_call)) (is_resume step.call) step.member p reply run end)) (known.each step.member).covers;
+  created = tt;
+  covers = covers_own (row_at p step) (row_is_sound (call_meant step.call (p.waits step.member).open_call)) (is_resume step.call) p.terms.members step.member p reply (p.waits step.member).beneath run end rule (known.each step.member).covers;
   beneath = (known.each step.member).beneath;
   fresh = fresh;
 }
 
 -- if it waits
-known_at_wait : (p : Past) (step : Step) → MayAnswer p step Wait → Known p → WaitKnown p.terms.limits step.member (waits_after Wait step.call (p.waits step.member)) (past_after p step Wait).events
-known_at_wait p step may known =
+known_at_wait : (p : Past) (step : Step) → MayAnswer p step Wait → Known p → Always (TeamRule p.terms.members) (past_after p step Wait).events →
+    WaitKnown p.terms.limits step.member (waits_after Wait step.call (p.waits step.member)) (past_after p step Wait).events
+known_at_wait p step may known rule =
     let row = row_at p step in
     let repeated = is_resume step.call in
-    let s = row_is_sound (call_meant step.call (p.waits step.member).open_call) in
+    let m = step.member in
+    let call = call_meant step.call (p.waits m).open_call in
+    let s = row_is_sound call in
+    let now = (past_after p step Wait).events in
     let ready = unrefused_step_is_ready p step may.0 known in record {
-      pending = pending_waiting row s repeated step.member p ready;
-      lasting = lasts_own row s repeated step.member p (s.lasts repeated step.member p ready known.rule may.1);
-      covers = subst (λ (tasks : List ℕ). Covers (p.waits step.member).beneath tasks) (sym (stack_own row s repeated step.member p Wait refl refl)) (known.each step.member).covers;
-      beneath = (known.each step.member).beneath;
+      pending = pending_waiting row s repeated m p ready;
+      lasting = lasts_own row s repeated m p (s.lasts repeated m p ready known.rule may.1);
+      created = subst (λ (tasks : List ℕ). HasCreated row (innermost_task m tasks) now) (sym (stack_own row s repeated m p Wait refl refl)) (call_has_created call repeated m p Wait ready may.1 refl);
+      covers = covers_own row s repeated p.terms.members m p Wait (p.waits m).beneath refl refl rule (known.each m).covers;
+      beneath = (known.each m).beneath;
       fresh = λ whole quiet under. not_there p step Wait may.0 may.1 known quiet under whole;
     }
 
 -- if it executes a task
-known_at_run : (p : Past) (step : Step) (task code arg : ℕ) → MayAnswer p step (Run task code arg false) → Known p →
+known_at_run : (p : Past) (step : Step) (task code arg : ℕ) → MayAnswer p step (Run task code arg false) → Known p → Always (TeamRule p.terms.members) (past_after p step (Run task code arg false)).events →
     WaitKnown p.terms.limits step.member (waits_after (Run task code arg false) step.call (p.waits step.member)) (past_after p step (Run task code arg false)).events
-known_at_run p step task code arg may known =
+known_at_run p step task code arg may known rule =
     let row = row_at p step in
     let repeated = is_resume step.call in
     let m = step.member in
@@ -357,10 +395,22 @@ known_at_run p step task code arg may known =
     let call = call_meant step.call (p.waits m).open_call in
     let s = row_is_sound call in
     let run = s.runs m q task code arg false may.1 in
-    let ready = unrefused_step_is_ready p step may.0 known in record {
+    let ready = unrefused_step_is_ready p step may.0 known in
+    let now = (past_after p step (Run task code arg false)).events in
+    let given : now ≡ Start task m ∷ q.events = run_events row s repeated m p task code arg false may.1 in
+    let rules : Always (TeamRule p.terms.members) (Start task m ∷ q.events) = subst (λ (h : List Event). Always (TeamRule p.terms.members) h) given rule in
+    let stack : task_stack m q.events ≡ task_stack m p.events = stack_begun row s repeated m p in
+    let made : HasCreated row (executed_task m p.events) (Start task m ∷ q.events) =
+    subst (λ (h : List Event). HasCreated row (executed_task m p.events) h) given (call_has_created call repeated m p (Run task code arg false) ready may.1 refl) in
+    let is_made : IsMadeIn m call (task_stack m q.events) (Start task m ∷ q.events) = record {
+      outside = λ arrives. stack ∙ no_task_outside m p.events (outside_of_tasks ready arrives (s.outside arrives m p));
+      created = subst (λ (tasks : List ℕ). HasCreated row (innermost_task m tasks) (Start task m ∷ q.events)) (sym stack) made;
+    } in
+    let old = covers_begun row s repeated p.terms.members m p (p.waits m).beneath rules.1 (known.each m).covers in record {
       pending = tt;
       lasting = tt;
-      covers = subst (λ (tasks : List ℕ). Covers (call ∷ (p.waits m).beneath) tasks) (sym (run_stack row s repeated m p task code arg false may.1)) (known.each m).covers;
+      created = tt;
+      covers = subst (λ (h : List Event). Covers m (call ∷ (p.waits m).beneath) (task_stack m h) h) (sym given) (covers_with_call p.terms.members m task q.events call (p.waits m).beneath rules run.2 is_made old);
       beneath = (
         record {
           moves = run.0;
@@ -375,44 +425,118 @@ known_at_run p step task code arg may known =
           not_there p step (Run task code arg false) may.0 may.1 known none.0 none.1 whole;
     }
 
+-- if that is the call's own, its wait is closed, and nothing lies beneath the task
+known_at_own : (p : Past) (step : Step) (task code arg : ℕ) → MayAnswer p step (Run task code arg true) → Known p → Always (TeamRule p.terms.members) (past_after p step (Run task code arg true)).events →
+    WaitKnown p.terms.limits step.member (waits_after (Run task code arg true) step.call (p.waits step.member)) (past_after p step (Run task code arg true)).events
+known_at_own p step task code arg may known rule =
+    let row = row_at p step in
+    let repeated = is_resume step.call in
+    let m = step.member in
+    let q = begun_past repeated row m p in
+    let s = row_is_sound (call_meant step.call (p.waits m).open_call) in
+    let run = s.runs m q task code arg true may.1 in
+    let now = (past_after p step (Run task code arg true)).events in
+    let given : now ≡ Start task m ∷ q.events = run_events row s repeated m p task code arg true may.1 in
+    let rules : Always (TeamRule p.terms.members) (Start task m ∷ q.events) = subst (λ (h : List Event). Always (TeamRule p.terms.members) h) given rule in
+    let old = covers_begun row s repeated p.terms.members m p (p.waits m).beneath rules.1 (known.each m).covers in record {
+      pending = tt;
+      lasting = tt;
+      created = tt;
+      covers = subst (λ (h : List Event). Covers m (p.waits m).beneath (task_stack m h) h) (sym given) (covers_without p.terms.members m task q.events (p.waits m).beneath rules run.2 old);
+      beneath = (known.each m).beneath;
+      fresh = λ whole quiet under. not_there p step (Run task code arg true) may.0 may.1 known (run.6 refl).0 under whole;
+    }
+
 -- if it has ended one
-known_at_end : (p : Past) (step : Step) (task : ℕ) → MayAnswer p step (TaskDone task true) → Known p →
-    WaitKnown p.terms.limits step.member (waits_after (TaskDone task true) step.call (p.waits step.member)) (past_after p step (TaskDone task true)).events
-known_at_end p step task may known =
+pub not_undeferred : (held : Bool) → true ≡ not held → held ≡ false
+not_undeferred true e = absurd (cc)
+not_undeferred false e = refl
+
+is_held : (held : Bool) → false ≡ not held → held ≡ true
+is_held true e = refl
+is_held false e = absurd (cc)
+
+-- what covered the member's tasks before covers them still
+covered_at_end : (p : Past) (step : Step) (task : ℕ) (waiting : Bool) → MayAnswer p step (TaskDone task waiting) → Known p → Always (TeamRule p.terms.members) (past_after p step (TaskDone task waiting)).events →
+    Covers step.member (p.waits step.member).beneath (task_stack step.member p.events) (past_after p step (TaskDone task waiting)).events
+covered_at_end p step task waiting may known rule =
+    let row = row_at p step in
+    let repeated = is_resume step.call in
+    let m = step.member in
+    let q = begun_past repeated row m p in
+    let s = row_is_sound (call_meant step.call (p.waits m).open_call) in
+    let calls = (p.waits m).beneath in
+    let given : (past_after p step (TaskDone task waiting)).events ≡ Done task m ∷ q.events = end_events row s repeated m p task waiting may.1 in
+    let rules : Always (TeamRule p.terms.members) (Done task m ∷ q.events) = subst (λ (h : List Event). Always (TeamRule p.terms.members) h) given rule in
+    let old = covers_ended p.terms.members m task q.events calls rules (covers_begun row s repeated p.terms.members m p calls rules.1 (known.each m).covers) in
+    subst (λ (h : List Event). Covers m calls (task_stack m p.events) h) (sym given) (subst (λ (tasks : List ℕ). Covers m calls tasks (Done task m ∷ q.events)) (stack_begun row s repeated m p) old)
+
+-- whether the task is undeferred is what is told
+told_at_end : (p : Past) (step : Step) (task : ℕ) (waiting : Bool) → MayAnswer p step (TaskDone task waiting) → waiting ≡ not (is_undeferred task (past_after p step (TaskDone task waiting)).events)
+told_at_end p step task waiting may =
     let row = row_at p step in
     let repeated = is_resume step.call in
     let m = step.member in
     let s = row_is_sound (call_meant step.call (p.waits m).open_call) in
-    let old = known.each m in
-    wait_opens_again p.terms.limits m task (past_after p step (TaskDone task true)).events (p.waits m).beneath (task_stack m p.events)
-    (ended_task row s repeated m p task true may.1) old.covers old.beneath (end_stack row s repeated m p task true may.1)
+    subst (λ (h : List Event). waiting ≡ not (is_undeferred task h)) (sym (end_events row s repeated m p task waiting may.1)) (s.ends m (begun_past repeated row m p) task waiting may.1).1
+
+known_at_end : (p : Past) (step : Step) (task : ℕ) → MayAnswer p step (TaskDone task true) → Known p → Always (TeamRule p.terms.members) (past_after p step (TaskDone task true)).events →
+    WaitKnown p.terms.limits step.member (waits_after (TaskDone task true) step.call (p.waits step.member)) (past_after p step (TaskDone task true)).events
+known_at_end p step task may known rule =
+    let row = row_at p step in
+    let repeated = is_resume step.call in
+    let m = step.member in
+    let s = row_is_sound (call_meant step.call (p.waits m).open_call) in
+    let now = (past_after p step (TaskDone task true)).events in
+    wait_opens_again p.terms.limits m task now (p.waits m).beneath (task_stack m p.events) (ended_task row s repeated m p task true may.1)
+    (not_undeferred (is_undeferred task now) (told_at_end p step task true may)) (covered_at_end p step task true may known rule) (known.each m).beneath (end_stack row s repeated m p task true may.1)
     (λ whole under. not_there p step (TaskDone task true) may.0 may.1 known (s.ends m (begun_past repeated row m p) task true may.1).0 under whole)
 
-answer_known : (p : Past) (step : Step) (reply : Reply) → MayAnswer p step reply → Known p → WaitKnown p.terms.limits step.member (waits_after reply step.call (p.waits step.member)) (past_after p step reply).events
-answer_known p step (Refused Mismatch) may known =
-    let old = known.each step.member in record {
+-- and if that was undeferred, no wait opens again
+known_at_own_end : (p : Past) (step : Step) (task : ℕ) → MayAnswer p step (TaskDone task false) → Known p → Always (TeamRule p.terms.members) (past_after p step (TaskDone task false)).events →
+    WaitKnown p.terms.limits step.member (waits_after (TaskDone task false) step.call (p.waits step.member)) (past_after p step (TaskDone task false)).events
+known_at_own_end p step task may known rule =
+    let row = row_at p step in
+    let repeated = is_resume step.call in
+    let m = step.member in
+    let s = row_is_sound (call_meant step.call (p.waits m).open_call) in
+    let now = (past_after p step (TaskDone task false)).events in
+    let calls = (p.waits m).beneath in record {
+      pending = tt;
+      lasting = tt;
+      created = tt;
+      covers = subst (λ (tasks : List ℕ). Covers m calls tasks now) (sym (end_stack row s repeated m p task false may.1))
+          (ended_undeferred_covers m task now calls (task_stack m p.events) (ended_task row s repeated m p task false may.1) (is_held (is_undeferred task now) (told_at_end p step task false may)) (covered_at_end p step task false may known rule));
+      beneath = (known.each m).beneath;
+      fresh = λ whole quiet under. not_there p step (TaskDone task false) may.0 may.1 known (s.ends m (begun_past repeated row m p) task false may.1).0 under whole;
+    }
+
+answer_known : (p : Past) (step : Step) (reply : Reply) → MayAnswer p step reply → Known p → Always (TeamRule p.terms.members) (past_after p step reply).events →
+    WaitKnown p.terms.limits step.member (waits_after reply step.call (p.waits step.member)) (past_after p step reply).events
+answer_known p step (Refused Mismatch) may known rule =
+    let old = known.each step.member in
+    let place = (row_at p step).place step.member p.events in record {
       pending = pending_same p.terms.limits step.member (p.waits step.member).open_call p.events (past_after p step (Refused Mismatch)).events refl old.pending;
-      lasting = lasts_at_break step.member step.member ((row_at p step).place step.member p.events) (p.waits step.member).open_call p.events old.lasting;
-      covers = old.covers;
+      lasting = lasts_at_break step.member step.member place (p.waits step.member).open_call p.events old.lasting;
+      created = created_at_break step.member step.member place (p.waits step.member).open_call p.events old.created;
+      covers = quiet_covers p.terms.members step.member (Break step.member place) p.events (p.waits step.member).beneath rule (λ task. tt) old.covers;
       beneath = old.beneath;
       fresh = λ whole quiet under. absurd (cc);
     }
-answer_known p step (Refused _) may known = known.each step.member
-answer_known p step Wait may known = known_at_wait p step may known
-answer_known p step (Run task code arg false) may known = known_at_run p step task code arg may known
-answer_known p step (Run task code arg true) may known =
-    absurd (let own = ((row_is_sound (call_meant step.call (p.waits step.member).open_call)).runs step.member (begun_past (is_resume step.call) (row_at p step) step.member p) task code arg true may.1).2 in cc)
-answer_known p step (TaskDone task true) may known = known_at_end p step task may known
-answer_known p step (TaskDone task false) may known =
-    absurd (let waiting = ((row_is_sound (call_meant step.call (p.waits step.member).open_call)).ends step.member (begun_past (is_resume step.call) (row_at p step) step.member p) task false may.1).1 in cc)
-answer_known p step Passed may known =
-    known_when_closed p step Passed refl refl known (λ whole quiet under.
+answer_known p step (Refused _) may known rule = known.each step.member
+answer_known p step Wait may known rule = known_at_wait p step may known rule
+answer_known p step (Run task code arg false) may known rule = known_at_run p step task code arg may known rule
+answer_known p step (Run task code arg true) may known rule = known_at_own p step task code arg may known rule
+answer_known p step (TaskDone task true) may known rule = known_at_end p step task may known rule
+answer_known p step (TaskDone task false) may known rule = known_at_own_end p step task may known rule
+answer_known p step Passed may known rule =
+    known_when_closed p step Passed refl refl known rule (λ whole quiet under.
     elim (cases_Bool (is_some (row_at p step).arrives)) [
       | inl arrives ↦ passed_there p step may.0 known arrives
       | inr silent ↦ not_there p step Passed may.0 may.1 known silent under whole
     ])
-answer_known p step reply may known =
-    known_when_closed p step reply refl refl known (λ whole quiet under.
+answer_known p step reply may known rule =
+    known_when_closed p step reply refl refl known rule (λ whole quiet under.
     elim (cases_Bool (is_some (row_at p step).arrives)) [
       | inl arrives ↦ never_so p step reply arrives may.1 (λ e. cc) refl
       | inr silent ↦ not_there p step reply may.0 may.1 known silent under whole
@@ -428,7 +552,8 @@ other_known p step reply k e rule known =
     let old = known.each k in record {
       pending = pending_same p.terms.limits k (p.waits k).open_call p.events now (seen_other row s repeated k step.member p reply e) old.pending;
       lasting = wait_lasts_other row s repeated p.terms.members k step.member p reply (p.waits k).open_call e rule old.lasting;
-      covers = subst (λ (tasks : List ℕ). Covers (p.waits k).beneath tasks) (sym (stack_other row s repeated k step.member p reply e)) old.covers;
+      created = created_other row s repeated p.terms.members k step.member p reply (p.waits k).open_call e rule old.created;
+      covers = covers_other row s repeated p.terms.members k step.member p reply (p.waits k).beneath e rule old.covers;
       beneath = old.beneath;
       fresh = λ whole quiet under. stays_away k p.events now (barriers_other row s repeated k step.member p reply e) (old.fresh (was_whole row s repeated step.member p reply whole) quiet under);
     }
@@ -437,7 +562,7 @@ other_known p step reply k e rule known =
 waits_known : (p : Past) (step : Step) (reply : Reply) (k : ℕ) → MayAnswer p step reply → Known p → Always (TeamRule p.terms.members) (past_after p step reply).events → WaitKnown p.terms.limits k ((past_after p step reply).waits k) (past_after p step reply).events
 waits_known p step reply k may known rule =
     elim (cases_Bool (step.member == k)) [
-      | inl e ↦ rw e (subst (λ (x : ℕ). WaitKnown p.terms.limits x (waits_after reply step.call (p.waits x)) (past_after p step reply).events) (is_equal step.member k e) (answer_known p step reply may known))
+      | inl e ↦ rw e (subst (λ (x : ℕ). WaitKnown p.terms.limits x (waits_after reply step.call (p.waits x)) (past_after p step reply).events) (is_equal step.member k e) (answer_known p step reply may known rule))
       | inr e ↦ rw e (other_known p step reply k e rule known)
     ]
 
@@ -473,7 +598,7 @@ known_after p step reply may known =
 pub known_first : (terms : Terms) → Known (before_all terms)
 known_first terms = record {
   rule = tt;
-  each = λ k. record { pending = tt; lasting = tt; covers = tt; beneath = tt; fresh = λ whole quiet under. (refl, refl) };
+  each = λ k. record { pending = tt; lasting = tt; created = tt; covers = refl; beneath = tt; fresh = λ whole quiet under. (refl, refl) };
   words = λ k i shape at single piece. absurd (cc);
 }
 

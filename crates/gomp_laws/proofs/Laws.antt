@@ -31,7 +31,8 @@ use Rattle.gomp_laws.proofs.TaskReplies.{task_replies}
 -- before all arrived, and have left the constructs before it; a critical name and a lock have at most one
 -- owner at a time, which alone releases it, and no member passes a barrier while it holds a critical name; a
 -- task is created once, in the task that its creator executes, started once, and ended once by the member that
--- started it; a member that waits starts only a descendant of all tasks that it has started and not ended; a
+-- started it; it is started only after all tasks are done that its `depend` clause names, and an undeferred one
+-- by its creator alone; a member that waits starts only a descendant of all tasks that it has started and not ended; a
 -- taskwait goes on when the children of its task are done, the end of a group when the tasks of the group are,
 -- and a barrier is passed when the tasks that are bound to it are done, the region's end when all are; after a
 -- member passed a barrier no task is created that is bound to it.
@@ -58,8 +59,9 @@ replies_on_names_and_locks = hold_replies
 
 -- A creator is answered the number of the task that it has created, in the task that it executes and with
 -- what it asked for; a task that a member is to execute was created with the code and the argument that are
--- answered, and the member has started it; the end of a task is answered by the number of the task that the
--- member executed, and the call at which it was started waits again.
+-- answered, and the member has started it; it is the member's own exactly if it is undeferred, and then the
+-- member created it by this call; the end of a task is answered by the number of the task that the member
+-- executed, and the call at which it was started waits again, unless the task is undeferred.
 pub replies_on_tasks : (terms : Terms) → (run : Record) → Caused terms run → TaskReplies terms run
 replies_on_tasks = task_replies
 

@@ -6,6 +6,7 @@ pub mod CallsKeep
 pub mod ChunksCount
 pub mod ClauseExamples
 pub mod CopiesKeep
+pub mod CoversKeep
 pub mod CriticalNames
 pub mod EveryMemberExamples
 pub mod HandedOn
@@ -20,6 +21,7 @@ pub mod Laws
 pub mod Layers
 pub mod Locks
 pub mod Loops
+pub mod NewestChild
 pub mod OneReply
 pub mod OrderedClauses
 pub mod OrderedParts

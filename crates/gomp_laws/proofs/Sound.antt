@@ -13,8 +13,10 @@ use Rattle.gomp_types.specs.declared.task.Task.TheVariants.{Explicit}
 use Rattle.gomp_types.specs.declared.task.TaskDesc.{TaskDesc}
 use Rattle.gomp_types.specs.Events.{member_of, barriers_passed, arrival, at_barrier}
 use Rattle.gomp_types.specs.Laws.{Always, Happened}
-use Rattle.gomp_types.specs.Tasks.{executed_task, in_task, task_desc}
+use Rattle.gomp_types.specs.declared.task.Task.{Task}
+use Rattle.gomp_types.specs.Tasks.{executed_task, in_task, task_desc, newest_child, is_undeferred}
 use Rattle.gomp_types.specs.Goals.{may_start}
+use Rattle.gomp_types.specs.TaskCalls.{HasJob}
 use Rattle.gomp_laws.specs.Rules.{TeamRule}
 use Rattle.gomp_types.specs.Seen.{seen_of}
 use Rattle.gomp_types.proofs.Booleans.{and_left, and_right}
@@ -166,6 +168,10 @@ shows false repeated = not repeated
 abbrev pub Lasts : Row → ℕ → List Event → Type 0
 Lasts row m h = (is_some row.arrives ≡ true → in_task m h ≡ false) × ((key : Key) → row.holds ≡ Some key → held_by (asker m h) (holder key h) ≡ false) × MayGoOn row m
 
+-- what a creation that is not answered whole has created in this task: the newest task in it is undeferred, and was asked for so
+abbrev pub HasCreated : Row → Task → List Event → Type 0
+HasCreated row parent h = (desc : TaskDesc) → row.creates ≡ Some desc → (task_desc (newest_child parent h) h ≡ Some desc) × (is_undeferred (newest_child parent h) h ≡ true)
+
 -- whether a call creates a task, or holds or frees something, and does not arrive: while its member waits at a barrier, only a task that it executes makes such a call
 abbrev pub acts_away : Row → Bool
 acts_away row = not (is_some row.arrives) && (is_some row.creates || is_some row.holds)
@@ -179,6 +185,7 @@ pub record Ready (row : Row) (repeated : Bool) (m : ℕ) (p : Past) : Type 0 whe
   pub team : repeated ≡ false → AllFail (row.by_team m p)
   pub missing : AllFail (row.missing m p)
   pub lasting : repeated ≡ true → Lasts row m p.events
+  pub made : repeated ≡ true → HasCreated row (executed_task m p.events) p.events
   pub compared : AllFail (row.compared repeated m p)
   -- a call that arrives has not arrived there before
   pub first : repeated ≡ false → is_some row.arrives ≡ true → arrival (barriers_passed m p.events) m p.events ≡ None
@@ -236,13 +243,14 @@ pub record IsSound (row : Row) : Type 0 where
   -- a count is how often the task that asks holds the lock then
   pub tells_count : (key : Key) (repeated : Bool) (m count : ℕ) (p : Past) → row.holds ≡ Some key → Ready row repeated m p → Always (TeamRule p.terms.members) p.events → row.may_reply m (begun_past repeated row m p) (Count count) →
       count ≡ count_for (asker m p.events) (holder key (given_after row repeated m p (Count count)))
-  -- a task that is run may be started, with what was asked for; its call neither stays in its place nor holds or creates anything, and gives its start alone
+  -- a task that is run may be started, with what was asked for, and is undeferred exactly if it is the call's own, which is the newest that its member created; its call neither stays in its place nor holds anything, and gives its start alone
   pub runs : (m : ℕ) (p : Past) (task code arg : ℕ) (own : Bool) → row.may_reply m p (Run task code arg own) →
-      (row.stays ≡ false) × (row.holds ≡ None) × (own ≡ false) × (may_start m task p.events ≡ true)
-      × (task_desc task p.events ≡ Some (record { code = code; arg = arg })) × (row.gives m p (Run task code arg own) ≡ Start task m ∷ []) × (row.creates ≡ None)
-  -- a task that is done is the one that its member executes, which was started at a wait; its call gives its end alone
+      (row.stays ≡ false) × (row.holds ≡ None) × (is_undeferred task p.events ≡ own) × (may_start m task p.events ≡ true)
+      × HasJob (task_desc task p.events) code arg × (row.gives m p (Run task code arg own) ≡ Start task m ∷ [])
+      × (own ≡ true → (is_some row.arrives ≡ false) × ((desc : TaskDesc) × (row.creates ≡ Some desc)) × (task ≡ newest_child (executed_task m p.events) p.events))
+  -- a task that is done is the one that its member executes, which was started at a wait unless it is undeferred; its call gives its end alone
   pub ends : (m : ℕ) (p : Past) (task : ℕ) (waiting : Bool) → row.may_reply m p (TaskDone task waiting) →
-      (is_some row.arrives ≡ false) × (waiting ≡ true) × (executed_task m p.events ≡ Explicit task) × (row.gives m p (TaskDone task waiting) ≡ Done task m ∷ [])
+      (is_some row.arrives ≡ false) × (waiting ≡ not (is_undeferred task p.events)) × (executed_task m p.events ≡ Explicit task) × (row.gives m p (TaskDone task waiting) ≡ Done task m ∷ [])
       × ((q : Past) → row.begins m q ≡ [])
   -- a task that is told of was created by the call
   pub created : (repeated : Bool) (m : ℕ) (p : Past) (task : ℕ) → Ready row repeated m p → row.may_reply m (begun_past repeated row m p) (Created task) →

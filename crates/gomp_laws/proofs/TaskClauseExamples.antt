@@ -8,7 +8,8 @@ use Rattle.gomp_types.specs.declared.event.Event.{Event}
 use Rattle.gomp_types.specs.declared.event.Event.TheVariants.{Create, Start, Done, Group, GroupEnd, Waited, Arrive, Pass, Hold, Free}
 use Rattle.gomp_types.specs.EventLists.{at}
 use Rattle.gomp_types.specs.Laws.{Always}
-use Rattle.gomp_types.specs.TaskExamples.{after, Allows, one_job, task_tree, across_barrier}
+use Rattle.gomp_types.specs.declared.depend.DepKind.TheVariants.{DepIn, DepOut}
+use Rattle.gomp_types.specs.TaskExamples.{after, Allows, one_job, at_once, item, with_items, task_tree, across_barrier}
 use Rattle.gomp_laws.specs.Rules.{TeamRule}
 use Rattle.gomp_laws.specs.Headline.{Headline}
 use Rattle.gomp_laws.specs.LawExamples.{RefusedAfter, region_with_tasks}
@@ -49,6 +50,22 @@ team_start_at_barrier = search rules
 -- one who is no member starts a task there
 pub team_start_stranger : RefusedAfter (TeamRule 2) (Create 1 0 (Implicit 0) one_job ∷ Arrive 0 2 (at Barrier 0) ∷ []) (Start 1 2)
 team_start_stranger may = absurd (let member = may.member in omega arith)
+
+-- a member that waits at a barrier starts an undeferred task of another's
+pub team_start_undeferred_of_another : RefusedAfter (TeamRule 2) (Create 1 0 (Implicit 0) at_once ∷ Arrive 0 1 (at Barrier 0) ∷ []) (Start 1 1)
+team_start_undeferred_of_another may = absurd (let own = may.own refl in cc)
+
+-- and its own
+pub team_start_undeferred : Allows (TeamRule 2) (Create 1 0 (Implicit 0) at_once ∷ []) (Start 1 0)
+team_start_undeferred = record { member = omega arith; may = refl; own = λ held. refl }
+
+-- a member starts a reader before the writer that it names is done
+pub team_start_before_writer : RefusedAfter (TeamRule 1) (Create 1 0 (Implicit 0) (with_items (item DepOut 1 ∷ [])) ∷ Create 2 0 (Implicit 0) (with_items (item DepIn 1 ∷ [])) ∷ []) (Start 2 0)
+team_start_before_writer may = absurd (let ready = may.may in cc)
+
+-- and once that is done
+pub team_start_after_writer : Allows (TeamRule 1) (Create 1 0 (Implicit 0) (with_items (item DepOut 1 ∷ [])) ∷ Create 2 0 (Implicit 0) (with_items (item DepIn 1 ∷ [])) ∷ Start 1 0 ∷ Done 1 0 ∷ []) (Start 2 0)
+team_start_after_writer = record { member = omega arith; may = refl; own = λ held. absurd (cc) }
 
 -- Tasks are ended
 
@@ -95,12 +112,20 @@ pub team_end_group : Allows (TeamRule 1) (Group 0 0 ∷ in_one_task ++ Done 1 0 
 team_end_group = record { member = omega arith; outer = []; last = refl; complete = refl }
 
 -- it waits for an open child, and goes on
-pub team_wait_open : RefusedAfter (TeamRule 1) (Create 1 0 (Implicit 0) one_job ∷ []) (Waited 0)
+pub team_wait_open : RefusedAfter (TeamRule 1) (Create 1 0 (Implicit 0) one_job ∷ []) (Waited 0 [])
 team_wait_open may = absurd (let complete = may.complete in cc)
 
 -- and once the child is done
-pub team_wait : Allows (TeamRule 1) (in_one_task ++ Done 1 0 ∷ []) (Waited 0)
+pub team_wait : Allows (TeamRule 1) (in_one_task ++ Done 1 0 ∷ []) (Waited 0 [])
 team_wait = search rules
+
+-- it waits with an item for the writer of that address, which is open
+pub team_wait_item_open : RefusedAfter (TeamRule 1) (Create 1 0 (Implicit 0) (with_items (item DepOut 1 ∷ [])) ∷ []) (Waited 0 (item DepIn 1 ∷ []))
+team_wait_item_open may = absurd (let complete = may.complete in cc)
+
+-- and for that of another address
+pub team_wait_other_item : Allows (TeamRule 1) (Create 1 0 (Implicit 0) (with_items (item DepOut 1 ∷ [])) ∷ []) (Waited 0 (item DepIn 2 ∷ []))
+team_wait_other_item = record { member = omega arith; complete = refl }
 
 -- one who is no member opens a group, ends its group, and waits
 pub team_open_group_stranger : RefusedAfter (TeamRule 2) [] (Group 0 2)
@@ -109,7 +134,7 @@ team_open_group_stranger may = absurd (let member = may.member in omega arith)
 pub team_end_group_stranger : RefusedAfter (TeamRule 2) (Group 0 2 ∷ []) (GroupEnd 0 2)
 team_end_group_stranger may = absurd (let member = may.member in omega arith)
 
-pub team_wait_stranger : RefusedAfter (TeamRule 2) [] (Waited 2)
+pub team_wait_stranger : RefusedAfter (TeamRule 2) [] (Waited 2 [])
 team_wait_stranger may = absurd (let member = may.member in omega arith)
 
 -- Barriers

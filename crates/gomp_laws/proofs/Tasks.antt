@@ -1,7 +1,9 @@
 -- The rows of the calls on tasks and groups.
-use Rattle.std.proofs.Common.{◌≡◌, ℕ, ◌<◌, Bool, true, false, List, [], ◌∷◌, ◌++◌, refl, ap, sym, ◌∙◌, arith, inl}
-use Rattle.std.specs.Prelude.{nat_le, not}
+use Rattle.std.proofs.Common.{◌≡◌, ℕ, ◌<◌, suc, Bool, true, false, List, [], ◌∷◌, ◌++◌, Some, refl, ap, sym, ◌∙◌, subst, arith, inl}
+use Rattle.std.specs.Prelude.{ℤ, nat_le, not}
 use Rattle.std.proofs.lemmas.Bool.Decides.{nat_tests}
+use Rattle.gomp_types.specs.declared.depend.Dep.{Dep}
+use Rattle.gomp_types.specs.declared.refusal.Refusal.{Refusal}
 use Rattle.gomp_types.specs.declared.limits.TheConstants.{MAX_TASK_DEPTH}
 use Rattle.gomp_types.specs.declared.reply.Reply.{Reply}
 use Rattle.gomp_types.specs.declared.reply.Reply.TheVariants.{Chunk, Finished, Passed, Wait, Created, Run, TaskDone, Refused}
@@ -11,55 +13,139 @@ use Rattle.gomp_types.specs.declared.task.TaskDesc.{TaskDesc}
 use Rattle.gomp_types.specs.declared.event.Event.{Event}
 use Rattle.gomp_types.specs.declared.event.Event.TheVariants.{Create}
 use Rattle.gomp_types.specs.Laws.{Always, Happened}
-use Rattle.gomp_types.specs.Tasks.{tasks_created, executed_task, of_explicit, depth_of}
+use Rattle.gomp_types.specs.Tasks.{tasks_created, executed_task, of_explicit, depth_of, task_desc, newest_child, is_undeferred}
 use Rattle.gomp_types.specs.Groups.{open_groups}
-use Rattle.gomp_types.specs.Goals.{children_complete}
-use Rattle.gomp_types.specs.TaskCalls.{last_complete, EndsTask, AwaitsChildren, AwaitsGroup, ends_task, waited, opens_group, ends_first, ends_group}
-use Rattle.gomp_types.proofs.Booleans.{not_both}
+use Rattle.gomp_types.specs.Goals.{taskwait_met}
+use Rattle.gomp_types.specs.TaskCalls.{AnswersCreator, last_complete, EndsTask, AwaitsChildren, AwaitsGroup, starts_task, ends_task, waited, opens_group, ends_first, ends_group}
+use Rattle.gomp_types.proofs.Booleans.{not_both, same_number}
+use Rattle.gomp_types.proofs.GroupsKeep.{one_is_same}
 use Rattle.gomp_locks.specs.Holders.{asker, holds_critical}
 use Rattle.gomp_model.specs.Past.{Past}
-use Rattle.gomp_model.specs.Row.{begun_past, given_after, goes_on}
+use Rattle.gomp_model.specs.Row.{Row, begun_past, given_after, goes_on}
 use Rattle.gomp_model.specs.Tasks.{task_create_row, task_end_row, taskwait_row, group_start_row, group_end_row}
 use Rattle.gomp_laws.specs.Rules.{TeamRule}
-use Rattle.gomp_laws.proofs.Awaits.{one_await, some_await, started_own, started_keeps}
+use Rattle.gomp_laws.proofs.Awaits.{startable_may_start, startable_not_undeferred, one_await, some_await, one_creator, some_creator, CreatorRuns, creator_runs, creator_told, creator_waits, started_own, started_keeps, creator_keeps, begun_rules}
 use Rattle.gomp_laws.proofs.TeamShares.{task_rules}
-use Rattle.gomp_laws.proofs.Sound.{Same, AreGiven, Ready, IsSound, quiet, outside_lasts}
+use Rattle.gomp_laws.proofs.Sound.{Same, AreGiven, HasCreated, Ready, IsSound, quiet, only_creates, outside_lasts}
 
 -- Creation
 
 not_deepest : (depth : ℕ) → nat_le MAX_TASK_DEPTH depth ≡ false → depth < MAX_TASK_DEPTH
 not_deepest depth below = grind (arith, nat_tests, below)
 
--- the creation of a task is made once
-created_once : (desc : TaskDesc) (repeated : Bool) (m task : ℕ) (p : Past) → Ready (task_create_row desc) repeated m p → Created task ≡ Created (tasks_created (begun_past repeated (task_create_row desc) m p).events) →
+-- a task that is created now is the newest child of its parent, and was asked for so
+newest_now : (t m : ℕ) (p : Task) (desc : TaskDesc) (h : List Event) → newest_child p (Create t m p desc ∷ h) ≡ t
+newest_now t m p desc h = rw (one_is_same p) refl
+
+desc_now : (t m : ℕ) (p : Task) (desc : TaskDesc) (h : List Event) → task_desc t (Create t m p desc ∷ h) ≡ Some desc
+desc_now t m p desc h = rw (same_number t) refl
+
+-- a creation is made once: one that is repeated tells no number
+created_once : (desc : TaskDesc) (repeated : Bool) (m task : ℕ) (p : Past) → Ready (task_create_row desc) repeated m p → (task_create_row desc).may_reply m (begun_past repeated (task_create_row desc) m p) (Created task) →
     Happened (Create task m (executed_task m p.events) desc) (given_after (task_create_row desc) repeated m p (Created task))
-created_once desc true m task p ready told = let on = (ready.lasting refl).2 in absurd (not_both (goes_on on.1) on.2 (ap goes_on on.3))
-created_once desc false m task p ready told = inl (cc)
+created_once desc true m task p ready may =
+    let t = newest_child (executed_task m p.events) p.events in
+    let told = creator_told (is_undeferred t p.events) m t task p.events may in
+    absurd (not_both (is_undeferred t p.events) ((ready.made refl desc refl).1) told.0)
+created_once desc false m task p ready may =
+    let parent = executed_task m p.events in
+    let h : List Event = Create (suc (tasks_created p.events)) m parent desc ∷ p.events in
+    let told = creator_told (is_undeferred (newest_child parent h) h) m (newest_child parent h) task h may in
+    let number : task ≡ suc (tasks_created p.events) = told.1 ∙ newest_now (suc (tasks_created p.events)) m parent desc p.events in
+    inl (rw number refl)
+
+-- while it goes on the task that it made is undeferred
+same_desc : (one other : TaskDesc) → Some one ≡ Some other → one ≡ other
+same_desc one other e = cc
+
+creation_made : (desc : TaskDesc) (repeated : Bool) (m : ℕ) (p : Past) → Ready (task_create_row desc) repeated m p →
+    is_undeferred (newest_child (executed_task m p.events) (begun_past repeated (task_create_row desc) m p).events) (begun_past repeated (task_create_row desc) m p).events ≡ true →
+    HasCreated (task_create_row desc) (executed_task m p.events) (begun_past repeated (task_create_row desc) m p).events
+creation_made desc true m p ready held = ready.made refl
+creation_made desc false m p ready held = λ other is.
+    let parent = executed_task m p.events in
+    let n = suc (tasks_created p.events) in
+    let h : List Event = Create n m parent desc ∷ p.events in
+    let newest = newest_now n m parent desc p.events in (
+      subst (λ (t : ℕ). task_desc t h ≡ Some other) (sym newest) (desc_now n m parent desc p.events ∙ is),
+      held,
+    )
+
+begun_executes : (desc : TaskDesc) (repeated : Bool) (m : ℕ) (p : Past) → executed_task m (begun_past repeated (task_create_row desc) m p).events ≡ executed_task m p.events
+begun_executes desc true m p = refl
+begun_executes desc false m p = refl
+
+-- its reply starts one task at most, which changes nothing of that
+starts_leave : (row : Row) (parent : Task) (m : ℕ) (reply : Reply) (h : List Event) → HasCreated row parent h → HasCreated row parent (starts_task m reply ++ h)
+starts_leave row parent m (Run task code arg own) h made = made
+starts_leave row parent m _ h made = made
+
+pub creation_lasts : (desc : TaskDesc) (repeated : Bool) (m : ℕ) (p : Past) (reply : Reply) → Ready (task_create_row desc) repeated m p → (task_create_row desc).may_reply m (begun_past repeated (task_create_row desc) m p) reply → goes_on reply ≡ true →
+    HasCreated (task_create_row desc) (executed_task m p.events) (given_after (task_create_row desc) repeated m p reply)
+creation_lasts desc repeated m p reply ready may on =
+    let row = task_create_row desc in
+    let h = (begun_past repeated row m p).events in
+    let t = newest_child (executed_task m h) h in
+    let held = creator_waits (is_undeferred t h) m t h reply on may in
+    let held_there : is_undeferred (newest_child (executed_task m p.events) h) h ≡ true = subst (λ (parent : Task). is_undeferred (newest_child parent h) h ≡ true) (begun_executes desc repeated m p) held in
+    starts_leave row (executed_task m p.events) m reply h (creation_made desc repeated m p ready held_there)
+
+-- what a creation may be answered
+abbrev Answer : ℕ → List Event → Reply → Type 0
+Answer m h reply = AnswersCreator (is_undeferred (newest_child (executed_task m h) h) h) m (newest_child (executed_task m h) h) h reply
+
+creation_begins : (desc : TaskDesc) (m : ℕ) (p : Past) → Ready (task_create_row desc) false m p → Always (TeamRule p.terms.members) p.events → Always (TeamRule p.terms.members) ((task_create_row desc).begins m p ++ p.events)
+creation_begins desc m p ready all = (
+  record { member = ready.member; number = refl; current = refl; away = ready.away refl; shallow = not_deepest (depth_of (executed_task m p.events) p.events) (ready.task refl).0 },
+  all,
+)
+
+-- no refusal and no chunk
+creator_not_refused : (held : Bool) (m t : ℕ) (h : List Event) (refusal : Refusal) → AnswersCreator held m t h (Refused refusal) → ⊥
+creator_not_refused true m t h refusal may = may
+creator_not_refused false m t h refusal may = cc
+
+no_chunk : (held : Bool) (m t : ℕ) (h : List Event) (first : ℤ) (count : ℕ) → AnswersCreator held m t h (Chunk first count) → ⊥
+no_chunk true m t h first count may = may
+no_chunk false m t h first count may = cc
+
+no_end : (held : Bool) (m t : ℕ) (h : List Event) (task : ℕ) (waiting : Bool) → AnswersCreator held m t h (TaskDone task waiting) → ⊥
+no_end true m t h task waiting may = may
+no_end false m t h task waiting may = cc
+
+creator_answer : (m task code arg : ℕ) (own : Bool) (h : List Event) → Answer m h (Run task code arg own) → CreatorRuns m (newest_child (executed_task m h) h) task code arg own h
+creator_answer m task code arg own h may =
+    let t = newest_child (executed_task m h) h in creator_runs (is_undeferred t h) m t task code arg own h refl may
 
 pub task_create_sound : (desc : TaskDesc) → IsSound (task_create_row desc)
 task_create_sound desc = record {
-  decided = λ m p a b x y. inl (x ∙ sym y);
-  accepts = λ m p refusal x. cc;
-  answered = λ repeated m p ready all. (Created (tasks_created (begun_past repeated (task_create_row desc) m p).events), refl);
-  counts = λ repeated m p first count ready all may. absurd (cc);
+  decided = λ m p a b x y. let t = newest_child (executed_task m p.events) p.events in one_creator (is_undeferred t p.events) m t p.events a b x y;
+  accepts = λ m p refusal may. let t = newest_child (executed_task m p.events) p.events in creator_not_refused (is_undeferred t p.events) m t p.events refusal may;
+  answered = λ repeated m p ready all.
+      let row = task_create_row desc in
+      let h = (begun_past repeated row m p).events in
+      let t = newest_child (executed_task m h) h in
+      some_creator p.terms.members (is_undeferred t h) m t h (task_rules p.terms.members h (begun_rules row repeated m p ready (λ first. creation_begins desc m p first all) all));
+  counts = λ repeated m p first count ready all may.
+      let h = (begun_past repeated (task_create_row desc) m p).events in
+      let t = newest_child (executed_task m h) h in absurd (no_chunk (is_undeferred t h) m t h first count may);
   begins_own = λ m p. ((refl, refl), tt);
-  gives_own = λ m p reply. tt;
-  begins_keep = λ m p ready all. (
-    record { member = ready.member; number = refl; current = refl; away = ready.away refl; shallow = not_deepest (depth_of (executed_task m p.events) p.events) (ready.task refl).0 },
-    all,
-  );
-  gives_keep = λ repeated m p reply ready may all. all;
+  gives_own = λ m p reply. started_own only_creates m reply;
+  begins_keep = λ m p ready all. creation_begins desc m p ready all;
+  gives_keep = λ repeated m p reply ready may all.
+      let h = (begun_past repeated (task_create_row desc) m p).events in
+      let t = newest_child (executed_task m h) h in creator_keeps p.terms.members (is_undeferred t h) m t h reply ready.member refl may all;
   still = λ stays m p. absurd (cc);
   outside = λ arrives m p fail. absurd (cc);
   tells = λ arrives m p reply may. absurd (cc);
   one_pass = λ arrives m p. absurd (cc);
   arrives_there = λ arrives m p. absurd (cc);
   waits_quietly = λ arrives m p. absurd (cc);
-  lasts = λ repeated m p ready all may. absurd (cc);
+  lasts = λ repeated m p ready all may. outside_lasts ready refl (λ arrives. absurd (cc)) may;
   waits_for = λ key m p holds may. absurd (cc);
   tells_count = λ key repeated m count p holds ready all may. absurd (cc);
-  runs = λ m p task code arg own may. absurd (cc);
-  ends = λ m p task waiting may. absurd (cc);
+  runs = λ m p task code arg own may. let is = creator_answer m task code arg own p.events may in (refl, refl, is.undeferred, is.may, is.job, refl, λ e. (refl, (desc, refl), is.newest e));
+  ends = λ m p task waiting may. let t = newest_child (executed_task m p.events) p.events in absurd (no_end (is_undeferred t p.events) m t p.events task waiting may);
   created = λ repeated m p task ready may. (desc, refl, created_once desc repeated m task p ready may);
   no_memory = λ m p. (refl, refl, refl, refl, λ repeated. refl);
   words_keep = λ puts repeated m p reply ready may all. absurd (cc);
@@ -67,42 +153,42 @@ task_create_sound desc = record {
 
 -- End
 
-one_end : (task : Task) (a b : Reply) → EndsTask task a → EndsTask task b → Same a b
-one_end (Explicit t) a b x y = inl (x ∙ sym y)
-one_end (Implicit m) a b x y = absurd x
+one_end : (task : Task) (h : List Event) (a b : Reply) → EndsTask task h a → EndsTask task h b → Same a b
+one_end (Explicit t) h a b x y = inl (x ∙ sym y)
+one_end (Implicit m) h a b x y = absurd x
 
 -- it is no other answer
-end_is_done : {P : Type 0} (task : Task) (reply : Reply) → EndsTask task reply → ((t : ℕ) → task ≡ Explicit t → reply ≡ TaskDone t true → P) → P
-end_is_done (Explicit t) reply may then = then t refl may
-end_is_done (Implicit m) reply may then = absurd may
+end_is_done : {P : Type 0} (task : Task) (h : List Event) (reply : Reply) → EndsTask task h reply → ((t : ℕ) → task ≡ Explicit t → reply ≡ TaskDone t (not (is_undeferred t h)) → P) → P
+end_is_done (Explicit t) h reply may then = then t refl may
+end_is_done (Implicit m) h reply may then = absurd may
 
 -- a call that ends a task is not repeated
 ended_first : (repeated : Bool) (m : ℕ) (p : Past) → Ready task_end_row repeated m p → repeated ≡ false
 ended_first false m p ready = refl
 ended_first true m p ready =
     let on = (ready.lasting refl).2 in
-    end_is_done (executed_task m on.0.events) on.1 on.3 (λ t at done. absurd (not_both (goes_on on.1) on.2 (ap goes_on done)))
+    end_is_done (executed_task m on.0.events) on.0.events on.1 on.3 (λ t at done. absurd (not_both (goes_on on.1) on.2 (ap goes_on done)))
 
-some_end : (task : Task) → not (of_explicit (λ t. true) task) ≡ false → (reply : Reply) × EndsTask task reply
-some_end (Explicit t) inside = (TaskDone t true, refl)
-some_end (Implicit m) inside = absurd (cc)
+some_end : (task : Task) (h : List Event) → not (of_explicit (λ t. true) task) ≡ false → (reply : Reply) × EndsTask task h reply
+some_end (Explicit t) h inside = (TaskDone t (not (is_undeferred t h)), refl)
+some_end (Implicit m) h inside = absurd (cc)
 
 done_own : (m : ℕ) (reply : Reply) → AreGiven quiet m reply (ends_task m reply)
 done_own m (TaskDone task waiting) = ((refl, refl), tt)
 done_own m _ = tt
 
-done_keeps : (members m : ℕ) (h : List Event) (reply : Reply) → m < members → holds_critical (asker m h) h ≡ false → EndsTask (executed_task m h) reply → Always (TeamRule members) h → Always (TeamRule members) (ends_task m reply ++ h)
+done_keeps : (members m : ℕ) (h : List Event) (reply : Reply) → m < members → holds_critical (asker m h) h ≡ false → EndsTask (executed_task m h) h reply → Always (TeamRule members) h → Always (TeamRule members) (ends_task m reply ++ h)
 done_keeps members m h (TaskDone task waiting) lt left may all =
-    let current : executed_task m h ≡ Explicit task = end_is_done (executed_task m h) (TaskDone task waiting) may (λ t at done. let same : task ≡ t = cc in rw same at) in
+    let current : executed_task m h ≡ Explicit task = end_is_done (executed_task m h) h (TaskDone task waiting) may (λ t at done. let same : task ≡ t = cc in rw same at) in
     (record { ends = record { member = lt; current = current }; names = record { left = left } }, all)
 done_keeps members m h _ lt left may all = all
 
 pub task_end_sound : IsSound task_end_row
 task_end_sound = record {
-  decided = λ m p a b x y. one_end (executed_task m p.events) a b x y;
-  accepts = λ m p refusal may. end_is_done (executed_task m p.events) (Refused refusal) may (λ t at done. cc);
-  answered = λ repeated m p ready all. some_end (executed_task m p.events) (ready.task (ended_first repeated m p ready)).0;
-  counts = λ repeated m p first count ready all may. end_is_done (executed_task m p.events) (Chunk first count) may (λ t at done. absurd (cc));
+  decided = λ m p a b x y. one_end (executed_task m p.events) p.events a b x y;
+  accepts = λ m p refusal may. end_is_done (executed_task m p.events) p.events (Refused refusal) may (λ t at done. cc);
+  answered = λ repeated m p ready all. some_end (executed_task m p.events) p.events (ready.task (ended_first repeated m p ready)).0;
+  counts = λ repeated m p first count ready all may. end_is_done (executed_task m p.events) p.events (Chunk first count) may (λ t at done. absurd (cc));
   begins_own = λ m p. tt;
   gives_own = λ m p reply. done_own m reply;
   begins_keep = λ m p ready all. all;
@@ -113,38 +199,38 @@ task_end_sound = record {
   one_pass = λ arrives m p. absurd (cc);
   arrives_there = λ arrives m p. absurd (cc);
   waits_quietly = λ arrives m p. absurd (cc);
-  lasts = λ repeated m p ready all may. end_is_done (executed_task m p.events) Wait may (λ t at done. absurd (cc));
+  lasts = λ repeated m p ready all may. end_is_done (executed_task m p.events) p.events Wait may (λ t at done. absurd (cc));
   waits_for = λ key m p holds may. absurd (cc);
   tells_count = λ key repeated m count p holds ready all may. absurd (cc);
-  runs = λ m p task code arg own may. end_is_done (executed_task m p.events) (Run task code arg own) may (λ t at done. absurd (cc));
+  runs = λ m p task code arg own may. end_is_done (executed_task m p.events) p.events (Run task code arg own) may (λ t at done. absurd (cc));
   ends = λ m p task waiting may.
-      end_is_done (executed_task m p.events) (TaskDone task waiting) may
-      (λ t at done. let same : task ≡ t = cc in let again : waiting ≡ true = cc in (refl, again, rw same at, refl, λ q. refl));
-  created = λ repeated m p task ready may. end_is_done (executed_task m p.events) (Created task) may (λ t at done. absurd (cc));
+      end_is_done (executed_task m p.events) p.events (TaskDone task waiting) may
+      (λ t at done. let same : task ≡ t = cc in let again : waiting ≡ not (is_undeferred t p.events) = cc in (refl, rw same again, rw same at, refl, λ q. refl));
+  created = λ repeated m p task ready may. end_is_done (executed_task m p.events) p.events (Created task) may (λ t at done. absurd (cc));
   no_memory = λ m p. (refl, refl, refl, refl, λ repeated. refl);
   words_keep = λ puts repeated m p reply ready may all. absurd (cc);
 }
 
 -- A wait for children
 
-waited_own : (m : ℕ) (reply : Reply) → AreGiven quiet m reply (waited m reply)
-waited_own m Passed = (refl, tt)
-waited_own m reply = started_own quiet m reply
+waited_own : (m : ℕ) (items : List Dep) (reply : Reply) → AreGiven quiet m reply (waited m items reply)
+waited_own m items Passed = (refl, tt)
+waited_own m items reply = started_own quiet m reply
 
-waited_keeps : (members m : ℕ) (h : List Event) (reply : Reply) → m < members → AwaitsChildren m h reply → Always (TeamRule members) h → Always (TeamRule members) (waited m reply ++ h)
-waited_keeps members m h Passed lt may all = (record { member = lt; complete = may }, all)
-waited_keeps members m h reply lt may all = started_keeps members m (children_complete (executed_task m h) h) h reply lt may all
+waited_keeps : (members m : ℕ) (items : List Dep) (h : List Event) (reply : Reply) → m < members → AwaitsChildren m items h reply → Always (TeamRule members) h → Always (TeamRule members) (waited m items reply ++ h)
+waited_keeps members m items h Passed lt may all = (record { member = lt; complete = may }, all)
+waited_keeps members m items h reply lt may all = started_keeps members m (taskwait_met (executed_task m h) items h) h reply lt may all
 
-pub taskwait_sound : IsSound taskwait_row
-taskwait_sound = record {
-  decided = λ m p a b x y. one_await m (children_complete (executed_task m p.events) p.events) p.events a b x y;
+pub taskwait_sound : (items : List Dep) → IsSound (taskwait_row items)
+taskwait_sound items = record {
+  decided = λ m p a b x y. one_await m (taskwait_met (executed_task m p.events) items p.events) p.events a b x y;
   accepts = λ m p refusal x. x;
-  answered = λ repeated m p ready all. some_await p.terms.members m (children_complete (executed_task m p.events) p.events) p.events (task_rules p.terms.members p.events all);
+  answered = λ repeated m p ready all. some_await p.terms.members m (taskwait_met (executed_task m p.events) items p.events) p.events (task_rules p.terms.members p.events all);
   counts = λ repeated m p first count ready all may. absurd may;
   begins_own = λ m p. tt;
-  gives_own = λ m p reply. waited_own m reply;
+  gives_own = λ m p reply. waited_own m items reply;
   begins_keep = λ m p ready all. all;
-  gives_keep = λ repeated m p reply ready may all. waited_keeps p.terms.members m p.events reply ready.member may all;
+  gives_keep = λ repeated m p reply ready may all. waited_keeps p.terms.members m items p.events reply ready.member may all;
   still = λ stays m p. absurd (cc);
   outside = λ arrives m p fail. absurd (cc);
   tells = λ arrives m p reply may. absurd (cc);
@@ -154,7 +240,7 @@ taskwait_sound = record {
   lasts = λ repeated m p ready all may. outside_lasts ready refl (λ arrives. absurd (cc)) may;
   waits_for = λ key m p holds may. absurd (cc);
   tells_count = λ key repeated m count p holds ready all may. absurd (cc);
-  runs = λ m p task code arg own may. (refl, refl, may.1, may.2, may.3, refl, refl);
+  runs = λ m p task code arg own may. (refl, refl, startable_not_undeferred m task p.events may.2 ∙ sym may.1, startable_may_start m task p.events may.2, may.3, refl, λ e. absurd (let both = sym may.1 ∙ e in cc));
   ends = λ m p task waiting may. absurd may;
   created = λ repeated m p task ready may. absurd may;
   no_memory = λ m p. (refl, refl, refl, refl, λ repeated. refl);
@@ -233,7 +319,7 @@ group_end_sound = record {
   lasts = λ repeated m p ready all may. outside_lasts ready refl (λ arrives. absurd (cc)) may;
   waits_for = λ key m p holds may. absurd (cc);
   tells_count = λ key repeated m count p holds ready all may. absurd (cc);
-  runs = λ m p task code arg own may. (refl, refl, may.1, may.2, may.3, refl, refl);
+  runs = λ m p task code arg own may. (refl, refl, startable_not_undeferred m task p.events may.2 ∙ sym may.1, startable_may_start m task p.events may.2, may.3, refl, λ e. absurd (let both = sym may.1 ∙ e in cc));
   ends = λ m p task waiting may. absurd may;
   created = λ repeated m p task ready may. absurd may;
   no_memory = λ m p. (refl, refl, refl, refl, λ repeated. refl);

@@ -48,7 +48,7 @@ task_rule members (Start t m) earlier rule all = rule
 task_rule members (Done t m) earlier rule all = rule.ends
 task_rule members (Group q m) earlier rule all = rule
 task_rule members (GroupEnd q m) earlier rule all = rule
-task_rule members (Waited m) earlier rule all = rule
+task_rule members (Waited m items) earlier rule all = rule
 task_rule members _ earlier rule all = tt
 
 pub task_rules : (members : ℕ) (h : List Event) → Always (TeamRule members) h → Always (TaskRule members) h

@@ -5,7 +5,8 @@
 -- The words that a member copies are those that the executor of the single put. All members go through the same constructs in the
 -- same order. No member passes a barrier before all arrived, and have left the constructs before it. A critical name and a lock have
 -- at most one owner at a time, which alone releases it, and no member passes a barrier while it holds a critical name. No task is
--- started twice, nor before it is created; each wait ends only after the tasks that it waits for.
+-- started twice, nor before it is created and all tasks are done that its `depend` clause names; an undeferred task is started by
+-- its creator alone; each wait ends only after the tasks that it waits for.
 use Rattle.std.specs.Prelude.{ℕ, List}
 use Rattle.gomp_types.specs.declared.event.Event.{Event}
 use Rattle.gomp_types.specs.Deals.{schedule}
@@ -55,7 +56,8 @@ pub record Headline (members : ℕ) (h : List Event) : Type 0 where
   pub frees : Always FreesItsOwn h
   -- no member passes a barrier while it holds a critical name
   pub passes_free : Always PassesFree h
-  -- no task is created, started or ended twice, and each is started after its creation; a member starts only a descendant of what it has started;
+  -- no task is created, started or ended twice; each is started after its creation and after those that its `depend` clause names, an
+  -- undeferred one by its creator; a member starts only a descendant of what it has started;
   -- taskwait waits for the children, a group's end and a barrier for their tasks, the region's end for all (specs/TaskLaws.antt of gomp_types)
   pub tasks : TaskLaws h
   -- whatever happens later, every task that is bound to a barrier was done before a member passed it

@@ -9,7 +9,8 @@ use Rattle.gomp_types.specs.declared.task.Task.TheVariants.{Implicit, Explicit}
 use Rattle.gomp_types.specs.Singles.{single_shape}
 use Rattle.gomp_laws.specs.Headline.{Headline}
 use Rattle.gomp_types.specs.EventLists.{newest_first, four, static_four, even_four, at}
-use Rattle.gomp_types.specs.TaskExamples.{one_job, other_job}
+use Rattle.gomp_types.specs.declared.depend.DepKind.TheVariants.{DepIn, DepOut}
+use Rattle.gomp_types.specs.TaskExamples.{one_job, other_job, at_once as undeferred_job, item, with_items}
 
 -- no team of this size has these events
 abbrev pub NeverHappens : ℕ → List Event → Type 0
@@ -185,6 +186,14 @@ started_beside = Create 1 0 (Implicit 0) one_job ∷ Create 2 0 (Implicit 0) one
 abbrev pub started_elsewhere : List Event
 started_elsewhere = Create 1 0 (Implicit 0) one_job ∷ Start 1 1 ∷ []
 
+-- a reader is started before the writer that it names is done
+abbrev pub started_before_writer : List Event
+started_before_writer = Create 1 0 (Implicit 0) (with_items (item DepOut 1 ∷ [])) ∷ Create 2 0 (Implicit 0) (with_items (item DepIn 1 ∷ [])) ∷ Start 2 0 ∷ []
+
+-- a member that waits at a barrier starts an undeferred task of another's
+abbrev pub undeferred_of_another : List Event
+undeferred_of_another = Create 1 0 (Implicit 0) undeferred_job ∷ Arrive 0 1 (at Barrier 0) ∷ Start 1 1 ∷ []
+
 -- a member ends a task that another has started
 abbrev pub ended_for_another : List Event
 ended_for_another = Create 1 0 (Implicit 0) one_job ∷ Start 1 0 ∷ Done 1 1 ∷ []
@@ -195,7 +204,7 @@ ended_beneath = Create 1 0 (Implicit 0) one_job ∷ Start 1 0 ∷ Create 2 0 (Ex
 
 -- a taskwait goes on while a child of its task is open
 abbrev pub waited_too_short : List Event
-waited_too_short = Create 1 0 (Implicit 0) one_job ∷ Waited 0 ∷ []
+waited_too_short = Create 1 0 (Implicit 0) one_job ∷ Waited 0 [] ∷ []
 
 -- a group ends while a task of it is open
 abbrev pub group_ended_early : List Event
@@ -227,7 +236,7 @@ abbrev pub region_with_tasks : List Event
 region_with_tasks =
     Create 1 0 (Implicit 0) one_job ∷ Arrive 0 1 (at Barrier 0) ∷ Start 1 1 ∷ Hold (Critical (97 ∷ [])) 1 (Explicit 1) ∷ Free (Critical (97 ∷ [])) 1 (Explicit 1) ∷ Done 1 1
     ∷ Group 0 0 ∷ Create 2 0 (Implicit 0) other_job ∷ Start 2 0 ∷ Done 2 0 ∷ GroupEnd 0 0
-    ∷ Create 3 0 (Implicit 0) one_job ∷ Start 3 0 ∷ Done 3 0 ∷ Waited 0
+    ∷ Create 3 0 (Implicit 0) one_job ∷ Start 3 0 ∷ Done 3 0 ∷ Waited 0 []
     ∷ Arrive 0 0 (at Barrier 0) ∷ Pass 0 0 ∷ Pass 0 1 ∷ Arrive 1 0 (at RegionEnd 0) ∷ Arrive 1 1 (at RegionEnd 0) ∷ Pass 1 0 ∷ Pass 1 1 ∷ []
 
 -- The team

@@ -1,6 +1,7 @@
 -- What holds of the replies to calls on names and locks, and on tasks, beside the laws of the events. OpenMP API 5.2, chapter 12 and sections 15.2 and 18.9.
-use Rattle.std.specs.Prelude.{ℕ, ◌<◌, ◌≡◌, is_some, true, false, [], ◌∷◌, Some}
+use Rattle.std.specs.Prelude.{ℕ, ◌<◌, ◌≡◌, is_some, not, Bool, true, false, List, [], ◌∷◌, Some}
 use Rattle.gomp_types.specs.declared.call.Step.{Step}
+use Rattle.gomp_types.specs.declared.event.Event.{Event}
 use Rattle.gomp_types.specs.declared.event.Event.TheVariants.{Create, Start, Done}
 use Rattle.gomp_types.specs.declared.key.Key.{Key}
 use Rattle.gomp_types.specs.declared.reply.Reply.{Reply}
@@ -10,7 +11,7 @@ use Rattle.gomp_types.specs.declared.task.Task.{Task}
 use Rattle.gomp_types.specs.declared.task.Task.TheVariants.{Explicit}
 use Rattle.gomp_types.specs.declared.task.TaskDesc.{TaskDesc}
 use Rattle.gomp_types.specs.Laws.{Happened}
-use Rattle.gomp_types.specs.Tasks.{executed_task}
+use Rattle.gomp_types.specs.Tasks.{executed_task, is_undeferred}
 use Rattle.gomp_types.specs.Owners.{same_owner}
 use Rattle.gomp_locks.specs.Holders.{asker}
 use Rattle.gomp_locks.specs.HoldLaws.{holds_left}
@@ -46,23 +47,41 @@ TellsItsNumber p step (Created task) =
     (desc : TaskDesc) × ((row_at p step).creates ≡ Some desc) × Happened (Create task step.member (executed_task step.member p.events) desc) (past_after p step (Created task)).events
 TellsItsNumber p step _ = Unit {0}
 
--- Run: the task that a member is to execute was created with this code and this argument, and is started by it.
+-- the task was created with this code and this argument, and the member has started it; it is the member's own exactly if it is undeferred
+pub record IsAsAsked (task code arg m : ℕ) (own : Bool) (h : List Event) : Type 0 where
+  pub creator : ℕ
+  pub parent : Task
+  pub desc : TaskDesc
+  pub created : Happened (Create task creator parent desc) h
+  pub same_code : desc.code ≡ code
+  pub same_arg : desc.arg ≡ arg
+  pub started : Happened (Start task m) h
+  pub undeferred : own ≡ is_undeferred task h
+
+-- Run: what a member is to execute is a task that was created so, which it has started.
 abbrev pub RunsAsAsked : Past → Step → Reply → Type 0
-RunsAsAsked p step (Run task code arg own) =
-    ((m : ℕ) × (parent : Task) × Happened (Create task m parent (record { code = code; arg = arg })) p.events)
-    × Happened (Start task step.member) (past_after p step (Run task code arg own)).events
+RunsAsAsked p step (Run task code arg own) = IsAsAsked task code arg step.member own (past_after p step (Run task code arg own)).events
 RunsAsAsked p step _ = Unit {0}
 
--- TaskDone: it is the task that the member executed, which is then done; the call at which the member started it waits again.
+-- Own (OpenMP API 5.2, section 12.5): a member's own task is the one that this very call creates, or that it created when it was made first.
+abbrev pub RunsItsOwn : Past → Step → Reply → Type 0
+RunsItsOwn p step (Run task code arg true) =
+    (desc : TaskDesc) × ((row_at p step).creates ≡ Some desc)
+    × Happened (Create task step.member (executed_task step.member p.events) desc) (past_after p step (Run task code arg true)).events
+RunsItsOwn p step _ = Unit {0}
+
+-- TaskDone: it is the task that the member executed, which is then done; the call at which the member started it waits again, unless the task is undeferred, so that its creator goes on.
 abbrev pub ReturnsToItsWait : Past → Step → Reply → Type 0
 ReturnsToItsWait p step (TaskDone task waiting) =
     (executed_task step.member p.events ≡ Explicit task)
     × Happened (Done task step.member) (past_after p step (TaskDone task waiting)).events
-    × (waiting ≡ true) × (is_some ((past_after p step (TaskDone task waiting)).waits step.member).open_call ≡ true)
+    × (waiting ≡ not (is_undeferred task p.events))
+    × (is_some ((past_after p step (TaskDone task waiting)).waits step.member).open_call ≡ waiting)
 ReturnsToItsWait p step _ = Unit {0}
 
 -- the replies to calls on tasks
 pub record TaskReplies (terms : Terms) (run : Record) : Type 0 where
   pub created : EachReply terms TellsItsNumber run
   pub runs : EachReply terms RunsAsAsked run
+  pub own : EachReply terms RunsItsOwn run
   pub returns : EachReply terms ReturnsToItsWait run

@@ -13,8 +13,9 @@ use Rattle.gomp_icv.specs.Variables.{Variables, initial}
 use Rattle.gomp_core.specs.LocksMade.{locks_made}
 use Rattle.gomp_core.specs.Stands.{standard_terms, TakesMemory}
 use Rattle.gomp_core.specs.Resolved.{resolved_step}
-use Rattle.gomp_script.specs.declared.parse.Why.TheVariants.{FirstLine}
+use Rattle.gomp_script.specs.declared.parse.Why.TheVariants.{FirstLine, MissingWord}
 use Rattle.gomp_script.specs.Printing.{reply_line, bad_line_text, refusal_line}
+use Rattle.gomp_script.specs.StepText.{taskwait_step}
 use Rattle.gomp_live.specs.Talk.{Made, locks_so_far, begun_with, TeamAnswered, NextStepAnswered, Answers, next_number, Talked}
 use Rattle.gomp_live.specs.Input.{input_lines, in_order}
 use Rattle.gomp_live.specs.Serving.{LinesAnswered, ServesLive}
@@ -49,6 +50,11 @@ first_line_is_no_step icv answer stands answered = answered
 -- a comment has no answer
 pub comment_is_skipped : (icv : Variables) (stood : Option Made) (answer : List ℕ) (stands : Option Made) → Answers icv 3 None (codes "# 1") answer stands → (answer ≡ []) × (stands ≡ None)
 comment_is_skipped icv stood answer stands answered = answered
+
+-- of a line with a bad item of a `depend` clause its first fault is told, and the team that stood is left
+pub bad_item_is_told : (icv : Variables) (made : Made) (answer : List ℕ) (stands : Option Made) → Answers icv 3 (Some made) (codes "0 taskwait in") answer stands → (answer ≡ bad_line_text (record { line = 3; why = MissingWord })) × (stands ≡ Some made)
+unfolding taskwait_step
+bad_item_is_told icv made answer stands answered = answered
 
 -- what the answer to a step is
 pub step_answered_has : (icv : Variables) (made : Made) (step : Step) (answer : List ℕ) (stands : Option Made) → NextStepAnswered icv (Some made) step answer stands →

@@ -1,5 +1,5 @@
 -- What a line leaves of a talk.
-use Rattle.std.proofs.Common.{◌≡◌, ◌+◌, ◌++◌, ◌∷◌, ◌∙◌, ℕ, List, Bool, Option, Some, None, Result, Ok, Err, refl, ap, subst, arith}
+use Rattle.std.proofs.Common.{◌≡◌, ◌+◌, ◌++◌, ◌∷◌, ◌∙◌, ℕ, List, Bool, Option, Some, None, Result, Ok, Err, refl, ap, sym, subst, arith}
 use Rattle.std.specs.Prelude.{IfOk, is_some}
 use Rattle.gomp_types.specs.declared.call.Step.{Step}
 use Rattle.gomp_types.specs.declared.event.Event.{Event}
@@ -16,8 +16,11 @@ use Rattle.gomp_core.specs.Resolved.{resolved_step}
 use Rattle.gomp_core.proofs.Lists.{terms_are}
 use Rattle.gomp_script.specs.declared.live.LiveLine.{LiveLine}
 use Rattle.gomp_script.specs.declared.live.LiveLine.TheVariants.{NextStep}
+use Rattle.gomp_script.specs.declared.parse.LineError.{LineError}
+use Rattle.gomp_script.specs.declared.parse.LineError.TheVariants.{Fault}
 use Rattle.gomp_script.specs.declared.parse.Why.{Why}
 use Rattle.gomp_script.specs.LiveText.{read_live_line}
+use Rattle.gomp_script.specs.StepText.{Reads}
 use Rattle.gomp_script.specs.Printing.{reply_line}
 use Rattle.gomp_live.specs.Talk.{Made, StepAnswered, LineAnswered, next_number}
 use Rattle.gomp_live.specs.Stands.{TalkView, TeamStands, TeamIs, TalkStands}
@@ -88,6 +91,14 @@ pub step_of_talk :
     → (x : Option Made) × LineAnswered icv number made (Ok (Some (NextStep step))) answer x × TeamIs stands members icv (Some after) x
 step_of_talk {S} stands members icv number old team after (Some one) step answer same is steps = steps icv one (subst (λ (t : Option (TeamView S)). TeamIs stands members icv t (Some one)) same is)
 step_of_talk {S} stands members icv number old team after None step answer same is steps = absurd (subst (λ (t : Option (TeamView S)). TeamIs stands members icv t None) same is)
+
+-- a value that a line gave is what was read of it
+pub line_asked : {A : Type 0} (given : Result A LineError) (read : Result A Why) (value : A) → Reads given read → given ≡ Ok value → Ok value ≡ read
+line_asked {A = A} given read value reads is = sym (subst (λ (r : Result A LineError). Reads r read) is reads)
+
+-- so is a fault
+pub line_fault : {A : Type 0} (given : Result A LineError) (read : Result A Why) (why : Why) → Reads given read → given ≡ Err (Fault why) → Err why ≡ read
+line_fault {A = A} given read why reads is = sym (subst (λ (r : Result A LineError). Reads r read) is reads)
 
 -- what follows of each value follows of that which there is
 pub if_ok_then : {X E : Type 0} {P Q : X → Type 0} (result : Result X E) → ((x : X) → P x → Q x) → IfOk result P → IfOk result Q

@@ -6,7 +6,9 @@ ghost use Rattle.gomp_live.specs.Stands.{TalkStands, AnswersLine, BeginsTeam, Ma
 use gomp_core::Team;
 use gomp_icv::Icv;
 use gomp_locks::LockBook;
-use gomp_script::{BadLine, LiveLine, parse_live_line, print_bad_line, print_refusal, print_reply};
+use gomp_script::{
+    BadLine, LineError, LiveLine, parse_live_line, print_bad_line, print_refusal, print_reply,
+};
 use gomp_shares::Shares;
 use gomp_steps::answer::team_size;
 use gomp_types::{Refusal, Step, is_team_size};
@@ -47,14 +49,15 @@ impl<S: Shares + Drop> Talk<S> {
     /// The answer to the next line, which has no line feed: the one that the lines before it leave.
     /// A line that is skipped has an empty one.
     ///
-    /// The error is want of memory outside of a step; the talk should end with it.
+    /// The error is want of memory outside of a step: for the items of a line, whose step is then not
+    /// made, for a new team, or for the text of an answer. The talk should end with it.
     pub fn answer(&mut self, alloc: Global, line: &[u8]) -> Result<String, AllocError>
         ensures icv { self.new.icv ≡ self.old.icv }
         ensures answer { AnswersLine S.stands S.members line.now self.old self.new result }
     {
         let number = self.number;
         self.number = number.saturating_add(1);
-        match parse_live_line(line, self.team.is_some()) {
+        match parse_live_line(alloc, line, self.team.is_some()) {
             Ok(Some(LiveLine::NewTeam(count))) => {
                 begin_team(alloc, self.icv.copied(), &mut self.team, count)
             }
@@ -63,7 +66,8 @@ impl<S: Shares + Drop> Talk<S> {
                 None => unreachable!(),
             },
             Ok(None) => Ok(String::new(alloc)),
-            Err(why) => print_bad_line(alloc, &BadLine { line: number, why }),
+            Err(LineError::Fault(why)) => print_bad_line(alloc, &BadLine { line: number, why }),
+            Err(LineError::NoMemory) => Err(AllocError),
         }
     }
 }

@@ -9,7 +9,7 @@ use Rattle.gomp_types.specs.declared.reply.Reply.TheVariants.{Finished, Wait}
 use Rattle.gomp_types.specs.Tests.{Test}
 use Rattle.gomp_locks.specs.Book.{BookView, with_name, owned_by, owned_by_member}
 
--- a name has at most 32 bytes, which are ASCII
+-- whether the name is refused as too long: it has more than 32 bytes, or a byte that is not ASCII (own)
 abbrev pub is_too_long : List ℕ → Bool
 is_too_long name = not (nat_le (length name) MAX_NAME && is_ascii name)
 

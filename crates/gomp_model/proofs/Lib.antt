@@ -1,4 +1,8 @@
 pub mod CauseExamples
+pub mod DependCauseExamples
+pub mod DependRecordExamples
+pub mod DependRowExamples
+pub mod DependTestExamples
 pub mod GivenExamples
 pub mod LoopLimits
 pub mod RecordExamples
@@ -11,6 +15,7 @@ pub mod TaskTestExamples
 pub mod TestExamples
 pub mod RunsWithCauses
 pub mod WrongAnswers
+pub mod WrongDependAnswers
 pub mod WrongHoldAnswers
 pub mod WrongShareAnswers
 pub mod WrongTaskAnswers

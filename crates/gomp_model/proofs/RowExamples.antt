@@ -26,6 +26,7 @@ use Rattle.gomp_types.specs.Sections.{sections_shape}
 use Rattle.gomp_types.specs.Singles.{single_shape}
 use Rattle.gomp_types.specs.Tests.{Test}
 use Rattle.gomp_types.specs.EventLists.{even_four, four, at}
+use Rattle.gomp_types.specs.TaskExamples.{job_with}
 use Rattle.gomp_model.specs.Row.{Row, plain_row, at_once, unless_repeated, begun_past, place_tests, board_tests, book_tests, row_tests, refusal_gives, events_after, locks_after}
 use Rattle.gomp_model.specs.Calls.{row_of}
 use Rattle.gomp_model.specs.Loops.{loop_next_row}
@@ -409,7 +410,7 @@ both_at kind before after = past_with 2 (before ++ (Arrive 0 0 (at kind 0) ∷ A
 
 -- a member creates a task in its implicit task
 abbrev creates : ℕ → ℕ → Event
-creates task m = Create task m (Implicit m) (record { code = 5; arg = 9 })
+creates task m = Create task m (Implicit m) (job_with 5 9 [])
 
 -- a task that is bound to the barrier is open, and nobody has started it: whoever waits runs it, at a barrier, at the end of a loop and at the region's end
 abbrev task_open : Arrival → Past
@@ -419,7 +420,7 @@ pub runs_a_task :
     barrier_row.may_reply 0 (task_open BarrierArrival) (RunTask 1 5 9 false) × barrier_row.may_reply 1 (task_open BarrierArrival) (RunTask 1 5 9 false)
     × (row_of LoopEnd).may_reply 1 (task_open ShareEnd) (RunTask 1 5 9 false) × (row_of SectionsEnd).may_reply 0 (task_open ShareEnd) (RunTask 1 5 9 false)
     × region_end_row.may_reply 1 (task_open RegionEndArrival) (RunTask 1 5 9 false)
-runs_a_task = ((refl, refl, refl, refl), (refl, refl, refl, refl), (refl, refl, refl, refl), (refl, refl, refl, refl), (refl, refl, refl, refl))
+runs_a_task = ((refl, refl, refl, (refl, refl)), (refl, refl, refl, (refl, refl)), (refl, refl, refl, (refl, refl)), (refl, refl, refl, (refl, refl)), (refl, refl, refl, (refl, refl)))
 
 -- it does not wait
 pub waits_for_no_startable :
@@ -462,7 +463,7 @@ passes_before_later_tasks = (refl, refl)
 
 pub ends_after_every_task :
     region_end_row.may_reply 1 (task_of_the_next RegionEndArrival) (RunTask 1 5 9 false) × (region_end_row.may_reply 1 (task_of_the_next RegionEndArrival) Passed → ⊥)
-ends_after_every_task = ((refl, refl, refl, refl), (λ may. absurd (cc)))
+ends_after_every_task = ((refl, refl, refl, (refl, refl)), (λ may. absurd (cc)))
 
 -- Tests
 

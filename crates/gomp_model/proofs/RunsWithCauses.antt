@@ -3,10 +3,12 @@ use Rattle.std.proofs.Common.{rules}
 use Rattle.gomp_types.specs.declared.call.Call.TheVariants.{SectionsStart, SingleCopyStart}
 use Rattle.gomp_types.specs.declared.loop_desc.Sched.TheVariants.{Static, Dynamic, Guided}
 use Rattle.gomp_types.specs.declared.loop_desc.EndKind.TheVariants.{Nowait}
+use Rattle.gomp_types.specs.declared.depend.DepKind.TheVariants.{DepIn, DepOut, DepInout, DepInoutset, DepMutex}
 use Rattle.gomp_model.specs.Examples.{owned_pieces, even_pieces_of_four, shrinking_pieces, runtime_pieces, differing_schedule, IsRunOf, one_share, second_share, whole_region, IsRun, one_nowait, loop_of_two, empty_loops, refused_ends, ninth_share, differing_loop, other_end_values, differing_barrier, stopped_team, stopped_waiting, stopped_inside}
 use Rattle.gomp_model.specs.ShareExamples.{sections_of_two, no_sections, single_of_two, copy_of_three, misplaced_calls, differing_single, differing_copy, differing_sections, ordered_of_two, handed_of_two, ordered_alone, ordered_downwards, unordered_parts, differing_ordered}
 use Rattle.gomp_model.specs.HoldExamples.{names_and_locks, names_to_the_end, destroyed_while_waiting, nest_of_two, names_in_a_loop}
 use Rattle.gomp_model.specs.TaskRuns.{tasks_at_barriers, task_at_a_resume, task_at_a_loop_end, children_of_two, wait_for_children, wait_for_a_running_child, nested_waits, group_of_one, group_with_a_grandchild, group_in_a_group, refused_in_tasks, refused_ends_of_tasks, locks_of_tasks, lock_of_an_ended_task, with_events, one_task, room_for_one_task, room_for_none, no_room_for_another}
+use Rattle.gomp_model.specs.DependRuns.{undeferred_alone, child_of_an_undeferred_task, wait_in_an_undeferred_task, nested_at_once, writer_before_its_own, waits_for_its_own, another_before_its_own, both_before_its_own, task_in_a_final_task, children_of_a_final_task, reader_at_a_barrier, readers_between_writers, sets_together, mutexes_in_order, held_pair, pair_together, items_of_others, waits_for_one_item, passes_beside_another, runs_the_unnamed, waits_for_the_held, as_many_items, refused_in_an_undeferred_task, names_of_an_undeferred_task, memory_at_creation, waits_on, passes_on}
 use Rattle.gomp_model.specs.RegionExamples.{region_of_two, later_barrier, later_share, differing_at_resume, differing_ninth, ninth_and_tenth, copied_at_once, parts_of_a_piece, early_arrivals, early_sections_end, early_starts, ends_in_order, outside_calls, second_of_each, stopped_at_the_end, named_in_a_part}
 
 -- Loops, barriers and stops
@@ -314,3 +316,163 @@ room_for_none_has_causes = search rules
 -- and for none but the region's end, in a team that breaks
 pub no_room_for_another_has_causes : IsRunOf (with_events 2 5) no_room_for_another
 no_room_for_another_has_causes = search rules
+
+-- Undeferred and final tasks
+
+-- an undeferred task, and what comes after it
+pub undeferred_alone_has_causes : IsRun 1 undeferred_alone
+undeferred_alone_has_causes = search rules
+
+-- its child
+pub child_of_an_undeferred_task_has_causes : IsRun 1 child_of_an_undeferred_task
+child_of_an_undeferred_task_has_causes = search rules
+
+-- a wait in it
+pub wait_in_an_undeferred_task_has_causes : IsRun 1 wait_in_an_undeferred_task
+wait_in_an_undeferred_task_has_causes = search rules
+
+-- twenty, each in the one before
+pub nested_at_once_have_causes : IsRun 1 (nested_at_once 20)
+nested_at_once_have_causes = search rules
+
+-- one that waits for a writer, which its creator runs
+pub writer_before_its_own_has_causes : IsRun 1 writer_before_its_own
+writer_before_its_own_has_causes = search rules
+
+-- one whose writer another member runs
+pub waits_for_its_own_has_causes : IsRun 2 waits_for_its_own
+waits_for_its_own_has_causes = search rules
+
+-- one whose creator runs a third task meanwhile
+pub another_before_its_own_has_causes : IsRun 2 another_before_its_own
+another_before_its_own_has_causes = search rules
+
+-- one whose creator runs two writers before
+pub both_before_its_own_has_causes : IsRun 1 both_before_its_own
+both_before_its_own_has_causes = search rules
+
+-- a task in a final and undeferred task
+pub task_in_a_final_task_has_causes : IsRun 1 task_in_a_final_task
+task_in_a_final_task_has_causes = search rules
+
+-- a task in a final one, and its child
+pub children_of_a_final_task_have_causes : IsRun 1 children_of_a_final_task
+children_of_a_final_task_have_causes = search rules
+
+-- Tasks with items
+
+-- a reader waits for a writer
+pub reader_at_a_barrier_has_causes : IsRun 2 reader_at_a_barrier
+reader_at_a_barrier_has_causes = search rules
+
+-- two readers between two writers
+pub readers_between_writers_have_causes : IsRun 2 readers_between_writers
+readers_between_writers_have_causes = search rules
+
+-- two tasks of a set
+pub sets_together_have_causes : IsRun 2 sets_together
+sets_together_have_causes = search rules
+
+-- two of a mutex
+pub mutexes_in_order_have_causes : IsRun 2 mutexes_in_order
+mutexes_in_order_have_causes = search rules
+
+-- items of tasks that are no siblings
+pub items_of_others_have_causes : IsRun 2 items_of_others
+items_of_others_have_causes = search rules
+
+-- a reader after a task of each kind
+pub reader_after_each_has_causes :
+    IsRun 2 (pair_together DepIn DepIn) × IsRun 2 (held_pair DepIn DepOut) × IsRun 2 (held_pair DepIn DepInout)
+    × IsRun 2 (held_pair DepIn DepInoutset) × IsRun 2 (held_pair DepIn DepMutex)
+reader_after_each_has_causes = search rules
+
+-- a writer after a task of each kind
+pub writer_after_each_has_causes :
+    IsRun 2 (held_pair DepOut DepIn) × IsRun 2 (held_pair DepOut DepOut) × IsRun 2 (held_pair DepOut DepInout)
+    × IsRun 2 (held_pair DepOut DepInoutset) × IsRun 2 (held_pair DepOut DepMutex)
+writer_after_each_has_causes = search rules
+
+-- a reader and writer after a task of each kind
+pub update_after_each_has_causes :
+    IsRun 2 (held_pair DepInout DepIn) × IsRun 2 (held_pair DepInout DepOut) × IsRun 2 (held_pair DepInout DepInout)
+    × IsRun 2 (held_pair DepInout DepInoutset) × IsRun 2 (held_pair DepInout DepMutex)
+update_after_each_has_causes = search rules
+
+-- a task of a set after a task of each kind
+pub set_after_each_has_causes :
+    IsRun 2 (held_pair DepInoutset DepIn) × IsRun 2 (held_pair DepInoutset DepOut) × IsRun 2 (held_pair DepInoutset DepInout)
+    × IsRun 2 (pair_together DepInoutset DepInoutset) × IsRun 2 (held_pair DepInoutset DepMutex)
+set_after_each_has_causes = search rules
+
+-- a task of a mutex after a task of each kind
+pub mutex_after_each_has_causes :
+    IsRun 2 (held_pair DepMutex DepIn) × IsRun 2 (held_pair DepMutex DepOut) × IsRun 2 (held_pair DepMutex DepInout)
+    × IsRun 2 (held_pair DepMutex DepInoutset) × IsRun 2 (held_pair DepMutex DepMutex)
+mutex_after_each_has_causes = search rules
+
+-- Waits with items
+
+-- a taskwait with items
+pub waits_for_one_item_has_causes : IsRun 1 waits_for_one_item
+waits_for_one_item_has_causes = search rules
+
+-- one that passes while another child runs
+pub passes_beside_another_has_causes : IsRun 2 passes_beside_another
+passes_beside_another_has_causes = search rules
+
+-- one at which another child is run
+pub runs_the_unnamed_has_causes : IsRun 2 runs_the_unnamed
+runs_the_unnamed_has_causes = search rules
+
+-- one that waits for a child that is held
+pub waits_for_the_held_has_causes : IsRun 1 waits_for_the_held
+waits_for_the_held_has_causes = search rules
+
+-- a taskwait that reads, after a child of each kind
+pub wait_to_read_has_causes :
+    IsRun 2 (passes_on DepIn DepIn) × IsRun 2 (waits_on DepIn DepOut) × IsRun 2 (waits_on DepIn DepInout)
+    × IsRun 2 (waits_on DepIn DepInoutset) × IsRun 2 (waits_on DepIn DepMutex)
+wait_to_read_has_causes = search rules
+
+-- one that writes
+pub wait_to_write_has_causes :
+    IsRun 2 (waits_on DepOut DepIn) × IsRun 2 (waits_on DepOut DepOut) × IsRun 2 (waits_on DepOut DepInout)
+    × IsRun 2 (waits_on DepOut DepInoutset) × IsRun 2 (waits_on DepOut DepMutex)
+wait_to_write_has_causes = search rules
+
+-- that does both
+pub wait_to_update_has_causes :
+    IsRun 2 (waits_on DepInout DepIn) × IsRun 2 (waits_on DepInout DepOut) × IsRun 2 (waits_on DepInout DepInout)
+    × IsRun 2 (waits_on DepInout DepInoutset) × IsRun 2 (waits_on DepInout DepMutex)
+wait_to_update_has_causes = search rules
+
+-- with an item of a set
+pub wait_with_a_set_has_causes :
+    IsRun 2 (waits_on DepInoutset DepIn) × IsRun 2 (waits_on DepInoutset DepOut) × IsRun 2 (waits_on DepInoutset DepInout)
+    × IsRun 2 (passes_on DepInoutset DepInoutset) × IsRun 2 (waits_on DepInoutset DepMutex)
+wait_with_a_set_has_causes = search rules
+
+-- and with one of a mutex, which is let in (own)
+pub wait_with_a_mutex_has_causes :
+    IsRun 2 (waits_on DepMutex DepIn) × IsRun 2 (waits_on DepMutex DepOut) × IsRun 2 (waits_on DepMutex DepInout)
+    × IsRun 2 (waits_on DepMutex DepInoutset) × IsRun 2 (waits_on DepMutex DepMutex)
+wait_with_a_mutex_has_causes = search rules
+
+-- Refusals of tasks with items and of undeferred tasks
+
+-- sixteen items, and seventeen
+pub as_many_items_have_causes : IsRun 1 as_many_items
+as_many_items_have_causes = search rules
+
+-- refusals in an undeferred task and outside
+pub refused_in_an_undeferred_task_have_causes : IsRun 1 refused_in_an_undeferred_task
+refused_in_an_undeferred_task_have_causes = search rules
+
+-- a name that such a task holds
+pub names_of_an_undeferred_task_have_causes : IsRun 1 names_of_an_undeferred_task
+names_of_an_undeferred_task_have_causes = search rules
+
+-- want of memory at a creation
+pub memory_at_creation_has_causes : IsRun 1 memory_at_creation
+memory_at_creation_has_causes = search rules

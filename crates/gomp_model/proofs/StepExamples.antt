@@ -161,15 +161,15 @@ waits_after_refusals = (refl, refl, refl, refl)
 -- a wait opens one, which a resume that waits again leaves as it is
 pub waits_after_waits :
     (waits_after Wait Barrier no_waits ≡ waits_for Barrier) × (waits_after Wait Resume (waits_for LoopEnd) ≡ waits_for LoopEnd)
-    × (waits_after Wait Taskwait (waits_beneath None) ≡ waits_beneath (Some Taskwait)) × (waits_after Wait Resume (waits_beneath (Some Taskwait)) ≡ waits_beneath (Some Taskwait))
+    × (waits_after Wait (Taskwait []) (waits_beneath None) ≡ waits_beneath (Some (Taskwait []))) × (waits_after Wait Resume (waits_beneath (Some (Taskwait []))) ≡ waits_beneath (Some (Taskwait [])))
 waits_after_waits = (refl, refl, refl, refl)
 
 -- a task that is run puts its call beneath the others, also if that is repeated; no wait is open then
 pub waits_after_runs :
     (waits_after (RunTask 1 7 70 false) Barrier no_waits ≡ record { open_call = None; beneath = Barrier ∷ [] })
     × (waits_after (RunTask 1 7 70 false) Resume (waits_for LoopEnd) ≡ record { open_call = None; beneath = LoopEnd ∷ [] })
-    × (waits_after (RunTask 1 7 70 false) Taskwait (waits_beneath None) ≡ record { open_call = None; beneath = Taskwait ∷ GroupEnd ∷ Barrier ∷ [] })
-    × (waits_after (RunTask 1 7 70 false) Resume (waits_beneath (Some Taskwait)) ≡ record { open_call = None; beneath = Taskwait ∷ GroupEnd ∷ Barrier ∷ [] })
+    × (waits_after (RunTask 1 7 70 false) (Taskwait []) (waits_beneath None) ≡ record { open_call = None; beneath = (Taskwait []) ∷ GroupEnd ∷ Barrier ∷ [] })
+    × (waits_after (RunTask 1 7 70 false) Resume (waits_beneath (Some (Taskwait []))) ≡ record { open_call = None; beneath = (Taskwait []) ∷ GroupEnd ∷ Barrier ∷ [] })
 waits_after_runs = (refl, refl, refl, refl)
 
 -- the end of a task opens the wait of the call above which it was run, and no other
@@ -181,20 +181,20 @@ waits_after_ends = (refl, refl, refl)
 
 -- a task that its own creator runs at once, and its end, leave the calls beneath
 pub waits_of_own_tasks :
-    (waits_after (RunTask 1 7 70 true) Taskwait (waits_beneath None) ≡ waits_beneath None) × (waits_after (TaskDone 1 false) TaskEnd (waits_beneath None) ≡ waits_beneath None)
+    (waits_after (RunTask 1 7 70 true) (Taskwait []) (waits_beneath None) ≡ waits_beneath None) × (waits_after (TaskDone 1 false) TaskEnd (waits_beneath None) ≡ waits_beneath None)
 waits_of_own_tasks = (refl, refl)
 
 -- the first of some calls waits again, the others stay beneath
 pub first_opened :
     (open_first [] ≡ no_waits) × (open_first (Barrier ∷ []) ≡ waits_for Barrier)
-    × (open_first (Taskwait ∷ GroupEnd ∷ Barrier ∷ []) ≡ record { open_call = Some Taskwait; beneath = GroupEnd ∷ Barrier ∷ [] })
+    × (open_first (Taskwait [] ∷ GroupEnd ∷ Barrier ∷ []) ≡ record { open_call = Some (Taskwait []); beneath = GroupEnd ∷ Barrier ∷ [] })
 first_opened = (refl, refl, refl)
 
 -- every other reply closes it, and leaves those beneath
 pub waits_after_replies :
     (waits_after Passed Resume (waits_for LoopEnd) ≡ no_waits) × (waits_after Stopped Stop (waits_for LoopEnd) ≡ no_waits) × (waits_after Finished Resume (waits_for (OrderedStart (pos 0))) ≡ no_waits)
     × (waits_after (Chunk (pos 0) 1) Resume (waits_for LoopNext) ≡ no_waits) × (waits_after NoChunk Resume (waits_for LoopNext) ≡ no_waits) × (waits_after Passed Barrier no_waits ≡ no_waits)
-    × (waits_after Passed Resume (waits_beneath (Some Taskwait)) ≡ waits_beneath None) × (waits_after (Created 2) (TaskCreate one_job) (waits_beneath None) ≡ waits_beneath None)
+    × (waits_after Passed Resume (waits_beneath (Some (Taskwait []))) ≡ waits_beneath None) × (waits_after (Created 2) (TaskCreate one_job) (waits_beneath None) ≡ waits_beneath None)
     × (waits_after Finished Resume (waits_beneath (Some (Set 0))) ≡ waits_beneath None)
 waits_after_replies = (refl, refl, refl, refl, refl, refl, refl, refl, refl)
 

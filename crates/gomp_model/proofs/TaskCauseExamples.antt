@@ -42,16 +42,16 @@ pub wrong_at_task_end :
 wrong_at_task_end = search rules
 
 -- a taskwait without a child
-pub wrong_at_taskwait : AreWrong 2 [] (asks 0 Taskwait) (Wait ∷ RunTask 1 7 70 false ∷ other_runs ++ no_pass)
+pub wrong_at_taskwait : AreWrong 2 [] (asks 0 (Taskwait [])) (Wait ∷ RunTask 1 7 70 false ∷ other_runs ++ no_pass)
 wrong_at_taskwait = search rules
 
 -- one with a child that may be started
-pub wrong_at_taskwait_with_a_child : AreWrong 2 (take 1 wait_for_children) (asks 0 Taskwait) (Wait ∷ Passed ∷ other_runs ++ no_pass)
+pub wrong_at_taskwait_with_a_child : AreWrong 2 (take 1 wait_for_children) (asks 0 (Taskwait [])) (Wait ∷ Passed ∷ other_runs ++ no_pass)
 wrong_at_taskwait_with_a_child = search rules
 
 -- one with a child that another member runs, and its resume
 pub wrong_at_taskwait_that_waits :
-    AreWrong 2 (take 2 wait_for_a_running_child) (asks 0 Taskwait) (Passed ∷ RunTask 1 7 70 false ∷ other_runs ++ no_pass)
+    AreWrong 2 (take 2 wait_for_a_running_child) (asks 0 (Taskwait [])) (Passed ∷ RunTask 1 7 70 false ∷ other_runs ++ no_pass)
     × AreWrong 2 (take 3 wait_for_a_running_child) (asks 0 Resume) (Passed ∷ RunTask 1 7 70 false ∷ other_runs ++ no_pass)
 wrong_at_taskwait_that_waits = search rules
 
@@ -113,7 +113,7 @@ refused_at_task_create = search rules
 pub refused_at_task_end : AreWrong 1 (down_to 2) (asks 0 TaskEnd) all_refusals
 refused_at_task_end = search rules
 
-pub refused_at_taskwait : AreWrong 2 (take 1 wait_for_children) (asks 0 Taskwait) all_refusals × AreWrong 1 (down_to 2) (asks 0 Taskwait) all_refusals
+pub refused_at_taskwait : AreWrong 2 (take 1 wait_for_children) (asks 0 (Taskwait [])) all_refusals × AreWrong 1 (down_to 2) (asks 0 (Taskwait [])) all_refusals
 refused_at_taskwait = search rules
 
 pub refused_at_taskwait_resume : AreWrong 2 (take 3 wait_for_a_running_child) (asks 0 Resume) all_refusals
@@ -144,7 +144,7 @@ memory_at_task_end may = absurd (cc)
 
 -- at a taskwait that passes, runs a task or waits
 pub memory_at_taskwait :
-    IsWrong 2 [] (asks 0 Taskwait) (Refused NoMemory) × IsWrong 2 (take 1 wait_for_children) (asks 0 Taskwait) (Refused NoMemory) × IsWrong 2 (take 2 wait_for_a_running_child) (asks 0 Taskwait) (Refused NoMemory)
+    IsWrong 2 [] (asks 0 (Taskwait [])) (Refused NoMemory) × IsWrong 2 (take 1 wait_for_children) (asks 0 (Taskwait [])) (Refused NoMemory) × IsWrong 2 (take 2 wait_for_a_running_child) (asks 0 (Taskwait [])) (Refused NoMemory)
 memory_at_taskwait = ((λ may. absurd (cc)), (λ may. absurd (cc)), (λ may. absurd (cc)))
 
 -- at the end of a group
@@ -180,7 +180,7 @@ pub no_group_ended : MayReplyAfter false 1 [] 0 GroupEnd Passed → ⊥
 no_group_ended met = absurd (cc)
 
 -- a task that was never created is run, also if it was started
-pub uncreated_task_not_run : IsWrongAfter 1 (Start 1 0 ∷ []) 0 Taskwait (RunTask 1 7 70 false) × IsWrongAfter 1 [] 0 Taskwait (RunTask 1 7 70 false)
+pub uncreated_task_not_run : IsWrongAfter 1 (Start 1 0 ∷ []) 0 (Taskwait []) (RunTask 1 7 70 false) × IsWrongAfter 1 [] 0 (Taskwait []) (RunTask 1 7 70 false)
 uncreated_task_not_run = search rules
 
 -- a group is ended that the parent of the executed task has opened
@@ -191,9 +191,11 @@ group_of_another_task = search rules
 pub group_of_two_tasks : IsWrongAfter 1 (Group 0 0 ∷ Create 1 0 (Implicit 0) one_job ∷ Create 2 0 (Implicit 0) other_job ∷ Start 1 0 ∷ []) 0 GroupEnd Passed
 group_of_two_tasks = search rules
 
--- a repeated call creates no second task, and is answered by the number of the newest
-pub created_at_a_resume : MayReplyAfter true 2 nested_groups 0 (TaskCreate one_job) (Created 4) × (MayReplyAfter true 2 nested_groups 0 (TaskCreate one_job) (Created 5) → ⊥)
-created_at_a_resume = (refl, (λ e. absurd (cc)))
+-- a repeated call creates no second task, and is answered by the number of the newest in the executed task
+pub created_at_a_resume :
+    MayReplyAfter true 2 nested_groups 0 (TaskCreate one_job) (Created 3) × (MayReplyAfter true 2 nested_groups 0 (TaskCreate one_job) (Created 4) → ⊥)
+    × (MayReplyAfter true 2 nested_groups 0 (TaskCreate one_job) (Created 5) → ⊥) × MayReplyAfter true 2 nested_groups 1 (TaskCreate one_job) (Created 4)
+created_at_a_resume = (refl, (λ e. absurd (cc)), (λ e. absurd (cc)), refl)
 
 -- Which replies are one
 

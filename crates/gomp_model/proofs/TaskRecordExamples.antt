@@ -10,7 +10,7 @@ use Rattle.gomp_types.specs.declared.reply.Reply.TheVariants.{TaskDone}
 use Rattle.gomp_types.specs.declared.event.Arrival.TheVariants.{Barrier, RegionEnd}
 use Rattle.gomp_types.specs.declared.event.Event.TheVariants.{Arrive, Pass, Hold, Free, Create, Start, Done, Group, GroupEnd, Waited, Break}
 use Rattle.gomp_types.specs.EventLists.{newest_first, at}
-use Rattle.gomp_types.specs.TaskExamples.{one_job, other_job}
+use Rattle.gomp_types.specs.TaskExamples.{one_job, other_job, job_with}
 use Rattle.gomp_model.specs.Past.{Waits, no_waits}
 use Rattle.gomp_model.specs.Team.{row_at, events}
 use Rattle.gomp_model.specs.Examples.{Run, waits_for, run_recorded, team_of, past_after_run, asks}
@@ -46,16 +46,16 @@ waits_at_a_loop_end = refl
 
 -- a task in a task has both calls beneath, the innermost first
 pub waits_in_waits :
-    (waits_at 1 children_of_two (2 ∷ 4 ∷ 5 ∷ []) ≡ runs_above (BarrierCall ∷ []) ∷ runs_above (BarrierCall ∷ []) ∷ runs_above (Taskwait ∷ BarrierCall ∷ []) ∷ [])
-    × ((past_after_run 2 (children_of_two ++ (asks 1 TaskEnd, TaskDone 3 true) ∷ [])).waits 1 ≡ record { open_call = Some Taskwait; beneath = BarrierCall ∷ [] })
+    (waits_at 1 children_of_two (2 ∷ 4 ∷ 5 ∷ []) ≡ runs_above (BarrierCall ∷ []) ∷ runs_above (BarrierCall ∷ []) ∷ runs_above (Taskwait [] ∷ BarrierCall ∷ []) ∷ [])
+    × ((past_after_run 2 (children_of_two ++ (asks 1 TaskEnd, TaskDone 3 true) ∷ [])).waits 1 ≡ record { open_call = Some (Taskwait []); beneath = BarrierCall ∷ [] })
     × ((past_after_run 2 children_of_two).waits 0 ≡ no_waits)
 waits_in_waits = (refl, refl, refl)
 
 -- down to a depth and up again
 pub waits_of_nested_tasks :
     waits_at 0 (nested_waits 3) (6 ∷ 7 ∷ 8 ∷ 9 ∷ 12 ∷ [])
-    ≡ runs_above (Taskwait ∷ Taskwait ∷ Taskwait ∷ []) ∷ record { open_call = Some Taskwait; beneath = Taskwait ∷ Taskwait ∷ [] } ∷ runs_above (Taskwait ∷ Taskwait ∷ [])
-    ∷ record { open_call = Some Taskwait; beneath = Taskwait ∷ [] } ∷ no_waits ∷ []
+    ≡ runs_above (Taskwait [] ∷ Taskwait [] ∷ Taskwait [] ∷ []) ∷ record { open_call = Some (Taskwait []); beneath = (Taskwait []) ∷ Taskwait [] ∷ [] } ∷ runs_above (Taskwait [] ∷ Taskwait [] ∷ [])
+    ∷ record { open_call = Some (Taskwait []); beneath = (Taskwait []) ∷ [] } ∷ no_waits ∷ []
 waits_of_nested_tasks = refl
 
 -- a wait in a task opens above those beneath, and closes again
@@ -66,8 +66,8 @@ waits_of_a_group = refl
 -- a member that waits for a lock in a task; a stop closes that wait, and leaves those beneath
 pub waits_for_a_lock_in_a_task :
     waits_at 0 locks_of_tasks (13 ∷ 14 ∷ 15 ∷ 16 ∷ 17 ∷ [])
-    ≡ runs_above (Taskwait ∷ Taskwait ∷ []) ∷ record { open_call = Some (Set 0); beneath = Taskwait ∷ Taskwait ∷ [] } ∷ record { open_call = Some (Set 0); beneath = Taskwait ∷ Taskwait ∷ [] }
-    ∷ record { open_call = Some (Set 0); beneath = Taskwait ∷ Taskwait ∷ [] } ∷ runs_above (Taskwait ∷ Taskwait ∷ []) ∷ []
+    ≡ runs_above (Taskwait [] ∷ Taskwait [] ∷ []) ∷ record { open_call = Some (Set 0); beneath = (Taskwait []) ∷ Taskwait [] ∷ [] } ∷ record { open_call = Some (Set 0); beneath = (Taskwait []) ∷ Taskwait [] ∷ [] }
+    ∷ record { open_call = Some (Set 0); beneath = (Taskwait []) ∷ Taskwait [] ∷ [] } ∷ runs_above (Taskwait [] ∷ Taskwait [] ∷ []) ∷ []
 waits_for_a_lock_in_a_task = refl
 
 -- a resume after a task repeats the call beneath it; in the task it has none to repeat
@@ -80,8 +80,8 @@ resumed_after_tasks = (refl, refl, refl)
 
 -- tasks that are run at a barrier and at the region's end
 pub barrier_task_events : events (team_of 2) (run_recorded tasks_at_barriers []) ≡ newest_first
-    (Create 1 0 (Implicit 0) (record { code = 7; arg = 5 }) ∷ Arrive 0 1 (at Barrier 0) ∷ Start 1 1 ∷ Arrive 0 0 (at Barrier 0) ∷ Done 1 1 ∷ Pass 0 1
-    ∷ Create 2 1 (Implicit 1) (record { code = 8; arg = 0 }) ∷ Pass 0 0 ∷ Arrive 1 0 (at RegionEnd 0) ∷ Start 2 0 ∷ Arrive 1 1 (at RegionEnd 0) ∷ Done 2 0 ∷ Pass 1 0 ∷ Pass 1 1 ∷ [])
+    (Create 1 0 (Implicit 0) (job_with 7 5 []) ∷ Arrive 0 1 (at Barrier 0) ∷ Start 1 1 ∷ Arrive 0 0 (at Barrier 0) ∷ Done 1 1 ∷ Pass 0 1
+    ∷ Create 2 1 (Implicit 1) (job_with 8 0 []) ∷ Pass 0 0 ∷ Arrive 1 0 (at RegionEnd 0) ∷ Start 2 0 ∷ Arrive 1 1 (at RegionEnd 0) ∷ Done 2 0 ∷ Pass 1 0 ∷ Pass 1 1 ∷ [])
     []
 barrier_task_events = refl
 
@@ -93,25 +93,25 @@ resume_task_events = refl
 
 -- waits for children, those that have none among them
 pub taskwait_events : events (team_of 2) (run_recorded wait_for_children []) ≡ newest_first
-    (Create 1 0 (Implicit 0) one_job ∷ Waited 1 ∷ Start 1 0 ∷ Waited 0 ∷ Create 2 0 (Explicit 1) other_job ∷ Done 1 0 ∷ Waited 0 ∷ Waited 0 ∷ [])
+    (Create 1 0 (Implicit 0) one_job ∷ Waited 1 [] ∷ Start 1 0 ∷ Waited 0 [] ∷ Create 2 0 (Explicit 1) other_job ∷ Done 1 0 ∷ Waited 0 [] ∷ Waited 0 [] ∷ [])
     []
 taskwait_events = refl
 
 -- one that waits gives nothing until it is passed
 pub waiting_taskwait_events : events (team_of 2) (run_recorded wait_for_a_running_child []) ≡ newest_first
-    (Create 1 0 (Implicit 0) one_job ∷ Arrive 0 1 (at Barrier 0) ∷ Start 1 1 ∷ Done 1 1 ∷ Waited 0 ∷ [])
+    (Create 1 0 (Implicit 0) one_job ∷ Arrive 0 1 (at Barrier 0) ∷ Start 1 1 ∷ Done 1 1 ∷ Waited 0 [] ∷ [])
     []
 waiting_taskwait_events = refl
 
 -- a task in a task
 pub nested_task_events : events (team_of 1) (run_recorded (nested_waits 2) []) ≡ newest_first
-    (Create 1 0 (Implicit 0) (record { code = 1; arg = 0 }) ∷ Start 1 0 ∷ Create 2 0 (Explicit 1) (record { code = 1; arg = 0 }) ∷ Start 2 0 ∷ Done 2 0 ∷ Waited 0 ∷ Done 1 0 ∷ Waited 0 ∷ [])
+    (Create 1 0 (Implicit 0) (job_with 1 0 []) ∷ Start 1 0 ∷ Create 2 0 (Explicit 1) (job_with 1 0 []) ∷ Start 2 0 ∷ Done 2 0 ∷ Waited 0 [] ∷ Done 1 0 ∷ Waited 0 [] ∷ [])
     []
 nested_task_events = refl
 
 -- a group
 pub group_events : events (team_of 1) (run_recorded group_of_one []) ≡ newest_first
-    (Group 0 0 ∷ Create 1 0 (Implicit 0) (record { code = 1; arg = 0 }) ∷ Start 1 0 ∷ Done 1 0 ∷ GroupEnd 0 0 ∷ [])
+    (Group 0 0 ∷ Create 1 0 (Implicit 0) (job_with 1 0 []) ∷ Start 1 0 ∷ Done 1 0 ∷ GroupEnd 0 0 ∷ [])
     []
 group_events = refl
 

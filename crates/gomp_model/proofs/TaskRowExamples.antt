@@ -7,7 +7,7 @@ use Rattle.gomp_types.specs.declared.key.Key.TheVariants.{Critical}
 use Rattle.gomp_types.specs.declared.task.Task.TheVariants.{Implicit, Explicit}
 use Rattle.gomp_types.specs.declared.task.TaskDesc.{TaskDesc}
 use Rattle.gomp_types.specs.declared.loop_desc.EndKind.TheVariants.{Wait as WaitEnd, Nowait}
-use Rattle.gomp_types.specs.declared.refusal.Refusal.TheVariants.{InsideTask, NotInTask, HoldsCritical, NotDrained, NoGroup, GroupOpen, TooDeep, TooManyTasks, NoMemory, Mismatch}
+use Rattle.gomp_types.specs.declared.refusal.Refusal.TheVariants.{InsideTask, NotInTask, HoldsCritical, NotDrained, NoGroup, GroupOpen, TooDeep, TooManyTasks, TooManyDepends, NoMemory, Mismatch}
 use Rattle.gomp_types.specs.declared.reply.Reply.{Reply}
 use Rattle.gomp_types.specs.declared.reply.Reply.TheVariants.{Chunk, NoChunk, Section, Executor, Copied, Finished, Passed, Wait, Created, Run as RunTask, TaskDone, Stopped, Refused}
 use Rattle.gomp_types.specs.declared.event.Event.{Event}
@@ -26,7 +26,7 @@ use Rattle.gomp_model.proofs.RowExamples.{starts, nexts, ends, arrivals, in_team
 
 -- the calls on tasks and groups
 abbrev pub on_tasks : List Call
-on_tasks = TaskCreate one_job ∷ TaskEnd ∷ Taskwait ∷ GroupStart ∷ GroupEnd ∷ []
+on_tasks = TaskCreate one_job ∷ TaskEnd ∷ Taskwait [] ∷ GroupStart ∷ GroupEnd ∷ []
 
 -- and all others
 abbrev pub on_no_tasks : List Call
@@ -120,7 +120,7 @@ given m call (reply ∷ replies) = (row_of call).gives m (past_with 2 nested_gro
 -- the end of a task, of whichever it is; what was waited for, or run; the next group, and the end of the task's last one
 pub given_by_tasks :
     (given 0 TaskEnd (TaskDone 2 true ∷ TaskDone 3 false ∷ []) ≡ Done 2 0 ∷ Done 3 0 ∷ [])
-    × (given 0 Taskwait (Passed ∷ RunTask 3 8 80 false ∷ []) ≡ Waited 0 ∷ Start 3 0 ∷ []) × (given 1 Taskwait (Passed ∷ RunTask 4 7 70 false ∷ []) ≡ Waited 1 ∷ Start 4 1 ∷ [])
+    × (given 0 (Taskwait []) (Passed ∷ RunTask 3 8 80 false ∷ []) ≡ Waited 0 [] ∷ Start 3 0 ∷ []) × (given 1 (Taskwait []) (Passed ∷ RunTask 4 7 70 false ∷ []) ≡ Waited 1 [] ∷ Start 4 1 ∷ [])
     × (given 0 GroupStart (Finished ∷ []) ≡ Group 4 0 ∷ []) × (given 1 GroupStart (Finished ∷ []) ≡ Group 4 1 ∷ [])
     × (given 0 GroupEnd (Passed ∷ RunTask 3 8 80 false ∷ []) ≡ GroupEnded 2 0 ∷ Start 3 0 ∷ []) × (given 1 GroupEnd (Passed ∷ []) ≡ GroupEnded 3 1 ∷ [])
 given_by_tasks = (refl, refl, refl, refl, refl, refl, refl)
@@ -136,10 +136,16 @@ given_by_nested_groups = (refl, refl, refl)
 abbrev no_end : List Reply
 no_end = Chunk (pos 0) 1 ∷ NoChunk ∷ Section 0 ∷ Section 1 ∷ Executor true ∷ Executor false ∷ Copied [] ∷ Wait ∷ Stopped ∷ Created 5 ∷ lock_answers
 
--- a creation gives nothing beside what it has begun with, and no call on a task anything at another call's answer
+-- a creation gives beside what it has begun with the start of the task that is run, its own or another, and nothing else
+pub given_by_creations :
+    (given 0 (TaskCreate one_job) (RunTask 3 8 80 true ∷ RunTask 4 7 70 false ∷ []) ≡ Start 3 0 ∷ Start 4 0 ∷ [])
+    × (given 1 (TaskCreate one_job) (RunTask 3 8 80 true ∷ []) ≡ Start 3 1 ∷ []) × (given 0 (TaskCreate one_job) (Finished ∷ Passed ∷ TaskDone 2 true ∷ no_end) ≡ [])
+given_by_creations = (refl, refl, refl)
+
+-- no call on a task gives anything at another call's answer
 pub none_given_by_tasks :
-    given 0 (TaskCreate one_job) (Finished ∷ Passed ∷ RunTask 3 8 80 false ∷ TaskDone 2 true ∷ no_end) ++ given 0 TaskEnd (Finished ∷ Passed ∷ RunTask 3 8 80 false ∷ no_end)
-    ++ given 0 Taskwait (Finished ∷ TaskDone 2 true ∷ no_end) ++ given 0 GroupStart (Passed ∷ RunTask 3 8 80 false ∷ TaskDone 2 true ∷ no_end)
+    given 0 (TaskCreate one_job) (Finished ∷ Passed ∷ TaskDone 2 true ∷ no_end) ++ given 0 TaskEnd (Finished ∷ Passed ∷ RunTask 3 8 80 false ∷ no_end)
+    ++ given 0 (Taskwait []) (Finished ∷ TaskDone 2 true ∷ no_end) ++ given 0 GroupStart (Passed ∷ RunTask 3 8 80 false ∷ TaskDone 2 true ∷ no_end)
     ++ given 0 GroupEnd (Finished ∷ TaskDone 2 true ∷ no_end) ≡ []
 none_given_by_tasks = refl
 
@@ -151,11 +157,11 @@ left_by_tasks = refl
 
 -- among groups: a member runs the child of its task, at a taskwait and at the end of its group; another runs its own, and ends its group, which was opened after it
 pub answered_among_groups :
-    MayReplyAfter false 2 nested_groups 0 Taskwait (RunTask 3 8 80 false) × MayReplyAfter false 2 nested_groups 0 GroupEnd (RunTask 3 8 80 false)
-    × MayReplyAfter false 2 nested_groups 1 Taskwait (RunTask 4 7 70 false) × MayReplyAfter false 2 nested_groups 1 GroupEnd Passed
+    MayReplyAfter false 2 nested_groups 0 (Taskwait []) (RunTask 3 8 80 false) × MayReplyAfter false 2 nested_groups 0 GroupEnd (RunTask 3 8 80 false)
+    × MayReplyAfter false 2 nested_groups 1 (Taskwait []) (RunTask 4 7 70 false) × MayReplyAfter false 2 nested_groups 1 GroupEnd Passed
     × MayReplyAfter false 2 nested_groups 0 TaskEnd (TaskDone 2 true) × MayReplyAfter false 2 nested_groups 0 (TaskCreate one_job) (Created 5)
     × MayReplyAfter false 2 nested_groups 1 (TaskCreate one_job) (Created 5) × MayReplyAfter false 2 nested_groups 1 GroupStart Finished
-answered_among_groups = ((refl, refl, refl, refl), (refl, refl, refl, refl), (refl, refl, refl, refl), refl, refl, refl, refl, refl)
+answered_among_groups = ((refl, refl, refl, (refl, refl)), (refl, refl, refl, (refl, refl)), (refl, refl, refl, (refl, refl)), refl, refl, refl, refl, refl)
 
 -- Tests that tasks and groups decide
 
@@ -191,19 +197,19 @@ tests_of_no_task = refl
 -- the calls on tasks, in a task with an open group
 pub tests_in_a_group :
     tests_of 0 nested_groups on_tasks
-    ≡ ((false, TooDeep) ∷ (false, TooManyTasks) ∷ []) ∷ ((false, NotInTask) ∷ (true, GroupOpen) ∷ []) ∷ [] ∷ [] ∷ ((false, NoGroup) ∷ []) ∷ []
+    ≡ ((false, TooDeep) ∷ (false, TooManyTasks) ∷ (false, TooManyDepends) ∷ []) ∷ ((false, NotInTask) ∷ (true, GroupOpen) ∷ []) ∷ ((false, TooManyDepends) ∷ []) ∷ [] ∷ ((false, NoGroup) ∷ []) ∷ []
 tests_in_a_group = refl
 
 -- in a task that has opened none, while its parent has
 pub tests_in_the_parents_group :
     tests_of 0 (take 5 nested_groups) on_tasks
-    ≡ ((false, TooDeep) ∷ (false, TooManyTasks) ∷ []) ∷ ((false, NotInTask) ∷ (false, GroupOpen) ∷ []) ∷ [] ∷ [] ∷ ((true, NoGroup) ∷ []) ∷ []
+    ≡ ((false, TooDeep) ∷ (false, TooManyTasks) ∷ (false, TooManyDepends) ∷ []) ∷ ((false, NotInTask) ∷ (false, GroupOpen) ∷ []) ∷ ((false, TooManyDepends) ∷ []) ∷ [] ∷ ((true, NoGroup) ∷ []) ∷ []
 tests_in_the_parents_group = refl
 
 -- and in an implicit task, with a group and without
 pub tests_of_an_implicit_task :
-    (tests_of 1 nested_groups on_tasks ≡ ((false, TooDeep) ∷ (false, TooManyTasks) ∷ []) ∷ ((true, NotInTask) ∷ (true, GroupOpen) ∷ []) ∷ [] ∷ [] ∷ ((false, NoGroup) ∷ []) ∷ [])
-    × (tests_of 1 [] on_tasks ≡ ((false, TooDeep) ∷ (false, TooManyTasks) ∷ []) ∷ ((true, NotInTask) ∷ (false, GroupOpen) ∷ []) ∷ [] ∷ [] ∷ ((true, NoGroup) ∷ []) ∷ [])
+    (tests_of 1 nested_groups on_tasks ≡ ((false, TooDeep) ∷ (false, TooManyTasks) ∷ (false, TooManyDepends) ∷ []) ∷ ((true, NotInTask) ∷ (true, GroupOpen) ∷ []) ∷ ((false, TooManyDepends) ∷ []) ∷ [] ∷ ((false, NoGroup) ∷ []) ∷ [])
+    × (tests_of 1 [] on_tasks ≡ ((false, TooDeep) ∷ (false, TooManyTasks) ∷ (false, TooManyDepends) ∷ []) ∷ ((true, NotInTask) ∷ (false, GroupOpen) ∷ []) ∷ ((false, TooManyDepends) ∷ []) ∷ [] ∷ ((true, NoGroup) ∷ []) ∷ [])
 tests_of_an_implicit_task = (refl, refl)
 
 -- Names that tasks hold

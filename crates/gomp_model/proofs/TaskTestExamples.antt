@@ -6,7 +6,7 @@ use Rattle.gomp_types.specs.declared.call.Call.TheVariants.{LoopNext, LoopEnd, L
 use Rattle.gomp_types.specs.declared.event.Event.{Event}
 use Rattle.gomp_types.specs.declared.loop_desc.EndKind.TheVariants.{Wait as WaitEnd, Nowait}
 use Rattle.gomp_types.specs.declared.refusal.Refusal.{Refusal}
-use Rattle.gomp_types.specs.declared.refusal.Refusal.TheVariants.{InsideTask, NotInTask, InsideShare, HoldsCritical, GroupOpen, TooDeep, TooManyTasks, Mismatch, TraceFull, NoMemory, BadSections}
+use Rattle.gomp_types.specs.declared.refusal.Refusal.TheVariants.{InsideTask, NotInTask, InsideShare, HoldsCritical, GroupOpen, TooDeep, TooManyTasks, TooManyDepends, Mismatch, TraceFull, NoMemory, BadSections}
 use Rattle.gomp_types.specs.declared.reply.Reply.{Reply}
 use Rattle.gomp_types.specs.declared.reply.Reply.TheVariants.{Chunk, NoChunk, Section, Executor, Finished, Passed, Wait, Created, Run as RunTask, TaskDone, Lock, Stopped, Refused}
 use Rattle.gomp_types.specs.Events.{has_left_region, clash_of}
@@ -186,7 +186,7 @@ asking_room = ten_by_three ∷ three_sections ∷ SingleCopyStart ∷ Barrier �
 -- and some that ask for none
 abbrev asking_none : List Call
 asking_none =
-    one_nowait ∷ SectionsStart 3 Nowait ∷ SingleStart ∷ RegionEnd ∷ Taskwait ∷ CriticalStart name_a ∷ LockInit ∷ NestInit ∷ Stop ∷ []
+    one_nowait ∷ SectionsStart 3 Nowait ∷ SingleStart ∷ RegionEnd ∷ Taskwait [] ∷ CriticalStart name_a ∷ LockInit ∷ NestInit ∷ Stop ∷ []
 
 -- what these calls are refused in a new team of this size that may ask room for so many events
 abbrev refusals_with : ℕ → ℕ → List Call → List (Option Refusal)
@@ -215,8 +215,8 @@ refusals_below_first_room = (refl, refl, refl, refl)
 
 -- whatever room was asked for before, a call that asks for none has no such test that holds
 pub no_test_on_room :
-    map (λ call. (row_of call).room) (nexts ++ ends ++ LoopEnd ∷ SectionsEnd ∷ RegionEnd ∷ TaskEnd ∷ Taskwait ∷ GroupEnd ∷ in_book ++ others)
-    ≡ map (λ call. 0) (nexts ++ ends ++ LoopEnd ∷ SectionsEnd ∷ RegionEnd ∷ TaskEnd ∷ Taskwait ∷ GroupEnd ∷ in_book ++ others)
+    map (λ call. (row_of call).room) (nexts ++ ends ++ LoopEnd ∷ SectionsEnd ∷ RegionEnd ∷ TaskEnd ∷ Taskwait [] ∷ GroupEnd ∷ in_book ++ others)
+    ≡ map (λ call. 0) (nexts ++ ends ++ LoopEnd ∷ SectionsEnd ∷ RegionEnd ∷ TaskEnd ∷ Taskwait [] ∷ GroupEnd ∷ in_book ++ others)
 no_test_on_room = refl
 
 -- a team whose room is used up
@@ -224,7 +224,7 @@ abbrev used_up : Past
 used_up = record (past_with 1 []) { room = 16777216 }
 
 pub tests_if_used_up :
-    (board_tests false (row_of Taskwait) 0 used_up ≡ (false, TraceFull) ∷ []) × (board_tests false (row_of (TaskCreate one_job)) 0 used_up ≡ (false, TooDeep) ∷ (false, TooManyTasks) ∷ (true, TraceFull) ∷ [])
+    (board_tests false (row_of (Taskwait [])) 0 used_up ≡ (false, TooManyDepends) ∷ (false, TraceFull) ∷ []) × (board_tests false (row_of (TaskCreate one_job)) 0 used_up ≡ (false, TooDeep) ∷ (false, TooManyTasks) ∷ (false, TooManyDepends) ∷ (true, TraceFull) ∷ [])
     × (board_tests false (row_of GroupStart) 0 used_up ≡ (true, TraceFull) ∷ []) × (board_tests true (row_of Barrier) 0 used_up ≡ [])
 tests_if_used_up = (refl, refl, refl, refl)
 
@@ -284,7 +284,7 @@ room_of_calls = (refl, refl, refl)
 -- one that asks for none leaves it
 pub room_of_other_calls :
     room_left ((one_nowait, Chunk (pos 0) 1) ∷ (SingleStart, Executor true) ∷ (LoopNext, NoChunk) ∷ (LoopEnd, Wait) ∷ (SectionsEnd, Passed) ∷ (RegionEnd, Wait)
-    ∷ (TaskEnd, TaskDone 1 true) ∷ (Taskwait, Passed) ∷ (Taskwait, RunTask 1 7 70 false) ∷ (GroupEnd, Passed) ∷ (LockInit, Lock 0) ∷ (Stop, Stopped) ∷ [])
+    ∷ (TaskEnd, TaskDone 1 true) ∷ (Taskwait [], Passed) ∷ (Taskwait [], RunTask 1 7 70 false) ∷ (GroupEnd, Passed) ∷ (LockInit, Lock 0) ∷ (Stop, Stopped) ∷ [])
     ≡ 5 ∷ 5 ∷ 5 ∷ 5 ∷ 5 ∷ 5 ∷ 5 ∷ 5 ∷ 5 ∷ 5 ∷ 5 ∷ 5 ∷ []
 room_of_other_calls = refl
 

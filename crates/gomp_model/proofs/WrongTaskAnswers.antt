@@ -38,11 +38,11 @@ pub ended_task_run_is_wrong : IsWrong 2 (take 4 tasks_at_barriers) (asks 1 Resum
 ended_task_run_is_wrong = search rules
 
 -- one that is no descendant of the task that the member executes: another child of that one's parent, that one itself
-pub other_child_run_is_wrong : AreWrong 2 (take 4 children_of_two) (asks 1 Taskwait) (RunTask 2 2 0 false ∷ RunTask 1 1 0 false ∷ [])
+pub other_child_run_is_wrong : AreWrong 2 (take 4 children_of_two) (asks 1 (Taskwait [])) (RunTask 2 2 0 false ∷ RunTask 1 1 0 false ∷ [])
 other_child_run_is_wrong = search rules
 
 -- another member's, by one that does not wait at a barrier
-pub anothers_task_run_is_wrong : IsWrong 2 (take 1 wait_for_children) (asks 1 Taskwait) (RunTask 1 7 70 false)
+pub anothers_task_run_is_wrong : IsWrong 2 (take 1 wait_for_children) (asks 1 (Taskwait [])) (RunTask 1 7 70 false)
 anothers_task_run_is_wrong = search rules
 
 -- one that the member may start, but for which it does not wait: at a taskwait the child of a child that has ended, at the end of a group a task from before it
@@ -81,13 +81,13 @@ waits_at_a_met_barrier_are_wrong = search rules
 
 -- a taskwait is passed while a child is not started, or another member runs it
 pub taskwaits_with_a_child_are_wrong :
-    AreWrong 2 (take 2 wait_for_children) (asks 0 Taskwait) (Passed ∷ Wait ∷ []) × AreWrong 2 (take 2 wait_for_a_running_child) (asks 0 Taskwait) (Passed ∷ RunTask 1 7 70 false ∷ [])
+    AreWrong 2 (take 2 wait_for_children) (asks 0 (Taskwait [])) (Passed ∷ Wait ∷ []) × AreWrong 2 (take 2 wait_for_a_running_child) (asks 0 (Taskwait [])) (Passed ∷ RunTask 1 7 70 false ∷ [])
     × AreWrong 2 (take 4 wait_for_a_running_child) (asks 0 Resume) (Passed ∷ RunTask 1 7 70 false ∷ [])
 taskwaits_with_a_child_are_wrong = search rules
 
 -- it waits though there is no child, all have ended, or only the child of one is left
 pub taskwaits_for_nothing_are_wrong :
-    IsWrong 2 [] (asks 0 Taskwait) Wait × IsWrong 2 (take 3 wait_for_children) (asks 0 Taskwait) Wait × IsWrong 2 (take 6 wait_for_children) (asks 0 Resume) Wait
+    IsWrong 2 [] (asks 0 (Taskwait [])) Wait × IsWrong 2 (take 3 wait_for_children) (asks 0 (Taskwait [])) Wait × IsWrong 2 (take 6 wait_for_children) (asks 0 Resume) Wait
     × IsWrong 2 (take 5 wait_for_a_running_child) (asks 0 Resume) Wait
 taskwaits_for_nothing_are_wrong = search rules
 
@@ -178,8 +178,8 @@ barriers_in_a_task_are_wrong = search rules
 
 -- a creation or a taskwait in a task is refused for the task, or for a name that it holds
 pub tasks_refused_in_tasks_are_wrong :
-    AreWrong 1 (take 11 refused_in_tasks) (asks 0 (TaskCreate one_job)) (Refused InsideTask ∷ Refused GroupOpen ∷ []) × IsWrong 1 (take 11 refused_in_tasks) (asks 0 Taskwait) (Refused InsideTask)
-    × IsWrong 1 (take 9 refused_ends_of_tasks) (asks 0 (TaskCreate one_job)) (Refused HoldsCritical) × IsWrong 1 (take 9 refused_ends_of_tasks) (asks 0 Taskwait) (Refused HoldsCritical)
+    AreWrong 1 (take 11 refused_in_tasks) (asks 0 (TaskCreate one_job)) (Refused InsideTask ∷ Refused GroupOpen ∷ []) × IsWrong 1 (take 11 refused_in_tasks) (asks 0 (Taskwait [])) (Refused InsideTask)
+    × IsWrong 1 (take 9 refused_ends_of_tasks) (asks 0 (TaskCreate one_job)) (Refused HoldsCritical) × IsWrong 1 (take 9 refused_ends_of_tasks) (asks 0 (Taskwait [])) (Refused HoldsCritical)
 tasks_refused_in_tasks_are_wrong = search rules
 
 -- Names and locks of tasks

@@ -10,7 +10,7 @@ use Rattle.gomp_types.specs.declared.loop_desc.EndKind.{EndKind}
 use Rattle.gomp_types.specs.declared.loop_desc.EndKind.TheVariants.{Wait as WaitEnd, Nowait}
 use Rattle.gomp_types.specs.declared.refusal.Place.TheVariants.{Share, Barrier as AtBarrier, Stopped as AtStop}
 use Rattle.gomp_types.specs.declared.refusal.Refusal.{Refusal}
-use Rattle.gomp_types.specs.declared.refusal.Refusal.TheVariants.{BadMember, Ended, Broken, Waiting, InsideTask, NotInTask, InsideShare, OutsideShare, InOrdered, HoldsCritical, ZeroStep, BadChunk, LoopTooLong, BadSections, EndDiffers, NotDrained, Drained, NotOrdered, OrderedBackwards, NotInside, NoGroup, GroupOpen, TooDeep, TooManyTasks, NameTooLong, AlreadyHeld, NotHolder, NoLock, CountTooLarge, TooManyShares, Mismatch, TraceFull, NoMemory, BadTeam}
+use Rattle.gomp_types.specs.declared.refusal.Refusal.TheVariants.{BadMember, Ended, Broken, Waiting, InsideTask, NotInTask, InsideShare, OutsideShare, InOrdered, HoldsCritical, ZeroStep, BadChunk, LoopTooLong, BadSections, EndDiffers, NotDrained, Drained, NotOrdered, OrderedBackwards, NotInside, NoGroup, GroupOpen, TooDeep, TooManyTasks, NameTooLong, AlreadyHeld, NotHolder, NoLock, CountTooLarge, TooManyDepends, TooManyShares, Mismatch, TraceFull, NoMemory, BadTeam}
 use Rattle.gomp_types.specs.declared.reply.Reply.{Reply}
 use Rattle.gomp_types.specs.declared.reply.Reply.TheVariants.{Chunk, NoChunk, Section, Executor, Copied, Finished, Passed, Wait, Created, Run as RunTask, TaskDone, Lock, Got, Count, Stopped, Refused}
 use Rattle.gomp_types.specs.Limits.{standard}
@@ -88,7 +88,7 @@ all_refusals =
     map Refused
     (BadMember ∷ Ended ∷ Waiting ∷ InsideTask ∷ NotInTask ∷ InsideShare ∷ OutsideShare ∷ InOrdered ∷ HoldsCritical ∷ ZeroStep ∷ BadChunk
     ∷ LoopTooLong ∷ BadSections ∷ EndDiffers ∷ NotDrained ∷ Drained ∷ NotOrdered ∷ OrderedBackwards ∷ NotInside ∷ NoGroup ∷ GroupOpen
-    ∷ TooDeep ∷ TooManyTasks ∷ NameTooLong ∷ AlreadyHeld ∷ NotHolder ∷ NoLock ∷ CountTooLarge ∷ TooManyShares ∷ Mismatch ∷ TraceFull ∷ BadTeam ∷ [])
+    ∷ TooDeep ∷ TooManyTasks ∷ NameTooLong ∷ AlreadyHeld ∷ NotHolder ∷ NoLock ∷ CountTooLarge ∷ TooManyDepends ∷ TooManyShares ∷ Mismatch ∷ TraceFull ∷ BadTeam ∷ [])
 
 -- this run has an answer without a cause
 abbrev pub IsNoRun : ℕ → Run → Type 0

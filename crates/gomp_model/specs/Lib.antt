@@ -1,6 +1,7 @@
 pub mod Arrivals
 pub mod Calls
 pub mod CriticalNames
+pub mod DependRuns
 pub mod Examples
 pub mod HoldExamples
 pub mod Locks

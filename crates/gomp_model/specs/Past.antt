@@ -15,7 +15,7 @@ pub record Terms : Type 0 where
 pub record Waits : Type 0 where
   -- the call whose answer was to wait, if one is open
   pub open_call : Option Call
-  -- the calls at which the member started the tasks that it has not ended, the innermost first: each goes on when its task has ended
+  -- the calls at which the member started the tasks that it has not ended, the innermost first: each waits again when its task has ended; a creation at which its own undeferred task was started is none of them
   pub beneath : List Call
 
 -- none

@@ -167,7 +167,7 @@ past_given row repeated m p reply = record p {
   locks = locks_after row reply p.locks;
 }
 
--- whether a call goes on after its reply: it waits, or a task is executed before it is repeated
+-- whether a call goes on after its reply: it waits, or a task is executed before it is repeated, or, if that is the creation's own, before its creator goes on
 abbrev pub goes_on : Reply → Bool
 goes_on Wait = true
 goes_on (Run task code arg own) = true

@@ -8,18 +8,18 @@ use Rattle.gomp_types.specs.declared.refusal.Place.TheVariants.{Stopped as AtSto
 use Rattle.gomp_types.specs.declared.refusal.Refusal.TheVariants.{BadMember, Ended, Broken, Waiting, InsideTask, NotInTask, InsideShare, HoldsCritical, BadChunk, BadSections, NotOrdered, NotInside, NoGroup, GroupOpen, TooManyTasks, AlreadyHeld, NotHolder, Mismatch, TraceFull, NoMemory}
 use Rattle.gomp_types.specs.declared.reply.Reply.TheVariants.{Chunk, NoChunk, Executor, Finished, Passed, Wait, Created, Run as RunTask, TaskDone, Lock as LockMade, Got, Count, Stopped, Refused}
 use Rattle.gomp_types.specs.Limits.{standard}
-use Rattle.gomp_types.specs.TaskExamples.{one_job, other_job}
+use Rattle.gomp_types.specs.TaskExamples.{job_with, one_job, other_job}
 use Rattle.gomp_model.specs.Past.{Terms}
 use Rattle.gomp_model.specs.Examples.{Run, asks, loop_by, one_nowait, ten_by_three}
 use Rattle.gomp_model.specs.HoldExamples.{name_a, name_b}
 
 -- a task of this code and argument
 abbrev pub creates_task : ℕ → ℕ → Call
-creates_task code arg = TaskCreate (record { code = code; arg = arg })
+creates_task code arg = TaskCreate (job_with code arg [])
 
 -- after this run a member alone creates a task, and runs it
 abbrev pub then_in_a_task : Run → Run
-then_in_a_task run = run ++ (asks 0 (TaskCreate one_job), Created 1) ∷ (asks 0 Taskwait, RunTask 1 7 70 false) ∷ []
+then_in_a_task run = run ++ (asks 0 (TaskCreate one_job), Created 1) ∷ (asks 0 (Taskwait []), RunTask 1 7 70 false) ∷ []
 
 -- Barriers
 
@@ -79,20 +79,20 @@ children_of_two =
     ∷ (asks 1 Barrier, RunTask 1 1 0 false)
     ∷ (asks 0 (creates_task 2 0), Created 2)
     ∷ (asks 1 (creates_task 3 0), Created 3)
-    ∷ (asks 1 Taskwait, RunTask 3 3 0 false)
+    ∷ (asks 1 (Taskwait []), RunTask 3 3 0 false)
     ∷ []
 
 -- a member waits for its task, which another may not run; it does not wait for the child of that, which it may run
 abbrev pub wait_for_children : Run
 wait_for_children =
     (asks 0 (TaskCreate one_job), Created 1)
-    ∷ (asks 1 Taskwait, Passed)
-    ∷ (asks 0 Taskwait, RunTask 1 7 70 false)
-    ∷ (asks 0 Taskwait, Passed)
+    ∷ (asks 1 (Taskwait []), Passed)
+    ∷ (asks 0 (Taskwait []), RunTask 1 7 70 false)
+    ∷ (asks 0 (Taskwait []), Passed)
     ∷ (asks 0 (TaskCreate other_job), Created 2)
     ∷ (asks 0 TaskEnd, TaskDone 1 true)
     ∷ (asks 0 Resume, Passed)
-    ∷ (asks 0 Taskwait, Passed)
+    ∷ (asks 0 (Taskwait []), Passed)
     ∷ []
 
 -- another member runs the task meanwhile, and the first waits for it
@@ -100,7 +100,7 @@ abbrev pub wait_for_a_running_child : Run
 wait_for_a_running_child =
     (asks 0 (TaskCreate one_job), Created 1)
     ∷ (asks 1 Barrier, RunTask 1 7 70 false)
-    ∷ (asks 0 Taskwait, Wait)
+    ∷ (asks 0 (Taskwait []), Wait)
     ∷ (asks 0 Resume, Wait)
     ∷ (asks 1 TaskEnd, TaskDone 1 true)
     ∷ (asks 0 Resume, Passed)
@@ -109,7 +109,7 @@ wait_for_a_running_child =
 -- a member creates a task in each task, and runs it there
 abbrev pub down_to : ℕ → Run
 down_to zero = []
-down_to (suc depth) = down_to depth ++ (asks 0 (creates_task 1 0), Created (suc depth)) ∷ (asks 0 Taskwait, RunTask (suc depth) 1 0 false) ∷ []
+down_to (suc depth) = down_to depth ++ (asks 0 (creates_task 1 0), Created (suc depth)) ∷ (asks 0 (Taskwait []), RunTask (suc depth) 1 0 false) ∷ []
 
 -- and ends them all, the innermost first
 abbrev pub up_from : ℕ → Run
@@ -180,7 +180,7 @@ refused_in_tasks =
     ∷ (asks 0 Barrier, Refused InsideShare)
     ∷ (asks 0 (OrderedStart (pos 0)), Refused NotOrdered)
     ∷ (asks 0 (creates_task 1 0), Created 1)
-    ∷ (asks 0 Taskwait, RunTask 1 1 0 false)
+    ∷ (asks 0 (Taskwait []), RunTask 1 1 0 false)
     ∷ (asks 0 Barrier, Refused InsideTask)
     ∷ (asks 0 GroupStart, Finished)
     ∷ (asks 0 TaskEnd, Refused GroupOpen)
@@ -198,7 +198,7 @@ refused_ends_of_tasks =
     ∷ (asks 0 Barrier, Passed)
     ∷ (asks 0 (TaskCreate one_job), Created 1)
     ∷ (asks 0 (CriticalStart name_a), Finished)
-    ∷ (asks 0 Taskwait, RunTask 1 7 70 false)
+    ∷ (asks 0 (Taskwait []), RunTask 1 7 70 false)
     ∷ (asks 0 (CriticalStart name_a), Refused AlreadyHeld)
     ∷ (asks 0 (CriticalEnd name_a), Refused NotHolder)
     ∷ (asks 0 (CriticalStart name_b), Finished)
@@ -221,13 +221,13 @@ locks_of_tasks =
     ∷ (asks 0 NestInit, LockMade 1)
     ∷ (asks 0 (SetNest 1), Count 1)
     ∷ (asks 0 (TaskCreate one_job), Created 1)
-    ∷ (asks 0 Taskwait, RunTask 1 7 70 false)
+    ∷ (asks 0 (Taskwait []), RunTask 1 7 70 false)
     ∷ (asks 0 (TestNest 1), Count 0)
     ∷ (asks 0 (UnsetNest 1), Refused NotHolder)
     ∷ (asks 0 (Set 0), Finished)
     ∷ (asks 0 (Set 0), Refused AlreadyHeld)
     ∷ (asks 0 (TaskCreate other_job), Created 2)
-    ∷ (asks 0 Taskwait, RunTask 2 8 80 false)
+    ∷ (asks 0 (Taskwait []), RunTask 2 8 80 false)
     ∷ (asks 0 (TestLock 0), Got false)
     ∷ (asks 0 (Unset 0), Refused NotHolder)
     ∷ (asks 0 (Set 0), Wait)
@@ -241,7 +241,7 @@ abbrev pub lock_of_an_ended_task : Run
 lock_of_an_ended_task =
     (asks 0 LockInit, LockMade 0)
     ∷ (asks 0 (TaskCreate one_job), Created 1)
-    ∷ (asks 0 Taskwait, RunTask 1 7 70 false)
+    ∷ (asks 0 (Taskwait []), RunTask 1 7 70 false)
     ∷ (asks 0 (Set 0), Finished)
     ∷ (asks 0 TaskEnd, TaskDone 1 true)
     ∷ (asks 0 Resume, Passed)
@@ -292,7 +292,7 @@ room_for_none =
     ∷ (asks 0 one_nowait, Chunk (pos 0) 1)
     ∷ (asks 0 (TaskCreate one_job), Refused TraceFull)
     ∷ (asks 0 LoopNext, NoChunk)
-    ∷ (asks 0 Taskwait, Passed)
+    ∷ (asks 0 (Taskwait []), Passed)
     ∷ (asks 0 LockInit, LockMade 0)
     ∷ (asks 0 Stop, Stopped)
     ∷ []

@@ -1,21 +1,23 @@
--- The rows of the calls on tasks and groups. OpenMP API 5.2, chapter 12 and sections 15.4 and 15.5.
-use Rattle.std.specs.Prelude.{true, Some}
+-- The rows of the calls on tasks and groups. OpenMP API 5.2, chapter 12 and sections 15.4, 15.5 and 15.9.5.
+use Rattle.std.specs.Prelude.{true, List, Some}
+use Rattle.gomp_types.specs.declared.depend.Dep.{Dep}
 use Rattle.gomp_types.specs.declared.task.TaskDesc.{TaskDesc}
 use Rattle.gomp_types.specs.Tasks.{executed_task}
-use Rattle.gomp_types.specs.TaskCalls.{create_tests, end_task_tests, end_group_tests, task_room, group_room, CreatesTask, EndsTask, AwaitsChildren, AwaitsGroup, creates, ends_task, waited, opens_group, ends_group}
+use Rattle.gomp_types.specs.TaskCalls.{items_tests, create_tests, end_task_tests, end_group_tests, task_room, group_room, CreatesTask, EndsTask, AwaitsChildren, AwaitsGroup, creates, starts_task, ends_task, waited, opens_group, ends_group}
 use Rattle.gomp_locks.specs.CriticalNames.{critical_tests}
 use Rattle.gomp_locks.specs.Holders.{asker, holds_critical}
 use Rattle.gomp_model.specs.Row.{Row, plain_row}
 
--- the creation of a task in the member's current one; it asks for the room of its events, and may find no memory
+-- the creation of a task in the member's current one, which starts it if it is undeferred, or runs others until it may; it asks for the room of its events, and may find no memory
 abbrev pub task_create_row : TaskDesc → Row
 task_create_row desc = record plain_row {
-  by_task = λ m p. create_tests p.terms.limits m p.events;
+  by_task = λ m p. create_tests p.terms.limits desc.deps m p.events;
   room = task_room;
   memory = true;
   creates = Some desc;
   begins = λ m p. creates m desc p.events;
-  may_reply = λ m p reply. CreatesTask p.events reply;
+  may_reply = λ m p reply. CreatesTask m p.events reply;
+  gives = λ m p reply. starts_task m reply;
 }
 
 -- the end of the task that the member executes; a task does not end while it holds a critical name
@@ -23,15 +25,16 @@ abbrev pub task_end_row : Row
 task_end_row = record plain_row {
   by_task = λ m p. end_task_tests m p.events;
   by_team = λ m p. critical_tests (holds_critical (asker m p.events) p.events);
-  may_reply = λ m p reply. EndsTask (executed_task m p.events) reply;
+  may_reply = λ m p reply. EndsTask (executed_task m p.events) p.events reply;
   gives = λ m p reply. ends_task m reply;
 }
 
--- a wait for the children of the member's current task, at which tasks are run
-abbrev pub taskwait_row : Row
-taskwait_row = record plain_row {
-  may_reply = λ m p reply. AwaitsChildren m p.events reply;
-  gives = λ m p reply. waited m reply;
+-- a wait for the children of the member's current task, or with items for those for which a child with these items waits, at which tasks are run
+abbrev pub taskwait_row : List Dep → Row
+taskwait_row items = record plain_row {
+  by_task = λ m p. items_tests items;
+  may_reply = λ m p reply. AwaitsChildren m items p.events reply;
+  gives = λ m p reply. waited m items reply;
 }
 
 -- the start of a group in that task; it asks for the room of its events, and may find no memory

@@ -1,5 +1,6 @@
 -- What an operation on the board gives changes nothing for the shares, and no member's share.
 use Rattle.std.proofs.Common.{◌≡◌, ℕ, Bool, true, false, List, [], ◌∷◌, ◌++◌, refl, ◌∙◌}
+use Rattle.gomp_types.specs.declared.depend.Dep.{Dep}
 use Rattle.gomp_types.specs.declared.event.Event.{Event}
 use Rattle.gomp_types.specs.declared.event.Event.TheVariants.{Enter, End, Put}
 use Rattle.gomp_types.specs.declared.refusal.Place.{Place}
@@ -79,10 +80,10 @@ task_ends_on_board : (m : ℕ) (reply : Reply) → AreBoardEvents (ends_task m r
 task_ends_on_board m (TaskDone task waiting) = (tt, tt)
 task_ends_on_board m _ = tt
 
-waits_on_board : (m : ℕ) (reply : Reply) → AreBoardEvents (waited m reply)
-waits_on_board m Passed = (tt, tt)
-waits_on_board m (Run task code arg own) = (tt, tt)
-waits_on_board m _ = tt
+waits_on_board : (m : ℕ) (items : List Dep) (reply : Reply) → AreBoardEvents (waited m items reply)
+waits_on_board m items Passed = (tt, tt)
+waits_on_board m items (Run task code arg own) = (tt, tt)
+waits_on_board m items _ = tt
 
 group_opens_on_board : (m : ℕ) (h : List Event) (reply : Reply) → AreBoardEvents (opens_group m h reply)
 group_opens_on_board m h Finished = (tt, tt)
@@ -107,9 +108,10 @@ breaks_on_board m place Stopped = (tt, tt)
 breaks_on_board m place _ = tt
 
 pub gives_on_board : (m : ℕ) (op : Op) (h : List Event) (reply : Reply) → AreBoardEvents (op_gives m op h reply)
-gives_on_board m (ops.Create desc) h reply = tt
+gives_on_board m (ops.Create desc) h reply = task_starts_on_board m reply
+gives_on_board m ops.AwaitOwn h reply = task_starts_on_board m reply
 gives_on_board m ops.EndTask h reply = task_ends_on_board m reply
-gives_on_board m ops.AwaitChildren h reply = waits_on_board m reply
+gives_on_board m (ops.AwaitChildren items) h reply = waits_on_board m items reply
 gives_on_board m ops.OpenGroup h reply = group_opens_on_board m h reply
 gives_on_board m ops.EndGroup h reply = group_ends_on_board m h reply
 gives_on_board m ops.AwaitGroup h reply = group_ends_on_board m h reply

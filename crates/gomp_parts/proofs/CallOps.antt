@@ -3,8 +3,8 @@ use Rattle.std.proofs.Common.{◌≡◌, ◌<◌, ℕ, Bool, true, false, List, 
 use Rattle.std.specs.Prelude.{◌&&◌, not, is_some}
 use Rattle.gomp_types.specs.declared.call.Call.{Call}
 use Rattle.gomp_types.specs.declared.call.Call.TheVariants as calls
+use Rattle.gomp_types.specs.declared.depend.Dep.{Dep}
 use Rattle.gomp_types.specs.declared.limits.Limits.{Limits}
-use Rattle.gomp_types.specs.declared.loop_desc.EndKind.TheVariants as ends
 use Rattle.gomp_types.specs.declared.task.Task.{Task}
 use Rattle.gomp_types.specs.declared.task.Task.TheVariants.{Implicit, Explicit}
 use Rattle.gomp_types.specs.declared.task.TaskDesc.{TaskDesc}
@@ -18,8 +18,8 @@ use Rattle.gomp_types.specs.declared.event.Event.TheVariants.{Arrive}
 use Rattle.gomp_types.specs.Compare.{tag_with}
 use Rattle.gomp_types.specs.Events.{shares_entered, barriers_passed}
 use Rattle.gomp_types.specs.Goals.{may_pass}
-use Rattle.gomp_types.specs.Tasks.{executed_task}
-use Rattle.gomp_types.specs.TaskCalls.{AwaitsTasks, EndsTask}
+use Rattle.gomp_types.specs.Tasks.{executed_task, is_undeferred, newest_child}
+use Rattle.gomp_types.specs.TaskCalls.{AwaitsTasks, AnswersCreator, EndsTask}
 use Rattle.gomp_types.proofs.Booleans.{some_of}
 use Rattle.gomp_types.proofs.LeastTests.{AllFail, all_fail}
 use Rattle.gomp_model.specs.Past.{Past}
@@ -33,7 +33,7 @@ use Rattle.gomp_board.specs.Ops.{awaits_barrier, op_tests, op_refusal, passes_ba
 use Rattle.gomp_shares.specs.Calls.{IsAside as SharesAside}
 use Rattle.gomp_board.specs.Boards.{BoardView, Performs, members_of, kept_by}
 use Rattle.gomp_parts.specs.Answers.{PartsStand, IsReady, SomeReady, AnswersCall}
-use Rattle.gomp_parts.specs.Serves.{asked_once, arrival_op, group_op, board_op}
+use Rattle.gomp_parts.specs.Serves.{asked_once, arrival_op, create_op, group_op, has_no_clause, board_op}
 use Rattle.gomp_parts.proofs.OpAnswers.{op_fine, IsCallOp, op_answers}
 
 -- What a ready call has shown
@@ -143,10 +143,35 @@ arrival_goes_on kind m false h again = absurd (cc)
 
 -- Tasks and groups
 
-create_is_op : {S : Type 0} (stands : S → List Event → Type 0) (shares : S) (desc : TaskDesc) (repeated : Bool) (m : ℕ) (board : BoardView) (p : Past) → PartsStand stands shares board p → IsReady (task_create_row desc) repeated m board p → IsCallOp (ops.Create desc) (task_create_row desc) repeated m board p
-create_is_op stands shares desc true m board p parts ready = absurd (let once = made_once (task_create_row desc) true m board p (λ q reply may. rw may refl) ready in cc)
+-- a call that is neither a creation nor a taskwait has no clause
+pub neither_has_clause : (call : Call) → ((desc : TaskDesc) → call ≡ calls.TaskCreate desc → ⊥) → ((items : List Dep) → call ≡ calls.Taskwait items → ⊥) → has_no_clause call
+neither_has_clause (calls.TaskCreate desc) no_creation no_wait = absurd (no_creation desc refl)
+neither_has_clause (calls.Taskwait items) no_creation no_wait = absurd (no_wait items refl)
+neither_has_clause _ no_creation no_wait = tt
+
+creator_never_stops : (held : Bool) (m t : ℕ) (h : List Event) → AnswersCreator held m t h Stopped → ⊥
+creator_never_stops true m t h answers = answers
+creator_never_stops false m t h answers = cc
+
+-- in no past the creation of a task stops the team
+creation_never_stops : (desc : TaskDesc) (m : ℕ) (p : Past) → (task_create_row desc).may_reply m p Stopped → ⊥
+creation_never_stops desc m p may =
+    let newest = newest_child (executed_task m p.events) p.events in creator_never_stops (is_undeferred newest p.events) m newest p.events may
+
+create_is_op : {S : Type 0} (stands : S → List Event → Type 0) (shares : S) (desc : TaskDesc) (repeated : Bool) (m : ℕ) (board : BoardView) (p : Past) → PartsStand stands shares board p → IsReady (task_create_row desc) repeated m board p →
+    IsCallOp (create_op repeated desc) (task_create_row desc) repeated m board p
+create_is_op stands shares desc true m board p parts ready = record {
+  fine = ready_op_fine stands shares (task_create_row desc) true m board p parts ready ops.AwaitOwn (waits_nowhere (task_create_row desc) true m board p refl (λ q may. creation_never_stops desc m q may) ready, tt);
+  asks = refl;
+  memory = λ much. refl;
+  begins = refl;
+  may = λ reply created. created;
+  gives = λ reply created. refl;
+  own = parts.kept m;
+  no_words = refl;
+}
 create_is_op stands shares desc false m board p parts ready = record {
-  fine = ready_op_fine stands shares (task_create_row desc) false m board p parts ready (ops.Create desc) (waits_nowhere (task_create_row desc) false m board p refl (λ q may. cc) ready, tests_of_board (task_create_row desc) false m board p ready);
+  fine = ready_op_fine stands shares (task_create_row desc) false m board p parts ready (ops.Create desc) (waits_nowhere (task_create_row desc) false m board p refl (λ q may. creation_never_stops desc m q may) ready, tests_of_board (task_create_row desc) false m board p ready);
   asks = refl;
   memory = λ much. refl;
   begins = refl;
@@ -156,20 +181,20 @@ create_is_op stands shares desc false m board p parts ready = record {
   no_words = refl;
 }
 
-ends_never_wait : (task : Task) (reply : Reply) → EndsTask task reply → goes_on reply ≡ false
-ends_never_wait (Explicit t) reply ends = rw ends refl
-ends_never_wait (Implicit x) reply ends = absurd ends
+ends_never_wait : (task : Task) (h : List Event) (reply : Reply) → EndsTask task h reply → goes_on reply ≡ false
+ends_never_wait (Explicit t) h reply ends = rw ends refl
+ends_never_wait (Implicit x) h reply ends = absurd ends
 
-ends_never_stop : (task : Task) → EndsTask task Stopped → ⊥
-ends_never_stop (Explicit t) ends = cc
-ends_never_stop (Implicit x) ends = ends
+ends_never_stop : (task : Task) (h : List Event) → EndsTask task h Stopped → ⊥
+ends_never_stop (Explicit t) h ends = cc
+ends_never_stop (Implicit x) h ends = ends
 
 task_end_is_op : {S : Type 0} (stands : S → List Event → Type 0) (shares : S) (repeated : Bool) (m : ℕ) (board : BoardView) (p : Past) → PartsStand stands shares board p → IsReady task_end_row repeated m board p → IsCallOp ops.EndTask task_end_row repeated m board p
-task_end_is_op stands shares true m board p parts ready = absurd (let once = made_once task_end_row true m board p (λ q reply may. ends_never_wait (executed_task m q.events) reply may) ready in cc)
+task_end_is_op stands shares true m board p parts ready = absurd (let once = made_once task_end_row true m board p (λ q reply may. ends_never_wait (executed_task m q.events) q.events reply may) ready in cc)
 task_end_is_op stands shares false m board p parts ready =
     let tests = tests_of_board task_end_row false m board p ready in
     record {
-      fine = ready_op_fine stands shares task_end_row false m board p parts ready ops.EndTask (waits_nowhere task_end_row false m board p refl (λ q may. ends_never_stop (executed_task m q.events) may) ready, (tests.0, (tests.1.0, tt)));
+      fine = ready_op_fine stands shares task_end_row false m board p parts ready ops.EndTask (waits_nowhere task_end_row false m board p refl (λ q may. ends_never_stop (executed_task m q.events) q.events may) ready, (tests.0, (tests.1.0, tt)));
       asks = refl;
       memory = λ much. not_lower much;
       begins = refl;
@@ -179,9 +204,9 @@ task_end_is_op stands shares false m board p parts ready =
       no_words = refl;
     }
 
-taskwait_is_op : {S : Type 0} (stands : S → List Event → Type 0) (shares : S) (repeated : Bool) (m : ℕ) (board : BoardView) (p : Past) → PartsStand stands shares board p → IsReady taskwait_row repeated m board p → IsCallOp ops.AwaitChildren taskwait_row repeated m board p
-taskwait_is_op stands shares repeated m board p parts ready = record {
-  fine = ready_op_fine stands shares taskwait_row repeated m board p parts ready ops.AwaitChildren (waits_nowhere taskwait_row repeated m board p refl (λ q may. may) ready, tt);
+taskwait_is_op : {S : Type 0} (stands : S → List Event → Type 0) (shares : S) (items : List Dep) (repeated : Bool) (m : ℕ) (board : BoardView) (p : Past) → PartsStand stands shares board p → IsReady (taskwait_row items) repeated m board p → IsCallOp (ops.AwaitChildren items) (taskwait_row items) repeated m board p
+taskwait_is_op stands shares items repeated m board p parts ready = record {
+  fine = ready_op_fine stands shares (taskwait_row items) repeated m board p parts ready (ops.AwaitChildren items) (waits_nowhere (taskwait_row items) repeated m board p refl (λ q may. may) ready, tt);
   asks = none_more repeated;
   memory = λ much. not_lower much;
   begins = refl;
@@ -242,9 +267,9 @@ stop_is_op stands shares repeated m board p parts ready = record {
 
 -- so of each call that the board answers alone
 pub board_call_is_op : {S : Type 0} (stands : S → List Event → Type 0) (shares : S) (call : Call) (op : Op) (repeated : Bool) (m : ℕ) (board : BoardView) (p : Past) → board_op repeated call ≡ Some op → PartsStand stands shares board p → IsReady (row_of call) repeated m board p → IsCallOp op (row_of call) repeated m board p
-board_call_is_op stands shares (calls.TaskCreate desc) op repeated m board p is parts ready = let same : ops.Create desc ≡ op = cc in subst (λ (o : Op). IsCallOp o (task_create_row desc) repeated m board p) same (create_is_op stands shares desc repeated m board p parts ready)
+board_call_is_op stands shares (calls.TaskCreate desc) op repeated m board p is parts ready = let same : create_op repeated desc ≡ op = cc in subst (λ (o : Op). IsCallOp o (task_create_row desc) repeated m board p) same (create_is_op stands shares desc repeated m board p parts ready)
 board_call_is_op stands shares calls.TaskEnd op repeated m board p is parts ready = let same : ops.EndTask ≡ op = cc in subst (λ (o : Op). IsCallOp o task_end_row repeated m board p) same (task_end_is_op stands shares repeated m board p parts ready)
-board_call_is_op stands shares calls.Taskwait op repeated m board p is parts ready = let same : ops.AwaitChildren ≡ op = cc in subst (λ (o : Op). IsCallOp o taskwait_row repeated m board p) same (taskwait_is_op stands shares repeated m board p parts ready)
+board_call_is_op stands shares (calls.Taskwait items) op repeated m board p is parts ready = let same : ops.AwaitChildren items ≡ op = cc in subst (λ (o : Op). IsCallOp o (taskwait_row items) repeated m board p) same (taskwait_is_op stands shares items repeated m board p parts ready)
 board_call_is_op stands shares calls.GroupStart op repeated m board p is parts ready = let same : ops.OpenGroup ≡ op = cc in subst (λ (o : Op). IsCallOp o group_start_row repeated m board p) same (group_start_is_op stands shares repeated m board p parts ready)
 board_call_is_op stands shares calls.GroupEnd op repeated m board p is parts ready = let same : group_op repeated ≡ op = cc in subst (λ (o : Op). IsCallOp o group_end_row repeated m board p) same (group_end_is_op stands shares repeated m board p parts ready)
 board_call_is_op stands shares calls.Stop op repeated m board p is parts ready = let same : ops.Break AtStop ≡ op = cc in subst (λ (o : Op). IsCallOp o stop_row repeated m board p) same (stop_is_op stands shares repeated m board p parts ready)
@@ -253,7 +278,7 @@ board_call_is_op stands shares _ op repeated m board p is parts ready = absurd (
 pub board_call_starts_none : (call : Call) (op : Op) (repeated : Bool) → board_op repeated call ≡ Some op → (row_of call).starts ≡ None
 board_call_starts_none (calls.TaskCreate desc) op repeated is = refl
 board_call_starts_none calls.TaskEnd op repeated is = refl
-board_call_starts_none calls.Taskwait op repeated is = refl
+board_call_starts_none (calls.Taskwait items) op repeated is = refl
 board_call_starts_none calls.GroupStart op repeated is = refl
 board_call_starts_none calls.GroupEnd op repeated is = refl
 board_call_starts_none calls.Stop op repeated is = refl
@@ -261,9 +286,9 @@ board_call_starts_none _ op repeated is = absurd (cc)
 
 -- and one that is repeated goes on with a wait
 pub board_call_goes_on : (call : Call) (op : Op) (repeated : Bool) (m : ℕ) (board : BoardView) (p : Past) → board_op repeated call ≡ Some op → IsReady (row_of call) repeated m board p → repeated ≡ true → goes_on_waiting op ≡ true
-board_call_goes_on (calls.TaskCreate desc) op repeated m board p is ready again = absurd (let once = made_once (task_create_row desc) repeated m board p (λ q reply may. rw may refl) ready in let both = sym again ∙ once in cc)
-board_call_goes_on calls.TaskEnd op repeated m board p is ready again = absurd (let once = made_once task_end_row repeated m board p (λ q reply may. ends_never_wait (executed_task m q.events) reply may) ready in let both = sym again ∙ once in cc)
-board_call_goes_on calls.Taskwait op repeated m board p is ready again = let same : ops.AwaitChildren ≡ op = cc in subst (λ (o : Op). goes_on_waiting o ≡ true) same refl
+board_call_goes_on (calls.TaskCreate desc) op repeated m board p is ready again = let same : create_op repeated desc ≡ op = cc in subst (λ (o : Op). goes_on_waiting o ≡ true) same (rw again refl)
+board_call_goes_on calls.TaskEnd op repeated m board p is ready again = absurd (let once = made_once task_end_row repeated m board p (λ q reply may. ends_never_wait (executed_task m q.events) q.events reply may) ready in let both = sym again ∙ once in cc)
+board_call_goes_on (calls.Taskwait items) op repeated m board p is ready again = let same : ops.AwaitChildren items ≡ op = cc in subst (λ (o : Op). goes_on_waiting o ≡ true) same refl
 board_call_goes_on calls.GroupStart op repeated m board p is ready again = absurd (let once = made_once group_start_row repeated m board p (λ q reply may. rw may refl) ready in let both = sym again ∙ once in cc)
 board_call_goes_on calls.GroupEnd op repeated m board p is ready again = let same : group_op repeated ≡ op = cc in subst (λ (o : Op). goes_on_waiting o ≡ true) same (rw again refl)
 board_call_goes_on calls.Stop op repeated m board p is ready again = absurd (let once = made_once stop_row repeated m board p (λ q reply may. rw may refl) ready in let both = sym again ∙ once in cc)

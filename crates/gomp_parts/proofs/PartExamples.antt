@@ -2,6 +2,9 @@
 use Rattle.std.specs.Prelude.{pos, map}
 use Rattle.std.proofs.Common.{◌≡◌, Bool, true, false, List, [], ◌∷◌, Option, Some, None, refl, ap, arith, subst, sym, ◌∙◌}
 use Rattle.gomp_types.specs.declared.call.Call.TheVariants as calls
+use Rattle.gomp_types.specs.TaskExamples.{item}
+use Rattle.gomp_types.specs.declared.depend.Dep.{Dep}
+use Rattle.gomp_types.specs.declared.depend.DepKind.TheVariants.{DepIn}
 use Rattle.gomp_types.specs.declared.event.Arrival.TheVariants.{Barrier}
 use Rattle.gomp_types.specs.declared.event.Event.{Event}
 use Rattle.gomp_types.specs.declared.event.Event.TheVariants.{Enter, End, Put, Pass, Got, Take}
@@ -29,7 +32,7 @@ use Rattle.gomp_board.specs.declared.op.Op.TheVariants as ops
 use Rattle.gomp_board.specs.Boards.{BoardView, kept_by, members_of}
 use Rattle.gomp_board.specs.Examples.{seven, words, first_waits, first_left, stopped}
 use Rattle.gomp_parts.specs.Answers.{ComesFirst, in_place, room_left, PutsInside, PartsStand, KeepsStart, IsReady, LeavesBoard, AnswersCall}
-use Rattle.gomp_parts.specs.Serves.{asked_once, is_finished, KeepsMore, arrival_op, group_op, board_op, NotesWords, of_shares, IsShareEvent, left_once}
+use Rattle.gomp_parts.specs.Serves.{asked_once, is_finished, KeepsMore, arrival_op, create_op, group_op, board_op, NotesWords, of_shares, IsShareEvent, left_once}
 
 -- what two members are made with
 abbrev two_members : Terms
@@ -75,7 +78,7 @@ calls_not_ready board = (
 
 -- nor a call after the region's end, one of a broken team, one while its member waits at a barrier, or a start that waits without its room
 pub members_not_ready :
-    (board : BoardView) → (IsReady stop_row false 0 board (two_after first_left) → ⊥) × (IsReady stop_row false 0 board (two_after stopped) → ⊥) × (IsReady taskwait_row false 0 board (two_after first_waits) → ⊥)
+    (board : BoardView) → (IsReady stop_row false 0 board (two_after first_left) → ⊥) × (IsReady stop_row false 0 board (two_after stopped) → ⊥) × (IsReady (taskwait_row []) false 0 board (two_after first_waits) → ⊥)
     × (kept_by 0 board ≡ 0 → IsReady single_copy_start_row true 0 board (two_after []) → ⊥)
 members_not_ready board = (
   λ ready. absurd (let inside = ready.inside in cc),
@@ -183,10 +186,22 @@ replies_that_are_no_answers stands shares after board board_after stand = (
 pub ops_of_waits : (map (λ repeated. arrival_op repeated (tag_with Barrier 3)) (false ∷ true ∷ []) ≡ ops.Arrive (tag_with Barrier 3) ∷ ops.AwaitBarrier ∷ []) × (map group_op (false ∷ true ∷ []) ≡ ops.EndGroup ∷ ops.AwaitGroup ∷ [])
 ops_of_waits = (refl, refl)
 
+-- an item of a clause
+abbrev on_seven : List Dep
+on_seven = item DepIn 7 ∷ []
+
+-- so does the creation of a task
+pub ops_of_creations : map (λ repeated. create_op repeated seven) (false ∷ true ∷ []) ≡ ops.Create seven ∷ ops.AwaitOwn ∷ []
+ops_of_creations = refl
+
+-- a taskwait that goes on asks for the same items
+pub op_of_a_taskwait : board_op true (calls.Taskwait on_seven) ≡ Some (ops.AwaitChildren on_seven)
+op_of_a_taskwait = refl
+
 -- the board alone answers calls on tasks and groups, and the stop
 pub ops_of_calls :
-    map (board_op false) (calls.TaskCreate seven ∷ calls.TaskEnd ∷ calls.Taskwait ∷ calls.GroupStart ∷ calls.GroupEnd ∷ calls.Stop ∷ calls.Barrier ∷ calls.LoopNext ∷ calls.LockInit ∷ [])
-    ≡ Some (ops.Create seven) ∷ Some ops.EndTask ∷ Some ops.AwaitChildren ∷ Some ops.OpenGroup ∷ Some ops.EndGroup ∷ Some (ops.Break AtStop) ∷ None ∷ None ∷ None ∷ []
+    map (board_op false) (calls.TaskCreate seven ∷ calls.TaskEnd ∷ calls.Taskwait on_seven ∷ calls.GroupStart ∷ calls.GroupEnd ∷ calls.Stop ∷ calls.Barrier ∷ calls.LoopNext ∷ calls.LockInit ∷ [])
+    ≡ Some (ops.Create seven) ∷ Some ops.EndTask ∷ Some (ops.AwaitChildren on_seven) ∷ Some ops.OpenGroup ∷ Some ops.EndGroup ∷ Some (ops.Break AtStop) ∷ None ∷ None ∷ None ∷ []
 ops_of_calls = refl
 
 -- the shares answer neither arrivals nor words
@@ -195,7 +210,7 @@ pub calls_of_shares :
     ≡ true ∷ true ∷ true ∷ true ∷ true ∷ true ∷ true ∷ true ∷ []
 calls_of_shares = refl
 
-pub calls_of_others : map of_shares (calls.LoopEnd ∷ calls.SectionsEnd ∷ calls.SingleCopyStart ∷ calls.SingleCopyEnd words ∷ calls.Barrier ∷ calls.Taskwait ∷ calls.LockInit ∷ []) ≡ false ∷ false ∷ false ∷ false ∷ false ∷ false ∷ false ∷ []
+pub calls_of_others : map of_shares (calls.LoopEnd ∷ calls.SectionsEnd ∷ calls.SingleCopyStart ∷ calls.SingleCopyEnd words ∷ calls.Barrier ∷ calls.Taskwait on_seven ∷ calls.LockInit ∷ []) ≡ false ∷ false ∷ false ∷ false ∷ false ∷ false ∷ false ∷ []
 calls_of_others = refl
 
 pub done_replies : map is_finished (Finished ∷ Wait ∷ Refused NoMemory ∷ []) ≡ true ∷ false ∷ false ∷ []

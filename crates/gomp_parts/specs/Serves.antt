@@ -2,6 +2,7 @@
 use Rattle.std.specs.Prelude.{ℕ, ◌+◌, ◌≡◌, ◌≢◌, Bool, true, false, List, [], ◌∷◌, ◌++◌, Option, Some, None}
 use Rattle.gomp_types.specs.declared.call.Call.{Call}
 use Rattle.gomp_types.specs.declared.call.Call.TheVariants.{LoopStart, LoopNext, LoopEndNowait, SectionsStart, SectionsNext, SectionsEndNowait, SingleStart, OrderedStart, OrderedEnd, TaskCreate, TaskEnd, Taskwait, GroupStart, GroupEnd, Stop}
+use Rattle.gomp_types.specs.declared.task.TaskDesc.{TaskDesc}
 use Rattle.gomp_types.specs.declared.event.Event.{Event}
 use Rattle.gomp_types.specs.declared.event.Event.TheVariants.{Enter}
 use Rattle.gomp_types.specs.declared.event.Tag.{Tag}
@@ -53,11 +54,22 @@ abbrev pub group_op : Bool → Op
 group_op true = ops.AwaitGroup
 group_op false = ops.EndGroup
 
+-- a call that brings no description of a task and no items
+abbrev pub has_no_clause : Call → Type 0
+has_no_clause (TaskCreate desc) = ⊥
+has_no_clause (Taskwait items) = ⊥
+has_no_clause _ = Unit {0}
+
+-- the creation of a task, or what follows it that goes on
+abbrev pub create_op : Bool → TaskDesc → Op
+create_op true desc = ops.AwaitOwn
+create_op false desc = ops.Create desc
+
 -- how the board alone answers a call, if it does
 abbrev pub board_op : Bool → Call → Option Op
-board_op repeated (TaskCreate desc) = Some (ops.Create desc)
+board_op repeated (TaskCreate desc) = Some (create_op repeated desc)
 board_op repeated TaskEnd = Some ops.EndTask
-board_op repeated Taskwait = Some ops.AwaitChildren
+board_op repeated (Taskwait items) = Some (ops.AwaitChildren items)
 board_op repeated GroupStart = Some ops.OpenGroup
 board_op repeated GroupEnd = Some (group_op repeated)
 board_op repeated Stop = Some (ops.Break Stopped)

@@ -48,7 +48,7 @@ pub fn answer<S: Shares>(
         Call::SingleCopyEnd(words) => put_words(shares, board, member, words),
         Call::TaskCreate(_)
         | Call::TaskEnd
-        | Call::Taskwait
+        | Call::Taskwait(_)
         | Call::GroupStart
         | Call::GroupEnd
         | Call::Stop => task_reply(board, member, call, repeated),

@@ -116,7 +116,7 @@ fn admit_place<S: Shares>(
         Call::OrderedStart(value) => none_started(part_refusal(&seen, *value)),
         Call::OrderedEnd => none_started(part_end_refusal(&seen)),
         Call::Barrier | Call::RegionEnd => none_started(barrier_refusal(&seen)),
-        Call::TaskCreate(_) | Call::TaskEnd | Call::Taskwait | Call::GroupStart | Call::GroupEnd =>
+        Call::TaskCreate(_) | Call::TaskEnd | Call::Taskwait(_) | Call::GroupStart | Call::GroupEnd =>
             Ok(None),
         Call::Stop | Call::Resume => Ok(None),
         Call::CriticalStart(_)
@@ -224,7 +224,7 @@ fn compared_refusal<S: Shares>(
         | Call::OrderedStart(_)
         | Call::OrderedEnd
         | Call::Stop => None,
-        Call::TaskCreate(_) | Call::TaskEnd | Call::Taskwait | Call::GroupStart | Call::GroupEnd =>
+        Call::TaskCreate(_) | Call::TaskEnd | Call::Taskwait(_) | Call::GroupStart | Call::GroupEnd =>
             None,
         Call::CriticalStart(_)
         | Call::CriticalEnd(_)

@@ -11,15 +11,16 @@ ghost use Rattle.gomp_model.specs.Arrivals.{region_end_row};
 ghost use Rattle.gomp_model.specs.Calls.{row_of};
 ghost use Rattle.gomp_board.specs.declared.op.Op.{Op as BoardOp};
 ghost use Rattle.gomp_board.specs.Boards.{Stands as BoardStands, Performs, members_of};
-ghost use Rattle.gomp_parts.specs.Serves.{board_op, group_op};
+ghost use Rattle.gomp_parts.specs.Serves.{board_op, create_op, group_op, has_no_clause};
 
 use crate::room::room_asked;
-use gomp_board::{Board, Op};
+use gomp_board::{Board, Op, items_refusal};
 use gomp_types::{Call, Place, Refusal, Reply, TaskDesc};
 
 /// Why tasks, groups or want of room for events refuse the call of the member, numbered from 0:
-/// `InsideTask` if no explicit task may make it, `TooDeep`, `TooManyTasks`, `NotInTask`, `NoGroup`,
-/// `GroupOpen` or `TraceFull`. A call that is repeated (`repeated`) was tested when it was made.
+/// `InsideTask` if no explicit task may make it, `TooDeep`, `TooManyTasks`, `TooManyDepends`,
+/// `NotInTask`, `NoGroup`, `GroupOpen` or `TraceFull`. A call that is repeated (`repeated`) was tested
+/// when it was made.
 pub fn task_refusal(board: &Board, member: u16, call: &Call, repeated: bool) -> Option<Refusal>
     requires member { member < members_of board.now }
     ensures least { (p : Past) → BoardStands board.now p.events →
@@ -56,10 +57,11 @@ fn own_refusal(board: &Board, member: u16, call: &Call) -> Option<Refusal>
         | Call::OrderedEnd
         | Call::Barrier => board.inside_task_refusal(member),
         Call::RegionEnd => region_end_refusal(board, member),
-        Call::TaskCreate(_) => board.creation_refusal(member),
+        Call::TaskCreate(desc) => board.creation_refusal(member, desc.deps.as_slice()),
         Call::TaskEnd => board.task_end_refusal(member),
         Call::GroupEnd => board.group_end_refusal(member),
-        Call::Taskwait | Call::GroupStart => None,
+        Call::Taskwait(items) => items_refusal(items.as_slice()),
+        Call::GroupStart => None,
         Call::Stop | Call::Resume => None,
         Call::CriticalStart(_)
         | Call::CriticalEnd(_)
@@ -111,23 +113,34 @@ pub(crate) fn task_reply(board: &mut Board, member: u16, call: &Call, repeated: 
     ensures performs { (op : BoardOp) → board_op repeated call.now ≡ Some op →
         Performs op member board.old board.new result }
 {
-    match board_op(repeated, call) {
-        Some(op) => board.step(member, op),
-        None => unreachable!(),
+    match call {
+        Call::TaskCreate(desc) => create_reply(board, member, desc, repeated),
+        Call::Taskwait(items) => board.wait_for_children(member, items.as_slice()),
+        _ => match plain_op(repeated, call) {
+            Some(op) => board.step(member, op),
+            None => unreachable!(),
+        },
     }
 }
 
-/// How the board alone answers the call, or one that waits (`repeated`), if it does.
-fn board_op(repeated: bool, call: &Call) -> Option<Op>
-    ensures { result ≡ board_op repeated call.now }
+/// Answers the creation of a task, or goes on with one that waits.
+fn create_reply(board: &mut Board, member: u16, desc: &TaskDesc, repeated: bool) -> Reply
+    requires member { member < members_of board.old }
+    ensures performs { Performs (create_op repeated desc.now) member board.old board.new result }
+{
+    if repeated {
+        board.step(member, Op::AwaitOwn)
+    } else {
+        board.create_task(member, desc)
+    }
+}
+
+/// How the board alone answers a call with no items, or one that waits (`repeated`), if it does.
+fn plain_op(repeated: bool, call: &Call) -> Option<Op>
+    ensures { has_no_clause call.now → result ≡ board_op repeated call.now }
 {
     match call {
-        Call::TaskCreate(TaskDesc { code, arg }) => Some(Op::Create(TaskDesc {
-            code: *code,
-            arg: *arg,
-        })),
         Call::TaskEnd => Some(Op::EndTask),
-        Call::Taskwait => Some(Op::AwaitChildren),
         Call::GroupStart => Some(Op::OpenGroup),
         Call::GroupEnd => Some(group_op(repeated)),
         Call::Stop => Some(Op::Break(Place::Stopped)),

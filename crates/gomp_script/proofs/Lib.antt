@@ -1,5 +1,6 @@
 mod TextLemmas
 mod PayloadLemmas
+mod ItemLemmas
 pub mod LineExamples
 pub mod TextExamples
 pub mod LiveExamples

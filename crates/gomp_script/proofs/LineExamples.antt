@@ -1,30 +1,32 @@
 -- What the lines of a text say, computed: each word, each number at its ends, each fault and which comes first. (own)
-use Rattle.std.proofs.Common.{◌≡◌, pos, negsuc, true, false, [], ◌∷◌, ◌++◌, Some, None, Ok, Err, codes, refl}
+use Rattle.std.proofs.Common.{◌≡◌, ℕ, pos, negsuc, Bool, true, false, List, [], ◌∷◌, ◌++◌, Some, None, Ok, Err, Bor, length, codes, refl, ap, arith}
 use Rattle.std.specs.Prelude.{map, replicate}
 use Rattle.gomp_types.specs.declared.call.Call.TheVariants.{LoopStart, LoopNext, LoopEnd, LoopEndNowait, SectionsStart, SectionsNext, SectionsEnd, SectionsEndNowait, SingleStart, SingleCopyStart, SingleCopyEnd, OrderedStart, OrderedEnd, Barrier, RegionEnd, CriticalStart, CriticalEnd, LockInit, NestInit, LockDestroy, Set, Test, Unset, SetNest, TestNest, UnsetNest, TaskCreate, TaskEnd, Taskwait, GroupStart, GroupEnd, Resume, Stop}
+use Rattle.gomp_types.specs.declared.depend.DepKind.TheVariants.{DepIn, DepOut, DepInout, DepInoutset, DepMutex}
 use Rattle.gomp_types.specs.declared.loop_desc.EndKind.TheVariants.{Wait, Nowait}
 use Rattle.gomp_types.specs.declared.loop_desc.Sched.TheVariants.{Static, Dynamic, Guided, Runtime}
 use Rattle.gomp_script.specs.declared.parse.Why.TheVariants.{NotAscii, FirstLine, UnknownWord, MissingWord, BadNumber, ExtraWord}
-use Rattle.gomp_script.specs.StepText.{read_line, step_of, plain_step, loop_step, sections_step, copy_end_step, ordered_step, critical_step, critical_end_step, lock_step, task_step, team_of}
-use Rattle.gomp_script.specs.Examples.{parts, steps_said, teams_said, calls, each_bad, by_first, loop_of_four, task_of}
+use Rattle.gomp_text.specs.Words.{words_of}
+use Rattle.gomp_script.specs.StepText.{IsBehindItems, IsItem, TakesOption, behind_items, fault_in, first_item, items_of, option_of, without_value, read_line, step_of, plain_step, loop_step, sections_step, copy_end_step, ordered_step, critical_step, critical_end_step, lock_step, task_step, taskwait_step, team_of}
+use Rattle.gomp_script.specs.Examples.{parts, steps_said, teams_said, calls, each_bad, by_first, loop_of_four, task_of, task_with, item_of}
 
 -- the calls that stand alone, each by its word
-pub calls_alone : steps_said (calls (codes "next|end|end_nowait|section_next|sections_end|sections_end_nowait|single|single_copy|ordered_end|barrier|region_end|lock_init|nest_init|task_end|taskwait|group|group_end|resume|stop")) ≡ map by_first (LoopNext ∷ LoopEnd ∷ LoopEndNowait ∷ SectionsNext ∷ SectionsEnd ∷ SectionsEndNowait ∷ SingleStart ∷ SingleCopyStart ∷ OrderedEnd ∷ Barrier ∷ RegionEnd ∷ LockInit ∷ NestInit ∷ TaskEnd ∷ Taskwait ∷ GroupStart ∷ GroupEnd ∷ Resume ∷ Stop ∷ [])
+pub calls_alone : steps_said (calls (codes "next|end|end_nowait|section_next|sections_end|sections_end_nowait|single|single_copy|ordered_end|barrier|region_end|lock_init|nest_init|task_end|group|group_end|resume|stop")) ≡ map by_first (LoopNext ∷ LoopEnd ∷ LoopEndNowait ∷ SectionsNext ∷ SectionsEnd ∷ SectionsEndNowait ∷ SingleStart ∷ SingleCopyStart ∷ OrderedEnd ∷ Barrier ∷ RegionEnd ∷ LockInit ∷ NestInit ∷ TaskEnd ∷ GroupStart ∷ GroupEnd ∷ Resume ∷ Stop ∷ [])
 unfolding plain_step loop_step sections_step copy_end_step ordered_step team_of
 calls_alone = refl
 
 -- each of them with a letter too few
-pub calls_shortened : steps_said (calls (codes "nex|en|end_nowai|section_nex|sections_en|sections_end_nowai|singl|single_cop|ordered_en|barrie|region_en|lock_ini|nest_ini|task_en|taskwai|grou|group_en|resum|sto")) ≡ each_bad 19 UnknownWord
+pub calls_shortened : steps_said (calls (codes "nex|en|end_nowai|section_nex|sections_en|sections_end_nowai|singl|single_cop|ordered_en|barrie|region_en|lock_ini|nest_ini|task_en|grou|group_en|resum|sto")) ≡ each_bad 18 UnknownWord
 unfolding plain_step loop_step sections_step copy_end_step ordered_step team_of
 calls_shortened = refl
 
 -- with a letter too many
-pub calls_lengthened : steps_said (calls (codes "nexts|ends|end_nowaits|section_nexts|sections_ends|sections_end_nowaits|singles|single_copys|ordered_ends|barriers|region_ends|lock_inits|nest_inits|task_ends|taskwaits|groups|group_ends|resumes|stops")) ≡ each_bad 19 UnknownWord
+pub calls_lengthened : steps_said (calls (codes "nexts|ends|end_nowaits|section_nexts|sections_ends|sections_end_nowaits|singles|single_copys|ordered_ends|barriers|region_ends|lock_inits|nest_inits|task_ends|groups|group_ends|resumes|stops")) ≡ each_bad 18 UnknownWord
 unfolding plain_step loop_step sections_step copy_end_step ordered_step team_of
 calls_lengthened = refl
 
 -- and with a capital
-pub calls_in_capitals : steps_said (calls (codes "Next|End|End_nowait|Section_next|Sections_end|Sections_end_nowait|Single|Single_copy|Ordered_end|Barrier|Region_end|Lock_init|Nest_init|Task_end|Taskwait|Group|Group_end|Resume|Stop")) ≡ each_bad 19 UnknownWord
+pub calls_in_capitals : steps_said (calls (codes "Next|End|End_nowait|Section_next|Sections_end|Sections_end_nowait|Single|Single_copy|Ordered_end|Barrier|Region_end|Lock_init|Nest_init|Task_end|Group|Group_end|Resume|Stop")) ≡ each_bad 18 UnknownWord
 unfolding plain_step loop_step sections_step copy_end_step ordered_step team_of
 calls_in_capitals = refl
 
@@ -155,28 +157,99 @@ more_than_a_lock = refl
 
 -- a task, by its code and its argument, up to the largest numbers of their types
 pub tasks_said : steps_said (calls (codes "task 7 5|task 0 18446744073709551615|task 18446744073709551615 0|task 007 00")) ≡ map (λ task. by_first (TaskCreate task)) (task_of 7 5 ∷ task_of 0 18446744073709551615 ∷ task_of 18446744073709551615 0 ∷ task_of 7 0 ∷ [])
-unfolding plain_step task_step
+unfolding plain_step task_step taskwait_step
 tasks_said = refl
 
--- its word with a letter too few, with one too many and with a capital
-pub task_miswritten : steps_said (calls (codes "tas 7 5|tasks 7 5|Task 7 5|task_create 7 5|x")) ≡ each_bad 5 UnknownWord
-unfolding plain_step task_step
+-- an undeferred one, a final one and one that is both
+pub options_said : steps_said (calls (codes "task 7 5 if0|task 7 5 final|task 7 5  if0  final ")) ≡ map (λ task. by_first (TaskCreate task)) (record (task_of 7 5) { undeferred = true } ∷ record (task_of 7 5) { final_task = true } ∷ record (task_of 7 5) { undeferred = true; final_task = true } ∷ [])
+unfolding plain_step task_step taskwait_step
+options_said = refl
+
+-- one with an item of each type
+pub kinds_said : steps_said (calls (codes "task 7 5 in 100|task 7 5 out 100|task 7 5 inout 100|task 7 5 inoutset 100|task 7 5 mutexinoutset 100")) ≡ map (λ kind. by_first (TaskCreate (task_with (item_of kind 100 ∷ [])))) (DepIn ∷ DepOut ∷ DepInout ∷ DepInoutset ∷ DepMutex ∷ [])
+unfolding plain_step task_step taskwait_step
+kinds_said = refl
+
+-- items in their order, the same twice, up to the largest address
+pub items_said : read_line step_of (codes "0 task 7 5 in 0 out 18446744073709551615 in 0 inout 007") ≡ by_first (TaskCreate (task_with (item_of DepIn 0 ∷ item_of DepOut 18446744073709551615 ∷ item_of DepIn 0 ∷ item_of DepInout 7 ∷ [])))
+unfolding plain_step task_step taskwait_step
+items_said = refl
+
+-- items behind the options
+pub items_behind_options : steps_said (calls (codes "task 7 5 if0 in 100|task 7 5 final in 100|task 7 5 if0 final in 100")) ≡ map (λ task. by_first (TaskCreate task)) (record (task_with (item_of DepIn 100 ∷ [])) { undeferred = true } ∷ record (task_with (item_of DepIn 100 ∷ [])) { final_task = true } ∷ record (task_with (item_of DepIn 100 ∷ [])) { undeferred = true; final_task = true } ∷ [])
+unfolding plain_step task_step taskwait_step
+items_behind_options = refl
+
+-- 17 items are read, which is one more than a team takes
+pub many_items_said : read_line step_of (codes "0 task 7 5 in 0 in 1 in 2 in 3 in 4 in 5 in 6 in 7 in 8 in 9 in 10 in 11 in 12 in 13 in 14 in 15 in 16") ≡ by_first (TaskCreate (task_with (map (item_of DepIn) (0 ∷ 1 ∷ 2 ∷ 3 ∷ 4 ∷ 5 ∷ 6 ∷ 7 ∷ 8 ∷ 9 ∷ 10 ∷ 11 ∷ 12 ∷ 13 ∷ 14 ∷ 15 ∷ 16 ∷ []))))
+unfolding plain_step task_step taskwait_step
+many_items_said = refl
+
+-- a taskwait without items and with some
+pub taskwaits_said : steps_said (calls (codes "taskwait|taskwait in 100|taskwait out 0 mutexinoutset 18446744073709551615|taskwait inoutset 1 inout 2")) ≡ map (λ items. by_first (Taskwait items)) ([] ∷ (item_of DepIn 100 ∷ []) ∷ (item_of DepOut 0 ∷ item_of DepMutex 18446744073709551615 ∷ []) ∷ (item_of DepInoutset 1 ∷ item_of DepInout 2 ∷ []) ∷ [])
+unfolding plain_step task_step taskwait_step
+taskwaits_said = refl
+
+-- the words of both with a letter too few, with one too many and with a capital
+pub task_miswritten : steps_said (calls (codes "tas 7 5|tasks 7 5|Task 7 5|task_create 7 5|x|taskwai|taskwaits|Taskwait|taskwai in 100")) ≡ each_bad 9 UnknownWord
+unfolding plain_step task_step taskwait_step
 task_miswritten = refl
 
--- a task without its code or its argument, before a bad number
-pub task_missing : steps_said (parts (codes "0 task|0 task 7|0 task x|x task 7")) ≡ each_bad 4 MissingWord
-unfolding plain_step task_step
+-- a task without its code or its argument, or an item without its address, before a bad number and a word too many
+pub task_missing : steps_said (parts (codes "0 task|0 task 7|0 task x|x task 7|0 task if0|0 task 7 5 in|x task 7 5 in|0 task x 5 out|0 task 7 x if0 final inout|0 task 7 5 in x out|0 task 7 5 in in in|0 taskwait in|x taskwait out|0 taskwait in x in|0 taskwait in 100 mutexinoutset")) ≡ each_bad 15 MissingWord
+unfolding plain_step task_step taskwait_step
 task_missing = refl
 
 -- a word that is no number of a task or of its member, or one beyond its type, before a word too many
-pub bad_tasks : steps_said (parts (codes "0 task x 5|0 task 7 x|0 task -1 5|0 task 7 -0|0 task +7 5|0 task 18446744073709551616 5|0 task 7 18446744073709551616|0 task if0 5|x task 7 5|65536 task 7 5|0 task 7 x if0|x task 7 5 6|x task_end 1|x group 1")) ≡ each_bad 14 BadNumber
-unfolding plain_step task_step
+pub bad_tasks : steps_said (parts (codes "0 task x 5|0 task 7 x|0 task -1 5|0 task 7 -0|0 task +7 5|0 task 18446744073709551616 5|0 task 7 18446744073709551616|0 task if0 5|0 task 7 if0|x task 7 5|65536 task 7 5|0 task 7 x if0|x task 7 5 6|x task_end 1|x group 1|0 task 7 in 100")) ≡ each_bad 16 BadNumber
+unfolding plain_step task_step taskwait_step
 bad_tasks = refl
 
--- a word too many
-pub more_than_a_task : steps_said (calls (codes "task 7 5 6|task 7 5 if0|task 7 5 final|task 7 5 in 100|task 7 5 foo in|task_end 1|taskwait 1|taskwait in 100|group 1|group_end 0")) ≡ each_bad 10 ExtraWord
-unfolding plain_step task_step
+-- an address that is no number, or one beyond its type, before a word too many
+pub bad_addresses : steps_said (parts (codes "0 task 7 5 in x|0 task 7 5 in -1|0 task 7 5 out +1|0 task 7 5 inout 18446744073709551616|0 task 7 5 in in|0 task 7 5 in if0|0 task 7 5 in 1 out x|0 task 7 5 in x foo|0 task 7 5 in 0x10|0 taskwait in x|0 taskwait in 18446744073709551616|0 taskwait in 1 out x foo|x taskwait|65536 taskwait in 100|x taskwait foo|x taskwait in 100 foo")) ≡ each_bad 16 BadNumber
+unfolding plain_step task_step taskwait_step
+bad_addresses = refl
+
+-- a word too many, and any after it: no option or type of a dependence, one of them twice or too late
+pub more_than_a_task : steps_said (calls (codes "task 7 5 6|task 7 5 foo in|task 7 5 if0 if0|task 7 5 final if0|task 7 5 final final|task 7 5 if0 final if0|task 7 5 in 100 if0|task 7 5 in 100 final|task 7 5 in 100 200|task 7 5 in 100 foo in|task 7 5 if1|task 7 5 If0|task 7 5 if|task 7 5 Final|task 7 5 fina|task 7 5 source 100|task_end 1|taskwait 1|taskwait if0|taskwait final|taskwait in 100 200|taskwait foo in|group 1|group_end 0")) ≡ each_bad 24 ExtraWord
+unfolding plain_step task_step taskwait_step
 more_than_a_task = refl
+
+-- the types of a dependence with a letter too few, with one too many and with a capital
+pub kinds_miswritten : steps_said (calls (codes "task 7 5 i 100|task 7 5 ou 100|task 7 5 inou 100|task 7 5 inoutse 100|task 7 5 mutexinoutse 100|taskwait ins 100|taskwait outs 100|taskwait inouts 100|taskwait inoutsets 100|taskwait mutexinoutsets 100|task 7 5 In 100|task 7 5 Out 100|task 7 5 Inout 100|task 7 5 Inoutset 100|task 7 5 Mutexinoutset 100")) ≡ each_bad 15 ExtraWord
+unfolding plain_step task_step taskwait_step
+kinds_miswritten = refl
+
+-- an option that stands in front is taken; another, or one behind, is not
+pub options_taken : (option_of (codes "if0") (codes "if0" ∷ codes "in" ∷ []) ≡ (true, codes "in" ∷ [])) × (option_of (codes "if0") (codes "final" ∷ codes "if0" ∷ []) ≡ (false, codes "final" ∷ codes "if0" ∷ [])) × (option_of (codes "final") [] ≡ (false, []))
+options_taken = (refl, refl, refl)
+
+-- the item in front, whatever its address is; none, and one without its address
+pub first_items : map (λ line. first_item (words_of line)) (parts (codes "in x foo|mutexinoutset 1|foo 1 in 1|foo||in")) ≡ Ok (Some (DepIn, codes "x", codes "foo" ∷ [])) ∷ Ok (Some (DepMutex, codes "1", [])) ∷ Ok None ∷ Ok None ∷ Ok None ∷ Err MissingWord ∷ []
+first_items = refl
+
+-- the words behind the items, whatever their addresses are
+pub words_behind_items : map (λ line. behind_items (words_of line)) (parts (codes "in 1 out x foo in|foo in 1|in 1|in 1 out")) ≡ Ok (codes "foo" ∷ codes "in" ∷ []) ∷ Ok (codes "foo" ∷ codes "in" ∷ codes "1" ∷ []) ∷ Ok [] ∷ Err MissingWord ∷ []
+words_behind_items = refl
+
+-- the first fault of the items themselves; a word behind them is none
+pub faults_of_items : map (λ line. without_value (items_of (words_of line))) (parts (codes "in 1 out 2|in 1 foo|foo|in x out|in 1 out x|in")) ≡ Ok tt ∷ Ok tt ∷ Ok tt ∷ Err BadNumber ∷ Err BadNumber ∷ Err MissingWord ∷ []
+faults_of_items = refl
+
+-- what stands in front is not handed on once more, and a line without the option is handed on whole
+pub other_rest_of_an_option : (rest : Bor (List ℕ)) → (rest.now ≡ codes "if0 in" → TakesOption (codes "if0") (codes "if0 in") (true, rest) → ⊥) × (rest.now ≡ codes "in" → TakesOption (codes "if0") (codes "if0 in") (false, rest) → ⊥)
+other_rest_of_an_option rest = (
+  λ same taken. let both = rw same at taken in let count : 1 ≡ 2 = ap (λ (parts : Bool × List (List ℕ)). length parts.1) both in absurd (omega (arith, count)),
+  λ same taken. let flag : true ≡ false = ap (λ (parts : Bool × List (List ℕ)). parts.0) taken in absurd (cc),
+)
+
+-- nor are items whose end was not reached
+pub other_rest_of_items : (rest : Bor (List ℕ)) → rest.now ≡ codes "out 2" → IsBehindItems (codes "in 1 out 2") (Ok rest) → ⊥
+other_rest_of_items rest same passed = let other = rw same at passed in absurd (cc)
+
+-- an item is not passed over, and an item without its address is a fault
+pub other_first_items : (IsItem (codes "in 1") (Ok None) → ⊥) × (IsItem (codes "in") (Ok None) → ⊥) × (IsItem (codes "in") (Err BadNumber) → ⊥)
+other_first_items = (λ same. absurd (cc), λ same. absurd (cc), λ same. let fault : Some MissingWord ≡ Some BadNumber = ap fault_in same in absurd (cc))
 
 -- numbers beyond their types
 pub numbers_beyond : steps_said (parts (codes "0 sections 4294967296 wait|0 sections -1 wait|0 ordered 9223372036854775808|0 ordered -9223372036854775809|0 single_copy_end 18446744073709551616|0 single_copy_end -1|65536 next|-1 next|x single_copy_end")) ≡ each_bad 9 BadNumber

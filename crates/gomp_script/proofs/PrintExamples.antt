@@ -2,7 +2,7 @@
 use Rattle.std.proofs.Common.{◌≡◌, pos, negsuc, true, false, [], ◌∷◌, codes, refl}
 use Rattle.std.specs.Fmt.{digits}
 use Rattle.gomp_types.specs.declared.refusal.Place.TheVariants.{Share}
-use Rattle.gomp_types.specs.declared.refusal.Refusal.TheVariants.{Broken, Mismatch, BadTeam}
+use Rattle.gomp_types.specs.declared.refusal.Refusal.TheVariants.{Broken, TooManyDepends, Mismatch, BadTeam}
 use Rattle.gomp_types.specs.declared.reply.Reply.TheVariants.{Chunk, NoChunk, Section, Executor, Copied, Finished, Passed, Wait, Created, Run, TaskDone, Lock, Got, Count, Stopped, Refused}
 use Rattle.gomp_script.specs.declared.parse.Why.TheVariants.{NotAscii, FirstLine, UnknownWord, MissingWord, BadNumber, ExtraWord}
 use Rattle.gomp_script.specs.Printing.{reply_text, reply_line, refusal_line, bad_line_text}
@@ -111,6 +111,11 @@ stopped_printed = refl
 pub refused_printed : reply_text (Refused Mismatch) ≡ codes "refused E35 Mismatch"
 unfolding digits
 refused_printed = refl
+
+-- too many items
+pub too_many_items_printed : reply_text (Refused TooManyDepends) ≡ codes "refused E28 TooManyDepends"
+unfolding digits
+too_many_items_printed = refl
 
 -- one that tells where the team broke
 pub broken_printed : reply_text (Refused (Broken (record { member = 7; place = Share 255 }))) ≡ codes "refused E3 Broken 7 share 255"

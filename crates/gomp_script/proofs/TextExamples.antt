@@ -1,11 +1,13 @@
 -- What texts say, computed, and which line of them is bad. (own)
 use Rattle.std.proofs.Common.{◌≡◌, ℕ, [], ◌∷◌, ◌++◌, Some, None, Result, Ok, Err, codes, refl, ap, sym, arith}
-use Rattle.gomp_types.specs.declared.call.Call.TheVariants.{Barrier, CriticalStart, CriticalEnd, LockInit, Set}
+use Rattle.gomp_types.specs.declared.call.Call.TheVariants.{Barrier, CriticalStart, CriticalEnd, LockInit, Set, TaskCreate, Taskwait}
+use Rattle.gomp_types.specs.declared.depend.DepKind.TheVariants.{DepIn, DepOut}
 use Rattle.gomp_script.specs.declared.parse.BadLine.{BadLine}
+use Rattle.gomp_script.specs.declared.parse.LineError.TheVariants.{NoMemory, Fault}
 use Rattle.gomp_script.specs.declared.parse.Why.TheVariants.{NotAscii, FirstLine, UnknownWord, MissingWord, BadNumber, ExtraWord}
 use Rattle.gomp_script.specs.declared.parse.ParseError.TheVariants.{Memory, Bad}
-use Rattle.gomp_script.specs.StepText.{steps_of, steps_from, text_from, bad_line, lines_left, steps_kept, Gives, HasStep, TeamHasStep, refused_by, plain_step, loop_step, sections_step, copy_end_step, ordered_step, critical_step, critical_end_step, lock_step, team_of}
-use Rattle.gomp_script.specs.Examples.{IsBad, next_step, second_line}
+use Rattle.gomp_script.specs.StepText.{steps_of, steps_from, text_from, bad_line, lines_left, steps_kept, fault_in, Gives, HasItems, HasStep, LineHasItems, Reads, TeamHasStep, refused_by, plain_step, loop_step, sections_step, copy_end_step, ordered_step, critical_step, critical_end_step, lock_step, task_step, taskwait_step, team_of}
+use Rattle.gomp_script.specs.Examples.{IsBad, item_of, next_step, second_line, task_of, task_with}
 
 -- a text of two steps
 pub two_steps : steps_of (codes "team 2\n0 next\n0 barrier\n") ≡ Ok (2, next_step ∷ record { member = 0; call = Barrier } ∷ [])
@@ -31,6 +33,16 @@ text_of_holds = refl
 pub bad_line_of_holds : IsBad 3 ExtraWord (codes "team 2\n0 critical a\n0 critical_end a b\n0 set\n")
 unfolding plain_step critical_step critical_end_step lock_step team_of
 bad_line_of_holds = refl
+
+-- a text of tasks that depend on each other
+pub text_of_items : steps_of (codes "team 1\n0 task 7 5 out 100\n0 taskwait in 100\n") ≡ Ok (1, record { member = 0; call = TaskCreate (task_with (item_of DepOut 100 ∷ [])) } ∷ record { member = 0; call = Taskwait (item_of DepIn 100 ∷ []) } ∷ [])
+unfolding task_step taskwait_step team_of
+text_of_items = refl
+
+-- a line of one is bad
+pub bad_line_of_items : IsBad 3 MissingWord (codes "team 1\n0 task 7 5 out 100\n0 taskwait in\n0 task x 5\n")
+unfolding task_step taskwait_step team_of
+bad_line_of_items = refl
 
 -- a text may have no step
 pub no_step : steps_of (codes "team 2\n# none\n\n") ≡ Ok (2, [])
@@ -114,6 +126,36 @@ lines_of_nothing = (refl, refl)
 -- a line that says nothing adds no step, and a step comes last
 pub kept_last : (steps_kept (next_step ∷ []) None ≡ next_step ∷ []) × (steps_kept [] (Some next_step) ≡ next_step ∷ [])
 kept_last = (refl, refl)
+
+-- What a function gives of a line that may find no memory: what it may give, and what not
+
+-- what was read may be given, or want of memory, or the fault
+pub line_given : Reads {A = ℕ} (Ok 4) (Ok 4) × Reads {A = ℕ} (Err NoMemory) (Ok 4) × Reads {A = ℕ} (Err (Fault MissingWord)) (Err MissingWord)
+line_given = (refl, tt, refl)
+
+-- no other value is given, nor one for a bad line
+pub other_line_value : (Reads {A = ℕ} (Ok 4) (Ok 5) → ⊥) × (Reads {A = ℕ} (Ok 4) (Err MissingWord) → ⊥)
+other_line_value = (λ same. absurd (cc), λ same. absurd (cc))
+
+-- no fault is told if there is none, nor another one
+pub other_line_fault : (Reads {A = ℕ} (Err (Fault MissingWord)) (Ok 4) → ⊥) × (Reads {A = ℕ} (Err (Fault MissingWord)) (Err ExtraWord) → ⊥)
+other_line_fault = (λ same. absurd (cc), λ same. let fault : Some ExtraWord ≡ Some MissingWord = ap fault_in same in absurd (cc))
+
+-- the fault is that of what was read
+pub faults_read : (fault_in {A = ℕ} (Err ExtraWord) ≡ Some ExtraWord) × (fault_in {A = ℕ} (Ok 4) ≡ None)
+faults_read = (refl, refl)
+
+-- a line with an item may find no memory
+pub item_takes : HasItems (Ok (record { member = 0; call = TaskCreate (task_with (item_of DepIn 100 ∷ [])) })) × LineHasItems (Ok (Some (record { member = 0; call = Taskwait (item_of DepIn 100 ∷ []) })))
+item_takes = (λ same. absurd (cc), λ same. absurd (cc))
+
+-- one without an item may not
+pub no_item_takes_none : (HasItems (Ok (record { member = 0; call = TaskCreate (task_of 7 5) })) → ⊥) × (LineHasItems (Ok (Some (record { member = 0; call = Taskwait [] }))) → ⊥)
+no_item_takes_none = (λ some. some refl, λ some. some refl)
+
+-- nor may another step, a line without a step or a bad one
+pub other_lines_take_none : (HasItems (Ok next_step) → ⊥) × (HasItems (Err MissingWord) → ⊥) × (LineHasItems (Ok (Some next_step)) → ⊥) × (LineHasItems (Ok None) → ⊥) × (LineHasItems (Err MissingWord) → ⊥)
+other_lines_take_none = (λ some. some refl, λ never. never, λ some. some refl, λ never. never, λ never. never)
 
 -- What a function gives that may find no memory: what it may give, and what not
 

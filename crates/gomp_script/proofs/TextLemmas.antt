@@ -6,7 +6,8 @@ use Rattle.gomp_script.specs.declared.parse.BadLine.{BadLine}
 use Rattle.gomp_script.specs.declared.parse.ParseError.{ParseError}
 use Rattle.gomp_script.specs.declared.parse.ParseError.TheVariants.{Memory, Bad}
 use Rattle.gomp_text.specs.Words.{lines_of}
-use Rattle.gomp_script.specs.StepText.{next_word, call_step, step_of, lines_left, with_front, step_line, steps_kept, with_team, Fails, HasStep, TeamHasStep, refused_by}
+use Rattle.gomp_script.specs.declared.parse.Why.{Why}
+use Rattle.gomp_script.specs.StepText.{LineHasItems, bad_line, fault_in, next_word, call_step, step_of, lines_left, with_front, step_line, steps_kept, with_team, Fails, HasStep, TeamHasStep, refused_by}
 
 -- how much is left
 abbrev pub left : Option (List ℕ) → ℕ
@@ -62,11 +63,31 @@ has_refused_step steps number None later some memory = absurd (cc)
 has_refused_step steps number (Some step) (Ok later) some memory = not_none steps step later
 has_refused_step steps number (Some step) (Err bad) some memory = absurd (cc)
 
--- a line that is no fault changes nothing once memory was refused
-pub no_fault_here : (number : ℕ) (said : Option Step) (later : Result (List Step) BadLine) → refused_by (step_line number (Ok said) later) ≡ refused_by later
-no_fault_here number None later = refl
-no_fault_here number (Some step) (Ok later) = refl
-no_fault_here number (Some step) (Err bad) = refl
+-- a line without a fault changes nothing once memory was refused
+pub no_fault_here : (number : ℕ) (read : Result (Option Step) Why) (later : Result (List Step) BadLine) → fault_in read ≡ None → refused_by (step_line number read later) ≡ refused_by later
+no_fault_here number (Ok None) later none = refl
+no_fault_here number (Ok (Some step)) (Ok later) none = refl
+no_fault_here number (Ok (Some step)) (Err bad) none = refl
+no_fault_here number (Err why) later none = absurd (cc)
+
+-- a line with a fault is bad
+pub fault_here : (number : ℕ) (read : Result (Option Step) Why) (why : Why) (later : Result (List Step) BadLine) → fault_in read ≡ Some why → step_line number read later ≡ bad_line number why
+fault_here number (Ok said) why later fault = absurd (cc)
+fault_here number (Err other) why later fault =
+    let same : other ≡ why = cc in
+    ap (bad_line number) same
+
+-- once memory was refused for the items of a line, the first bad line of the lines behind it is the text's
+pub fault_behind_line : (steps : List Step) (number : ℕ) (read : Result (Option Step) Why) (later : Result (List Step) BadLine) → LineHasItems read → Fails (refused_by later) (with_fronts steps (step_line number read later))
+fault_behind_line steps number (Ok None) later items = absurd items
+fault_behind_line steps number (Ok (Some step)) later items = fault_behind steps number (Some step) later refl
+fault_behind_line steps number (Err why) later items = absurd items
+
+-- and if none of them is bad, there is the step of that line
+pub has_unread_step : (steps : List Step) (number : ℕ) (read : Result (Option Step) Why) (later : Result (List Step) BadLine) → LineHasItems read → refused_by later ≡ Memory → HasStep (with_fronts steps (step_line number read later))
+has_unread_step steps number (Ok None) later items memory = absurd items
+has_unread_step steps number (Ok (Some step)) later items memory = has_refused_step steps number (Some step) later refl memory
+has_unread_step steps number (Err why) later items memory = absurd items
 
 -- a step whose call is taken
 pub step_by_call : (member : List ℕ) (words : List (List ℕ)) (taken : List ℕ × List (List ℕ)) → next_word words ≡ Ok taken → step_of (member ∷ words) ≡ call_step member taken.0 taken.1

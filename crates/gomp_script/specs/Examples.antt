@@ -1,5 +1,5 @@
 -- Lines and steps for the examples. (own)
-use Rattle.std.specs.Prelude.{ℕ, pos, ◌≡◌, ◌==◌, ◌++◌, Bool, List, map, replicate, Option, Some, Result, Ok, Err, codes}
+use Rattle.std.specs.Prelude.{ℕ, pos, ◌≡◌, ◌==◌, ◌++◌, Bool, false, List, [], map, replicate, Option, Some, Result, Ok, Err, codes}
 use Rattle.std.specs.List.{slice_split}
 use Rattle.gomp_types.specs.declared.call.Call.{Call}
 use Rattle.gomp_types.specs.declared.call.Call.TheVariants.{LoopNext}
@@ -7,6 +7,8 @@ use Rattle.gomp_types.specs.declared.call.Step.{Step}
 use Rattle.gomp_types.specs.declared.loop_desc.EndKind.{EndKind}
 use Rattle.gomp_types.specs.declared.loop_desc.LoopDesc.{LoopDesc}
 use Rattle.gomp_types.specs.declared.loop_desc.Sched.{Sched}
+use Rattle.gomp_types.specs.declared.depend.Dep.{Dep}
+use Rattle.gomp_types.specs.declared.depend.DepKind.{DepKind}
 use Rattle.gomp_types.specs.declared.task.TaskDesc.{TaskDesc}
 use Rattle.gomp_script.specs.declared.parse.BadLine.{BadLine}
 use Rattle.gomp_script.specs.declared.parse.Why.{Why}
@@ -40,9 +42,17 @@ by_first call = Ok (Some (record { member = 0; call = call }))
 abbrev pub loop_of_four : Sched → EndKind → Bool → LoopDesc
 loop_of_four sched end_kind ordered = record { start = pos 0; end = pos 4; incr = pos 1; sched = sched; chunk = pos 0; ordered = ordered; end_kind = end_kind }
 
--- a task with this code and this argument
+-- a deferred task with this code and this argument
 abbrev pub task_of : ℕ → ℕ → TaskDesc
-task_of code arg = record { code = code; arg = arg }
+task_of code arg = record { code = code; arg = arg; undeferred = false; final_task = false; deps = [] }
+
+-- the same with these items
+abbrev pub task_with : List Dep → TaskDesc
+task_with items = record { code = 7; arg = 5; undeferred = false; final_task = false; deps = items }
+
+-- an item
+abbrev pub item_of : DepKind → ℕ → Dep
+item_of kind addr = record { kind = kind; addr = addr }
 
 -- the step by which member 0 asks for its next chunk
 abbrev pub next_step : Step

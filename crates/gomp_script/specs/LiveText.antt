@@ -1,10 +1,10 @@
 -- A line of a talk: `team N`, or `MEMBER CALL` once a team stands. (own)
-use Rattle.std.specs.Prelude.{ℕ, Bool, true, false, if◌then◌else◌, List, [], ◌∷◌, Option, Result, Ok, Err, codes}
+use Rattle.std.specs.Prelude.{ℕ, ◌≢◌, Bool, true, false, if◌then◌else◌, List, [], ◌∷◌, Option, Some, None, Result, Ok, Err, codes}
 use Rattle.gomp_script.specs.declared.live.LiveLine.{LiveLine}
 use Rattle.gomp_script.specs.declared.live.LiveLine.TheVariants.{NewTeam, NextStep}
 use Rattle.gomp_script.specs.declared.parse.Why.{Why}
 use Rattle.gomp_script.specs.declared.parse.Why.TheVariants.{MissingWord, FirstLine}
-use Rattle.gomp_script.specs.StepText.{◌>>=◌, step_of, team_of, read_line}
+use Rattle.gomp_script.specs.StepText.{◌>>=◌, call_items, step_of, team_of, read_line}
 use Rattle.gomp_text.specs.Words.{same_word}
 
 -- the new team that words ask for
@@ -30,3 +30,15 @@ live_of has_team (word ∷ words) =
 -- what a line asks for; an empty one and a comment ask for nothing
 abbrev pub read_live_line : Bool → List ℕ → Result (Option LiveLine) Why
 read_live_line has_team line = read_line (live_of has_team) line
+
+-- the step that is asked for has an item: only then does a line take memory
+abbrev pub AskedHasItems : Result LiveLine Why → Type 0
+AskedHasItems (Ok (NextStep step)) = call_items step.call ≢ []
+AskedHasItems (Ok (NewTeam count)) = ⊥
+AskedHasItems (Err why) = ⊥
+
+-- the same of a line
+abbrev pub LiveHasItems : Result (Option LiveLine) Why → Type 0
+LiveHasItems (Ok (Some asked)) = AskedHasItems (Ok asked)
+LiveHasItems (Ok None) = ⊥
+LiveHasItems (Err why) = ⊥

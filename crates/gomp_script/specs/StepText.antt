@@ -1,10 +1,13 @@
 -- The text of steps: a line `team N`, and then a line `MEMBER CALL` for each step. (own)
-use Rattle.std.specs.Prelude.{ℕ, ℤ, ◌≡◌, ◌≢◌, ◌+◌, ◌++◌, ◌==◌, Bool, true, false, if◌then◌else◌, List, [], ◌∷◌, take, drop, Option, Some, None, Result, Ok, Err, MatchResult, codes}
+use Rattle.std.specs.Prelude.{ℕ, ℤ, ◌≡◌, ◌≢◌, ◌+◌, ◌++◌, ◌==◌, Bool, true, false, if◌then◌else◌, List, [], ◌∷◌, take, drop, is_some, Option, Some, None, option_map, Result, Ok, Err, MatchResult, codes}
 use Rattle.std.specs.Borrow.{Bor}
 use Rattle.std.specs.Option.{option_map_or, option_or}
 use Rattle.gomp_types.specs.declared.call.Call.{Call}
 use Rattle.gomp_types.specs.declared.call.Call.TheVariants.{LoopStart, LoopNext, LoopEnd, LoopEndNowait, SectionsStart, SectionsNext, SectionsEnd, SectionsEndNowait, SingleStart, SingleCopyStart, SingleCopyEnd, OrderedStart, OrderedEnd, Barrier, RegionEnd, CriticalStart, CriticalEnd, LockInit, NestInit, LockDestroy, Set, Test, Unset, SetNest, TestNest, UnsetNest, TaskCreate, TaskEnd, Taskwait, GroupStart, GroupEnd, Resume, Stop}
 use Rattle.gomp_types.specs.declared.call.Step.{Step}
+use Rattle.gomp_types.specs.declared.depend.Dep.{Dep}
+use Rattle.gomp_types.specs.declared.depend.DepKind.{DepKind}
+use Rattle.gomp_types.specs.declared.depend.DepKind.TheVariants.{DepIn, DepOut, DepInout, DepInoutset, DepMutex}
 use Rattle.gomp_types.specs.declared.loop_desc.Sched.{Sched}
 use Rattle.gomp_types.specs.declared.loop_desc.Sched.TheVariants.{Static, Dynamic, Guided, Runtime}
 use Rattle.gomp_types.specs.declared.loop_desc.EndKind.{EndKind}
@@ -15,6 +18,9 @@ use Rattle.gomp_types.specs.Limits.{shown_number}
 use Rattle.gomp_script.specs.declared.parse.Why.{Why}
 use Rattle.gomp_script.specs.declared.parse.Why.TheVariants.{NotAscii, FirstLine, UnknownWord, MissingWord, BadNumber, ExtraWord}
 use Rattle.gomp_script.specs.declared.parse.BadLine.{BadLine}
+use Rattle.gomp_script.specs.declared.parse.LineError.{LineError}
+use Rattle.gomp_script.specs.declared.parse.LineError.TheVariants.{NoMemory, Fault}
+use Rattle.gomp_script.specs.declared.parse.items.Item.{Item}
 use Rattle.gomp_script.specs.declared.parse.locks.LockCall.{LockCall}
 use Rattle.gomp_script.specs.declared.parse.locks.LockCall.TheVariants.{Destroys, Sets, Tests, Unsets, SetsNest, TestsNest, UnsetsNest}
 use Rattle.gomp_script.specs.declared.parse.ParseError.{ParseError}
@@ -57,7 +63,7 @@ member_of word = or_why BadNumber (unsigned 65535 word)
 abbrev pub count_of : List ℕ → Result ℕ Why
 count_of word = or_why BadNumber (unsigned 4294967295 word)
 
--- a word of a payload, the code of a task or its argument, a u64
+-- a word of a payload, the code of a task, its argument or an address, a u64
 abbrev pub unsigned_of : List ℕ → Result ℕ Why
 unsigned_of word = or_why BadNumber (unsigned 18446744073709551615 word)
 
@@ -95,7 +101,6 @@ share_call_of word =
 abbrev pub task_call_of : List ℕ → Option Call
 task_call_of word =
     if same_word word (codes "task_end") then Some TaskEnd
-    else if same_word word (codes "taskwait") then Some Taskwait
     else if same_word word (codes "group") then Some GroupStart
     else if same_word word (codes "group_end") then Some GroupEnd
     else None
@@ -240,28 +245,89 @@ lock_step call member words = do
   done ← no_more_words lock.1
   Ok (record { member = number; call = call locked })
 
--- `MEMBER task CODE ARG`
+-- Items: `[DEP ADDR]..`, at the end of a line. OpenMP API 5.2, section 15.9.5.
+
+-- the type of a dependence
+abbrev pub kind_of : List ℕ → Option DepKind
+kind_of word =
+    if same_word word (codes "in") then Some DepIn
+    else if same_word word (codes "out") then Some DepOut
+    else if same_word word (codes "inout") then Some DepInout
+    else if same_word word (codes "inoutset") then Some DepInoutset
+    else if same_word word (codes "mutexinoutset") then Some DepMutex
+    else None
+
+-- the words behind the items in front: the first of them is no type of a dependence
+abbrev pub behind_items : List (List ℕ) → Result (List (List ℕ)) Why
+behind_items [] = Ok []
+behind_items (word ∷ []) = if is_some (kind_of word) then Err MissingWord else Ok (word ∷ [])
+behind_items (word ∷ addr ∷ words) = if is_some (kind_of word) then behind_items words else Ok (word ∷ addr ∷ words)
+
+-- these items, an address before those that are read of later ones
+abbrev pub with_item : DepKind → Result ℕ Why → Result (List Dep) Why → Result (List Dep) Why
+with_item kind addr later = do
+  place ← addr
+  items ← later
+  Ok (record { kind = kind; addr = place } ∷ items)
+
+-- the items in front, each a type of a dependence and an address
+abbrev pub items_of : List (List ℕ) → Result (List Dep) Why
+items_of [] = Ok []
+items_of (word ∷ []) = if is_some (kind_of word) then Err MissingWord else Ok []
+items_of (word ∷ addr ∷ words) = option_map_or (λ kind. with_item kind (unsigned_of addr) (items_of words)) (kind_of word) (Ok [])
+
+-- whether this word stands in front, and the words behind it
+abbrev pub option_of : List ℕ → List (List ℕ) → Bool × List (List ℕ)
+option_of name [] = (false, [])
+option_of name (word ∷ words) = if same_word word name then (true, words) else (false, word ∷ words)
+
+-- `if0`, which makes a task undeferred, may stand in front
+abbrev pub if0_of : List (List ℕ) → Bool × List (List ℕ)
+if0_of words = option_of (codes "if0") words
+
+-- `final` may stand behind it
+abbrev pub final_of : List (List ℕ) → Bool × List (List ℕ)
+final_of words = option_of (codes "final") (if0_of words).1
+
+-- `MEMBER task CODE ARG [if0] [final] [DEP ADDR]..`
 unfoldable pub task_step : List ℕ → List (List ℕ) → Result Step Why
 task_step member words = do
   code ← next_word words
   arg ← next_word code.1
+  behind ← behind_items (final_of arg.1).1
   number ← member_of member
   job ← unsigned_of code.0
   argument ← unsigned_of arg.0
-  done ← no_more_words arg.1
-  Ok (record { member = number; call = TaskCreate (record { code = job; arg = argument }) })
+  items ← items_of (final_of arg.1).1
+  done ← no_more_words behind
+  Ok (record { member = number; call = TaskCreate (record { code = job; arg = argument; undeferred = (if0_of arg.1).0; final_task = (final_of arg.1).0; deps = items }) })
 
--- the step of a member, by the word of its call and those that follow
-abbrev pub call_step : List ℕ → List ℕ → List (List ℕ) → Result Step Why
-call_step member call words =
+-- `MEMBER taskwait [DEP ADDR]..`
+unfoldable pub taskwait_step : List ℕ → List (List ℕ) → Result Step Why
+taskwait_step member words = do
+  behind ← behind_items words
+  number ← member_of member
+  items ← items_of words
+  done ← no_more_words behind
+  Ok (record { member = number; call = Taskwait items })
+
+-- the step of a member whose call has no items, by the word of its call and those that follow
+abbrev pub other_step : List ℕ → List ℕ → List (List ℕ) → Result Step Why
+other_step member call words =
     if same_word call (codes "loop") then loop_step member words
     else if same_word call (codes "sections") then sections_step member words
     else if same_word call (codes "single_copy_end") then copy_end_step member words
     else if same_word call (codes "ordered") then ordered_step member words
     else if same_word call (codes "critical") then critical_step member words
     else if same_word call (codes "critical_end") then critical_end_step member words
-    else if same_word call (codes "task") then task_step member words
     else option_map_or (λ lock_call. lock_step lock_call member words) (lock_call_of call) (plain_step member call words)
+
+-- the step of a member, by the word of its call and those that follow
+abbrev pub call_step : List ℕ → List ℕ → List (List ℕ) → Result Step Why
+call_step member call words =
+    if same_word call (codes "task") then task_step member words
+    else if same_word call (codes "taskwait") then taskwait_step member words
+    else other_step member call words
 
 abbrev pub step_of : List (List ℕ) → Result Step Why
 step_of [] = Err MissingWord
@@ -346,7 +412,66 @@ text_from number (line ∷ lines) = team_line number (read_line team_of line) (t
 abbrev pub steps_of : List ℕ → Result (ℕ × List Step) BadLine
 steps_of text = text_from 1 (lines_of text)
 
--- What a function gives that may find no memory
+-- What a function gives of a line, or of a part of it, that may find no memory
+
+-- an error is that of the reading, or want of memory
+abbrev pub Reads : {A : Type 0} → Result A LineError → Result A Why → Type 0
+Reads (Ok value) read = read ≡ Ok value
+Reads (Err (Fault why)) read = read ≡ Err why
+Reads (Err NoMemory) read = Unit {0}
+
+-- the items of a call
+abbrev pub call_items : Call → List Dep
+call_items (TaskCreate desc) = desc.deps
+call_items (Taskwait items) = items
+call_items _ = []
+
+-- the step of these words has an item, and they have no fault: only then does a line take memory
+abbrev pub HasItems : Result Step Why → Type 0
+HasItems (Ok step) = call_items step.call ≢ []
+HasItems (Err why) = ⊥
+
+-- the same of a line
+abbrev pub LineHasItems : Result (Option Step) Why → Type 0
+LineHasItems (Ok (Some step)) = call_items step.call ≢ []
+LineHasItems (Ok None) = ⊥
+LineHasItems (Err why) = ⊥
+
+-- What a function gives of the words of a line
+
+-- the fault, if there is one
+abbrev pub fault_in : {A : Type 0} → Result A Why → Option Why
+fault_in (Ok value) = None
+fault_in (Err why) = Some why
+
+-- whether there is a fault, and which
+abbrev pub without_value : {A : Type 0} → Result A Why → Result (Unit {0}) Why
+without_value (Ok value) = Ok tt
+without_value (Err why) = Err why
+
+-- the words of an item that is found, and what follows it
+abbrev pub item_words : Item → DepKind × List ℕ × List (List ℕ)
+item_words item = (item.kind, item.addr.now, words_of item.rest.now)
+
+-- the words of the item in front of these; nothing if the first of them is no type of a dependence
+abbrev pub first_item : List (List ℕ) → Result (Option (DepKind × List ℕ × List (List ℕ))) Why
+first_item [] = Ok None
+first_item (word ∷ []) = if is_some (kind_of word) then Err MissingWord else Ok None
+first_item (word ∷ addr ∷ words) = Ok (option_map (λ kind. (kind, addr, words)) (kind_of word))
+
+-- they are found, or it is said why not
+abbrev pub IsItem : List ℕ → Result (Option Item) Why → Type 0
+IsItem line read = MatchResult read (λ found. first_item (words_of line) ≡ Ok (option_map item_words found)) (λ why. first_item (words_of line) ≡ Err why)
+
+-- what follows the items is found, or it is said why not
+abbrev pub IsBehindItems : List ℕ → Result (Bor (List ℕ)) Why → Type 0
+IsBehindItems line read = MatchResult read (λ rest. behind_items (words_of line) ≡ Ok (words_of rest.now)) (λ why. behind_items (words_of line) ≡ Err why)
+
+-- whether an option stands in front of a line, and what follows it
+abbrev pub TakesOption : List ℕ → List ℕ → Bool × Bor (List ℕ) → Type 0
+TakesOption name line taken = option_of name (words_of line) ≡ (taken.0, words_of taken.1.now)
+
+-- What a function gives of a text, that may find no memory
 
 -- an error is that of the reading, or want of memory
 abbrev pub Fails : {Y : Type 0} → ParseError → Result Y BadLine → Type 0

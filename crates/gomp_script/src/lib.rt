@@ -9,5 +9,5 @@ mod parse;
 mod print;
 
 pub use live::{LiveLine, parse_live_line};
-pub use parse::{BadLine, ParseError, Why, parse_steps};
+pub use parse::{BadLine, LineError, ParseError, Why, parse_steps};
 pub use print::{print_bad_line, print_refusal, print_replies, print_reply};

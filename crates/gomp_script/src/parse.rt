@@ -2,10 +2,12 @@
 
 ghost use Rattle.std.specs.Prelude.{◌≡◌, ◌≤◌, ◌∷◌, option_copied, vec_len, vec_capacity, OnOk, OnErr, IsSome, IsErrOf};
 ghost use Rattle.gomp_text.specs.Words.{words_of};
+ghost use Rattle.gomp_script.specs.declared.parse.LineError.TheVariants.{NoMemory};
 ghost use Rattle.gomp_script.specs.declared.parse.ParseError.TheVariants.{Memory};
-ghost use Rattle.gomp_script.specs.StepText.{IsFirstOfLine, call_step, step_of, team_of, read_line, steps_left, steps_of, steps_kept, begins_comment, Gives, HasStep, TeamHasStep, refused_by};
+ghost use Rattle.gomp_script.specs.StepText.{IsFirstOfLine, call_step, other_step, step_of, team_of, read_line, steps_left, steps_of, steps_kept, begins_comment, fault_in, Gives, HasItems, HasStep, LineHasItems, Reads, TeamHasStep, refused_by};
 
 mod critical;
+mod items;
 mod locks;
 mod loops;
 mod ordered;
@@ -25,7 +27,7 @@ use payload::copy_end_step;
 use plain::plain_step;
 use sections::sections_step;
 use std::alloc::{AllocError, AllocFailed, Global};
-use task::task_step;
+use task::{task_step, taskwait_step};
 use words::{count_of, finish, take_word};
 
 /// Why a line is bad. A line is tested for these in this order.
@@ -52,6 +54,35 @@ pub struct BadLine {
     pub line: u64,
     /// The first of its faults.
     pub why: Why,
+}
+
+/// Why a line was not read.
+#[derive(Clone, Copy, Debug, PartialEq, Eq)]
+pub enum LineError {
+    /// Memory was refused, for the items of a `depend` clause.
+    NoMemory,
+    /// The line is bad: the first of its faults, which comes before want of memory.
+    Fault(Why),
+}
+
+impl From<Why> for LineError {
+    ghost use Rattle.gomp_script.specs.declared.parse.LineError.TheVariants.{Fault};
+
+    ghost from_gives = { λ why e. e ≡ Fault why };
+
+    fn from(why: Why) -> LineError {
+        LineError::Fault(why)
+    }
+}
+
+impl From<AllocError> for LineError {
+    ghost use Rattle.gomp_script.specs.declared.parse.LineError.TheVariants.{NoMemory};
+
+    ghost from_gives = { λ _ e. e ≡ NoMemory };
+
+    fn from(_: AllocError) -> LineError {
+        LineError::NoMemory
+    }
 }
 
 /// Why a text was not read.
@@ -128,34 +159,51 @@ fn parse_lines(alloc: Global, lines: Option<&[u8]>, first: u64) -> Result<Vec<St
     let mut number = first;
     while let Some(lines) = rest {
         let (line, after) = cut_at(lines, b'\n');
-        let step = match read_step(line) {
+        let step = match read_step(alloc, line) {
             Ok(step) => step,
-            Err(why) => return Err(ParseError::Bad(BadLine { line: number, why })),
+            Err(LineError::Fault(why)) => {
+                return Err(ParseError::Bad(BadLine { line: number, why }));
+            }
+            Err(LineError::NoMemory) => {
+                return Err(first_fault(alloc, after, number.saturating_add(1)));
+            }
         };
         rest = after;
         number = number.saturating_add(1);
         if keep(&mut steps, step).is_err() {
-            return Err(first_fault(rest, number));
+            return Err(first_fault(alloc, rest, number));
         }
     }
     Ok(steps)
 }
 
 /// The first bad line of these, of which the first has this number; want of memory if none is bad.
-fn first_fault(lines: Option<&[u8]>, first: u64) -> ParseError
+/// A line whose items find no memory is not bad.
+fn first_fault(alloc: Global, lines: Option<&[u8]>, first: u64) -> ParseError
     ensures { result ≡ refused_by (steps_left first (option_copied lines.entry)) }
 {
     let mut rest = lines;
     let mut number = first;
     while let Some(lines) = rest {
         let (line, after) = cut_at(lines, b'\n');
-        if let Err(why) = read_step(line) {
+        if let Some(why) = fault_of(alloc, line) {
             return ParseError::Bad(BadLine { line: number, why });
         }
         rest = after;
         number = number.saturating_add(1);
     }
     ParseError::Memory
+}
+
+/// The first fault of a line, if it has one, whatever memory does.
+fn fault_of(alloc: Global, line: &[u8]) -> Option<Why>
+    ensures { result ≡ fault_in (read_line step_of line.now) }
+{
+    match read_step(alloc, line) {
+        Err(LineError::Fault(why)) => Some(why),
+        Err(LineError::NoMemory) => None,
+        Ok(_) => None,
+    }
 }
 
 /// Keeps the step of a line, if it has one. Only a step takes memory, and only if the list is full.
@@ -182,13 +230,14 @@ fn read_team(line: &[u8]) -> Result<Option<u32>, Why>
 }
 
 /// The step of a line, if it has one.
-fn read_step(line: &[u8]) -> Result<Option<Step>, Why>
-    ensures { result ≡ read_line step_of line.now }
+fn read_step(alloc: Global, line: &[u8]) -> Result<Option<Step>, LineError>
+    ensures step { Reads result (read_line step_of line.now) }
+    ensures memory { IsErrOf result NoMemory → LineHasItems (read_line step_of line.now) }
 {
     let Some((word, rest)) = first_word(line)? else {
         return Ok(None);
     };
-    let step = step_words(word, rest)?;
+    let step = step_words(alloc, word, rest)?;
     Ok(Some(step))
 }
 
@@ -231,16 +280,33 @@ pub(crate) fn team_words(first: &[u8], rest: &[u8]) -> Result<u32, Why>
 }
 
 /// `MEMBER CALL`, by its first word and what follows it.
-pub(crate) fn step_words(member: &[u8], rest: &[u8]) -> Result<Step, Why>
-    ensures { result ≡ step_of (member.now ∷ words_of rest.now) }
+pub(crate) fn step_words(alloc: Global, member: &[u8], rest: &[u8]) -> Result<Step, LineError>
+    ensures step { Reads result (step_of (member.now ∷ words_of rest.now)) }
+    ensures memory { IsErrOf result NoMemory →
+        HasItems (step_of (member.now ∷ words_of rest.now)) }
 {
     let (call, rest) = take_word(rest)?;
-    call_step(member, call, rest)
+    call_step(alloc, member, call, rest)
 }
 
 /// The same, by the word of the call and what follows it.
-fn call_step(member: &[u8], call: &[u8], rest: &[u8]) -> Result<Step, Why>
-    ensures { result ≡ call_step member.now call.now (words_of rest.now) }
+fn call_step(alloc: Global, member: &[u8], call: &[u8], rest: &[u8]) -> Result<Step, LineError>
+    ensures step { Reads result (call_step member.now call.now (words_of rest.now)) }
+    ensures memory { IsErrOf result NoMemory →
+        HasItems (call_step member.now call.now (words_of rest.now)) }
+{
+    if is_word(call, b"task") {
+        return task_step(alloc, member, rest);
+    }
+    if is_word(call, b"taskwait") {
+        return taskwait_step(alloc, member, rest);
+    }
+    Ok(other_step(member, call, rest)?)
+}
+
+/// The same of a call that has no items.
+fn other_step(member: &[u8], call: &[u8], rest: &[u8]) -> Result<Step, Why>
+    ensures { result ≡ other_step member.now call.now (words_of rest.now) }
 {
     if is_word(call, b"loop") {
         return loop_step(member, rest);
@@ -259,9 +325,6 @@ fn call_step(member: &[u8], call: &[u8], rest: &[u8]) -> Result<Step, Why>
     }
     if is_word(call, b"critical_end") {
         return critical_end_step(member, rest);
-    }
-    if is_word(call, b"task") {
-        return task_step(member, rest);
     }
     match lock_call_of(call) {
         Some(lock_call) => lock_step(lock_call, member, rest),

@@ -48,13 +48,13 @@ complete_later t (Done task m) h over = or_right (task == t) (is_complete t h) o
 complete_later t _ h over = over
 
 state_follows : (t : ℕ) (old new : TaskState) (event : Event) (h : List Event) → IsState t old h → IsState t new (event ∷ h) → Follows old new
-state_follows t states.Ready new event h before after = tt
-state_follows t states.Running states.Ready event h before after = absurd (let on = started_later t event h before.started in let off = after.started in cc)
-state_follows t states.Running states.Running event h before after = tt
-state_follows t states.Running states.Done event h before after = tt
-state_follows t states.Done states.Ready event h before after = absurd (let on = complete_later t event h before.complete in let off = after.complete in cc)
-state_follows t states.Done states.Running event h before after = absurd (let on = complete_later t event h before.complete in let off = after.complete in cc)
-state_follows t states.Done states.Done event h before after = tt
+state_follows t states.Unstarted new event h before after = tt
+state_follows t (states.Running m) states.Unstarted event h before after = absurd (let on = started_later t event h before.started in let off = after.started in cc)
+state_follows t (states.Running m) (states.Running n) event h before after = tt
+state_follows t (states.Running m) (states.Done n) event h before after = tt
+state_follows t (states.Done m) states.Unstarted event h before after = absurd (let on = complete_later t event h before.complete in let off = after.complete in cc)
+state_follows t (states.Done m) (states.Running n) event h before after = absurd (let on = complete_later t event h before.complete in let off = after.complete in cc)
+state_follows t (states.Done m) (states.Done n) event h before after = tt
 
 -- whatever happens, the state of a task moves forward only
 pub states_move_forward : (old new : TasksView) (h : List Event) (event : Event) (k : ℕ) (row later : TaskRow) → Stands old h → Stands new (event ∷ h) →

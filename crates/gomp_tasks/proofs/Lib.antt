@@ -1,4 +1,5 @@
 pub mod Laws
+pub mod NewestChild
 pub mod RowsKeep
 pub mod StartedTasks
 pub mod TaskExamples

@@ -1,18 +1,18 @@
 -- What becomes of the rows of a team's tasks as events come.
-use Rattle.std.proofs.Common.{◌≡◌, ◌≢◌, ℕ, ◌+◌, ◌-◌, ◌<◌, Bool, true, false, List, [], ◌∷◌, ◌++◌, Some, None, length, slice_get, slice_set, refl, ap, ◌∙◌, sym, subst, arith, suc, zero, inl, inr, ◌⊎◌}
+use Rattle.std.proofs.Common.{◌≡◌, ◌≢◌, ℕ, ◌+◌, ◌-◌, ◌<◌, Bool, true, false, List, [], ◌∷◌, ◌++◌, Some, length, slice_get, slice_set, refl, ap, ◌∙◌, sym, subst, arith, suc, zero, inl, inr, ◌⊎◌}
 use Rattle.std.specs.Prelude.{◌==◌, ◌||◌}
 use Rattle.gomp_types.specs.declared.task.Task.{Task}
 use Rattle.gomp_types.specs.declared.task.Task.TheVariants.{Implicit, Explicit}
 use Rattle.gomp_types.specs.declared.task.TaskDesc.{TaskDesc}
 use Rattle.gomp_types.specs.declared.event.Event.{Event}
 use Rattle.gomp_types.specs.declared.event.Event.TheVariants.{Create, Start, Done}
-use Rattle.gomp_types.specs.Tasks.{same_task, of_explicit, has_started, task_runner, is_complete, is_ancestor, task_depth, depth_of, epoch, epoch_of_child, is_odd}
+use Rattle.gomp_types.specs.Tasks.{same_task, of_explicit, has_started, task_runner, is_complete, is_ancestor, task_depth, depth_of, epoch, epoch_of_child, is_odd, is_final}
 use Rattle.gomp_types.proofs.Booleans.{same_number, other_number}
 use Rattle.gomp_types.proofs.Lists.{slice_get-set}
 use Rattle.gomp_types.proofs.TaskDepths.{new_depth}
 use Rattle.gomp_tasks.specs.declared.rows.TaskState.TheVariants as states
 use Rattle.gomp_tasks.specs.declared.rows.TaskRow.{TaskRow}
-use Rattle.gomp_tasks.specs.Rows.{IsState, RowStands}
+use Rattle.gomp_tasks.specs.Rows.{IsState, RowStands, unstarted_row}
 use Rattle.gomp_tasks.specs.Calls.{IsAside}
 
 -- An event that creates, starts or ends no task
@@ -22,62 +22,67 @@ aside_row t row (Create task m p desc) h is st = absurd is
 aside_row t row (Start task m) h is st = absurd is
 aside_row t row (Done task m) h is st = absurd is
 aside_row t row _ h is st = record {
-  desc = st.desc;
+  job = st.job;
   parent = record { children = st.parent.children; ancestors = st.parent.ancestors; older = st.parent.older };
   depth = st.depth;
   odd = st.odd;
-  runner = st.runner;
-  state = record { started = st.state.started; complete = st.state.complete };
+  undeferred = st.undeferred;
+  final_is = st.final_is;
+  state = record { started = st.state.started; complete = st.state.complete; runner = st.state.runner };
 }
 
 -- A task that is started, or ends
 
 -- the row once this member has started the task
 abbrev pub started_by : ℕ → TaskRow → TaskRow
-started_by m row = record row { runner = Some m; state = states.Running }
+started_by m row = record row { state = states.Running m }
 
--- the row once the task is complete
-abbrev pub completed : TaskRow → TaskRow
-completed row = record row { state = states.Done }
+-- the row once this member has ended it
+abbrev pub completed : ℕ → TaskRow → TaskRow
+completed m row = record row { state = states.Done m }
 
 pub started_row : (t m : ℕ) (row : TaskRow) (h : List Event) → is_complete t h ≡ false → RowStands t row h → RowStands t (started_by m row) (Start t m ∷ h)
 started_row t m row h open' st = record {
-  desc = st.desc;
+  job = st.job;
   parent = record { children = st.parent.children; ancestors = st.parent.ancestors; older = st.parent.older };
   depth = st.depth;
   odd = st.odd;
-  runner = rw (same_number t) refl;
-  state = record { started = rw (same_number t) refl; complete = open' };
+  undeferred = st.undeferred;
+  final_is = st.final_is;
+  state = record { started = rw (same_number t) refl; complete = open'; runner = rw (same_number t) refl };
 }
 
 pub other_started_row : (task m t : ℕ) (row : TaskRow) (h : List Event) → (task == t) ≡ false → RowStands t row h → RowStands t row (Start task m ∷ h)
 other_started_row task m t row h other st = record {
-  desc = st.desc;
+  job = st.job;
   parent = record { children = st.parent.children; ancestors = st.parent.ancestors; older = st.parent.older };
   depth = st.depth;
   odd = st.odd;
-  runner = rw other st.runner;
-  state = record { started = rw other st.state.started; complete = st.state.complete };
+  undeferred = st.undeferred;
+  final_is = st.final_is;
+  state = record { started = rw other st.state.started; complete = st.state.complete; runner = rw other st.state.runner };
 }
 
-pub completed_row : (t m : ℕ) (row : TaskRow) (h : List Event) → has_started t h ≡ true → RowStands t row h → RowStands t (completed row) (Done t m ∷ h)
-completed_row t m row h on st = record {
-  desc = st.desc;
+pub completed_row : (t m : ℕ) (row : TaskRow) (h : List Event) → has_started t h ≡ true → task_runner t h ≡ Some m → RowStands t row h → RowStands t (completed m row) (Done t m ∷ h)
+completed_row t m row h on who st = record {
+  job = st.job;
   parent = record { children = st.parent.children; ancestors = st.parent.ancestors; older = st.parent.older };
   depth = st.depth;
   odd = st.odd;
-  runner = st.runner;
-  state = record { started = on; complete = rw (same_number t) refl };
+  undeferred = st.undeferred;
+  final_is = st.final_is;
+  state = record { started = on; complete = rw (same_number t) refl; runner = who };
 }
 
 pub other_completed_row : (task m t : ℕ) (row : TaskRow) (h : List Event) → (task == t) ≡ false → RowStands t row h → RowStands t row (Done task m ∷ h)
 other_completed_row task m t row h other st = record {
-  desc = st.desc;
+  job = st.job;
   parent = record { children = st.parent.children; ancestors = st.parent.ancestors; older = st.parent.older };
   depth = st.depth;
   odd = st.odd;
-  runner = st.runner;
-  state = record { started = st.state.started; complete = rw other st.state.complete };
+  undeferred = st.undeferred;
+  final_is = st.final_is;
+  state = record { started = st.state.started; complete = rw other st.state.complete; runner = st.state.runner };
 }
 
 -- A task that is created
@@ -102,7 +107,7 @@ ancestors_kept task m p desc (Explicit q) a h older = rw (older q refl) refl
 
 pub old_row : (task m t : ℕ) (p : Task) (desc : TaskDesc) (row : TaskRow) (h : List Event) → (task == t) ≡ false → ((q : ℕ) → q < t → (task == q) ≡ false) → RowStands t row h → RowStands t row (Create task m p desc ∷ h)
 old_row task m t p desc row h other older st = record {
-  desc = rw other st.desc;
+  job = rw other st.job;
   parent = record {
     children = λ q. rw other (st.parent.children q);
     ancestors = λ a. rw other (st.parent.ancestors a ∙ ancestors_kept task m p desc row.parent a h (λ q e. older q (st.parent.older q e).1));
@@ -110,18 +115,15 @@ old_row task m t p desc row h other older st = record {
   };
   depth = depth_of_old_task t task m p desc h other ∙ st.depth;
   odd = ap is_odd (epoch_of_old_task t task m p desc h other) ∙ st.odd;
-  runner = st.runner;
-  state = record { started = st.state.started; complete = st.state.complete };
+  undeferred = rw other st.undeferred;
+  final_is = rw other st.final_is;
+  state = record { started = st.state.started; complete = st.state.complete; runner = st.state.runner };
 }
 
--- a task that nobody has started
-abbrev pub new_of : TaskDesc → Task → ℕ → Bool → TaskRow
-new_of desc p depth odd = record { code = desc.code; arg = desc.arg; parent = p; depth = depth; odd = odd; runner = None; state = states.Ready }
-
-pub new_row : (t m : ℕ) (p : Task) (desc : TaskDesc) (depth : ℕ) (odd : Bool) (h : List Event) → IsState t states.Ready h → task_runner t h ≡ None → ((q : ℕ) → p ≡ Explicit q → (0 < q) × (q < t)) → depth ≡ depth_of p h + 1 → odd ≡ is_odd (epoch_of_child p h) →
-    RowStands t (new_of desc p depth odd) (Create t m p desc ∷ h)
-new_row t m p desc depth odd h state nobody older deep odd_is = record {
-  desc = rw (same_number t) refl;
+pub new_row : (t m : ℕ) (p : Task) (desc : TaskDesc) (depth : ℕ) (odd in_final : Bool) (h : List Event) → IsState t states.Unstarted h → ((q : ℕ) → p ≡ Explicit q → (0 < q) × (q < t)) → depth ≡ depth_of p h + 1 → odd ≡ is_odd (epoch_of_child p h) → in_final ≡ of_explicit (λ q. is_final q h) p →
+    RowStands t (unstarted_row desc p depth odd in_final) (Create t m p desc ∷ h)
+new_row t m p desc depth odd in_final h state older deep odd_is final_is = record {
+  job = rw (same_number t) (refl, refl);
   parent = record {
     children = λ q. rw (same_number t) refl;
     ancestors = λ a. rw (same_number t) (ancestors_kept t m p desc p a h (λ q e. other_number t q (λ same. let lt = (older q e).1 in omega (arith, lt, same))));
@@ -129,8 +131,9 @@ new_row t m p desc depth odd h state nobody older deep odd_is = record {
   };
   depth = new_depth t m p desc h ∙ sym deep;
   odd = ap is_odd (epoch_of_new_task t m p desc h) ∙ sym odd_is;
-  runner = nobody;
-  state = record { started = state.started; complete = state.complete };
+  undeferred = rw (same_number t, final_is) refl;
+  final_is = rw (same_number t, final_is) refl;
+  state = record { started = state.started; complete = state.complete; runner = state.runner };
 }
 
 -- The rows of a list

@@ -1,5 +1,5 @@
 -- When rows and stacks stand for events, and what the calls ask for: for each line of a definition what it says, and what it alone refuses.
-use Rattle.std.proofs.Common.{◌≡◌, ℕ, ◌<◌, true, false, List, [], ◌∷◌, Option, Some, None, slice_get, refl, subst, ap, arith, suc, zero}
+use Rattle.std.proofs.Common.{◌≡◌, ℕ, ◌<◌, true, false, List, [], ◌∷◌, Some, None, slice_get, refl, subst, ap, arith, suc, zero}
 use Rattle.std.specs.Prelude.{map}
 use Rattle.gomp_types.specs.declared.refusal.Place.{Place}
 use Rattle.gomp_types.specs.declared.shape.Shape.{Shape}
@@ -7,6 +7,7 @@ use Rattle.gomp_types.specs.declared.key.Key.{Key}
 use Rattle.gomp_types.specs.declared.event.Tag.{Tag}
 use Rattle.gomp_types.specs.declared.event.Arrival.TheVariants as arrivals
 use Rattle.gomp_types.specs.declared.task.Task.{Task}
+use Rattle.gomp_types.specs.declared.depend.Dep.{Dep}
 use Rattle.gomp_types.specs.declared.task.Task.TheVariants.{Implicit, Explicit}
 use Rattle.gomp_types.specs.declared.task.TaskDesc.{TaskDesc}
 use Rattle.gomp_types.specs.declared.event.Event.TheVariants.{Enter, Take, Drained, End, HandOn, Part, PartEnd, Put, Got, Arrive, Pass, Hold, Free, Create, Start, Done, Group, GroupEnd, Waited, Break}
@@ -14,7 +15,7 @@ use Rattle.gomp_types.specs.Tasks.{task_stack, executed_task, innermost_task}
 use Rattle.gomp_tasks.specs.declared.tasks.TheConstants.{MAX_TASKS}
 use Rattle.gomp_tasks.specs.declared.rows.TaskState.TheVariants as states
 use Rattle.gomp_tasks.specs.declared.rows.TaskRow.{TaskRow}
-use Rattle.gomp_tasks.specs.Rows.{is_started, is_over, Follows, desc_of, first_of, IsState, IsParent, RowStands}
+use Rattle.gomp_tasks.specs.Rows.{is_started, is_over, Follows, runner_of, first_of, IsState, IsParent, RowStands}
 use Rattle.gomp_tasks.specs.Stands.{TasksView, members_of, count_of, IsNumber, IsTask, Stands, AreSame, AreTasks}
 use Rattle.gomp_tasks.specs.Calls.{MayCreateNext, task_or_implicit, is_under_all, tasks_room, IsAside}
 use Rattle.gomp_tasks.proofs.TasksKeep.{executed_number}
@@ -23,24 +24,20 @@ use Rattle.gomp_tasks.specs.Examples.{first_desc, one_created, two_created, two_
 -- What is kept of a task
 
 -- a task that runs was started, and one that is complete too
-pub states_started : (is_started states.Ready ≡ false) × (is_started states.Running ≡ true) × (is_started states.Done ≡ true)
+pub states_started : (is_started states.Unstarted ≡ false) × (is_started (states.Running 3) ≡ true) × (is_started (states.Done 3) ≡ true)
 states_started = (refl, refl, refl)
 
 -- only the latter is complete
-pub states_over : (is_over states.Ready ≡ false) × (is_over states.Running ≡ false) × (is_over states.Done ≡ true)
+pub states_over : (is_over states.Unstarted ≡ false) × (is_over (states.Running 3) ≡ false) × (is_over (states.Done 3) ≡ true)
 states_over = (refl, refl, refl)
 
 -- a state stays, or moves forward
-pub states_that_follow : Follows states.Ready states.Ready × Follows states.Ready states.Running × Follows states.Ready states.Done × Follows states.Running states.Running × Follows states.Running states.Done × Follows states.Done states.Done
+pub states_that_follow : Follows states.Unstarted states.Unstarted × Follows states.Unstarted (states.Running 3) × Follows states.Unstarted (states.Done 3) × Follows (states.Running 3) (states.Running 3) × Follows (states.Running 3) (states.Done 3) × Follows (states.Done 3) (states.Done 3)
 states_that_follow = (tt, tt, tt, tt, tt, tt)
 
 -- and never back
-pub states_that_do_not : (Follows states.Running states.Ready → ⊥) × (Follows states.Done states.Ready → ⊥) × (Follows states.Done states.Running → ⊥)
+pub states_that_do_not : (Follows (states.Running 3) states.Unstarted → ⊥) × (Follows (states.Done 3) states.Unstarted → ⊥) × (Follows (states.Done 3) (states.Running 3) → ⊥)
 states_that_do_not = (λ is. is, λ is. is, λ is. is)
-
--- what was asked for
-pub desc_of_a_row : desc_of first_running ≡ first_desc
-desc_of_a_row = refl
 
 -- the innermost of two tasks, and of none
 pub first_of_a_stack : (first_of (2 ∷ 1 ∷ []) ≡ Some 2) × (first_of [] ≡ None)
@@ -49,16 +46,24 @@ first_of_a_stack = (refl, refl)
 -- When a state does
 
 -- a task that nobody has started, one that runs, one that is complete
-pub states_told : IsState 2 states.Ready two_created × IsState 2 states.Running two_started × IsState 2 states.Done second_done
-states_told = (record { started = refl; complete = refl }, record { started = refl; complete = refl }, record { started = refl; complete = refl })
+pub states_told : IsState 2 states.Unstarted two_created × IsState 2 (states.Running 0) two_started × IsState 2 (states.Done 0) second_done
+states_told = (record { started = refl; complete = refl; runner = refl }, record { started = refl; complete = refl; runner = refl }, record { started = refl; complete = refl; runner = refl })
 
 -- a task that runs, as if nobody had started it
-pub state_not_started : IsState 2 states.Ready two_started → ⊥
+pub state_not_started : IsState 2 states.Unstarted two_started → ⊥
 state_not_started is = absurd (let on = is.started in cc)
 
 -- one that is complete, as if it runner_has_started
-pub state_not_complete : IsState 2 states.Running second_done → ⊥
+pub state_not_complete : IsState 2 (states.Running 0) second_done → ⊥
 state_not_complete is = absurd (let over = is.complete in cc)
+
+-- one that another member runs
+pub state_of_another_runner : IsState 2 (states.Running 1) two_started → ⊥
+state_of_another_runner is = absurd (let runner = is.runner in cc)
+
+-- who started a task
+pub runners_of_states : (runner_of states.Unstarted ≡ None) × (runner_of (states.Running 3) ≡ Some 3) × (runner_of (states.Done 3) ≡ Some 3)
+runners_of_states = (refl, refl, refl)
 
 -- When a parent does
 
@@ -96,23 +101,18 @@ parent_is_none is = absurd (let some = (is.older 0 refl).0 in omega arith)
 -- When a row does
 
 first_row_stands : RowStands 1 first_running two_started
-first_row_stands = record { desc = refl; parent = implicit_is_parent; depth = refl; odd = refl; runner = refl; state = record { started = refl; complete = refl } }
+first_row_stands = record { job = (refl, refl); parent = implicit_is_parent; depth = refl; odd = refl; undeferred = refl; final_is = refl; state = record { started = refl; complete = refl; runner = refl } }
 
 second_row_stands : RowStands 2 second_running two_started
-second_row_stands = record { desc = refl; parent = first_is_parent; depth = refl; odd = refl; runner = refl; state = record { started = refl; complete = refl } }
+second_row_stands = record { job = (refl, refl); parent = first_is_parent; depth = refl; odd = refl; undeferred = refl; final_is = refl; state = record { started = refl; complete = refl; runner = refl } }
 
 -- the rows of both tasks
 pub rows_stand : RowStands 1 first_running two_started × RowStands 2 second_running two_started
 rows_stand = (first_row_stands, second_row_stands)
 
--- on what a task does its work, if there is one
-abbrev arg_or_zero : Option TaskDesc → ℕ
-arg_or_zero None = 0
-arg_or_zero (Some desc) = desc.arg
-
 -- with the argument of another task
 pub row_of_another_desc : RowStands 2 (record second_running { arg = 3 }) two_started → ⊥
-row_of_another_desc row = absurd (let arg : 4 ≡ 3 = ap arg_or_zero row.desc in omega (arith, arg))
+row_of_another_desc row = absurd (let arg : 4 ≡ 3 = row.job.1 in omega (arith, arg))
 
 -- with the parent of its parent
 pub row_of_another_parent : RowStands 2 (record second_running { parent = Implicit 0 }) two_started → ⊥
@@ -126,12 +126,20 @@ row_of_another_depth row = absurd (let depth = row.depth in omega arith)
 pub row_of_another_barrier : RowStands 2 (record second_running { odd = false }) two_started → ⊥
 row_of_another_barrier row = absurd (let odd = row.odd in cc)
 
+-- deferred, though its parent is final
+pub row_of_a_deferred : RowStands 2 (record second_running { undeferred = false }) two_started → ⊥
+row_of_a_deferred row = absurd (let undeferred = row.undeferred in cc)
+
+-- not final
+pub row_of_no_final : RowStands 2 (record second_running { final_task = false }) two_started → ⊥
+row_of_no_final row = absurd (let final_is = row.final_is in cc)
+
 -- started by another member
-pub row_of_another_runner : RowStands 2 (record second_running { runner = Some 1 }) two_started → ⊥
-row_of_another_runner row = absurd (let runner = row.runner in cc)
+pub row_of_another_runner : RowStands 2 (record second_running { state = states.Running 1 }) two_started → ⊥
+row_of_another_runner row = absurd (let runner = row.state.runner in cc)
 
 -- done while it runs
-pub row_of_another_state : RowStands 2 (record second_running { state = states.Done }) two_started → ⊥
+pub row_of_another_state : RowStands 2 (record second_running { state = states.Done 0 }) two_started → ⊥
 row_of_another_state row = absurd (let over = row.state.complete in cc)
 
 -- When all do
@@ -153,11 +161,11 @@ tasks_stand = record {
   row = of_two_rows (λ k row. RowStands (suc k) row two_started) first_running second_running first_row_stands second_row_stands;
   stack = of_two_stacks (λ m ts. task_stack m two_started ≡ ts) (2 ∷ 1 ∷ []) [] refl refl;
   rule = (
-    record { member = omega arith; may = refl },
+    record { member = omega arith; may = refl; own = λ undeferred. refl },
     (
       record { member = omega arith; number = refl; current = refl; away = λ e. refl; shallow = omega arith },
       (
-        record { member = omega arith; may = refl },
+        record { member = omega arith; may = refl; own = λ undeferred. absurd (cc) },
         (record { member = omega arith; number = refl; current = refl; away = λ e. refl; shallow = omega arith }, (tt, tt)),
       ),
     ),
@@ -177,8 +185,8 @@ pub tasks_without_a_row : Stands (tasks_with [] [] [] 3) one_created → ⊥
 tasks_without_a_row stands = absurd (let count = stands.count in omega arith)
 
 -- a row that does not stand for the events
-pub tasks_of_another_row : Stands (tasks_with (first_running ∷ second_with None states.Ready ∷ []) (2 ∷ 1 ∷ []) [] 3) two_started → ⊥
-tasks_of_another_row stands = absurd (let row = stands.row (1) (second_with None states.Ready) refl in let runner = row.runner in cc)
+pub tasks_of_another_row : Stands (tasks_with (first_running ∷ second_with states.Unstarted ∷ []) (2 ∷ 1 ∷ []) [] 3) two_started → ⊥
+tasks_of_another_row stands = absurd (let row = stands.row (1) (second_with states.Unstarted) refl in let runner = row.state.runner in cc)
 
 -- the oldest task as the innermost
 pub tasks_of_another_order : Stands (tasks_with (first_running ∷ second_running ∷ []) (1 ∷ 2 ∷ []) [] 3) two_started → ⊥
@@ -189,7 +197,7 @@ pub tasks_on_no_member : Stands (tasks_with (first_running ∷ second_running �
 tasks_on_no_member stands = absurd (let stack = stands.stack 0 (1 ∷ []) refl in let same = ap first_of stack in cc)
 
 -- a task that two members started
-pub tasks_started_twice : Stands (tasks_with (first_with (Some 1) states.Running ∷ []) (1 ∷ []) (1 ∷ []) 3) (Start 1 1 ∷ Start 1 0 ∷ one_created) → ⊥
+pub tasks_started_twice : Stands (tasks_with (first_with (states.Running 1) ∷ []) (1 ∷ []) (1 ∷ []) 3) (Start 1 1 ∷ Start 1 0 ∷ one_created) → ⊥
 tasks_started_twice stands = absurd (let may = stands.rule.0.may in cc)
 
 -- Numbers
@@ -290,5 +298,5 @@ pub shares_are_not_seen : (share m low high k : ℕ) (shape : Shape) (payload : 
 shares_are_not_seen share m low high k shape payload = (tt, tt, tt, tt, tt, tt, tt, tt, tt)
 
 -- nor of barriers, names, locks, groups and waits
-pub others_are_not_seen : (g m : ℕ) (tag : Tag) (key : Key) (task : Task) (place : Place) → IsAside (Arrive g m tag) × IsAside (Pass g m) × IsAside (Hold key m task) × IsAside (Free key m task) × IsAside (Group g m) × IsAside (GroupEnd g m) × IsAside (Waited m) × IsAside (Break m place)
-others_are_not_seen g m tag key task place = (tt, tt, tt, tt, tt, tt, tt, tt)
+pub others_are_not_seen : (g m : ℕ) (tag : Tag) (key : Key) (task : Task) (items : List Dep) (place : Place) → IsAside (Arrive g m tag) × IsAside (Pass g m) × IsAside (Hold key m task) × IsAside (Free key m task) × IsAside (Group g m) × IsAside (GroupEnd g m) × IsAside (Waited m items) × IsAside (Break m place)
+others_are_not_seen g m tag key task items place = (tt, tt, tt, tt, tt, tt, tt, tt)

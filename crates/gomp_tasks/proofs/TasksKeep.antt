@@ -8,7 +8,7 @@ use Rattle.gomp_types.specs.declared.task.TaskDesc.{TaskDesc}
 use Rattle.gomp_types.specs.declared.limits.TheConstants.{MAX_TASK_DEPTH}
 use Rattle.gomp_types.specs.declared.event.Event.{Event}
 use Rattle.gomp_types.specs.declared.event.Event.TheVariants.{Create, Start, Done}
-use Rattle.gomp_types.specs.Tasks.{tasks_created, task_stack, executed_task, innermost_task, after_first, task_runner, depth_of, epoch_of_child, is_odd}
+use Rattle.gomp_types.specs.Tasks.{tasks_created, task_stack, executed_task, innermost_task, after_first, task_runner, depth_of, epoch_of_child, is_odd, of_explicit, is_final}
 use Rattle.gomp_types.specs.Laws.{Always}
 use Rattle.gomp_types.specs.TaskRules.{TaskRule, MayCreate, MayStart}
 use Rattle.gomp_types.proofs.Booleans.{same_number, other_number}
@@ -18,10 +18,10 @@ use Rattle.gomp_types.proofs.Suspended.{runner_has_started, current_open, starta
 use Rattle.gomp_types.proofs.TaskDepths.{few_suspended}
 use Rattle.gomp_types.proofs.TaskRoom.{uncreated_not_started}
 use Rattle.gomp_tasks.specs.declared.rows.TaskRow.{TaskRow}
-use Rattle.gomp_tasks.specs.Rows.{RowStands, first_of}
+use Rattle.gomp_tasks.specs.Rows.{RowStands, first_of, unstarted_row}
 use Rattle.gomp_tasks.specs.Stands.{TasksView, RowsStand, Stands}
 use Rattle.gomp_tasks.specs.Calls.{IsAside, task_or_implicit}
-use Rattle.gomp_tasks.proofs.RowsKeep.{started_by, completed, aside_row, started_row, other_started_row, completed_row, other_completed_row, old_row, new_of, new_row, row_set, row_appended, row_named}
+use Rattle.gomp_tasks.proofs.RowsKeep.{started_by, completed, aside_row, started_row, other_started_row, completed_row, other_completed_row, old_row, new_row, row_set, row_appended, row_named}
 
 -- the tasks of another value with the same view
 pub tasks_of_view_stand : (view now : TasksView) (h : List Event) → view ≡ now → Stands now h → Stands view h
@@ -120,13 +120,13 @@ task_start_keeps rows stacks m t row ts h st at at_row rule =
 -- A task that ends
 
 pub task_end_keeps : (rows : List TaskRow) (stacks : List (List ℕ)) (m t : ℕ) (row : TaskRow) (ts : List ℕ) (h : List Event) → RowsStand rows stacks h → m < length stacks → slice_get stacks m ≡ Some ts → slice_get rows (t - 1) ≡ Some row → executed_task m h ≡ Explicit t →
-    RowsStand (slice_set rows (t - 1) (completed row)) (slice_set stacks m (after_first ts)) (Done t m ∷ h)
+    RowsStand (slice_set rows (t - 1) (completed m row)) (slice_set stacks m (after_first ts)) (Done t m ∷ h)
 task_end_keeps rows stacks m t row ts h st member at at_row top =
     let is = current_open (length stacks) m t h st.rule top in
     let low = created_low t h is.0 in record {
-      count = st.count ∙ sym (length-set rows (t - 1) (completed row));
-      row = λ k found at_k. elim (row_set rows t (completed row) k found low at_k) [
-        | inl here ↦ row_named (suc k) t found (completed row) (Done t m ∷ h) here.0 here.1 (completed_row t m row h (runner_has_started t m h is.2) (task_row_of rows stacks t row h st low at_row))
+      count = st.count ∙ sym (length-set rows (t - 1) (completed m row));
+      row = λ k found at_k. elim (row_set rows t (completed m row) k found low at_k) [
+        | inl here ↦ row_named (suc k) t found (completed m row) (Done t m ∷ h) here.0 here.1 (completed_row t m row h (runner_has_started t m h is.2) is.2 (task_row_of rows stacks t row h st low at_row))
         | inr away ↦ other_completed_row t m (suc k) found h (other_number t (suc k) (λ same. away.0 (sym same))) (st.row k found away.1)
       ];
       stack = λ k us at_k. elim (stack_set stacks m (after_first ts) k us at_k) [
@@ -146,20 +146,20 @@ not_run_yet members t h all lt = by (task_runner t h) refl
     by None e = e
     by (Some m) e = absurd (let on = runner_has_started t m h e in let off = (uncreated_not_started members h all t lt).0 in cc)
 
-pub task_create_keeps : (rows : List TaskRow) (stacks : List (List ℕ)) (m t depth : ℕ) (odd : Bool) (p : Task) (desc : TaskDesc) (h : List Event) → RowsStand rows stacks h → MayCreate (length stacks) t m p h → depth ≡ depth_of p h + 1 → odd ≡ is_odd (epoch_of_child p h) →
-    RowsStand (rows ++ new_of desc p depth odd ∷ []) stacks (Create t m p desc ∷ h)
-task_create_keeps rows stacks m t depth odd p desc h st rule deep odd_is =
+pub task_create_keeps : (rows : List TaskRow) (stacks : List (List ℕ)) (m t depth : ℕ) (odd in_final : Bool) (p : Task) (desc : TaskDesc) (h : List Event) → RowsStand rows stacks h → MayCreate (length stacks) t m p h → depth ≡ depth_of p h + 1 → odd ≡ is_odd (epoch_of_child p h) → in_final ≡ of_explicit (λ q. is_final q h) p →
+    RowsStand (rows ++ unstarted_row desc p depth odd in_final ∷ []) stacks (Create t m p desc ∷ h)
+task_create_keeps rows stacks m t depth odd in_final p desc h st rule deep odd_is final_is =
     let number = rule.number in
     let count = st.count in
     let new = uncreated_not_started (length stacks) h st.rule t (omega (arith, number)) in
     let older : (q : ℕ) → p ≡ Explicit q → (0 < q) × (q < t) = (λ q e.
     let is = executed_number rows stacks m q h st (sym rule.current ∙ e) in
     let high = is.1 in (is.0, omega (arith, high, number, count))) in
-    let longer = length-append rows (new_of desc p depth odd ∷ []) in record {
+    let longer = length-append rows (unstarted_row desc p depth odd in_final ∷ []) in record {
       count = omega (arith, count, longer);
-      row = λ k found at. elim (row_appended rows (new_of desc p depth odd) k found at) [
-        | inl here ↦ row_named (suc k) t found (new_of desc p depth odd) (Create t m p desc ∷ h) (let n = here.0 in omega (arith, n, number, count)) here.1
-            (new_row t m p desc depth odd h (record { started = new.0; complete = new.1 }) (not_run_yet (length stacks) t h st.rule (omega (arith, number))) older deep odd_is)
+      row = λ k found at. elim (row_appended rows (unstarted_row desc p depth odd in_final) k found at) [
+        | inl here ↦ row_named (suc k) t found (unstarted_row desc p depth odd in_final) (Create t m p desc ∷ h) (let n = here.0 in omega (arith, n, number, count)) here.1
+            (new_row t m p desc depth odd in_final h (record { started = new.0; complete = new.1; runner = not_run_yet (length stacks) t h st.rule (omega (arith, number)) }) older deep odd_is final_is)
         | inr away ↦
             let lt = away.0 in
             old_row t m (suc k) p desc found h (other_number t (suc k) (λ same. omega (arith, same, lt, number, count)))

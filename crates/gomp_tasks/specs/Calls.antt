@@ -1,12 +1,12 @@
 -- What the calls on a team's tasks ask for and answer. OpenMP API 5.2, chapter 12.
-use Rattle.std.specs.Prelude.{ℕ, ◌≡◌, ◌+◌, ◌/◌, max, nat_lt, if◌then◌else◌, Bool, List, Option, Some, None}
+use Rattle.std.specs.Prelude.{ℕ, ◌≡◌, ◌+◌, ◌&&◌, ◌/◌, max, nat_lt, if◌then◌else◌, Bool, List, Option, Some, None}
 use Rattle.std.proofs.Common.{suc}
 use Rattle.gomp_types.specs.declared.task.Task.{Task}
 use Rattle.gomp_types.specs.declared.task.Task.TheVariants.{Implicit, Explicit}
 use Rattle.gomp_types.specs.declared.event.Event.{Event}
 use Rattle.gomp_types.specs.declared.event.Event.TheVariants.{Create, Start, Done}
 use Rattle.gomp_types.specs.Tasks.{executed_task, epoch_of_child, is_odd, is_ancestor}
-use Rattle.gomp_types.specs.Goals.{each_of}
+use Rattle.gomp_types.specs.Goals.{each_of, is_unstarted, may_descend}
 use Rattle.gomp_types.specs.TaskRules.{MayCreate}
 use Rattle.gomp_tasks.specs.Stands.{TasksView, members_of, count_of}
 
@@ -23,6 +23,10 @@ task_or_implicit m (Some t) = Explicit t
 -- whether the task descends from all of these
 abbrev pub is_under_all : List ℕ → ℕ → List Event → Bool
 is_under_all ss t h = each_of (λ s. is_ancestor (Explicit s) t h) ss
+
+-- whether the member may start the task, if the task waits for no other: nobody has started it, and it descends so
+abbrev pub may_run : ℕ → ℕ → List Event → Bool
+may_run m t h = is_unstarted t h && may_descend m t h
 
 -- for how many more tasks there is room once it was asked for one: if there was none, for one and for a sixteenth of those that there are, at least 64, besides
 abbrev pub tasks_room : ℕ → ℕ → ℕ

@@ -1,5 +1,5 @@
 -- Events, and the tasks of a team that stand for them or do not, that the examples share. Each list has the newest event first. (own)
-use Rattle.std.specs.Prelude.{ℕ, true, List, [], ◌∷◌, Option, Some}
+use Rattle.std.specs.Prelude.{ℕ, true, false, List, [], ◌∷◌}
 use Rattle.gomp_types.specs.declared.task.Task.TheVariants.{Implicit, Explicit}
 use Rattle.gomp_types.specs.declared.task.TaskDesc.{TaskDesc}
 use Rattle.gomp_types.specs.declared.event.Event.{Event}
@@ -9,12 +9,12 @@ use Rattle.gomp_tasks.specs.declared.rows.TaskState.TheVariants as states
 use Rattle.gomp_tasks.specs.declared.rows.TaskRow.{TaskRow}
 use Rattle.gomp_tasks.specs.Stands.{TasksView}
 
--- two tasks as the program asks for them
+-- two tasks as the program asks for them: the first is final
 abbrev pub first_desc : TaskDesc
-first_desc = record { code = 7; arg = 3 }
+first_desc = record { code = 7; arg = 3; undeferred = false; final_task = true; deps = [] }
 
 abbrev pub second_desc : TaskDesc
-second_desc = record { code = 7; arg = 4 }
+second_desc = record { code = 7; arg = 4; undeferred = false; final_task = false; deps = [] }
 
 -- the first member has passed a barrier, and creates a task
 abbrev pub one_created : List Event
@@ -33,18 +33,18 @@ abbrev pub second_done : List Event
 second_done = Done 2 0 ∷ two_started
 
 -- what is kept of the first task, and of the second
-abbrev pub first_with : Option ℕ → TaskState → TaskRow
-first_with runner state = record { code = 7; arg = 3; parent = Implicit 0; depth = 1; odd = true; runner = runner; state = state }
+abbrev pub first_with : TaskState → TaskRow
+first_with state = record { code = 7; arg = 3; parent = Implicit 0; depth = 1; odd = true; undeferred = false; final_task = true; state = state }
 
-abbrev pub second_with : Option ℕ → TaskState → TaskRow
-second_with runner state = record { code = 7; arg = 4; parent = Explicit 1; depth = 2; odd = true; runner = runner; state = state }
+abbrev pub second_with : TaskState → TaskRow
+second_with state = record { code = 7; arg = 4; parent = Explicit 1; depth = 2; odd = true; undeferred = true; final_task = true; state = state }
 
 -- while both run
 abbrev pub first_running : TaskRow
-first_running = first_with (Some 0) states.Running
+first_running = first_with (states.Running 0)
 
 abbrev pub second_running : TaskRow
-second_running = second_with (Some 0) states.Running
+second_running = second_with (states.Running 0)
 
 -- the tasks of two members, with room for this many more
 abbrev pub tasks_with : List TaskRow → List ℕ → List ℕ → ℕ → TasksView

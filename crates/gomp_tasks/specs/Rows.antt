@@ -4,33 +4,41 @@ use Rattle.gomp_types.specs.declared.task.Task.{Task}
 use Rattle.gomp_types.specs.declared.task.Task.TheVariants.{Explicit}
 use Rattle.gomp_types.specs.declared.task.TaskDesc.{TaskDesc}
 use Rattle.gomp_types.specs.declared.event.Event.{Event}
-use Rattle.gomp_types.specs.Tasks.{same_task, of_explicit, has_started, task_runner, is_complete, task_desc, is_child, is_ancestor, task_depth, epoch, is_odd}
+use Rattle.gomp_types.specs.Tasks.{same_task, of_explicit, has_started, task_runner, is_complete, task_desc, is_child, is_ancestor, task_depth, epoch, is_odd, is_final, is_undeferred}
+use Rattle.gomp_types.specs.TaskCalls.{HasJob}
 use Rattle.gomp_tasks.specs.declared.rows.TaskState.{TaskState}
-use Rattle.gomp_tasks.specs.declared.rows.TaskState.TheVariants.{Ready, Running, Done}
+use Rattle.gomp_tasks.specs.declared.rows.TaskState.TheVariants.{Unstarted, Running, Done}
 use Rattle.gomp_tasks.specs.declared.rows.TaskRow.{TaskRow}
 
 -- whether a member has started the task
 abbrev pub is_started : TaskState → Bool
-is_started Ready = false
-is_started Running = true
-is_started Done = true
+is_started Unstarted = false
+is_started (Running m) = true
+is_started (Done m) = true
 
 -- whether the task is complete
 abbrev pub is_over : TaskState → Bool
-is_over Ready = false
-is_over Running = false
-is_over Done = true
+is_over Unstarted = false
+is_over (Running m) = false
+is_over (Done m) = true
+
+-- the member that started it, if one has
+abbrev pub runner_of : TaskState → Option ℕ
+runner_of Unstarted = None
+runner_of (Running m) = Some m
+runner_of (Done m) = Some m
 
 -- a state that a task may come to after this one, or the same
 abbrev pub Follows : TaskState → TaskState → Type 0
-Follows Running Ready = ⊥
-Follows Done Ready = ⊥
-Follows Done Running = ⊥
+Follows (Running m) Unstarted = ⊥
+Follows (Done m) Unstarted = ⊥
+Follows (Done m) (Running n) = ⊥
 Follows _ _ = Unit {0}
 
--- what was asked for when the task was created
-abbrev pub desc_of : TaskRow → TaskDesc
-desc_of row = record { code = row.code; arg = row.arg }
+-- a new task, which nobody has started: created in a final task or not
+abbrev pub unstarted_row : TaskDesc → Task → ℕ → Bool → Bool → TaskRow
+unstarted_row desc parent depth odd in_final =
+    record { code = desc.code; arg = desc.arg; parent = parent; state = Unstarted; depth = depth; odd = odd; undeferred = desc.undeferred || in_final; final_task = desc.final_task || in_final }
 
 -- the first of some tasks, if there is one
 abbrev pub first_of : List ℕ → Option ℕ
@@ -41,6 +49,7 @@ first_of (t ∷ ts) = Some t
 pub record IsState (t : ℕ) (state : TaskState) (h : List Event) : Type 0 where
   pub started : has_started t h ≡ is_started state
   pub complete : is_complete t h ≡ is_over state
+  pub runner : task_runner t h ≡ runner_of state
 
 -- the task was created in this one
 pub record IsParent (t : ℕ) (parent : Task) (h : List Event) : Type 0 where
@@ -53,9 +62,10 @@ pub record IsParent (t : ℕ) (parent : Task) (h : List Event) : Type 0 where
 
 -- the row is what the events say of the task
 pub record RowStands (t : ℕ) (row : TaskRow) (h : List Event) : Type 0 where
-  pub desc : task_desc t h ≡ Some (desc_of row)
+  pub job : HasJob (task_desc t h) row.code row.arg
   pub parent : IsParent t row.parent h
   pub depth : task_depth t h ≡ row.depth
   pub odd : is_odd (epoch t h) ≡ row.odd
-  pub runner : task_runner t h ≡ row.runner
+  pub undeferred : is_undeferred t h ≡ row.undeferred
+  pub final_is : is_final t h ≡ row.final_task
   pub state : IsState t row.state h

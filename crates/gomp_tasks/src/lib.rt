@@ -11,5 +11,5 @@ pub mod rows;
 mod stack;
 pub mod tasks;
 
-pub use rows::{TaskRow, TaskState};
+pub use rows::{Job, TaskRow, TaskState};
 pub use tasks::{MAX_TASKS, Tasks};

@@ -1,19 +1,32 @@
 //! What is kept of an explicit task.
 
 ghost use Rattle.std.specs.Prelude.{◌≡◌};
-ghost use Rattle.gomp_tasks.specs.Rows.{desc_of};
+ghost use Rattle.gomp_tasks.specs.Rows.{runner_of, unstarted_row};
 
 use gomp_types::{Task, TaskDesc};
+use std::mem::size_of;
 
 /// What has become of a task.
 #[derive(Clone, Copy, Debug, PartialEq, Eq)]
 pub enum TaskState {
     /// No member has started it.
-    Ready,
-    /// A member has started it, and not ended it.
-    Running,
-    /// It is complete.
-    Done,
+    Unstarted,
+    /// The member with this number has started it, and not ended it.
+    Running(u16),
+    /// It is complete: this member has ended it.
+    Done(u16),
+}
+
+impl TaskState {
+    /// The member that started the task, numbered from 0, if one has.
+    pub fn runner(self) -> Option<u16>
+        ensures { result ≡ runner_of self }
+    {
+        match self {
+            TaskState::Unstarted => None,
+            TaskState::Running(member) | TaskState::Done(member) => Some(member),
+        }
+    }
 }
 
 /// An explicit task.
@@ -25,24 +38,50 @@ pub struct TaskRow {
     pub arg: u64,
     /// The task in which it was created.
     pub parent: Task,
+    /// What has become of it.
+    pub state: TaskState,
     /// How deep it lies in the tree of tasks, from 1.
     pub depth: u8,
     /// Whether the number of the barrier to which it is bound is odd.
     pub odd: bool,
-    /// The member that started it, if one has.
-    pub runner: Option<u16>,
-    /// What has become of it.
-    pub state: TaskState,
+    /// Whether its creator waits until it is done.
+    pub undeferred: bool,
+    /// Whether the tasks created in it are undeferred.
+    pub final_task: bool,
 }
 
+// A team keeps one for each task.
+const _: () = prove!(size_of::<TaskRow>() <= 32);
+
 impl TaskRow {
-    /// What was asked for when the task was created.
-    pub fn desc(&self) -> TaskDesc
-        ensures { result ≡ desc_of self.now }
+    /// A new task, which nobody has started: created in a final task or not.
+    pub(crate) fn unstarted(
+        desc: &TaskDesc,
+        parent: Task,
+        depth: u8,
+        odd: bool,
+        in_final: bool,
+    ) -> TaskRow
+        ensures { result ≡ unstarted_row desc.now parent depth odd in_final }
     {
-        TaskDesc {
-            code: self.code,
-            arg: self.arg,
+        TaskRow {
+            code: desc.code,
+            arg: desc.arg,
+            parent,
+            state: TaskState::Unstarted,
+            depth,
+            odd,
+            undeferred: desc.undeferred || in_final,
+            final_task: desc.final_task || in_final,
         }
     }
+}
+
+/// What a task is to do: two numbers, which mean that to the program.
+#[derive(Clone, Copy, Debug, PartialEq, Eq)]
+pub struct Job {
+    /// What it does.
+    pub code: u64,
+    /// On what it does it.
+    pub arg: u64,
 }

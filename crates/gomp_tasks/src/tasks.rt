@@ -1,17 +1,18 @@
 //! The explicit tasks of a team that one thread steps.
 
-ghost use Rattle.std.specs.Prelude.{◌≡◌, ◌<◌, ◌≤◌, ◌+◌, ◌-◌, ℕ, List, [], ◌∷◌, Some, None, IfOk, OnOk, OnErr, IfSome, replicate, slice_get};
+ghost use Rattle.std.specs.Prelude.{◌≡◌, ◌<◌, ◌≤◌, ◌+◌, ◌-◌, ℕ, List, [], ◌∷◌, Some, None, ◌⊎◌, IfOk, OnOk, OnErr, IfSome, replicate, slice_get};
 ghost use Rattle.gomp_types.specs.declared.event.Event.{Event};
 ghost use Rattle.gomp_types.specs.declared.event.Event.TheVariants.{Create, Start, Done};
 ghost use Rattle.gomp_types.specs.Events.{at_barrier as waits_at_barrier};
-ghost use Rattle.gomp_types.specs.Tasks.{same_task, tasks_created, task_stack, executed_task, depth_of, epoch, is_odd, task_desc, task_runner, is_ancestor};
-ghost use Rattle.gomp_types.specs.Goals.{is_ready, may_descend, may_start};
+ghost use Rattle.gomp_types.specs.Tasks.{same_task, tasks_created, task_stack, executed_task, depth_of, epoch, is_odd, task_desc, task_runner, is_ancestor, of_explicit, is_final, is_undeferred, newest_child};
+ghost use Rattle.gomp_types.specs.Goals.{is_unstarted, may_descend, is_own};
+ghost use Rattle.gomp_types.specs.TaskCalls.{HasJob};
 ghost use Rattle.gomp_types.specs.TaskRules.{MayStart};
 ghost use Rattle.gomp_tasks.specs.Rows.{IsState, IsParent, RowStands};
 ghost use Rattle.gomp_tasks.specs.Stands.{Stands, AreSame, members_of, count_of, IsNumber, IsTask};
-ghost use Rattle.gomp_tasks.specs.Calls.{MayCreateNext, task_or_implicit, is_under_all, tasks_room};
+ghost use Rattle.gomp_tasks.specs.Calls.{MayCreateNext, task_or_implicit, is_under_all, may_run, tasks_room};
 
-use crate::rows::{TaskRow, TaskState};
+use crate::rows::{Job, TaskRow, TaskState};
 use crate::stack::Stack;
 use gomp_types::{Task, TaskDesc};
 use std::alloc::{AllocError, Global};
@@ -102,13 +103,54 @@ impl Tasks {
         self.row(task).odd
     }
 
-    /// What was asked for when the task was created.
-    pub fn desc(&self, task: u32) -> TaskDesc
+    /// What the task is to do, as it was asked for when the task was created.
+    pub fn job(&self, task: u32) -> Job
         requires task { IsNumber task self.now }
         ensures known { (h : List Event) × Stands self.now h }
-        ensures value { (h : List Event) → Stands self.now h → task_desc task h ≡ Some result }
+        ensures value { (h : List Event) → Stands self.now h →
+            HasJob (task_desc task h) result.code result.arg }
     {
-        self.row(task).desc()
+        let row = self.row(task);
+        Job {
+            code: row.code,
+            arg: row.arg,
+        }
+    }
+
+    /// Whether the task is undeferred: its creator does not go on before it is done (OpenMP API 5.2,
+    /// section 12.5).
+    pub fn is_undeferred(&self, task: u32) -> bool
+        requires task { IsNumber task self.now }
+        ensures known { (h : List Event) × Stands self.now h }
+        ensures value { (h : List Event) → Stands self.now h → result ≡ is_undeferred task h }
+    {
+        self.row(task).undeferred
+    }
+
+    /// Whether the task is a final one, so that a task created in it is undeferred and final (OpenMP
+    /// API 5.2, section 12.3). An implicit task is not.
+    pub fn is_final(&self, task: Task) -> bool
+        requires task { IsTask task self.now }
+        ensures known { (h : List Event) × Stands self.now h }
+        ensures value { (h : List Event) → Stands self.now h →
+            result ≡ of_explicit (λ t. is_final t h) task }
+    {
+        let _ = &self.rows; // opens self
+        match task {
+            Task::Implicit(_) => false,
+            Task::Explicit(number) => self.row(number).final_task,
+        }
+    }
+
+    /// Whether the member, numbered from 0, created the task in the one that it executes. An
+    /// undeferred task is started by that member alone.
+    pub fn is_own(&self, member: u16, task: u32) -> bool
+        requires member { member < members_of self.now }
+        requires task { IsNumber task self.now }
+        ensures known { (h : List Event) × Stands self.now h }
+        ensures value { (h : List Event) → Stands self.now h → result ≡ is_own member task h }
+    {
+        is_same(self.parent(task), self.current(member))
     }
 
     /// The task in which the task was created.
@@ -121,13 +163,28 @@ impl Tasks {
         self.row(task).parent
     }
 
+    /// The task that was created last in this one; 0 if none was. It costs a step for each task that
+    /// was created since.
+    pub fn newest_child(&self, parent: Task) -> u32
+        ensures known { (h : List Event) × Stands self.now h }
+        ensures number { (result ≡ 0) ⊎ IsNumber result self.now }
+        ensures value { (h : List Event) → Stands self.now h → result ≡ newest_child parent h }
+    {
+        for place in (0..self.rows.len()).rev() {
+            if is_same(self.rows[place].parent, parent) {
+                return place as u32 + 1;
+            }
+        }
+        0
+    }
+
     /// The member that started the task, numbered from 0, if one has.
     pub fn runner(&self, task: u32) -> Option<u16>
         requires task { IsNumber task self.now }
         ensures known { (h : List Event) × Stands self.now h }
         ensures value { (h : List Event) → Stands self.now h → task_runner task h ≡ result }
     {
-        self.row(task).runner
+        self.row(task).state.runner()
     }
 
     /// What has become of the task.
@@ -140,12 +197,12 @@ impl Tasks {
     }
 
     /// Whether nobody has started the task.
-    pub fn is_ready(&self, task: u32) -> bool
+    pub fn is_unstarted(&self, task: u32) -> bool
         requires task { IsNumber task self.now }
         ensures known { (h : List Event) × Stands self.now h }
-        ensures value { (h : List Event) → Stands self.now h → result ≡ is_ready task h }
+        ensures value { (h : List Event) → Stands self.now h → result ≡ is_unstarted task h }
     {
-        matches!(self.state(task), TaskState::Ready)
+        matches!(self.state(task), TaskState::Unstarted)
     }
 
     /// Whether the task descends from the one above: that is its parent, or the parent of its
@@ -166,16 +223,18 @@ impl Tasks {
     }
 
     /// Whether the member, numbered from 0, may start the task at a wait, which is at a barrier or
-    /// elsewhere: nobody has started it, and it descends from all tasks that the member has started
-    /// and not ended, and from its implicit one unless it waits at a barrier (own).
-    pub fn may_start(&self, member: u16, at_barrier: bool, task: u32) -> bool
+    /// elsewhere, if the task waits for no other: nobody has started it, and it descends from all
+    /// tasks that the member has started and not ended, and from its implicit one unless it waits at a
+    /// barrier (own).
+    pub fn may_run(&self, member: u16, at_barrier: bool, task: u32) -> bool
         requires member { member < members_of self.now }
         requires task { IsNumber task self.now }
         ensures known { (h : List Event) × Stands self.now h }
         ensures value { (h : List Event) → Stands self.now h →
-            at_barrier ≡ waits_at_barrier member h → result ≡ may_start member task h }
+            at_barrier ≡ waits_at_barrier member h →
+            result ≡ may_run member task h }
     {
-        self.is_ready(task) && self.may_descend(member, at_barrier, task)
+        self.is_unstarted(task) && self.may_descend(member, at_barrier, task)
     }
 
     /// Makes room for one more task. The room grows in steps, so that the rows are seldom moved. It
@@ -202,7 +261,7 @@ impl Tasks {
     /// The member, numbered from 0, creates a task in the one that it executes. `odd` says whether
     /// the number of the barrier to which the new task is bound is odd. There has to be room for it
     /// (`reserve`), and the rule of tasks has to let the member create it. The answer is its number.
-    pub fn create(&mut self, member: u16, odd: bool, desc: TaskDesc) -> u32
+    pub fn create(&mut self, member: u16, odd: bool, desc: &TaskDesc) -> u32
         requires room { 0 < self.old.room }
         requires few { count_of self.old < MAX_TASKS }
         requires may { (h : List Event) × Stands self.old h ×
@@ -213,25 +272,19 @@ impl Tasks {
         ensures members { members_of self.new ≡ members_of self.old }
         ensures stands { (h : List Event) → Stands self.old h →
             MayCreateNext self.old member odd h →
-            Stands self.new (Create result member (executed_task member h) desc ∷ h) }
+            Stands self.new (Create result member (executed_task member h) desc.now ∷ h) }
     {
         let parent = self.current(member);
         let depth = self.depth(parent) + 1;
         let task = self.count() + 1;
-        let TaskDesc { code, arg } = desc;
-        self.rows.push_reserved(TaskRow {
-            code,
-            arg,
-            parent,
-            depth,
-            odd,
-            runner: None,
-            state: TaskState::Ready,
-        });
+        let in_final = self.is_final(parent);
+        self.rows
+            .push_reserved(TaskRow::unstarted(desc, parent, depth, odd, in_final));
         task
     }
 
-    /// The member, numbered from 0, starts the task, which it may start (`may_start`).
+    /// The member, numbered from 0, starts the task, which it may start: the caller knows by `may_run`, and that the task waits
+    /// for no other; if it is undeferred, by `is_own`.
     pub fn start(&mut self, member: u16, task: u32)
         requires may { (h : List Event) × Stands self.old h ×
             MayStart (members_of self.old) task member h }
@@ -242,8 +295,7 @@ impl Tasks {
             MayStart (members_of self.old) task member h → Stands self.new (Start task member ∷ h) }
     {
         let row = &mut self.rows[task as usize - 1];
-        row.runner = Some(member);
-        row.state = TaskState::Running;
+        row.state = TaskState::Running(member);
         self.stacks[member as usize].push(task);
     }
 
@@ -265,7 +317,7 @@ impl Tasks {
         let Some(task) = self.innermost(member) else {
             return None;
         };
-        self.rows[task as usize - 1].state = TaskState::Done;
+        self.rows[task as usize - 1].state = TaskState::Done(member);
         self.stacks[member as usize].pop();
         Some(task)
     }

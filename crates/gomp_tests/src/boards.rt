@@ -5,12 +5,13 @@ ghost use Rattle.std.specs.Prelude.{◌≡◌, ◌<◌, IfOk};
 ghost use Rattle.gomp_types.specs.Limits.{IsTeamSize};
 ghost use Rattle.gomp_board.specs.Boards.{members_of};
 
-use crate::checks::{SIZES, same};
+use crate::checks::{SIZES, items_of, same};
 use gomp_board::{Board, Op};
+use gomp_depend::Depends;
 use gomp_groups::Groups;
 use gomp_ready::Ready;
 use gomp_tasks::Tasks;
-use gomp_types::{Arrival, Limits, Payload, Refusal, Reply, Tag, TaskDesc};
+use gomp_types::{Arrival, DepKind, Deps, Limits, Payload, Refusal, Reply, Tag, TaskDesc};
 use std::alloc::{AllocError, Global};
 use std::process::Abort;
 use std::test::Fail;
@@ -20,12 +21,22 @@ use std::test::Fail;
 enum Ask {
     /// It creates a task, the next one by its number.
     Create,
+    /// One that writes at the address.
+    CreateWriter,
+    /// One that reads there, which is undeferred and has nothing to wait for.
+    CreateOwn,
     /// It waits for its children, and is given one of them to execute.
     Run,
+    /// It waits for those that write at the address, and is given one of them.
+    RunWriter,
     /// It ends this one.
     End,
+    /// It ends its undeferred task.
+    EndOwn,
     /// It waits for its children, which are complete.
     Children,
+    /// It waits for those that write at the address, which are complete.
+    Writers,
     /// It opens a group.
     Open,
     /// It ends a group.
@@ -46,16 +57,29 @@ enum Ask {
 
 const CODE: u64 = 7;
 
+/// The creation of the task with this number.
+fn creation(next: u32, undeferred: bool, deps: Deps) -> Op {
+    Op::Create(TaskDesc {
+        code: CODE,
+        arg: next as u64,
+        undeferred,
+        final_task: false,
+        deps,
+    })
+}
+
 impl Ask {
     /// The operation; `next` is the number of the next task.
-    fn op(self, next: u32) -> Op {
-        match self {
-            Ask::Create => Op::Create(TaskDesc {
-                code: CODE,
-                arg: next as u64,
-            }),
-            Ask::Run | Ask::Children => Op::AwaitChildren,
-            Ask::End => Op::EndTask,
+    fn op(self, alloc: Global, next: u32) -> Result<Op, AllocError> {
+        Ok(match self {
+            Ask::Create => creation(next, false, Deps::new(alloc)),
+            Ask::CreateWriter => creation(next, false, items_of(alloc, DepKind::DepOut, 1)?),
+            Ask::CreateOwn => creation(next, true, items_of(alloc, DepKind::DepIn, 1)?),
+            Ask::Run | Ask::Children => Op::AwaitChildren(Deps::new(alloc)),
+            Ask::RunWriter | Ask::Writers => {
+                Op::AwaitChildren(items_of(alloc, DepKind::DepIn, 1)?)
+            }
+            Ask::End | Ask::EndOwn => Op::EndTask,
             Ask::Open => Op::OpenGroup,
             Ask::Close => Op::EndGroup,
             Ask::Put => Op::Put {
@@ -69,26 +93,27 @@ impl Ask {
             Ask::Reserve => Op::Reserve(1),
             Ask::Arrive(kind) | Ask::ArriveLast(kind) => Op::Arrive(Tag { kind, shares: 0 }),
             Ask::WaitOn => Op::AwaitBarrier,
-        }
+        })
     }
 
     /// The reply, without the number of a task that is run or ended: no rule says which of several is run.
     fn reply(self, next: u32) -> Reply {
         match self {
-            Ask::Create => Reply::Created(next),
-            Ask::Run => Reply::Run {
+            Ask::Create | Ask::CreateWriter => Reply::Created(next),
+            Ask::Run | Ask::RunWriter | Ask::CreateOwn => Reply::Run {
                 task: 0,
                 code: CODE,
                 arg: 0,
-                own: false,
+                own: matches!(self, Ask::CreateOwn),
             },
-            Ask::End => Reply::TaskDone {
+            Ask::End | Ask::EndOwn => Reply::TaskDone {
                 task: 0,
-                waiting: true,
+                waiting: matches!(self, Ask::End),
             },
             Ask::Open | Ask::Put | Ask::Got | Ask::Reserve => Reply::Finished,
             Ask::Arrive(_) => Reply::Wait,
-            Ask::Children | Ask::Close | Ask::ArriveLast(_) | Ask::WaitOn => Reply::Passed,
+            Ask::Children | Ask::Writers | Ask::Close => Reply::Passed,
+            Ask::ArriveLast(_) | Ask::WaitOn => Reply::Passed,
         }
     }
 }
@@ -115,6 +140,7 @@ fn without_number(reply: Reply) -> Reply {
 /// A board, the number of its next task, and how many refusals for want of memory it is forgiven.
 #[derive(Drop)]
 struct Trial {
+    alloc: Global,
     board: Board,
     members: u16,
     next: u32,
@@ -134,56 +160,58 @@ fn board_of(alloc: Global, members: u16, forgiven: u32) -> Result<Board, AllocEr
     }
 }
 
-fn trial_of(alloc: Global, members: u16, forgiven: u32) -> Result<Trial, AllocError>
-    requires size { IsTeamSize members }
-{
-    let board = board_of(alloc, members, forgiven)?;
-    Ok(Trial {
-        board,
-        members,
-        next: 1,
-        forgiven,
-    })
-}
-
 impl Trial {
-    /// What the board answers, and answers again if it is forgiven that it had no memory: nothing has changed then.
-    fn answer(&mut self, rt: &impl Abort, member: u16, ask: Ask) -> Reply {
+    /// What the board answers, and answers again if it is forgiven that it had no memory: nothing has changed then. So it
+    /// is with what the operation holds.
+    fn answer(&mut self, rt: &impl Abort, member: u16, ask: Ask) -> Result<Reply, AllocError> {
         let member = member.min(self.members - 1);
         let before = (self.board.current(member), self.board.history().len());
-        let reply = self.board.step(member, ask.op(self.next));
+        let op = match ask.op(self.alloc, self.next) {
+            Err(_) if self.forgiven > 0 => ask.op(self.alloc, self.next),
+            op => op,
+        };
+        let reply = self.board.step(member, op?);
         if self.forgiven == 0 || reply != Reply::Refused(Refusal::NoMemory) {
-            return reply;
+            return Ok(reply);
         }
         self.forgiven -= 1;
         let after = (self.board.current(member), self.board.history().len());
         same(rt, &after, &before, "no memory for member", member as u64);
-        self.board.step(member, ask.op(self.next))
+        let op = ask.op(self.alloc, self.next)?;
+        Ok(self.board.step(member, op))
     }
 
     /// That the member asks this so many times, and is answered.
-    fn is_answered(&mut self, rt: &impl Abort, member: u16, asks: &[Ask], count: usize) {
+    fn is_answered(
+        &mut self,
+        rt: &impl Abort,
+        member: u16,
+        asks: &[Ask],
+        count: usize,
+    ) -> Result<(), AllocError> {
         for _ in 0..count {
             for ask in asks {
-                let found = without_number(self.answer(rt, member, *ask));
+                let found = without_number(self.answer(rt, member, *ask)?);
                 let expected = ask.reply(self.next);
                 same(rt, &found, &expected, "answer to member", member as u64);
-                if matches!(ask, Ask::Create) {
+                if matches!(ask, Ask::Create | Ask::CreateWriter | Ask::CreateOwn) {
                     self.next = self.next.wrapping_add(1);
                 }
             }
         }
+        Ok(())
     }
 
     /// That all members arrive, and pass.
-    fn meet(&mut self, rt: &impl Abort, kind: Arrival) {
+    fn meet(&mut self, rt: &impl Abort, kind: Arrival) -> Result<(), AllocError> {
         for member in 1..self.members {
-            self.is_answered(rt, member, &[Ask::Arrive(kind)], 1);
+            self.is_answered(rt, member, &[Ask::Arrive(kind)], 1)?;
         }
-        self.is_answered(rt, 0, &[Ask::ArriveLast(kind)], 1);
+        self.is_answered(rt, 0, &[Ask::ArriveLast(kind)], 1)?;
         for member in 1..self.members {
-            self.is_answered(rt, member, &[Ask::WaitOn], 1);
+            self.is_answered(rt, member, &[Ask::WaitOn], 1)?;
         }
+        Ok(())
     }
 }
 
@@ -192,6 +220,8 @@ const ASKS: &[&[Ask]] = &[
     &[Ask::Create],
     &[Ask::Run, Ask::End],
     &[Ask::Children],
+    &[Ask::CreateWriter, Ask::RunWriter, Ask::End, Ask::Writers],
+    &[Ask::CreateOwn, Ask::EndOwn],
     &[Ask::Open],
     &[Ask::Close],
     &[Ask::Put],
@@ -199,12 +229,6 @@ const ASKS: &[&[Ask]] = &[
     &[Ask::Reserve],
     &[Ask::Put],
 ];
-
-/// The stored events of a member, if all this, a barrier and the end of a share come so many times: of a task three, of a
-/// group two, of words three, and two at each meeting; and those at the region's end.
-fn events_of(count: usize) -> usize {
-    count.wrapping_mul(12).wrapping_add(2)
-}
 
 /// A team of this size asks all this so many times, meets at as many barriers and ends of shares, and leaves its region.
 fn region(
@@ -216,19 +240,28 @@ fn region(
 ) -> Result<Trial, AllocError>
     requires size { IsTeamSize members }
 {
-    let mut trial = trial_of(alloc, members, forgiven)?;
+    let board = board_of(alloc, members, forgiven)?;
+    let mut trial = Trial {
+        alloc,
+        board,
+        members,
+        next: 1,
+        forgiven,
+    };
     for asks in ASKS {
         for member in 0..members {
-            trial.is_answered(rt, member, *asks, count);
+            trial.is_answered(rt, member, *asks, count)?;
         }
     }
     for _ in 0..count {
-        trial.meet(rt, Arrival::Barrier);
-        trial.meet(rt, Arrival::ShareEnd);
+        trial.meet(rt, Arrival::Barrier)?;
+        trial.meet(rt, Arrival::ShareEnd)?;
     }
-    trial.meet(rt, Arrival::RegionEnd);
+    trial.meet(rt, Arrival::RegionEnd)?;
+    // of three tasks three each, of a group two, of words three, two at each meeting, and those at the region's end
+    let of_member = count.wrapping_mul(18).wrapping_add(2);
     let stored = trial.board.history().len();
-    let expected = events_of(count).wrapping_mul(members as usize);
+    let expected = of_member.wrapping_mul(members as usize);
     same(rt, &stored, &expected, "events of", count as u64);
     Ok(trial)
 }
@@ -240,6 +273,10 @@ fn parts(rt: &impl Abort, alloc: Global, members: u16, count: usize) -> Result<(
     let mut groups = Groups::make(alloc, members)?;
     groups.reserve_task()?;
     groups.reserve_group()?;
+    let mut depends = Depends::new(alloc);
+    depends.reserve()?;
+    depends.reserve()?;
+    same(rt, &depends.as_slice().len(), &0, "open tasks", 0);
     let mut ready = Ready::new(alloc);
     for _ in 0..count {
         ready.reserve()?;
@@ -248,6 +285,44 @@ fn parts(rt: &impl Abort, alloc: Global, members: u16, count: usize) -> Result<(
     same(rt, &ready.len(), &count, "ready tasks", members as u64);
     Ok(())
 }
+
+/// That a board creates a task with so many items, if they are not too many, and that a member then waits for it by as
+/// many, of which this wait may have any number. They are copied whole.
+fn counts_items(
+    rt: &impl Abort,
+    alloc: Global,
+    kind: DepKind,
+    count: usize,
+) -> Result<(), AllocError> {
+    let mut board = board_of(alloc, 1, 0)?;
+    let few = count <= 16;
+    let created = board.step(0, creation(1, false, items_of(alloc, kind, count)?));
+    let expected = if few {
+        Ask::Create.reply(1)
+    } else {
+        Reply::Refused(Refusal::TooManyDepends)
+    };
+    same(rt, &created, &expected, "creation by items", count as u64);
+    let items = items_of(alloc, DepKind::DepOut, count)?;
+    let copy = items.copied(alloc)?;
+    same(rt, &copy, &items, "copied items", count as u64);
+    let waited = without_number(board.step(0, Op::AwaitChildren(items)));
+    let expected = if few {
+        Ask::Run.reply(1)
+    } else {
+        Ask::Children.reply(1)
+    };
+    same(rt, &waited, &expected, "wait by items", count as u64);
+    Ok(())
+}
+
+const KINDS: &[DepKind] = &[
+    DepKind::DepIn,
+    DepKind::DepOut,
+    DepKind::DepInout,
+    DepKind::DepInoutset,
+    DepKind::DepMutex,
+];
 
 #[test]
 fn boards_give_up_nothing(rt: HostRuntime) -> Result<(), Fail> {
@@ -263,6 +338,14 @@ fn boards_give_up_nothing(rt: HostRuntime) -> Result<(), Fail> {
     }
     for members in &[0, 65, 255, 256, 65_535] {
         parts(&rt, rt.alloc(), *members, 0)?;
+    }
+    for kind in KINDS {
+        for count in 0..=18 {
+            counts_items(&rt, rt.alloc(), *kind, count)?;
+        }
+        for count in SIZES {
+            counts_items(&rt, rt.alloc(), *kind, *count)?;
+        }
     }
     Ok(())
 }

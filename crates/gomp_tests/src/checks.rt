@@ -1,7 +1,7 @@
 //! Comparisons of the tests, and what the cases of several of them are made of. A comparison is a function of its own,
 //! which is proved once: an assertion costs the proof of the function that it stands in.
 
-use gomp_types::{EndKind, LoopDesc, Sched};
+use gomp_types::{Dep, DepKind, Deps, EndKind, LoopDesc, Sched};
 use std::alloc::{AllocError, Global};
 use std::fmt::Debug;
 use std::process::Abort;
@@ -42,6 +42,18 @@ pub(crate) fn each_is<T: PartialEq + Debug>(
     for item in found {
         same(rt, item, expected, name, case);
     }
+}
+
+/// Items of this kind, on so many addresses, from 0.
+pub(crate) fn items_of(alloc: Global, kind: DepKind, count: usize) -> Result<Deps, AllocError> {
+    let mut items = Deps::new(alloc);
+    for addr in 0..count {
+        items.push(Dep {
+            kind,
+            addr: addr as u64,
+        })?;
+    }
+    Ok(items)
 }
 
 /// A front, a part so many times, and an end.

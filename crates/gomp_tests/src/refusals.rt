@@ -69,7 +69,7 @@ const MEMBERS: &[(u16, &str)] = &[
 ];
 
 /// The refusals that say no more than their number and name.
-const REFUSALS: [(Refusal, &str); 33] = [
+const REFUSALS: [(Refusal, &str); 34] = [
     (Refusal::BadMember, "E1 BadMember"),
     (Refusal::Ended, "E2 Ended"),
     (Refusal::Waiting, "E4 Waiting"),
@@ -93,6 +93,7 @@ const REFUSALS: [(Refusal, &str); 33] = [
     (Refusal::GroupOpen, "E25 GroupOpen"),
     (Refusal::TooDeep, "E26 TooDeep"),
     (Refusal::TooManyTasks, "E27 TooManyTasks"),
+    (Refusal::TooManyDepends, "E28 TooManyDepends"),
     (Refusal::NameTooLong, "E29 NameTooLong"),
     (Refusal::AlreadyHeld, "E30 AlreadyHeld"),
     (Refusal::NotHolder, "E31 NotHolder"),

@@ -5,7 +5,7 @@ use crate::checks::{LOOP, same};
 use gomp_core::Team;
 use gomp_icv::Icv;
 use gomp_share_plain::PlainShares;
-use gomp_types::{Call, EndKind, Limits, LoopDesc, Refusal, Reply, TaskDesc};
+use gomp_types::{Call, Deps, EndKind, Limits, LoopDesc, Refusal, Reply, TaskDesc};
 use std::alloc::Global;
 use std::sync::Mutex;
 use std::test::Fail;
@@ -35,8 +35,14 @@ fn one_share_too_many(alloc: Global) -> Result<[Reply; 4], Fail> {
 }
 
 /// The call that creates a task.
-fn task_create() -> Call {
-    Call::TaskCreate(TaskDesc { code: 5, arg: 9 })
+fn task_create(alloc: Global) -> Call {
+    Call::TaskCreate(TaskDesc {
+        code: 5,
+        arg: 9,
+        undeferred: false,
+        final_task: false,
+        deps: Deps::new(alloc),
+    })
 }
 
 /// What a member alone is answered whose team creates one task and stores six events at most: a task asks for room for
@@ -49,8 +55,8 @@ fn one_task_and_six_events(alloc: Global) -> Result<[Reply; 6], Fail> {
     };
     let mut team: Team<PlainShares> = Team::with_limits(alloc, 1, Icv::initial(), limits)?;
     Ok([
-        team.step(0, task_create()),
-        team.step(0, task_create()),
+        team.step(0, task_create(alloc)),
+        team.step(0, task_create(alloc)),
         team.step(0, Call::Barrier),
         team.step(0, Call::RegionEnd),
         team.step(0, Call::TaskEnd),

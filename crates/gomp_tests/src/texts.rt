@@ -1,10 +1,10 @@
 //! Texts of steps and printed replies, called as a library: want of memory is not feigned.
 
-use crate::checks::{SIZES, each_is, same, text_of};
+use crate::checks::{SIZES, each_is, items_of, same, text_of};
 use gomp_script::{
     BadLine, ParseError, Why, parse_steps, print_bad_line, print_replies, print_reply,
 };
-use gomp_types::{Call, Clash, Payload, Place, Refusal, Reply, Step};
+use gomp_types::{Call, Clash, DepKind, Payload, Place, Refusal, Reply, Step, TaskDesc};
 use std::alloc::Global;
 use std::process::Abort;
 use std::test::Fail;
@@ -132,8 +132,12 @@ const CALLS: &[&str] = &[
     "unset_nest 0",
     "task 0 18446744073709551615",
     "task 18446744073709551615 0",
+    "task 1 0 if0",
+    "task 1 0 final",
+    "task 1 0 if0 final in 0 out 18446744073709551615 inout 1 inoutset 2 mutexinoutset 3",
     "task_end",
     "taskwait",
+    "taskwait mutexinoutset 0 in 18446744073709551615",
     "group",
     "group_end",
     "resume",
@@ -186,6 +190,38 @@ const BAD_TEXTS: &[BadRow] = &[
     ("team 1\n0 critical x", "x", " y\n", 0, 2, Why::ExtraWord),
     ("team 1\n0 set ", "0", "4294967296\n", 0, 2, Why::BadNumber),
     ("team 1\n0 task 1 2", " x", " y\n", 0, 2, Why::ExtraWord),
+    (
+        "team 1\n0 task 1 2 if0",
+        " in 3",
+        " out\n",
+        0,
+        2,
+        Why::MissingWord,
+    ),
+    (
+        "team 1\n0 task 1 2 in 3",
+        " in 3",
+        " final\n",
+        0,
+        2,
+        Why::ExtraWord,
+    ),
+    (
+        "team 1\n0 taskwait",
+        " in 3",
+        " out x\n",
+        0,
+        2,
+        Why::BadNumber,
+    ),
+    (
+        "team 1\n0 taskwait",
+        " out 3",
+        " if0\n",
+        0,
+        2,
+        Why::ExtraWord,
+    ),
     (
         "team 1\n0 task ",
         "0",
@@ -267,6 +303,35 @@ fn has_faults_of_byte(rt: &impl Abort, alloc: Global, byte: u8) {
     );
 }
 
+/// That so many items of a task and of a taskwait are read.
+fn reads_items(rt: &impl Abort, alloc: Global, count: usize) -> Result<(), Fail> {
+    let mut clause = String::new(alloc);
+    for addr in 0..count {
+        write!(clause, " inoutset {addr}")?;
+    }
+    let text = format!(in alloc; "team 1\n0 task 5 6 if0 final{clause}\n0 taskwait{clause}\n")?;
+    let steps = steps_of(rt, alloc, text.as_str(), (1, 2), "items", count as u64);
+    let expected = [
+        Step {
+            member: 0,
+            call: Call::TaskCreate(TaskDesc {
+                code: 5,
+                arg: 6,
+                undeferred: true,
+                final_task: true,
+                deps: items_of(alloc, DepKind::DepInoutset, count)?,
+            }),
+        },
+        Step {
+            member: 0,
+            call: Call::Taskwait(items_of(alloc, DepKind::DepInoutset, count)?),
+        },
+    ];
+    let found = steps.as_slice();
+    same(rt, &found, &expected.as_slice(), "items", count as u64);
+    Ok(())
+}
+
 /// Texts of every size are read whole: steps, and comments and empty lines before, between and behind.
 #[test]
 fn good_texts(rt: HostRuntime) -> Result<(), Fail> {
@@ -280,6 +345,9 @@ fn good_texts(rt: HostRuntime) -> Result<(), Fail> {
         for member in &[0, 64, 65_535] {
             reads_call(&rt, rt.alloc(), *member, *call)?;
         }
+    }
+    for count in SIZES {
+        reads_items(&rt, rt.alloc(), *count)?;
     }
     Ok(())
 }
@@ -333,7 +401,8 @@ fn prints_sections(rt: &impl Abort, alloc: Global, count: usize) -> Result<(), F
     )
 }
 
-/// That a section of this number is printed, a copy of it twice, and a refusal at it.
+/// That a section of this number is printed, a copy of it twice, a refusal at it, and chunks of so many iterations with
+/// each first one.
 fn prints_number(rt: &impl Abort, alloc: Global, number: u64, written: &str) -> Result<(), Fail> {
     let mut payload = Payload::new();
     payload.push(number);
@@ -350,11 +419,20 @@ fn prints_number(rt: &impl Abort, alloc: Global, number: u64, written: &str) -> 
     let expected = format!(in alloc;
         "section {written}\ncopied {written} {written}\nrefused E3 Broken 65535 share {written}\n"
     )?;
-    print_so(rt, alloc, &replies, expected.as_str(), number)
+    print_so(rt, alloc, &replies, expected.as_str(), number)?;
+    for (first, value) in VALUES {
+        let expected = format!(in alloc; "chunk {value} {written}\n")?;
+        let reply = Reply::Chunk {
+            first: *first,
+            count: number,
+        };
+        print_so(rt, alloc, &[reply], expected.as_str(), number)?;
+    }
+    Ok(())
 }
 
-/// That the replies on locks are printed, with the least numbers and the largest.
-fn prints_locks(rt: &impl Abort, alloc: Global) -> Result<(), Fail> {
+/// That the replies on locks and tasks are printed, with the least numbers and the largest.
+fn prints_extremes(rt: &impl Abort, alloc: Global) -> Result<(), Fail> {
     let replies = [
         Reply::Lock(0),
         Reply::Lock(u32::MAX),
@@ -362,14 +440,6 @@ fn prints_locks(rt: &impl Abort, alloc: Global) -> Result<(), Fail> {
         Reply::Got(false),
         Reply::Count(0),
         Reply::Count(u32::MAX),
-    ];
-    let expected = "lock 0\nlock 4294967295\ngot yes\ngot no\ncount 0\ncount 4294967295\n";
-    print_so(rt, alloc, &replies, expected, 0)
-}
-
-/// That the replies on tasks are printed, with the least numbers and the largest.
-fn prints_tasks(rt: &impl Abort, alloc: Global) -> Result<(), Fail> {
-    let replies = [
         Reply::Created(1),
         Reply::Created(u32::MAX),
         Reply::Run {
@@ -393,8 +463,9 @@ fn prints_tasks(rt: &impl Abort, alloc: Global) -> Result<(), Fail> {
             waiting: false,
         },
     ];
-    let expected = "created 1\ncreated 4294967295\nrun 1 0 18446744073709551615\n\
-run 4294967295 18446744073709551615 0 own\ntask_done 1 waiting\ntask_done 4294967295 free\n";
+    let expected = "lock 0\nlock 4294967295\ngot yes\ngot no\ncount 0\ncount 4294967295\n\
+created 1\ncreated 4294967295\nrun 1 0 18446744073709551615\nrun 4294967295 18446744073709551615 0 own\n\
+task_done 1 waiting\ntask_done 4294967295 free\n";
     print_so(rt, alloc, &replies, expected, 0)
 }
 
@@ -410,19 +481,6 @@ fn prints_faults(rt: &impl Abort, alloc: Global, line: u64, written: &str) -> Re
             "bad line",
             line,
         );
-    }
-    Ok(())
-}
-
-/// That chunks of so many iterations are printed, with each first one.
-fn prints_chunks(rt: &impl Abort, alloc: Global, count: u64, written: &str) -> Result<(), Fail> {
-    for (first, value) in VALUES {
-        let expected = format!(in alloc; "chunk {value} {written}\n")?;
-        let reply = Reply::Chunk {
-            first: *first,
-            count,
-        };
-        print_so(rt, alloc, &[reply], expected.as_str(), count)?;
     }
     Ok(())
 }
@@ -446,15 +504,13 @@ fn prints_payload(rt: &impl Abort, alloc: Global, words: usize) -> Result<(), Fa
 /// Replies of every number, and numbers of every size, are printed.
 #[test]
 fn replies_and_faults_print(rt: HostRuntime) -> Result<(), Fail> {
-    prints_locks(&rt, rt.alloc())?;
-    prints_tasks(&rt, rt.alloc())?;
+    prints_extremes(&rt, rt.alloc())?;
     for count in SIZES {
         prints_sections(&rt, rt.alloc(), *count)?;
     }
     for (number, written) in NUMBERS {
         prints_number(&rt, rt.alloc(), *number, *written)?;
         prints_faults(&rt, rt.alloc(), *number, *written)?;
-        prints_chunks(&rt, rt.alloc(), *number, *written)?;
     }
     for words in 0..9 {
         prints_payload(&rt, rt.alloc(), words)?;

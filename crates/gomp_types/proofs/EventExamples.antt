@@ -271,7 +271,7 @@ members_of_events = refl
 
 -- those of tasks and groups too
 pub members_of_task_events :
-    map member_of (Create 1 2 (Implicit 3) one_job ∷ Start 1 4 ∷ Done 1 5 ∷ Group 0 6 ∷ GroupEnd 0 7 ∷ Waited 8 ∷ []) ≡ 2 ∷ 4 ∷ 5 ∷ 6 ∷ 7 ∷ 8 ∷ []
+    map member_of (Create 1 2 (Implicit 3) one_job ∷ Start 1 4 ∷ Done 1 5 ∷ Group 0 6 ∷ GroupEnd 0 7 ∷ Waited 8 [] ∷ []) ≡ 2 ∷ 4 ∷ 5 ∷ 6 ∷ 7 ∷ 8 ∷ []
 members_of_task_events = refl
 
 -- Values

@@ -43,12 +43,12 @@ opens_once members _ h rule all = tt
 -- Who opened a group
 
 -- a member executes the task, if it is its implicit one or the member is its runner
-abbrev Executes : (ℕ → Option ℕ) → ℕ → Task → Type 0
+abbrev pub Executes : (ℕ → Option ℕ) → ℕ → Task → Type 0
 Executes runner m (Implicit x) = x ≡ m
 Executes runner m (Explicit t) = runner t ≡ Some m
 
 -- the task that a member executes is such a task
-executed_by : (members m : ℕ) (h : List Event) → Always (TaskRule members) h → (p : Task) → executed_task m h ≡ p → Executes (λ t. task_runner t h) m p
+pub executed_by : (members m : ℕ) (h : List Event) → Always (TaskRule members) h → (p : Task) → executed_task m h ≡ p → Executes (λ t. task_runner t h) m p
 executed_by members m h all (Implicit x) e = own (task_stack m h) e
   where
     own : (ts : List ℕ) → innermost_task m ts ≡ Implicit x → x ≡ m
@@ -57,12 +57,12 @@ executed_by members m h all (Implicit x) e = own (task_stack m h) e
 executed_by members m h all (Explicit t) e = (current_open members m t h all e).2
 
 -- no other member does
-one_executes : (runner : ℕ → Option ℕ) (a b : ℕ) (p : Task) → Executes runner a p → Executes runner b p → a ≡ b
+pub one_executes : (runner : ℕ → Option ℕ) (a b : ℕ) (p : Task) → Executes runner a p → Executes runner b p → a ≡ b
 one_executes runner a b (Implicit x) one other = sym one ∙ other
 one_executes runner a b (Explicit t) one other = let e : Some a ≡ Some b = sym one ∙ other in cc
 
 -- the start of a task that nobody has started changes that of none
-still_executes : (n t member : ℕ) (p : Task) (h : List Event) → has_started t h ≡ false → Executes (λ u. task_runner u h) n p → Executes (λ u. task_runner u (Start t member ∷ h)) n p
+pub still_executes : (n t member : ℕ) (p : Task) (h : List Event) → has_started t h ≡ false → Executes (λ u. task_runner u h) n p → Executes (λ u. task_runner u (Start t member ∷ h)) n p
 still_executes n t member (Implicit x) h never is = is
 still_executes n t member (Explicit u) h never is =
     elim (cases_Bool (t == u)) [

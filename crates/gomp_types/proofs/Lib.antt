@@ -4,6 +4,7 @@ pub mod Booleans
 pub mod BoundTasks
 pub mod Compared
 pub mod Dealing
+pub mod DependExamples
 pub mod EvenTiling
 pub mod EventExamples
 pub mod GroupsKeep
@@ -16,6 +17,7 @@ pub mod LeastTests
 pub mod Lists
 pub mod Numbering
 pub mod OpenTasks
+pub mod OwnTasks
 pub mod Owned
 pub mod RefusalExamples
 pub mod ShapeExamples

@@ -5,7 +5,7 @@ use Rattle.std.proofs.Common.{◌≡◌, ℕ, List, refl}
 use Rattle.std.specs.Prelude.{codes}
 use Rattle.std.specs.Fmt.{digits}
 use Rattle.gomp_types.specs.declared.refusal.Place.TheVariants.{Share, Barrier, Stopped}
-use Rattle.gomp_types.specs.declared.refusal.Refusal.TheVariants.{BadMember, Ended, Broken, Waiting, InsideTask, NotInTask, InsideShare, OutsideShare, InOrdered, HoldsCritical, ZeroStep, BadChunk, LoopTooLong, BadSections, EndDiffers, NotDrained, Drained, NotOrdered, OrderedBackwards, NotInside, NoGroup, GroupOpen, TooDeep, TooManyTasks, NameTooLong, AlreadyHeld, NotHolder, NoLock, CountTooLarge, TooManyShares, Mismatch, TraceFull, NoMemory, BadTeam, BadEnv}
+use Rattle.gomp_types.specs.declared.refusal.Refusal.TheVariants.{BadMember, Ended, Broken, Waiting, InsideTask, NotInTask, InsideShare, OutsideShare, InOrdered, HoldsCritical, ZeroStep, BadChunk, LoopTooLong, BadSections, EndDiffers, NotDrained, Drained, NotOrdered, OrderedBackwards, NotInside, NoGroup, GroupOpen, TooDeep, TooManyTasks, TooManyDepends, NameTooLong, AlreadyHeld, NotHolder, NoLock, CountTooLarge, TooManyShares, Mismatch, TraceFull, NoMemory, BadTeam, BadEnv}
 use Rattle.gomp_types.specs.RefusalTexts.{Prints, text_of, clash_text, place_text}
 
 -- the member's number is not below the team's size
@@ -122,6 +122,11 @@ too_deep_prints = (refl, refl, refl)
 pub too_many_tasks_prints : Prints TooManyTasks 27 (codes "TooManyTasks") (codes "E27 TooManyTasks")
 unfolding digits
 too_many_tasks_prints = (refl, refl, refl)
+
+-- the clause has too many items
+pub too_many_depends_prints : Prints TooManyDepends 28 (codes "TooManyDepends") (codes "E28 TooManyDepends")
+unfolding digits
+too_many_depends_prints = (refl, refl, refl)
 
 -- the critical name is too long
 pub name_too_long_prints : Prints NameTooLong 29 (codes "NameTooLong") (codes "E29 NameTooLong")

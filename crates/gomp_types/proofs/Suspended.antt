@@ -7,7 +7,8 @@ use Rattle.gomp_types.specs.declared.task.Task.TheVariants.{Explicit}
 use Rattle.gomp_types.specs.declared.event.Event.{Event}
 use Rattle.gomp_types.specs.declared.event.Event.TheVariants.{Create, Start, Done}
 use Rattle.gomp_types.specs.Tasks.{contains, tasks_created, is_created, task_stack, executed_task, innermost_task, after_first, has_started, task_runner, is_complete}
-use Rattle.gomp_types.specs.Goals.{is_ready, may_descend, may_start}
+use Rattle.gomp_types.specs.Goals.{is_unstarted, is_ready, may_descend, may_start}
+use Rattle.gomp_types.specs.Depends.{is_free}
 use Rattle.gomp_types.specs.Laws.{Always}
 use Rattle.gomp_types.specs.TaskRules.{TaskRule}
 use Rattle.gomp_types.proofs.Booleans.{false_of_not, and_left, and_right, same_number, is_equal, not_both}
@@ -16,12 +17,18 @@ use Rattle.gomp_types.proofs.Booleans.{false_of_not, and_left, and_right, same_n
 abbrev pub IsFresh : ℕ → List Event → Type 0
 IsFresh t h = (is_created t h ≡ true) × (has_started t h ≡ false) × (is_complete t h ≡ false)
 
-pub startable_is_fresh : (m t : ℕ) (h : List Event) → may_start m t h ≡ true → IsFresh t h
-startable_is_fresh m t h may =
-    let ready : is_ready t h ≡ true = and_left (is_ready t h) (may_descend m t h) may in
-    let made = and_left (is_created t h) (not (has_started t h) && not (is_complete t h)) ready in
-    let rest = and_right (is_created t h) (not (has_started t h) && not (is_complete t h)) ready in
+pub unstarted_is_fresh : (t : ℕ) (h : List Event) → is_unstarted t h ≡ true → IsFresh t h
+unstarted_is_fresh t h is =
+    let made = and_left (is_created t h) (not (has_started t h) && not (is_complete t h)) is in
+    let rest = and_right (is_created t h) (not (has_started t h) && not (is_complete t h)) is in
     (made, false_of_not (has_started t h) (and_left (not (has_started t h)) (not (is_complete t h)) rest), false_of_not (is_complete t h) (and_right (not (has_started t h)) (not (is_complete t h)) rest))
+
+pub startable_is_fresh : (m t : ℕ) (h : List Event) → may_start m t h ≡ true → IsFresh t h
+startable_is_fresh m t h may = unstarted_is_fresh t h (and_left (is_unstarted t h) (is_free t h) (and_left (is_ready t h) (may_descend m t h) may))
+
+-- and it waits for no task that is not complete
+pub startable_is_free : (m t : ℕ) (h : List Event) → may_start m t h ≡ true → is_free t h ≡ true
+startable_is_free m t h may = and_right (is_unstarted t h) (is_free t h) (and_left (is_ready t h) (may_descend m t h) may)
 
 -- a task that has a runner was started
 pub runner_has_started : (t m : ℕ) (h : List Event) → task_runner t h ≡ Some m → has_started t h ≡ true

@@ -1,14 +1,19 @@
 -- Each part of each law of tasks and groups by itself refuses an event after some others, and the law allows one beside it.
 -- Of each law there are events that it alone refuses, while all others hold. All is computed, with none of the lemmas that prove the laws.
-use Rattle.std.proofs.Common.{◌≡◌, ℕ, List, [], ◌∷◌, refl, arith, rules, inl, inr}
-use Rattle.std.specs.Prelude.{◌≢◌}
+use Rattle.std.proofs.Common.{◌≡◌, ℕ, false, List, [], ◌∷◌, refl, arith, rules, inl, inr}
+use Rattle.std.specs.Prelude.{◌==◌, ◌≢◌}
+use Rattle.std.proofs.lemmas.Bool.{cases_Bool}
+use Rattle.gomp_types.specs.Laws.{Always}
 use Rattle.gomp_types.specs.declared.task.Task.TheVariants.{Implicit, Explicit}
 use Rattle.gomp_types.specs.declared.event.Arrival.TheVariants.{Barrier, RegionEnd}
 use Rattle.gomp_types.specs.declared.event.Event.{Event}
 use Rattle.gomp_types.specs.declared.event.Event.TheVariants.{Create, Start, Done, Group, GroupEnd, Waited, Arrive, Pass}
 use Rattle.gomp_types.specs.EventLists.{at}
-use Rattle.gomp_types.specs.TaskLaws.{IsCreated, IsDone, CreatesOnce, CreatesInItsOwn, StartsOnce, StartsDescendant, EndsItsOwn, WaitsForTasks, OpensOnce, EndsItsGroup, PassesAfterTasks, CreatesLater, EndsAfterTasks, TaskLaws, BoundIsDone}
-use Rattle.gomp_types.specs.TaskExamples.{after, Allows, Forbids, TaskLaw, CreatedOnce, CreatedIn, StartedOnce, Descendants, EndedOnce, Waits, OpenedOnce, GroupsEnded, Passes, Later, AtTheEnd, law_of, RefusedAlone, one_job, other_job, task_tree, child_ended, across_barrier, whole_region}
+use Rattle.gomp_types.specs.TaskLaws.{IsCreated, IsDone, CreatesOnce, CreatesInItsOwn, StartsOnce, StartsAfterNamed, StartsDescendant, EndsItsOwn, WaitsForTasks, OpensOnce, EndsItsGroup, PassesAfterTasks, CreatesLater, EndsAfterTasks, TaskLaws, BoundIsDone}
+use Rattle.gomp_types.specs.TaskExamples.{after, Allows, Forbids, TaskLaw, CreatedOnce, CreatedIn, StartedOnce, AfterNamed, Descendants, EndedOnce, Waits, OpenedOnce, GroupsEnded, Passes, Later, AtTheEnd, law_of, RefusedAlone, one_job, other_job, task_tree, child_ended, across_barrier, whole_region}
+use Rattle.gomp_types.specs.Tasks.{is_child}
+use Rattle.gomp_types.specs.Depends.{waits_for}
+use Rattle.gomp_types.proofs.Booleans.{and_false, not_both}
 use Rattle.gomp_types.proofs.TasksKeep.{tasks_keep}
 use Rattle.gomp_types.proofs.TaskRuleExamples.{whole_region_keeps_task_rule, whole_region_keeps_arrival_rule}
 
@@ -131,19 +136,19 @@ end_outer_last = search rules
 -- Waits
 
 -- a task has waited, and its child is open
-pub wait_open : Forbids WaitsForTasks (Create 1 0 (Implicit 0) one_job ∷ []) (Waited 0)
+pub wait_open : Forbids WaitsForTasks (Create 1 0 (Implicit 0) one_job ∷ []) (Waited 0 [])
 wait_open law = elim (law 1 refl).1 [ inl e ↦ absurd (cc) | inr never ↦ never ]
 
 -- or runs
-pub wait_running : Forbids WaitsForTasks (Create 1 0 (Implicit 0) one_job ∷ Start 1 1 ∷ []) (Waited 0)
+pub wait_running : Forbids WaitsForTasks (Create 1 0 (Implicit 0) one_job ∷ Start 1 1 ∷ []) (Waited 0 [])
 wait_running law = elim (law 1 refl).1 [ inl e ↦ absurd (cc) | inr (inl e) ↦ absurd (cc) | inr (inr never) ↦ never ]
 
 -- the task that it executes has an open child
-pub wait_in_task : Forbids WaitsForTasks (Create 1 0 (Implicit 0) one_job ∷ Start 1 0 ∷ Create 2 0 (Explicit 1) one_job ∷ []) (Waited 0)
+pub wait_in_task : Forbids WaitsForTasks (Create 1 0 (Implicit 0) one_job ∷ Start 1 0 ∷ Create 2 0 (Explicit 1) one_job ∷ []) (Waited 0 [])
 wait_in_task law = elim (law 2 refl).1 [ inl e ↦ absurd (cc) | inr (inl e) ↦ absurd (cc) | inr (inr (inl e)) ↦ absurd (cc) | inr (inr (inr never)) ↦ never ]
 
 -- the child of the task is done, that of the child is open, and so are those of the implicit tasks
-pub wait_for_children : Allows WaitsForTasks child_ended (Waited 0)
+pub wait_for_children : Allows WaitsForTasks child_ended (Waited 0 [])
 wait_for_children = search rules
 
 -- a group has ended, and its task is open
@@ -290,6 +295,28 @@ bound_created_late law = (law (Done 1 0 ∷ Create 1 1 (Implicit 1) one_job ∷ 
 
 -- Each law alone
 
+-- no task of these has items
+abbrev pub NoItems : List Event → Type 0
+NoItems [] = Unit {0}
+NoItems (Create t m p desc ∷ earlier) = (desc.deps ≡ []) × NoItems earlier
+NoItems (_ ∷ earlier) = NoItems earlier
+
+-- so none of them waits
+no_items_wait : (t q : ℕ) (h : List Event) → NoItems h → waits_for t q h ≡ false
+no_items_wait t q [] none = refl
+no_items_wait t q (Create task m p desc ∷ earlier) none = elim (cases_Bool (task == t)) [
+  | inl same ↦ rw (same, none.0) (and_false (is_child p q earlier) false refl)
+  | inr other ↦ rw other (no_items_wait t q earlier none.1)
+]
+no_items_wait t q (_ ∷ earlier) none = no_items_wait t q earlier none
+
+-- and each may start
+pub starts_without_items : (h : List Event) → NoItems h → Always StartsAfterNamed h
+starts_without_items [] none = tt
+starts_without_items (Start t m ∷ earlier) none = ((λ q waits. absurd (not_both (waits_for t q earlier) waits (no_items_wait t q earlier none))), starts_without_items earlier none)
+starts_without_items (Create t m p desc ∷ earlier) none = (tt, starts_without_items earlier none.1)
+starts_without_items (_ ∷ earlier) none = (tt, starts_without_items earlier none)
+
 -- a task may be started that was just created
 starts_first : (m : ℕ) → StartsOnce (Start 1 m) (Create 1 0 (Implicit 0) one_job ∷ [])
 starts_first m = ((0, Implicit 0, one_job, inl refl), search rules, search rules)
@@ -319,6 +346,7 @@ started_once_alone = ((λ laws. laws.0.1 0 (inr (inl refl))), others)
   where
     others : (other : TaskLaw) → other ≢ StartedOnce → law_of other (after started_by_two)
     others StartedOnce differ = absurd (differ refl)
+    others AfterNamed differ = starts_without_items (after started_by_two) (search rules)
     others _ differ = search rules
 
 -- one that was not created is started at a barrier
@@ -330,6 +358,7 @@ started_created_alone = ((λ laws. elim laws.0.0.3 [ inl e ↦ absurd (cc) | inr
   where
     others : (other : TaskLaw) → other ≢ StartedOnce → law_of other (after started_uncreated)
     others StartedOnce differ = absurd (differ refl)
+    others AfterNamed differ = starts_without_items (after started_uncreated) (search rules)
     others _ differ = search rules
 
 -- a member runs two tasks of one parent at once
@@ -341,6 +370,7 @@ descendants_alone = ((λ laws. start_sibling laws.0), others)
   where
     others : (other : TaskLaw) → other ≢ Descendants → law_of other (after siblings_at_once)
     others Descendants differ = absurd (differ refl)
+    others AfterNamed differ = starts_without_items (after siblings_at_once) (search rules)
     others StartedOnce differ = (((0, Implicit 0, one_job, inr (inl refl)), search rules, search rules), (((0, Implicit 0, one_job, inr (inl refl)), search rules, search rules), (tt, (tt, tt))))
     others _ differ = search rules
 
@@ -353,6 +383,7 @@ own_descendants_alone = ((λ laws. start_in_another_tree laws.0), others)
   where
     others : (other : TaskLaw) → other ≢ Descendants → law_of other (after started_away)
     others Descendants differ = absurd (differ refl)
+    others AfterNamed differ = starts_without_items (after started_away) (search rules)
     others StartedOnce differ = (starts_first 1, (tt, tt))
     others _ differ = search rules
 
@@ -376,6 +407,7 @@ ended_once_alone = ((λ laws. end_again laws.0), others)
   where
     others : (other : TaskLaw) → other ≢ EndedOnce → law_of other (after ended_again)
     others EndedOnce differ = absurd (differ refl)
+    others AfterNamed differ = starts_without_items (after ended_again) (search rules)
     others StartedOnce differ = (tt, (tt, (starts_first 0, (tt, tt))))
     others _ differ = search rules
 
@@ -388,14 +420,15 @@ ended_innermost_alone = ((λ laws. elim (laws.0.2 2 (inl refl) (search rules)) [
   where
     others : (other : TaskLaw) → other ≢ EndedOnce → law_of other (after ended_outer)
     others EndedOnce differ = absurd (differ refl)
+    others AfterNamed differ = starts_without_items (after ended_outer) (search rules)
     others StartedOnce differ = (tt, (((0, Explicit 1, one_job, inl refl), search rules, search rules), (tt, (starts_first 0, (tt, tt)))))
     others _ differ = search rules
 
 -- a task waits, and its child is open
-pub waits_alone : RefusedAlone Waits (Create 1 0 (Implicit 0) one_job ∷ Waited 0 ∷ [])
+pub waits_alone : RefusedAlone Waits (Create 1 0 (Implicit 0) one_job ∷ Waited 0 [] ∷ [])
 waits_alone = ((λ laws. wait_open laws.0), others)
   where
-    others : (other : TaskLaw) → other ≢ Waits → law_of other (after (Create 1 0 (Implicit 0) one_job ∷ Waited 0 ∷ []))
+    others : (other : TaskLaw) → other ≢ Waits → law_of other (after (Create 1 0 (Implicit 0) one_job ∷ Waited 0 [] ∷ []))
     others Waits differ = absurd (differ refl)
     others _ differ = search rules
 

@@ -229,23 +229,23 @@ rule_end_group_after_a_task = record { member = omega arith; outer = []; last = 
 -- A task waits for its children
 
 -- one who is no member waits
-pub rule_wait_stranger : Forbids (TaskRule 2) [] (Waited 2)
+pub rule_wait_stranger : Forbids (TaskRule 2) [] (Waited 2 [])
 rule_wait_stranger may = absurd (let member = may.member in omega arith)
 
 -- a member does
-pub rule_wait_member : Allows (TaskRule 2) [] (Waited 1)
+pub rule_wait_member : Allows (TaskRule 2) [] (Waited 1 [])
 rule_wait_member = search rules
 
 -- its child is open
-pub rule_wait_open : Forbids (TaskRule 2) (Create 1 0 (Implicit 0) one_job ∷ []) (Waited 0)
+pub rule_wait_open : Forbids (TaskRule 2) (Create 1 0 (Implicit 0) one_job ∷ []) (Waited 0 [])
 rule_wait_open may = absurd (let complete = may.complete in cc)
 
 -- or runs on another member
-pub rule_wait_running : Forbids (TaskRule 2) (Create 1 0 (Implicit 0) one_job ∷ Arrive 0 1 (at Barrier 0) ∷ Start 1 1 ∷ []) (Waited 0)
+pub rule_wait_running : Forbids (TaskRule 2) (Create 1 0 (Implicit 0) one_job ∷ Arrive 0 1 (at Barrier 0) ∷ Start 1 1 ∷ []) (Waited 0 [])
 rule_wait_running may = absurd (let complete = may.complete in cc)
 
 -- a child of its child is open, and a task of the other member
-pub rule_wait_grandchild : Allows (TaskRule 2) child_ended (Waited 0)
+pub rule_wait_grandchild : Allows (TaskRule 2) child_ended (Waited 0 [])
 rule_wait_grandchild = search rules
 
 -- A member passes a barrier

@@ -1,26 +1,29 @@
 -- Tasks and groups that keep their rule keep their laws.
 use Rattle.std.proofs.Common.{◌≡◌, ℕ, Bool, true, false, List, [], ◌∷◌, refl, ◌∙◌, sym, arith, inl, inr}
-use Rattle.std.specs.Prelude.{◌||◌, ◌==◌, nat_le, not}
+use Rattle.std.specs.Prelude.{◌&&◌, ◌||◌, ◌==◌, nat_le, not}
 use Rattle.std.proofs.lemmas.Bool.{cases_Bool}
 use Rattle.std.proofs.lemmas.Bool.Decides.{nat_tests}
 use Rattle.gomp_types.specs.declared.task.Task.{Task}
 use Rattle.gomp_types.specs.declared.task.Task.TheVariants.{Implicit, Explicit}
+use Rattle.gomp_types.specs.declared.task.TaskDesc.{TaskDesc}
+use Rattle.gomp_types.specs.declared.depend.Dep.{Dep}
 use Rattle.gomp_types.specs.declared.event.Event.{Event}
 use Rattle.gomp_types.specs.declared.event.Event.TheVariants.{Create, Start, Done, GroupEnd, Waited, Pass}
 use Rattle.gomp_types.specs.Events.{every_member, barriers_passed, all_arrived, at_barrier, at_region_end}
-use Rattle.gomp_types.specs.Tasks.{is_created, task_stack, executed_task, has_started, is_complete, all_complete, epoch, is_child, is_ancestor}
+use Rattle.gomp_types.specs.Tasks.{is_created, task_stack, executed_task, has_started, is_complete, all_complete, epoch, same_task, is_child, is_created_by, is_ancestor}
+use Rattle.gomp_types.specs.Depends.{items_wait, task_items, child_waits, waits_for}
 use Rattle.gomp_types.specs.Groups.{in_group}
 use Rattle.gomp_types.specs.Goals.{bound_complete, barrier_met, region_met, is_ready, each_of, may_descend}
-use Rattle.gomp_types.specs.Laws.{Always}
+use Rattle.gomp_types.specs.Laws.{Always, Happened}
 use Rattle.gomp_types.specs.Arrivals.{ArrivalRule}
 use Rattle.gomp_types.specs.TaskRules.{TaskRule}
-use Rattle.gomp_types.specs.TaskLaws.{IsDone, CreatesOnce, CreatesInItsOwn, StartsOnce, StartsDescendant, EndsItsOwn, WaitsForTasks, OpensOnce, EndsItsGroup, PassesAfterTasks, EndsAfterTasks, TaskLaws}
+use Rattle.gomp_types.specs.TaskLaws.{IsDone, CreatesOnce, CreatesInItsOwn, StartsOnce, StartsAfterNamed, StartsItsOwn, StartsDescendant, EndsItsOwn, WaitsForTasks, OpensOnce, EndsItsGroup, PassesAfterTasks, EndsAfterTasks, TaskLaws}
 use Rattle.gomp_types.proofs.Booleans.{and_left, and_right, is_equal, not_both, implied_by}
 use Rattle.gomp_types.proofs.Always.{always_so, both_so}
 use Rattle.gomp_types.proofs.ArrivalsKeep.{passed_met}
 use Rattle.gomp_types.proofs.OpenTasks.{created_high, complete_at}
-use Rattle.gomp_types.proofs.Suspended.{startable_is_fresh, current_open, created_stays}
-use Rattle.gomp_types.proofs.GroupsKeep.{opens_once, ends_its_group}
+use Rattle.gomp_types.proofs.Suspended.{startable_is_fresh, startable_is_free, current_open, created_stays}
+use Rattle.gomp_types.proofs.GroupsKeep.{same_is_one, opens_once, ends_its_group}
 use Rattle.gomp_types.proofs.TaskEvents.{complete_is_done, done_is_complete, start_happened, runner_happened, newest_created, was_created, created_happened}
 use Rattle.gomp_types.proofs.TaskStacks.{each_tells, running_in_stack, stack_descends, innermost_descends}
 use Rattle.gomp_types.proofs.LaterTasks.{creates_later}
@@ -44,6 +47,51 @@ starts_once members (Start t m) h rule all =
       (λ done. not_both (is_complete t h) (done_is_complete t done.0 h done.1) is.2),
     )
 starts_once members _ h rule all = tt
+
+-- a child was created
+child_is_created : (members : ℕ) (p : Task) (t : ℕ) (h : List Event) → Always (TaskRule members) h → is_child p t h ≡ true → is_created t h ≡ true
+child_is_created members p t [] all e = absurd (cc)
+child_is_created members p t (Create task m parent desc ∷ earlier) all e = elim (cases_Bool (task == t)) [
+  | inl same ↦ newest_created t earlier (let here = is_equal task t same in sym here ∙ all.0.number)
+  | inr other ↦ created_stays t earlier (child_is_created members p t earlier all.1 (rw other at e))
+]
+child_is_created members p t (_ ∷ earlier) all e = child_is_created members p t earlier all.1 e
+
+-- a task for which a child with these items waits was created
+awaited_is_created : (members : ℕ) (p : Task) (items : List Dep) (t : ℕ) (h : List Event) → Always (TaskRule members) h → child_waits p items t h ≡ true → is_created t h ≡ true
+awaited_is_created members p items t h all e = child_is_created members p t h all (and_left (is_child p t h) (items_wait items (task_items t h)) e)
+
+-- and so was one for which a task waits
+named_is_created : (members t q : ℕ) (h : List Event) → Always (TaskRule members) h → waits_for t q h ≡ true → is_created q h ≡ true
+named_is_created members t q [] all e = absurd (cc)
+named_is_created members t q (Create task m parent desc ∷ earlier) all e = elim (cases_Bool (task == t)) [
+  | inl here ↦ created_stays q earlier (awaited_is_created members parent desc.deps q earlier all.1 (rw here at e))
+  | inr other ↦ created_stays q earlier (named_is_created members t q earlier all.1 (rw other at e))
+]
+named_is_created members t q (_ ∷ earlier) all e = named_is_created members t q earlier all.1 e
+
+starts_after_named : (members : ℕ) (event : Event) (h : List Event) → TaskRule members event h → Always (TaskRule members) h → StartsAfterNamed event h
+starts_after_named members (Start t m) h rule all = λ q waits.
+    complete_is_done q h (complete_at (λ u. waits_for t u h) h q (startable_is_free m t h rule.may) (named_is_created members t q h all waits) waits)
+starts_after_named members _ h rule all = tt
+
+-- the creation of a task by this member in this one happened
+own_creation : (m : ℕ) (p : Task) (t : ℕ) (h : List Event) → is_created_by m p t h ≡ true → (desc : TaskDesc) × Happened (Create t m p desc) h
+own_creation m p t [] e = absurd (cc)
+own_creation m p t (Create task member parent desc ∷ earlier) e = elim (cases_Bool (task == t)) [
+  | inl same ↦
+      let by : (member == m && same_task parent p) ≡ true = rw same at e in
+      let here = is_equal task t same in
+      let who = is_equal member m (and_left (member == m) (same_task parent p) by) in
+      let own = same_is_one parent p (and_right (member == m) (same_task parent p) by) in
+      (desc, inl (rw (here, who, own) refl))
+  | inr other ↦ let was = own_creation m p t earlier (rw other at e) in (was.0, inr was.1)
+]
+own_creation m p t (_ ∷ earlier) e = let was = own_creation m p t earlier e in (was.0, inr was.1)
+
+starts_its_own : (members : ℕ) (event : Event) (h : List Event) → TaskRule members event h → Always (TaskRule members) h → StartsItsOwn event h
+starts_its_own members (Start t m) h rule all = λ undeferred. own_creation m (executed_task m h) t h (rule.own undeferred)
+starts_its_own members _ h rule all = tt
 
 -- a task that was not ended is not complete
 not_done : (t : ℕ) (h : List Event) → (IsDone t h → ⊥) → is_complete t h ≡ false
@@ -74,16 +122,7 @@ ends_its_own members _ h rule all = tt
 
 -- Waits
 
--- a child was created
-child_is_created : (members : ℕ) (p : Task) (t : ℕ) (h : List Event) → Always (TaskRule members) h → is_child p t h ≡ true → is_created t h ≡ true
-child_is_created members p t [] all e = absurd (cc)
-child_is_created members p t (Create task m parent desc ∷ earlier) all e = elim (cases_Bool (task == t)) [
-  | inl same ↦ newest_created t earlier (let here = is_equal task t same in sym here ∙ all.0.number)
-  | inr other ↦ created_stays t earlier (child_is_created members p t earlier all.1 (rw other at e))
-]
-child_is_created members p t (_ ∷ earlier) all e = child_is_created members p t earlier all.1 e
-
--- and so was a task in a group
+-- a task in a group was created
 grouped_is_created : (members q t : ℕ) (h : List Event) → Always (TaskRule members) h → in_group q t h ≡ true → is_created t h ≡ true
 grouped_is_created members q t [] all e = absurd (cc)
 grouped_is_created members q t (Create task m (Implicit x) desc ∷ earlier) all e = elim (cases_Bool (task == t)) [
@@ -97,8 +136,10 @@ grouped_is_created members q t (Create task m (Explicit p) desc ∷ earlier) all
 grouped_is_created members q t (_ ∷ earlier) all e = grouped_is_created members q t earlier all.1 e
 
 waits_for_tasks : (members : ℕ) (event : Event) (h : List Event) → TaskRule members event h → Always (TaskRule members) h → WaitsForTasks event h
-waits_for_tasks members (Waited m) h rule all = λ t is.
+waits_for_tasks members (Waited m []) h rule all = λ t is.
     complete_is_done t h (complete_at (λ u. is_child (executed_task m h) u h) h t rule.complete (child_is_created members (executed_task m h) t h all is) is)
+waits_for_tasks members (Waited m (item ∷ items)) h rule all = λ t waits.
+    complete_is_done t h (complete_at (λ u. child_waits (executed_task m h) (item ∷ items) u h) h t rule.complete (awaited_is_created members (executed_task m h) (item ∷ items) t h all waits) waits)
 waits_for_tasks members (GroupEnd q m) h rule all = λ t is.
     complete_is_done t h (complete_at (λ u. in_group q u h) h t rule.complete (grouped_is_created members q t h all is) is)
 waits_for_tasks members _ h rule all = tt
@@ -127,6 +168,8 @@ tasks_keep members h arrivals tasks =
       created_once = always_so (TaskRule members) CreatesOnce (creates_once members) h tasks;
       created_in = always_so (TaskRule members) CreatesInItsOwn (creates_in_its_own members) h tasks;
       started_once = always_so (TaskRule members) StartsOnce (starts_once members) h tasks;
+      after_named = always_so (TaskRule members) StartsAfterNamed (starts_after_named members) h tasks;
+      own = always_so (TaskRule members) StartsItsOwn (starts_its_own members) h tasks;
       descendants = always_so (TaskRule members) StartsDescendant (starts_descendant members) h tasks;
       ended_once = always_so (TaskRule members) EndsItsOwn (ends_its_own members) h tasks;
       waits = always_so (TaskRule members) WaitsForTasks (waits_for_tasks members) h tasks;

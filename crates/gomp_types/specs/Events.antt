@@ -36,7 +36,7 @@ member_of (Start task m) = m
 member_of (Done task m) = m
 member_of (Group group m) = m
 member_of (GroupEnd group m) = m
-member_of (Waited m) = m
+member_of (Waited m deps) = m
 member_of (Break m place) = m
 
 -- Work-shares (OpenMP API 5.2, chapter 11)

@@ -2,9 +2,11 @@
 use Rattle.std.specs.Prelude.{ℕ, ◌&&◌, ◌||◌, not, nat_le, Bool, true, List, [], ◌∷◌}
 use Rattle.gomp_types.specs.declared.task.Task.{Task}
 use Rattle.gomp_types.specs.declared.task.Task.TheVariants.{Implicit, Explicit}
+use Rattle.gomp_types.specs.declared.depend.Dep.{Dep}
 use Rattle.gomp_types.specs.declared.event.Event.{Event}
 use Rattle.gomp_types.specs.Events.{every_member, barriers_passed, all_arrived, at_barrier, at_region_end}
-use Rattle.gomp_types.specs.Tasks.{task_stack, some_task, is_created, has_started, is_complete, all_complete, epoch, is_child, is_ancestor}
+use Rattle.gomp_types.specs.Tasks.{task_stack, executed_task, some_task, is_created, has_started, is_complete, all_complete, epoch, is_child, is_created_by, is_ancestor, is_undeferred}
+use Rattle.gomp_types.specs.Depends.{taskwait_waits, is_free}
 
 -- Goals
 
@@ -28,11 +30,19 @@ may_pass members m h = barrier_met members (barriers_passed m h) h && (not (at_r
 abbrev pub children_complete : Task → List Event → Bool
 children_complete p h = all_complete (λ t. is_child p t h) h
 
+-- what a taskwait with these items waits for: all tasks for which it waits are complete
+abbrev pub taskwait_met : Task → List Dep → List Event → Bool
+taskwait_met p items h = all_complete (λ t. taskwait_waits p items t h) h
+
 -- Tasks that may be started
 
 -- whether the task was created, and is neither started nor complete
+abbrev pub is_unstarted : ℕ → List Event → Bool
+is_unstarted t h = is_created t h && (not (has_started t h) && not (is_complete t h))
+
+-- whether it was, and waits for no task that is not complete (OpenMP API 5.2, section 15.9.5)
 abbrev pub is_ready : ℕ → List Event → Bool
-is_ready t h = is_created t h && (not (has_started t h) && not (is_complete t h))
+is_ready t h = is_unstarted t h && is_free t h
 
 -- whether a test holds of each of these tasks
 abbrev pub each_of : (ℕ → Bool) → List ℕ → Bool
@@ -43,10 +53,18 @@ each_of test (t ∷ ts) = test t && each_of test ts
 abbrev pub may_descend : ℕ → ℕ → List Event → Bool
 may_descend m t h = each_of (λ s. is_ancestor (Explicit s) t h) (task_stack m h) && (at_barrier m h || is_ancestor (Implicit m) t h)
 
--- whether the member may start the task at a wait
+-- whether the member may start the task: it is ready, and descends so (OpenMP API 5.2, section 12.9)
 abbrev pub may_start : ℕ → ℕ → List Event → Bool
 may_start m t h = is_ready t h && may_descend m t h
 
--- whether there is a task that the member may start
+-- whether the member created the task, in the one that it executes
+abbrev pub is_own : ℕ → ℕ → List Event → Bool
+is_own m t h = is_created_by m (executed_task m h) t h
+
+-- whether the member may start the task at a wait: an undeferred one is started at its own creation alone
+abbrev pub is_startable : ℕ → ℕ → List Event → Bool
+is_startable m t h = not (is_undeferred t h) && may_start m t h
+
+-- whether there is a task that the member may start at a wait
 abbrev pub some_startable : ℕ → List Event → Bool
-some_startable m h = some_task (λ t. may_start m t h) h
+some_startable m h = some_task (λ t. is_startable m t h) h

@@ -1,6 +1,7 @@
 pub mod Arrivals
 pub mod Compare
 pub mod Deals
+pub mod Depends
 pub mod EventLists
 pub mod Events
 pub mod Goals

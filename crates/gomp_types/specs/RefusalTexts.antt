@@ -5,7 +5,7 @@ use Rattle.gomp_types.specs.declared.refusal.Place.{Place}
 use Rattle.gomp_types.specs.declared.refusal.Place.TheVariants.{Share, Barrier, Stopped}
 use Rattle.gomp_types.specs.declared.refusal.Clash.{Clash}
 use Rattle.gomp_types.specs.declared.refusal.Refusal.{Refusal}
-use Rattle.gomp_types.specs.declared.refusal.Refusal.TheVariants.{BadMember, Ended, Broken, Waiting, InsideTask, NotInTask, InsideShare, OutsideShare, InOrdered, HoldsCritical, ZeroStep, BadChunk, LoopTooLong, BadSections, EndDiffers, NotDrained, Drained, NotOrdered, OrderedBackwards, NotInside, NoGroup, GroupOpen, TooDeep, TooManyTasks, NameTooLong, AlreadyHeld, NotHolder, NoLock, CountTooLarge, TooManyShares, Mismatch, TraceFull, NoMemory, BadTeam, BadEnv}
+use Rattle.gomp_types.specs.declared.refusal.Refusal.TheVariants.{BadMember, Ended, Broken, Waiting, InsideTask, NotInTask, InsideShare, OutsideShare, InOrdered, HoldsCritical, ZeroStep, BadChunk, LoopTooLong, BadSections, EndDiffers, NotDrained, Drained, NotOrdered, OrderedBackwards, NotInside, NoGroup, GroupOpen, TooDeep, TooManyTasks, TooManyDepends, NameTooLong, AlreadyHeld, NotHolder, NoLock, CountTooLarge, TooManyShares, Mismatch, TraceFull, NoMemory, BadTeam, BadEnv}
 
 -- the number of a refusal: of several that hold the least is the answer
 abbrev pub number_of : Refusal → ℕ
@@ -33,6 +33,7 @@ number_of NoGroup = 24
 number_of GroupOpen = 25
 number_of TooDeep = 26
 number_of TooManyTasks = 27
+number_of TooManyDepends = 28
 number_of NameTooLong = 29
 number_of AlreadyHeld = 30
 number_of NotHolder = 31
@@ -71,6 +72,7 @@ name_of NoGroup = codes "NoGroup"
 name_of GroupOpen = codes "GroupOpen"
 name_of TooDeep = codes "TooDeep"
 name_of TooManyTasks = codes "TooManyTasks"
+name_of TooManyDepends = codes "TooManyDepends"
 name_of NameTooLong = codes "NameTooLong"
 name_of AlreadyHeld = codes "AlreadyHeld"
 name_of NotHolder = codes "NotHolder"

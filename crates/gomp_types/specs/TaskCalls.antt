@@ -1,20 +1,21 @@
 -- The calls on tasks and groups: what each is tested for, what it is answered, and which events it gives. OpenMP API 5.2, chapter 12 and sections 15.3 to 15.5.
-use Rattle.std.specs.Prelude.{ℕ, ◌+◌, ◌≡◌, nat_le, nat_lt, not, Bool, true, false, List, [], ◌∷◌, Some}
+use Rattle.std.specs.Prelude.{ℕ, ◌+◌, ◌≡◌, nat_le, nat_lt, not, Bool, true, false, List, [], ◌∷◌, length, Option, Some, None}
 use Rattle.std.proofs.Common.{zero, suc}
 use Rattle.gomp_types.specs.declared.task.Task.{Task}
 use Rattle.gomp_types.specs.declared.task.Task.TheVariants.{Implicit, Explicit}
 use Rattle.gomp_types.specs.declared.task.TaskDesc.{TaskDesc}
-use Rattle.gomp_types.specs.declared.limits.TheConstants.{MAX_TASK_DEPTH}
+use Rattle.gomp_types.specs.declared.depend.Dep.{Dep}
+use Rattle.gomp_types.specs.declared.limits.TheConstants.{MAX_TASK_DEPTH, MAX_DEPENDS}
 use Rattle.gomp_types.specs.declared.limits.Limits.{Limits}
-use Rattle.gomp_types.specs.declared.refusal.Refusal.TheVariants.{InsideTask, NotInTask, NoGroup, GroupOpen, TooDeep, TooManyTasks, TraceFull}
+use Rattle.gomp_types.specs.declared.refusal.Refusal.TheVariants.{InsideTask, NotInTask, NoGroup, GroupOpen, TooDeep, TooManyTasks, TooManyDepends, TraceFull}
 use Rattle.gomp_types.specs.declared.reply.Reply.{Reply}
 use Rattle.gomp_types.specs.declared.reply.Reply.TheVariants.{Finished, Passed, Wait, Created, Run, TaskDone}
 use Rattle.gomp_types.specs.declared.event.Event.{Event}
 use Rattle.gomp_types.specs.declared.event.Event.TheVariants.{Create, Start, Done, Group, GroupEnd, Waited}
 use Rattle.gomp_types.specs.Tests.{Test}
-use Rattle.gomp_types.specs.Tasks.{tasks_created, executed_task, in_task, depth_of, task_desc}
+use Rattle.gomp_types.specs.Tasks.{tasks_created, executed_task, in_task, depth_of, task_desc, newest_child, is_undeferred}
 use Rattle.gomp_types.specs.Groups.{groups_opened, open_groups, group_complete}
-use Rattle.gomp_types.specs.Goals.{may_start, some_startable, children_complete}
+use Rattle.gomp_types.specs.Goals.{may_start, is_startable, some_startable, taskwait_met}
 
 -- Tests
 
@@ -35,9 +36,14 @@ group_is_open m h = has_some (open_groups (executed_task m h) h)
 abbrev pub group_open_tests : ℕ → List Event → List Test
 group_open_tests m h = (group_is_open m h, GroupOpen) ∷ []
 
--- the creation of a task
-abbrev pub create_tests : Limits → ℕ → List Event → List Test
-create_tests limits m h = (nat_le MAX_TASK_DEPTH (depth_of (executed_task m h) h), TooDeep) ∷ (nat_le limits.tasks (tasks_created h), TooManyTasks) ∷ []
+-- a `depend` clause with more items than it may have: they count as they are written
+abbrev pub items_tests : List Dep → List Test
+items_tests items = (nat_lt MAX_DEPENDS (length items), TooManyDepends) ∷ []
+
+-- the creation of a task with these items
+abbrev pub create_tests : Limits → List Dep → ℕ → List Event → List Test
+create_tests limits items m h =
+    (nat_le MAX_TASK_DEPTH (depth_of (executed_task m h) h), TooDeep) ∷ (nat_le limits.tasks (tasks_created h), TooManyTasks) ∷ items_tests items
 
 -- its end
 abbrev pub end_task_tests : ℕ → List Event → List Test
@@ -77,26 +83,42 @@ first_room (suc m) = first_room m + arrival_room
 
 -- Answers
 
+-- this code with this argument was asked for
+abbrev pub HasJob : Option TaskDesc → ℕ → ℕ → Type 0
+HasJob None code arg = ⊥
+HasJob (Some desc) code arg = (desc.code ≡ code) × (desc.arg ≡ arg)
+
 -- the answer at a wait at which tasks are run: passed if its goal is met; if not, a task that the member may start, with what was asked for; if there is none, wait
 abbrev pub AwaitsTasks : ℕ → Bool → List Event → Reply → Type 0
 AwaitsTasks m met h Passed = met ≡ true
 AwaitsTasks m met h (Run task code arg own) =
-    (met ≡ false) × (own ≡ false) × (may_start m task h ≡ true) × (task_desc task h ≡ Some (record { code = code; arg = arg }))
+    (met ≡ false) × (own ≡ false) × (is_startable m task h ≡ true) × HasJob (task_desc task h) code arg
 AwaitsTasks m met h Wait = (met ≡ false) × (some_startable m h ≡ false)
 AwaitsTasks m met h _ = ⊥
 
--- the answer to the creator of a task, once it is created: its number
-abbrev pub CreatesTask : List Event → Reply → Type 0
-CreatesTask h reply = reply ≡ Created (tasks_created h)
+-- the answer to the creator of an undeferred task: that task as its own, if it may be started; if not, another that the member may start; if there is none, wait
+abbrev pub AwaitsOwn : ℕ → ℕ → List Event → Reply → Type 0
+AwaitsOwn m t h (Run task code arg true) = (task ≡ t) × (may_start m t h ≡ true) × HasJob (task_desc t h) code arg
+AwaitsOwn m t h Passed = ⊥
+AwaitsOwn m t h reply = AwaitsTasks m (may_start m t h) h reply
 
--- the answer at the end of the task that the member executes: the wait at which it was started is open again
-abbrev pub EndsTask : Task → Reply → Type 0
-EndsTask (Explicit t) reply = reply ≡ TaskDone t true
-EndsTask (Implicit m) reply = ⊥
+-- the answer to the creator of a task, which is undeferred or not: of one that is not, its number
+abbrev pub AnswersCreator : Bool → ℕ → ℕ → List Event → Reply → Type 0
+AnswersCreator true m t h reply = AwaitsOwn m t h reply
+AnswersCreator false m t h reply = reply ≡ Created t
+
+-- the answer to a member that has created a task: that is the newest in the one that it executes
+abbrev pub CreatesTask : ℕ → List Event → Reply → Type 0
+CreatesTask m h reply = AnswersCreator (is_undeferred (newest_child (executed_task m h) h) h) m (newest_child (executed_task m h) h) h reply
+
+-- the answer at the end of the task that the member executes: the wait at which it was started is open again, unless it is undeferred, so that its creator goes on
+abbrev pub EndsTask : Task → List Event → Reply → Type 0
+EndsTask (Explicit t) h reply = reply ≡ TaskDone t (not (is_undeferred t h))
+EndsTask (Implicit m) h reply = ⊥
 
 -- the answer at a taskwait of the member's current task
-abbrev pub AwaitsChildren : ℕ → List Event → Reply → Type 0
-AwaitsChildren m h reply = AwaitsTasks m (children_complete (executed_task m h) h) h reply
+abbrev pub AwaitsChildren : ℕ → List Dep → List Event → Reply → Type 0
+AwaitsChildren m items h reply = AwaitsTasks m (taskwait_met (executed_task m h) items h) h reply
 
 -- whether the tasks of the last open group are complete
 abbrev pub last_complete : List ℕ → List Event → Bool
@@ -123,10 +145,10 @@ abbrev pub ends_task : ℕ → Reply → List Event
 ends_task m (TaskDone task waiting) = Done task m ∷ []
 ends_task m _ = []
 
--- a taskwait that is passed
-abbrev pub waited : ℕ → Reply → List Event
-waited m Passed = Waited m ∷ []
-waited m reply = starts_task m reply
+-- a taskwait with these items: a reply that it is passed gives the wait, and a reply Run the start of the task that it has the member execute
+abbrev pub waited : ℕ → List Dep → Reply → List Event
+waited m items Passed = Waited m items ∷ []
+waited m items reply = starts_task m reply
 
 -- the next group
 abbrev pub opens_group : ℕ → List Event → Reply → List Event
@@ -138,7 +160,7 @@ abbrev pub ends_first : List ℕ → ℕ → List Event
 ends_first [] m = []
 ends_first (q ∷ outer) m = GroupEnd q m ∷ []
 
--- the end of the last open group, once it is passed
+-- the end of the last open group: a reply that it is passed gives its end, and a reply Run the start of the task that it has the member execute
 abbrev pub ends_group : ℕ → List Event → Reply → List Event
 ends_group m h Passed = ends_first (open_groups (executed_task m h) h) m
 ends_group m h reply = starts_task m reply

@@ -1,5 +1,7 @@
 -- Tasks and groups that the examples share: each list has the oldest event first. (own)
-use Rattle.std.specs.Prelude.{List, [], ◌∷◌, ◌++◌, ◌≢◌}
+use Rattle.std.specs.Prelude.{ℕ, true, false, List, [], ◌∷◌, ◌++◌, ◌≢◌}
+use Rattle.gomp_types.specs.declared.depend.Dep.{Dep}
+use Rattle.gomp_types.specs.declared.depend.DepKind.{DepKind}
 use Rattle.gomp_types.specs.declared.task.TaskDesc.{TaskDesc}
 use Rattle.gomp_types.specs.declared.task.Task.TheVariants.{Implicit, Explicit}
 use Rattle.gomp_types.specs.declared.event.Arrival.TheVariants.{Barrier, RegionEnd}
@@ -7,19 +9,39 @@ use Rattle.gomp_types.specs.declared.event.Event.{Event}
 use Rattle.gomp_types.specs.declared.event.Event.TheVariants.{Create, Start, Done, Group, GroupEnd, Waited, Arrive, Pass}
 use Rattle.gomp_types.specs.EventLists.{newest_first, at}
 use Rattle.gomp_types.specs.Laws.{Always}
-use Rattle.gomp_types.specs.TaskLaws.{CreatesOnce, CreatesInItsOwn, StartsOnce, StartsDescendant, EndsItsOwn, WaitsForTasks, OpensOnce, EndsItsGroup, PassesAfterTasks, CreatesLater, EndsAfterTasks}
+use Rattle.gomp_types.specs.TaskLaws.{CreatesOnce, CreatesInItsOwn, StartsOnce, StartsAfterNamed, StartsItsOwn, StartsDescendant, EndsItsOwn, WaitsForTasks, OpensOnce, EndsItsGroup, PassesAfterTasks, CreatesLater, EndsAfterTasks}
 
 -- after these events
 abbrev pub after : List Event → List Event
 after events = newest_first events []
 
+-- a task that is to do this, with these items
+abbrev pub job_with : ℕ → ℕ → List Dep → TaskDesc
+job_with code arg items = record { code = code; arg = arg; undeferred = false; final_task = false; deps = items }
+
 -- what a task is to do
 abbrev pub one_job : TaskDesc
-one_job = record { code = 7; arg = 70 }
+one_job = job_with 7 70 []
 
 -- and what another is
 abbrev pub other_job : TaskDesc
-other_job = record { code = 8; arg = 80 }
+other_job = job_with 8 80 []
+
+-- an undeferred one
+abbrev pub at_once : TaskDesc
+at_once = record one_job { undeferred = true }
+
+-- a final one
+abbrev pub last_of_all : TaskDesc
+last_of_all = record one_job { final_task = true }
+
+-- an item of a kind, on an address
+abbrev pub item : DepKind → ℕ → Dep
+item kind addr = record { kind = kind; addr = addr }
+
+-- a task with these items
+abbrev pub with_items : List Dep → TaskDesc
+with_items items = job_with 7 70 items
 
 -- Tasks
 
@@ -48,7 +70,7 @@ nested_groups =
 -- the second waits at a barrier and runs a task of the first, which waits for its child
 abbrev pub first_barrier : List Event
 first_barrier =
-    Create 1 0 (Implicit 0) one_job ∷ Arrive 0 1 (at Barrier 0) ∷ Start 1 1 ∷ Create 2 1 (Explicit 1) other_job ∷ Start 2 1 ∷ Done 2 1 ∷ Waited 1 ∷ Done 1 1 ∷ []
+    Create 1 0 (Implicit 0) one_job ∷ Arrive 0 1 (at Barrier 0) ∷ Start 1 1 ∷ Create 2 1 (Explicit 1) other_job ∷ Start 2 1 ∷ Done 2 1 ∷ Waited 1 [] ∷ Done 1 1 ∷ []
 
 -- the first has a group, in which a task creates another
 abbrev pub one_group : List Event
@@ -82,6 +104,8 @@ pub data TaskLaw : Type 0 where
   CreatedOnce : TaskLaw
   CreatedIn : TaskLaw
   StartedOnce : TaskLaw
+  AfterNamed : TaskLaw
+  OwnAlone : TaskLaw
   Descendants : TaskLaw
   EndedOnce : TaskLaw
   Waits : TaskLaw
@@ -96,6 +120,8 @@ abbrev pub law_of : TaskLaw → List Event → Type 0
 law_of CreatedOnce h = Always CreatesOnce h
 law_of CreatedIn h = Always CreatesInItsOwn h
 law_of StartedOnce h = Always StartsOnce h
+law_of AfterNamed h = Always StartsAfterNamed h
+law_of OwnAlone h = Always StartsItsOwn h
 law_of Descendants h = Always StartsDescendant h
 law_of EndedOnce h = Always EndsItsOwn h
 law_of Waits h = Always WaitsForTasks h

@@ -1,5 +1,5 @@
 -- The laws of tasks and groups, each in the words of the promise that it keeps. OpenMP API 5.2, chapter 12 and sections 15.3 to 15.5.
-use Rattle.std.specs.Prelude.{ℕ, ◌<◌, ◌≤◌, ◌≡◌, true, false, List, ◌∷◌, ◌++◌, ◌⊎◌}
+use Rattle.std.specs.Prelude.{ℕ, ◌<◌, ◌≤◌, ◌≡◌, true, false, List, [], ◌∷◌, ◌++◌, ◌⊎◌}
 use Rattle.gomp_types.specs.declared.task.Task.{Task}
 use Rattle.gomp_types.specs.declared.task.Task.TheVariants.{Implicit, Explicit}
 use Rattle.gomp_types.specs.declared.task.TaskDesc.{TaskDesc}
@@ -7,7 +7,8 @@ use Rattle.gomp_types.specs.declared.event.Event.{Event}
 use Rattle.gomp_types.specs.declared.event.Event.TheVariants.{Create, Start, Done, Group, GroupEnd, Waited, Pass}
 use Rattle.gomp_types.specs.Laws.{Always, Happened}
 use Rattle.gomp_types.specs.Events.{at_barrier, at_region_end}
-use Rattle.gomp_types.specs.Tasks.{executed_task, epoch, is_child, is_ancestor}
+use Rattle.gomp_types.specs.Tasks.{executed_task, epoch, is_child, is_ancestor, is_undeferred}
+use Rattle.gomp_types.specs.Depends.{child_waits, waits_for}
 use Rattle.gomp_types.specs.Groups.{open_groups, in_group}
 
 -- the task was created, by some member in some task
@@ -35,6 +36,16 @@ abbrev pub StartsOnce : Event → List Event → Type 0
 StartsOnce (Start t m) earlier = IsCreated t earlier × ((n : ℕ) → Happened (Start t n) earlier → ⊥) × (IsDone t earlier → ⊥)
 StartsOnce _ earlier = Unit {0}
 
+-- Depend (OpenMP API 5.2, section 15.9.5): a task is started only after every task for which it waits is done.
+abbrev pub StartsAfterNamed : Event → List Event → Type 0
+StartsAfterNamed (Start t m) earlier = (q : ℕ) → waits_for t q earlier ≡ true → IsDone q earlier
+StartsAfterNamed _ earlier = Unit {0}
+
+-- Undeferred tasks (OpenMP API 5.2, section 12.5): such a task is started only by the member that created it, in the task in which it created it.
+abbrev pub StartsItsOwn : Event → List Event → Type 0
+StartsItsOwn (Start t m) earlier = is_undeferred t earlier ≡ true → (desc : TaskDesc) × Happened (Create t m (executed_task m earlier) desc) earlier
+StartsItsOwn _ earlier = Unit {0}
+
 -- Descendant law (OpenMP API 5.2, section 12.9): a member starts only a descendant of every task that it has started and that is not done; of its implicit task too, unless it waits at a barrier (own).
 abbrev pub StartsDescendant : Event → List Event → Type 0
 StartsDescendant (Start t m) earlier =
@@ -51,9 +62,10 @@ EndsItsOwn _ earlier = Unit {0}
 
 -- Waits
 
--- Taskwait and taskgroup (OpenMP API 5.2, sections 15.4 and 15.5): the children of a task that waited are done, and the tasks of a group that has ended.
+-- Taskwait and taskgroup (OpenMP API 5.2, sections 15.4 and 15.5): the children of a task that waited are done, of one that waited with items those for which a child with them waits; and so are the tasks of a group that has ended.
 abbrev pub WaitsForTasks : Event → List Event → Type 0
-WaitsForTasks (Waited m) earlier = (t : ℕ) → is_child (executed_task m earlier) t earlier ≡ true → IsDone t earlier
+WaitsForTasks (Waited m []) earlier = (t : ℕ) → is_child (executed_task m earlier) t earlier ≡ true → IsDone t earlier
+WaitsForTasks (Waited m (item ∷ items)) earlier = (t : ℕ) → child_waits (executed_task m earlier) (item ∷ items) t earlier ≡ true → IsDone t earlier
 WaitsForTasks (GroupEnd q m) earlier = (t : ℕ) → in_group q t earlier ≡ true → IsDone t earlier
 WaitsForTasks _ earlier = Unit {0}
 
@@ -75,7 +87,7 @@ abbrev pub PassesAfterTasks : Event → List Event → Type 0
 PassesAfterTasks (Pass barrier m) earlier = (t : ℕ) → IsCreated t earlier → epoch t earlier ≤ barrier → IsDone t earlier
 PassesAfterTasks _ earlier = Unit {0}
 
--- no task that is bound to a barrier is created after a member passed it
+-- no task that is bound to a barrier, or to an earlier one, is created after a member passed it
 abbrev pub CreatesLater : Event → List Event → Type 0
 CreatesLater (Create t m parent desc) earlier = (barrier n : ℕ) → Happened (Pass barrier n) earlier → barrier < epoch t (Create t m parent desc ∷ earlier)
 CreatesLater _ earlier = Unit {0}
@@ -90,6 +102,8 @@ pub record TaskLaws (h : List Event) : Type 0 where
   pub created_once : Always CreatesOnce h
   pub created_in : Always CreatesInItsOwn h
   pub started_once : Always StartsOnce h
+  pub after_named : Always StartsAfterNamed h
+  pub own : Always StartsItsOwn h
   pub descendants : Always StartsDescendant h
   pub ended_once : Always EndsItsOwn h
   pub waits : Always WaitsForTasks h

@@ -3,13 +3,14 @@ use Rattle.std.specs.Prelude.{ℕ, ◌<◌, ◌≡◌, true, false, List, ◌∷
 use Rattle.std.proofs.Common.{suc}
 use Rattle.gomp_types.specs.declared.task.Task.{Task}
 use Rattle.gomp_types.specs.declared.task.Task.TheVariants.{Explicit}
+use Rattle.gomp_types.specs.declared.depend.Dep.{Dep}
 use Rattle.gomp_types.specs.declared.limits.TheConstants.{MAX_TASK_DEPTH}
 use Rattle.gomp_types.specs.declared.event.Event.{Event}
 use Rattle.gomp_types.specs.declared.event.Event.TheVariants.{Create, Start, Done, Group, GroupEnd, Waited}
 use Rattle.gomp_types.specs.Events.{at_barrier}
-use Rattle.gomp_types.specs.Tasks.{tasks_created, executed_task, in_task, depth_of}
+use Rattle.gomp_types.specs.Tasks.{tasks_created, executed_task, in_task, depth_of, is_undeferred}
 use Rattle.gomp_types.specs.Groups.{groups_opened, open_groups, group_complete}
-use Rattle.gomp_types.specs.Goals.{may_start, children_complete}
+use Rattle.gomp_types.specs.Goals.{may_start, is_own, taskwait_met}
 
 -- a member of the team creates the next task in the one that it executes, which is not the deepest; in its implicit task it does so only while it does not wait at a barrier
 pub record MayCreate (members t m : ℕ) (parent : Task) (earlier : List Event) : Type 0 where
@@ -19,10 +20,11 @@ pub record MayCreate (members t m : ℕ) (parent : Task) (earlier : List Event) 
   pub away : in_task m earlier ≡ false → at_barrier m earlier ≡ false
   pub shallow : depth_of parent earlier < MAX_TASK_DEPTH
 
--- a member of the team starts a task that it may start
+-- a member of the team starts a task that it may start; an undeferred one only if the member created it, in the task that it executes
 pub record MayStart (members t m : ℕ) (earlier : List Event) : Type 0 where
   pub member : m < members
   pub may : may_start m t earlier ≡ true
+  pub own : is_undeferred t earlier ≡ true → is_own m t earlier ≡ true
 
 -- it ends the task that it executes
 pub record MayEnd (members t m : ℕ) (earlier : List Event) : Type 0 where
@@ -41,10 +43,10 @@ pub record MayEndGroup (members q m : ℕ) (earlier : List Event) : Type 0 where
   pub last : open_groups (executed_task m earlier) earlier ≡ q ∷ outer
   pub complete : group_complete q earlier ≡ true
 
--- its task waited for all its children
-pub record MayGoOn (members m : ℕ) (earlier : List Event) : Type 0 where
+-- its task waited for its children, with items for those for which a child with them waits
+pub record MayGoOn (members m : ℕ) (items : List Dep) (earlier : List Event) : Type 0 where
   pub member : m < members
-  pub complete : children_complete (executed_task m earlier) earlier ≡ true
+  pub complete : taskwait_met (executed_task m earlier) items earlier ≡ true
 
 -- the rule of tasks and groups
 abbrev pub TaskRule : ℕ → Event → List Event → Type 0
@@ -53,5 +55,5 @@ TaskRule members (Start t m) earlier = MayStart members t m earlier
 TaskRule members (Done t m) earlier = MayEnd members t m earlier
 TaskRule members (Group q m) earlier = MayOpen members q m earlier
 TaskRule members (GroupEnd q m) earlier = MayEndGroup members q m earlier
-TaskRule members (Waited m) earlier = MayGoOn members m earlier
+TaskRule members (Waited m items) earlier = MayGoOn members m items earlier
 TaskRule members _ earlier = Unit {0}

@@ -125,6 +125,19 @@ is_ancestor a t (Create task member parent desc ∷ earlier) =
     if task == t then same_task parent a || of_explicit (λ p. is_ancestor a p earlier) parent else is_ancestor a t earlier
 is_ancestor a t (_ ∷ earlier) = is_ancestor a t earlier
 
+-- whether this member created the task, in this one
+abbrev pub is_created_by : ℕ → Task → ℕ → List Event → Bool
+is_created_by m p t [] = false
+is_created_by m p t (Create task member parent desc ∷ earlier) =
+    if task == t then member == m && same_task parent p else is_created_by m p t earlier
+is_created_by m p t (_ ∷ earlier) = is_created_by m p t earlier
+
+-- the task that was created last in this one; 0 if none was
+abbrev pub newest_child : Task → List Event → ℕ
+newest_child p [] = 0
+newest_child p (Create task member parent desc ∷ earlier) = if same_task parent p then task else newest_child p earlier
+newest_child p (_ ∷ earlier) = newest_child p earlier
+
 -- how deep an explicit task lies in the tree of tasks, whose roots are the implicit ones, at depth 0
 abbrev pub task_depth : ℕ → List Event → ℕ
 task_depth t [] = 0
@@ -148,6 +161,27 @@ epoch t (_ ∷ earlier) = epoch t earlier
 abbrev pub epoch_of_child : Task → List Event → ℕ
 epoch_of_child (Implicit m) h = barriers_passed m h
 epoch_of_child (Explicit p) h = epoch p h
+
+-- Final and undeferred tasks (OpenMP API 5.2, sections 12.3 and 12.5)
+
+-- whether the task is final: its `final` clause is true, or it was created in a final task
+abbrev pub is_final : ℕ → List Event → Bool
+is_final t [] = false
+is_final t (Create task member parent desc ∷ earlier) =
+    if task == t then desc.final_task || of_explicit (λ p. is_final p earlier) parent else is_final t earlier
+is_final t (_ ∷ earlier) = is_final t earlier
+
+-- whether a task of this description is undeferred if it is created in this one now: its `if` clause is false, or its parent is final
+abbrev pub becomes_undeferred : TaskDesc → Task → List Event → Bool
+becomes_undeferred desc parent h = desc.undeferred || of_explicit (λ p. is_final p h) parent
+
+-- whether the task is undeferred: its creator does not go on before it is done
+abbrev pub is_undeferred : ℕ → List Event → Bool
+is_undeferred t [] = false
+is_undeferred t (Create task member parent desc ∷ earlier) = if task == t then becomes_undeferred desc parent earlier else is_undeferred t earlier
+is_undeferred t (_ ∷ earlier) = is_undeferred t earlier
+
+-- Barriers
 
 -- whether a number is odd; the barriers to which open tasks are bound do not differ by more than one, so this tells them apart
 abbrev pub is_odd : ℕ → Bool

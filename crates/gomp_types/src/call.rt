@@ -1,9 +1,11 @@
 //! What a member of a team asks.
 
 use crate::critical_name::CriticalName;
+use crate::depend::Deps;
 use crate::loop_desc::{EndKind, LoopDesc};
 use crate::payload::Payload;
 use crate::task::TaskDesc;
+use std::mem::size_of;
 
 /// One call of a member, in the form that does not wait: if it would, the answer is
 /// [`Reply::Wait`](crate::Reply::Wait), and `Resume` asks again.
@@ -60,7 +62,8 @@ pub enum Call {
     /// Makes a simple lock, which is not set, and asks for its number (OpenMP API 5.2, section
     /// 18.9.1).
     LockInit,
-    /// Makes a nestable lock, which is not set, and asks for its number.
+    /// Makes a nestable lock, which is not set, and asks for its number (OpenMP API 5.2, section
+    /// 18.9.1).
     NestInit,
     /// Destroys the lock of this number, of either kind; the number is not used again (OpenMP API
     /// 5.2, section 18.9.3).
@@ -74,27 +77,28 @@ pub enum Call {
     /// 18.9.5).
     Unset(u32),
     /// Sets the nestable lock of this number once more, once no other task holds it, and asks how
-    /// often the task has set it.
+    /// often the task has set it (OpenMP API 5.2, section 18.9.4).
     SetNest(u32),
     /// Sets the nestable lock of this number once more if no other task holds it, and asks how often
-    /// the task has set it; 0 if another task holds it.
+    /// the task has set it; 0 if another task holds it (OpenMP API 5.2, section 18.9.6).
     TestNest(u32),
     /// Unsets the nestable lock of this number, which the member's task holds, once, and asks how
-    /// often it is set still.
+    /// often it is set still (OpenMP API 5.2, section 18.9.5).
     UnsetNest(u32),
     /// Creates a task in the task that the member executes, to run this code with this argument, and
     /// asks for its number (OpenMP API 5.2, section 12.5; libgomp's `GOMP_task`).
     TaskCreate(TaskDesc),
-    /// Ends the explicit task that the member executes.
+    /// Ends the explicit task that the member executes (OpenMP API 5.2, section 12.5).
     TaskEnd,
-    /// Waits for the children of the task that the member executes (OpenMP API 5.2, section 15.5;
-    /// libgomp's `GOMP_taskwait`).
-    Taskwait,
+    /// Waits for the children of the task that the member executes, with items for those of them that
+    /// a child with these items waits for (OpenMP API 5.2, section 15.5; libgomp's `GOMP_taskwait`
+    /// and `GOMP_taskwait_depend`).
+    Taskwait(Deps),
     /// Opens a group of tasks in that task (OpenMP API 5.2, section 15.4; libgomp's
     /// `GOMP_taskgroup_start`).
     GroupStart,
     /// Ends the last open group of that task, once the tasks created in it, and all that descend from
-    /// these, are complete.
+    /// these, are complete (OpenMP API 5.2, section 15.4).
     GroupEnd,
     /// Repeats the call whose answer was to wait.
     Resume,
@@ -110,3 +114,6 @@ pub struct Step {
     /// What it asks.
     pub call: Call,
 }
+
+// A record has one for each step.
+const _: () = prove!(size_of::<Call>() <= 80);

@@ -3,11 +3,13 @@
 ghost use Rattle.std.specs.Prelude.{◌≡◌};
 ghost use Rattle.gomp_types.specs.Shapes.{same_tag};
 
+use crate::depend::Deps;
 use crate::key::Key;
 use crate::payload::Payload;
 use crate::refusal::Place;
 use crate::shape::Shape;
 use crate::task::{Task, TaskDesc};
+use std::mem::size_of;
 
 /// At what kind of barrier a member arrives (OpenMP API 5.2, sections 15.3.1 and 15.3.2).
 #[derive(Clone, Copy, Debug, PartialEq, Eq)]
@@ -139,9 +141,11 @@ pub enum Event {
         group: u64,
         member: u16,
     },
-    /// The member's current task waited for its children: they are complete.
+    /// The member's current task waited for its children, with items for those of them that a child
+    /// with these items waits for: they are complete.
     Waited {
         member: u16,
+        deps: Deps,
     },
     /// The member broke the team: its construct differed from the team's there, or it stopped it.
     Break {
@@ -158,3 +162,6 @@ impl Tag {
         self == other
     }
 }
+
+// A record has one for each step.
+const _: () = prove!(size_of::<Event>() <= 96);

@@ -7,6 +7,7 @@
 
 pub mod call;
 pub mod critical_name;
+pub mod depend;
 pub mod event;
 pub mod key;
 pub mod limits;
@@ -24,11 +25,12 @@ pub mod task;
 
 pub use call::{Call, Step};
 pub use critical_name::{CriticalName, MAX_NAME};
+pub use depend::{Dep, DepKind, Deps};
 pub use event::{Arrival, Event, Tag};
 pub use key::Key;
 pub use limits::{
-    Limits, MAX_CHUNK, MAX_MEMBERS, MAX_SECTIONS, MAX_TASK_DEPTH, MAX_TRIPS, OPEN_SHARES,
-    is_team_size,
+    Limits, MAX_CHUNK, MAX_DEPENDS, MAX_MEMBERS, MAX_SECTIONS, MAX_TASK_DEPTH, MAX_TRIPS,
+    OPEN_SHARES, is_team_size,
 };
 pub use lock::{Held, LockKind, MAX_COUNT, MAX_LOCKS};
 pub use loop_desc::{EndKind, LoopDesc, Sched, trips};

@@ -81,6 +81,8 @@ pub enum Refusal {
     TooDeep,
     /// E27: the region has had as many tasks as the limit.
     TooManyTasks,
+    /// E28: the `depend` clause of a task or a taskwait has more than 16 items.
+    TooManyDepends,
     /// E29: the critical name has more than 32 bytes, or is not ASCII.
     NameTooLong,
     /// E30: the member holds this critical name; its task owns this simple lock; the lock to be
@@ -136,6 +138,7 @@ impl Refusal {
             Refusal::GroupOpen => 25,
             Refusal::TooDeep => 26,
             Refusal::TooManyTasks => 27,
+            Refusal::TooManyDepends => 28,
             Refusal::NameTooLong => 29,
             Refusal::AlreadyHeld => 30,
             Refusal::NotHolder => 31,
@@ -179,6 +182,7 @@ impl Refusal {
             Refusal::GroupOpen => "GroupOpen",
             Refusal::TooDeep => "TooDeep",
             Refusal::TooManyTasks => "TooManyTasks",
+            Refusal::TooManyDepends => "TooManyDepends",
             Refusal::NameTooLong => "NameTooLong",
             Refusal::AlreadyHeld => "AlreadyHeld",
             Refusal::NotHolder => "NotHolder",

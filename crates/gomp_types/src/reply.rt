@@ -2,6 +2,7 @@
 
 use crate::payload::Payload;
 use crate::refusal::Refusal;
+use std::mem::size_of;
 
 /// The answer to one call.
 #[derive(Debug, Drop, PartialEq, Eq)]
@@ -28,8 +29,7 @@ pub enum Reply {
     /// The number of the task that was created, from 1.
     Created(u32),
     /// The member executes this task from now on, of which this was asked when it was created, and
-    /// ends it by `TaskEnd`; `own` if it is the undeferred task of this very call, which no call
-    /// creates yet.
+    /// ends it by `TaskEnd`; `own` if it is the undeferred task of this very call.
     Run {
         task: u32,
         code: u64,
@@ -53,3 +53,6 @@ pub enum Reply {
     /// The call changed nothing, save that `Mismatch` broke the team.
     Refused(Refusal),
 }
+
+// A record has one for each step.
+const _: () = prove!(size_of::<Reply>() <= 80);

@@ -5,6 +5,8 @@
 ghost use Rattle.std.specs.Prelude.{◌≡◌};
 ghost use Rattle.gomp_types.specs.Owners.{same_owner, same_member};
 
+use crate::depend::Deps;
+
 /// A task that a member executes.
 #[derive(Clone, Copy, Debug, PartialEq, Eq)]
 pub enum Task {
@@ -22,6 +24,14 @@ pub struct TaskDesc {
     pub code: u64,
     /// On what it does it.
     pub arg: u64,
+    /// Whether its creator waits until it is done (an `if` clause that is false; OpenMP API 5.2,
+    /// section 12.5). A task that is created in a final one is undeferred whatever stands here.
+    pub undeferred: bool,
+    /// Whether it is final: the tasks created in it are undeferred, and final themselves (OpenMP API
+    /// 5.2, section 12.3).
+    pub final_task: bool,
+    /// For which earlier tasks of the same parent it waits: the items of its `depend` clause.
+    pub deps: Deps,
 }
 
 /// Who holds a critical name or a lock.

@@ -58,8 +58,8 @@ pub(crate) fn count_of(word: &[u8]) -> Result<u32, Why>
     }
 }
 
-/// The unsigned number of 64 bits that this word writes: a word of a payload, the code of a task or
-/// its argument.
+/// The unsigned number of 64 bits that this word writes: a word of a payload, the code of a task, its
+/// argument, or the address of an item.
 pub(crate) fn unsigned_of(word: &[u8]) -> Result<u64, Why>
     ensures { result ≡ unsigned_of word.now }
 {

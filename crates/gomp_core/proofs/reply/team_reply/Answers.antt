@@ -1,4 +1,4 @@
-use Rattle.std.proofs.Common.{◌∙◌, true, false, sym}
+use Rattle.std.proofs.Common.{◌∙◌, sym}
 use Rattle.gomp_types.specs.declared.event.Event.TheVariants.{Hold, Free}
 use Rattle.gomp_core.proofs.AllAnswer.{book_answers, parts_answer}
 use Rattle.gomp_core.proofs.reply.team_reply.Goals as goal

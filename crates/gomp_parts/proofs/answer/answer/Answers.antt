@@ -1,6 +1,5 @@
 use Rattle.std.proofs.Common.{◌≡◌, ◌<◌, ℕ, true, ap, refl, sym, subst, inl, inr}
 use Rattle.std.specs.Prelude.{not, is_some}
-use Rattle.gomp_types.specs.declared.call.Call.TheVariants.{LoopEnd, SectionsEnd}
 use Rattle.gomp_types.specs.declared.loop_desc.EndKind.TheVariants.{Wait as WaitEnd}
 use Rattle.gomp_types.specs.declared.event.Arrival.TheVariants.{Barrier, RegionEnd}
 use Rattle.gomp_types.specs.Compare.{tag_with}
@@ -95,7 +94,7 @@ returns-in-TaskCreate-clause-answers g c =
       | inr other ↦ elim other [
         | inl is ↦ rw is refl
         | inr other ↦ elim other [
-          | inl is ↦ rw is refl
+          | inl is ↦ rw is.1 refl
           | inr other ↦ elim other [
             | inl is ↦ rw is refl
             | inr other ↦ elim other [

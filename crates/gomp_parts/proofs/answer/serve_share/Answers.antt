@@ -1,6 +1,6 @@
 use Rattle.std.proofs.Common.{◌<◌, ℕ, subst}
 use Rattle.gomp_model.specs.Calls.{row_of}
-use Rattle.gomp_parts.specs.Serves.{asked_once, KeepsMore}
+use Rattle.gomp_parts.specs.Serves.{KeepsMore}
 use Rattle.gomp_parts.proofs.ShareRows.{call_is_share_row, ready_in_place}
 use Rattle.gomp_parts.proofs.Reserved.{reserve_fine, no_room_answers}
 use Rattle.gomp_parts.proofs.Answered.{share_answers}

@@ -3,6 +3,3 @@ use Rattle.gomp_script.proofs.parse.first_fault.Goals as goal
 
 pub loop-rest-preserved : goal.loop-rest-preserved
 loop-rest-preserved c = search rules
-
-pub returns-in-Err : goal.returns-in-Err
-returns-in-Err c = search rules

@@ -1,9 +1,18 @@
-use Rattle.std.proofs.Common.{subst, reverse}
-use Rattle.gomp_board.specs.Boards.{BoardView, Stands, HasMembers}
+use Rattle.std.proofs.Common.{sym, subst, ap, ◌∙◌}
+use Rattle.gomp_types.specs.declared.task.Task.{Task}
+use Rattle.gomp_types.specs.Goals.{taskwait_met}
+use Rattle.gomp_board.specs.Boards.{BoardView, Stands}
+use Rattle.gomp_board.proofs.Freed.{met_without, met_with}
 use Rattle.gomp_board.proofs.board.Board.children_done.Goals as goal
 
-pub returns-clause-known : goal.returns-clause-known
-returns-clause-known c = subst (λ (v : BoardView). Stands v (reverse v.history)) c.self.view_is c.self.invariant.stands
+pub returns-then-is_empty-clause-value : goal.returns-then-is_empty-clause-value
+returns-then-is_empty-clause-value c = λ h now_st.
+    let st = subst (λ (v : BoardView). Stands v h) (sym c.self.view_is) now_st in
+    let empty = sym c.is_empty.ensures ∙ c.if-is_empty.true in
+    c.children_done.ensures.value h st.groups ∙ met_without c.current-task.result c.args.items.now h empty ∙ ap (λ (p : Task). taskwait_met p c.args.items.now h) (c.current-task.ensures.value h st.tasks)
 
-pub returns-clause-members : goal.returns-clause-members
-returns-clause-members c = subst (λ (v : BoardView). HasMembers v) c.self.view_is c.self.invariant.members
+pub returns-else-is_empty-clause-value : goal.returns-else-is_empty-clause-value
+returns-else-is_empty-clause-value c = λ h now_st.
+    let st = subst (λ (v : BoardView). Stands v h) (sym c.self.view_is) now_st in
+    let some = sym c.is_empty.ensures ∙ c.if-is_empty.false in
+    c.are_named_done.ensures.value h st.depends ∙ met_with c.current-task.result c.args.items.now h some ∙ ap (λ (p : Task). taskwait_met p c.args.items.now h) (c.current-task.ensures.value h st.tasks)

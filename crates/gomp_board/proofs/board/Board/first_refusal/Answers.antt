@@ -1,32 +1,14 @@
-use Rattle.std.proofs.Common.{sym, subst, ap, ◌∙◌}
-use Rattle.gomp_barrier.specs.declared.barriers.AtBarrier.{AtBarrier}
-use Rattle.gomp_board.specs.Boards.{BoardView, Stands, kept_by}
-use Rattle.gomp_board.proofs.RefusalOrder.{left_refusal, broken_refusal, own_refusal}
+use Rattle.std.proofs.Common.{sym, ◌∙◌}
+use Rattle.gomp_board.specs.Boards.{kept_by}
+use Rattle.gomp_board.proofs.RefusalOrder.{team_refusal_first, own_refusal_next}
 use Rattle.gomp_board.proofs.board.Board.first_refusal.Goals as goal
-
-pub returns-then-look : goal.returns-then-look
-returns-then-look c = record {
-  value = λ h now_st.
-      let now = c.args.self.now in let m = c.args.member in
-      let st = subst (λ (v : BoardView). Stands v h) (sym c.self.view_is) now_st in
-      let left = sym (ap (λ (seen : AtBarrier). seen.left) (c.look.ensures.value h st.barriers)) ∙ c.if-look.true in
-      left_refusal now.limits now.room (kept_by m now) m c.args.op.now h left;
-}
 
 pub returns-in-Some : goal.returns-in-Some
 returns-in-Some c = record {
-  value = λ h now_st.
-      let now = c.args.self.now in let m = c.args.member in
-      let st = subst (λ (v : BoardView). Stands v h) (sym c.self.view_is) now_st in
-      let stays = sym (ap (λ (seen : AtBarrier). seen.left) (c.look.ensures.value h st.barriers)) ∙ c.if-look.false in
-      broken_refusal now.limits now.room (kept_by m now) m c.args.op.now c.in-Some.clash h stays (st.clash ∙ c.in-Some.is);
+  value = λ h st. let now = c.args.self.now in team_refusal_first now.limits now.room (kept_by c.args.member now) c.args.member c.args.op.now c.in-Some.refusal h (sym c.in-Some.is ∙ c.team_refusal.ensures.value h st);
 }
 
-pub returns : goal.returns
-returns c = record {
-  value = λ h now_st.
-      let now = c.args.self.now in let m = c.args.member in
-      let st = subst (λ (v : BoardView). Stands v h) (sym c.self.view_is) now_st in
-      let stays = sym (ap (λ (seen : AtBarrier). seen.left) (c.look.ensures.value h st.barriers)) ∙ c.if-look.false in
-      own_refusal now.limits now.room (kept_by m now) m c.args.op.now c.test_refusal.result h stays (st.clash ∙ c.in_default.is) (c.test_refusal.ensures.value h now_st);
+pub returns-in-None : goal.returns-in-None
+returns-in-None c = record {
+  value = λ h st. let now = c.args.self.now in own_refusal_next now.limits now.room (kept_by c.args.member now) c.args.member c.args.op.now c.test_refusal.result h (sym c.in-None.is ∙ c.team_refusal.ensures.value h st) (c.test_refusal.ensures.value h st);
 }

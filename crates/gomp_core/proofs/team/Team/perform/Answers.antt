@@ -6,8 +6,8 @@ use Rattle.gomp_core.specs.Stands.{TeamView, past}
 use Rattle.gomp_core.proofs.Stepping.{other_stands, refused_memory, refused_keeps, stands_refused}
 use Rattle.gomp_core.proofs.team.Team.perform.Goals as goal
 
-pub returns-in_default : goal.returns-in_default
-returns-in_default g c =
+pub returns : goal.returns
+returns g c =
     let team : TeamView g.row.S.Denot = record { icv = c.self.inside.icv; board = c.self.inside.board; waits = c.self.inside.waits.items; book = c.self.inside.book; shares = c.self.inside.shares } in
     let step : Step = record { member = c.args.member; call = c.args.call } in
     let (run, known) = c.self.invariant in

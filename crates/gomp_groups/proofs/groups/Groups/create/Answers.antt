@@ -1,4 +1,4 @@
-use Rattle.std.proofs.Common.{ℕ, List, ◌∷◌, ap, sym, subst, arith, suc}
+use Rattle.std.proofs.Common.{ℕ, false, List, [], ◌∷◌, ap, sym, subst, arith, suc}
 use Rattle.gomp_types.specs.declared.task.TaskDesc.{TaskDesc}
 use Rattle.gomp_types.specs.declared.event.Event.{Event}
 use Rattle.gomp_types.specs.declared.event.Event.TheVariants.{Create}
@@ -53,5 +53,5 @@ returns-clause-stands c = λ h m desc st may.
 pub invariant_of-self : goal.invariant_of-self
 invariant_of-self c =
     let may : (h : List Event) × (m : ℕ) × Stands c.args.self.now h × MayCreateIn (members_of c.args.self.now) m c.args.parent h = c.requires.may in
-    let desc : TaskDesc = record { code = 0; arg = 0 } in
+    let desc : TaskDesc = record { code = 0; arg = 0; undeferred = false; final_task = false; deps = [] } in
     (Create (suc (tasks_created may.0)) may.1 c.args.parent desc ∷ may.0, returns-clause-stands c may.0 may.1 desc may.2 may.3)

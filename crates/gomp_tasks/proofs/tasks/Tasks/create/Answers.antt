@@ -3,11 +3,11 @@ use Rattle.std.proofs.lemmas.List.{length-append}
 use Rattle.gomp_types.specs.declared.event.Event.{Event}
 use Rattle.gomp_types.specs.declared.event.Event.TheVariants.{Create}
 use Rattle.gomp_types.specs.declared.task.Task.{Task}
-use Rattle.gomp_types.specs.Tasks.{executed_task, depth_of}
+use Rattle.gomp_types.specs.Tasks.{executed_task, depth_of, of_explicit, is_final}
 use Rattle.gomp_tasks.specs.declared.tasks.TheConstants.{MAX_TASKS}
 use Rattle.gomp_tasks.specs.Stands.{TasksView, Stands, count_of}
 use Rattle.gomp_tasks.specs.Calls.{MayCreateNext}
-use Rattle.gomp_tasks.proofs.RowsKeep.{new_of}
+use Rattle.gomp_tasks.specs.Rows.{unstarted_row}
 use Rattle.gomp_tasks.proofs.TasksKeep.{tasks_of_view_stand, task_create_keeps}
 use Rattle.gomp_tasks.proofs.tasks.Tasks.create.Goals as goal
 
@@ -18,11 +18,12 @@ returns-clause-stands c = λ h st0 may0.
     let parent = c.current-parent.ensures.value h st0 in
     let deep : c.depth-depth.result + 1 ≡ depth_of (executed_task c.args.member h) h + 1 = ap (λ (n : ℕ). n + 1) (c.depth-depth.ensures.value h st0 ∙ ap (λ (p : Task). depth_of p h) parent) in
     let number : c.count-task.result + 1 ≡ suc (length c.self.inside.rows.items) = (let counted = c.count-task.ensures.rows ∙ ap count_of (sym c.self.view_is) in omega (arith, counted)) in
-    rw (number, c.push_reserved.ensures.items, parent) (task_create_keeps c.self.inside.rows.items c.self.inside.stacks.items c.args.member _ (c.depth-depth.result + 1) c.args.odd _ c.args.desc h st may.rule deep may.odd_is)
+    let in_final = c.is_final-in_final.ensures.value h st0 ∙ ap (of_explicit (λ (t : ℕ). is_final t h)) parent in
+    rw (number, c.push_reserved.ensures.items, c.unstarted.ensures, parent) (task_create_keeps c.self.inside.rows.items c.self.inside.stacks.items c.args.member _ (c.depth-depth.result + 1) c.args.odd _ _ c.args.desc.now h st may.rule deep may.odd_is in_final)
 
 pub invariant_of-self : goal.invariant_of-self
 invariant_of-self c =
     let may : (h : List Event) × Stands c.args.self.now h × MayCreateNext c.args.self.now c.args.member c.args.odd h = c.requires.may in
     let few : length c.self.inside.rows.items < MAX_TASKS = subst (λ (v : TasksView). count_of v < MAX_TASKS) (sym c.self.view_is) c.requires.few in
-    let longer = length-append c.self.inside.rows.items (new_of c.args.desc c.current-parent.result (c.depth-depth.result + 1) c.args.odd ∷ []) in
-    ((Create (c.count-task.result + 1) c.args.member (executed_task c.args.member may.0) c.args.desc ∷ may.0, returns-clause-stands c may.0 may.1 may.2), rw c.push_reserved.ensures.items (omega (arith, few, longer)))
+    let longer = length-append c.self.inside.rows.items (unstarted_row c.args.desc.now c.current-parent.result (c.depth-depth.result + 1) c.args.odd c.is_final-in_final.result ∷ []) in
+    ((Create (c.count-task.result + 1) c.args.member (executed_task c.args.member may.0) c.args.desc.now ∷ may.0, returns-clause-stands c may.0 may.1 may.2), rw (c.push_reserved.ensures.items, c.unstarted.ensures) (omega (arith, few, longer)))

@@ -1,0 +1,69 @@
+-- What the creator of a task is answered, by whether the task is undeferred and may be started.
+use Rattle.std.proofs.Common.{◌≡◌, ℕ, Bool, true, false, List, refl, subst, arith, suc, zero, inl, inr}
+use Rattle.std.specs.Prelude.{◌==◌}
+use Rattle.std.proofs.lemmas.Bool.{cases_Bool}
+use Rattle.gomp_types.specs.declared.reply.Reply.{Reply}
+use Rattle.gomp_types.specs.declared.reply.Reply.TheVariants.{Passed, Wait, Created, Run, Refused}
+use Rattle.gomp_types.specs.declared.event.Event.{Event}
+use Rattle.gomp_types.specs.Laws.{Always}
+use Rattle.gomp_types.specs.Tasks.{tasks_created, executed_task, is_undeferred, newest_child}
+use Rattle.gomp_types.specs.Goals.{may_start}
+use Rattle.gomp_types.specs.TaskRules.{TaskRule}
+use Rattle.gomp_types.specs.TaskCalls.{AnswersCreator, CreatesTask, AwaitsOwn, AwaitsTasks}
+use Rattle.gomp_types.proofs.OpenTasks.{created_low}
+use Rattle.gomp_tasks.specs.Stands.{IsNumber}
+use Rattle.gomp_tasks.proofs.Laws.{created_tasks_have_numbers}
+use Rattle.gomp_board.specs.Boards.{BoardView, Stands}
+use Rattle.gomp_board.specs.Startable.{RunsTask}
+use Rattle.gomp_board.proofs.Waiting.{IsReply}
+use Rattle.gomp_board.proofs.Freed.{undeferred_is_created, newest_low, number_in_range}
+
+-- no task has the number 0
+pub none_is_deferred : (members : ℕ) (t : ℕ) (h : List Event) → Always (TaskRule members) h → t ≡ 0 → is_undeferred t h ≡ false
+none_is_deferred members t h all none = elim (cases_Bool (is_undeferred t h)) [
+  | inl is ↦ absurd (let low = created_low t h (undeferred_is_created members t h all is) in omega (arith, low, none))
+  | inr not_it ↦ not_it
+]
+
+-- the newest child has a number, if there is one
+pub newest_has_number : (b : BoardView) (m t : ℕ) (h : List Event) → Stands b h → t ≡ newest_child (executed_task m h) h → (t == 0) ≡ false → IsNumber t b.tasks
+newest_has_number b m zero h st newest some = absurd (cc)
+newest_has_number b m (suc k) h st newest some =
+    let high = newest_low _ (executed_task m h) h st.tasks.rule in
+    created_tasks_have_numbers b.tasks h (suc k) st.tasks (number_in_range (suc k) (tasks_created h) (omega arith) (omega (arith, newest, high)))
+
+-- no answer of it is a refusal
+pub creator_is_answered : (m : ℕ) (h : List Event) (reply : Reply) → CreatesTask m h reply → IsReply reply
+creator_is_answered m h (Refused refusal) may = never (is_undeferred (newest_child (executed_task m h) h) h) may
+  where
+    never : (b : Bool) → AnswersCreator b m (newest_child (executed_task m h) h) h (Refused refusal) → ⊥
+    never true may = may
+    never false may = absurd (cc)
+creator_is_answered m h _ may = tt
+
+-- of a deferred task its number
+pub creator_gets_number : (m t : ℕ) (h : List Event) → t ≡ newest_child (executed_task m h) h → is_undeferred t h ≡ false → CreatesTask m h (Created t)
+creator_gets_number m t h newest deferred = subst (λ (n : ℕ). AnswersCreator (is_undeferred n h) m n h (Created t)) newest (rw deferred refl)
+
+undeferred_answer : (m t : ℕ) (h : List Event) (reply : Reply) → t ≡ newest_child (executed_task m h) h → is_undeferred t h ≡ true → AwaitsOwn m t h reply → CreatesTask m h reply
+undeferred_answer m t h reply newest undeferred own = subst (λ (n : ℕ). AnswersCreator (is_undeferred n h) m n h reply) newest (rw undeferred own)
+
+-- an undeferred one is started if it may be
+own_starts : (m t : ℕ) (h : List Event) (reply : Reply) → may_start m t h ≡ true → RunsTask t true h reply → AwaitsOwn m t h reply
+own_starts m t h (Run task code arg true) may runs = (runs.0, may, runs.2)
+own_starts m t h (Run task code arg false) may runs = absurd (let never = runs.1 in cc)
+own_starts m t h _ may runs = absurd runs
+
+pub creator_starts : (m t : ℕ) (h : List Event) (reply : Reply) → t ≡ newest_child (executed_task m h) h → is_undeferred t h ≡ true → may_start m t h ≡ true → RunsTask t true h reply → CreatesTask m h reply
+creator_starts m t h reply newest undeferred may runs = undeferred_answer m t h reply newest undeferred (own_starts m t h reply may runs)
+
+-- and else waited for
+own_waits : (m t : ℕ) (h : List Event) (reply : Reply) → may_start m t h ≡ false → AwaitsTasks m false h reply → AwaitsOwn m t h reply
+own_waits m t h Passed held waits = absurd (cc)
+own_waits m t h Wait held waits = (held, waits.1)
+own_waits m t h (Run task code arg true) held waits = absurd (let never = waits.1 in cc)
+own_waits m t h (Run task code arg false) held waits = (held, waits.1, waits.2, waits.3)
+own_waits m t h _ held waits = absurd waits
+
+pub creator_has_to_wait : (m t : ℕ) (h : List Event) (reply : Reply) → t ≡ newest_child (executed_task m h) h → is_undeferred t h ≡ true → may_start m t h ≡ false → AwaitsTasks m false h reply → CreatesTask m h reply
+creator_has_to_wait m t h reply newest undeferred held waits = undeferred_answer m t h reply newest undeferred (own_waits m t h reply held waits)

@@ -1,0 +1,11 @@
+use Rattle.std.proofs.Common.{sym, ◌∙◌}
+use Rattle.gomp_board.specs.declared.op.Op.TheVariants.{Create}
+use Rattle.gomp_board.specs.Boards.{kept_by}
+use Rattle.gomp_board.proofs.RefusalOrder.{team_refusal_first, own_refusal_next}
+use Rattle.gomp_board.proofs.board.Board.creation_first.Goals as goal
+
+pub returns-in-Some-clause-value : goal.returns-in-Some-clause-value
+returns-in-Some-clause-value c = λ h desc st same. let now = c.args.self.now in team_refusal_first now.limits now.room (kept_by c.args.member now) c.args.member (Create desc) c.in-Some.refusal h (sym c.in-Some.is ∙ c.team_refusal.ensures.value h st)
+
+pub returns-in-None-clause-value : goal.returns-in-None-clause-value
+returns-in-None-clause-value c = λ h desc st same. let now = c.args.self.now in own_refusal_next now.limits now.room (kept_by c.args.member now) c.args.member (Create desc) c.create_refusal.result h (sym c.in-None.is ∙ c.team_refusal.ensures.value h st) (rw same (c.create_refusal.ensures.value h st))

@@ -1,0 +1,4 @@
+use Rattle.gomp_board.proofs.board.Board.run_or_wait.Goals as goal
+
+pub returns-in-Some-clause-waits : goal.returns-in-Some-clause-waits
+returns-in-Some-clause-waits c = λ wait. absurd (c.start.ensures.runs wait)

@@ -1,0 +1,5 @@
+pub mod DependExamples
+pub mod Laws
+pub mod RowLists
+pub mod RowsKeep
+pub mod TaskFacts

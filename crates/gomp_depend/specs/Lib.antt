@@ -1,0 +1,4 @@
+pub mod Calls
+pub mod Examples
+pub mod Rows
+pub mod Stands
