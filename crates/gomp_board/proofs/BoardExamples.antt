@@ -12,7 +12,7 @@ use Rattle.gomp_types.specs.declared.event.Event.{Event}
 use Rattle.gomp_types.specs.declared.event.Event.TheVariants.{Pass}
 use Rattle.gomp_types.specs.EventLists.{at}
 use Rattle.gomp_board.specs.declared.op.Op.{Op}
-use Rattle.gomp_board.specs.declared.op.Op.TheVariants.{Create as CreateTask, EndTask, AwaitChildren, OpenGroup, EndGroup, Arrive as ArriveAt, AwaitBarrier, Reserve, Put as PutWords, Got as GiveWords, Break as BreakAt}
+use Rattle.gomp_board.specs.declared.op.Op.TheVariants.{Create as CreateTask, AwaitOwn, EndTask, AwaitChildren, OpenGroup, EndGroup, AwaitGroup, Arrive as ArriveAt, AwaitBarrier, Reserve, Put as PutWords, Got as GiveWords, Break as BreakAt}
 use Rattle.gomp_board.specs.Ops.{goes_on_waiting}
 use Rattle.gomp_board.specs.Boards.{BoardView, Stands, IsSame, Performs}
 use Rattle.gomp_board.specs.Examples.{seven, words}
@@ -110,15 +110,18 @@ refused_and_changed board = (
 
 -- nor does a wait that goes on
 pub waited_and_changed : (board : BoardView) → Leaves (AwaitChildren []) board (longer board) Wait × Leaves EndGroup board (longer board) Wait × Leaves AwaitBarrier board (longer board) Wait
+    × Leaves AwaitGroup board (longer board) Wait × Leaves AwaitOwn board (longer board) Wait
 waited_and_changed board = (
+  λ does. never_longer board (ap (λ (b : BoardView). b.history) (does.waits refl refl)),
+  λ does. never_longer board (ap (λ (b : BoardView). b.history) (does.waits refl refl)),
   λ does. never_longer board (ap (λ (b : BoardView). b.history) (does.waits refl refl)),
   λ does. never_longer board (ap (λ (b : BoardView). b.history) (does.waits refl refl)),
   λ does. never_longer board (ap (λ (b : BoardView). b.history) (does.waits refl refl)),
 )
 
--- these three go on with a wait, and no other operation
+-- these five go on with a wait, and no other operation
 pub operations_that_go_on :
     map goes_on_waiting
-    (CreateTask seven ∷ EndTask ∷ AwaitChildren [] ∷ OpenGroup ∷ EndGroup ∷ ArriveAt (at Barrier 0) ∷ AwaitBarrier ∷ Reserve 4 ∷ PutWords 3 words ∷ GiveWords 3 words ∷ BreakAt AtStop ∷ [])
-    ≡ false ∷ false ∷ true ∷ false ∷ true ∷ false ∷ true ∷ false ∷ false ∷ false ∷ false ∷ []
+    (CreateTask seven ∷ AwaitOwn ∷ EndTask ∷ AwaitChildren [] ∷ OpenGroup ∷ EndGroup ∷ AwaitGroup ∷ ArriveAt (at Barrier 0) ∷ AwaitBarrier ∷ Reserve 4 ∷ PutWords 3 words ∷ GiveWords 3 words ∷ BreakAt AtStop ∷ [])
+    ≡ false ∷ true ∷ false ∷ true ∷ false ∷ true ∷ true ∷ false ∷ true ∷ false ∷ false ∷ false ∷ false ∷ []
 operations_that_go_on = refl

@@ -1,17 +1,28 @@
 -- What each operation is answered: an answer that is right, and wrong ones that the definitions refuse.
-use Rattle.std.proofs.Common.{true, false, [], ◌∷◌, ◌++◌, rules}
+use Rattle.std.proofs.Common.{true, false, List, [], ◌∷◌, ◌++◌, rules}
+use Rattle.gomp_types.specs.declared.depend.DepKind.TheVariants.{DepIn, DepOut}
 use Rattle.gomp_types.specs.declared.task.Task.TheVariants.{Implicit}
 use Rattle.gomp_types.specs.declared.refusal.Place.TheVariants.{Share, Stopped as AtStop}
 use Rattle.gomp_types.specs.declared.refusal.Refusal.TheVariants.{Ended, Waiting, InsideTask, NotInTask, GroupOpen, Mismatch, TraceFull, NoMemory, NoGroup}
 use Rattle.gomp_types.specs.declared.reply.Reply.TheVariants.{Copied, Finished, Passed, Wait, Created, Run, TaskDone, Stopped, Refused}
 use Rattle.gomp_types.specs.declared.event.Arrival.TheVariants.{Barrier, ShareEnd, RegionEnd}
+use Rattle.gomp_types.specs.declared.event.Event.{Event}
 use Rattle.gomp_types.specs.declared.event.Event.TheVariants.{Create, Start, Group}
+use Rattle.gomp_types.specs.TaskExamples.{item}
 use Rattle.gomp_types.specs.EventLists.{at}
-use Rattle.gomp_board.specs.declared.op.Op.TheVariants.{Create as CreateTask, EndTask, AwaitChildren, OpenGroup, EndGroup, AwaitGroup, Arrive as ArriveAt, AwaitBarrier, Reserve, Put as PutWords, Got as GiveWords, Break as BreakAt}
+use Rattle.gomp_board.specs.declared.op.Op.TheVariants.{Create as CreateTask, AwaitOwn, EndTask, AwaitChildren, OpenGroup, EndGroup, AwaitGroup, Arrive as ArriveAt, AwaitBarrier, Reserve, Put as PutWords, Got as GiveWords, Break as BreakAt}
 use Rattle.gomp_board.specs.Ops.{OpAnswer}
-use Rattle.gomp_board.specs.Examples.{seven, one_ready, one_runs, one_done, other_runs, group_ready, group_done, first_waits, both_wait, second_ends, usual_limits, words, Allows, Excludes, ExcludesEach}
+use Rattle.gomp_board.specs.Examples.{seven, eight, one_ready, one_runs, one_done, other_runs, group_ready, group_done, first_waits, both_wait, second_ends, usual_limits, words, Allows, Excludes, ExcludesEach}
 
 -- Tasks
+
+-- member 0 has created a task, and then one that is undeferred
+abbrev one_undeferred : List Event
+one_undeferred = Create 2 0 (Implicit 0) (record eight { undeferred = true }) ∷ one_ready
+
+-- the same, but the second waits for what the first writes
+abbrev one_held : List Event
+one_held = Create 2 0 (Implicit 0) (record eight { undeferred = true; deps = item DepIn 5 ∷ [] }) ∷ Create 1 0 (Implicit 0) (record seven { deps = item DepOut 5 ∷ [] }) ∷ []
 
 -- a new task has the next number
 pub creation_answer : Allows (CreateTask seven) one_done (Created 2)
@@ -19,6 +30,15 @@ creation_answer = search rules
 
 pub wrong_creation_answers : ExcludesEach (CreateTask seven) one_done (Created 1 ∷ Created 3 ∷ Finished ∷ Wait ∷ [])
 wrong_creation_answers = search rules
+
+-- the resume of a creation goes on with its task: that is run as the member's own once it may be, else another is, or the member waits
+pub resumed_creation_answers : Allows AwaitOwn one_undeferred (Run 2 8 9 true) × Allows AwaitOwn one_held (Run 1 7 9 false) × Allows AwaitOwn (Start 1 1 ∷ one_held) Wait
+resumed_creation_answers = search rules
+
+pub wrong_resumed_creations :
+    ExcludesEach AwaitOwn one_undeferred (Wait ∷ Run 2 8 9 false ∷ Run 1 7 9 false ∷ Created 2 ∷ Passed ∷ Refused NoMemory ∷ []) × ExcludesEach AwaitOwn one_held (Run 2 8 9 true ∷ Wait ∷ Passed ∷ [])
+    × ExcludesEach AwaitOwn (Start 1 1 ∷ one_held) (Run 2 8 9 true ∷ Run 1 7 9 false ∷ [])
+wrong_resumed_creations = search rules
 
 -- the end of a task names it
 pub task_end_answer : Allows EndTask one_runs (TaskDone 1 true)

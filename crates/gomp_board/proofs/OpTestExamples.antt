@@ -9,7 +9,7 @@ use Rattle.gomp_types.specs.declared.event.Arrival.TheVariants.{Barrier, ShareEn
 use Rattle.gomp_types.specs.declared.event.Event.TheVariants.{Put, Got, Arrive, Pass, Create, Start, Done, Group, GroupEnd, Waited, Break}
 use Rattle.gomp_types.specs.EventLists.{at}
 use Rattle.gomp_board.specs.declared.op.Op.{Op}
-use Rattle.gomp_board.specs.declared.op.Op.TheVariants.{Create as CreateTask, EndTask, AwaitChildren, OpenGroup, EndGroup, AwaitGroup, Arrive as ArriveAt, AwaitBarrier, Reserve, Put as PutWords, Got as GiveWords, Break as BreakAt}
+use Rattle.gomp_board.specs.declared.op.Op.TheVariants.{Create as CreateTask, AwaitOwn, EndTask, AwaitChildren, OpenGroup, EndGroup, AwaitGroup, Arrive as ArriveAt, AwaitBarrier, Reserve, Put as PutWords, Got as GiveWords, Break as BreakAt}
 use Rattle.gomp_board.specs.Ops.{arrival_asks, words_ask, op_asks, arrival_keeps, words_keep, op_keeps, awaits_barrier, is_stop, op_refusal, op_begins, begun, op_after, asks_memory, goes_on_waiting}
 use Rattle.gomp_board.specs.Examples.{seven, eight, creates_root, one_ready, one_runs, one_done, nested, group_empty, group_ready, first_waits, both_wait, runs_there, second_ends, both_end, first_left, stopped, limits_of, usual_refusal, words}
 
@@ -31,15 +31,15 @@ words_ask_alike = (refl, refl)
 -- each operation asks for so much if its member has kept two
 pub operations_ask :
     map (λ op. op_asks op 2)
-    (CreateTask seven ∷ EndTask ∷ AwaitChildren [] ∷ OpenGroup ∷ EndGroup ∷ ArriveAt (at Barrier 0) ∷ ArriveAt (at ShareEnd 0) ∷ ArriveAt (at RegionEnd 0) ∷ AwaitBarrier ∷ Reserve 0 ∷ Reserve 4 ∷ PutWords 3 words ∷ GiveWords 3 words ∷ BreakAt AtStop ∷ [])
-    ≡ 3 ∷ 0 ∷ 0 ∷ 2 ∷ 0 ∷ 2 ∷ 0 ∷ 0 ∷ 0 ∷ 0 ∷ 4 ∷ 0 ∷ 0 ∷ 0 ∷ []
+    (CreateTask seven ∷ EndTask ∷ AwaitChildren [] ∷ OpenGroup ∷ EndGroup ∷ ArriveAt (at Barrier 0) ∷ ArriveAt (at ShareEnd 0) ∷ ArriveAt (at RegionEnd 0) ∷ AwaitBarrier ∷ Reserve 0 ∷ Reserve 4 ∷ PutWords 3 words ∷ GiveWords 3 words ∷ BreakAt AtStop ∷ AwaitGroup ∷ AwaitOwn ∷ [])
+    ≡ 3 ∷ 0 ∷ 0 ∷ 2 ∷ 0 ∷ 2 ∷ 0 ∷ 0 ∷ 0 ∷ 0 ∷ 4 ∷ 0 ∷ 0 ∷ 0 ∷ 0 ∷ 0 ∷ []
 operations_ask = refl
 
 -- so for memory: those that ask for room
 pub operations_take_memory :
     map (λ op. asks_memory op 1)
-    (CreateTask seven ∷ EndTask ∷ AwaitChildren [] ∷ OpenGroup ∷ EndGroup ∷ ArriveAt (at Barrier 0) ∷ ArriveAt (at ShareEnd 0) ∷ ArriveAt (at RegionEnd 0) ∷ AwaitBarrier ∷ Reserve 0 ∷ Reserve 4 ∷ PutWords 3 words ∷ GiveWords 3 words ∷ BreakAt AtStop ∷ [])
-    ≡ true ∷ false ∷ false ∷ true ∷ false ∷ true ∷ true ∷ false ∷ false ∷ false ∷ true ∷ false ∷ false ∷ false ∷ []
+    (CreateTask seven ∷ EndTask ∷ AwaitChildren [] ∷ OpenGroup ∷ EndGroup ∷ ArriveAt (at Barrier 0) ∷ ArriveAt (at ShareEnd 0) ∷ ArriveAt (at RegionEnd 0) ∷ AwaitBarrier ∷ Reserve 0 ∷ Reserve 4 ∷ PutWords 3 words ∷ GiveWords 3 words ∷ BreakAt AtStop ∷ AwaitGroup ∷ AwaitOwn ∷ [])
+    ≡ true ∷ false ∷ false ∷ true ∷ false ∷ true ∷ true ∷ false ∷ false ∷ false ∷ true ∷ false ∷ false ∷ false ∷ false ∷ false ∷ []
 operations_take_memory = refl
 
 -- words do if none is kept
@@ -58,19 +58,19 @@ words_keep_room = refl
 -- a member keeps more after it has reserved it
 pub operations_keep_room :
     map (λ op. op_keeps op 3)
-    (CreateTask seven ∷ EndTask ∷ AwaitChildren [] ∷ OpenGroup ∷ EndGroup ∷ ArriveAt (at Barrier 0) ∷ ArriveAt (at ShareEnd 0) ∷ ArriveAt (at RegionEnd 0) ∷ AwaitBarrier ∷ Reserve 4 ∷ PutWords 3 words ∷ GiveWords 3 words ∷ BreakAt AtStop ∷ [])
-    ≡ 3 ∷ 3 ∷ 3 ∷ 3 ∷ 3 ∷ 3 ∷ 1 ∷ 3 ∷ 3 ∷ 7 ∷ 2 ∷ 2 ∷ 3 ∷ []
+    (CreateTask seven ∷ EndTask ∷ AwaitChildren [] ∷ OpenGroup ∷ EndGroup ∷ ArriveAt (at Barrier 0) ∷ ArriveAt (at ShareEnd 0) ∷ ArriveAt (at RegionEnd 0) ∷ AwaitBarrier ∷ Reserve 4 ∷ PutWords 3 words ∷ GiveWords 3 words ∷ BreakAt AtStop ∷ AwaitGroup ∷ AwaitOwn ∷ [])
+    ≡ 3 ∷ 3 ∷ 3 ∷ 3 ∷ 3 ∷ 3 ∷ 1 ∷ 3 ∷ 3 ∷ 7 ∷ 2 ∷ 2 ∷ 3 ∷ 3 ∷ 3 ∷ []
 operations_keep_room = refl
 
 -- Tests of every operation
 
 abbrev all_operations : List Op
-all_operations = CreateTask seven ∷ EndTask ∷ AwaitChildren [] ∷ OpenGroup ∷ EndGroup ∷ AwaitGroup ∷ ArriveAt (at Barrier 0) ∷ AwaitBarrier ∷ Reserve 4 ∷ PutWords 3 words ∷ GiveWords 3 words ∷ BreakAt AtStop ∷ []
+all_operations = CreateTask seven ∷ EndTask ∷ AwaitChildren [] ∷ OpenGroup ∷ EndGroup ∷ AwaitGroup ∷ ArriveAt (at Barrier 0) ∷ AwaitBarrier ∷ Reserve 4 ∷ PutWords 3 words ∷ GiveWords 3 words ∷ BreakAt AtStop ∷ AwaitOwn ∷ []
 
 -- a member that has left the region
 pub refused_after_the_region :
     map (λ op. usual_refusal op first_left) all_operations
-    ≡ Some Ended ∷ Some Ended ∷ Some Ended ∷ Some Ended ∷ Some Ended ∷ Some Ended ∷ Some Ended ∷ Some Ended ∷ Some Ended ∷ Some Ended ∷ Some Ended ∷ Some Ended ∷ []
+    ≡ Some Ended ∷ Some Ended ∷ Some Ended ∷ Some Ended ∷ Some Ended ∷ Some Ended ∷ Some Ended ∷ Some Ended ∷ Some Ended ∷ Some Ended ∷ Some Ended ∷ Some Ended ∷ Some Ended ∷ []
 refused_after_the_region = refl
 
 -- a team that is broken, by its first break
@@ -80,8 +80,8 @@ pub refused_in_a_broken_team :
 refused_in_a_broken_team = refl
 
 pub each_refused_in_a_broken_team :
-    map (λ op. usual_refusal op stopped) (EndTask ∷ AwaitChildren [] ∷ OpenGroup ∷ AwaitGroup ∷ ArriveAt (at Barrier 0) ∷ AwaitBarrier ∷ Reserve 4 ∷ PutWords 3 words ∷ GiveWords 3 words ∷ [])
-    ≡ map (λ op. Some (Broken (record { member = 1; place = AtStop }))) (EndTask ∷ AwaitChildren [] ∷ OpenGroup ∷ AwaitGroup ∷ ArriveAt (at Barrier 0) ∷ AwaitBarrier ∷ Reserve 4 ∷ PutWords 3 words ∷ GiveWords 3 words ∷ [])
+    map (λ op. usual_refusal op stopped) (EndTask ∷ AwaitOwn ∷ AwaitChildren [] ∷ OpenGroup ∷ AwaitGroup ∷ ArriveAt (at Barrier 0) ∷ AwaitBarrier ∷ Reserve 4 ∷ PutWords 3 words ∷ GiveWords 3 words ∷ [])
+    ≡ map (λ op. Some (Broken (record { member = 1; place = AtStop }))) (EndTask ∷ AwaitOwn ∷ AwaitChildren [] ∷ OpenGroup ∷ AwaitGroup ∷ ArriveAt (at Barrier 0) ∷ AwaitBarrier ∷ Reserve 4 ∷ PutWords 3 words ∷ GiveWords 3 words ∷ [])
 each_refused_in_a_broken_team = refl
 
 -- a member that has left is told so, in a broken team too
@@ -99,19 +99,19 @@ waiting_members = (refl, refl)
 -- then only its wait and a stop are let in
 pub refused_while_waiting :
     map (λ op. usual_refusal op first_waits) all_operations
-    ≡ Some Waiting ∷ Some Waiting ∷ Some Waiting ∷ Some Waiting ∷ Some Waiting ∷ Some Waiting ∷ Some Waiting ∷ None ∷ Some Waiting ∷ Some Waiting ∷ Some Waiting ∷ None ∷ []
+    ≡ Some Waiting ∷ Some Waiting ∷ Some Waiting ∷ Some Waiting ∷ Some Waiting ∷ Some Waiting ∷ Some Waiting ∷ None ∷ Some Waiting ∷ Some Waiting ∷ Some Waiting ∷ None ∷ Some Waiting ∷ []
 refused_while_waiting = refl
 
 -- in a task at a barrier what is refused in any task, and else only the wait there
 pub let_in_at_a_barrier :
     map (λ op. usual_refusal op runs_there) all_operations
-    ≡ None ∷ None ∷ None ∷ None ∷ Some NoGroup ∷ None ∷ Some InsideTask ∷ Some NotInside ∷ Some InsideTask ∷ Some InsideTask ∷ None ∷ None ∷ []
+    ≡ None ∷ None ∷ None ∷ None ∷ Some NoGroup ∷ None ∷ Some InsideTask ∷ Some NotInside ∷ Some InsideTask ∷ Some InsideTask ∷ None ∷ None ∷ None ∷ []
 let_in_at_a_barrier = refl
 
 -- elsewhere what the operation itself is tested for
 pub let_in_at_first :
     map (λ op. usual_refusal op []) all_operations
-    ≡ None ∷ Some NotInTask ∷ None ∷ None ∷ Some NoGroup ∷ None ∷ None ∷ Some NotInside ∷ None ∷ None ∷ None ∷ None ∷ []
+    ≡ None ∷ Some NotInTask ∷ None ∷ None ∷ Some NoGroup ∷ None ∷ None ∷ Some NotInside ∷ None ∷ None ∷ None ∷ None ∷ None ∷ []
 let_in_at_first = refl
 
 -- Tests of one operation
@@ -210,8 +210,8 @@ stops_alone = refl
 
 -- Waits that go on
 
--- a wait for children, for a group's tasks, and at a barrier, and no other operation
-pub waits_that_go_on : map goes_on_waiting all_operations ≡ false ∷ false ∷ true ∷ false ∷ true ∷ true ∷ false ∷ true ∷ false ∷ false ∷ false ∷ false ∷ []
+-- a wait for a creation's own task, for children, for a group's tasks, and at a barrier, and no other operation
+pub waits_that_go_on : map goes_on_waiting all_operations ≡ false ∷ false ∷ true ∷ false ∷ true ∷ true ∷ false ∷ true ∷ false ∷ false ∷ false ∷ false ∷ true ∷ []
 waits_that_go_on = refl
 
 -- Events
@@ -219,7 +219,7 @@ waits_that_go_on = refl
 -- a task's creation, an arrival and words come before the reply, and nothing else
 pub events_at_the_beginning :
     map (λ op. op_begins 0 op (Pass 0 0 ∷ both_wait)) all_operations
-    ≡ (creates_root 1 ∷ []) ∷ [] ∷ [] ∷ [] ∷ [] ∷ [] ∷ (Arrive 1 0 (at Barrier 0) ∷ []) ∷ [] ∷ [] ∷ (Put 3 0 words ∷ []) ∷ (Got 3 0 words ∷ []) ∷ [] ∷ []
+    ≡ (creates_root 1 ∷ []) ∷ [] ∷ [] ∷ [] ∷ [] ∷ [] ∷ (Arrive 1 0 (at Barrier 0) ∷ []) ∷ [] ∷ [] ∷ (Put 3 0 words ∷ []) ∷ (Got 3 0 words ∷ []) ∷ [] ∷ [] ∷ []
 events_at_the_beginning = refl
 
 pub begun_is_added : begun 0 (CreateTask eight) one_runs ≡ Create 2 0 (Explicit 1) eight ∷ one_runs
@@ -228,6 +228,11 @@ begun_is_added = refl
 -- after a creation and its reply
 pub after_a_creation : op_after 0 (CreateTask seven) (Created 1) [] ≡ one_ready
 after_a_creation = refl
+
+-- after the resume of a creation that runs a task, its own or another, or that waits
+pub after_a_resumed_creation :
+    map (λ reply. op_after 0 AwaitOwn reply one_ready) (Run 1 7 9 true ∷ Run 1 7 9 false ∷ Wait ∷ []) ≡ one_runs ∷ one_runs ∷ one_ready ∷ []
+after_a_resumed_creation = refl
 
 -- after the end of a task
 pub after_a_task : op_after 0 EndTask (TaskDone 1 true) one_runs ≡ one_done
