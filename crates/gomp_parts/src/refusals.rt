@@ -116,8 +116,11 @@ fn admit_place<S: Shares>(
         Call::OrderedStart(value) => none_started(part_refusal(&seen, *value)),
         Call::OrderedEnd => none_started(part_end_refusal(&seen)),
         Call::Barrier | Call::RegionEnd => none_started(barrier_refusal(&seen)),
-        Call::TaskCreate(_) | Call::TaskEnd | Call::Taskwait(_) | Call::GroupStart | Call::GroupEnd =>
-            Ok(None),
+        Call::TaskCreate(_)
+        | Call::TaskEnd
+        | Call::Taskwait(_)
+        | Call::GroupStart
+        | Call::GroupEnd => Ok(None),
         Call::Stop | Call::Resume => Ok(None),
         Call::CriticalStart(_)
         | Call::CriticalEnd(_)
@@ -224,8 +227,11 @@ fn compared_refusal<S: Shares>(
         | Call::OrderedStart(_)
         | Call::OrderedEnd
         | Call::Stop => None,
-        Call::TaskCreate(_) | Call::TaskEnd | Call::Taskwait(_) | Call::GroupStart | Call::GroupEnd =>
-            None,
+        Call::TaskCreate(_)
+        | Call::TaskEnd
+        | Call::Taskwait(_)
+        | Call::GroupStart
+        | Call::GroupEnd => None,
         Call::CriticalStart(_)
         | Call::CriticalEnd(_)
         | Call::LockInit
