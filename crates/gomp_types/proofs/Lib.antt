@@ -4,6 +4,7 @@ pub mod Booleans
 pub mod BoundTasks
 pub mod Compared
 pub mod Dealing
+pub mod CancelExamples
 pub mod DependExamples
 pub mod EvenTiling
 pub mod EventExamples

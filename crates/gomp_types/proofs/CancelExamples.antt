@@ -1,0 +1,128 @@
+-- What is cancelled, which tasks that reaches, and who leaves: each definition computed, with an event more and one less.
+use Rattle.std.proofs.Common.{◌≡◌, ℕ, true, false, List, [], ◌∷◌, ◌++◌, Some, None, refl}
+use Rattle.std.specs.Prelude.{pos, map}
+use Rattle.gomp_types.specs.declared.cancel.CancelKind.TheVariants.{Parallel, Loop, Sections, Taskgroup}
+use Rattle.gomp_types.specs.declared.cancel.Scope.TheVariants.{Region, OneShare, OneGroup}
+use Rattle.gomp_types.specs.declared.loop_desc.EndKind.TheVariants.{Nowait, Cancellable}
+use Rattle.gomp_types.specs.declared.shape.ShareKind.TheVariants.{Dynamic as ByDynamic}
+use Rattle.gomp_types.specs.declared.refusal.Refusal.TheVariants.{InsideTask, NotInTask, NoGroup, GroupOpen}
+use Rattle.gomp_types.specs.declared.reply.Reply.TheVariants.{Cancelling}
+use Rattle.gomp_types.specs.declared.shape.Shape.{Shape}
+use Rattle.gomp_types.specs.declared.task.Task.TheVariants.{Implicit, Explicit}
+use Rattle.gomp_types.specs.declared.event.Event.{Event}
+use Rattle.gomp_types.specs.declared.event.Event.TheVariants.{Enter, End, Create, Start, Done, Group, GroupEnd, Cancel, Discard, See}
+use Rattle.gomp_types.specs.Sections.{sections_shape}
+use Rattle.gomp_types.specs.Singles.{single_shape}
+use Rattle.gomp_types.specs.TaskExamples.{after, one_job}
+use Rattle.gomp_types.specs.Cancels.{is_cancelled, share_cancelled, own_cancelled, some_cancelled, groups_over, groups_within, is_covered, would_be_covered, scope_of, names_cancelled, may_be_cancelled, leaves_region, leaves_share, leaves_task, is_leaving}
+use Rattle.gomp_types.specs.CancelCalls.{cancel_tests, TellsCancelled, discards, cancels_by, tells_cancelled}
+
+-- member 0 has opened a group and created a task in it, which member 1 executes; in the group member 0 executes a second task; the first has opened a group of its own, and created a third task in that
+abbrev groups_in_groups : List Event
+groups_in_groups =
+    after
+    (Group 0 0 ∷ Create 1 0 (Implicit 0) one_job ∷ Start 1 1 ∷ Create 2 0 (Implicit 0) one_job ∷ Start 2 0
+    ∷ Group 1 1 ∷ Create 3 1 (Explicit 1) one_job ∷ [])
+
+-- the group of member 0 is cancelled
+abbrev outer_cancelled : List Event
+outer_cancelled = Cancel 0 (OneGroup 0) ∷ groups_in_groups
+
+-- the groups over a task are those around it, the last opened first; over an implicit task there is none
+pub groups_over_tasks :
+    (map (λ t. groups_over (Explicit t) groups_in_groups) (1 ∷ 2 ∷ 3 ∷ []) ≡ (0 ∷ []) ∷ (0 ∷ []) ∷ (1 ∷ 0 ∷ []) ∷ []) × (groups_over (Implicit 0) groups_in_groups ≡ [])
+groups_over_tasks = (refl, refl)
+
+-- within a task are its own open groups too
+pub groups_within_tasks :
+    (groups_within (Implicit 0) groups_in_groups ≡ 0 ∷ []) × (groups_within (Implicit 1) groups_in_groups ≡ [])
+    × (groups_within (Explicit 1) groups_in_groups ≡ 1 ∷ 0 ∷ []) × (groups_within (Explicit 1) (GroupEnd 1 1 ∷ groups_in_groups) ≡ 0 ∷ [])
+groups_within_tasks = (refl, refl, refl, refl)
+
+-- what each kind names: the region; the share, of its kind; the last group over the task
+pub named_by_each_kind :
+    (scope_of Parallel 0 [] ≡ Some Region) × (scope_of Taskgroup 0 groups_in_groups ≡ Some (OneGroup 0)) × (scope_of Taskgroup 1 groups_in_groups ≡ Some (OneGroup 0))
+    × (scope_of Taskgroup 1 (Start 3 1 ∷ groups_in_groups) ≡ Some (OneGroup 1)) × (scope_of Taskgroup 0 (after (Group 0 0 ∷ [])) ≡ None)
+named_by_each_kind = (refl, refl, refl, refl, refl)
+
+-- member 0 is in a loop that may be cancelled, or in sections
+abbrev cancellable_loop : Shape
+cancellable_loop = record { start = pos 0; incr = pos 1; trips = 9; kind = ByDynamic; chunk = 2; ordered = false; end_kind = Cancellable }
+
+abbrev in_a_loop : List Event
+in_a_loop = after (Enter 0 0 (single_shape false) ∷ End 0 0 ∷ Enter 1 0 cancellable_loop ∷ [])
+
+abbrev in_sections : List Event
+in_sections = after (Enter 0 0 (sections_shape 3 Cancellable) ∷ [])
+
+pub named_shares :
+    (scope_of Loop 0 in_a_loop ≡ Some (OneShare 1)) × (scope_of Sections 0 in_a_loop ≡ None) × (scope_of Sections 0 in_sections ≡ Some (OneShare 0))
+    × (scope_of Loop 0 in_sections ≡ None) × (scope_of Loop 1 in_a_loop ≡ None)
+named_shares = (refl, refl, refl, refl, refl)
+
+-- a share may be cancelled by the kind of its end
+pub shares_that_may_be_cancelled :
+    map may_be_cancelled (None ∷ Some (1, cancellable_loop) ∷ Some (1, record cancellable_loop { end_kind = Nowait }) ∷ []) ≡ false ∷ true ∷ false ∷ []
+shares_that_may_be_cancelled = refl
+
+-- a cancelled share is neither another one nor the region
+pub one_share_cancelled :
+    (map (λ i. share_cancelled i (Cancel 1 (OneShare 1) ∷ in_a_loop)) (0 ∷ 1 ∷ []) ≡ false ∷ true ∷ []) × (is_cancelled (Cancel 1 (OneShare 1) ∷ in_a_loop) ≡ false)
+    × (own_cancelled 0 (Cancel 1 (OneShare 1) ∷ in_a_loop) ≡ true) × (own_cancelled 0 (Cancel 1 (OneShare 0) ∷ in_a_loop) ≡ false) × (share_cancelled 1 (Cancel 1 Region ∷ in_a_loop) ≡ false)
+one_share_cancelled = (refl, refl, refl, refl, refl)
+
+-- a cancelled group reaches its tasks, and those of groups within it; a group within it reaches its own alone; the region reaches all
+pub tasks_that_are_reached :
+    (map (λ t. is_covered t outer_cancelled) (1 ∷ 2 ∷ 3 ∷ []) ≡ true ∷ true ∷ true ∷ [])
+    × (map (λ t. is_covered t (Cancel 1 (OneGroup 1) ∷ groups_in_groups)) (1 ∷ 2 ∷ 3 ∷ []) ≡ false ∷ false ∷ true ∷ [])
+    × (map (λ t. is_covered t (Cancel 1 Region ∷ groups_in_groups)) (1 ∷ 2 ∷ 3 ∷ []) ≡ true ∷ true ∷ true ∷ [])
+    × (map (λ t. is_covered t (Cancel 1 (OneShare 0) ∷ groups_in_groups)) (1 ∷ 2 ∷ 3 ∷ []) ≡ false ∷ false ∷ false ∷ [])
+tasks_that_are_reached = (refl, refl, refl, refl)
+
+-- a new task would be reached in the cancelled group, in a task of it, and not in a member's that is outside of it
+pub tasks_that_would_be :
+    (map (λ p. would_be_covered p outer_cancelled) (Implicit 0 ∷ Implicit 1 ∷ Explicit 1 ∷ Explicit 3 ∷ []) ≡ true ∷ false ∷ true ∷ true ∷ [])
+    × (would_be_covered (Implicit 0) (GroupEnd 0 0 ∷ Done 2 0 ∷ outer_cancelled) ≡ false) × (would_be_covered (Implicit 1) (Cancel 0 Region ∷ groups_in_groups) ≡ true)
+tasks_that_would_be = (refl, refl, refl)
+
+-- of the reached tasks those are discarded that nobody has started, the newest first in the list
+pub tasks_that_are_discarded :
+    (discards 0 (OneGroup 0) groups_in_groups ≡ Discard 3 0 ∷ []) × (discards 0 (OneGroup 0) (Create 4 0 (Explicit 2) one_job ∷ groups_in_groups) ≡ Discard 4 0 ∷ Discard 3 0 ∷ [])
+    × (discards 0 (OneGroup 0) (Start 3 1 ∷ groups_in_groups) ≡ []) × (discards 0 (OneShare 0) groups_in_groups ≡ [])
+tasks_that_are_discarded = (refl, refl, refl, refl)
+
+-- a true clause cancels, and its member sees that; a false one, and a cancellation point, see what is cancelled; else nothing happens
+pub events_of_a_cancel :
+    (tells_cancelled Taskgroup true 0 groups_in_groups (Cancelling true) ≡ See 0 Taskgroup ∷ Discard 3 0 ∷ Cancel 0 (OneGroup 0) ∷ [])
+    × (tells_cancelled Taskgroup false 1 outer_cancelled (Cancelling true) ≡ See 1 Taskgroup ∷ []) × (tells_cancelled Taskgroup true 0 groups_in_groups (Cancelling false) ≡ [])
+    × (tells_cancelled Loop true 0 in_a_loop (Cancelling true) ≡ See 0 Loop ∷ Cancel 0 (OneShare 1) ∷ [])
+events_of_a_cancel = (refl, refl, refl, refl)
+
+-- it tells of the region, of the share, and of a group around the task or the region
+pub cancellations_that_are_told :
+    (map (λ kind. names_cancelled kind 1 outer_cancelled) (Parallel ∷ Loop ∷ Sections ∷ Taskgroup ∷ []) ≡ false ∷ false ∷ false ∷ true ∷ [])
+    × (names_cancelled Taskgroup 1 (Cancel 1 (OneGroup 1) ∷ groups_in_groups) ≡ false) × (names_cancelled Taskgroup 1 (Cancel 1 Region ∷ groups_in_groups) ≡ true)
+    × (names_cancelled Loop 0 (Cancel 1 Region ∷ in_a_loop) ≡ false) × (names_cancelled Loop 0 (Cancel 1 (OneShare 1) ∷ in_a_loop) ≡ true)
+cancellations_that_are_told = (refl, refl, refl, refl, refl)
+
+-- if the control variable allows none, nothing is cancelled
+pub answers_to_a_cancel :
+    TellsCancelled true Parallel true 0 [] (Cancelling true) × TellsCancelled true Parallel false 0 [] (Cancelling false) × TellsCancelled false Parallel true 0 [] (Cancelling false)
+    × TellsCancelled true Parallel false 0 (Cancel 1 Region ∷ []) (Cancelling true)
+answers_to_a_cancel = (refl, refl, refl, refl)
+
+-- what a construct is tested for, by what it names
+pub tests_of_a_cancel :
+    (cancel_tests Parallel 0 groups_in_groups ≡ (true, InsideTask) ∷ []) × (cancel_tests Loop 0 in_a_loop ≡ (false, InsideTask) ∷ [])
+    × (cancel_tests Taskgroup 0 groups_in_groups ≡ (false, NotInTask) ∷ (false, NoGroup) ∷ (false, GroupOpen) ∷ [])
+    × (cancel_tests Taskgroup 1 groups_in_groups ≡ (false, NotInTask) ∷ (false, NoGroup) ∷ (true, GroupOpen) ∷ [])
+    × (cancel_tests Taskgroup 0 [] ≡ (true, NotInTask) ∷ (true, NoGroup) ∷ (false, GroupOpen) ∷ [])
+tests_of_a_cancel = (refl, refl, refl, refl, refl)
+
+-- a member leaves the region for good, a share until its end, a task until its end
+pub members_that_leave :
+    (map (λ h. leaves_region 0 h) ([] ∷ (See 0 Parallel ∷ []) ∷ (See 1 Parallel ∷ []) ∷ (End 0 0 ∷ Done 1 0 ∷ See 0 Parallel ∷ []) ∷ (See 0 Loop ∷ []) ∷ []) ≡ false ∷ true ∷ false ∷ true ∷ false ∷ [])
+    × (map (λ h. leaves_share 0 h) ((See 0 Loop ∷ []) ∷ (See 0 Sections ∷ []) ∷ (See 0 Taskgroup ∷ []) ∷ (End 0 1 ∷ See 0 Loop ∷ []) ∷ (End 0 0 ∷ See 0 Loop ∷ []) ∷ []) ≡ true ∷ true ∷ false ∷ true ∷ false ∷ [])
+    × (map (λ h. leaves_task 0 h) ((See 0 Taskgroup ∷ []) ∷ (See 0 Loop ∷ []) ∷ (Done 2 1 ∷ See 0 Taskgroup ∷ []) ∷ (Done 2 0 ∷ See 0 Taskgroup ∷ []) ∷ (See 1 Taskgroup ∷ []) ∷ []) ≡ true ∷ false ∷ true ∷ false ∷ false ∷ [])
+    × (map (λ h. is_leaving 0 h) ([] ∷ (See 0 Parallel ∷ []) ∷ (See 0 Sections ∷ []) ∷ (See 0 Taskgroup ∷ []) ∷ (See 1 Taskgroup ∷ []) ∷ []) ≡ false ∷ true ∷ true ∷ true ∷ false ∷ [])
+members_that_leave = (refl, refl, refl, refl)

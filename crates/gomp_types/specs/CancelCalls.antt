@@ -1,0 +1,56 @@
+-- The cancel and cancellation point constructs: what they are tested for, what they are answered, and which events they give. OpenMP API 5.2, sections 16.1 and 16.2.
+use Rattle.std.specs.Prelude.{ℕ, ◌≡◌, ◌&&◌, ◌||◌, not, Bool, true, false, if◌then◌else◌, List, [], ◌∷◌, ◌++◌, Option, Some, None}
+use Rattle.std.proofs.Common.{zero, suc}
+use Rattle.gomp_types.specs.declared.cancel.CancelKind.{CancelKind}
+use Rattle.gomp_types.specs.declared.cancel.CancelKind.TheVariants.{Parallel, Loop, Sections, Taskgroup}
+use Rattle.gomp_types.specs.declared.cancel.Scope.{Scope}
+use Rattle.gomp_types.specs.declared.refusal.Refusal.TheVariants.{InsideTask, NotInTask, NoGroup, GroupOpen}
+use Rattle.gomp_types.specs.declared.reply.Reply.{Reply}
+use Rattle.gomp_types.specs.declared.reply.Reply.TheVariants.{Cancelling}
+use Rattle.gomp_types.specs.declared.event.Event.{Event}
+use Rattle.gomp_types.specs.declared.event.Event.TheVariants.{Cancel, Discard, See}
+use Rattle.gomp_types.specs.Tests.{Test}
+use Rattle.gomp_types.specs.Tasks.{tasks_created, executed_task, in_task}
+use Rattle.gomp_types.specs.Goals.{is_unstarted}
+use Rattle.gomp_types.specs.TaskCalls.{has_some, group_open_tests, outside_tasks_tests}
+use Rattle.gomp_types.specs.Cancels.{is_covered, groups_over, scope_of, names_cancelled}
+
+-- Tests
+
+-- a construct that names the region or a share is outside of every explicit task; one that names a group is in a task whose completion a group's end waits for, and which has no group open
+abbrev pub cancel_tests : CancelKind → ℕ → List Event → List Test
+cancel_tests Taskgroup m h = (not (in_task m h), NotInTask) ∷ (not (has_some (groups_over (executed_task m h) h)), NoGroup) ∷ group_open_tests m h
+cancel_tests kind m h = outside_tasks_tests m h
+
+-- Answers
+
+-- the answer to a cancel construct with this clause; to a cancellation point it is that with a false one. If the control variable allows no cancellation, nothing is cancelled
+abbrev pub TellsCancelled : Bool → CancelKind → Bool → ℕ → List Event → Reply → Type 0
+TellsCancelled allowed kind clause m h reply = reply ≡ Cancelling (allowed && (clause || names_cancelled kind m h))
+
+-- Events, the newest first
+
+-- those of the tasks 1 to n that are discarded: they are reached, and nobody has started them
+abbrev pub discards_to : ℕ → ℕ → List Event → List Event
+discards_to zero m h = []
+discards_to (suc k) m h =
+    if is_unstarted (suc k) h && is_covered (suc k) h then Discard (suc k) m ∷ discards_to k m h else discards_to k m h
+
+-- all that are, once this is cancelled
+abbrev pub discards : ℕ → Scope → List Event → List Event
+discards m scope h = discards_to (tasks_created h) m (Cancel m scope ∷ h)
+
+-- the cancellation of this, and the tasks that it discards, in the order of their numbers
+abbrev pub cancels : ℕ → Option Scope → List Event → List Event
+cancels m None h = []
+cancels m (Some scope) h = discards m scope h ++ Cancel m scope ∷ []
+
+-- a true clause cancels
+abbrev pub cancels_by : Bool → CancelKind → ℕ → List Event → List Event
+cancels_by true kind m h = cancels m (scope_of kind m h) h
+cancels_by false kind m h = []
+
+-- if it tells that what it names is cancelled, the member has seen that
+abbrev pub tells_cancelled : CancelKind → Bool → ℕ → List Event → Reply → List Event
+tells_cancelled kind clause m h (Cancelling true) = See m kind ∷ cancels_by clause kind m h
+tells_cancelled kind clause m h _ = []
