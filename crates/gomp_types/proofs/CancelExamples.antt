@@ -1,5 +1,5 @@
 -- What is cancelled, which tasks that reaches, and who leaves: each definition computed, with an event more and one less.
-use Rattle.std.proofs.Common.{◌≡◌, ℕ, true, false, List, [], ◌∷◌, ◌++◌, Some, None, refl}
+use Rattle.std.proofs.Common.{◌≡◌, true, false, List, [], ◌∷◌, Some, None, refl}
 use Rattle.std.specs.Prelude.{pos, map}
 use Rattle.gomp_types.specs.declared.cancel.CancelKind.TheVariants.{Parallel, Loop, Sections, Taskgroup}
 use Rattle.gomp_types.specs.declared.cancel.Scope.TheVariants.{Region, OneShare, OneGroup}
@@ -14,8 +14,8 @@ use Rattle.gomp_types.specs.declared.event.Event.TheVariants.{Enter, End, Create
 use Rattle.gomp_types.specs.Sections.{sections_shape}
 use Rattle.gomp_types.specs.Singles.{single_shape}
 use Rattle.gomp_types.specs.TaskExamples.{after, one_job}
-use Rattle.gomp_types.specs.Cancels.{is_cancelled, share_cancelled, own_cancelled, some_cancelled, groups_over, groups_within, is_covered, would_be_covered, scope_of, names_cancelled, may_be_cancelled, leaves_region, leaves_share, leaves_task, is_leaving}
-use Rattle.gomp_types.specs.CancelCalls.{cancel_tests, TellsCancelled, discards, cancels_by, tells_cancelled}
+use Rattle.gomp_types.specs.Cancels.{is_cancelled, share_cancelled, own_cancelled, groups_over, groups_within, is_covered, would_be_covered, scope_of, names_cancelled, may_be_cancelled, leaves_region, leaves_share, leaves_task, is_leaving}
+use Rattle.gomp_types.specs.CancelCalls.{cancel_tests, TellsCancelled, discards, tells_cancelled}
 
 -- member 0 has opened a group and created a task in it, which member 1 executes; in the group member 0 executes a second task; the first has opened a group of its own, and created a third task in that
 abbrev groups_in_groups : List Event
