@@ -7,7 +7,7 @@ use Rattle.gomp_types.specs.declared.task.Task.{Task}
 use Rattle.gomp_types.specs.declared.task.Task.TheVariants.{Implicit, Explicit}
 use Rattle.gomp_types.specs.declared.task.TaskDesc.{TaskDesc}
 use Rattle.gomp_types.specs.declared.event.Event.{Event}
-use Rattle.gomp_types.specs.declared.event.Event.TheVariants.{Create, Done, Arrive, Pass}
+use Rattle.gomp_types.specs.declared.event.Event.TheVariants.{Create, Done, Arrive, Pass, Discard}
 use Rattle.gomp_types.specs.Events.{barriers_passed, arrival, at_barrier, all_arrived}
 use Rattle.gomp_types.specs.Tasks.{tasks_created, is_created, task_stack, innermost_task, is_complete, epoch, of_explicit}
 use Rattle.gomp_types.specs.Goals.{bound_complete, barrier_met}
@@ -126,6 +126,9 @@ later_open members g n (Create task member p desc ∷ earlier) arrivals tasks (i
       | inr other ↦ rw (old_epoch t task member p desc earlier other) (before t (old_created t task earlier tasks.0.number other made) incomplete)
     ]
 later_open members g n (Done task member ∷ earlier) arrivals tasks (inr past) = λ t made incomplete.
+    later_open members g n earlier arrivals.1 tasks.1 past t made (or_false (task == t) (is_complete t earlier) incomplete)
+later_open members g n (Discard task member ∷ earlier) arrivals tasks (inl e) = absurd (cc)
+later_open members g n (Discard task member ∷ earlier) arrivals tasks (inr past) = λ t made incomplete.
     later_open members g n earlier arrivals.1 tasks.1 past t made (or_false (task == t) (is_complete t earlier) incomplete)
 later_open members g n (_ ∷ earlier) arrivals tasks (inl e) = absurd (cc)
 later_open members g n (_ ∷ earlier) arrivals tasks (inr past) = later_open members g n earlier arrivals.1 tasks.1 past

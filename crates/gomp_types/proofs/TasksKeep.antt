@@ -24,7 +24,7 @@ use Rattle.gomp_types.proofs.ArrivalsKeep.{passed_met}
 use Rattle.gomp_types.proofs.OpenTasks.{created_high, complete_at}
 use Rattle.gomp_types.proofs.Suspended.{startable_is_fresh, startable_is_free, current_open, created_stays}
 use Rattle.gomp_types.proofs.GroupsKeep.{same_is_one, opens_once, ends_its_group}
-use Rattle.gomp_types.proofs.TaskEvents.{complete_is_done, done_is_complete, start_happened, runner_happened, newest_created, was_created, created_happened}
+use Rattle.gomp_types.proofs.TaskEvents.{complete_is_done, done_is_complete, done_or_gone, start_happened, runner_happened, newest_created, was_created, created_happened}
 use Rattle.gomp_types.proofs.TaskStacks.{each_tells, running_in_stack, stack_descends, innermost_descends}
 use Rattle.gomp_types.proofs.LaterTasks.{creates_later}
 
@@ -44,7 +44,7 @@ starts_once members (Start t m) h rule all =
     let is = startable_is_fresh m t h rule.may in (
       created_happened members t h all is.0,
       (λ n start. not_both (has_started t h) (start_happened t n h start) is.1),
-      (λ done. not_both (is_complete t h) (done_is_complete t done.0 h done.1) is.2),
+      (λ done. not_both (is_complete t h) (done_or_gone t h done) is.2),
     )
 starts_once members _ h rule all = tt
 

@@ -1,11 +1,10 @@
--- When something may be cancelled, a task discarded, and a cancellation seen, given the events before; and the laws of cancellation. OpenMP API 5.2, chapter 16.
+-- When something may be cancelled, and a cancellation seen, given the events before; and the laws of cancellation. OpenMP API 5.2, chapter 16.
 use Rattle.std.specs.Prelude.{ℕ, ◌<◌, ◌≡◌, true, false, List, Some}
 use Rattle.gomp_types.specs.declared.cancel.CancelKind.{CancelKind}
 use Rattle.gomp_types.specs.declared.cancel.Scope.{Scope}
 use Rattle.gomp_types.specs.declared.event.Event.{Event}
 use Rattle.gomp_types.specs.declared.event.Event.TheVariants.{Create, Start, Cancel, Discard, See}
 use Rattle.gomp_types.specs.Tasks.{has_started, is_complete}
-use Rattle.gomp_types.specs.Goals.{is_unstarted}
 use Rattle.gomp_types.specs.Cancels.{is_covered, would_be_covered, scope_of, names_cancelled}
 
 -- a member of the team cancels what a construct of some kind names there
@@ -13,12 +12,6 @@ pub record MayCancel (members m : ℕ) (scope : Scope) (earlier : List Event) : 
   pub member : m < members
   pub kind : CancelKind
   pub named : scope_of kind m earlier ≡ Some scope
-
--- a task is discarded that nobody has started, and that a cancellation reaches
-pub record MayDiscard (members t m : ℕ) (earlier : List Event) : Type 0 where
-  pub member : m < members
-  pub unstarted : is_unstarted t earlier ≡ true
-  pub covered : is_covered t earlier ≡ true
 
 -- a member sees that what it names is cancelled
 pub record MaySee (members m : ℕ) (kind : CancelKind) (earlier : List Event) : Type 0 where
@@ -28,7 +21,6 @@ pub record MaySee (members m : ℕ) (kind : CancelKind) (earlier : List Event) :
 -- the rule of cancellation alone
 abbrev pub CancelRule : ℕ → Event → List Event → Type 0
 CancelRule members (Cancel m scope) earlier = MayCancel members m scope earlier
-CancelRule members (Discard t m) earlier = MayDiscard members t m earlier
 CancelRule members (See m kind) earlier = MaySee members m kind earlier
 CancelRule members _ earlier = Unit {0}
 

@@ -7,6 +7,7 @@ use Rattle.gomp_types.specs.declared.event.Event.{Event}
 use Rattle.gomp_types.specs.Events.{every_member, barriers_passed, all_arrived, at_barrier, at_region_end}
 use Rattle.gomp_types.specs.Tasks.{task_stack, executed_task, some_task, is_created, has_started, is_complete, all_complete, epoch, is_child, is_created_by, is_ancestor, is_undeferred}
 use Rattle.gomp_types.specs.Depends.{taskwait_waits, is_free}
+use Rattle.gomp_types.specs.Cancels.{is_covered}
 
 -- Goals
 
@@ -40,9 +41,9 @@ taskwait_met p items h = all_complete (λ t. taskwait_waits p items t h) h
 abbrev pub is_unstarted : ℕ → List Event → Bool
 is_unstarted t h = is_created t h && (not (has_started t h) && not (is_complete t h))
 
--- whether it was, and waits for no task that is not complete (OpenMP API 5.2, section 15.9.5)
+-- whether it was, waits for no task that is not complete (OpenMP API 5.2, section 15.9.5), and no cancellation reaches it (section 16.1)
 abbrev pub is_ready : ℕ → List Event → Bool
-is_ready t h = is_unstarted t h && is_free t h
+is_ready t h = is_unstarted t h && (is_free t h && not (is_covered t h))
 
 -- whether a test holds of each of these tasks
 abbrev pub each_of : (ℕ → Bool) → List ℕ → Bool

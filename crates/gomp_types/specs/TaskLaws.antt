@@ -4,7 +4,7 @@ use Rattle.gomp_types.specs.declared.task.Task.{Task}
 use Rattle.gomp_types.specs.declared.task.Task.TheVariants.{Implicit, Explicit}
 use Rattle.gomp_types.specs.declared.task.TaskDesc.{TaskDesc}
 use Rattle.gomp_types.specs.declared.event.Event.{Event}
-use Rattle.gomp_types.specs.declared.event.Event.TheVariants.{Create, Start, Done, Group, GroupEnd, Waited, Pass}
+use Rattle.gomp_types.specs.declared.event.Event.TheVariants.{Create, Start, Done, Discard, Group, GroupEnd, Waited, Pass}
 use Rattle.gomp_types.specs.Laws.{Always, Happened}
 use Rattle.gomp_types.specs.Events.{at_barrier, at_region_end}
 use Rattle.gomp_types.specs.Tasks.{executed_task, epoch, is_child, is_ancestor, is_undeferred}
@@ -15,9 +15,9 @@ use Rattle.gomp_types.specs.Groups.{open_groups, in_group}
 abbrev pub IsCreated : ℕ → List Event → Type 0
 IsCreated t h = (m : ℕ) × (parent : Task) × (desc : TaskDesc) × Happened (Create t m parent desc) h
 
--- the task was ended, by some member
+-- the task is complete: some member ended it, or a cancellation discarded it (OpenMP API 5.2, section 16.1)
 abbrev pub IsDone : ℕ → List Event → Type 0
-IsDone t h = (m : ℕ) × Happened (Done t m) h
+IsDone t h = (m : ℕ) × (Happened (Done t m) h ⊎ Happened (Discard t m) h)
 
 -- Tasks
 
