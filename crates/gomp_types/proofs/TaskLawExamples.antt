@@ -8,10 +8,11 @@ use Rattle.gomp_types.specs.Laws.{Always}
 use Rattle.gomp_types.specs.declared.task.Task.TheVariants.{Implicit, Explicit}
 use Rattle.gomp_types.specs.declared.event.Arrival.TheVariants.{Barrier, RegionEnd}
 use Rattle.gomp_types.specs.declared.event.Event.{Event}
-use Rattle.gomp_types.specs.declared.event.Event.TheVariants.{Create, Start, Done, Group, GroupEnd, Waited, Arrive, Pass}
+use Rattle.gomp_types.specs.declared.event.Event.TheVariants.{Create, Start, Done, Group, GroupEnd, Waited, Arrive, Pass, Cancel, Discard}
+use Rattle.gomp_types.specs.declared.cancel.Scope.TheVariants.{Region, OneGroup}
 use Rattle.gomp_types.specs.EventLists.{at}
 use Rattle.gomp_types.specs.TaskLaws.{IsCreated, IsDone, CreatesOnce, CreatesInItsOwn, StartsOnce, StartsAfterNamed, StartsDescendant, EndsItsOwn, WaitsForTasks, OpensOnce, EndsItsGroup, PassesAfterTasks, CreatesLater, EndsAfterTasks, TaskLaws, BoundIsDone}
-use Rattle.gomp_types.specs.TaskExamples.{after, Allows, Forbids, TaskLaw, CreatedOnce, CreatedIn, StartedOnce, AfterNamed, Descendants, EndedOnce, Waits, OpenedOnce, GroupsEnded, Passes, Later, AtTheEnd, law_of, RefusedAlone, one_job, other_job, task_tree, child_ended, across_barrier, whole_region}
+use Rattle.gomp_types.specs.TaskExamples.{after, Allows, Forbids, TaskLaw, CreatedOnce, CreatedIn, StartedOnce, AfterNamed, Descendants, EndedOnce, StartedUncovered, CreatedUncovered, Discarded, Waits, OpenedOnce, GroupsEnded, Passes, Later, AtTheEnd, law_of, RefusedAlone, one_job, other_job, task_tree, child_ended, across_barrier, whole_region}
 use Rattle.gomp_types.specs.Tasks.{is_child}
 use Rattle.gomp_types.specs.Depends.{waits_for}
 use Rattle.gomp_types.proofs.Booleans.{and_false, not_both}
@@ -411,6 +412,67 @@ ended_innermost_alone = ((λ laws. elim (laws.0.2 2 (inl refl) (search rules)) [
     others EndedOnce differ = absurd (differ refl)
     others AfterNamed differ = starts_without_items (after ended_outer) (search rules)
     others StartedOnce differ = (tt, (((0, Explicit 1, one_job, inl refl), search rules, search rules), (tt, (starts_first 0, (tt, tt)))))
+    others _ differ = search rules
+
+-- a task is started that a cancellation reaches
+abbrev started_covered : List Event
+started_covered = Create 1 0 (Implicit 0) one_job ∷ Cancel 1 Region ∷ Start 1 0 ∷ []
+
+pub started_uncovered_alone : RefusedAlone StartedUncovered started_covered
+started_uncovered_alone = ((λ laws. absurd (let covered = laws.0 in cc)), others)
+  where
+    others : (other : TaskLaw) → other ≢ StartedUncovered → law_of other (after started_covered)
+    others StartedUncovered differ = absurd (differ refl)
+    others AfterNamed differ = starts_without_items (after started_covered) (search rules)
+    others StartedOnce differ = (((0, Implicit 0, one_job, inr (inl refl)), search rules, search rules), (tt, (tt, tt)))
+    others _ differ = search rules
+
+-- or created
+pub created_uncovered_alone : RefusedAlone CreatedUncovered (Cancel 1 Region ∷ Create 1 0 (Implicit 0) one_job ∷ [])
+created_uncovered_alone = ((λ laws. absurd (let covered = laws.0 in cc)), others)
+  where
+    others : (other : TaskLaw) → other ≢ CreatedUncovered → law_of other (after (Cancel 1 Region ∷ Create 1 0 (Implicit 0) one_job ∷ []))
+    others CreatedUncovered differ = absurd (differ refl)
+    others _ differ = search rules
+
+-- a task is discarded that no cancellation reaches
+pub discarded_covered_alone : RefusedAlone Discarded (Create 1 0 (Implicit 0) one_job ∷ Cancel 1 (OneGroup 0) ∷ Discard 1 1 ∷ [])
+discarded_covered_alone = ((λ laws. absurd (let covered = laws.0.0 in cc)), others)
+  where
+    others : (other : TaskLaw) → other ≢ Discarded → law_of other (after (Create 1 0 (Implicit 0) one_job ∷ Cancel 1 (OneGroup 0) ∷ Discard 1 1 ∷ []))
+    others Discarded differ = absurd (differ refl)
+    others _ differ = search rules
+
+-- one that runs
+abbrev discarded_running : List Event
+discarded_running = Create 1 0 (Implicit 0) one_job ∷ Start 1 0 ∷ Cancel 1 Region ∷ Discard 1 1 ∷ []
+
+pub discarded_running_alone : RefusedAlone Discarded discarded_running
+discarded_running_alone = ((λ laws. laws.0.2 0 (inr (inl refl))), others)
+  where
+    others : (other : TaskLaw) → other ≢ Discarded → law_of other (after discarded_running)
+    others Discarded differ = absurd (differ refl)
+    others AfterNamed differ = starts_without_items (after discarded_running) (search rules)
+    others StartedOnce differ = (tt, (tt, (starts_first 0, (tt, tt))))
+    others _ differ = search rules
+
+-- one that was discarded
+abbrev discarded_again : List Event
+discarded_again = Create 1 0 (Implicit 0) one_job ∷ Cancel 1 Region ∷ Discard 1 1 ∷ Discard 1 1 ∷ []
+
+pub discarded_once_alone : RefusedAlone Discarded discarded_again
+discarded_once_alone = ((λ laws. laws.0.3 (1, inr (inl refl))), others)
+  where
+    others : (other : TaskLaw) → other ≢ Discarded → law_of other (after discarded_again)
+    others Discarded differ = absurd (differ refl)
+    others _ differ = search rules
+
+-- or one that was not created
+pub discarded_created_alone : RefusedAlone Discarded (Cancel 1 Region ∷ Discard 1 1 ∷ [])
+discarded_created_alone = ((λ laws. elim laws.0.1.3 [ inl e ↦ absurd (cc) | inr never ↦ never ]), others)
+  where
+    others : (other : TaskLaw) → other ≢ Discarded → law_of other (after (Cancel 1 Region ∷ Discard 1 1 ∷ []))
+    others Discarded differ = absurd (differ refl)
     others _ differ = search rules
 
 -- a task waits, and its child is open

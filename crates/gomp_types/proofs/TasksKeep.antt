@@ -8,7 +8,7 @@ use Rattle.gomp_types.specs.declared.task.Task.TheVariants.{Implicit, Explicit}
 use Rattle.gomp_types.specs.declared.task.TaskDesc.{TaskDesc}
 use Rattle.gomp_types.specs.declared.depend.Dep.{Dep}
 use Rattle.gomp_types.specs.declared.event.Event.{Event}
-use Rattle.gomp_types.specs.declared.event.Event.TheVariants.{Create, Start, Done, GroupEnd, Waited, Pass}
+use Rattle.gomp_types.specs.declared.event.Event.TheVariants.{Create, Start, Done, Discard, GroupEnd, Waited, Pass}
 use Rattle.gomp_types.specs.Events.{every_member, barriers_passed, all_arrived, at_barrier, at_region_end}
 use Rattle.gomp_types.specs.Tasks.{is_created, task_stack, executed_task, has_started, is_complete, all_complete, epoch, same_task, is_child, is_created_by, is_ancestor}
 use Rattle.gomp_types.specs.Depends.{items_wait, task_items, child_waits, waits_for}
@@ -17,12 +17,12 @@ use Rattle.gomp_types.specs.Goals.{bound_complete, barrier_met, region_met, is_r
 use Rattle.gomp_types.specs.Laws.{Always, Happened}
 use Rattle.gomp_types.specs.Arrivals.{ArrivalRule}
 use Rattle.gomp_types.specs.TaskRules.{TaskRule}
-use Rattle.gomp_types.specs.TaskLaws.{IsDone, CreatesOnce, CreatesInItsOwn, StartsOnce, StartsAfterNamed, StartsItsOwn, StartsDescendant, EndsItsOwn, WaitsForTasks, OpensOnce, EndsItsGroup, PassesAfterTasks, EndsAfterTasks, TaskLaws}
+use Rattle.gomp_types.specs.TaskLaws.{IsDone, CreatesOnce, CreatesInItsOwn, StartsOnce, StartsAfterNamed, StartsItsOwn, StartsDescendant, EndsItsOwn, StartsUncovered, CreatesUncovered, DiscardsUnstarted, WaitsForTasks, OpensOnce, EndsItsGroup, PassesAfterTasks, EndsAfterTasks, TaskLaws}
 use Rattle.gomp_types.proofs.Booleans.{and_left, and_right, is_equal, not_both, implied_by}
 use Rattle.gomp_types.proofs.Always.{always_so, both_so}
 use Rattle.gomp_types.proofs.ArrivalsKeep.{passed_met}
 use Rattle.gomp_types.proofs.OpenTasks.{created_high, complete_at}
-use Rattle.gomp_types.proofs.Suspended.{startable_is_fresh, startable_is_free, current_open, created_stays}
+use Rattle.gomp_types.proofs.Suspended.{unstarted_is_fresh, startable_is_fresh, startable_is_free, startable_is_uncovered, current_open, created_stays}
 use Rattle.gomp_types.proofs.GroupsKeep.{same_is_one, opens_once, ends_its_group}
 use Rattle.gomp_types.proofs.TaskEvents.{complete_is_done, done_is_complete, done_or_gone, start_happened, runner_happened, newest_created, was_created, created_happened}
 use Rattle.gomp_types.proofs.TaskStacks.{each_tells, running_in_stack, stack_descends, innermost_descends}
@@ -120,6 +120,26 @@ ends_its_own members (Done t m) h rule all =
     )
 ends_its_own members _ h rule all = tt
 
+-- Cancellation
+
+starts_uncovered : (members : ℕ) (event : Event) (h : List Event) → TaskRule members event h → Always (TaskRule members) h → StartsUncovered event h
+starts_uncovered members (Start t m) h rule all = startable_is_uncovered m t h rule.may
+starts_uncovered members _ h rule all = tt
+
+creates_uncovered : (members : ℕ) (event : Event) (h : List Event) → TaskRule members event h → Always (TaskRule members) h → CreatesUncovered event h
+creates_uncovered members (Create t m p desc) h rule all = rule.uncovered
+creates_uncovered members _ h rule all = tt
+
+discards_unstarted : (members : ℕ) (event : Event) (h : List Event) → TaskRule members event h → Always (TaskRule members) h → DiscardsUnstarted event h
+discards_unstarted members (Discard t m) h rule all =
+    let is = unstarted_is_fresh t h rule.unstarted in (
+      rule.covered,
+      created_happened members t h all is.0,
+      (λ n start. not_both (has_started t h) (start_happened t n h start) is.1),
+      (λ done. not_both (is_complete t h) (done_or_gone t h done) is.2),
+    )
+discards_unstarted members _ h rule all = tt
+
 -- Waits
 
 -- a task in a group was created
@@ -172,6 +192,9 @@ tasks_keep members h arrivals tasks =
       own = always_so (TaskRule members) StartsItsOwn (starts_its_own members) h tasks;
       descendants = always_so (TaskRule members) StartsDescendant (starts_descendant members) h tasks;
       ended_once = always_so (TaskRule members) EndsItsOwn (ends_its_own members) h tasks;
+      started_uncovered = always_so (TaskRule members) StartsUncovered (starts_uncovered members) h tasks;
+      created_uncovered = always_so (TaskRule members) CreatesUncovered (creates_uncovered members) h tasks;
+      discarded = always_so (TaskRule members) DiscardsUnstarted (discards_unstarted members) h tasks;
       waits = always_so (TaskRule members) WaitsForTasks (waits_for_tasks members) h tasks;
       opened_once = always_so (TaskRule members) OpensOnce (opens_once members) h tasks;
       groups_ended = always_so (TaskRule members) EndsItsGroup (ends_its_group members) h tasks;

@@ -10,6 +10,7 @@ use Rattle.gomp_types.specs.Events.{at_barrier, at_region_end}
 use Rattle.gomp_types.specs.Tasks.{executed_task, epoch, is_child, is_ancestor, is_undeferred}
 use Rattle.gomp_types.specs.Depends.{child_waits, waits_for}
 use Rattle.gomp_types.specs.Groups.{open_groups, in_group}
+use Rattle.gomp_types.specs.Cancels.{is_covered, would_be_covered}
 
 -- the task was created, by some member in some task
 abbrev pub IsCreated : ℕ → List Event → Type 0
@@ -60,6 +61,23 @@ EndsItsOwn (Done t m) earlier =
     × ((s : ℕ) → Happened (Start s m) earlier → (IsDone s earlier → ⊥) → (s ≡ t) ⊎ (is_ancestor (Explicit s) t earlier ≡ true))
 EndsItsOwn _ earlier = Unit {0}
 
+-- Cancellation (OpenMP API 5.2, section 16.1)
+
+-- after a cancellation of the region or of a group no task is started that it reaches
+abbrev pub StartsUncovered : Event → List Event → Type 0
+StartsUncovered (Start t m) earlier = is_covered t earlier ≡ false
+StartsUncovered _ earlier = Unit {0}
+
+-- nor is one created
+abbrev pub CreatesUncovered : Event → List Event → Type 0
+CreatesUncovered (Create t m parent desc) earlier = would_be_covered parent earlier ≡ false
+CreatesUncovered _ earlier = Unit {0}
+
+-- a task is discarded only if a cancellation reaches it, it was created, and nobody has started it: running tasks go on; and no task is discarded twice
+abbrev pub DiscardsUnstarted : Event → List Event → Type 0
+DiscardsUnstarted (Discard t m) earlier = (is_covered t earlier ≡ true) × IsCreated t earlier × ((n : ℕ) → Happened (Start t n) earlier → ⊥) × (IsDone t earlier → ⊥)
+DiscardsUnstarted _ earlier = Unit {0}
+
 -- Waits
 
 -- Taskwait and taskgroup (OpenMP API 5.2, sections 15.4 and 15.5): the children of a task that waited are done, of one that waited with items those for which a child with them waits; and so are the tasks of a group that has ended.
@@ -106,6 +124,9 @@ pub record TaskLaws (h : List Event) : Type 0 where
   pub own : Always StartsItsOwn h
   pub descendants : Always StartsDescendant h
   pub ended_once : Always EndsItsOwn h
+  pub started_uncovered : Always StartsUncovered h
+  pub created_uncovered : Always CreatesUncovered h
+  pub discarded : Always DiscardsUnstarted h
   pub waits : Always WaitsForTasks h
   pub opened_once : Always OpensOnce h
   pub groups_ended : Always EndsItsGroup h
