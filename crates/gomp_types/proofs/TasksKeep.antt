@@ -17,10 +17,11 @@ use Rattle.gomp_types.specs.Goals.{bound_complete, barrier_met, region_met, is_r
 use Rattle.gomp_types.specs.Laws.{Always, Happened}
 use Rattle.gomp_types.specs.Arrivals.{ArrivalRule}
 use Rattle.gomp_types.specs.TaskRules.{TaskRule}
+use Rattle.gomp_types.specs.Cancels.{is_cancelled}
 use Rattle.gomp_types.specs.TaskLaws.{IsDone, CreatesOnce, CreatesInItsOwn, StartsOnce, StartsAfterNamed, StartsItsOwn, StartsDescendant, EndsItsOwn, StartsUncovered, CreatesUncovered, DiscardsUnstarted, WaitsForTasks, OpensOnce, EndsItsGroup, PassesAfterTasks, EndsAfterTasks, TaskLaws}
 use Rattle.gomp_types.proofs.Booleans.{and_left, and_right, is_equal, not_both, implied_by}
 use Rattle.gomp_types.proofs.Always.{always_so, both_so}
-use Rattle.gomp_types.proofs.ArrivalsKeep.{passed_met}
+use Rattle.gomp_types.proofs.ArrivalsKeep.{passed_met, passed_cancelled, passed_region}
 use Rattle.gomp_types.proofs.OpenTasks.{created_high, complete_at}
 use Rattle.gomp_types.proofs.Suspended.{unstarted_is_fresh, startable_is_fresh, startable_is_free, startable_is_uncovered, current_open, created_stays}
 use Rattle.gomp_types.proofs.GroupsKeep.{same_is_one, opens_once, ends_its_group}
@@ -167,17 +168,21 @@ waits_for_tasks members _ h rule all = tt
 -- Barriers
 
 passes_after_tasks : (members : ℕ) (event : Event) (h : List Event) → ArrivalRule members event h → Always (TaskRule members) h → PassesAfterTasks event h
-passes_after_tasks members (Pass barrier m) h rule all = λ t made early.
-    let bound = and_right (all_arrived members barrier h) (bound_complete barrier h) (passed_met members barrier m h rule) in
-    let within : nat_le (epoch t h) barrier ≡ true = grind (arith, nat_tests, early) in
-    complete_is_done t h (complete_at (λ u. nat_le (epoch u h) barrier) h t bound (was_created members t h all made) within)
+passes_after_tasks members (Pass barrier m) h rule all = λ t made early. elim (cases_Bool (is_cancelled h)) [
+  | inl cancelled ↦
+      let met = and_right (at_region_end m h) (region_met members h) (passed_cancelled members barrier m h rule cancelled) in
+      let every = and_right (every_member members (λ x. at_region_end x h)) (all_complete (λ u. true) h) met in
+      complete_is_done t h (complete_at (λ u. true) h t every (was_created members t h all made) refl)
+  | inr whole ↦
+      let bound = and_right (all_arrived members barrier h) (bound_complete barrier h) (passed_met members barrier m h whole rule) in
+      let within : nat_le (epoch t h) barrier ≡ true = grind (arith, nat_tests, early) in
+      complete_is_done t h (complete_at (λ u. nat_le (epoch u h) barrier) h t bound (was_created members t h all made) within)
+]
 passes_after_tasks members _ h rule all = tt
 
 ends_after_tasks : (members : ℕ) (event : Event) (h : List Event) → ArrivalRule members event h → Always (TaskRule members) h → EndsAfterTasks event h
 ends_after_tasks members (Pass barrier m) h rule all = λ at t made.
-    let met = and_right (barrier_met members (barriers_passed m h) h) (not (at_region_end m h) || region_met members h) rule.met in
-    let over = implied_by (at_region_end m h) (region_met members h) met at in
-    let every = and_right (every_member members (λ x. at_region_end x h)) (all_complete (λ u. true) h) over in
+    let every = and_right (every_member members (λ x. at_region_end x h)) (all_complete (λ u. true) h) (passed_region members barrier m h rule at) in
     complete_is_done t h (complete_at (λ u. true) h t every (was_created members t h all made) refl)
 ends_after_tasks members _ h rule all = tt
 
