@@ -1,6 +1,6 @@
 -- Tasks and groups that keep their rule keep their laws.
 use Rattle.std.proofs.Common.{◌≡◌, ℕ, Bool, true, false, List, [], ◌∷◌, refl, ◌∙◌, sym, arith, inl, inr}
-use Rattle.std.specs.Prelude.{◌&&◌, ◌||◌, ◌==◌, nat_le, not}
+use Rattle.std.specs.Prelude.{◌&&◌, ◌||◌, ◌==◌, nat_le}
 use Rattle.std.proofs.lemmas.Bool.{cases_Bool}
 use Rattle.std.proofs.lemmas.Bool.Decides.{nat_tests}
 use Rattle.gomp_types.specs.declared.task.Task.{Task}
@@ -9,17 +9,17 @@ use Rattle.gomp_types.specs.declared.task.TaskDesc.{TaskDesc}
 use Rattle.gomp_types.specs.declared.depend.Dep.{Dep}
 use Rattle.gomp_types.specs.declared.event.Event.{Event}
 use Rattle.gomp_types.specs.declared.event.Event.TheVariants.{Create, Start, Done, Discard, GroupEnd, Waited, Pass}
-use Rattle.gomp_types.specs.Events.{every_member, barriers_passed, all_arrived, at_barrier, at_region_end}
+use Rattle.gomp_types.specs.Events.{every_member, all_arrived, at_barrier, at_region_end}
 use Rattle.gomp_types.specs.Tasks.{is_created, task_stack, executed_task, has_started, is_complete, all_complete, epoch, same_task, is_child, is_created_by, is_ancestor}
 use Rattle.gomp_types.specs.Depends.{items_wait, task_items, child_waits, waits_for}
 use Rattle.gomp_types.specs.Groups.{in_group}
-use Rattle.gomp_types.specs.Goals.{bound_complete, barrier_met, region_met, is_ready, each_of, may_descend}
+use Rattle.gomp_types.specs.Goals.{bound_complete, region_met, is_ready, each_of, may_descend}
 use Rattle.gomp_types.specs.Laws.{Always, Happened}
 use Rattle.gomp_types.specs.Arrivals.{ArrivalRule}
 use Rattle.gomp_types.specs.TaskRules.{TaskRule}
 use Rattle.gomp_types.specs.Cancels.{is_cancelled}
 use Rattle.gomp_types.specs.TaskLaws.{IsDone, CreatesOnce, CreatesInItsOwn, StartsOnce, StartsAfterNamed, StartsItsOwn, StartsDescendant, EndsItsOwn, StartsUncovered, CreatesUncovered, DiscardsUnstarted, WaitsForTasks, OpensOnce, EndsItsGroup, PassesAfterTasks, EndsAfterTasks, TaskLaws}
-use Rattle.gomp_types.proofs.Booleans.{and_left, and_right, is_equal, not_both, implied_by}
+use Rattle.gomp_types.proofs.Booleans.{and_left, and_right, is_equal, not_both}
 use Rattle.gomp_types.proofs.Always.{always_so, both_so}
 use Rattle.gomp_types.proofs.ArrivalsKeep.{passed_met, passed_cancelled, passed_region}
 use Rattle.gomp_types.proofs.OpenTasks.{created_high, complete_at}
