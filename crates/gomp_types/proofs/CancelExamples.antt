@@ -69,7 +69,8 @@ shares_that_may_be_cancelled = refl
 pub one_share_cancelled :
     (map (λ i. share_cancelled i (Cancel 1 (OneShare 1) ∷ in_a_loop)) (0 ∷ 1 ∷ []) ≡ false ∷ true ∷ []) × (is_cancelled (Cancel 1 (OneShare 1) ∷ in_a_loop) ≡ false)
     × (own_cancelled 0 (Cancel 1 (OneShare 1) ∷ in_a_loop) ≡ true) × (own_cancelled 0 (Cancel 1 (OneShare 0) ∷ in_a_loop) ≡ false) × (share_cancelled 1 (Cancel 1 Region ∷ in_a_loop) ≡ false)
-one_share_cancelled = (refl, refl, refl, refl, refl)
+    × (own_cancelled 1 (Cancel 1 (OneShare 0) ∷ Cancel 1 (OneShare 1) ∷ in_a_loop) ≡ false)
+one_share_cancelled = (refl, refl, refl, refl, refl, refl)
 
 -- a cancelled group reaches its tasks, and those of groups within it; a group within it reaches its own alone; the region reaches all
 pub tasks_that_are_reached :
@@ -103,7 +104,8 @@ pub cancellations_that_are_told :
     (map (λ kind. names_cancelled kind 1 outer_cancelled) (Parallel ∷ Loop ∷ Sections ∷ Taskgroup ∷ []) ≡ false ∷ false ∷ false ∷ true ∷ [])
     × (names_cancelled Taskgroup 1 (Cancel 1 (OneGroup 1) ∷ groups_in_groups) ≡ false) × (names_cancelled Taskgroup 1 (Cancel 1 Region ∷ groups_in_groups) ≡ true)
     × (names_cancelled Loop 0 (Cancel 1 Region ∷ in_a_loop) ≡ false) × (names_cancelled Loop 0 (Cancel 1 (OneShare 1) ∷ in_a_loop) ≡ true)
-cancellations_that_are_told = (refl, refl, refl, refl, refl)
+    × (names_cancelled Sections 0 (Cancel 1 (OneShare 1) ∷ in_a_loop) ≡ false) × (names_cancelled Sections 0 (Cancel 1 (OneShare 0) ∷ in_sections) ≡ true)
+cancellations_that_are_told = (refl, refl, refl, refl, refl, refl, refl)
 
 -- if the control variable allows none, nothing is cancelled
 pub answers_to_a_cancel :
@@ -122,7 +124,7 @@ tests_of_a_cancel = (refl, refl, refl, refl, refl)
 -- a member leaves the region for good, a share until its end, a task until its end
 pub members_that_leave :
     (map (λ h. leaves_region 0 h) ([] ∷ (See 0 Parallel ∷ []) ∷ (See 1 Parallel ∷ []) ∷ (End 0 0 ∷ Done 1 0 ∷ See 0 Parallel ∷ []) ∷ (See 0 Loop ∷ []) ∷ []) ≡ false ∷ true ∷ false ∷ true ∷ false ∷ [])
-    × (map (λ h. leaves_share 0 h) ((See 0 Loop ∷ []) ∷ (See 0 Sections ∷ []) ∷ (See 0 Taskgroup ∷ []) ∷ (End 0 1 ∷ See 0 Loop ∷ []) ∷ (End 0 0 ∷ See 0 Loop ∷ []) ∷ []) ≡ true ∷ true ∷ false ∷ true ∷ false ∷ [])
+    × (map (λ h. leaves_share 0 h) ((See 0 Loop ∷ []) ∷ (See 0 Sections ∷ []) ∷ (See 0 Taskgroup ∷ []) ∷ (End 0 1 ∷ See 0 Loop ∷ []) ∷ (End 0 0 ∷ See 0 Loop ∷ []) ∷ (Enter 1 0 cancellable_loop ∷ See 0 Loop ∷ []) ∷ (Enter 0 1 cancellable_loop ∷ See 0 Loop ∷ []) ∷ []) ≡ true ∷ true ∷ false ∷ true ∷ false ∷ false ∷ true ∷ [])
     × (map (λ h. leaves_task 0 h) ((See 0 Taskgroup ∷ []) ∷ (See 0 Loop ∷ []) ∷ (Done 2 1 ∷ See 0 Taskgroup ∷ []) ∷ (Done 2 0 ∷ See 0 Taskgroup ∷ []) ∷ (See 1 Taskgroup ∷ []) ∷ []) ≡ true ∷ false ∷ true ∷ false ∷ false ∷ [])
     × (map (λ h. is_leaving 0 h) ([] ∷ (See 0 Parallel ∷ []) ∷ (See 0 Sections ∷ []) ∷ (See 0 Taskgroup ∷ []) ∷ (See 1 Taskgroup ∷ []) ∷ []) ≡ false ∷ true ∷ true ∷ true ∷ false ∷ [])
 members_that_leave = (refl, refl, refl, refl)

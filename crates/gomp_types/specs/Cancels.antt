@@ -9,8 +9,8 @@ use Rattle.gomp_types.specs.declared.shape.Shape.{Shape}
 use Rattle.gomp_types.specs.declared.task.Task.{Task}
 use Rattle.gomp_types.specs.declared.task.Task.TheVariants.{Implicit, Explicit}
 use Rattle.gomp_types.specs.declared.event.Event.{Event}
-use Rattle.gomp_types.specs.declared.event.Event.TheVariants.{Start, Done, End, Cancel, See}
-use Rattle.gomp_types.specs.Events.{open_share, open_number}
+use Rattle.gomp_types.specs.declared.event.Event.TheVariants.{Enter, Start, Done, End, Cancel, See}
+use Rattle.gomp_types.specs.Events.{open_share}
 use Rattle.gomp_types.specs.Shapes.{is_loop, is_sections, same_end}
 use Rattle.gomp_types.specs.Tasks.{executed_task}
 use Rattle.gomp_types.specs.Groups.{open_groups, groups_around}
@@ -46,9 +46,19 @@ is_cancelled h = was_cancelled Region h
 abbrev pub share_cancelled : ℕ → List Event → Bool
 share_cancelled i h = was_cancelled (OneShare i) h
 
+-- whether this was, if there is one
+abbrev pub some_scope_cancelled : Option Scope → List Event → Bool
+some_scope_cancelled None h = false
+some_scope_cancelled (Some scope) h = was_cancelled scope h
+
+-- whether a share was, if there is one
+abbrev pub inside_cancelled : Option (ℕ × Shape) → List Event → Bool
+inside_cancelled None h = false
+inside_cancelled (Some share) h = share_cancelled share.0 h
+
 -- whether the share was that the member is in
 abbrev pub own_cancelled : ℕ → List Event → Bool
-own_cancelled m h = share_cancelled (open_number m h) h
+own_cancelled m h = inside_cancelled (open_share m h) h
 
 -- whether one of these groups was
 abbrev pub some_cancelled : List ℕ → List Event → Bool
@@ -101,8 +111,8 @@ scope_of Taskgroup m h = group_scope (first_of (groups_over (executed_task m h) 
 -- whether what it names is cancelled; a task is so by any group around it, and by the region (own)
 abbrev pub names_cancelled : CancelKind → ℕ → List Event → Bool
 names_cancelled Parallel m h = is_cancelled h
-names_cancelled Loop m h = own_cancelled m h
-names_cancelled Sections m h = own_cancelled m h
+names_cancelled Loop m h = some_scope_cancelled (scope_of Loop m h) h
+names_cancelled Sections m h = some_scope_cancelled (scope_of Sections m h) h
 names_cancelled Taskgroup m h = is_cancelled h || some_cancelled (groups_over (executed_task m h) h) h
 
 -- whether the member's share may be cancelled
@@ -122,6 +132,7 @@ leaves_region m (_ ∷ earlier) = leaves_region m earlier
 abbrev pub leaves_share : ℕ → List Event → Bool
 leaves_share m [] = false
 leaves_share m (See member kind ∷ earlier) = (member == m && (same_cancel kind Loop || same_cancel kind Sections)) || leaves_share m earlier
+leaves_share m (Enter share member shape ∷ earlier) = if member == m then false else leaves_share m earlier
 leaves_share m (End share member ∷ earlier) = if member == m then false else leaves_share m earlier
 leaves_share m (_ ∷ earlier) = leaves_share m earlier
 
