@@ -6,7 +6,7 @@ use Rattle.gomp_types.specs.declared.cancel.Scope.TheVariants.{Region, OneShare,
 use Rattle.gomp_types.specs.declared.loop_desc.EndKind.TheVariants.{Nowait, Cancellable}
 use Rattle.gomp_types.specs.declared.shape.ShareKind.TheVariants.{Dynamic as ByDynamic}
 use Rattle.gomp_types.specs.declared.refusal.Refusal.TheVariants.{InsideTask, NotInTask, NoGroup, GroupOpen}
-use Rattle.gomp_types.specs.declared.reply.Reply.TheVariants.{Cancelling}
+use Rattle.gomp_types.specs.declared.reply.Reply.TheVariants.{Wait, Created, Cancelled, Dropped, Cancelling}
 use Rattle.gomp_types.specs.declared.shape.Shape.{Shape}
 use Rattle.gomp_types.specs.declared.task.Task.TheVariants.{Implicit, Explicit}
 use Rattle.gomp_types.specs.declared.event.Event.{Event}
@@ -15,7 +15,8 @@ use Rattle.gomp_types.specs.Sections.{sections_shape}
 use Rattle.gomp_types.specs.Singles.{single_shape}
 use Rattle.gomp_types.specs.TaskExamples.{after, one_job}
 use Rattle.gomp_types.specs.Cancels.{is_cancelled, share_cancelled, own_cancelled, groups_over, groups_within, is_covered, would_be_covered, scope_of, names_cancelled, may_be_cancelled, leaves_region, leaves_share, leaves_task, is_leaving}
-use Rattle.gomp_types.specs.CancelCalls.{cancel_tests, TellsCancelled, discards, tells_cancelled}
+use Rattle.gomp_types.specs.CancelCalls.{cancel_tests, cancel_room, cancel_asks, keeps_cancel, TellsCancelled, CreatesOrDrops, OrIsCancelled, OrWaitsCancelled, unless_cancelled, creates_uncovered, sees_cancelled, discards, tells_cancelled}
+use Rattle.gomp_types.specs.TaskCalls.{end_task_tests, end_region_tests}
 
 -- member 0 has opened a group and created a task in it, which member 1 executes; in the group member 0 executes a second task; the first has opened a group of its own, and created a third task in that
 abbrev groups_in_groups : List Event
@@ -128,3 +129,44 @@ pub members_that_leave :
     × (map (λ h. leaves_task 0 h) ((See 0 Taskgroup ∷ []) ∷ (See 0 Loop ∷ []) ∷ (Done 2 1 ∷ See 0 Taskgroup ∷ []) ∷ (Done 2 0 ∷ See 0 Taskgroup ∷ []) ∷ (See 1 Taskgroup ∷ []) ∷ []) ≡ true ∷ false ∷ true ∷ false ∷ false ∷ [])
     × (map (λ h. is_leaving 0 h) ([] ∷ (See 0 Parallel ∷ []) ∷ (See 0 Sections ∷ []) ∷ (See 0 Taskgroup ∷ []) ∷ (See 1 Taskgroup ∷ []) ∷ []) ≡ false ∷ true ∷ true ∷ true ∷ false ∷ [])
 members_that_leave = (refl, refl, refl, refl)
+
+-- the region or a group asks for the room of an event, and may find no memory; a share does neither
+pub room_of_a_cancel :
+    (map cancel_room (Parallel ∷ Loop ∷ Sections ∷ Taskgroup ∷ []) ≡ 1 ∷ 0 ∷ 0 ∷ 1 ∷ []) × (map cancel_asks (Parallel ∷ Loop ∷ Sections ∷ Taskgroup ∷ []) ≡ true ∷ false ∷ false ∷ true ∷ [])
+room_of_a_cancel = (refl, refl)
+
+-- a construct that cancels keeps it
+pub room_that_is_kept :
+    (map (keeps_cancel true) (Cancelling true ∷ Cancelling false ∷ Dropped ∷ []) ≡ true ∷ false ∷ false ∷ []) × (map (keeps_cancel false) (Cancelling true ∷ Cancelling false ∷ []) ≡ false ∷ false ∷ [])
+room_that_is_kept = (refl, refl)
+
+-- a task that would be reached is not created, and its creator is told so; any other is created as always
+pub created_or_dropped :
+    (creates_uncovered 0 one_job outer_cancelled ≡ []) × (creates_uncovered 0 one_job groups_in_groups ≡ Create 4 0 (Explicit 2) one_job ∷ [])
+    × CreatesOrDrops 0 outer_cancelled Dropped × (CreatesOrDrops 0 outer_cancelled (Created 4) → ⊥)
+    × CreatesOrDrops 0 (Create 4 0 (Explicit 2) one_job ∷ groups_in_groups) (Created 4) × (CreatesOrDrops 0 (Create 4 0 (Explicit 2) one_job ∷ groups_in_groups) Dropped → ⊥)
+created_or_dropped = (refl, refl, refl, λ is. absurd (cc), refl, λ is. absurd (cc))
+
+-- a call that is cut short in a cancelled region is answered so, whatever it would be answered else
+pub answers_cut_short :
+    OrIsCancelled true (λ reply. reply ≡ Wait) Cancelled × (OrIsCancelled true (λ reply. reply ≡ Wait) Wait → ⊥) × OrIsCancelled false (λ reply. reply ≡ Wait) Wait × (OrIsCancelled false (λ reply. reply ≡ Wait) Cancelled → ⊥)
+answers_cut_short = (refl, λ is. absurd (cc), refl, λ is. absurd (cc))
+
+-- one that would wait is answered so instead, and any other as always
+pub answers_uncancelled :
+    OrWaitsCancelled true (λ reply. reply ≡ Wait) Cancelled × (OrWaitsCancelled true (λ reply. reply ≡ Wait) Wait → ⊥) × OrWaitsCancelled true (λ reply. reply ≡ Dropped) Dropped × (OrWaitsCancelled true (λ reply. reply ≡ Dropped) Cancelled → ⊥)
+    × OrWaitsCancelled false (λ reply. reply ≡ Wait) Wait × (OrWaitsCancelled false (λ reply. reply ≡ Wait) Cancelled → ⊥)
+answers_uncancelled = (refl, λ is. is, refl, λ is. absurd (cc), refl, λ is. absurd (cc))
+
+-- a member that is answered so sees that the region is cancelled
+pub seen_when_cut_short :
+    (sees_cancelled 1 Cancelled (Cancel 0 Region ∷ []) ≡ See 1 Parallel ∷ []) × (sees_cancelled 1 Wait (Cancel 0 Region ∷ []) ≡ Cancel 0 Region ∷ []) × (unless_cancelled true (Cancel 0 Region ∷ []) ≡ [])
+    × (unless_cancelled false (Cancel 0 Region ∷ []) ≡ Cancel 0 Region ∷ [])
+seen_when_cut_short = (refl, refl, refl, refl)
+
+-- the ends of a task and of the region leave no group open, unless their member gives it up; they are made outside of tasks, or in one
+pub ends_that_leave_groups :
+    (end_task_tests false 0 groups_in_groups ≡ (false, NotInTask) ∷ (false, GroupOpen) ∷ []) × (end_task_tests false 1 groups_in_groups ≡ (false, NotInTask) ∷ (true, GroupOpen) ∷ [])
+    × (end_task_tests true 1 groups_in_groups ≡ (false, NotInTask) ∷ []) × (end_region_tests false 1 groups_in_groups ≡ (true, InsideTask) ∷ (true, GroupOpen) ∷ [])
+    × (end_region_tests true 1 groups_in_groups ≡ (true, InsideTask) ∷ [])
+ends_that_leave_groups = (refl, refl, refl, refl, refl)
