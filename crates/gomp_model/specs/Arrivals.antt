@@ -1,5 +1,5 @@
 -- The rows of calls that arrive at a barrier, and of the ends of shares. OpenMP API 5.2, section 15.3.
-use Rattle.std.specs.Prelude.{ℕ, is_some, ◌&&◌, not, Bool, true, false, List, [], ◌∷◌, ◌++◌, Some}
+use Rattle.std.specs.Prelude.{ℕ, is_some, is_none, ◌&&◌, not, Bool, true, false, List, [], ◌∷◌, ◌++◌, Some}
 use Rattle.gomp_types.specs.declared.refusal.Refusal.TheVariants.{InsideShare, Mismatch}
 use Rattle.gomp_types.specs.declared.seen.Seen.{Seen}
 use Rattle.gomp_types.specs.declared.reply.Reply.{Reply}

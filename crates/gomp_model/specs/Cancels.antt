@@ -14,7 +14,7 @@ cancel_row kind clause = record plain_row {
   keeps_room = keeps_cancel clause;
   memory = cancel_asks kind;
   cancels = Some kind;
-  may_reply = λ m p reply. TellsCancelled p.terms.cancellation clause kind m p.events reply;
+  may_reply = λ m p reply. TellsCancelled p.terms.cancellation kind clause m p.events reply;
   gives = λ m p reply. tells_cancelled kind clause m p.events reply;
 }
 
