@@ -1,8 +1,8 @@
 //! The list of tasks that may be taken.
 
-ghost use Rattle.std.specs.Prelude.{◌≡◌, ◌<◌, ◌≤◌, ◌+◌, [], ◌∷◌, ◌++◌, Some, length, slice_get, OnOk, OnErr, IsOk, IsTrue, ◌↔◌};
-ghost use Rattle.std.specs.List.{remove};
-ghost use Rattle.gomp_ready.specs.Ready.{ready_room};
+ghost use Rattle.std.specs.Prelude.{◌≡◌, ◌<◌, ◌≤◌, ◌+◌, [], ◌∷◌, ◌++◌, Some, length, slice_get, OnOk, OnErr, IsOk, IsTrue, ◌↔◌, ◌==◌};
+ghost use Rattle.std.specs.List.{position_from, remove};
+ghost use Rattle.gomp_ready.specs.Ready.{ready_room, room_without, without};
 
 use std::alloc::{AllocError, Global};
 use std::marker::Model;
@@ -77,6 +77,18 @@ impl Ready {
         self.ids.remove(index)
     }
 
+    /// Takes the task out of the list, if it is there, where it stands first; the others keep their
+    /// order. It costs a step for each task before it, and those behind it move down.
+    pub fn remove(&mut self, task: u32)
+        ensures ids { self.new.ids ≡ without task self.old.ids }
+        ensures room { self.new.room ≡ room_without task self.old.ids self.old.room }
+    {
+        let Some(index) = place_of(&self.ids, task) else {
+            return;
+        };
+        let _ = self.take(index);
+    }
+
     /// The tasks, in the order in which they were put.
     pub fn as_slice(&self) -> &[u32]
         ensures { result.now ≡ self.now.ids }
@@ -97,4 +109,11 @@ impl Ready {
     {
         self.ids.is_empty()
     }
+}
+
+/// The place of the task in the list, from 0, where it stands first.
+fn place_of(ids: &[u32], task: u32) -> Option<usize>
+    ensures { result ≡ position_from (λ id. id == task) 0 ids.now }
+{
+    ids.iter().position(|id| *id == task)
 }
