@@ -21,8 +21,8 @@ const STEP_PART: usize = 16;
 /// They grow by so many places at least, besides the one that is asked for.
 const LEAST_STEP: usize = 64;
 
-/// What of a team is cancelled. Groups are numbered from 0 in the order in which they are opened. Only
-/// `reserve` takes memory (OpenMP API 5.2, section 16.1).
+/// What of a team is cancelled. Groups are numbered from 0 in the order in which they are opened.
+/// Only `reserve` takes memory (OpenMP API 5.2, section 16.1).
 #[derive(Debug, Drop)]
 pub struct Cancellation {
     region: bool,
@@ -101,17 +101,18 @@ impl Cancellation {
         self.marks[group as usize] = true;
     }
 
-    /// Whether the region is cancelled. A cancellation point that names it answers so (OpenMP API 5.2,
-    /// section 16.2).
+    /// Whether the region is cancelled. A cancellation point that names it answers so (OpenMP API
+    /// 5.2, section 16.2).
     pub fn is_cancelled(&self) -> bool
         ensures value { (h : List Event) → CancelStands self.now h → result ≡ is_cancelled h }
     {
         self.region
     }
 
-    /// Whether a cancellation reaches the task, which is one of the team: that of the region, or of a
-    /// group whose end waits for it. A cancellation point that names a taskgroup answers so in this task
-    /// (OpenMP API 5.2, section 16.2). It takes a step for each group around the task.
+    /// Whether a cancellation reaches the task, which is one of the team: that of the region, or
+    /// of a group whose end waits for it. A cancellation point that names a taskgroup answers so
+    /// in this task (OpenMP API 5.2, section 16.2). It takes a step for each group around the
+    /// task.
     pub fn is_task_cancelled(&self, groups: &Groups, task: Task) -> bool
         requires seated { IsSeated groups.now task }
         requires marks { length self.now.marks ≡ length groups.now.groups }
@@ -121,9 +122,9 @@ impl Cancellation {
         self.region || groups.is_marked_around(task, &self.marks)
     }
 
-    /// Whether a cancellation reaches the explicit task with this number, from 1, which was created: it
-    /// is discarded unless a member has started it (OpenMP API 5.2, section 16.1). It takes a step for
-    /// each group around the task.
+    /// Whether a cancellation reaches the explicit task with this number, from 1, which was
+    /// created: it is discarded unless a member has started it (OpenMP API 5.2, section 16.1). It
+    /// takes a step for each group around the task.
     pub fn is_covered(&self, groups: &Groups, task: u32) -> bool
         requires seated { IsSeated groups.now (Explicit task) }
         requires marks { length self.now.marks ≡ length groups.now.groups }
@@ -133,8 +134,8 @@ impl Cancellation {
         self.is_task_cancelled(groups, Task::Explicit(task))
     }
 
-    /// Whether a cancellation would reach a task that is created in this one now: then it is not created
-    /// (OpenMP API 5.2, section 16.1). It takes a step for each group around it.
+    /// Whether a cancellation would reach a task that is created in this one now: then it is not
+    /// created (OpenMP API 5.2, section 16.1). It takes a step for each group around it.
     pub fn would_be_covered(&self, groups: &Groups, parent: Task) -> bool
         requires seated { IsSeated groups.now parent }
         requires marks { length self.now.marks ≡ length groups.now.groups }

@@ -155,9 +155,9 @@ impl Groups {
         has_mark(&self.groups, seat.around, marks)
     }
 
-    /// Whether one of the groups whose ends will wait for a task that is created in this one now, which
-    /// is one of this team, has its mark. There is a mark for each group opened. It takes a step for
-    /// each of those groups.
+    /// Whether one of the groups whose ends will wait for a task that is created in this one now,
+    /// which is one of this team, has its mark. There is a mark for each group opened. It takes a
+    /// step for each of those groups.
     pub fn is_marked_within(&self, task: Task, marks: &[bool]) -> bool
         requires seated { IsSeated self.now task }
         requires marks { length marks.now ≡ length self.now.groups }
@@ -264,8 +264,8 @@ impl Groups {
         self.finish_task(task);
     }
 
-    /// A cancellation discards the explicit task with this number, from 1, which nobody has started:
-    /// it is complete (OpenMP API 5.2, section 16.1).
+    /// A cancellation discards the explicit task with this number, from 1, which nobody has
+    /// started: it is complete (OpenMP API 5.2, section 16.1).
     pub fn discard(&mut self, task: u32)
         requires may { (h : List Event) × (m : ℕ) × Stands self.old h ×
             MayDiscard (members_of self.old) task m h }
