@@ -12,6 +12,7 @@ use Rattle.gomp_types.specs.RefusalTexts.{text_of}
 abbrev pub refused_text : Refusal → List ℕ
 refused_text refusal = codes "refused " ++ text_of refusal
 
+-- the word of a truth
 abbrev pub yes_text : Bool → List ℕ
 yes_text true = codes "yes"
 yes_text false = codes "no"
