@@ -3,7 +3,7 @@
 //!
 //! OpenMP API 5.2, sections 16.1 and 16.2.
 
-ghost use Rattle.std.specs.Prelude.{◌≡◌, ◌<◌, List, false};
+ghost use Rattle.std.specs.Prelude.{◌≡◌, List, false};
 ghost use Rattle.gomp_types.specs.declared.event.Event.{Event};
 ghost use Rattle.gomp_types.specs.Cancels.{own_cancelled};
 ghost use Rattle.gomp_shares.specs.Calls.{CanSee, EachStands, seen_if};
@@ -50,6 +50,8 @@ pub fn cancel_share<S: Shares>(
     ensures serves { Serves S.stands shares.old shares.new result
         (AnswersCancel allowed kind clause member) (share_cancelled_by kind clause member) }
 {
+    // Shows some events.
+    let _place = shares.look(member);
     if !allowed {
         return Reply::Cancelling(false);
     }

@@ -2,7 +2,7 @@
 //!
 //! OpenMP API 5.2, sections 11.3, 11.5 and 16.1.
 
-ghost use Rattle.std.specs.Prelude.{◌≡◌, ◌<◌, ◌++◌, List, true};
+ghost use Rattle.std.specs.Prelude.{◌≡◌, ◌<◌, ◌||◌, ◌++◌, List, true};
 ghost use Rattle.gomp_types.specs.declared.event.Event.{Event};
 ghost use Rattle.gomp_types.specs.Least.{least};
 ghost use Rattle.gomp_shares.specs.Calls.{CanEnd, EachStands};
@@ -14,6 +14,14 @@ use crate::Shares;
 use crate::admission::{Construct, end_refusal};
 use gomp_types::{EndKind, Refusal, Reply, Seen};
 
+/// Whether a member that sees this of its place was told that nothing is left of its share, or has
+/// seen that the share is cancelled.
+fn has_seen_end(seen: &Seen) -> bool
+    ensures { result ≡ (seen.now.drained || seen.now.leaving) }
+{
+    seen.drained || seen.leaving
+}
+
 /// Why a member that sees this of its place may not end its loop or sections, though its own tests
 /// let it: `NotDrained` if it was not told that nothing is left, and the construct is not
 /// cancelled. Nothing changes.
@@ -24,7 +32,7 @@ pub fn drained_refusal<S: Shares>(shares: &mut S, member: u16, seen: &Seen) -> O
         result ≡ least (drained_tests member h)) }
     ensures kept { shares.new ≡ shares.old }
 {
-    if seen.drained || seen.leaving || shares.cancelled(member) {
+    if has_seen_end(seen) || shares.cancelled(member) {
         return None;
     }
     Some(Refusal::NotDrained)
@@ -67,8 +75,7 @@ pub fn leave_construct<S: Shares>(shares: &mut S, member: u16)
     ensures stands { EachStands (S.stands shares.old) (λ h.
         S.stands shares.new (leaves member h ++ h)) }
 {
-    let seen = shares.look(member);
-    if !seen.drained && !seen.leaving {
+    if !has_seen_end(&shares.look(member)) {
         shares.see(member);
     }
     shares.leave(member);
