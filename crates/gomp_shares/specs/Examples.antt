@@ -262,7 +262,7 @@ ninth_share =
 -- what a member sees of its place, field by field
 abbrev pub sees : ℕ → Option (ℕ × Shape) → Bool → Option Piece → ℕ → Bool → Seen
 sees entered current drained piece next_part in_part =
-    record { entered = entered; current = current; drained = drained; piece = piece; next_part = next_part; in_part = in_part }
+    record { entered = entered; current = current; drained = drained; piece = piece; next_part = next_part; in_part = in_part; leaving = false }
 
 -- outside, after so many shares
 abbrev pub sees_outside : ℕ → Seen
