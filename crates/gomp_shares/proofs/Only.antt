@@ -12,7 +12,7 @@ use Rattle.gomp_types.specs.Seen.{seen_of}
 use Rattle.gomp_shares.specs.Only.{shares_only}
 
 -- what is seen of another region says nothing of the share
-sees_another : (a b : Bool) → (a && false || b) ≡ b
+pub sees_another : (a b : Bool) → (a && false || b) ≡ b
 sees_another true b = refl
 sees_another false b = refl
 
