@@ -1,5 +1,5 @@
 -- The rows of calls that arrive at a barrier, and of the ends of shares. OpenMP API 5.2, section 15.3.
-use Rattle.std.specs.Prelude.{ℕ, is_some, is_none, ◌&&◌, not, Bool, true, false, List, [], ◌∷◌, ◌++◌, Some}
+use Rattle.std.specs.Prelude.{ℕ, is_some, is_none, ◌&&◌, ◌||◌, not, Bool, true, false, List, [], ◌∷◌, ◌++◌, Some}
 use Rattle.gomp_types.specs.declared.refusal.Refusal.TheVariants.{InsideShare, Mismatch}
 use Rattle.gomp_types.specs.declared.seen.Seen.{Seen}
 use Rattle.gomp_types.specs.declared.reply.Reply.{Reply}
@@ -15,7 +15,7 @@ use Rattle.gomp_types.specs.Goals.{may_pass}
 use Rattle.gomp_types.specs.TaskCalls.{end_region_tests, arrival_room, AwaitsTasks, starts_task}
 use Rattle.gomp_types.specs.Least.{least}
 use Rattle.gomp_types.specs.Seen.{seen_of}
-use Rattle.gomp_types.specs.Cancels.{is_cancelled, leaves_region, leaves_share}
+use Rattle.gomp_types.specs.Cancels.{is_cancelled, leaves_region, leaves_share, leaves_task}
 use Rattle.gomp_types.specs.CancelCalls.{unless_cancelled, OrIsCancelled, sees_cancelled}
 use Rattle.gomp_shares.specs.Starts.{leaves}
 use Rattle.gomp_model.specs.Row.{Row, outside_row}
@@ -48,9 +48,9 @@ is_cut_short row = record row {
   gives = λ m p reply. sees_cancelled m reply (row.gives m p reply);
 }
 
--- whether these tests of a member's place let it end the share that it leaves
+-- whether a member leaves its share, and that alone, and these tests of its place let it end that
 abbrev pub ends_its_own : (Seen → List Test) → ℕ → List Event → Bool
-ends_its_own tests m h = leaves_share m h && is_none (least (tests (seen_of m h)))
+ends_its_own tests m h = leaves_share m h && not (leaves_region m h || leaves_task m h) && is_none (least (tests (seen_of m h)))
 
 -- a call that leaves its share, by these tests, before it does what it does else
 abbrev pub ending : (Seen → List Test) → Row → Row
