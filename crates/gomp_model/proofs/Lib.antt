@@ -1,9 +1,11 @@
+pub mod CancelRunsWithCauses
 pub mod CauseExamples
 pub mod DependCauseExamples
 pub mod DependRecordExamples
 pub mod DependRowExamples
 pub mod DependTestExamples
 pub mod GivenExamples
+pub mod LongRuns
 pub mod LoopLimits
 pub mod RecordExamples
 pub mod RowExamples
