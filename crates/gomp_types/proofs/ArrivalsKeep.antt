@@ -5,7 +5,7 @@ use Rattle.std.proofs.lemmas.Bool.{cases_Bool}
 use Rattle.gomp_types.specs.declared.event.Tag.{Tag}
 use Rattle.gomp_types.specs.declared.event.Event.{Event}
 use Rattle.gomp_types.specs.declared.event.Event.TheVariants.{Arrive, Pass, Cancel}
-use Rattle.gomp_types.specs.Events.{every_member, barriers_passed, arrival, tag_at, all_arrived, at_region_end}
+use Rattle.gomp_types.specs.Events.{every_member, barriers_passed, arrival, tag_at, all_arrived, at_region_end, has_left_region}
 use Rattle.gomp_types.specs.Goals.{bound_complete, barrier_met, region_met}
 use Rattle.gomp_types.specs.Laws.{Always, Happened}
 use Rattle.gomp_types.specs.Arrivals.{MayPass, ArrivalRule, BarriersOneByOne, SameTags, OnlyEnds, SameArrivals, PassesAfterAll, EndsAfterAll, ArrivalLaws}
@@ -54,11 +54,16 @@ passed_met members barrier m h whole rule =
 
 -- in a cancelled region it has met the region's end
 pub passed_cancelled : (members barrier m : ℕ) (h : List Event) → MayPass members barrier m h → is_cancelled h ≡ true → (at_region_end m h && region_met members h) ≡ true
-passed_cancelled members barrier m h rule cancelled = rw cancelled at rule.met
+passed_cancelled members barrier m h rule cancelled = outer_two (at_region_end m h) (not (has_left_region m h)) (region_met members h) (rw cancelled at rule.met)
+  where
+    outer_two : (a b c : Bool) → (a && (b && c)) ≡ true → (a && c) ≡ true
+    outer_two true true c e = e
+    outer_two true false c e = absurd (cc)
+    outer_two false b c e = absurd (cc)
 
-same_tags : (members : ℕ) (event : Event) (earlier : List Event) → ArrivalRule members event earlier → Always (ArrivalRule members) earlier → SameTags event earlier
-same_tags members (Arrive barrier m tag) earlier rule all = λ whole n other stands. rule.same whole other (tag_stands members barrier n other earlier whole all stands)
-same_tags members _ earlier rule all = tt
+tags_are_same : (members : ℕ) (event : Event) (earlier : List Event) → ArrivalRule members event earlier → Always (ArrivalRule members) earlier → SameTags event earlier
+tags_are_same members (Arrive barrier m tag) earlier rule all = λ whole n other stands. rule.same whole other (tag_stands members barrier n other earlier whole all stands)
+tags_are_same members _ earlier rule all = tt
 
 only_ends : (members : ℕ) (event : Event) (earlier : List Event) → ArrivalRule members event earlier → Always (ArrivalRule members) earlier → OnlyEnds event earlier
 only_ends members (Arrive barrier m tag) earlier rule all = rule.ends
@@ -68,7 +73,7 @@ only_ends members _ earlier rule all = tt
 pub same_arrivals : (members : ℕ) (h : List Event) → Always (ArrivalRule members) h → SameArrivals h
 same_arrivals members h all = record {
   one_by_one = always_so (ArrivalRule members) BarriersOneByOne (barriers_one_by_one members) h all;
-  tags = always_so (ArrivalRule members) SameTags (same_tags members) h all;
+  tags = always_so (ArrivalRule members) SameTags (tags_are_same members) h all;
   ends = always_so (ArrivalRule members) OnlyEnds (only_ends members) h all;
 }
 

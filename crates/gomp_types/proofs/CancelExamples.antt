@@ -10,7 +10,10 @@ use Rattle.gomp_types.specs.declared.reply.Reply.TheVariants.{Wait, Created, Can
 use Rattle.gomp_types.specs.declared.shape.Shape.{Shape}
 use Rattle.gomp_types.specs.declared.task.Task.TheVariants.{Implicit, Explicit}
 use Rattle.gomp_types.specs.declared.event.Event.{Event}
-use Rattle.gomp_types.specs.declared.event.Event.TheVariants.{Enter, End, Create, Start, Done, Group, GroupEnd, Cancel, Discard, See}
+use Rattle.gomp_types.specs.declared.event.Event.TheVariants.{Enter, End, Arrive, Pass, Create, Start, Done, Group, GroupEnd, Cancel, Discard, See}
+use Rattle.gomp_types.specs.declared.event.Arrival.TheVariants.{Barrier, RegionEnd}
+use Rattle.gomp_types.specs.EventLists.{at}
+use Rattle.gomp_types.specs.Goals.{may_pass}
 use Rattle.gomp_types.specs.Sections.{sections_shape}
 use Rattle.gomp_types.specs.Singles.{single_shape}
 use Rattle.gomp_types.specs.TaskExamples.{after, one_job}
@@ -170,3 +173,11 @@ pub ends_that_leave_groups :
     × (end_task_tests true 1 groups_in_groups ≡ (false, NotInTask) ∷ []) × (end_region_tests false 1 groups_in_groups ≡ (true, InsideTask) ∷ (true, GroupOpen) ∷ [])
     × (end_region_tests true 1 groups_in_groups ≡ (true, InsideTask) ∷ [])
 ends_that_leave_groups = (refl, refl, refl, refl, refl)
+
+-- in a cancelled region a member passes the region's end once all are there, at whatever barrier they were, and once; no other barrier is passed, though all have arrived there
+pub passes_of_a_cancelled_region :
+    (map (λ m. may_pass 2 m (after (Arrive 0 0 (at Barrier 0) ∷ Arrive 0 1 (at Barrier 0) ∷ Cancel 1 Region ∷ []))) (0 ∷ 1 ∷ []) ≡ false ∷ false ∷ [])
+    × (map (λ m. may_pass 2 m (after (Arrive 0 0 (at Barrier 0) ∷ Cancel 1 Region ∷ Arrive 0 1 (at RegionEnd 0) ∷ []))) (0 ∷ 1 ∷ []) ≡ false ∷ false ∷ [])
+    × (map (λ m. may_pass 2 m (after (Arrive 0 0 (at Barrier 0) ∷ Cancel 1 Region ∷ Arrive 0 1 (at RegionEnd 0) ∷ Arrive 0 0 (at RegionEnd 0) ∷ []))) (0 ∷ 1 ∷ []) ≡ true ∷ true ∷ [])
+    × (map (λ m. may_pass 2 m (after (Arrive 0 0 (at Barrier 0) ∷ Cancel 1 Region ∷ Arrive 0 1 (at RegionEnd 0) ∷ Arrive 0 0 (at RegionEnd 0) ∷ Pass 0 0 ∷ []))) (0 ∷ 1 ∷ []) ≡ false ∷ true ∷ [])
+passes_of_a_cancelled_region = (refl, refl, refl, refl)

@@ -4,7 +4,7 @@ use Rattle.gomp_types.specs.declared.task.Task.{Task}
 use Rattle.gomp_types.specs.declared.task.Task.TheVariants.{Implicit, Explicit}
 use Rattle.gomp_types.specs.declared.depend.Dep.{Dep}
 use Rattle.gomp_types.specs.declared.event.Event.{Event}
-use Rattle.gomp_types.specs.Events.{every_member, barriers_passed, all_arrived, at_barrier, at_region_end}
+use Rattle.gomp_types.specs.Events.{every_member, barriers_passed, all_arrived, at_barrier, at_region_end, has_left_region}
 use Rattle.gomp_types.specs.Tasks.{task_stack, executed_task, some_task, is_created, has_started, is_complete, all_complete, epoch, is_child, is_created_by, is_ancestor, is_undeferred}
 use Rattle.gomp_types.specs.Depends.{taskwait_waits, is_free}
 use Rattle.gomp_types.specs.Cancels.{is_cancelled, is_covered}
@@ -23,10 +23,10 @@ barrier_met members barrier h = all_arrived members barrier h && bound_complete 
 abbrev pub region_met : ℕ → List Event → Bool
 region_met members h = every_member members (λ m. at_region_end m h) && all_complete (λ t. true) h
 
--- whether the member may pass its next barrier; the region's end it passes only once the region may end, and in a cancelled region it passes no other (OpenMP API 5.2, section 16.1)
+-- whether the member may pass its next barrier; the region's end it passes only once the region may end, and in a cancelled region it passes no other, and that once (OpenMP API 5.2, section 16.1)
 abbrev pub may_pass : ℕ → ℕ → List Event → Bool
 may_pass members m h =
-    if is_cancelled h then at_region_end m h && region_met members h
+    if is_cancelled h then at_region_end m h && (not (has_left_region m h) && region_met members h)
     else barrier_met members (barriers_passed m h) h && (not (at_region_end m h) || region_met members h)
 
 -- what a taskwait in this task waits for: all its children are complete
