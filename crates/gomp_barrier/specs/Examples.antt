@@ -52,7 +52,7 @@ abbrev pub task_after_end : List Event
 task_after_end = creates 1 1 (Implicit 1) ∷ Pass 0 1 ∷ Arrive 0 1 at_end_tag ∷ Arrive 0 0 at_end_tag ∷ []
 
 abbrev pub seat_with : Bool → Option Tag → Bool → Seat
-seat_with odd arrived left = record { odd = odd; arrived = arrived; left = left }
+seat_with odd arrived left = record { odd = odd; arrived = arrived; left = left; gone = false }
 
 abbrev pub front_with : Bool → ℕ → Option Tag → Option Tag → Front
 front_with odd number tag next = record { odd = odd; number = number; tag = tag; next = next }
@@ -65,7 +65,11 @@ abbrev pub no_tasks : BoundTasks
 no_tasks = bound_with 0 0
 
 abbrev pub barriers_with : List Seat → Front → BoundTasks → BarriersView
-barriers_with seats front tasks = record { seats = seats; front = front; tasks = tasks }
+barriers_with seats front tasks = record { seats = seats; front = front; tasks = tasks; cancelled = false }
+
+-- and of a cancelled region
+abbrev pub cancelled_with : List Seat → Front → BoundTasks → BarriersView
+cancelled_with seats front tasks = record { seats = seats; front = front; tasks = tasks; cancelled = true }
 
 abbrev pub sees_barrier : ℕ → Option Tag → Option Tag → Bool → AtBarrier
 sees_barrier number tag arrived left = record { number = number; tag = tag; arrived = arrived; left = left }
