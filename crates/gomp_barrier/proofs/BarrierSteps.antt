@@ -319,8 +319,8 @@ leave_now : (seats : List Seat) (front : Front) (tasks : BoundTasks) (m : ℕ) (
 leave_now seats front tasks m seat h st at may =
     let on : is_cancelled h ≡ true = st.cancelled in
     let every : every_member (length seats) (λ x. at_region_end x h) ≡ true = every_by (length seats) (λ x. at_region_end x h) (λ x lt.
-        let at_x : slice_get seats x ≡ Some (get_or seats x seat) = slice_get-get_or seats x seat lt in
-        come_is seats front tasks true x (get_or seats x seat) h st at_x ∙ may.come x seat lt) in
+    let at_x : slice_get seats x ≡ Some (get_or seats x seat) = slice_get-get_or seats x seat lt in
+    come_is seats front tasks true x (get_or seats x seat) h st at_x ∙ may.come x seat lt) in
     let own : at_region_end m h ≡ true = every_tells (length seats) (λ x. at_region_end x h) m every (slice_get_within seats m seat at) in
     let complete : all_complete (λ t. true) h ≡ true = tasks_complete tasks st.least h st.tasks true may.odd may.even in
     let stays : has_left_region m h ≡ false = (st.barrier.seat m seat at).left_is ∙ may.stays in
@@ -441,7 +441,7 @@ leave_keeps seats front tasks m seat h st at may =
       behind = ahead_stays front front m seat new seats at refl refl st.behind;
       cancelled = st.cancelled;
       rule = subst (λ n. Always (ArrivalRule n) (Pass (barriers_passed m h) m ∷ h)) (sym (length-set seats m new))
-      (record { number = refl; met = and_left (may_pass (length seats) m h) (not (is_cancelled h && has_left_region m h)) passes }, st.rule);
+          (record { number = refl; met = and_left (may_pass (length seats) m h) (not (is_cancelled h && has_left_region m h)) passes }, st.rule);
     }
 
 -- the region is cancelled

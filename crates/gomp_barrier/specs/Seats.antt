@@ -44,6 +44,10 @@ IsThere front member = (is_ahead front member || is_some member.arrived) ≡ tru
 abbrev pub has_come_to_end : Seat → Bool
 has_come_to_end member = member.left || was_region_end member.arrived
 
+-- every member has
+abbrev pub AllCome : List Seat → Type 0
+AllCome members = All (λ member. has_come_to_end member ≡ true) members
+
 -- whether an arrival of the member with this tag is accepted: with that of the others; once the region is cancelled at its end alone, from a member that has not left it
 abbrev pub seat_accepts : Bool → Front → Seat → Tag → Bool
 seat_accepts true front member tag = is_region_end tag.kind && not member.left

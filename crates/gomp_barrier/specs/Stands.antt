@@ -7,7 +7,7 @@ use Rattle.gomp_types.specs.Cancels.{is_cancelled}
 use Rattle.gomp_barrier.specs.declared.front.Seat.{Seat}
 use Rattle.gomp_barrier.specs.declared.front.Front.{Front}
 use Rattle.gomp_barrier.specs.declared.bound.BoundTasks.{BoundTasks}
-use Rattle.gomp_barrier.specs.Seats.{is_ahead, IsThere, has_come_to_end, FrontStands, SomeBehind}
+use Rattle.gomp_barrier.specs.Seats.{is_ahead, IsThere, has_come_to_end, AllCome, FrontStands, SomeBehind}
 use Rattle.gomp_barrier.specs.Bound.{bound_count, TasksStand}
 
 -- the barriers of a team, as data
@@ -33,7 +33,7 @@ pub record MayTurn (barriers : BarriersView) (member : Seat) : Type 0 where
 -- a member may pass the end of a cancelled region: it has not, all have come there, and no task is open
 pub record MayLeave (seats : List Seat) (tasks : BoundTasks) (member : Seat) : Type 0 where
   pub stays : member.left ≡ false
-  pub come : All (λ seat. has_come_to_end seat ≡ true) seats
+  pub come : AllCome seats
   pub even : tasks.even ≡ 0
   pub odd : tasks.odd ≡ 0
 

@@ -1,6 +1,6 @@
 //! The barriers of a team that one thread steps.
 
-ghost use Rattle.std.specs.Prelude.{◌≡◌, ◌<◌, ◌↔◌, ℕ, List, [], ◌∷◌, IfOk, IsTrue, not, true, false, All};
+ghost use Rattle.std.specs.Prelude.{◌≡◌, ◌<◌, ◌↔◌, ℕ, List, [], ◌∷◌, IfOk, IsTrue, not, false};
 ghost use Rattle.gomp_types.specs.declared.task.Task.{Task};
 ghost use Rattle.gomp_types.specs.declared.task.TaskDesc.{TaskDesc};
 ghost use Rattle.gomp_types.specs.declared.event.Event.{Event};
@@ -10,7 +10,7 @@ ghost use Rattle.gomp_types.specs.Events.{barriers_passed, at_barrier};
 ghost use Rattle.gomp_types.specs.Tasks.{tasks_created, is_odd};
 ghost use Rattle.gomp_types.specs.Compare.{tag_differs};
 ghost use Rattle.gomp_barrier.specs.Calls.{barrier_seen, accepts_arrival, passes_next, arrived_after, turn_after, MayBind, MayRelease};
-ghost use Rattle.gomp_barrier.specs.Seats.{has_come_to_end, seat_accepts};
+ghost use Rattle.gomp_barrier.specs.Seats.{AllCome, seat_accepts};
 ghost use Rattle.gomp_barrier.specs.Stands.{BarriersView, Stands, MayTurn, MayLeave, members_of};
 
 use crate::bound::BoundTasks;
@@ -52,10 +52,19 @@ impl Model for Barriers {
 
     ghost Value = { BarriersView };
 
-    ghost view = { λ b. record { seats = b.seats.items; front = b.front; tasks = b.tasks; cancelled = b.cancelled } };
+    ghost view = { λ b. record {
+      seats = b.seats.items;
+      front = b.front;
+      tasks = b.tasks;
+      cancelled = b.cancelled;
+    } };
 
-    ghost invariant = { λ b. (h : List Event) ×
-        Stands (record { seats = b.seats.items; front = b.front; tasks = b.tasks; cancelled = b.cancelled }) h };
+    ghost invariant = { λ b. (h : List Event) × Stands (record {
+      seats = b.seats.items;
+      front = b.front;
+      tasks = b.tasks;
+      cancelled = b.cancelled;
+    }) h };
 }
 
 impl Barriers {
@@ -213,7 +222,8 @@ impl Barriers {
         ensures stands { (h : List Event) (task member : ℕ) → Stands self.old h →
             MayRelease task odd h → Stands self.new (Discard task member ∷ h) }
     {
-        self.tasks = self.tasks.one_less(odd);
+        let others = self.tasks.one_less(odd);
+        self.tasks = others;
     }
 
     /// Some member cancelled the region: from now on members arrive at the region's end alone. It
@@ -241,7 +251,7 @@ fn accepts(cancelled: bool, front: &Front, member: &Seat, tag: Tag) -> bool
 
 /// Whether every member has arrived at the region's end, or has passed it.
 fn all_come_to_end(members: &[Seat]) -> bool
-    ensures { IsTrue result ↔ All (λ seat. has_come_to_end seat ≡ true) members.now }
+    ensures { IsTrue result ↔ AllCome members.now }
 {
     members.iter().all(|member| has_come_to_end(member))
 }
@@ -255,8 +265,12 @@ fn may_leave(seats: &[Seat], tasks: &BoundTasks, member: &Seat) -> bool
 
 /// Whether the member may pass its next barrier, in a region that is not cancelled.
 fn may_turn(seats: &[Seat], front: &Front, tasks: &BoundTasks, member: &Seat) -> bool
-    ensures { IsTrue result ↔ MayTurn
-        (record { seats = seats.now; front = front.now; tasks = tasks.now; cancelled = false }) member.now }
+    ensures { IsTrue result ↔ MayTurn (record {
+      seats = seats.now;
+      front = front.now;
+      tasks = tasks.now;
+      cancelled = false;
+    }) member.now }
 {
     !is_ahead(front, member)
         && all_there(front, seats)
