@@ -1,15 +1,13 @@
 -- How a loop or a sections construct is ended, and a cancelled one seen: from what its member sees to what it may do, and which events that gives.
-use Rattle.std.proofs.Common.{◌≡◌, ℕ, ◌<◌, Bool, true, false, List, [], ◌∷◌, ◌++◌, Option, Some, None, refl, ap, ◌∙◌, sym, inl, inr}
-use Rattle.std.specs.Prelude.{◌==◌, ◌&&◌, ◌||◌, not, is_some, if◌then◌else◌}
+use Rattle.std.proofs.Common.{◌≡◌, ℕ, Bool, true, false, List, ◌++◌, Option, Some, None, refl, inl, inr}
+use Rattle.std.specs.Prelude.{◌&&◌, ◌||◌, is_some}
 use Rattle.std.proofs.lemmas.Bool.{cases_Bool}
-use Rattle.gomp_types.specs.declared.cancel.CancelKind.{CancelKind}
 use Rattle.gomp_types.specs.declared.cancel.CancelKind.TheVariants.{Loop, Sections}
 use Rattle.gomp_types.specs.declared.shape.Shape.{Shape}
 use Rattle.gomp_types.specs.declared.seen.Seen.{Seen}
 use Rattle.gomp_types.specs.declared.event.Event.{Event}
-use Rattle.gomp_types.specs.declared.event.Event.TheVariants.{See}
 use Rattle.gomp_types.specs.Shapes.{is_sections, is_single}
-use Rattle.gomp_types.specs.Events.{open_share, open_number, has_drained, in_kind}
+use Rattle.gomp_types.specs.Events.{open_share, has_drained, in_kind}
 use Rattle.gomp_types.specs.Cancels.{same_cancel, own_cancelled, leaves_share}
 use Rattle.gomp_types.specs.Seen.{seen_of}
 use Rattle.gomp_types.proofs.Booleans.{same_number, or_tells, or_left, or_right}

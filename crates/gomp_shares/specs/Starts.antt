@@ -1,5 +1,5 @@
 -- What the constructs that are shares have in common: how one is started. OpenMP API 5.2, chapter 11.
-use Rattle.std.specs.Prelude.{◌⊎◌, ℕ, nat_le, not, ◌||◌, if◌then◌else◌, ◌≡◌, is_some, Bool, true, false, List, [], ◌∷◌, ◌++◌, Option, Some}
+use Rattle.std.specs.Prelude.{◌⊎◌, ℕ, nat_le, not, ◌&&◌, ◌||◌, if◌then◌else◌, ◌≡◌, is_some, Bool, true, false, List, [], ◌∷◌, ◌++◌, Option, Some}
 use Rattle.gomp_types.specs.declared.limits.Limits.{Limits}
 use Rattle.gomp_types.specs.declared.refusal.Refusal.TheVariants.{InsideShare, TooManyShares, NotDrained, Mismatch}
 use Rattle.gomp_types.specs.declared.reply.Reply.{Reply}
@@ -71,9 +71,9 @@ is_drained m h = has_drained m h || own_cancelled m h
 abbrev pub drained_tests : ℕ → List Event → List Test
 drained_tests m h = (not (is_drained m h), NotDrained) ∷ []
 
--- a member that ends its share, and was neither told that nothing is left nor has seen that the share is cancelled, sees that now (own)
+-- a member that ends a cancelled share, and was neither told that nothing is left nor has seen that it is cancelled, sees that now (own)
 abbrev pub sees_at_end : ℕ → List Event → List Event
-sees_at_end m h = if has_drained m h || leaves_share m h then [] else See m (kind_in (open_share m h)) ∷ []
+sees_at_end m h = if own_cancelled m h && not (has_drained m h || leaves_share m h) then See m (kind_in (open_share m h)) ∷ [] else []
 
 -- the member's share is left
 abbrev pub leaves : ℕ → List Event → List Event
