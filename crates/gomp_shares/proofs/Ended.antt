@@ -10,7 +10,7 @@ use Rattle.gomp_types.specs.Shapes.{is_sections, is_single}
 use Rattle.gomp_types.specs.Events.{open_share, has_drained, in_kind}
 use Rattle.gomp_types.specs.Cancels.{same_cancel, own_cancelled, leaves_share}
 use Rattle.gomp_types.specs.Seen.{seen_of}
-use Rattle.gomp_types.proofs.Booleans.{same_number, or_tells, or_left, or_right}
+use Rattle.gomp_types.proofs.Booleans.{same_number, and_false, or_tells, or_left, or_right}
 use Rattle.gomp_shares.specs.Calls.{in_construct, kind_in, events_seen, events_left, is_done, CanEnd, CanLeave}
 use Rattle.gomp_types.specs.declared.refusal.Refusal.TheVariants.{NotDrained}
 use Rattle.gomp_types.specs.Deals.{Queues}
@@ -62,11 +62,11 @@ drained_or_cancelled m h drained told =
     ]
 
 -- the events of the end, seen first or not
-pub leaves_unseen : (m : ℕ) (h : List Event) → (has_drained m h || leaves_share m h) ≡ false → leaves m h ++ h ≡ events_left m (events_seen m h)
-leaves_unseen m h told = rw told refl
+pub leaves_unseen : (m : ℕ) (h : List Event) → is_drained m h ≡ true → (has_drained m h || leaves_share m h) ≡ false → leaves m h ++ h ≡ events_left m (events_seen m h)
+leaves_unseen m h drained told = rw (drained_or_cancelled m h drained told, told) refl
 
 pub leaves_seen : (m : ℕ) (h : List Event) → (has_drained m h || leaves_share m h) ≡ true → leaves m h ++ h ≡ events_left m h
-leaves_seen m h told = rw told refl
+leaves_seen m h told = rw (and_false (own_cancelled m h) (not (has_drained m h || leaves_share m h)) (ap not told)) refl
 
 -- a member that was told so, or has seen so, is in a construct that is drained
 pub told_is_drained : (queues : Queues) (members m : ℕ) (h : List Event) → Always (ShareRule queues members) h → (has_drained m h || leaves_share m h) ≡ true → is_drained m h ≡ true

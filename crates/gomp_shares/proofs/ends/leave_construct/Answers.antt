@@ -29,6 +29,6 @@ returns-clause-stands g c = λ h st.
     let seen = c.look.ensures.value ∙ g.met.S.Shares.agrees c.args.shares.now h c.args.member st c.requires.place.member in
     let told = sym (ap (λ (s : Seen). s.drained || s.leaving) seen) ∙ sym c.has_seen_end.ensures in
     elim c.if-not-has_seen_end.branch [
-      | then-not-has_seen_end w ↦ rw (leaves_unseen c.args.member h (told ∙ w.if-not-has_seen_end.true)) (c.leave.ensures.stands (events_seen c.args.member h) (rw w.shares-is (w.see.ensures.stands h st)))
+      | then-not-has_seen_end w ↦ rw (leaves_unseen c.args.member h (c.requires.drained h st) (told ∙ w.if-not-has_seen_end.true)) (c.leave.ensures.stands (events_seen c.args.member h) (rw w.shares-is (w.see.ensures.stands h st)))
       | else-not-has_seen_end w ↦ rw (leaves_seen c.args.member h (told ∙ w.if-not-has_seen_end.false)) (c.leave.ensures.stands h (rw w.shares-is st))
     ]
