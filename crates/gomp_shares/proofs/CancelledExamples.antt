@@ -1,12 +1,11 @@
 -- Loops and sections that are cancelled: for each line of a definition, of the rule and of a law what it says, and what it alone refuses.
-use Rattle.std.proofs.Common.{◌≡◌, ℕ, ◌<◌, true, false, List, [], ◌∷◌, ◌++◌, Option, Some, None, Ok, Err, refl, ap, arith, rules, inl, inr, sym, ◌∙◌, length}
-use Rattle.std.specs.Prelude.{pos, map}
+use Rattle.std.proofs.Common.{◌≡◌, ℕ, true, false, List, [], ◌∷◌, Some, None, Ok, Err, refl, ap, arith, rules, inl, inr, length}
+use Rattle.std.specs.Prelude.{map}
 use Rattle.gomp_types.specs.declared.cancel.CancelKind.TheVariants.{Parallel, Loop as LoopKind, Sections as SectionsKind, Taskgroup}
 use Rattle.gomp_types.specs.declared.cancel.Scope.TheVariants.{Region, OneShare, OneGroup}
 use Rattle.gomp_types.specs.declared.loop_desc.EndKind.TheVariants.{Wait as WaitEnd, Cancellable}
 use Rattle.gomp_types.specs.declared.refusal.Refusal.TheVariants.{OutsideShare, InOrdered, EndDiffers, NotDrained, NotCancellable}
 use Rattle.gomp_types.specs.declared.reply.Reply.TheVariants.{Finished, Passed, Cancelling, Refused}
-use Rattle.gomp_types.specs.declared.shape.Shape.{Shape}
 use Rattle.gomp_types.specs.declared.event.Event.{Event}
 use Rattle.gomp_types.specs.declared.event.Event.TheVariants.{Enter, Take, Drained, End, Cancel as CancelEvent, See as SeeEvent}
 use Rattle.gomp_types.specs.Pieces.{shape_of}
@@ -18,8 +17,8 @@ use Rattle.gomp_types.specs.Laws.{Always, Happened}
 use Rattle.gomp_types.proofs.Booleans.{share_is}
 use Rattle.gomp_types.proofs.IterationValues.{shape_is}
 use Rattle.gomp_shares.specs.declared.admission.Construct.TheVariants.{Loop, Sections}
-use Rattle.gomp_shares.specs.declared.calls.ShareCall.TheVariants.{Cancel, See, Leave}
-use Rattle.gomp_shares.specs.declared.calls.ShareAnswer.TheVariants.{Left, Cancelled, Saw, NotMade}
+use Rattle.gomp_shares.specs.declared.calls.ShareCall.TheVariants.{Cancel, See}
+use Rattle.gomp_shares.specs.declared.calls.ShareAnswer.TheVariants.{Left, Cancelled, Saw}
 use Rattle.gomp_shares.specs.Calls.{is_free, in_construct, kind_in, CanLeave, CanCancel, CanSee, CanEnd, events_cancelled, events_seen, seen_if, IsAside}
 use Rattle.gomp_shares.specs.Cancels.{cancel_place_tests, names_share, CanName, AnswersCancel, share_cancelled_by}
 use Rattle.gomp_shares.specs.Admission.{all_end_tests}
@@ -123,7 +122,8 @@ tests_of_drained = (refl, refl)
 -- a member sees at the end that its construct is cancelled, unless it has seen that, or was told that nothing is left
 pub seen_at_the_end :
     (sees_at_end 1 loop_seen ≡ SeeEvent 1 LoopKind ∷ []) × (sees_at_end 0 loop_seen ≡ []) × (sees_at_end 0 (Drained 0 0 ∷ loop_cancelled) ≡ []) × (sees_at_end 0 sections_cancelled ≡ SeeEvent 0 SectionsKind ∷ [])
-seen_at_the_end = (refl, refl, refl, refl)
+    × (sees_at_end 0 in_cancellable ≡ [])
+seen_at_the_end = (refl, refl, refl, refl, refl)
 
 -- and then leaves it
 pub left_at_the_end : (leaves 1 loop_seen ≡ End 0 1 ∷ SeeEvent 1 LoopKind ∷ []) × (leaves 0 loop_seen ≡ End 0 0 ∷ [])
