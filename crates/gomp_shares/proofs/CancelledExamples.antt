@@ -162,15 +162,15 @@ ended_or_refused = (refl, refl)
 abbrev Counted : Type 0
 Counted = ℕ × List Event
 
-abbrev count_for : Counted → List Event → Type 0
-count_for shares h = shares.1 ≡ h
+abbrev counted_for : Counted → List Event → Type 0
+counted_for shares h = shares.1 ≡ h
 
 -- shares that stand for nothing
-abbrev count_none : Counted → List Event → Type 0
-count_none shares h = ⊥
+abbrev counted_for_none : Counted → List Event → Type 0
+counted_for_none shares h = ⊥
 
 -- a member ends a cancelled loop
-pub ends_done : Ends count_for (0, loop_seen) (1, End 0 1 ∷ SeeEvent 1 LoopKind ∷ loop_seen) (Ok tt) (all_end_tests Loop Cancellable) 1
+pub ends_done : Ends counted_for (0, loop_seen) (1, End 0 1 ∷ SeeEvent 1 LoopKind ∷ loop_seen) (Ok tt) (all_end_tests Loop Cancellable) 1
 ends_done = record {
   known = (loop_seen, refl);
   answer = λ h is. rw (← is) refl;
@@ -179,39 +179,39 @@ ends_done = record {
 }
 
 -- the shares stand for some events
-pub ends_unknown : Ends count_none (0, []) (0, []) (Err NotDrained) (all_end_tests Loop Cancellable) 1 → ⊥
+pub ends_unknown : Ends counted_for_none (0, []) (0, []) (Err NotDrained) (all_end_tests Loop Cancellable) 1 → ⊥
 ends_unknown ended = ended.known.1
 
 -- it does not end it if a test holds
-pub ends_though_refused : Ends count_for (0, in_cancellable) (0, End 0 0 ∷ SeeEvent 0 LoopKind ∷ in_cancellable) (Ok tt) (all_end_tests Loop Cancellable) 0 → ⊥
+pub ends_though_refused : Ends counted_for (0, in_cancellable) (0, End 0 0 ∷ SeeEvent 0 LoopKind ∷ in_cancellable) (Ok tt) (all_end_tests Loop Cancellable) 0 → ⊥
 ends_though_refused ended = absurd (let done = ended.answer in_cancellable refl in cc)
 
 -- nor is it refused if none holds
-pub ends_not : Ends count_for (0, loop_seen) (0, loop_seen) (Err NotDrained) (all_end_tests Loop Cancellable) 1 → ⊥
+pub ends_not : Ends counted_for (0, loop_seen) (0, loop_seen) (Err NotDrained) (all_end_tests Loop Cancellable) 1 → ⊥
 ends_not ended = absurd (let done = ended.answer loop_seen refl in cc)
 
 -- one that is told so has left
-pub ends_without_leaving : Ends count_for (0, loop_seen) (0, loop_seen) (Ok tt) (all_end_tests Loop Cancellable) 1 → ⊥
+pub ends_without_leaving : Ends counted_for (0, loop_seen) (0, loop_seen) (Ok tt) (all_end_tests Loop Cancellable) 1 → ⊥
 ends_without_leaving ended = absurd (let after = ap (λ (h : List Event). length h) (ended.stands_for loop_seen refl) in omega arith)
 
 -- and has seen that the loop is cancelled
-pub ends_unseen : Ends count_for (0, loop_seen) (0, End 0 1 ∷ loop_seen) (Ok tt) (all_end_tests Loop Cancellable) 1 → ⊥
+pub ends_unseen : Ends counted_for (0, loop_seen) (0, End 0 1 ∷ loop_seen) (Ok tt) (all_end_tests Loop Cancellable) 1 → ⊥
 ends_unseen ended = absurd (let after = ap (λ (h : List Event). length h) (ended.stands_for loop_seen refl) in omega arith)
 
 -- a refusal changes nothing
-pub ends_refused_anew : Ends count_for (0, in_cancellable) (1, in_cancellable) (Err NotDrained) (all_end_tests Loop Cancellable) 0 → ⊥
+pub ends_refused_anew : Ends counted_for (0, in_cancellable) (1, in_cancellable) (Err NotDrained) (all_end_tests Loop Cancellable) 0 → ⊥
 ends_refused_anew ended = absurd (let same = ended.kept NotDrained refl in let number = ap (λ (shares : Counted). shares.0) same in omega arith)
 
 -- Cancel constructs and cancellation points
 
 -- the tests, in a loop and in sections
-pub tests_of_a_cancel :
+pub place_tests_of_a_cancel :
     (cancel_place_tests LoopKind (sees_loop cancellable_ten false None 0 false) ≡ (false, OutsideShare) ∷ (false, NotCancellable) ∷ [])
     × (cancel_place_tests LoopKind (sees_loop ten false None 0 false) ≡ (false, OutsideShare) ∷ (true, NotCancellable) ∷ [])
     × (cancel_place_tests LoopKind (sees 1 (Some (0, sections_shape 3 Cancellable)) false None 0 false) ≡ (true, OutsideShare) ∷ (false, NotCancellable) ∷ [])
     × (cancel_place_tests SectionsKind (sees 1 (Some (0, sections_shape 3 Cancellable)) false None 0 false) ≡ (false, OutsideShare) ∷ (false, NotCancellable) ∷ [])
     × (cancel_place_tests SectionsKind (sees_loop ten false None 0 false) ≡ (true, OutsideShare) ∷ (true, NotCancellable) ∷ [])
-tests_of_a_cancel = (refl, refl, refl, refl, refl)
+place_tests_of_a_cancel = (refl, refl, refl, refl, refl)
 
 -- none of the region and of groups
 pub no_place_tests : (cancel_place_tests Parallel (sees_outside 0) ≡ []) × (cancel_place_tests Taskgroup (sees_outside 0) ≡ [])
