@@ -1,7 +1,7 @@
 -- A member that cancels its share, or sees that it is cancelled, keeps the plain shares in step with the events; and what a place tells of a cancellation.
-use Rattle.std.proofs.Common.{◌≡◌, ◌≢◌, ℕ, ◌+◌, ◌%◌, ◌<◌, ◌≤◌, Bool, true, false, List, ◌∷◌, length, slice_get, slice_set, Option, Some, None, inl, inr, refl, ap, ◌∙◌, sym, subst, arith}
+use Rattle.std.proofs.Common.{◌≡◌, ◌≢◌, ℕ, ◌+◌, ◌%◌, ◌<◌, true, false, List, ◌∷◌, length, slice_get, slice_set, Option, Some, None, inl, inr, refl, ap, ◌∙◌, sym, subst, arith}
 use Rattle.std.specs.Prelude.{is_some}
-use Rattle.std.proofs.lemmas.Bool.Decides.{nat_tests, eqb_tells}
+use Rattle.std.proofs.lemmas.Bool.Decides.{eqb_tells}
 use Rattle.std.proofs.lemmas.List.{length-set}
 use Rattle.gomp_types.specs.declared.cancel.Scope.TheVariants.{OneShare}
 use Rattle.gomp_types.specs.declared.limits.TheConstants.{OPEN_SHARES}
@@ -51,9 +51,9 @@ inside_by_seat members seats count places h m seat st at within =
     sym (ap (λ (seen : Seen). is_some seen.current) s.seen) ∙ within
 
 -- and outside of every share none is
-pub none_cancelled : (members : ℕ) (seats : List Seat) (count : ℕ) (places : List (Option OpenShare)) (h : List Event) (m : ℕ) (seat : Seat) →
+pub outside_none_cancelled : (members : ℕ) (seats : List Seat) (count : ℕ) (places : List (Option OpenShare)) (h : List Event) (m : ℕ) (seat : Seat) →
     StandsFor members seats count places h → slice_get seats m ≡ Some seat → seat.seen.current ≡ None → false ≡ own_cancelled m h
-none_cancelled members seats count places h m seat st at outside =
+outside_none_cancelled members seats count places h m seat st at outside =
     let s : SeatStands members m seat count h = st.seat m seat at in
     let none : open_share m h ≡ None = sym (ap (λ (seen : Seen). seen.current) s.seen) ∙ outside in
     sym (ap (λ (own : Option (ℕ × Shape)). inside_cancelled own h) none)
@@ -91,10 +91,10 @@ cancelled_else : (i j m : ℕ) (h : List Event) → i ≢ j → share_cancelled 
 cancelled_else i j m h other = elim (eqb_tells j i) [ inl e ↦ absurd (other (sym e.1)) | inr e ↦ rw e.0 refl ]
 
 -- a member cancels its share
-pub cancel_stands : (members : ℕ) (seats : List Seat) (count : ℕ) (places : List (Option OpenShare)) (h : List Event) (m : ℕ) (seat : Seat) (share : OpenShare) →
+pub cancelling_stands : (members : ℕ) (seats : List Seat) (count : ℕ) (places : List (Option OpenShare)) (h : List Event) (m : ℕ) (seat : Seat) (share : OpenShare) →
     StandsFor members seats count places h → slice_get seats m ≡ Some seat → slice_get places (ended_of seat % OPEN_SHARES) ≡ Some (Some share) → CanCancel members m (seen_of m h) →
     StandsFor members seats count (slice_set places (ended_of seat % OPEN_SHARES) (Some (record share { cancelled = true }))) (events_cancelled m h)
-cancel_stands members seats count places h m seat share st at found can =
+cancelling_stands members seats count places h m seat share st at found can =
     let within = cancels_inside (open_share m h) can.cancellable in
     let s : SeatStands members m seat count h = st.seat m seat at in
     let here : open_number m h ≡ ended_of seat = inside_number members m seat count h s within in

@@ -1,6 +1,6 @@
 -- What the calls of the shares ask, answer and add: for each line of a definition what it says, and what it alone refuses.
 use Rattle.std.proofs.Common.{◌≡◌, ℕ, ◌-◌, ◌^◌, true, false, List, [], ◌∷◌, Option, Some, None, Ok, Err, refl, ap, arith, length}
-use Rattle.gomp_types.specs.declared.refusal.Refusal.TheVariants.{NoMemory, InsideShare, OutsideShare, InOrdered, EndDiffers, NotDrained, Drained as DrainedRefusal, TooManyShares}
+use Rattle.gomp_types.specs.declared.refusal.Refusal.TheVariants.{NoMemory, InsideShare, OutsideShare, InOrdered, EndDiffers, Drained as DrainedRefusal, TooManyShares}
 use Rattle.gomp_types.specs.declared.refusal.Place.{Place}
 use Rattle.gomp_types.specs.declared.loop_desc.EndKind.TheVariants.{Wait as WaitEnd, Nowait}
 use Rattle.gomp_types.specs.declared.shape.Shape.{Shape}

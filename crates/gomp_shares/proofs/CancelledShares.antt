@@ -1,6 +1,6 @@
 -- What is known of a cancelled share, by events that keep the rule of the work-shares: who leaves it, who cancelled it, and when a member may see that.
-use Rattle.std.proofs.Common.{◌≡◌, ℕ, ◌<◌, Bool, true, false, List, [], ◌∷◌, ◌++◌, Option, Some, None, refl, ap, inl, inr}
-use Rattle.std.specs.Prelude.{◌==◌, ◌&&◌, ◌||◌}
+use Rattle.std.proofs.Common.{◌≡◌, ℕ, Bool, true, false, List, [], ◌∷◌, Option, Some, None, refl, ap, inl, inr}
+use Rattle.std.specs.Prelude.{◌==◌, ◌&&◌}
 use Rattle.std.proofs.lemmas.Bool.{cases_Bool}
 use Rattle.gomp_types.specs.declared.cancel.CancelKind.TheVariants.{Parallel, Loop, Sections, Taskgroup}
 use Rattle.gomp_types.specs.declared.cancel.Scope.{Scope}
@@ -13,7 +13,7 @@ use Rattle.gomp_types.specs.declared.event.Event.{Event}
 use Rattle.gomp_types.specs.declared.event.Event.TheVariants.{Enter, End, Cancel, See}
 use Rattle.gomp_types.specs.Shapes.{is_loop, is_sections, same_end}
 use Rattle.gomp_types.specs.Events.{open_share, in_kind}
-use Rattle.gomp_types.specs.Cancels.{same_scope, was_cancelled, share_cancelled, some_scope_cancelled, inside_cancelled, own_cancelled, share_scope, may_be_cancelled, leaves_share}
+use Rattle.gomp_types.specs.Cancels.{same_scope, was_cancelled, share_cancelled, some_scope_cancelled, inside_cancelled, own_cancelled, share_scope, leaves_share}
 use Rattle.gomp_types.specs.Deals.{Queues, next_for}
 use Rattle.gomp_types.specs.Laws.{Always, Happened}
 use Rattle.gomp_shares.specs.Calls.{in_construct, kind_in}

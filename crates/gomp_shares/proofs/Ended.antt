@@ -1,15 +1,14 @@
 -- How a loop or a sections construct is ended, and a cancelled one seen: from what its member sees to what it may do, and which events that gives.
-use Rattle.std.proofs.Common.{◌≡◌, ℕ, ◌<◌, Bool, true, false, List, [], ◌∷◌, ◌++◌, Option, Some, None, refl, ap, ◌∙◌, sym, inl, inr}
-use Rattle.std.specs.Prelude.{◌==◌, ◌&&◌, ◌||◌, not, is_some, if◌then◌else◌}
+use Rattle.std.proofs.Common.{◌≡◌, ℕ, Bool, true, false, List, [], ◌∷◌, ◌++◌, Option, Some, None, refl, ap, inl, inr}
+use Rattle.std.specs.Prelude.{◌&&◌, ◌||◌, not, is_some, if◌then◌else◌}
 use Rattle.std.proofs.lemmas.Bool.{cases_Bool}
-use Rattle.gomp_types.specs.declared.cancel.CancelKind.{CancelKind}
 use Rattle.gomp_types.specs.declared.cancel.CancelKind.TheVariants.{Loop, Sections}
 use Rattle.gomp_types.specs.declared.shape.Shape.{Shape}
 use Rattle.gomp_types.specs.declared.seen.Seen.{Seen}
 use Rattle.gomp_types.specs.declared.event.Event.{Event}
 use Rattle.gomp_types.specs.declared.event.Event.TheVariants.{See}
 use Rattle.gomp_types.specs.Shapes.{is_sections, is_single}
-use Rattle.gomp_types.specs.Events.{open_share, open_number, has_drained, in_kind}
+use Rattle.gomp_types.specs.Events.{open_share, has_drained, in_kind}
 use Rattle.gomp_types.specs.Cancels.{same_cancel, own_cancelled, leaves_share}
 use Rattle.gomp_types.specs.Seen.{seen_of}
 use Rattle.gomp_types.proofs.Booleans.{same_number, and_false, or_tells, or_left, or_right}
@@ -19,7 +18,7 @@ use Rattle.gomp_types.specs.Deals.{Queues}
 use Rattle.gomp_types.specs.Laws.{Always}
 use Rattle.gomp_types.specs.Least.{least}
 use Rattle.gomp_shares.specs.Rules.{ShareRule}
-use Rattle.gomp_shares.specs.Starts.{is_drained, drained_tests, leaves}
+use Rattle.gomp_shares.specs.Starts.{is_drained, drained_tests, sees_at_end, leaves}
 use Rattle.gomp_shares.proofs.CancelledShares.{leaving_is_cancelled}
 
 -- what is seen of the share that a member is in names a loop or sections
@@ -61,6 +60,14 @@ drained_or_cancelled m h drained told =
     elim (or_tells (has_drained m h) (own_cancelled m h) drained) [
       | inl is ↦ absurd (let no : (has_drained m h || leaves_share m h) ≡ true = or_left (has_drained m h) (leaves_share m h) is in cc)
       | inr cancelled ↦ cancelled
+    ]
+
+-- so of a construct that may be ended its member sees that, unless it was told or has seen that before
+pub seen_unless_told : (m : ℕ) (h : List Event) → is_drained m h ≡ true → sees_at_end m h ≡ (if has_drained m h || leaves_share m h then [] else See m (kind_in (open_share m h)) ∷ [])
+seen_unless_told m h drained =
+    elim (cases_Bool (has_drained m h || leaves_share m h)) [
+      | inl told ↦ rw (and_false (own_cancelled m h) (not (has_drained m h || leaves_share m h)) (ap not told), told) refl
+      | inr untold ↦ rw (drained_or_cancelled m h drained untold, untold) refl
     ]
 
 -- the events of the end, seen first or not

@@ -4,6 +4,7 @@ pub mod AnswerRules
 pub mod Assigned
 pub mod CallExamples
 pub mod CallRuns
+pub mod CancelledExamples
 pub mod CancelledShares
 pub mod Cancelling
 pub mod Ended

@@ -52,7 +52,7 @@ sections_fit =
     record { trips = three.trips; chunk = three.chunk; some = three.some; moves = three.moves; fits = three.fits; unordered = λ is. refl }
 
 -- what a claim is answered
-claims_piece : (members m : ℕ) (share : ℕ × Shape) (answer : Option Piece) (h : List Event) → open_share m h ≡ Some share → IsShape share.1 →
+pub claims_piece : (members m : ℕ) (share : ℕ × Shape) (answer : Option Piece) (h : List Event) → open_share m h ≡ Some share → IsShape share.1 →
     answer ≡ next_for (schedule members) share.1 share.0 m h → IfSome answer (λ piece. (piece.0 < piece.1) × (piece.1 ≤ share.1.trips)) → Claims members m answer h
 claims_piece members m share answer h there valid least within = record { share = share; there = there; valid = valid; least = least; within = within }
 

@@ -4,10 +4,8 @@ use Rattle.gomp_types.specs.declared.event.Event.{Event}
 use Rattle.gomp_types.specs.declared.refusal.Refusal.{Refusal}
 use Rattle.gomp_types.specs.declared.reply.Reply.{Reply}
 use Rattle.gomp_types.specs.declared.reply.Reply.TheVariants.{Refused, Finished}
-use Rattle.gomp_types.specs.declared.seen.Seen.{Seen}
 use Rattle.gomp_types.specs.Tests.{Test}
 use Rattle.gomp_types.specs.Least.{least, Answers}
-use Rattle.gomp_types.specs.Seen.{seen_of}
 use Rattle.gomp_types.proofs.TestRows.{outcome_refused}
 use Rattle.gomp_shares.specs.Serves.{Ends, Serves}
 use Rattle.gomp_shares.specs.Starts.{left_at_once}

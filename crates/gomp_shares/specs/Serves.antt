@@ -41,7 +41,7 @@ pub record Ends {S : Type 0} (stands : S → List Event → Type 0) (before afte
   pub known : (h : List Event) × stands before h
   pub answer : EachStands (stands before) (λ h. result ≡ outcome (least (tests m h)) tt)
   pub stands_for : EachStands (stands before) (λ h. stands after (ended_unless_refused result m h))
-  pub kept : (refusal : Refusal) → result ≡ Err refusal → after ≡ before
+  pub kept : (found : Refusal) → result ≡ Err found → after ≡ before
 
 -- the answer of a call that is done at once, since its tests let it
 abbrev pub IsDone : Reply → List Event → Type 0

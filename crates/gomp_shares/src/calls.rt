@@ -15,9 +15,7 @@ ghost use Rattle.gomp_shares.specs.Runs.{may_make, IsAnswer, events_answered, Ar
 use crate::admission::is_in_rest;
 use crate::cancels::see_if_cancelled;
 use crate::{Opening, Shares};
-use gomp_types::{
-    EndKind, LoopDesc, MAX_SECTIONS, Seen, ShareKind, sections_shape, single_shape,
-};
+use gomp_types::{EndKind, LoopDesc, MAX_SECTIONS, Seen, ShareKind, sections_shape, single_shape};
 use std::alloc::{AllocError, Global};
 
 /// One call of a member on its shares.
@@ -212,9 +210,10 @@ fn is_done(seen: &Seen) -> bool
 /// an answer for each. Calls of members that the team does not have are not made.
 ///
 /// Whatever the body `S` and whatever the calls: no iteration, section or `single` is taken twice,
-/// a share that every member left had each of its own taken, ordered parts of a loop run in the
-/// order of its iterations, all members go through the same shares, and no more than eight are
-/// open.
+/// a share that every member left, and that nobody cancelled, had each of its own taken, ordered
+/// parts of a loop run in the order of its iterations, all members go through the same shares, and
+/// no more than eight are open. Only a share whose end kind allows it is cancelled, by a member that
+/// is in it.
 pub fn make_calls<S: Shares>(
     alloc: Global,
     count: u16,

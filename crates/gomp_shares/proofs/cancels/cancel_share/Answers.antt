@@ -1,4 +1,4 @@
-use Rattle.std.proofs.Common.{◌≡◌, ◌<◌, true, false, refl, ap, ◌∙◌, sym}
+use Rattle.std.proofs.Common.{◌<◌, refl, ap, ◌∙◌, sym}
 use Rattle.gomp_types.specs.declared.reply.Reply.TheVariants.{Cancelling}
 use Rattle.gomp_shares.specs.Calls.{events_cancelled}
 use Rattle.gomp_shares.proofs.Cancelling.{named_share, cancels_its_own, cancelled_by_clause, told_by_share}

@@ -1,6 +1,5 @@
 use Rattle.std.proofs.Common.{ap, ◌∙◌, sym, refl}
 use Rattle.gomp_types.specs.Tests.{outcome}
-use Rattle.gomp_types.specs.Seen.{seen_of}
 use Rattle.gomp_shares.specs.Admission.{end_tests_of}
 use Rattle.gomp_shares.specs.Starts.{is_drained}
 use Rattle.gomp_shares.proofs.Admitted.{end_lets_leave, end_tests_rise, no_test_holds, refused_by_place, refused_by_share, drained_by_test}

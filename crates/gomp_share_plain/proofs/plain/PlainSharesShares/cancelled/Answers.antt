@@ -1,7 +1,7 @@
-use Rattle.std.proofs.Common.{◌<◌, ap, ◌∙◌, sym}
+use Rattle.std.proofs.Common.{◌<◌, ap}
 use Rattle.std.specs.Prelude.{option_copied}
 use Rattle.gomp_types.proofs.Booleans.{none_of}
-use Rattle.gomp_share_plain.proofs.CancelsKeep.{own_place_tells, none_cancelled, inside_by_seat}
+use Rattle.gomp_share_plain.proofs.CancelsKeep.{own_place_tells, outside_none_cancelled, inside_by_seat}
 use Rattle.gomp_share_plain.proofs.Places.{place_is, own_place, not_empty}
 use Rattle.gomp_share_plain.proofs.Views.{own_seat, known_by}
 use Rattle.gomp_share_plain.proofs.plain.PlainSharesShares.cancelled.Goals as goal
@@ -15,7 +15,7 @@ unreachable-requires c =
 pub returns-then-is_none-clause-answer : goal.returns-then-is_none-clause-answer
 returns-then-is_none-clause-answer c = λ h st0.
     let (lt, st, at) = own_seat _ _ c.args.member c.index-seat.result.now h (λ n seen. c.args.member < n) c.self.view_is c.requires.member c.requires.member st0 c.index-seat.ensures in
-    none_cancelled _ _ _ _ h c.args.member c.index-seat.result.now st at (none_of c.index-seat.result.now.seen.current c.if-is_none.ensures)
+    outside_none_cancelled _ _ _ _ h c.args.member c.index-seat.result.now st at (none_of c.index-seat.result.now.seen.current c.if-is_none.ensures)
 
 pub returns-clause-answer : goal.returns-clause-answer
 returns-clause-answer c = λ h st0.
