@@ -1,3 +1,4 @@
+pub mod CancelRowExamples
 pub mod CancelRunsWithCauses
 pub mod CauseExamples
 pub mod DependCauseExamples
@@ -5,7 +6,6 @@ pub mod DependRecordExamples
 pub mod DependRowExamples
 pub mod DependTestExamples
 pub mod GivenExamples
-pub mod LongRuns
 pub mod LoopLimits
 pub mod RecordExamples
 pub mod RowExamples
