@@ -17,6 +17,7 @@ pub mod TaskTestExamples
 pub mod TestExamples
 pub mod RunsWithCauses
 pub mod WrongAnswers
+pub mod WrongCancelAnswers
 pub mod WrongDependAnswers
 pub mod WrongHoldAnswers
 pub mod WrongShareAnswers
