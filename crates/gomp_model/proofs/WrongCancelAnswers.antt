@@ -5,9 +5,9 @@ use Rattle.gomp_types.specs.declared.call.Call.TheVariants.{LoopNext, LoopEnd, L
 use Rattle.gomp_types.specs.declared.cancel.CancelKind.TheVariants.{Parallel, Loop, Sections, Taskgroup}
 use Rattle.gomp_types.specs.declared.depend.DepKind.TheVariants.{DepIn, DepOut}
 use Rattle.gomp_types.specs.declared.loop_desc.EndKind.TheVariants.{Wait as WaitEnd, Nowait, Cancellable}
-use Rattle.gomp_types.specs.declared.refusal.Refusal.TheVariants.{Ended, Waiting, Leaving, InsideTask, NotInTask, InsideShare, OutsideShare, HoldsCritical, EndDiffers, NotDrained, Drained, NotInside, NotCancellable, NoGroup, GroupOpen, Mismatch, TraceFull, NoMemory}
-use Rattle.gomp_types.specs.declared.reply.Reply.TheVariants.{Chunk, NoChunk, Section, Executor, Finished, Passed, Cancelled, Wait, Created, Run as RunTask, TaskDone, Dropped, Cancelling, Stopped, Refused}
-use Rattle.gomp_model.specs.Examples.{AreWrong, AreWrongOf, IsWrongOf, asks, dynamic_loop, one_nowait}
+use Rattle.gomp_types.specs.declared.refusal.Refusal.TheVariants.{Ended, Waiting, Leaving, InsideTask, NotInTask, InsideShare, OutsideShare, InOrdered, HoldsCritical, EndDiffers, NotDrained, Drained, NotInside, NotCancellable, NoGroup, GroupOpen, AlreadyHeld, NotHolder, Mismatch, TraceFull, NoMemory}
+use Rattle.gomp_types.specs.declared.reply.Reply.TheVariants.{Chunk, NoChunk, Section, Executor, Copied, Finished, Passed, Cancelled, Wait, Created, Run as RunTask, TaskDone, Dropped, Cancelling, Stopped, Refused}
+use Rattle.gomp_model.specs.Examples.{AreWrong, AreWrongOf, IsWrongOf, asks, dynamic_loop, one_nowait, eight_ahead}
 use Rattle.gomp_model.specs.TaskRuns.{creates_task}
 use Rattle.gomp_model.specs.DependRuns.{creates_with, creates_at_once, one_item}
 use Rattle.gomp_model.specs.HoldExamples.{name_a}
@@ -285,3 +285,276 @@ end_of_cancelled_sections_is_wrong = search rules
 -- it ends them otherwise
 pub other_end_of_cancelled_sections_is_wrong : AreWrongOf (cancellable_team 1) (take 3 sections_cancelled) (asks 0 SectionsEnd) (Passed ∷ Wait ∷ Refused EndDiffers ∷ [])
 other_end_of_cancelled_sections_is_wrong = search rules
+
+-- Other calls of a cancelled region
+
+-- a start that need not wait is cut short
+pub start_in_a_cancelled_region_is_wrong : AreWrongOf (cancellable_team 2) (take 1 ends_cut_short) (asks 0 one_nowait) (Cancelled ∷ Wait ∷ NoChunk ∷ Refused Leaving ∷ [])
+start_in_a_cancelled_region_is_wrong = search rules
+
+-- and so is that of a single
+pub single_in_a_cancelled_region_is_wrong : AreWrongOf (cancellable_team 2) (take 1 ends_cut_short) (asks 0 SingleStart) (Cancelled ∷ Executor false ∷ Wait ∷ [])
+single_in_a_cancelled_region_is_wrong = search rules
+
+-- an end without a barrier needs no piece to be asked for
+pub nowait_end_in_a_cancelled_region_is_wrong : AreWrongOf (cancellable_team 2) (take 2 ends_cut_short) (asks 0 LoopEndNowait) (Finished ∷ Cancelled ∷ Refused Leaving ∷ [])
+nowait_end_in_a_cancelled_region_is_wrong = search rules
+
+-- a call for the next piece of an ordinary loop is cut short
+pub next_in_a_cancelled_region_is_wrong : AreWrongOf (cancellable_team 2) (take 3 ends_cut_short) (asks 0 LoopNext) (Cancelled ∷ Wait ∷ Refused Leaving ∷ [])
+next_in_a_cancelled_region_is_wrong = search rules
+
+-- an end without a barrier is
+pub drained_end_in_a_cancelled_region_is_wrong : AreWrongOf (cancellable_team 2) (take 4 ends_cut_short) (asks 0 LoopEndNowait) (Cancelled ∷ Passed ∷ Wait ∷ Refused Leaving ∷ Refused NotDrained ∷ [])
+drained_end_in_a_cancelled_region_is_wrong = search rules
+
+-- an end with a barrier is, before its member has asked for all pieces
+pub early_end_in_a_cancelled_region_is_wrong : AreWrongOf (cancellable_team 2) (take 6 ends_cut_short) (asks 0 LoopEnd) (Cancelled ∷ Passed ∷ Wait ∷ Refused Leaving ∷ [])
+early_end_in_a_cancelled_region_is_wrong = search rules
+
+-- after that it waits for the other members
+pub end_in_a_cancelled_region_waits_is_wrong : AreWrongOf (cancellable_team 2) (take 8 ends_cut_short) (asks 0 LoopEnd) (Wait ∷ Passed ∷ Finished ∷ Refused Leaving ∷ Refused NotDrained ∷ [])
+end_in_a_cancelled_region_waits_is_wrong = search rules
+
+-- a second end is refused as one outside of a loop
+pub leaving_before_the_share_is_wrong : AreWrongOf (cancellable_team 2) (take 9 ends_cut_short) (asks 0 LoopEnd) (Cancelled ∷ Passed ∷ Refused OutsideShare ∷ Refused Waiting ∷ [])
+leaving_before_the_share_is_wrong = search rules
+
+-- a member that left by an end goes to a barrier
+pub barrier_after_a_cut_end_is_wrong : AreWrongOf (cancellable_team 2) (take 10 ends_cut_short) (asks 0 Barrier) (Cancelled ∷ Wait ∷ Passed ∷ Refused Mismatch ∷ [])
+barrier_after_a_cut_end_is_wrong = search rules
+
+-- it waits for tasks
+pub taskwait_of_a_leaver_is_wrong : AreWrongOf (cancellable_team 2) (take 11 ends_cut_short) (asks 0 (Taskwait [])) (Passed ∷ Wait ∷ Cancelled ∷ [])
+taskwait_of_a_leaver_is_wrong = search rules
+
+-- or enters a critical construct
+pub name_of_a_leaver_is_wrong : AreWrongOf (cancellable_team 2) (take 11 ends_cut_short) (asks 0 (CriticalStart name_a)) (Finished ∷ Wait ∷ Refused NoMemory ∷ [])
+name_of_a_leaver_is_wrong = search rules
+
+-- a start that waits for room waits on, or is let in
+pub start_waits_on_is_wrong : AreWrongOf (cancellable_team 2) (take 26 start_cut_short) (asks 0 Resume) (Wait ∷ Chunk (pos 0) 1 ∷ NoChunk ∷ Refused Leaving ∷ Refused NoMemory ∷ [])
+start_waits_on_is_wrong = search rules
+
+-- it starts another share
+pub start_of_a_leaver_is_wrong : AreWrongOf (cancellable_team 2) (take 27 start_cut_short) (asks 0 one_nowait) (Wait ∷ Cancelled ∷ Chunk (pos 0) 1 ∷ NoChunk ∷ [])
+start_of_a_leaver_is_wrong = search rules
+
+-- one that would have to wait, and is made in a cancelled region, waits
+pub start_without_room_is_wrong : AreWrongOf (cancellable_team 2) (eight_ahead ++ (asks 1 cancels_parallel, Cancelling true) ∷ []) (asks 0 one_nowait) (Wait ∷ Chunk (pos 0) 1 ∷ NoChunk ∷ Refused Leaving ∷ [])
+start_without_room_is_wrong = search rules
+
+-- a member waits on for its turn, or has it
+pub turn_in_a_cancelled_region_is_wrong : AreWrongOf (cancellable_team 2) (take 4 turns_cut_short) (asks 1 Resume) (Wait ∷ Finished ∷ Passed ∷ Refused Leaving ∷ [])
+turn_in_a_cancelled_region_is_wrong = search rules
+
+-- one that leaves begins its part
+pub part_of_a_leaver_is_wrong : AreWrongOf (cancellable_team 2) (take 4 turns_cut_short) (asks 0 (OrderedStart (pos 0))) (Finished ∷ Cancelled ∷ Wait ∷ [])
+part_of_a_leaver_is_wrong = search rules
+
+-- or claims a piece
+pub claim_of_a_leaver_is_wrong : AreWrongOf (cancellable_team 2) (take 4 turns_cut_short) (asks 0 LoopNext) (Chunk (pos 2) 1 ∷ NoChunk ∷ Cancelled ∷ Wait ∷ [])
+claim_of_a_leaver_is_wrong = search rules
+
+-- or ends its loop
+pub loop_end_of_a_region_leaver_is_wrong : AreWrongOf (cancellable_team 2) (take 4 turns_cut_short) (asks 0 LoopEndNowait) (Finished ∷ Passed ∷ Refused NotDrained ∷ [])
+loop_end_of_a_region_leaver_is_wrong = search rules
+
+-- a member waits to hand its piece on, or is handed another
+pub next_turn_in_a_cancelled_region_is_wrong : AreWrongOf (cancellable_team 2) (take 3 next_cut_short) (asks 1 LoopNext) (Wait ∷ Chunk (pos 2) 1 ∷ NoChunk ∷ Refused Leaving ∷ [])
+next_turn_in_a_cancelled_region_is_wrong = search rules
+
+-- one that leaves puts words
+pub words_of_a_leaver_is_wrong : AreWrongOf (cancellable_team 2) (take 3 words_cut_short) (asks 0 (SingleCopyEnd (7 ∷ []))) (Finished ∷ Cancelled ∷ [])
+words_of_a_leaver_is_wrong = search rules
+
+-- the other waits on for them, or is given some
+pub words_in_a_cancelled_region_is_wrong : AreWrongOf (cancellable_team 2) (take 4 words_cut_short) (asks 1 Resume) (Wait ∷ Copied (7 ∷ []) ∷ Copied [] ∷ Executor false ∷ Refused Leaving ∷ [])
+words_in_a_cancelled_region_is_wrong = search rules
+
+-- What a member gives up
+
+-- the region ends with a name, or the end is refused for the share
+pub region_ends_with_a_name_is_wrong : AreWrongOf (cancellable_team 1) (take 7 leaves_all) (asks 0 RegionEnd) (Passed ∷ Wait ∷ Refused Leaving ∷ Refused InsideShare ∷ Refused GroupOpen ∷ [])
+region_ends_with_a_name_is_wrong = search rules
+
+-- a member that leaves waits for tasks
+pub taskwait_while_leaving_is_wrong : AreWrongOf (cancellable_team 1) (take 8 leaves_all) (asks 0 (Taskwait [])) (Passed ∷ Wait ∷ [])
+taskwait_while_leaving_is_wrong = search rules
+
+-- it ends its group
+pub group_end_of_a_leaver_is_wrong : AreWrongOf (cancellable_team 1) (take 9 leaves_all) (asks 0 GroupEnd) (Passed ∷ Refused NoGroup ∷ [])
+group_end_of_a_leaver_is_wrong = search rules
+
+-- it sets a lock
+pub set_of_a_leaver_is_wrong : AreWrongOf (cancellable_team 1) (take 10 leaves_all) (asks 0 (Set 0)) (Finished ∷ Wait ∷ Refused AlreadyHeld ∷ [])
+set_of_a_leaver_is_wrong = search rules
+
+-- it does not free its name
+pub name_kept_is_wrong : AreWrongOf (cancellable_team 1) (take 11 leaves_all) (asks 0 (CriticalEnd name_a)) (Refused Leaving ∷ Refused NotHolder ∷ [])
+name_kept_is_wrong = search rules
+
+-- nor its lock
+pub lock_kept_is_wrong : AreWrongOf (cancellable_team 1) (take 12 leaves_all) (asks 0 (Unset 0)) (Refused Leaving ∷ Refused NotHolder ∷ [])
+lock_kept_is_wrong = search rules
+
+-- it does not end the region
+pub region_end_with_open_parts_is_wrong : AreWrongOf (cancellable_team 1) (take 13 leaves_all) (asks 0 RegionEnd) (Wait ∷ Cancelled ∷ Finished ∷ Refused InsideShare ∷ Refused InOrdered ∷ Refused GroupOpen ∷ Refused Leaving ∷ [])
+region_end_with_open_parts_is_wrong = search rules
+
+-- it does not stop the team
+pub stop_of_a_leaver_is_wrong : AreWrongOf (cancellable_team 1) (take 1 stopped_leaving) (asks 0 Stop) (Refused Leaving ∷ Finished ∷ Cancelled ∷ [])
+stop_of_a_leaver_is_wrong = search rules
+
+-- a task with a group open cancels the one around it
+pub cancel_with_an_open_group_is_wrong : AreWrongOf (cancellable_team 1) (take 4 task_left) (asks 0 (Cancel Taskgroup true)) (Cancelling true ∷ Cancelling false ∷ Refused NoGroup ∷ [])
+cancel_with_an_open_group_is_wrong = search rules
+
+-- a member that leaves its task creates another
+pub created_by_a_task_leaver_is_wrong : AreWrongOf (cancellable_team 1) (take 8 task_left) (asks 0 (creates_task 3 0)) (Dropped ∷ Created 3 ∷ Refused NoMemory ∷ [])
+created_by_a_task_leaver_is_wrong = search rules
+
+-- it ends the region, or is refused as one inside of a task
+pub leaving_before_the_task_is_wrong : AreWrongOf (cancellable_team 1) (take 9 task_left) (asks 0 RegionEnd) (Passed ∷ Wait ∷ Refused InsideTask ∷ [])
+leaving_before_the_task_is_wrong = search rules
+
+-- it does not end its task
+pub task_end_of_a_leaver_is_wrong : AreWrongOf (cancellable_team 1) (take 10 task_left) (asks 0 TaskEnd) (TaskDone 2 false ∷ TaskDone 1 true ∷ Cancelled ∷ Refused Leaving ∷ Refused GroupOpen ∷ [])
+task_end_of_a_leaver_is_wrong = search rules
+
+-- the wait beneath is cut short
+pub wait_beneath_cut_short_is_wrong : AreWrongOf (cancellable_team 1) (take 11 task_left) (asks 0 Resume) (Wait ∷ Cancelled ∷ Refused Leaving ∷ Refused NotInside ∷ [])
+wait_beneath_cut_short_is_wrong = search rules
+
+-- the task around it, of the same group, creates one
+pub created_in_a_cancelled_group_is_wrong : AreWrongOf (cancellable_team 1) (take 12 task_left) (asks 0 (creates_task 4 0)) (Created 3 ∷ Refused Leaving ∷ Refused NoMemory ∷ Refused TraceFull ∷ [])
+created_in_a_cancelled_group_is_wrong = search rules
+
+-- a task of a cancelled region is told of no cancellation
+pub point_in_a_task_of_the_region_is_wrong : AreWrongOf (cancellable_team 2) (take 4 task_of_a_cancelled_region) (asks 1 (Point Taskgroup)) (Cancelling false ∷ Cancelled ∷ Refused NoGroup ∷ [])
+point_in_a_task_of_the_region_is_wrong = search rules
+
+-- it opens a group once it has seen that
+pub group_of_a_task_leaver_is_wrong : AreWrongOf (cancellable_team 2) (take 5 task_of_a_cancelled_region) (asks 1 GroupStart) (Finished ∷ Dropped ∷ [])
+group_of_a_task_leaver_is_wrong = search rules
+
+-- the end of a group is cut short
+pub group_end_cut_short_is_wrong : AreWrongOf (cancellable_team 2) (take 7 task_of_a_cancelled_region) (asks 1 Resume) (Wait ∷ Cancelled ∷ Refused Leaving ∷ [])
+group_end_cut_short_is_wrong = search rules
+
+-- the next barrier is not
+pub next_barrier_not_cut_short_is_wrong : AreWrongOf (cancellable_team 2) (take 8 task_of_a_cancelled_region) (asks 1 Barrier) (Wait ∷ Passed ∷ Refused Leaving ∷ Refused Mismatch ∷ [])
+next_barrier_not_cut_short_is_wrong = search rules
+
+-- A creator whose task is dropped
+
+-- it waits on, runs its task, or hears of the cancellation
+pub waiting_creator_not_told_is_wrong : AreWrongOf (cancellable_team 3) (take 4 waiting_creator) (asks 0 Resume) (Wait ∷ RunTask 2 2 0 true ∷ RunTask 1 1 0 false ∷ Created 2 ∷ Cancelled ∷ Passed ∷ Refused Leaving ∷ Refused NotInside ∷ Refused NoMemory ∷ [])
+waiting_creator_not_told_is_wrong = search rules
+
+-- it leaves, or creates another
+pub creator_leaves_is_wrong : AreWrongOf (cancellable_team 3) (take 5 waiting_creator) (asks 0 (creates_task 3 0)) (Created 3 ∷ Created 2 ∷ Refused Leaving ∷ Refused Waiting ∷ Refused NoMemory ∷ [])
+creator_leaves_is_wrong = search rules
+
+-- What cannot be cancelled
+
+-- a loop outside of one
+pub no_loop_cancelled_is_wrong : AreWrongOf (cancellable_team 1) [] (asks 0 (Cancel Loop true)) (Cancelling true ∷ Cancelling false ∷ Refused NotCancellable ∷ [])
+no_loop_cancelled_is_wrong = search rules
+
+-- a group outside of every task
+pub no_task_cancelled_is_wrong : AreWrongOf (cancellable_team 1) (take 1 cancels_nothing) (asks 0 (Cancel Taskgroup true)) (Cancelling true ∷ Cancelling false ∷ Refused NoGroup ∷ [])
+no_task_cancelled_is_wrong = search rules
+
+-- a loop whose end is none that may be cancelled
+pub loop_with_another_end_cancelled_is_wrong : AreWrongOf (cancellable_team 1) (take 3 cancels_nothing) (asks 0 (Cancel Loop true)) (Cancelling true ∷ Cancelling false ∷ Refused OutsideShare ∷ [])
+loop_with_another_end_cancelled_is_wrong = search rules
+
+-- nor is that asked for
+pub point_in_another_loop_is_wrong : AreWrongOf (cancellable_team 1) (take 4 cancels_nothing) (asks 0 (Point Loop)) (Cancelling false ∷ Cancelling true ∷ Refused OutsideShare ∷ [])
+point_in_another_loop_is_wrong = search rules
+
+-- sections in a loop
+pub sections_of_a_loop_cancelled_is_wrong : AreWrongOf (cancellable_team 1) (take 5 cancels_nothing) (asks 0 (Cancel Sections true)) (Cancelling true ∷ Refused NotCancellable ∷ [])
+sections_of_a_loop_cancelled_is_wrong = search rules
+
+-- the region in a task
+pub region_cancelled_in_a_task_is_wrong : AreWrongOf (cancellable_team 1) (take 7 cancels_nothing) (asks 0 cancels_parallel) (Cancelling true ∷ Cancelling false ∷ Refused NotInTask ∷ Refused Leaving ∷ [])
+region_cancelled_in_a_task_is_wrong = search rules
+
+-- a loop in a task is refused for the loop
+pub loop_cancelled_in_a_task_is_wrong : AreWrongOf (cancellable_team 1) (take 8 cancels_nothing) (asks 0 (Point Loop)) (Cancelling false ∷ Refused NotCancellable ∷ Refused OutsideShare ∷ [])
+loop_cancelled_in_a_task_is_wrong = search rules
+
+-- a group of which the task is not
+pub no_group_cancelled_is_wrong : AreWrongOf (cancellable_team 1) (take 9 cancels_nothing) (asks 0 (Cancel Taskgroup true)) (Cancelling true ∷ Cancelling false ∷ Refused NotInTask ∷ Refused GroupOpen ∷ [])
+no_group_cancelled_is_wrong = search rules
+
+-- the region is cancelled, and a point says so of the loop
+pub loop_point_in_a_cancelled_region_is_wrong : AreWrongOf (cancellable_team 2) (take 2 loop_in_a_cancelled_region) (asks 0 (Point Loop)) (Cancelling true ∷ Refused Leaving ∷ [])
+loop_point_in_a_cancelled_region_is_wrong = search rules
+
+-- or the loop ends before its member has asked for all pieces
+pub early_cancellable_end_is_wrong : AreWrongOf (cancellable_team 2) (take 3 loop_in_a_cancelled_region) (asks 0 LoopEndCancel) (Cancelled ∷ Passed ∷ Wait ∷ Refused Leaving ∷ [])
+early_cancellable_end_is_wrong = search rules
+
+-- a member that leaves the loop is told of the region
+pub point_of_a_loop_leaver_is_wrong : AreWrongOf (cancellable_team 2) (take 5 loop_in_a_cancelled_region) (asks 0 (Point Parallel)) (Cancelling true ∷ Cancelling false ∷ Cancelled ∷ [])
+point_of_a_loop_leaver_is_wrong = search rules
+
+-- its end waits for the others
+pub cancellable_end_waits_is_wrong : AreWrongOf (cancellable_team 2) (take 6 loop_in_a_cancelled_region) (asks 0 LoopEndCancel) (Wait ∷ Passed ∷ Finished ∷ Refused Leaving ∷ Refused NotDrained ∷ [])
+cancellable_end_waits_is_wrong = search rules
+
+-- and may be called again
+pub cancellable_end_again_is_wrong : AreWrongOf (cancellable_team 2) (take 7 loop_in_a_cancelled_region) (asks 0 LoopEndCancel) (Cancelled ∷ Refused OutsideShare ∷ Refused Waiting ∷ [])
+cancellable_end_again_is_wrong = search rules
+
+-- a loop that is not cancelled ends with pieces left
+pub cancellable_end_too_early_is_wrong : AreWrongOf (cancellable_team 2) (take 2 loop_left_unseen) (asks 1 LoopEndCancel) (Passed ∷ Wait ∷ Cancelled ∷ Refused Leaving ∷ [])
+cancellable_end_too_early_is_wrong = search rules
+
+-- a cancelled one ends as another
+pub cancelled_loop_ends_otherwise_is_wrong : AreWrongOf (cancellable_team 2) (take 4 loop_left_unseen) (asks 0 LoopEnd) (Wait ∷ Passed ∷ Refused EndDiffers ∷ [])
+cancelled_loop_ends_otherwise_is_wrong = search rules
+
+-- or as sections
+pub cancelled_loop_ends_as_sections_is_wrong : AreWrongOf (cancellable_team 2) (take 6 loop_left_unseen) (asks 0 SectionsEndCancel) (Wait ∷ Passed ∷ Refused OutsideShare ∷ [])
+cancelled_loop_ends_as_sections_is_wrong = search rules
+
+-- it is cancelled once more
+pub cancelled_once_more_is_wrong : AreWrongOf (cancellable_team 2) (take 7 loop_left_unseen) (asks 0 (Cancel Loop true)) (Cancelling true ∷ Cancelling false ∷ [])
+cancelled_once_more_is_wrong = search rules
+
+-- a member that has not seen that has to ask for all pieces first
+pub unseen_end_is_wrong : AreWrongOf (cancellable_team 2) (take 8 loop_left_unseen) (asks 1 LoopEndCancel) (Passed ∷ Refused NotDrained ∷ Refused Leaving ∷ Cancelled ∷ Finished ∷ [])
+unseen_end_is_wrong = search rules
+
+-- a barrier after the loop is cut short
+pub barrier_after_a_cancelled_loop_is_wrong : AreWrongOf (cancellable_team 2) (take 10 loop_left_unseen) (asks 0 Barrier) (Cancelled ∷ Refused Leaving ∷ Refused Mismatch ∷ [])
+barrier_after_a_cancelled_loop_is_wrong = search rules
+
+-- Room and memory
+
+-- a cancellation is refused though there is room, also after one that cancelled nothing
+pub room_for_a_cancellation_is_wrong :
+    AreWrongOf (cancellable_with 1 4) [] (asks 0 (Cancel Parallel false)) (Refused TraceFull ∷ Cancelling true ∷ []) × AreWrongOf (cancellable_with 1 4) (take 1 room_of_cancellations) (asks 0 cancels_parallel) (Refused TraceFull ∷ Cancelling false ∷ [])
+room_for_a_cancellation_is_wrong = search rules
+
+-- it cancels without room, or is answered by a false clause; a point is refused for want of room
+pub no_room_for_a_cancellation_is_wrong :
+    AreWrongOf (cancellable_with 1 3) (take 1 no_room_to_cancel) (asks 0 (Cancel Parallel false)) (Cancelling false ∷ Cancelling true ∷ Refused NoMemory ∷ [])
+    × AreWrongOf (cancellable_with 1 3) (take 2 no_room_to_cancel) (asks 0 cancels_parallel) (Cancelling true ∷ Cancelling false ∷ Refused NoMemory ∷ []) × IsWrongOf (cancellable_with 1 3) [] (asks 0 (Point Parallel)) (Refused TraceFull)
+no_room_for_a_cancellation_is_wrong = search rules
+
+-- a task is refused for want of room, or of memory, and not dropped; or a dropped one has taken room
+pub room_of_a_dropped_task_is_wrong :
+    AreWrongOf (cancellable_with 2 6) (take 1 dropped_without_room) (asks 0 (creates_task 1 0)) (Refused TraceFull ∷ Refused NoMemory ∷ Created 1 ∷ Refused Leaving ∷ []) × AreWrongOf (cancellable_with 2 6) (take 2 dropped_without_room) (asks 0 Barrier) (Cancelled ∷ Wait ∷ [])
+    × IsWrongOf (cancellable_with 2 8) (take 2 dropped_without_room) (asks 0 Barrier) (Refused TraceFull)
+room_of_a_dropped_task_is_wrong = search rules
+
+-- a call that asks for no memory wants some: a point, a construct that names a share, an end
+pub memory_of_cancellation_is_wrong :
+    IsWrongOf (cancellable_team 1) [] (asks 0 (Point Parallel)) (Refused NoMemory) × IsWrongOf (cancellable_team 2) (take 2 loop_cancelled) (asks 0 (Point Loop)) (Refused NoMemory)
+    × IsWrongOf (cancellable_team 2) (take 4 loop_cancelled) (asks 0 LoopEndCancel) (Refused NoMemory) × IsWrongOf (cancellable_team 1) (take 3 sections_cancelled) (asks 0 SectionsEndCancel) (Refused NoMemory)
+memory_of_cancellation_is_wrong = search rules
