@@ -1,5 +1,6 @@
 pub mod CancelRowExamples
 pub mod CancelRunsWithCauses
+pub mod CancelTestExamples
 pub mod CauseExamples
 pub mod DependCauseExamples
 pub mod DependRecordExamples

@@ -12,7 +12,7 @@ use Rattle.gomp_types.specs.declared.refusal.Place.TheVariants.{Share, Barrier a
 use Rattle.gomp_types.specs.declared.refusal.Refusal.{Refusal}
 use Rattle.gomp_types.specs.declared.refusal.Refusal.TheVariants.{BadMember, Ended, Broken, Waiting, Leaving, InsideTask, NotInTask, InsideShare, OutsideShare, InOrdered, HoldsCritical, ZeroStep, BadChunk, LoopTooLong, BadSections, OrderedLoop, EndDiffers, NotDrained, Drained, NotOrdered, OrderedBackwards, NotInside, NotCancellable, NoGroup, GroupOpen, TooDeep, TooManyTasks, NameTooLong, AlreadyHeld, NotHolder, NoLock, CountTooLarge, TooManyDepends, TooManyShares, Mismatch, TraceFull, NoMemory, BadTeam}
 use Rattle.gomp_types.specs.declared.reply.Reply.{Reply}
-use Rattle.gomp_types.specs.declared.reply.Reply.TheVariants.{Chunk, NoChunk, Section, Executor, Copied, Finished, Passed, Wait, Created, Run as RunTask, TaskDone, Lock, Got, Count, Stopped, Refused}
+use Rattle.gomp_types.specs.declared.reply.Reply.TheVariants.{Chunk, NoChunk, Section, Executor, Copied, Finished, Passed, Cancelled, Wait, Created, Run as RunTask, TaskDone, Dropped, Cancelling, Lock, Got, Count, Stopped, Refused}
 use Rattle.gomp_types.specs.Limits.{standard}
 use Rattle.gomp_types.specs.Tests.{first_refusal, outcome}
 use Rattle.gomp_types.specs.Iterations.{trip_count, loop_tests}
@@ -86,6 +86,10 @@ lock_answers = Lock 0 ∷ Lock 1 ∷ Got true ∷ Got false ∷ Count 0 ∷ Coun
 -- answers to a call on a task or a lock
 abbrev pub later_answers : List Reply
 later_answers = task_answers ++ lock_answers
+
+-- answers to a call of cancellation, and to one that a cancellation cuts short
+abbrev pub cancel_answers : List Reply
+cancel_answers = Cancelled ∷ Dropped ∷ Cancelling true ∷ Cancelling false ∷ []
 
 -- answers to a call on a share, and of a barrier and a stop
 abbrev pub share_answers : List Reply
