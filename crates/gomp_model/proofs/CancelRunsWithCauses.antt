@@ -1,7 +1,6 @@
 -- Worked runs of cancellation: each reply of these runs has its cause.
-use Rattle.std.proofs.Common.{rules}
-use Rattle.std.specs.Prelude.{take, drop}
-use Rattle.gomp_model.proofs.LongRuns.{join_runs}
+use Rattle.std.proofs.Common.{rules, refl}
+use Rattle.std.specs.Prelude.{take}
 use Rattle.gomp_model.specs.Examples.{IsRun, IsRunOf}
 use Rattle.gomp_model.specs.CancelRuns.{cancellable_team, cancellable_with, region_cancelled, nothing_cancelled, barrier_cut_short, met_barrier_cut_short, ends_cut_short, start_cut_short, turns_cut_short, next_cut_short, words_cut_short, leaves_all, stopped_leaving, loop_cancelled, loop_left_unseen, sections_cancelled, cancels_nothing, loop_in_a_cancelled_region, group_cancelled, task_left, task_of_a_cancelled_region, waiting_creator, room_of_cancellations, no_room_to_cancel, dropped_without_room}
 
@@ -76,8 +75,12 @@ loop_in_a_cancelled_region_has_causes = search rules
 -- Groups
 
 -- a group, by a task in it
+pub group_until_it_is_cancelled_has_causes : IsRunOf (cancellable_team 2) (take 8 group_cancelled)
+group_until_it_is_cancelled_has_causes = search rules
+
+-- and what comes after
 pub group_cancelled_has_causes : IsRunOf (cancellable_team 2) group_cancelled
-group_cancelled_has_causes = join_runs (cancellable_team 2) (take 8 group_cancelled) (drop 8 group_cancelled) (search rules) (search rules)
+group_cancelled_has_causes = ((refl, (refl, refl, refl, (refl, refl))), ((refl, refl), ((refl, refl), ((refl, refl), ((refl, (refl, refl)), ((refl, refl), ((refl, refl), ((refl, refl), group_until_it_is_cancelled_has_causes))))))))
 
 -- a task ends and does nothing else
 pub task_left_has_causes : IsRunOf (cancellable_team 1) task_left

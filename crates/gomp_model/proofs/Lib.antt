@@ -1,11 +1,13 @@
+pub mod CancelCauseExamples
+pub mod CancelRowExamples
 pub mod CancelRunsWithCauses
+pub mod CancelTestExamples
 pub mod CauseExamples
 pub mod DependCauseExamples
 pub mod DependRecordExamples
 pub mod DependRowExamples
 pub mod DependTestExamples
 pub mod GivenExamples
-pub mod LongRuns
 pub mod LoopLimits
 pub mod RecordExamples
 pub mod RowExamples
@@ -17,6 +19,7 @@ pub mod TaskTestExamples
 pub mod TestExamples
 pub mod RunsWithCauses
 pub mod WrongAnswers
+pub mod WrongCancelAnswers
 pub mod WrongDependAnswers
 pub mod WrongHoldAnswers
 pub mod WrongShareAnswers
