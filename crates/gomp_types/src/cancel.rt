@@ -2,9 +2,6 @@
 //!
 //! OpenMP API 5.2, chapter 16; libgomp's `GOMP_cancel` and `GOMP_cancellation_point`.
 
-ghost use Rattle.std.specs.Prelude.{◌≡◌};
-ghost use Rattle.gomp_types.specs.Cancels.{same_cancel};
-
 /// Which kind of region a `cancel` or `cancellation point` construct names (OpenMP API 5.2, sections
 /// 16.1 and 16.2).
 #[derive(Clone, Copy, Debug, PartialEq, Eq)]
@@ -17,15 +14,6 @@ pub enum CancelKind {
     Sections,
     /// The last opened group of those whose ends wait for the member's task.
     Taskgroup,
-}
-
-impl CancelKind {
-    /// Whether two constructs name the same kind of region.
-    pub fn is_same(&self, other: &CancelKind) -> bool
-        ensures { result ≡ same_cancel self.now other.now }
-    {
-        self == other
-    }
 }
 
 /// What one cancellation reaches. Shares and groups are numbered from 0.
