@@ -9,7 +9,7 @@ use Rattle.gomp_types.specs.declared.event.Event.{Event}
 use Rattle.gomp_types.specs.Goals.{may_pass}
 use Rattle.gomp_types.specs.Tasks.{is_complete}
 use Rattle.gomp_barrier.specs.declared.front.Seat.{Seat}
-use Rattle.gomp_barrier.specs.Calls.{barrier_seen, accepts_arrival, passes_next, IsPart, IsAside}
+use Rattle.gomp_barrier.specs.Calls.{barrier_seen, accepts_arrival, IsPart, IsAside}
 use Rattle.gomp_barrier.specs.Seats.{has_odd_number, tag_for, number_for, barrier_of, has_come_to_end, seat_accepts, passed_by, gone_from, SeatStands}
 use Rattle.gomp_barrier.specs.Bound.{open_bound, bound_count, TasksStand}
 use Rattle.gomp_barrier.specs.Stands.{Stands, MayLeave}
@@ -41,27 +41,27 @@ accepts_none_after_the_end = (refl, refl)
 -- Passes
 
 -- at a barrier at which all are a member passes, and once the region is cancelled it does not
-pub passes_no_barrier : (passes_next 2 0 both_arrived ≡ true) × (passes_next 2 0 (Cancel 1 Region ∷ both_arrived) ≡ false)
+pub passes_no_barrier : (may_pass 2 0 both_arrived ≡ true) × (may_pass 2 0 (Cancel 1 Region ∷ both_arrived) ≡ false)
 passes_no_barrier = (refl, refl)
 
 -- nor the end before the other has come there
-pub passes_not_alone : passes_next 2 0 (Arrive 0 0 at_end_tag ∷ cancelled_at_barrier) ≡ false
+pub passes_not_alone : may_pass 2 0 (Arrive 0 0 at_end_tag ∷ cancelled_at_barrier) ≡ false
 passes_not_alone = refl
 
 -- then both pass it, one after the other
-pub passes_the_end_of_all : (passes_next 2 0 both_at_end ≡ true) × (passes_next 2 1 both_at_end ≡ true) × (passes_next 2 1 one_left ≡ true)
+pub passes_the_end_of_all : (may_pass 2 0 both_at_end ≡ true) × (may_pass 2 1 both_at_end ≡ true) × (may_pass 2 1 one_left ≡ true)
 passes_the_end_of_all = (refl, refl, refl)
 
 -- a member passes it once, though it still has arrived there
-pub passes_the_end_once : (passes_next 2 0 one_left ≡ false) × (may_pass 2 0 one_left ≡ true)
-passes_the_end_once = (refl, refl)
+pub passes_the_end_once : may_pass 2 0 one_left ≡ false
+passes_the_end_once = refl
 
 -- members at two numbers pass too
-pub passes_by_two_numbers : (passes_next 2 0 ends_apart ≡ true) × (passes_next 2 1 ends_apart ≡ true)
+pub passes_by_two_numbers : (may_pass 2 0 ends_apart ≡ true) × (may_pass 2 1 ends_apart ≡ true)
 passes_by_two_numbers = (refl, refl)
 
 -- not before a task is complete; a discarded one is
-pub passes_after_a_discard : (passes_next 1 0 (Arrive 0 0 at_end_tag ∷ Cancel 0 Region ∷ creates 1 0 (Implicit 0) ∷ []) ≡ false) × (passes_next 1 0 (Arrive 0 0 at_end_tag ∷ Discard 1 0 ∷ Cancel 0 Region ∷ creates 1 0 (Implicit 0) ∷ []) ≡ true)
+pub passes_after_a_discard : (may_pass 1 0 (Arrive 0 0 at_end_tag ∷ Cancel 0 Region ∷ creates 1 0 (Implicit 0) ∷ []) ≡ false) × (may_pass 1 0 (Arrive 0 0 at_end_tag ∷ Discard 1 0 ∷ Cancel 0 Region ∷ creates 1 0 (Implicit 0) ∷ []) ≡ true)
 passes_after_a_discard = (refl, refl)
 
 -- What a member sees
