@@ -31,7 +31,7 @@ use Rattle.gomp_barrier.specs.declared.front.Seat.{Seat}
 use Rattle.gomp_barrier.specs.declared.front.Front.{Front}
 use Rattle.gomp_barrier.specs.declared.barriers.AtBarrier.{AtBarrier}
 use Rattle.gomp_barrier.specs.Seats.{differ, is_ahead, has_odd_number, seat_accepts, gone_from, has_come_to_end, tag_for, number_for, IsThere, arrived_at, passed_by, next_front, barrier_of, SeatStands, FrontStands, SomeBehind}
-use Rattle.gomp_barrier.specs.Calls.{barrier_seen, accepts_arrival, passes_next, IsPart, IsParent, MayBind, MayRelease, IsAside}
+use Rattle.gomp_barrier.specs.Calls.{barrier_seen, accepts_arrival, IsPart, IsParent, MayBind, MayRelease, IsAside}
 use Rattle.gomp_barrier.specs.declared.bound.BoundTasks.{BoundTasks}
 use Rattle.gomp_barrier.specs.Bound.{open_bound, bound_count, one_more, one_less, TasksStand}
 use Rattle.gomp_barrier.specs.Stands.{BarriersView, Stands, MayTurn, MayLeave}
@@ -307,15 +307,8 @@ must_now seats front tasks m seat h st at passes =
           }
     ]
 
-passes_whole : (members m : ℕ) (h : List Event) → is_cancelled h ≡ false → passes_next members m h ≡ may_pass members m h
-passes_whole members m h whole = ap (λ (b : Bool). may_pass members m h && not (b && has_left_region m h)) whole ∙ and_true (may_pass members m h)
-  where
-    and_true : (b : Bool) → (b && true) ≡ b
-    and_true true = refl
-    and_true false = refl
-
 -- a member may pass the end of a cancelled region if all have come there and no task is open
-leave_now : (seats : List Seat) (front : Front) (tasks : BoundTasks) (m : ℕ) (seat : Seat) (h : List Event) → StandAt seats front tasks true h → slice_get seats m ≡ Some seat → MayLeave seats tasks seat → passes_next (length seats) m h ≡ true
+leave_now : (seats : List Seat) (front : Front) (tasks : BoundTasks) (m : ℕ) (seat : Seat) (h : List Event) → StandAt seats front tasks true h → slice_get seats m ≡ Some seat → MayLeave seats tasks seat → may_pass (length seats) m h ≡ true
 leave_now seats front tasks m seat h st at may =
     let on : is_cancelled h ≡ true = st.cancelled in
     let every : every_member (length seats) (λ x. at_region_end x h) ≡ true = every_by (length seats) (λ x. at_region_end x h) (λ x lt.
@@ -327,14 +320,13 @@ leave_now seats front tasks m seat h st at may =
     rw (on, own, every, complete, stays) refl
 
 -- and only then
-must_leave : (seats : List Seat) (front : Front) (tasks : BoundTasks) (m : ℕ) (seat : Seat) (h : List Event) → StandAt seats front tasks true h → slice_get seats m ≡ Some seat → passes_next (length seats) m h ≡ true → MayLeave seats tasks seat
+must_leave : (seats : List Seat) (front : Front) (tasks : BoundTasks) (m : ℕ) (seat : Seat) (h : List Event) → StandAt seats front tasks true h → slice_get seats m ≡ Some seat → may_pass (length seats) m h ≡ true → MayLeave seats tasks seat
 must_leave seats front tasks m seat h st at passes =
     let on : is_cancelled h ≡ true = st.cancelled in
-    let may : may_pass (length seats) m h ≡ true = and_left (may_pass (length seats) m h) (not (is_cancelled h && has_left_region m h)) passes in
-    let rest : not (is_cancelled h && has_left_region m h) ≡ true = and_right (may_pass (length seats) m h) (not (is_cancelled h && has_left_region m h)) passes in
-    let stays : not (has_left_region m h) ≡ true = rw on at rest in
-    let met : (at_region_end m h && region_met (length seats) h) ≡ true = rw on at may in
-    let region : region_met (length seats) h ≡ true = and_right (at_region_end m h) (region_met (length seats) h) met in
+    let may : (at_region_end m h && (not (has_left_region m h) && region_met (length seats) h)) ≡ true = rw on at passes in
+    let rest : (not (has_left_region m h) && region_met (length seats) h) ≡ true = and_right (at_region_end m h) (not (has_left_region m h) && region_met (length seats) h) may in
+    let stays : not (has_left_region m h) ≡ true = and_left (not (has_left_region m h)) (region_met (length seats) h) rest in
+    let region : region_met (length seats) h ≡ true = and_right (not (has_left_region m h)) (region_met (length seats) h) rest in
     let every : every_member (length seats) (λ x. at_region_end x h) ≡ true = and_left (every_member (length seats) (λ x. at_region_end x h)) (all_complete (λ t. true) h) region in
     let complete : all_complete (λ t. true) h ≡ true = and_right (every_member (length seats) (λ x. at_region_end x h)) (all_complete (λ t. true) h) region in
     record {
@@ -348,20 +340,20 @@ must_leave seats front tasks m seat h st at passes =
 
 -- the answer of a turn
 pub turn_is : (seats : List Seat) (front : Front) (tasks : BoundTasks) (m : ℕ) (seat : Seat) (h : List Event) (result : Bool) → StandAt seats front tasks false h → slice_get seats m ≡ Some seat →
-    IsTrue result ↔ MayTurn (record { seats = seats; front = front; tasks = tasks; cancelled = false }) seat → result ≡ passes_next (length seats) m h
-turn_is seats front tasks m seat h true st at is = sym (passes_whole (length seats) m h st.cancelled ∙ may_now seats front tasks m seat h st at (is.0 refl))
+    IsTrue result ↔ MayTurn (record { seats = seats; front = front; tasks = tasks; cancelled = false }) seat → result ≡ may_pass (length seats) m h
+turn_is seats front tasks m seat h true st at is = sym (may_now seats front tasks m seat h st at (is.0 refl))
 turn_is seats front tasks m seat h false st at is =
     elim (cases_Bool (may_pass (length seats) m h)) [
       | inl may ↦ absurd (let no : false ≡ true = is.1 (must_now seats front tasks m seat h st at may) in cc)
-      | inr not_may ↦ sym (passes_whole (length seats) m h st.cancelled ∙ not_may)
+      | inr not_may ↦ sym not_may
     ]
 
 -- and in a cancelled region
 pub leave_is : (seats : List Seat) (front : Front) (tasks : BoundTasks) (m : ℕ) (seat : Seat) (h : List Event) (result : Bool) → StandAt seats front tasks true h → slice_get seats m ≡ Some seat →
-    IsTrue result ↔ MayLeave seats tasks seat → result ≡ passes_next (length seats) m h
+    IsTrue result ↔ MayLeave seats tasks seat → result ≡ may_pass (length seats) m h
 leave_is seats front tasks m seat h true st at is = sym (leave_now seats front tasks m seat h st at (is.0 refl))
 leave_is seats front tasks m seat h false st at is =
-    elim (cases_Bool (passes_next (length seats) m h)) [
+    elim (cases_Bool (may_pass (length seats) m h)) [
       | inl may ↦ absurd (let no : false ≡ true = is.1 (must_leave seats front tasks m seat h st at may) in cc)
       | inr not_may ↦ sym not_may
     ]
@@ -433,7 +425,6 @@ leave_keeps seats front tasks m seat h st at may =
     let tag = end_tag seat.arrived (rw may.stays at come) in
     let ends : is_region_end tag.0.kind ≡ true = tag.2 in
     let left : new.left ≡ (seat.left || is_region_end tag.0.kind) = sym (or_right seat.left (is_region_end tag.0.kind) ends) in
-    let passes = leave_now seats front tasks m seat h st at may in
     record {
       least = st.least;
       barrier = subst (λ g. FrontStands (slice_set seats m new) front st.least (Pass g m ∷ h)) (sym p.passed_is) (pass_keeps_the_front seats front st.least m seat new tag.0 h st.barrier at (next_gone front st.least seat new here refl refl) tag.1 refl left (λ gone. (on, refl)));
@@ -441,7 +432,7 @@ leave_keeps seats front tasks m seat h st at may =
       behind = ahead_stays front front m seat new seats at refl refl st.behind;
       cancelled = st.cancelled;
       rule = subst (λ n. Always (ArrivalRule n) (Pass (barriers_passed m h) m ∷ h)) (sym (length-set seats m new))
-          (record { number = refl; met = and_left (may_pass (length seats) m h) (not (is_cancelled h && has_left_region m h)) passes }, st.rule);
+          (record { number = refl; met = leave_now seats front tasks m seat h st at may }, st.rule);
     }
 
 -- the region is cancelled

@@ -9,12 +9,13 @@ use Rattle.gomp_types.specs.declared.event.Event.{Event}
 use Rattle.gomp_types.specs.Goals.{may_pass}
 use Rattle.gomp_types.specs.Tasks.{is_complete}
 use Rattle.gomp_barrier.specs.declared.front.Seat.{Seat}
-use Rattle.gomp_barrier.specs.Calls.{barrier_seen, accepts_arrival, passes_next, IsPart, IsAside}
+use Rattle.gomp_barrier.specs.Calls.{barrier_seen, accepts_arrival, IsPart, IsAside}
 use Rattle.gomp_barrier.specs.Seats.{has_odd_number, tag_for, number_for, barrier_of, has_come_to_end, seat_accepts, passed_by, gone_from, SeatStands}
 use Rattle.gomp_barrier.specs.Bound.{open_bound, bound_count, TasksStand}
 use Rattle.gomp_barrier.specs.Stands.{Stands, MayLeave}
-use Rattle.gomp_barrier.proofs.BarrierSteps.{new_barriers_stand, arrive_keeps, cancel_keeps, leave_keeps}
-use Rattle.gomp_barrier.specs.Examples.{at_barrier_tag, at_end_tag, both_arrived, first_left, creates, cancelled_at_barrier, both_at_end, one_left, ends_apart, seat_with, front_with, bound_with, no_tasks, barriers_with, cancelled_with, sees_barrier, gone_seat, new_seat, new_front, front_there, front_at_end, front_between, seat_at_end, seat_behind, seat_ahead}
+use Rattle.gomp_barrier.proofs.TaskExamples.{turn_without_tasks}
+use Rattle.gomp_barrier.proofs.BarrierSteps.{new_barriers_stand, arrive_keeps, turn_keeps, cancel_keeps, leave_keeps}
+use Rattle.gomp_barrier.specs.Examples.{at_barrier_tag, at_end_tag, both_arrived, first_left, creates, cancelled_at_barrier, both_at_end, one_left, ends_apart, left_apart, seat_with, front_with, bound_with, no_tasks, barriers_with, cancelled_with, sees_barrier, gone_seat, new_seat, new_front, front_there, front_at_end, front_between, seat_at_end, seat_behind, seat_ahead}
 
 -- Arrivals
 
@@ -41,27 +42,27 @@ accepts_none_after_the_end = (refl, refl)
 -- Passes
 
 -- at a barrier at which all are a member passes, and once the region is cancelled it does not
-pub passes_no_barrier : (passes_next 2 0 both_arrived ≡ true) × (passes_next 2 0 (Cancel 1 Region ∷ both_arrived) ≡ false)
+pub passes_no_barrier : (may_pass 2 0 both_arrived ≡ true) × (may_pass 2 0 (Cancel 1 Region ∷ both_arrived) ≡ false)
 passes_no_barrier = (refl, refl)
 
 -- nor the end before the other has come there
-pub passes_not_alone : passes_next 2 0 (Arrive 0 0 at_end_tag ∷ cancelled_at_barrier) ≡ false
+pub passes_not_alone : may_pass 2 0 (Arrive 0 0 at_end_tag ∷ cancelled_at_barrier) ≡ false
 passes_not_alone = refl
 
 -- then both pass it, one after the other
-pub passes_the_end_of_all : (passes_next 2 0 both_at_end ≡ true) × (passes_next 2 1 both_at_end ≡ true) × (passes_next 2 1 one_left ≡ true)
+pub passes_the_end_of_all : (may_pass 2 0 both_at_end ≡ true) × (may_pass 2 1 both_at_end ≡ true) × (may_pass 2 1 one_left ≡ true)
 passes_the_end_of_all = (refl, refl, refl)
 
 -- a member passes it once, though it still has arrived there
-pub passes_the_end_once : (passes_next 2 0 one_left ≡ false) × (may_pass 2 0 one_left ≡ true)
-passes_the_end_once = (refl, refl)
+pub passes_the_end_once : may_pass 2 0 one_left ≡ false
+passes_the_end_once = refl
 
 -- members at two numbers pass too
-pub passes_by_two_numbers : (passes_next 2 0 ends_apart ≡ true) × (passes_next 2 1 ends_apart ≡ true)
+pub passes_by_two_numbers : (may_pass 2 0 ends_apart ≡ true) × (may_pass 2 1 ends_apart ≡ true)
 passes_by_two_numbers = (refl, refl)
 
 -- not before a task is complete; a discarded one is
-pub passes_after_a_discard : (passes_next 1 0 (Arrive 0 0 at_end_tag ∷ Cancel 0 Region ∷ creates 1 0 (Implicit 0) ∷ []) ≡ false) × (passes_next 1 0 (Arrive 0 0 at_end_tag ∷ Discard 1 0 ∷ Cancel 0 Region ∷ creates 1 0 (Implicit 0) ∷ []) ≡ true)
+pub passes_after_a_discard : (may_pass 1 0 (Arrive 0 0 at_end_tag ∷ Cancel 0 Region ∷ creates 1 0 (Implicit 0) ∷ []) ≡ false) × (may_pass 1 0 (Arrive 0 0 at_end_tag ∷ Discard 1 0 ∷ Cancel 0 Region ∷ creates 1 0 (Implicit 0) ∷ []) ≡ true)
 passes_after_a_discard = (refl, refl)
 
 -- What a member sees
@@ -73,6 +74,10 @@ seen_after_it_left = refl
 -- the other still waits at the end
 pub seen_before_it_leaves : barrier_seen 1 one_left ≡ sees_barrier 0 (Some at_end_tag) (Some at_end_tag) false
 seen_before_it_leaves = refl
+
+-- members that came to it from two barriers see two numbers, each one more than before; at the first the other had arrived
+pub seen_apart : (barrier_seen 0 left_apart ≡ sees_barrier 1 (Some at_end_tag) None true) × (barrier_seen 1 left_apart ≡ sees_barrier 2 None None true)
+seen_apart = (refl, refl)
 
 -- What the barriers see
 
@@ -182,3 +187,26 @@ stands_after_one = leave_keeps (seat_at_end ∷ seat_at_end ∷ []) front_at_end
 
 pub stands_after_both : Stands (cancelled_with (gone_seat false ∷ gone_seat false ∷ []) front_at_end no_tasks) (Pass 0 1 ∷ one_left)
 stands_after_both = leave_keeps (gone_seat false ∷ seat_at_end ∷ []) front_at_end no_tasks 1 seat_at_end one_left stands_after_one refl leaves_after_another
+
+-- the second member has passed the first barrier
+one_passed : Stands (barriers_with (seat_behind ∷ seat_with true None false ∷ []) front_there no_tasks) (Pass 0 1 ∷ both_arrived)
+one_passed =
+    turn_keeps (seat_behind ∷ seat_behind ∷ []) front_there front_there no_tasks 1 seat_behind both_arrived
+    (arrive_keeps (seat_behind ∷ new_seat ∷ []) front_there no_tasks false 1 new_seat at_barrier_tag (Arrive 0 0 at_barrier_tag ∷ [])
+    (arrive_keeps (new_seat ∷ new_seat ∷ []) new_front no_tasks false 0 new_seat at_barrier_tag [] (new_barriers_stand (new_seat ∷ new_seat ∷ []) 2 (omega arith) refl) refl refl) refl refl)
+    refl turn_without_tasks (λ all. absurd (let passed = all 0 seat_behind (omega arith) in cc)) (λ some. refl)
+
+-- the region is cancelled, and both arrive at its end, one barrier apart
+pub stands_apart : Stands (cancelled_with (seat_at_end ∷ seat_ahead ∷ []) (front_with false 0 (Some at_end_tag) (Some at_end_tag)) no_tasks) ends_apart
+stands_apart =
+    arrive_keeps (seat_behind ∷ seat_ahead ∷ []) front_between no_tasks true 0 seat_behind at_end_tag (Arrive 1 1 at_end_tag ∷ Cancel 0 Region ∷ Pass 0 1 ∷ both_arrived)
+    (arrive_keeps (seat_behind ∷ seat_with true None false ∷ []) front_there no_tasks true 1 (seat_with true None false) at_end_tag (Cancel 0 Region ∷ Pass 0 1 ∷ both_arrived)
+    (cancel_keeps (seat_behind ∷ seat_with true None false ∷ []) front_there no_tasks false 0 (Pass 0 1 ∷ both_arrived) one_passed) refl refl) refl refl
+
+-- both pass it, and the front stays
+pub stands_once_apart : Stands (cancelled_with (gone_seat false ∷ gone_seat true ∷ []) (front_with false 0 (Some at_end_tag) (Some at_end_tag)) no_tasks) left_apart
+stands_once_apart =
+    leave_keeps (seat_at_end ∷ gone_seat true ∷ []) (front_with false 0 (Some at_end_tag) (Some at_end_tag)) no_tasks 0 seat_at_end (Pass 1 1 ∷ ends_apart)
+    (leave_keeps (seat_at_end ∷ seat_ahead ∷ []) (front_with false 0 (Some at_end_tag) (Some at_end_tag)) no_tasks 1 seat_ahead ends_apart stands_apart refl
+    (record { stays = refl; come = two_come seat_at_end seat_ahead refl refl; even = refl; odd = refl })) refl
+    (record { stays = refl; come = two_come seat_at_end (gone_seat true) refl refl; even = refl; odd = refl })

@@ -11,7 +11,6 @@ use Rattle.gomp_types.specs.declared.cancel.Scope.TheVariants.{Region}
 use Rattle.gomp_types.specs.Events.{barriers_passed, arrival, tag_at, has_left_region, is_region_end}
 use Rattle.gomp_types.specs.Cancels.{is_cancelled}
 use Rattle.gomp_types.specs.Compare.{tag_differs}
-use Rattle.gomp_types.specs.Goals.{may_pass}
 use Rattle.gomp_types.specs.Tasks.{tasks_created, is_created, is_complete, epoch, epoch_of_child, is_odd}
 use Rattle.gomp_types.specs.Limits.{shown_number}
 use Rattle.gomp_barrier.specs.declared.barriers.AtBarrier.{AtBarrier}
@@ -30,10 +29,6 @@ abbrev pub accepts_arrival : ℕ → Tag → List Event → Bool
 accepts_arrival m tag h =
     if is_cancelled h then is_region_end tag.kind && not (has_left_region m h)
     else not (tag_differs tag (tag_at (barriers_passed m h) h))
-
--- whether the member passes its next barrier: it may; who has left a cancelled region passes none
-abbrev pub passes_next : ℕ → ℕ → List Event → Bool
-passes_next members m h = may_pass members m h && not (is_cancelled h && has_left_region m h)
 
 -- the events after an arrival that was accepted, or was not
 abbrev pub arrived_after : Bool → ℕ → Tag → List Event → List Event

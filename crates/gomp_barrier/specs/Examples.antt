@@ -68,6 +68,10 @@ one_left = Pass 0 0 ∷ both_at_end
 abbrev pub ends_apart : List Event
 ends_apart = Arrive 0 0 at_end_tag ∷ Arrive 1 1 at_end_tag ∷ Cancel 0 Region ∷ Pass 0 1 ∷ both_arrived
 
+-- and both pass it
+abbrev pub left_apart : List Event
+left_apart = Pass 0 0 ∷ Pass 1 1 ∷ ends_apart
+
 abbrev pub seat_with : Bool → Option Tag → Bool → Seat
 seat_with odd arrived left = record { odd = odd; arrived = arrived; left = left; gone = false }
 

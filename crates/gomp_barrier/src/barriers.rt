@@ -8,8 +8,9 @@ ghost use Rattle.gomp_types.specs.declared.event.Event.TheVariants.{Create, Done
 ghost use Rattle.gomp_types.specs.declared.cancel.Scope.TheVariants.{Region};
 ghost use Rattle.gomp_types.specs.Events.{barriers_passed, at_barrier};
 ghost use Rattle.gomp_types.specs.Tasks.{tasks_created, is_odd};
+ghost use Rattle.gomp_types.specs.Goals.{may_pass};
 ghost use Rattle.gomp_types.specs.Compare.{tag_differs};
-ghost use Rattle.gomp_barrier.specs.Calls.{barrier_seen, accepts_arrival, passes_next, arrived_after, turn_after, MayBind, MayRelease};
+ghost use Rattle.gomp_barrier.specs.Calls.{barrier_seen, accepts_arrival, arrived_after, turn_after, MayBind, MayRelease};
 ghost use Rattle.gomp_barrier.specs.Seats.{AllCome, seat_accepts};
 ghost use Rattle.gomp_barrier.specs.Stands.{BarriersView, Stands, MayTurn, MayLeave, members_of};
 
@@ -168,7 +169,7 @@ impl Barriers {
         ensures members { members_of self.new ≡ members_of self.old }
         ensures known { (h : List Event) × Stands self.old h }
         ensures answer { (h : List Event) → Stands self.old h →
-            result ≡ passes_next (members_of self.old) member h }
+            result ≡ may_pass (members_of self.old) member h }
         ensures kept { result ≡ false → self.new ≡ self.old }
         ensures stands { (h : List Event) → Stands self.old h →
             Stands self.new (turn_after result member h) }

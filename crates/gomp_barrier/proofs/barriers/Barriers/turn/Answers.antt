@@ -3,9 +3,9 @@ use Rattle.std.proofs.lemmas.Option.{slice_get_read}
 use Rattle.std.specs.Prelude.{All, List, IsTrue, ◌↔◌}
 use Rattle.gomp_types.specs.declared.event.Event.TheVariants.{Pass}
 use Rattle.gomp_types.specs.Events.{barriers_passed}
+use Rattle.gomp_types.specs.Goals.{may_pass}
 use Rattle.gomp_barrier.specs.declared.front.Seat.{Seat}
 use Rattle.gomp_barrier.specs.Seats.{is_ahead, passed_by, gone_from, next_front}
-use Rattle.gomp_barrier.specs.Calls.{passes_next}
 use Rattle.gomp_barrier.specs.Stands.{BarriersView, MayTurn, MayLeave, members_of}
 use Rattle.gomp_barrier.proofs.BarrierSteps.{StandAt, view_stands_too, turn_is, turn_keeps, leave_is, leave_keeps}
 use Rattle.gomp_barrier.proofs.barriers.Barriers.turn.Goals as goal
@@ -18,7 +18,7 @@ returns-then-not-may_leave-clause-answer c = λ h st0.
     let at = slice_get_read c.self.inside.seats.items _ c.args.member _ refl lt c.index.ensures in
     let is = subst (λ (xs : List Seat). IsTrue c.may_leave.result ↔ MayLeave xs c.self.inside.tasks c.index.result.now) c.deref.ensures.value c.may_leave.ensures in
     let answer = leave_is c.self.inside.seats.items c.self.inside.front c.self.inside.tasks c.args.member _ h c.may_leave.result st at is in
-    sym c.if-not-may_leave.true ∙ subst (λ (v : BarriersView). c.may_leave.result ≡ passes_next (members_of v) c.args.member h) c.self.view_is answer
+    sym c.if-not-may_leave.true ∙ subst (λ (v : BarriersView). c.may_leave.result ≡ may_pass (members_of v) c.args.member h) c.self.view_is answer
 
 pub returns-then-self-clause-answer : goal.returns-then-self-clause-answer
 returns-then-self-clause-answer c = λ h st0.
@@ -28,7 +28,7 @@ returns-then-self-clause-answer c = λ h st0.
     let at = slice_get_read c.self.inside.seats.items _ c.args.member _ refl lt c.index.ensures in
     let is = subst (λ (xs : List Seat). IsTrue c.may_leave.result ↔ MayLeave xs c.self.inside.tasks c.index.result.now) c.deref.ensures.value c.may_leave.ensures in
     let answer = leave_is c.self.inside.seats.items c.self.inside.front c.self.inside.tasks c.args.member _ h c.may_leave.result st at is in
-    sym c.if-not-may_leave.false ∙ subst (λ (v : BarriersView). c.may_leave.result ≡ passes_next (members_of v) c.args.member h) c.self.view_is answer
+    sym c.if-not-may_leave.false ∙ subst (λ (v : BarriersView). c.may_leave.result ≡ may_pass (members_of v) c.args.member h) c.self.view_is answer
 
 pub returns-then-self-clause-stands : goal.returns-then-self-clause-stands
 returns-then-self-clause-stands c = λ h st0.
@@ -48,7 +48,7 @@ returns-then-not-may_turn-clause-answer c = λ h st0.
     let at = slice_get_read c.self.inside.seats.items _ c.args.member _ refl lt c.index.ensures in
     let is = subst (λ (xs : List Seat). IsTrue c.may_turn.result ↔ MayTurn (record { seats = xs; front = c.self.inside.front; tasks = c.self.inside.tasks; cancelled = false }) c.index.result.now) c.deref-2.ensures.value c.may_turn.ensures in
     let answer = turn_is c.self.inside.seats.items c.self.inside.front c.self.inside.tasks c.args.member _ h c.may_turn.result st at is in
-    sym c.if-not-may_turn.true ∙ subst (λ (v : BarriersView). c.may_turn.result ≡ passes_next (members_of v) c.args.member h) c.self.view_is answer
+    sym c.if-not-may_turn.true ∙ subst (λ (v : BarriersView). c.may_turn.result ≡ may_pass (members_of v) c.args.member h) c.self.view_is answer
 
 pub returns-clause-answer : goal.returns-clause-answer
 returns-clause-answer c = λ h st0.
@@ -58,7 +58,7 @@ returns-clause-answer c = λ h st0.
     let at = slice_get_read c.self.inside.seats.items _ c.args.member _ refl lt c.index.ensures in
     let is = subst (λ (xs : List Seat). IsTrue c.may_turn.result ↔ MayTurn (record { seats = xs; front = c.self.inside.front; tasks = c.self.inside.tasks; cancelled = false }) c.index.result.now) c.deref-2.ensures.value c.may_turn.ensures in
     let answer = turn_is c.self.inside.seats.items c.self.inside.front c.self.inside.tasks c.args.member _ h c.may_turn.result st at is in
-    sym c.if-not-may_turn.false ∙ subst (λ (v : BarriersView). c.may_turn.result ≡ passes_next (members_of v) c.args.member h) c.self.view_is answer
+    sym c.if-not-may_turn.false ∙ subst (λ (v : BarriersView). c.may_turn.result ≡ may_pass (members_of v) c.args.member h) c.self.view_is answer
 
 pub returns-clause-stands : goal.returns-clause-stands
 returns-clause-stands c = λ h st0.
