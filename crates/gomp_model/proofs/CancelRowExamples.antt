@@ -2,13 +2,13 @@
 use Rattle.std.proofs.Common.{ℕ, ◌≡◌, true, false, List, [], ◌∷◌, Some, None, refl}
 use Rattle.std.specs.Prelude.{Bool, Option, pos, map, ◌++◌}
 use Rattle.gomp_types.specs.declared.call.Call.{Call}
-use Rattle.gomp_types.specs.declared.call.Call.TheVariants.{LoopNext, LoopEnd, LoopEndNowait, LoopEndCancel, SectionsStart, SectionsNext, SectionsEnd, SectionsEndCancel, SingleStart, SingleCopyStart, OrderedStart, Barrier, RegionEnd, CriticalStart, TaskCreate, TaskEnd, GroupStart, Cancel, Point}
+use Rattle.gomp_types.specs.declared.call.Call.TheVariants.{LoopNext, LoopEnd, LoopEndNowait, LoopEndCancel, SectionsStart, SectionsNext, SectionsEnd, SectionsEndCancel, SingleStart, SingleCopyStart, OrderedStart, Barrier, RegionEnd, CriticalStart, TaskCreate, TaskEnd, GroupStart, GroupEnd, Cancel, Point, Resume}
 use Rattle.gomp_types.specs.declared.cancel.CancelKind.{CancelKind}
 use Rattle.gomp_types.specs.declared.cancel.CancelKind.TheVariants.{Parallel, Loop, Sections, Taskgroup}
 use Rattle.gomp_types.specs.declared.cancel.Scope.TheVariants.{Region, OneShare, OneGroup}
 use Rattle.gomp_types.specs.declared.loop_desc.EndKind.TheVariants.{Wait as WaitEnd, Nowait, Cancellable}
 use Rattle.gomp_types.specs.declared.refusal.Refusal.{Refusal}
-use Rattle.gomp_types.specs.declared.refusal.Refusal.TheVariants.{Leaving, InsideTask, NotInTask, InsideShare, NotDrained, GroupOpen, TooDeep, TooManyTasks, TooManyDepends, Mismatch, TraceFull}
+use Rattle.gomp_types.specs.declared.refusal.Refusal.TheVariants.{Leaving, InsideTask, NotInTask, InsideShare, NotDrained, GroupOpen, TooDeep, TooManyTasks, TooManyDepends, Mismatch, TraceFull, NoMemory}
 use Rattle.gomp_types.specs.declared.reply.Reply.{Reply}
 use Rattle.gomp_types.specs.declared.reply.Reply.TheVariants.{Chunk, NoChunk, Section, Executor, Finished, Passed, Cancelled, Wait, Created, Run as RunTask, TaskDone, Dropped, Cancelling, Stopped, Refused}
 use Rattle.gomp_types.specs.declared.shape.Shape.{Shape}
@@ -22,13 +22,14 @@ use Rattle.gomp_types.specs.declared.event.Event.TheVariants.{Enter, Take, Drain
 use Rattle.gomp_types.specs.EventLists.{newest_first, four, at}
 use Rattle.gomp_types.specs.Sections.{sections_shape}
 use Rattle.gomp_types.specs.TaskExamples.{one_job, other_job, at_once}
-use Rattle.gomp_model.specs.Past.{Past}
-use Rattle.gomp_model.specs.Row.{Row, plain_row, waits_uncancelled, drain_tests, asked_tests, board_tests, asks_memory, leaving_tests, place_tests, room_after, events_after}
+use Rattle.gomp_model.specs.Past.{Past, no_waits}
+use Rattle.gomp_model.specs.Team.{waits_after}
+use Rattle.gomp_model.specs.Row.{Row, plain_row, waits_uncancelled, drain_tests, asked_tests, board_tests, asks_memory, leaving_tests, place_tests, room_after, past_given, goes_on, MayGive}
 use Rattle.gomp_model.specs.Starts.{end_room}
 use Rattle.gomp_model.specs.Arrivals.{compared_arrival, is_cut_short, ends_its_own}
 use Rattle.gomp_model.specs.Tasks.{is_dropped}
 use Rattle.gomp_model.specs.Calls.{row_of}
-use Rattle.gomp_model.specs.Examples.{past_with, dynamic_loop, lock_answers, share_answers, task_answers, all_refusals}
+use Rattle.gomp_model.specs.Examples.{past_with, dynamic_loop, waits_for, lock_answers, share_answers, task_answers, cancel_answers, all_refusals}
 use Rattle.gomp_shares.specs.Loops.{end_tests}
 use Rattle.gomp_shares.specs.Sections.{sections_end_tests}
 use Rattle.gomp_model.proofs.RowExamples.{starts, nexts, ends, arrivals, in_team, on_names, on_locks, in_book, others, flags, keys, kinds, three_locks}
@@ -451,3 +452,32 @@ given_by_points = (refl, refl)
 pub none_given_by_cancels :
     map (λ call. given two_unstarted call (Cancelling false ∷ Dropped ∷ Cancelled ∷ Finished ∷ Wait ∷ task_answers ++ (share_answers ++ (lock_answers ++ all_refusals)))) on_cancellation ≡ map (λ call. []) on_cancellation
 none_given_by_cancels = refl
+
+-- What is left
+
+-- a barrier that is cut short leaves what its member sees; its room was asked for where it was made
+pub left_by_cut_barriers :
+    (past_given (row_of Barrier) false 0 (past_with 2 region_unseen) Cancelled ≡ record (past_with 2 (region_unseen ++ See 0 Parallel ∷ [])) { room = 7 })
+    × (past_given (row_of Barrier) true 0 (past_with 2 region_unseen) Cancelled ≡ past_with 2 (region_unseen ++ See 0 Parallel ∷ []))
+    × (past_given (row_of LoopEndCancel) false 0 (past_with 2 (loop_unseen ++ region_unseen)) Cancelled ≡ past_with 2 (loop_unseen ++ (region_unseen ++ See 0 Loop ∷ End 0 0 ∷ See 0 Parallel ∷ [])))
+left_by_cut_barriers = (refl, refl, refl)
+
+-- a task that is dropped leaves nothing, nor a construct that cancels nothing; one that does its events, and its room
+pub left_by_cancels :
+    (past_given (row_of (TaskCreate one_job)) false 0 (past_with 2 region_unseen) Dropped ≡ past_with 2 region_unseen)
+    × (past_given (row_of (Cancel Parallel true)) false 0 (past_with 2 []) (Cancelling false) ≡ past_with 2 [])
+    × (past_given (row_of (Cancel Parallel true)) false 0 (past_with 2 []) (Cancelling true) ≡ record (past_with 2 (CancelEvent 0 Region ∷ See 0 Parallel ∷ [])) { room = 6 })
+    × (past_given (row_of (Point Parallel)) false 0 (past_with 2 region_unseen) (Cancelling true) ≡ past_with 2 (region_unseen ++ See 0 Parallel ∷ []))
+left_by_cancels = (refl, refl, refl, refl)
+
+-- no call goes on after an answer of cancellation, which closes the wait of its member; what lies beneath stays
+pub closed_by_cancellation :
+    (map goes_on cancel_answers ≡ map (λ reply. false) cancel_answers) × (map (λ reply. waits_after reply Resume (waits_for Barrier)) cancel_answers ≡ map (λ reply. no_waits) cancel_answers)
+    × (map (λ reply. waits_after reply Resume (record { open_call = Some Barrier; beneath = GroupEnd ∷ [] })) cancel_answers ≡ map (λ reply. record { open_call = None; beneath = GroupEnd ∷ [] }) cancel_answers)
+closed_by_cancellation = (refl, refl, refl)
+
+-- a creation that is dropped may not be answered by want of memory, and any other may
+pub given_by_dropped_creations :
+    MayGive (row_of (TaskCreate one_job)) false 0 (past_with 2 []) (Refused NoMemory) × (MayGive (row_of (TaskCreate one_job)) false 0 (past_with 2 region_unseen) (Refused NoMemory) → ⊥)
+    × MayGive (row_of (TaskCreate one_job)) false 0 (past_with 2 region_unseen) Dropped × (MayGive (row_of (TaskCreate one_job)) false 0 (past_with 2 []) Dropped → ⊥)
+given_by_dropped_creations = (refl, (λ asks. absurd (cc)), refl, (λ is. absurd (cc)))
