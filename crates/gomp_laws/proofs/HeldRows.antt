@@ -210,7 +210,7 @@ leaves_none false share task lets e bound = refl
 
 pub held_inside : (row : Row) (repeated : Bool) (m : ℕ) (p : Past) (key : Key) → Ready row repeated m p → row.holds ≡ Some key → row.lets_leave m p.events ≡ false → leaves_region m p.events ≡ false
 held_inside row true m p key ready holds bound = ((ready.lasting refl).1 key holds).1
-held_inside row false m p key ready holds bound = leaves_none (leaves_region m p.events) (leaves_share m p.events) (leaves_task m p.events) (row.lets_leave m p.events) ready.leaving.0 bound
+held_inside row false m p key ready holds bound = leaves_none (leaves_region m p.events) (leaves_share m p.events) (leaves_task m p.events) (row.lets_leave m p.events) (ready.leaving refl).0 bound
 
 -- what is to be shown of such a row
 pub record IsHeldRow (key : Key) (row : Row) : Type 0 where
