@@ -32,7 +32,7 @@ use Rattle.gomp_model.specs.Row.{Row, at_once, begun_past, unless_repeated, goes
 use Rattle.gomp_model.specs.Arrivals.{compared_arrival, passes, arrival_row, is_cut_short, ending, outside_tests, barrier_row, region_end_row}
 use Rattle.gomp_laws.proofs.AtOnce.{at_once_sound}
 use Rattle.gomp_laws.proofs.Awaits.{startable_may_start, startable_not_undeferred, one_await, some_await, await_tells, started_own, started_keeps, begun_holds, begun_rules}
-use Rattle.gomp_laws.proofs.Cancels.{none_leaves, sees_given, sees_keep}
+use Rattle.gomp_laws.proofs.Cancels.{none_leaves, unless_own, unless_keeps, sees_given, sees_keep}
 use Rattle.gomp_laws.proofs.CancelledEnds.{sees_same, leaves_own, MayEndShare, leaves_keep}
 use Rattle.gomp_laws.proofs.TeamShares.{task_rules}
 use Rattle.gomp_laws.proofs.Sound.{is_cut, Same, AreOwn, AreGiven, memoryless, clean_append, own_append, Ready, IsSound, Gives, quiet, only_arrives, outside_of_tasks, outside_lasts}
@@ -109,14 +109,6 @@ told_cut false m met h may = absurd may
 -- such a call goes on only if the region is not cancelled
 uncut_goes_on : (c : Bool) (May : Reply → Type 0) (reply : Reply) → OrIsCancelled c May reply → goes_on reply ≡ true → c ≡ false
 uncut_goes_on c May reply may on = elim (cut_answer c May reply may) [ inl e ↦ absurd (let off : goes_on reply ≡ false = ap goes_on e.1 in not_both (goes_on reply) on off) | inr e ↦ e.0 ]
-
-unless_own : (can : Gives) (c : Bool) (m : ℕ) (events : List Event) → AreOwn can m events → AreOwn can m (unless_cancelled c events)
-unless_own can true m events own = tt
-unless_own can false m events own = own
-
-unless_keeps : (members : ℕ) (c : Bool) (event : Event) (h : List Event) → (c ≡ false → TeamRule members event h) → Always (TeamRule members) h → Always (TeamRule members) (unless_cancelled c (event ∷ []) ++ h)
-unless_keeps members true event h rule all = all
-unless_keeps members false event h rule all = (rule refl, all)
 
 -- a task that is run may be started at a wait, and is none of the call's own
 await_runs : (m task code arg : ℕ) (own met : Bool) (h : List Event) → AwaitsTasks m met h (Run task code arg own) → (is_undeferred task h ≡ own) × (may_start m task h ≡ true) × HasJob (task_desc task h) code arg × (own ≡ true → ⊥)

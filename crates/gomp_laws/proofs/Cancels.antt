@@ -24,7 +24,7 @@ use Rattle.gomp_types.specs.Deals.{schedule}
 use Rattle.gomp_types.specs.Laws.{Always}
 use Rattle.gomp_types.specs.TaskCalls.{has_some}
 use Rattle.gomp_types.specs.Cancels.{same_cancel, same_scope, was_cancelled, is_cancelled, some_scope_cancelled, some_cancelled, groups_over, is_covered, first_of, share_scope, group_scope, scope_of, names_cancelled, may_be_cancelled, leaves_region}
-use Rattle.gomp_types.specs.CancelCalls.{cancel_tests, cancel_room, cancel_asks, OrWaitsCancelled, sees_cancelled, discards_to, discards, cancels_by, tells_cancelled as told_events}
+use Rattle.gomp_types.specs.CancelCalls.{unless_cancelled, cancel_tests, cancel_room, cancel_asks, OrWaitsCancelled, sees_cancelled, discards_to, discards, cancels_by, tells_cancelled as told_events}
 use Rattle.gomp_types.specs.Seen.{seen_of}
 use Rattle.gomp_types.proofs.Booleans.{and_left, and_right, or_tells, or_left, or_right, not_false, not_both, other_number, same_number}
 use Rattle.gomp_types.proofs.LeastTests.{AllFail}
@@ -59,6 +59,21 @@ none_leaves members m h all whole =
       | inl leaves ↦ absurd (not_both (is_cancelled h) (leaver_is_cancelled members m h all leaves) whole)
       | inr stays ↦ stays
     ]
+
+-- an event that cancels nothing leaves what is cancelled of some groups
+pub some_cancelled_same : (qs : List ℕ) (event : Event) (h : List Event) → ((scope : Scope) → was_cancelled scope (event ∷ h) ≡ was_cancelled scope h) → some_cancelled qs (event ∷ h) ≡ some_cancelled qs h
+some_cancelled_same [] event h same = refl
+some_cancelled_same (q ∷ qs) event h same = rw (same (OneGroup q), some_cancelled_same qs event h same) refl
+
+-- Events that a cancellation leaves out
+
+pub unless_own : (can : Gives) (c : Bool) (m : ℕ) (events : List Event) → AreOwn can m events → AreOwn can m (unless_cancelled c events)
+unless_own can true m events own = tt
+unless_own can false m events own = own
+
+pub unless_keeps : (members : ℕ) (c : Bool) (event : Event) (h : List Event) → (c ≡ false → TeamRule members event h) → Always (TeamRule members) h → Always (TeamRule members) (unless_cancelled c (event ∷ []) ++ h)
+unless_keeps members true event h rule all = all
+unless_keeps members false event h rule all = (rule refl, all)
 
 -- Calls that wait in their place
 
