@@ -193,10 +193,6 @@ unrefused_step_is_ready p step fine known =
 
 -- The rule
 
-once_again : (events : List Event) → unless_repeated events true ≡ []
-once_again [] = refl
-once_again (event ∷ events) = refl
-
 once_first : (events : List Event) → unless_repeated events false ≡ events
 once_first [] = refl
 once_first (event ∷ events) = refl

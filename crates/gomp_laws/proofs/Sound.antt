@@ -61,6 +61,11 @@ is_end _ = false
 abbrev pub Same : Reply → Reply → Type 0
 Same a b = (a ≡ b) ⊎ (both_run a b ≡ true)
 
+-- whether it is that the region is cancelled
+abbrev pub is_cut : Reply → Bool
+is_cut Cancelled = true
+is_cut _ = false
+
 -- whether it tells that something is cancelled
 abbrev pub tells_cancelled : Reply → Bool
 tells_cancelled Cancelled = true
@@ -202,7 +207,7 @@ acts_away row = not (is_some row.arrives) && (is_some row.creates || is_some row
 pub record Ready (row : Row) (repeated : Bool) (m : ℕ) (p : Past) : Type 0 where
   pub member : m < p.terms.members
   -- a member that leaves something makes no call but those that let it
-  pub leaving : AllFail (leaving_tests repeated row m p)
+  pub leaving : repeated ≡ false → AllFail (leaving_tests false row m p)
   -- a call that is repeated is tested by comparison alone, but what its place has shown holds on where it stays
   pub place : shows row.stays repeated ≡ true → row.gives_up m p.events ≡ false → AllFail (row.by_place p.terms.limits (seen_of m p.events))
   pub drained : repeated ≡ false → AllFail (drain_tests row.drains m p.events)
