@@ -29,6 +29,7 @@ use Rattle.gomp_model.specs.Starts.{end_room}
 use Rattle.gomp_model.specs.Arrivals.{compared_arrival, is_cut_short, ends_its_own}
 use Rattle.gomp_model.specs.Tasks.{is_dropped}
 use Rattle.gomp_model.specs.Calls.{row_of}
+use Rattle.gomp_model.specs.CancelRuns.{cancellable_team}
 use Rattle.gomp_model.specs.Examples.{past_with, dynamic_loop, waits_for, lock_answers, share_answers, task_answers, cancel_answers, all_refusals}
 use Rattle.gomp_shares.specs.Loops.{end_tests}
 use Rattle.gomp_shares.specs.Sections.{sections_end_tests}
@@ -402,6 +403,21 @@ pub fields_of_a_waiting_row :
     × (waits_uncancelled plain_done).may_reply 0 (past_with 1 region_unseen) Finished × ((waits_uncancelled plain_done).may_reply 0 (past_with 1 region_unseen) Cancelled → ⊥)
     × ((waits_uncancelled plain_wait).may_reply 0 (past_with 1 loop_unseen) Cancelled → ⊥)
 fields_of_a_waiting_row = (refl, refl, refl, refl, (λ is. absurd (cc)), refl, (λ is. is), refl, (λ is. absurd (cc)), (λ is. absurd (cc)))
+
+-- Answers to a construct
+
+-- the past of a team that allows cancellation
+abbrev allowing : List Event → Past
+allowing happened = record (past_with 2 happened) { terms = cancellable_team 2 }
+
+-- a true clause cancels, if the control variable allows that; a false one and a point tell what is cancelled
+pub answered_if_allowed :
+    (row_of (Cancel Parallel true)).may_reply 0 (allowing []) (Cancelling true) × ((row_of (Cancel Parallel true)).may_reply 0 (allowing []) (Cancelling false) → ⊥)
+    × (row_of (Cancel Parallel true)).may_reply 0 (past_with 2 []) (Cancelling false) × ((row_of (Cancel Parallel true)).may_reply 0 (past_with 2 []) (Cancelling true) → ⊥)
+    × (row_of (Cancel Parallel false)).may_reply 0 (allowing []) (Cancelling false) × (row_of (Point Parallel)).may_reply 0 (allowing []) (Cancelling false)
+    × (row_of (Cancel Parallel false)).may_reply 0 (allowing region_unseen) (Cancelling true) × (row_of (Point Parallel)).may_reply 0 (allowing region_unseen) (Cancelling true)
+    × ((row_of (Point Parallel)).may_reply 0 (past_with 2 region_unseen) (Cancelling true) → ⊥)
+answered_if_allowed = (refl, (λ is. absurd (cc)), refl, (λ is. absurd (cc)), refl, refl, refl, refl, (λ is. absurd (cc)))
 
 -- Events that a reply gives
 

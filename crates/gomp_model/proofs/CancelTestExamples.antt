@@ -24,13 +24,13 @@ use Rattle.gomp_types.specs.Tests.{Test}
 use Rattle.gomp_model.specs.Past.{Past}
 use Rattle.gomp_model.specs.Row.{row_tests}
 use Rattle.gomp_model.specs.Calls.{row_of}
-use Rattle.gomp_model.specs.Team.{refusal_of, past_of}
+use Rattle.gomp_model.specs.Team.{refusal_of, before_all, past_of}
 use Rattle.gomp_model.specs.Examples.{Run, run_recorded, past_with, asks, up_to, one_nowait}
 use Rattle.gomp_types.specs.declared.call.Call.TheVariants.{LoopStart}
 use Rattle.gomp_model.specs.HoldExamples.{name_a}
 use Rattle.gomp_model.specs.TaskRuns.{creates_task}
 use Rattle.gomp_model.specs.DependRuns.{creates_with, reads}
-use Rattle.gomp_model.specs.CancelRuns.{cancellable_team, cancels_parallel, region_cancelled, barrier_cut_short, loop_cancelled, stopped_leaving}
+use Rattle.gomp_model.specs.CancelRuns.{cancellable_team, cancellable_with, cancels_parallel, region_cancelled, barrier_cut_short, loop_cancelled, stopped_leaving}
 use Rattle.gomp_model.proofs.CancelRowExamples.{cancels_of, points, cancellable_four, region_unseen, leaves_the_region, leaves_from_a_loop, loop_unseen, leaves_the_loop, leaves_the_sections, task_unseen, leaves_the_task}
 
 -- The tests of each call
@@ -140,6 +140,20 @@ pub refused_ends :
     × (refusals_after (Arrive 0 1 (at RegionEndArrival 0) ∷ loop_unseen) (LoopEndCancel ∷ []) ≡ Some Mismatch ∷ [])
     × (refusals_after (Arrive 0 1 (at RegionEndArrival 0) ∷ loop_unseen ++ region_unseen) (LoopEndCancel ∷ []) ≡ None ∷ [])
 refused_ends = (refl, refl, refl, refl, refl, refl, refl, refl, refl, refl)
+
+-- a start that differs is refused so in a cancelled region too, made or repeated; an arrival is not
+pub refused_if_they_differ :
+    (refusals_after (Enter 0 1 (four false) ∷ region_unseen) (SingleStart ∷ one_nowait ∷ []) ≡ Some Mismatch ∷ Some Mismatch ∷ [])
+    × (map (λ call. least (row_tests true (row_of call) 0 (past_with 2 (Enter 0 1 (four false) ∷ region_unseen)))) (SingleStart ∷ one_nowait ∷ []) ≡ Some Mismatch ∷ Some Mismatch ∷ [])
+    × (refusals_after (Arrive 0 1 (at RegionEndArrival 1) ∷ region_unseen) (Barrier ∷ RegionEnd ∷ []) ≡ None ∷ None ∷ [])
+    × (refusals_after (Arrive 0 1 (at RegionEndArrival 1) ∷ []) (Barrier ∷ RegionEnd ∷ []) ≡ Some Mismatch ∷ Some Mismatch ∷ [])
+refused_if_they_differ = (refl, refl, refl, refl)
+
+-- a construct asks for its room also if the control variable allows no cancellation
+pub room_if_not_allowed :
+    (refusal_of (before_all (record (cancellable_with 1 3) { cancellation = false })) (asks 0 cancels_parallel) ≡ Some TraceFull)
+    × (refusal_of (before_all (record (cancellable_with 1 4) { cancellation = false })) (asks 0 cancels_parallel) ≡ None)
+room_if_not_allowed = (refl, refl)
 
 -- Members that leave
 
