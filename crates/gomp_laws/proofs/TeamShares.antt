@@ -3,7 +3,7 @@ use Rattle.std.proofs.Common.{◌≡◌, ℕ, ◌<◌, true, List, arith}
 use Rattle.std.specs.Prelude.{nat_lt, nat_le}
 use Rattle.std.proofs.lemmas.Bool.Decides.{nat_tests}
 use Rattle.gomp_types.specs.declared.event.Event.{Event}
-use Rattle.gomp_types.specs.declared.event.Event.TheVariants.{Enter, Take, Drained, End, HandOn, Part, PartEnd, Arrive, Pass, Create, Start, Done, Group, GroupEnd, Waited, Hold, Free}
+use Rattle.gomp_types.specs.declared.event.Event.TheVariants.{Enter, Take, Drained, End, HandOn, Part, PartEnd, Arrive, Pass, Create, Start, Done, Group, GroupEnd, Waited, Hold, Free, Cancel, Discard, See}
 use Rattle.gomp_types.specs.Tasks.{tasks_created}
 use Rattle.gomp_types.specs.Goals.{may_start}
 use Rattle.gomp_types.specs.Deals.{schedule}
@@ -27,6 +27,8 @@ share_rule members (End share m) earlier rule all = rule.done
 share_rule members (HandOn share m piece) earlier rule all = rule
 share_rule members (Part share m iteration) earlier rule all = rule
 share_rule members (PartEnd share m) earlier rule all = rule
+share_rule members (Cancel m scope) earlier rule all = rule.share
+share_rule members (See m kind) earlier rule all = rule.share
 share_rule members _ earlier rule all = tt
 
 pub share_rules : (members : ℕ) (h : List Event) → Always (TeamRule members) h → Always (ShareRule (schedule members) members) h
@@ -46,6 +48,7 @@ task_rule : (members : ℕ) (event : Event) (earlier : List Event) → TeamRule 
 task_rule members (Create t m parent desc) earlier rule all = rule
 task_rule members (Start t m) earlier rule all = rule
 task_rule members (Done t m) earlier rule all = rule.ends
+task_rule members (Discard t m) earlier rule all = rule
 task_rule members (Group q m) earlier rule all = rule
 task_rule members (GroupEnd q m) earlier rule all = rule
 task_rule members (Waited m items) earlier rule all = rule
