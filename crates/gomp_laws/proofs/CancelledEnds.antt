@@ -1,70 +1,26 @@
 -- How a member leaves a loop or a sections construct that was cancelled, or of which nothing is left for it.
-use Rattle.std.proofs.Common.{◌≡◌, ℕ, ◌<◌, Bool, true, false, List, [], ◌∷◌, ◌++◌, Option, Some, None, refl, ap, sym, ◌∙◌, subst, inl, inr}
-use Rattle.std.specs.Prelude.{◌⊎◌, ◌==◌, ◌&&◌, ◌||◌, not, if◌then◌else◌}
-use Rattle.std.proofs.lemmas.Bool.{cases_Bool}
+use Rattle.std.proofs.Common.{◌≡◌, ℕ, ◌<◌, Bool, true, false, List, [], ◌∷◌, ◌++◌, Option, Some, refl, ap, sym, subst, inl, inr}
+use Rattle.std.specs.Prelude.{◌&&◌, ◌||◌, not, if◌then◌else◌}
 use Rattle.gomp_types.specs.declared.cancel.CancelKind.{CancelKind}
 use Rattle.gomp_types.specs.declared.cancel.CancelKind.TheVariants.{Parallel, Loop, Sections}
-use Rattle.gomp_types.specs.declared.cancel.Scope.{Scope}
-use Rattle.gomp_types.specs.declared.cancel.Scope.TheVariants.{Region, OneShare, OneGroup}
-use Rattle.gomp_types.specs.declared.loop_desc.EndKind.TheVariants.{Cancellable}
 use Rattle.gomp_types.specs.declared.shape.Shape.{Shape}
 use Rattle.gomp_types.specs.declared.event.Event.{Event}
-use Rattle.gomp_types.specs.declared.event.Event.TheVariants.{Enter, End, Cancel, See}
-use Rattle.gomp_types.specs.Shapes.{is_loop, is_sections, is_copy, same_end}
-use Rattle.gomp_types.specs.Events.{shape_at, share_number, open_share, open_number, in_kind, in_part, has_drained, holds_piece}
-use Rattle.gomp_types.specs.Deals.{Queues, schedule}
+use Rattle.gomp_types.specs.declared.event.Event.TheVariants.{End, See}
+use Rattle.gomp_types.specs.Shapes.{is_sections, is_copy}
+use Rattle.gomp_types.specs.Events.{share_number, open_share, open_number, in_kind, in_part, has_drained, holds_piece}
+use Rattle.gomp_types.specs.Deals.{schedule}
 use Rattle.gomp_types.specs.Laws.{Always}
-use Rattle.gomp_types.specs.Cancels.{same_cancel, same_scope, was_cancelled, share_cancelled, own_cancelled, names_cancelled, leaves_share}
-use Rattle.gomp_types.proofs.Booleans.{which_branch, is_equal, or_tells, or_left, not_false, not_both, same_number, share_is}
+use Rattle.gomp_types.specs.Cancels.{same_cancel, share_cancelled, own_cancelled, names_cancelled, leaves_share}
+use Rattle.gomp_types.proofs.Booleans.{or_left, not_both, same_number}
 use Rattle.gomp_shares.specs.Calls.{in_construct, kind_in}
 use Rattle.gomp_shares.specs.Rules.{ShareRule, MayLeave}
 use Rattle.gomp_shares.specs.Starts.{is_drained, sees_at_end, leaves}
-use Rattle.gomp_shares.proofs.SharesKeep.{shape_stays, member_is_inside, drained_none}
+use Rattle.gomp_shares.proofs.SharesKeep.{member_is_inside, drained_none}
 use Rattle.gomp_shares.proofs.CancelledShares.{see_rule}
 use Rattle.gomp_laws.specs.Rules.{TeamRule, MayLeaveIn, MaySeeIn}
-use Rattle.gomp_laws.proofs.HandedOn.{told_holds_none}
+use Rattle.gomp_laws.proofs.HandedOn.{told_holds_none, ordered_not_cancelled}
 use Rattle.gomp_laws.proofs.TeamShares.{share_rules}
 use Rattle.gomp_laws.proofs.Sound.{Gives, AreOwn}
-
--- A share that was cancelled is not ordered
-
--- nor is any that may be
-cancellable_unordered : (queues : Queues) (members i : ℕ) (shape : Shape) (h : List Event) → Always (ShareRule queues members) h → shape_at i h ≡ Some shape → same_end shape.end_kind Cancellable ≡ true → shape.ordered ≡ false
-cancellable_unordered queues members i shape [] all at may = absurd (cc)
-cancellable_unordered queues members i shape (Enter share member other ∷ earlier) all at may =
-    elim (which_branch (share == i) (Some other) (shape_at i earlier) (Some shape) at) [
-      | inl e ↦ let same : other ≡ shape = let t = e.1 in cc in let unordered = all.0.unordered in (rw same at unordered) may
-      | inr e ↦ cancellable_unordered queues members i shape earlier all.1 e.1 may
-    ]
-cancellable_unordered queues members i shape (_ ∷ earlier) all at may = cancellable_unordered queues members i shape earlier all.1 at may
-
--- what was cancelled was entered, in a shape that allows that
-abbrev WasCancellable : ℕ → List Event → Type 0
-WasCancellable i h = (shape : Shape) × (shape_at i h ≡ Some shape) × (shape.end_kind ≡ Cancellable)
-
-still_cancellable : (queues : Queues) (members i : ℕ) (event : Event) (h : List Event) → ShareRule queues members event h → WasCancellable i h → WasCancellable i (event ∷ h)
-still_cancellable queues members i event h rule was = (was.0, shape_stays queues members i was.0 event h rule was.1, was.2)
-
-share_was_cancellable : (queues : Queues) (members i : ℕ) (h : List Event) → Always (ShareRule queues members) h → share_cancelled i h ≡ true → WasCancellable i h
-share_was_cancellable queues members i [] all e = absurd (cc)
-share_was_cancellable queues members i (Cancel n (OneShare j) ∷ earlier) all e =
-    elim (or_tells (j == i) (share_cancelled i earlier) e) [
-      | inl same ↦
-          let rule = all.0 in
-          let at = (member_is_inside queues members n j rule.shape earlier all.1 rule.inside).0 in
-          (rule.shape, subst (λ (k : ℕ). shape_at k earlier ≡ Some rule.shape) (is_equal j i same) at, rule.cancellable)
-      | inr below ↦ share_was_cancellable queues members i earlier all.1 below
-    ]
-share_was_cancellable queues members i (Cancel n Region ∷ earlier) all e = share_was_cancellable queues members i earlier all.1 e
-share_was_cancellable queues members i (Cancel n (OneGroup q) ∷ earlier) all e = share_was_cancellable queues members i earlier all.1 e
-share_was_cancellable queues members i (event ∷ earlier) all e = still_cancellable queues members i event earlier all.0 (share_was_cancellable queues members i earlier all.1 e)
-
-pub cancelled_unordered : (queues : Queues) (members i : ℕ) (shape : Shape) (h : List Event) → Always (ShareRule queues members) h → shape_at i h ≡ Some shape → share_cancelled i h ≡ true → shape.ordered ≡ false
-cancelled_unordered queues members i shape h all at e =
-    let was = share_was_cancellable queues members i h all e in
-    let same : was.0 ≡ shape = (let both : Some was.0 ≡ Some shape = sym was.1 ∙ at in cc) in
-    let kind : shape.end_kind ≡ Cancellable = subst (λ (s : Shape). s.end_kind ≡ Cancellable) same was.2 in
-    cancellable_unordered queues members i shape h all at (rw kind refl)
 
 -- What a member sees at the end
 
@@ -126,10 +82,10 @@ leaves_cancelled : (members m : ℕ) (h : List Event) → (is : MayEndShare m h)
 leaves_cancelled members m h is cancelled leaving all =
     let rules = share_rules members h all in
     let own : share_cancelled is.share.0 h ≡ true = rw is.inside at cancelled in
-    let unordered = cancelled_unordered (schedule members) members is.share.0 is.share.1 h rules (member_is_inside (schedule members) members m is.share.0 is.share.1 h rules is.inside).0 own in record {
+    let at = (member_is_inside (schedule members) members m is.share.0 is.share.1 h rules is.inside).0 in record {
       done = record { shape = is.share.1; inside = is.inside; done = inr leaving; apart = is.apart };
       words = λ copies. absurd (not_both (is_copy is.share.1.kind) copies is.wordless);
-      handed_on = λ ordered. absurd (not_both is.share.1.ordered ordered unordered);
+      handed_on = λ ordered. absurd (not_both (share_cancelled is.share.0 h) own (ordered_not_cancelled (schedule members) members is.share.0 is.share.1 h rules at ordered));
     }
 
 -- it sees that first, if it has not
