@@ -16,7 +16,7 @@ differ true true = false
 differ false false = false
 differ _ _ = true
 
--- whether the member has passed the front
+-- whether the member has passed the front; a pass of a cancelled region's end does not count here
 abbrev pub is_ahead : Front → Seat → Bool
 is_ahead front member = differ member.odd front.odd
 

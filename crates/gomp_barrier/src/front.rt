@@ -1,7 +1,8 @@
 //! The seats of a team's members at its barriers, and the barrier that the slowest come to next.
 //!
 //! No member is two barriers ahead of another, so it is enough to know of each whether it is ahead
-//! of the slowest, which the parities tell.
+//! of the slowest, which the parities tell. One that has passed the end of a cancelled region is a
+//! barrier further than that; its seat tells so too.
 
 ghost use Rattle.std.specs.Prelude.{◌≡◌, ◌↔◌, IsTrue, All};
 ghost use Rattle.gomp_types.specs.Events.{was_region_end};
@@ -35,7 +36,7 @@ pub struct Front {
     pub next: Option<Tag>,
 }
 
-/// Whether the member has passed the front.
+/// Whether the member has passed the front. A pass of a cancelled region's end does not count here.
 pub fn is_ahead(front: &Front, member: &Seat) -> bool
     ensures { result ≡ is_ahead front.now member.now }
 {
