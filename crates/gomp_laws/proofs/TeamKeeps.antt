@@ -6,7 +6,6 @@ use Rattle.gomp_types.specs.declared.shape.Shape.{Shape}
 use Rattle.gomp_types.specs.declared.event.Tag.{Tag}
 use Rattle.gomp_types.specs.declared.event.Event.{Event}
 use Rattle.gomp_types.specs.declared.event.Event.TheVariants.{Enter, End, Arrive, Pass, Cancel, See}
-use Rattle.gomp_types.specs.declared.event.Arrival.TheVariants.{RegionEnd}
 use Rattle.gomp_types.specs.declared.cancel.CancelKind.TheVariants.{Parallel}
 use Rattle.gomp_types.specs.declared.cancel.Scope.TheVariants.{Region}
 use Rattle.gomp_types.specs.Cancels.{same_scope, is_cancelled, leaves_region}
@@ -200,6 +199,11 @@ arrives_at_end members barrier m tag h all rule before =
       | inr stays ↦ absurd (some_arrival (arrival (barriers_passed m h) m h) before (rw rule.arrives.number at rule.once stays))
     ]
 
+-- another's pass is none of the member's
+count_of_another : (barrier member m : ℕ) (h : List Event) → (member == m) ≡ false → barriers_passed m (Pass barrier member ∷ h) ≡ barriers_passed m h
+count_of_another barrier member m h other = rw other refl
+
+-- so who has arrived at the region's end, and has not left the region, waits there
 ender_waits : (members m : ℕ) (h : List Event) → Always (TeamRule members) h → has_left_region m h ≡ false → at_region_end m h ≡ true → WaitsAtEnd m h
 ender_waits members m [] all inside ends = absurd (cc)
 ender_waits members m (Arrive barrier member tag ∷ earlier) all inside ends =
@@ -224,8 +228,7 @@ ender_waits members m (Pass barrier member ∷ earlier) all inside ends =
           absurd (let left = rw (who, number, before) at inside in cc)
       | inr other ↦
           let before = ender_waits members m earlier all.1 (or_second (member == m && was_region_end (arrival barrier m earlier)) (has_left_region m earlier) inside) ends in
-          let count : barriers_passed m (Pass barrier member ∷ earlier) ≡ barriers_passed m earlier = rw other refl in
-          (rw other before.0, subst (λ (n : ℕ). was_region_end (arrival n m earlier) ≡ true) (sym count) before.1)
+          (rw other before.0, subst (λ (n : ℕ). was_region_end (arrival n m earlier) ≡ true) (sym (count_of_another barrier member m earlier other)) before.1)
     ]
 ender_waits members m (_ ∷ earlier) all inside ends = ender_waits members m earlier all.1 inside ends
 
