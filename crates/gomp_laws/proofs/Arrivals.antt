@@ -1,7 +1,6 @@
 -- The rows of arrivals and of the ends of shares.
-use Rattle.std.proofs.Common.{◌≡◌, ℕ, ◌<◌, Bool, true, false, List, [], ◌∷◌, ◌++◌, Option, None, refl, ap, sym, ◌∙◌, subst, inl, inr}
+use Rattle.std.proofs.Common.{◌≡◌, ℕ, ◌<◌, Bool, true, false, List, [], ◌∷◌, ◌++◌, None, refl, ap, sym, ◌∙◌, subst, inl, inr}
 use Rattle.std.specs.Prelude.{◌⊎◌, ◌&&◌, not}
-use Rattle.std.proofs.lemmas.Bool.{cases_Bool}
 use Rattle.gomp_types.specs.declared.reply.Reply.{Reply}
 use Rattle.gomp_types.specs.declared.reply.Reply.TheVariants.{Passed, Cancelled, Refused, Run, Chunk}
 use Rattle.gomp_types.specs.declared.seen.Seen.{Seen}
@@ -9,12 +8,12 @@ use Rattle.gomp_types.specs.declared.event.Arrival.{Arrival}
 use Rattle.gomp_types.specs.declared.event.Arrival.TheVariants.{Barrier as BarrierArrival, RegionEnd as RegionEndArrival}
 use Rattle.gomp_types.specs.declared.event.Tag.{Tag}
 use Rattle.gomp_types.specs.declared.event.Event.{Event}
-use Rattle.gomp_types.specs.declared.event.Event.TheVariants.{Arrive, End}
+use Rattle.gomp_types.specs.declared.event.Event.TheVariants.{Arrive}
 use Rattle.gomp_types.specs.Tests.{Test}
 use Rattle.gomp_types.specs.Compare.{tag_differs, tag_with}
-use Rattle.gomp_types.specs.Events.{shares_entered, open_share, open_number, barriers_passed, tag_at, at_barrier, arrival as arrival_of}
+use Rattle.gomp_types.specs.Events.{shares_entered, open_share, barriers_passed, tag_at, at_barrier, arrival as arrival_of}
 use Rattle.gomp_types.specs.Tasks.{in_task, task_desc, is_undeferred}
-use Rattle.gomp_types.specs.TaskCalls.{outside_tasks_tests, unless_given_up, group_open_tests, end_region_tests, arrival_room, HasJob, AwaitsTasks}
+use Rattle.gomp_types.specs.TaskCalls.{end_region_tests, HasJob, AwaitsTasks}
 use Rattle.gomp_types.specs.Goals.{may_start, may_pass}
 use Rattle.gomp_types.specs.Laws.{Always}
 use Rattle.gomp_types.specs.Cancels.{is_cancelled, leaves_region}
@@ -24,18 +23,18 @@ use Rattle.gomp_types.specs.Seen.{seen_of}
 use Rattle.gomp_types.proofs.Booleans.{none_of, same_number, not_both}
 use Rattle.gomp_types.proofs.Compared.{same_tags}
 use Rattle.gomp_types.proofs.LeastTests.{AllFail}
-use Rattle.gomp_shares.specs.Starts.{sees_at_end, leaves}
+use Rattle.gomp_shares.specs.Starts.{leaves}
 use Rattle.gomp_locks.specs.NameRules.{ArrivesFree}
 use Rattle.gomp_locks.specs.Holders.{asker, holds_critical}
 use Rattle.gomp_model.specs.Past.{Past}
-use Rattle.gomp_model.specs.Row.{Row, at_once, begun_past, unless_repeated, goes_on}
-use Rattle.gomp_model.specs.Arrivals.{compared_arrival, passes, arrival_row, is_cut_short, ending, outside_tests, barrier_row, region_end_row}
+use Rattle.gomp_model.specs.Row.{at_once, begun_past, unless_repeated, goes_on}
+use Rattle.gomp_model.specs.Arrivals.{compared_arrival, passes, arrival_row, is_cut_short, ending, barrier_row, region_end_row}
 use Rattle.gomp_laws.proofs.AtOnce.{at_once_sound}
 use Rattle.gomp_laws.proofs.Awaits.{startable_may_start, startable_not_undeferred, one_await, some_await, await_tells, started_own, started_keeps, begun_holds, begun_rules}
 use Rattle.gomp_laws.proofs.Cancels.{none_leaves, unless_own, unless_keeps, sees_given, sees_keep}
 use Rattle.gomp_laws.proofs.CancelledEnds.{sees_same, leaves_own, MayEndShare, leaves_keep}
 use Rattle.gomp_laws.proofs.TeamShares.{task_rules}
-use Rattle.gomp_laws.proofs.Sound.{is_cut, Same, AreOwn, AreGiven, memoryless, clean_append, own_append, Ready, IsSound, Gives, quiet, only_arrives, outside_of_tasks, outside_lasts}
+use Rattle.gomp_laws.proofs.Sound.{is_cut, Same, AreGiven, memoryless, own_append, Ready, IsSound, quiet, only_arrives, outside_of_tasks, outside_lasts}
 
 pass_own : (m : ℕ) (h : List Event) (reply : Reply) → AreGiven only_arrives m reply (passes m h reply)
 pass_own m h Passed = ((refl, refl, refl), tt)

@@ -1,6 +1,6 @@
 -- The replies in a team of which something is cancelled, of every record whose replies have their causes.
-use Rattle.std.proofs.Common.{◌≡◌, ℕ, Bool, true, false, List, [], ◌∷◌, ◌++◌, refl, sym, ◌∙◌, subst, inl, inr}
-use Rattle.std.specs.Prelude.{◌⊎◌, ◌||◌, is_some}
+use Rattle.std.proofs.Common.{◌≡◌, ℕ, Bool, true, false, List, [], ◌∷◌, ◌++◌, sym, subst, inl, inr}
+use Rattle.std.specs.Prelude.{is_some}
 use Rattle.std.proofs.lemmas.Bool.{cases_Bool}
 use Rattle.gomp_types.specs.declared.call.Step.{Step}
 use Rattle.gomp_types.specs.declared.cancel.Scope.{Scope}
@@ -14,9 +14,9 @@ use Rattle.gomp_types.specs.Cancels.{is_cancelled}
 use Rattle.gomp_types.specs.Laws.{Happened}
 use Rattle.gomp_types.proofs.Booleans.{not_both}
 use Rattle.gomp_model.specs.Past.{Terms, Past}
-use Rattle.gomp_model.specs.Row.{Row, begun_past, events_after}
-use Rattle.gomp_model.specs.Team.{Record, call_meant, is_resume, row_at, MayAnswer, past_after, past_of, before_all, events, Caused}
-use Rattle.gomp_laws.specs.Replies.{TellsCancelledRegion, DropsCovered, NothingCancelled, CancelReplies}
+use Rattle.gomp_model.specs.Row.{Row, begun_past}
+use Rattle.gomp_model.specs.Team.{Record, call_meant, is_resume, row_at, MayAnswer, past_after, past_of, events, Caused}
+use Rattle.gomp_laws.specs.Replies.{TellsCancelledRegion, DropsCovered, CancelReplies}
 use Rattle.gomp_laws.proofs.Sound.{IsSound, Gives, gives_of}
 use Rattle.gomp_laws.proofs.Awaits.{begun_holds}
 use Rattle.gomp_laws.proofs.CallsKeep.{OwnKeeps, LastKeeps, since_keeps, step_keeps}

@@ -1,6 +1,6 @@
 -- What the laws of the replies in a cancelled region refuse, computed, and runs that keep them. OpenMP API 5.2, sections 2.1, 16.1 and 16.2.
-use Rattle.std.proofs.Common.{ℕ, true, false, [], ◌∷◌, refl, inl, inr}
-use Rattle.gomp_types.specs.declared.call.Call.TheVariants.{TaskCreate, Barrier, Cancel as CancelCall, Point}
+use Rattle.std.proofs.Common.{true, [], ◌∷◌, refl, inl, inr}
+use Rattle.gomp_types.specs.declared.call.Call.TheVariants.{TaskCreate, Barrier, Cancel as CancelCall}
 use Rattle.gomp_types.specs.declared.cancel.CancelKind.TheVariants.{Parallel}
 use Rattle.gomp_types.specs.declared.cancel.Scope.TheVariants.{Region, OneShare, OneGroup}
 use Rattle.gomp_types.specs.declared.event.Event.TheVariants.{Group, GroupEnd, Cancel}

@@ -1,19 +1,18 @@
 -- How a member leaves a loop or a sections construct that was cancelled, or of which nothing is left for it.
 use Rattle.std.proofs.Common.{◌≡◌, ℕ, ◌<◌, Bool, true, false, List, [], ◌∷◌, ◌++◌, Option, Some, refl, ap, sym, subst, inl, inr}
 use Rattle.std.specs.Prelude.{◌&&◌, ◌||◌, not, if◌then◌else◌}
-use Rattle.gomp_types.specs.declared.cancel.CancelKind.{CancelKind}
 use Rattle.gomp_types.specs.declared.cancel.CancelKind.TheVariants.{Parallel, Loop, Sections}
 use Rattle.gomp_types.specs.declared.shape.Shape.{Shape}
 use Rattle.gomp_types.specs.declared.event.Event.{Event}
 use Rattle.gomp_types.specs.declared.event.Event.TheVariants.{End, See}
 use Rattle.gomp_types.specs.Shapes.{is_sections, is_copy}
-use Rattle.gomp_types.specs.Events.{share_number, open_share, open_number, in_kind, in_part, has_drained, holds_piece}
+use Rattle.gomp_types.specs.Events.{share_number, open_share, in_kind, in_part, has_drained}
 use Rattle.gomp_types.specs.Deals.{schedule}
 use Rattle.gomp_types.specs.Laws.{Always}
 use Rattle.gomp_types.specs.Cancels.{same_cancel, share_cancelled, own_cancelled, names_cancelled, leaves_share}
 use Rattle.gomp_types.proofs.Booleans.{or_left, not_both, same_number}
 use Rattle.gomp_shares.specs.Calls.{in_construct, kind_in}
-use Rattle.gomp_shares.specs.Rules.{ShareRule, MayLeave}
+use Rattle.gomp_shares.specs.Rules.{ShareRule}
 use Rattle.gomp_shares.specs.Starts.{is_drained, sees_at_end, leaves}
 use Rattle.gomp_shares.proofs.SharesKeep.{member_is_inside, drained_none}
 use Rattle.gomp_shares.proofs.CancelledShares.{see_rule}
