@@ -44,15 +44,15 @@ drops_in_a_group = refl
 -- A team that allows no cancellation
 
 -- a cancel construct that cancels
-abbrev cancels_the_region : Run
-cancels_the_region = (asks 0 (CancelCall Parallel true), Cancelling true) ∷ []
+abbrev cancel_of_the_region : Run
+cancel_of_the_region = (asks 0 (CancelCall Parallel true), Cancelling true) ∷ []
 
 -- does so in a team that allows none
-pub cancels_though_disallowed : NothingCancelled (team_of 2) (run_recorded cancels_the_region []) → ⊥
+pub cancels_though_disallowed : NothingCancelled (team_of 2) (run_recorded cancel_of_the_region []) → ⊥
 cancels_though_disallowed law = law refl 0 Region (inr (inl refl))
 
 -- in one that allows it the law says nothing
-pub cancels_as_allowed : NothingCancelled (cancellable_team 2) (run_recorded cancels_the_region [])
+pub cancels_as_allowed : NothingCancelled (cancellable_team 2) (run_recorded cancel_of_the_region [])
 cancels_as_allowed off = absurd (cc)
 
 -- Every reply of a record

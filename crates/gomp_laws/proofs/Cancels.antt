@@ -97,27 +97,27 @@ some_uncancelled true May reply never may = (reply, may)
 some_uncancelled false May reply never may = (reply, may)
 
 -- a wait is the one answer
-wait_alone : (b : Reply) → Same Wait b → is_wait b ≡ false → ⊥
-wait_alone b (inl e) other = not_both (is_wait b) (ap is_wait (sym e)) other
-wait_alone b (inr run) other = absurd (cc)
+one_wait_alone : (b : Reply) → Same Wait b → is_wait b ≡ false → ⊥
+one_wait_alone b (inl e) other = not_both (is_wait b) (ap is_wait (sym e)) other
+one_wait_alone b (inr run) other = absurd (cc)
 
 never_runs : (a : Reply) → both_run a Wait ≡ false
 never_runs (Run task code arg own) = refl
 never_runs _ = refl
 
-wait_alone_too : (a : Reply) → Same a Wait → is_wait a ≡ false → ⊥
-wait_alone_too a (inl e) other = not_both (is_wait a) (ap is_wait e) other
-wait_alone_too a (inr run) other = not_both (both_run a Wait) run (never_runs a)
+other_wait_alone : (a : Reply) → Same a Wait → is_wait a ≡ false → ⊥
+other_wait_alone a (inl e) other = not_both (is_wait a) (ap is_wait e) other
+other_wait_alone a (inr run) other = not_both (both_run a Wait) run (never_runs a)
 
 one_uncancelled : (c : Bool) (May : Reply → Type 0) → ((a b : Reply) → May a → May b → Same a b) → (a b : Reply) → OrWaitsCancelled c May a → OrWaitsCancelled c May b → Same a b
 one_uncancelled c May one a b x y =
     elim (uncancelled_answer c May a x) [
       | inl p ↦ elim (uncancelled_answer c May b y) [
         | inl q ↦ inl (p.0 ∙ sym q.0)
-        | inr q ↦ absurd (wait_alone b (one Wait b p.2 q.1) (q.0 p.1))
+        | inr q ↦ absurd (one_wait_alone b (one Wait b p.2 q.1) (q.0 p.1))
       ]
       | inr p ↦ elim (uncancelled_answer c May b y) [
-        | inl q ↦ absurd (wait_alone_too a (one a Wait p.1 q.2) (p.0 q.1))
+        | inl q ↦ absurd (other_wait_alone a (one a Wait p.1 q.2) (p.0 q.1))
         | inr q ↦ one a b p.1 q.1
       ]
     ]
@@ -376,8 +376,8 @@ sees_rule members m Sections h lt named = record { sees = record { member = lt; 
 sees_rule members m Taskgroup h lt named = record { sees = record { member = lt; cancelled = named }; share = tt }
 
 -- events in two parts
-regrouped : (members : ℕ) (last : Event) (events : List Event) (first : Event) (h : List Event) → Always (TeamRule members) (last ∷ (events ++ (first ∷ h))) → Always (TeamRule members) (last ∷ ((events ++ (first ∷ [])) ++ h))
-regrouped members last events first h all = rw append_assoc all
+regroup_last : (members : ℕ) (last : Event) (events : List Event) (first : Event) (h : List Event) → Always (TeamRule members) (last ∷ (events ++ (first ∷ h))) → Always (TeamRule members) (last ∷ ((events ++ (first ∷ [])) ++ h))
+regroup_last members last events first h all = rw append_assoc all
 
 told_is : (told : Bool) → Cancelling true ≡ Cancelling told → told ≡ true
 told_is true e = refl
@@ -389,7 +389,7 @@ named_keeps members m kind true allowed h (Cancelling true) lt named may all =
     let rules = cancelled_rule members m kind h lt named all in
     let sees = sees_rule members m kind (discards m named.scope h ++ (Cancel m named.scope ∷ h)) lt (cancelled_named members m kind h named) in
     subst (λ (scope : Option Scope). Always (TeamRule members) (See m kind ∷ (cancels m scope h ++ h))) (sym named.is)
-    (regrouped members (See m kind) (discards m named.scope h) (Cancel m named.scope) h (sees, rules))
+    (regroup_last members (See m kind) (discards m named.scope h) (Cancel m named.scope) h (sees, rules))
 named_keeps members m kind false allowed h (Cancelling true) lt named may all =
     let told : (allowed && names_cancelled kind m h) ≡ true = told_is (allowed && names_cancelled kind m h) may in
     (sees_rule members m kind h lt (and_right allowed (names_cancelled kind m h) told), all)
@@ -400,9 +400,9 @@ told_only : (kind : CancelKind) (clause allowed told : Bool) (m : ℕ) (h : List
 told_only kind clause allowed told m h reply may off = rw (may, off) refl
 
 -- such a call is not repeated
-asked_once : (kind : CancelKind) (clause : Bool) (room : ℕ) (memory : Bool) (may : Option CancelKind) (repeated : Bool) (m : ℕ) (p : Past) → Ready (named_row kind clause room memory may) repeated m p → repeated ≡ false
-asked_once kind clause room memory may false m p ready = refl
-asked_once kind clause room memory may true m p ready = let on = (ready.lasting refl).2 in absurd (let off : goes_on on.1 ≡ false = ap goes_on on.3 in not_both (goes_on on.1) on.2 off)
+named_asked_once : (kind : CancelKind) (clause : Bool) (room : ℕ) (memory : Bool) (may : Option CancelKind) (repeated : Bool) (m : ℕ) (p : Past) → Ready (named_row kind clause room memory may) repeated m p → repeated ≡ false
+named_asked_once kind clause room memory may false m p ready = refl
+named_asked_once kind clause room memory may true m p ready = let on = (ready.lasting refl).2 in absurd (let off : goes_on on.1 ≡ false = ap goes_on on.3 in not_both (goes_on on.1) on.2 off)
 
 shown_once : (repeated : Bool) → repeated ≡ false → shows false repeated ≡ true
 shown_once true first = absurd (cc)
@@ -430,7 +430,7 @@ named_sound kind clause room memory may allowed = record {
   gives_own = λ m p reply. named_own may kind clause m p.events reply allowed;
   begins_keep = λ m p ready all. all;
   gives_keep = λ repeated m p reply ready x all.
-      let first = asked_once kind clause room memory may repeated m p ready in
+      let first = named_asked_once kind clause room memory may repeated m p ready in
       named_keeps p.terms.members m kind clause p.terms.cancellation p.events reply ready.member (construct_names p.terms.members m kind p.events (ready.place (shown_once repeated first) refl) (ready.task first)) x all;
   still = λ stays m p. absurd (cc);
   placed = λ stays m h. refl;
