@@ -281,7 +281,7 @@ cancelled_is_cancellable queues members i n (event ∷ earlier) all (inr stands)
     (before.0, shape_stays queues members i before.0 event earlier all.0 before.1, before.2)
 
 -- so no ordered loop was
-ordered_not_cancelled : (queues : Queues) (members i : ℕ) (shape : Shape) (h : List Event) → Always (ShareRule queues members) h → shape_at i h ≡ Some shape → shape.ordered ≡ true → share_cancelled i h ≡ false
+pub ordered_not_cancelled : (queues : Queues) (members i : ℕ) (shape : Shape) (h : List Event) → Always (ShareRule queues members) h → shape_at i h ≡ Some shape → shape.ordered ≡ true → share_cancelled i h ≡ false
 ordered_not_cancelled queues members i shape h all at ordered =
     elim (cases_Bool (share_cancelled i h)) [
       | inl is ↦

@@ -3,6 +3,10 @@ pub mod AtOnce
 pub mod Awaits
 pub mod Calls
 pub mod CallsKeep
+pub mod CancelReplies
+pub mod CancelReplyExamples
+pub mod CancelledEnds
+pub mod Cancels
 pub mod ChunksCount
 pub mod ClauseExamples
 pub mod CopiesKeep
@@ -38,5 +42,6 @@ pub mod TaskReplyExamples
 pub mod Tasks
 pub mod TeamKeeps
 pub mod TeamShares
+pub mod Unbroken
 pub mod Waiting
 pub mod WordsToCome
