@@ -31,9 +31,9 @@ use Rattle.gomp_model.specs.Row.{at_once, begun_past, unless_repeated, goes_on}
 use Rattle.gomp_model.specs.Arrivals.{compared_arrival, passes, arrival_row, is_cut_short, ending, barrier_row, region_end_row}
 use Rattle.gomp_laws.proofs.AtOnce.{at_once_sound}
 use Rattle.gomp_laws.proofs.Awaits.{startable_may_start, startable_not_undeferred, one_await, some_await, await_tells, started_own, started_keeps, begun_holds, begun_rules}
-use Rattle.gomp_laws.proofs.Cancels.{none_leaves, unless_own, unless_keeps, sees_given, sees_keep}
+use Rattle.gomp_laws.proofs.Cancels.{unless_own, unless_keeps, sees_given, sees_keep}
 use Rattle.gomp_laws.proofs.CancelledEnds.{sees_same, leaves_own, MayEndShare, leaves_keep}
-use Rattle.gomp_laws.proofs.TeamShares.{task_rules}
+use Rattle.gomp_laws.proofs.TeamShares.{task_rules, none_leaves}
 use Rattle.gomp_laws.proofs.Sound.{is_cut, Same, AreGiven, memoryless, own_append, Ready, IsSound, quiet, only_arrives, outside_of_tasks, outside_lasts}
 
 pass_own : (m : ℕ) (h : List Event) (reply : Reply) → AreGiven only_arrives m reply (passes m h reply)

@@ -1,7 +1,6 @@
 -- The rows of the cancel and cancellation point constructs, and of calls that wait in their place unless the region is cancelled.
 use Rattle.std.proofs.Common.{◌≡◌, ℕ, zero, suc, ◌<◌, Bool, true, false, List, [], ◌∷◌, ◌++◌, Option, Some, None, append_assoc, refl, ap, sym, ◌∙◌, subst, arith, inl, inr}
 use Rattle.std.specs.Prelude.{◌⊎◌, ◌==◌, ◌&&◌, ◌||◌, is_some, if◌then◌else◌}
-use Rattle.std.proofs.lemmas.Bool.{cases_Bool}
 use Rattle.gomp_types.specs.declared.cancel.CancelKind.{CancelKind}
 use Rattle.gomp_types.specs.declared.cancel.CancelKind.TheVariants.{Parallel, Loop, Sections, Taskgroup}
 use Rattle.gomp_types.specs.declared.cancel.Scope.{Scope}
@@ -23,10 +22,10 @@ use Rattle.gomp_types.specs.Goals.{is_unstarted}
 use Rattle.gomp_types.specs.Deals.{schedule}
 use Rattle.gomp_types.specs.Laws.{Always}
 use Rattle.gomp_types.specs.TaskCalls.{has_some}
-use Rattle.gomp_types.specs.Cancels.{same_scope, was_cancelled, is_cancelled, some_scope_cancelled, some_cancelled, groups_over, is_covered, first_of, share_scope, group_scope, scope_of, names_cancelled, may_be_cancelled, leaves_region}
+use Rattle.gomp_types.specs.Cancels.{same_scope, was_cancelled, is_cancelled, some_scope_cancelled, some_cancelled, groups_over, is_covered, first_of, share_scope, group_scope, scope_of, names_cancelled, may_be_cancelled}
 use Rattle.gomp_types.specs.CancelCalls.{unless_cancelled, cancel_tests, cancel_room, cancel_asks, OrWaitsCancelled, sees_cancelled, discards_to, discards, cancels, tells_cancelled as told_events}
 use Rattle.gomp_types.specs.Seen.{seen_of}
-use Rattle.gomp_types.proofs.Booleans.{and_right, or_tells, or_left, or_right, not_false, not_both, other_number, same_number}
+use Rattle.gomp_types.proofs.Booleans.{and_right, or_left, or_right, not_false, not_both, other_number, same_number}
 use Rattle.gomp_types.proofs.LeastTests.{AllFail}
 use Rattle.gomp_shares.specs.Rules.{ShareRule}
 use Rattle.gomp_shares.specs.Cancels.{cancel_place_tests}
@@ -38,27 +37,7 @@ use Rattle.gomp_model.specs.Team.{both_run}
 use Rattle.gomp_laws.specs.Rules.{TeamRule}
 use Rattle.gomp_laws.proofs.Sound.{is_wait, is_cut, Same, Gives, AreOwn, AreGiven, own_append, memoryless, shows, Ready, IsSound}
 
--- Members that leave the region
-
--- a member that leaves it has seen that it is cancelled, so it is
-pub leaver_is_cancelled : (members m : ℕ) (h : List Event) → Always (TeamRule members) h → leaves_region m h ≡ true → is_cancelled h ≡ true
-leaver_is_cancelled members m [] all e = absurd (cc)
-leaver_is_cancelled members m (See n Parallel ∷ earlier) all e = all.0.sees.cancelled
-leaver_is_cancelled members m (See n kind ∷ earlier) all e =
-    elim (or_tells (n == m && false) (leaves_region m earlier) e) [
-      | inl top ↦ absurd (let no = and_right (n == m) false top in cc)
-      | inr below ↦ leaver_is_cancelled members m earlier all.1 below
-    ]
-leaver_is_cancelled members m (Cancel n scope ∷ earlier) all e = or_right (same_scope scope Region) (is_cancelled earlier) (leaver_is_cancelled members m earlier all.1 e)
-leaver_is_cancelled members m (_ ∷ earlier) all e = leaver_is_cancelled members m earlier all.1 e
-
--- so nobody leaves one that is not
-pub none_leaves : (members m : ℕ) (h : List Event) → Always (TeamRule members) h → is_cancelled h ≡ false → leaves_region m h ≡ false
-none_leaves members m h all whole =
-    elim (cases_Bool (leaves_region m h)) [
-      | inl leaves ↦ absurd (not_both (is_cancelled h) (leaver_is_cancelled members m h all leaves) whole)
-      | inr stays ↦ stays
-    ]
+-- Groups that are cancelled
 
 -- an event that cancels nothing leaves what is cancelled of some groups
 pub some_cancelled_same : (qs : List ℕ) (event : Event) (h : List Event) → ((scope : Scope) → was_cancelled scope (event ∷ h) ≡ was_cancelled scope h) → some_cancelled qs (event ∷ h) ≡ some_cancelled qs h

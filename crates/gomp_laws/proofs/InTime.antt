@@ -11,7 +11,7 @@ use Rattle.gomp_types.specs.declared.reply.Reply.TheVariants.{Refused}
 use Rattle.gomp_types.specs.declared.event.Event.{Event}
 use Rattle.gomp_types.specs.declared.event.Event.TheVariants.{Arrive, Put, Pass, Create, Hold, Free, Start, Done, Cancel, Discard, See, Break}
 use Rattle.gomp_types.specs.Tests.{Test}
-use Rattle.gomp_types.specs.Events.{member_of, has_left_region, clash_of}
+use Rattle.gomp_types.specs.Events.{has_left_region, clash_of}
 use Rattle.gomp_types.specs.Laws.{Always}
 use Rattle.gomp_types.specs.Least.{lesser, least}
 use Rattle.gomp_model.specs.Past.{Terms, Past}

@@ -28,10 +28,10 @@ use Rattle.gomp_model.specs.Row.{Row, begun_past, unless_repeated, given_after, 
 use Rattle.gomp_model.specs.Tasks.{is_dropped, task_create_row, task_end_row, taskwait_row, group_start_row, group_end_row}
 use Rattle.gomp_laws.specs.Rules.{TeamRule}
 use Rattle.gomp_laws.proofs.Awaits.{startable_may_start, startable_not_undeferred, one_await, some_await, one_creator, some_creator, CreatorRuns, creator_runs, creator_told, creator_waits, started_own, started_keeps, creator_keeps, once_again, begun_rules}
-use Rattle.gomp_laws.proofs.Cancels.{none_leaves, some_cancelled_same, unless_own, unless_keeps}
+use Rattle.gomp_laws.proofs.Cancels.{some_cancelled_same, unless_own, unless_keeps}
 use Rattle.gomp_types.proofs.LaterTasks.{not_new}
 use Rattle.gomp_types.proofs.Suspended.{tasks_stacked}
-use Rattle.gomp_laws.proofs.TeamShares.{task_rules}
+use Rattle.gomp_laws.proofs.TeamShares.{task_rules, none_leaves}
 use Rattle.gomp_laws.proofs.Sound.{Same, AreGiven, memoryless, HasCreated, Ready, IsSound, quiet, only_creates, outside_lasts}
 
 -- Creation
