@@ -81,3 +81,9 @@ returns-in-EndPart-clause-answer g c = λ h st.
     let lt : c.args.step.now.member < g.S.Shares.members c.args.shares.now = rw c.requires.team (omega arith) in
     let e = c.look-seen.ensures.value ∙ g.met.S.Shares.agrees c.args.shares.now h c.args.step.now.member st lt in
     (call_is_made _ c.args.step.now c.look-seen.result h e (omega arith) (sym c.may_make.ensures ∙ c.if-not-may_make.false), rw c.in-EndPart.is tt)
+
+pub returns-in-See-clause-answer : goal.returns-in-See-clause-answer
+returns-in-See-clause-answer g c = λ h st.
+    let lt : c.args.step.now.member < g.S.Shares.members c.args.shares.now = rw c.requires.team (omega arith) in
+    let e = c.look-seen.ensures.value ∙ g.met.S.Shares.agrees c.args.shares.now h c.args.step.now.member st lt in
+    (call_is_made _ c.args.step.now c.look-seen.result h e (omega arith) (sym c.may_make.ensures ∙ c.if-not-may_make.false), rw c.in-See.is (c.see_if_cancelled.ensures.answer h st))
