@@ -9,7 +9,7 @@ use Rattle.gomp_types.specs.declared.cancel.CancelKind.{CancelKind}
 use Rattle.gomp_types.specs.declared.cancel.CancelKind.TheVariants.{Parallel, Loop, Sections, Taskgroup}
 use Rattle.gomp_types.specs.declared.cancel.Scope.TheVariants.{Region, OneShare, OneGroup}
 use Rattle.gomp_types.specs.declared.key.Key.TheVariants.{Critical}
-use Rattle.gomp_types.specs.declared.task.Task.TheVariants.{Implicit}
+use Rattle.gomp_types.specs.declared.task.Task.TheVariants.{Implicit, Explicit}
 use Rattle.gomp_types.specs.Arrivals.{SameTags, OnlyEnds, PassesAfterAll, EndsAfterAll}
 use Rattle.gomp_types.specs.Cancels.{scope_of}
 use Rattle.gomp_types.specs.Laws.{Always}
@@ -269,6 +269,68 @@ team_arrive_again_seen = record {
 -- with a critical name it does not
 pub team_arrive_holding_cancelled : RefusedAfter (TeamRule 1) (Hold (Critical (97 ∷ [])) 0 (Implicit 0) ∷ Cancel 0 Region ∷ See 0 Parallel ∷ []) (Arrive 0 0 (at RegionEnd 0))
 team_arrive_holding_cancelled may = absurd (let free = may.names.free in cc)
+
+-- Of the event's own member, share and group
+
+-- a member cancels the loop that it has left for another
+names_not_left : (kind : CancelKind) → scope_of kind 0 (after (Enter 0 0 cancellable_four ∷ End 0 0 ∷ Enter 1 0 cancellable_four ∷ [])) ≡ Some (OneShare 0) → ⊥
+names_not_left Parallel e = absurd (cc)
+names_not_left Loop e = absurd (cc)
+names_not_left Sections e = absurd (cc)
+names_not_left Taskgroup e = absurd (cc)
+
+pub cancel_left_loop : RefusedAfter (CancelsNamed 1) (Enter 0 0 cancellable_four ∷ End 0 0 ∷ Enter 1 0 cancellable_four ∷ []) (Cancel 0 (OneShare 0))
+cancel_left_loop law = names_not_left law.1 law.2
+
+-- the second sees that a group is cancelled which the task of the first is in
+pub see_group_of_the_first : RefusedAfter (SeesCancelled 2) (Group 0 0 ∷ Create 1 0 (Implicit 0) one_job ∷ Start 1 0 ∷ Cancel 0 (OneGroup 0) ∷ []) (See 1 Taskgroup)
+see_group_of_the_first law = absurd (let is = law.1 in cc)
+
+-- and the first does
+pub see_own_group : Allows (SeesCancelled 2) (Group 0 0 ∷ Create 1 0 (Implicit 0) one_job ∷ Start 1 0 ∷ Cancel 0 (OneGroup 0) ∷ []) (See 0 Taskgroup)
+see_own_group = (omega arith, refl)
+
+-- the second passes a barrier of a cancelled region at whose end the first is
+pub pass_cancelled_second : RefusedAfter OnlyEnds (Cancel 0 Region ∷ Arrive 0 0 (at RegionEnd 0) ∷ Arrive 0 1 (at Barrier 0) ∷ []) (Pass 0 1)
+pass_cancelled_second law = absurd (let ends = law refl in cc)
+
+-- it passes the region's end before the first has arrived there
+pub end_before_the_first : RefusedAfter (EndsAfterAll 2) (Arrive 0 0 (at Barrier 0) ∷ Cancel 1 Region ∷ Arrive 0 1 (at RegionEnd 0) ∷ []) (Pass 0 1)
+end_before_the_first law = absurd (let there = law refl 0 (omega arith) in cc)
+
+-- it arrives again, and from a loop, when the first has seen that the region is cancelled
+pub arrive_twice_seen_by_the_first : RefusedAfter (ArrivesOnce 2) (Arrive 0 1 (at Barrier 0) ∷ Cancel 0 Region ∷ See 0 Parallel ∷ []) (Arrive 0 1 (at RegionEnd 0))
+arrive_twice_seen_by_the_first law = law.1 refl (at Barrier 0) (inr (inr (inl refl)))
+
+pub arrive_inside_seen_by_the_first : RefusedAfter ArrivesOutside (Enter 0 1 (four false) ∷ Cancel 0 Region ∷ See 0 Parallel ∷ []) (Arrive 0 1 (at RegionEnd 1))
+arrive_inside_seen_by_the_first law = elim (law refl 0 (four false) (inr (inr (inl refl)))) [
+  | inl e ↦ absurd (cc)
+  | inr (inl e) ↦ absurd (cc)
+  | inr (inr (inl e)) ↦ absurd (cc)
+  | inr (inr (inr never)) ↦ never
+]
+
+-- it may not arrive so
+pub team_arrive_again_seen_by_the_first : RefusedAfter (TeamRule 2) (Arrive 0 1 (at Barrier 0) ∷ Cancel 0 Region ∷ See 0 Parallel ∷ []) (Arrive 0 1 (at RegionEnd 0))
+team_arrive_again_seen_by_the_first may = absurd (let once = may.once refl in cc)
+
+pub team_arrive_inside_seen_by_the_first : RefusedAfter (TeamRule 2) (Enter 0 1 (four false) ∷ Cancel 0 Region ∷ See 0 Parallel ∷ []) (Arrive 0 1 (at RegionEnd 1))
+team_arrive_inside_seen_by_the_first may = absurd (let outside = may.outside refl in cc)
+
+-- nor leave a loop that the first alone has seen is cancelled
+pub team_end_seen_by_the_first : RefusedAfter (TeamRule 2) (Enter 0 0 cancellable_four ∷ Enter 0 1 cancellable_four ∷ Cancel 0 (OneShare 0) ∷ See 0 Loop ∷ []) (End 0 1)
+team_end_seen_by_the_first may = elim may.done.done [
+  | inl none ↦ absurd (let same = (share_is 0 0 cancellable_four may.done.shape may.done.inside).1 in let nothing = rw (← same) at none in cc)
+  | inr leaving ↦ absurd (cc)
+]
+
+-- a task outside of the cancelled group is discarded
+pub team_discard_beside : RefusedAfter (TeamRule 2) (Group 0 0 ∷ Create 1 0 (Implicit 0) one_job ∷ Start 1 0 ∷ Create 2 1 (Implicit 1) one_job ∷ Cancel 0 (OneGroup 0) ∷ []) (Discard 2 0)
+team_discard_beside may = absurd (let covered = may.covered in cc)
+
+-- and one in it
+pub team_discard_in_group : Allows (TeamRule 2) (Group 0 0 ∷ Create 1 0 (Implicit 0) one_job ∷ Start 1 0 ∷ Create 2 0 (Explicit 1) one_job ∷ Cancel 0 (OneGroup 0) ∷ []) (Discard 2 0)
+team_discard_in_group = record { member = omega arith; unstarted = refl; covered = refl }
 
 -- A cancelled region
 
