@@ -1,7 +1,6 @@
 -- The rows of arrivals and of the ends of shares.
-use Rattle.std.proofs.Common.{◌≡◌, ℕ, ◌<◌, Bool, true, false, List, [], ◌∷◌, ◌++◌, Option, None, refl, ap, sym, ◌∙◌, subst, inl, inr}
+use Rattle.std.proofs.Common.{◌≡◌, ℕ, ◌<◌, Bool, true, false, List, [], ◌∷◌, ◌++◌, None, refl, ap, sym, ◌∙◌, subst, inl, inr}
 use Rattle.std.specs.Prelude.{◌⊎◌, ◌&&◌, not}
-use Rattle.std.proofs.lemmas.Bool.{cases_Bool}
 use Rattle.gomp_types.specs.declared.reply.Reply.{Reply}
 use Rattle.gomp_types.specs.declared.reply.Reply.TheVariants.{Passed, Cancelled, Refused, Run, Chunk}
 use Rattle.gomp_types.specs.declared.seen.Seen.{Seen}
@@ -9,12 +8,12 @@ use Rattle.gomp_types.specs.declared.event.Arrival.{Arrival}
 use Rattle.gomp_types.specs.declared.event.Arrival.TheVariants.{Barrier as BarrierArrival, RegionEnd as RegionEndArrival}
 use Rattle.gomp_types.specs.declared.event.Tag.{Tag}
 use Rattle.gomp_types.specs.declared.event.Event.{Event}
-use Rattle.gomp_types.specs.declared.event.Event.TheVariants.{Arrive, End}
+use Rattle.gomp_types.specs.declared.event.Event.TheVariants.{Arrive}
 use Rattle.gomp_types.specs.Tests.{Test}
 use Rattle.gomp_types.specs.Compare.{tag_differs, tag_with}
-use Rattle.gomp_types.specs.Events.{shares_entered, open_share, open_number, barriers_passed, tag_at, at_barrier, arrival as arrival_of}
+use Rattle.gomp_types.specs.Events.{shares_entered, open_share, barriers_passed, tag_at, at_barrier, arrival as arrival_of}
 use Rattle.gomp_types.specs.Tasks.{in_task, task_desc, is_undeferred}
-use Rattle.gomp_types.specs.TaskCalls.{outside_tasks_tests, unless_given_up, group_open_tests, end_region_tests, arrival_room, HasJob, AwaitsTasks}
+use Rattle.gomp_types.specs.TaskCalls.{end_region_tests, HasJob, AwaitsTasks}
 use Rattle.gomp_types.specs.Goals.{may_start, may_pass}
 use Rattle.gomp_types.specs.Laws.{Always}
 use Rattle.gomp_types.specs.Cancels.{is_cancelled, leaves_region}
@@ -24,18 +23,18 @@ use Rattle.gomp_types.specs.Seen.{seen_of}
 use Rattle.gomp_types.proofs.Booleans.{none_of, same_number, not_both}
 use Rattle.gomp_types.proofs.Compared.{same_tags}
 use Rattle.gomp_types.proofs.LeastTests.{AllFail}
-use Rattle.gomp_shares.specs.Starts.{sees_at_end, leaves}
+use Rattle.gomp_shares.specs.Starts.{leaves}
 use Rattle.gomp_locks.specs.NameRules.{ArrivesFree}
 use Rattle.gomp_locks.specs.Holders.{asker, holds_critical}
 use Rattle.gomp_model.specs.Past.{Past}
-use Rattle.gomp_model.specs.Row.{Row, at_once, begun_past, unless_repeated, goes_on}
-use Rattle.gomp_model.specs.Arrivals.{compared_arrival, passes, arrival_row, is_cut_short, ending, outside_tests, barrier_row, region_end_row}
+use Rattle.gomp_model.specs.Row.{at_once, begun_past, unless_repeated, goes_on}
+use Rattle.gomp_model.specs.Arrivals.{compared_arrival, passes, arrival_row, is_cut_short, ending, barrier_row, region_end_row}
 use Rattle.gomp_laws.proofs.AtOnce.{at_once_sound}
 use Rattle.gomp_laws.proofs.Awaits.{startable_may_start, startable_not_undeferred, one_await, some_await, await_tells, started_own, started_keeps, begun_holds, begun_rules}
-use Rattle.gomp_laws.proofs.Cancels.{none_leaves, unless_own, unless_keeps, sees_given, sees_keep}
+use Rattle.gomp_laws.proofs.Cancels.{unless_own, unless_keeps, sees_given, sees_keep}
 use Rattle.gomp_laws.proofs.CancelledEnds.{sees_same, leaves_own, MayEndShare, leaves_keep}
-use Rattle.gomp_laws.proofs.TeamShares.{task_rules}
-use Rattle.gomp_laws.proofs.Sound.{is_cut, Same, AreOwn, AreGiven, memoryless, clean_append, own_append, Ready, IsSound, Gives, quiet, only_arrives, outside_of_tasks, outside_lasts}
+use Rattle.gomp_laws.proofs.TeamShares.{task_rules, none_leaves}
+use Rattle.gomp_laws.proofs.Sound.{is_cut, Same, AreGiven, memoryless, own_append, Ready, IsSound, quiet, only_arrives, outside_of_tasks, outside_lasts}
 
 pass_own : (m : ℕ) (h : List Event) (reply : Reply) → AreGiven only_arrives m reply (passes m h reply)
 pass_own m h Passed = ((refl, refl, refl), tt)
@@ -127,9 +126,9 @@ barrier_begins m p ready all =
     let names : ArrivesFree m h = record { outside = (ready.task refl).0; free = (ready.team refl).0 } in
     unless_keeps p.terms.members (is_cancelled h) (Arrive (barriers_passed m h) m (tag_with BarrierArrival (shares_entered m h))) h
     (λ whole. arrive_rule p.terms.members m BarrierArrival h h ready.member whole
-        (was_compared (is_cancelled h) (tag_differs (tag_with BarrierArrival (shares_entered m h)) (tag_at (barriers_passed m h) h)) whole ready.compared.0)
-        (ready.first refl refl (none_leaves p.terms.members m h all whole)) names
-        (record { number = refl; shares = refl; outside = none_of (open_share m h) (ready.place refl refl).0; tag = refl; own = refl; cancelled = refl })) all
+    (was_compared (is_cancelled h) (tag_differs (tag_with BarrierArrival (shares_entered m h)) (tag_at (barriers_passed m h) h)) whole ready.compared.0)
+    (ready.first refl refl (none_leaves p.terms.members m h all whole)) names
+    (record { number = refl; shares = refl; outside = none_of (open_share m h) (ready.place refl refl).0; tag = refl; own = refl; cancelled = refl })) all
 
 barrier_there : (c : Bool) (event : Event) (h : List Event) (m : ℕ) → is_cancelled h ≡ c → at_barrier m (event ∷ h) ≡ true → is_cancelled (unless_repeated (unless_cancelled c (event ∷ [])) false ++ h) ≡ false →
     at_barrier m (unless_repeated (unless_cancelled c (event ∷ [])) false ++ h) ≡ true
@@ -283,19 +282,19 @@ end_begins tests kind is m p ready all =
     let event = Arrive (barriers_passed m h) m (tag_with kind (shares_entered m h)) in
     unless_regroup p.terms.members (is_cancelled h) event (leaves m h) h
     (unless_keeps p.terms.members (is_cancelled h) event (leaves m h ++ h)
-        (λ whole. arrive_rule p.terms.members m kind h (leaves m h ++ h) ready.member whole
-            (was_compared (is_cancelled h) (tag_differs (tag_with kind (shares_entered m h)) (tag_at (barriers_passed m h) h)) whole ready.compared.0)
-            (ready.first refl refl (none_leaves p.terms.members m h all whole)) (leaves_free m h (ready.task refl).0 (ready.team refl).0) (leaves_as m h))
-        (end_leaves tests kind is m p ready all))
+    (λ whole. arrive_rule p.terms.members m kind h (leaves m h ++ h) ready.member whole
+    (was_compared (is_cancelled h) (tag_differs (tag_with kind (shares_entered m h)) (tag_at (barriers_passed m h) h)) whole ready.compared.0)
+    (ready.first refl refl (none_leaves p.terms.members m h all whole)) (leaves_free m h (ready.task refl).0 (ready.team refl).0) (leaves_as m h))
+    (end_leaves tests kind is m p ready all))
 
 end_there : (c : Bool) (event : Event) (h : List Event) (m : ℕ) → is_cancelled h ≡ c → at_barrier m (event ∷ leaves m h ++ h) ≡ true → is_cancelled (unless_repeated (unless_cancelled c (event ∷ []) ++ leaves m h) false ++ h) ≡ false →
     at_barrier m (unless_repeated (unless_cancelled c (event ∷ []) ++ leaves m h) false ++ h) ≡ true
 end_there true event h m e there whole = absurd (not_both (is_cancelled h) e (sym (sees_same is_cancelled m h refl) ∙ whole))
 end_there false event h m e there whole = there
 
-end_outside : (c : Bool) (event : Event) (h : List Event) (m : ℕ) → ((now : List Event) → in_task m (event ∷ now) ≡ in_task m now) → in_task m h ≡ false → in_task m ((unless_cancelled c (event ∷ []) ++ leaves m h) ++ h) ≡ false
-end_outside true event h m none outside = sees_same (in_task m) m h refl ∙ outside
-end_outside false event h m none outside = none (leaves m h ++ h) ∙ sees_same (in_task m) m h refl ∙ outside
+end_stays_outside : (c : Bool) (event : Event) (h : List Event) (m : ℕ) → ((now : List Event) → in_task m (event ∷ now) ≡ in_task m now) → in_task m h ≡ false → in_task m ((unless_cancelled c (event ∷ []) ++ leaves m h) ++ h) ≡ false
+end_stays_outside true event h m none outside = sees_same (in_task m) m h refl ∙ outside
+end_stays_outside false event h m none outside = none (leaves m h ++ h) ∙ sees_same (in_task m) m h refl ∙ outside
 
 pub end_arrival_sound : (tests : Seen → List Test) (kind : Arrival) → IsEnd tests → IsSound (ending tests (is_cut_short (arrival_row kind)))
 end_arrival_sound tests kind is = record {
@@ -320,7 +319,7 @@ end_arrival_sound tests kind is = record {
       let q = begun_past repeated row m p in
       let outside = outside_of_tasks ready refl (λ fail. fail.0) in
       let event = Arrive (barriers_passed m p.events) m (tag_with kind (shares_entered m p.events)) in
-      let out = begun_holds (λ h. in_task m h ≡ false) repeated (row.begins m p) p.events (λ first. end_outside (is_cancelled p.events) event p.events m (λ now. refl) outside) outside in
+      let out = begun_holds (λ h. in_task m h ≡ false) repeated (row.begins m p) p.events (λ first. end_stays_outside (is_cancelled p.events) event p.events m (λ now. refl) outside) outside in
       let met = may_pass p.terms.members m q.events in
       sees_keep p.terms.members m reply (passes m q.events reply) q.events ready.member
       (λ e. told_cut (is_cancelled q.events) m met q.events (subst (λ (r : Reply). OrIsCancelled (is_cancelled q.events) (AwaitsTasks m met q.events) r) e may))

@@ -1,6 +1,6 @@
 -- The replies in a team of which something is cancelled, of every record whose replies have their causes.
-use Rattle.std.proofs.Common.{◌≡◌, ℕ, Bool, true, false, List, [], ◌∷◌, ◌++◌, refl, sym, ◌∙◌, subst, inl, inr}
-use Rattle.std.specs.Prelude.{◌⊎◌, ◌||◌, is_some}
+use Rattle.std.proofs.Common.{◌≡◌, ℕ, Bool, true, false, List, [], ◌∷◌, ◌++◌, sym, subst, inl, inr}
+use Rattle.std.specs.Prelude.{is_some}
 use Rattle.std.proofs.lemmas.Bool.{cases_Bool}
 use Rattle.gomp_types.specs.declared.call.Step.{Step}
 use Rattle.gomp_types.specs.declared.cancel.Scope.{Scope}
@@ -14,9 +14,9 @@ use Rattle.gomp_types.specs.Cancels.{is_cancelled}
 use Rattle.gomp_types.specs.Laws.{Happened}
 use Rattle.gomp_types.proofs.Booleans.{not_both}
 use Rattle.gomp_model.specs.Past.{Terms, Past}
-use Rattle.gomp_model.specs.Row.{Row, begun_past, events_after}
-use Rattle.gomp_model.specs.Team.{Record, call_meant, is_resume, row_at, MayAnswer, past_after, past_of, before_all, events, Caused}
-use Rattle.gomp_laws.specs.Replies.{TellsCancelledRegion, DropsCovered, NothingCancelled, CancelReplies}
+use Rattle.gomp_model.specs.Row.{Row, begun_past}
+use Rattle.gomp_model.specs.Team.{Record, call_meant, is_resume, row_at, MayAnswer, past_after, past_of, events, Caused}
+use Rattle.gomp_laws.specs.Replies.{TellsCancelledRegion, DropsCovered, CancelReplies}
 use Rattle.gomp_laws.proofs.Sound.{IsSound, Gives, gives_of}
 use Rattle.gomp_laws.proofs.Awaits.{begun_holds}
 use Rattle.gomp_laws.proofs.CallsKeep.{OwnKeeps, LastKeeps, since_keeps, step_keeps}
@@ -85,16 +85,16 @@ step_cancels_none p step reply may off none =
       | inr harmless ↦ step_keeps row sound repeated step.member p reply NoneCancelled (last_cancels_none (gives_of row) step.member reply harmless) none
     ]
 
-nothing_cancelled : (terms : Terms) (run : Record) → Caused terms run → terms.cancellation ≡ false → NoneCancelled (events terms run)
-nothing_cancelled terms [] caused off = λ m scope there. there
-nothing_cancelled terms (pair ∷ earlier) caused off =
+none_cancelled_disallowed : (terms : Terms) (run : Record) → Caused terms run → terms.cancellation ≡ false → NoneCancelled (events terms run)
+none_cancelled_disallowed terms [] caused off = λ m scope there. there
+none_cancelled_disallowed terms (pair ∷ earlier) caused off =
     let p = past_of terms earlier in
     let same : p.terms.cancellation ≡ false = subst (λ (t : Terms). t.cancellation ≡ false) (sym (same_terms terms earlier)) off in
-    step_cancels_none p pair.0 pair.1 caused.0 same (nothing_cancelled terms earlier caused.1 off)
+    step_cancels_none p pair.0 pair.1 caused.0 same (none_cancelled_disallowed terms earlier caused.1 off)
 
 pub cancel_replies : (terms : Terms) (run : Record) → Caused terms run → CancelReplies terms run
 cancel_replies terms run caused = record {
   cancelled = each_reply terms TellsCancelledRegion tells_cancelled_region run caused;
   dropped = each_reply terms DropsCovered drops_covered_task run caused;
-  allowed = λ off. nothing_cancelled terms run caused off;
+  allowed = λ off. none_cancelled_disallowed terms run caused off;
 }

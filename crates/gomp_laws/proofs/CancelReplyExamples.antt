@@ -1,6 +1,6 @@
 -- What the laws of the replies in a cancelled region refuse, computed, and runs that keep them. OpenMP API 5.2, sections 2.1, 16.1 and 16.2.
-use Rattle.std.proofs.Common.{ℕ, true, false, [], ◌∷◌, refl, inl, inr}
-use Rattle.gomp_types.specs.declared.call.Call.TheVariants.{TaskCreate, Barrier, Cancel as CancelCall, Point}
+use Rattle.std.proofs.Common.{true, [], ◌∷◌, refl, inl, inr}
+use Rattle.gomp_types.specs.declared.call.Call.TheVariants.{TaskCreate, Barrier, Cancel as CancelCall}
 use Rattle.gomp_types.specs.declared.cancel.CancelKind.TheVariants.{Parallel}
 use Rattle.gomp_types.specs.declared.cancel.Scope.TheVariants.{Region, OneShare, OneGroup}
 use Rattle.gomp_types.specs.declared.event.Event.TheVariants.{Group, GroupEnd, Cancel}
@@ -44,15 +44,15 @@ drops_in_a_group = refl
 -- A team that allows no cancellation
 
 -- a cancel construct that cancels
-abbrev cancels_the_region : Run
-cancels_the_region = (asks 0 (CancelCall Parallel true), Cancelling true) ∷ []
+abbrev cancel_of_the_region : Run
+cancel_of_the_region = (asks 0 (CancelCall Parallel true), Cancelling true) ∷ []
 
 -- does so in a team that allows none
-pub cancels_though_disallowed : NothingCancelled (team_of 2) (run_recorded cancels_the_region []) → ⊥
+pub cancels_though_disallowed : NothingCancelled (team_of 2) (run_recorded cancel_of_the_region []) → ⊥
 cancels_though_disallowed law = law refl 0 Region (inr (inl refl))
 
 -- in one that allows it the law says nothing
-pub cancels_as_allowed : NothingCancelled (cancellable_team 2) (run_recorded cancels_the_region [])
+pub cancels_as_allowed : NothingCancelled (cancellable_team 2) (run_recorded cancel_of_the_region [])
 cancels_as_allowed off = absurd (cc)
 
 -- Every reply of a record

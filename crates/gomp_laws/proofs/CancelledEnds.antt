@@ -1,19 +1,18 @@
 -- How a member leaves a loop or a sections construct that was cancelled, or of which nothing is left for it.
 use Rattle.std.proofs.Common.{◌≡◌, ℕ, ◌<◌, Bool, true, false, List, [], ◌∷◌, ◌++◌, Option, Some, refl, ap, sym, subst, inl, inr}
 use Rattle.std.specs.Prelude.{◌&&◌, ◌||◌, not, if◌then◌else◌}
-use Rattle.gomp_types.specs.declared.cancel.CancelKind.{CancelKind}
 use Rattle.gomp_types.specs.declared.cancel.CancelKind.TheVariants.{Parallel, Loop, Sections}
 use Rattle.gomp_types.specs.declared.shape.Shape.{Shape}
 use Rattle.gomp_types.specs.declared.event.Event.{Event}
 use Rattle.gomp_types.specs.declared.event.Event.TheVariants.{End, See}
 use Rattle.gomp_types.specs.Shapes.{is_sections, is_copy}
-use Rattle.gomp_types.specs.Events.{share_number, open_share, open_number, in_kind, in_part, has_drained, holds_piece}
+use Rattle.gomp_types.specs.Events.{share_number, open_share, in_kind, in_part, has_drained}
 use Rattle.gomp_types.specs.Deals.{schedule}
 use Rattle.gomp_types.specs.Laws.{Always}
 use Rattle.gomp_types.specs.Cancels.{same_cancel, share_cancelled, own_cancelled, names_cancelled, leaves_share}
 use Rattle.gomp_types.proofs.Booleans.{or_left, not_both, same_number}
 use Rattle.gomp_shares.specs.Calls.{in_construct, kind_in}
-use Rattle.gomp_shares.specs.Rules.{ShareRule, MayLeave}
+use Rattle.gomp_shares.specs.Rules.{ShareRule}
 use Rattle.gomp_shares.specs.Starts.{is_drained, sees_at_end, leaves}
 use Rattle.gomp_shares.proofs.SharesKeep.{member_is_inside, drained_none}
 use Rattle.gomp_shares.proofs.CancelledShares.{see_rule}
@@ -78,8 +77,8 @@ leaves_drained members m h is told all = record {
 }
 
 -- or if it has seen that the share is cancelled, which is then not ordered
-leaves_cancelled : (members m : ℕ) (h : List Event) → (is : MayEndShare m h) → own_cancelled m h ≡ true → leaves_share m h ≡ true → Always (TeamRule members) h → MayLeaveIn members is.share.0 m h
-leaves_cancelled members m h is cancelled leaving all =
+leaves_seen_share : (members m : ℕ) (h : List Event) → (is : MayEndShare m h) → own_cancelled m h ≡ true → leaves_share m h ≡ true → Always (TeamRule members) h → MayLeaveIn members is.share.0 m h
+leaves_seen_share members m h is cancelled leaving all =
     let rules = share_rules members h all in
     let own : share_cancelled is.share.0 h ≡ true = rw is.inside at cancelled in
     let at = (member_is_inside (schedule members) members m is.share.0 is.share.1 h rules is.inside).0 in record {
@@ -112,13 +111,12 @@ leaves_keep members m h lt is drained all =
         Always (TeamRule members) (End is.share.0 m ∷ ((if cancelled && not (told || leaving) then See m (kind_in (open_share m h)) ∷ [] else []) ++ h))
     by_tests true true leaving t c l some = (leaves_drained members m h is t all, all)
     by_tests true false leaving t c l some = (leaves_drained members m h is t all, all)
-    by_tests false true true t c l some = (leaves_cancelled members m h is c l all, all)
+    by_tests false true true t c l some = (leaves_seen_share members m h is c l all, all)
     by_tests false true false t c l some =
         let saw = sees_cancelled_share members m h lt is c in
         let leaving : leaves_share m now ≡ true = or_left _ (leaves_share m h) (rw (same_number m) (of_a_share (open_share m h))) in
-        let still : own_cancelled m now ≡ true = rw is.inside (rw is.inside at c) in
-        (
-          leaves_cancelled members m now (record { share = is.share; inside = is.inside; construct = is.construct; wordless = is.wordless; apart = is.apart }) still leaving (saw, all),
+        let still : own_cancelled m now ≡ true = rw is.inside (rw is.inside at c) in (
+          leaves_seen_share members m now (record { share = is.share; inside = is.inside; construct = is.construct; wordless = is.wordless; apart = is.apart }) still leaving (saw, all),
           (saw, all),
         )
     by_tests false false leaving t c l some = absurd (cc)

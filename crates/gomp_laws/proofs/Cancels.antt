@@ -1,7 +1,6 @@
 -- The rows of the cancel and cancellation point constructs, and of calls that wait in their place unless the region is cancelled.
-use Rattle.std.proofs.Common.{◌≡◌, ℕ, zero, suc, ◌<◌, ◌≤◌, Bool, true, false, List, [], ◌∷◌, ◌++◌, Option, Some, None, append_assoc, refl, ap, sym, ◌∙◌, subst, arith, inl, inr}
-use Rattle.std.specs.Prelude.{◌⊎◌, ◌==◌, ◌&&◌, ◌||◌, not, is_some, if◌then◌else◌}
-use Rattle.std.proofs.lemmas.Bool.{cases_Bool}
+use Rattle.std.proofs.Common.{◌≡◌, ℕ, zero, suc, ◌<◌, Bool, true, false, List, [], ◌∷◌, ◌++◌, Option, Some, None, append_assoc, refl, ap, sym, ◌∙◌, subst, arith, inl, inr}
+use Rattle.std.specs.Prelude.{◌⊎◌, ◌==◌, ◌&&◌, ◌||◌, is_some, if◌then◌else◌}
 use Rattle.gomp_types.specs.declared.cancel.CancelKind.{CancelKind}
 use Rattle.gomp_types.specs.declared.cancel.CancelKind.TheVariants.{Parallel, Loop, Sections, Taskgroup}
 use Rattle.gomp_types.specs.declared.cancel.Scope.{Scope}
@@ -17,16 +16,16 @@ use Rattle.gomp_types.specs.declared.event.Event.{Event}
 use Rattle.gomp_types.specs.declared.event.Event.TheVariants.{Cancel, Discard, See}
 use Rattle.gomp_types.specs.Shapes.{is_loop, is_sections}
 use Rattle.gomp_types.specs.Events.{open_share, in_kind}
-use Rattle.gomp_types.specs.Tasks.{executed_task, tasks_created, is_complete}
+use Rattle.gomp_types.specs.Tasks.{executed_task, tasks_created}
 use Rattle.gomp_types.specs.Groups.{groups_around}
 use Rattle.gomp_types.specs.Goals.{is_unstarted}
 use Rattle.gomp_types.specs.Deals.{schedule}
 use Rattle.gomp_types.specs.Laws.{Always}
 use Rattle.gomp_types.specs.TaskCalls.{has_some}
-use Rattle.gomp_types.specs.Cancels.{same_cancel, same_scope, was_cancelled, is_cancelled, some_scope_cancelled, some_cancelled, groups_over, is_covered, first_of, share_scope, group_scope, scope_of, names_cancelled, may_be_cancelled, leaves_region}
+use Rattle.gomp_types.specs.Cancels.{same_scope, was_cancelled, is_cancelled, some_scope_cancelled, some_cancelled, groups_over, is_covered, first_of, share_scope, group_scope, scope_of, names_cancelled, may_be_cancelled}
 use Rattle.gomp_types.specs.CancelCalls.{unless_cancelled, cancel_tests, cancel_room, cancel_asks, OrWaitsCancelled, sees_cancelled, discards_to, discards, cancels, tells_cancelled as told_events}
 use Rattle.gomp_types.specs.Seen.{seen_of}
-use Rattle.gomp_types.proofs.Booleans.{and_left, and_right, or_tells, or_left, or_right, not_false, not_both, other_number, same_number}
+use Rattle.gomp_types.proofs.Booleans.{and_right, or_left, or_right, not_false, not_both, other_number, same_number}
 use Rattle.gomp_types.proofs.LeastTests.{AllFail}
 use Rattle.gomp_shares.specs.Rules.{ShareRule}
 use Rattle.gomp_shares.specs.Cancels.{cancel_place_tests}
@@ -38,27 +37,7 @@ use Rattle.gomp_model.specs.Team.{both_run}
 use Rattle.gomp_laws.specs.Rules.{TeamRule}
 use Rattle.gomp_laws.proofs.Sound.{is_wait, is_cut, Same, Gives, AreOwn, AreGiven, own_append, memoryless, shows, Ready, IsSound}
 
--- Members that leave the region
-
--- a member that leaves it has seen that it is cancelled, so it is
-pub leaver_is_cancelled : (members m : ℕ) (h : List Event) → Always (TeamRule members) h → leaves_region m h ≡ true → is_cancelled h ≡ true
-leaver_is_cancelled members m [] all e = absurd (cc)
-leaver_is_cancelled members m (See n Parallel ∷ earlier) all e = all.0.sees.cancelled
-leaver_is_cancelled members m (See n kind ∷ earlier) all e =
-    elim (or_tells (n == m && false) (leaves_region m earlier) e) [
-      | inl top ↦ absurd (let no = and_right (n == m) false top in cc)
-      | inr below ↦ leaver_is_cancelled members m earlier all.1 below
-    ]
-leaver_is_cancelled members m (Cancel n scope ∷ earlier) all e = or_right (same_scope scope Region) (is_cancelled earlier) (leaver_is_cancelled members m earlier all.1 e)
-leaver_is_cancelled members m (_ ∷ earlier) all e = leaver_is_cancelled members m earlier all.1 e
-
--- so nobody leaves one that is not
-pub none_leaves : (members m : ℕ) (h : List Event) → Always (TeamRule members) h → is_cancelled h ≡ false → leaves_region m h ≡ false
-none_leaves members m h all whole =
-    elim (cases_Bool (leaves_region m h)) [
-      | inl leaves ↦ absurd (not_both (is_cancelled h) (leaver_is_cancelled members m h all leaves) whole)
-      | inr stays ↦ stays
-    ]
+-- Groups that are cancelled
 
 -- an event that cancels nothing leaves what is cancelled of some groups
 pub some_cancelled_same : (qs : List ℕ) (event : Event) (h : List Event) → ((scope : Scope) → was_cancelled scope (event ∷ h) ≡ was_cancelled scope h) → some_cancelled qs (event ∷ h) ≡ some_cancelled qs h
@@ -97,27 +76,27 @@ some_uncancelled true May reply never may = (reply, may)
 some_uncancelled false May reply never may = (reply, may)
 
 -- a wait is the one answer
-wait_alone : (b : Reply) → Same Wait b → is_wait b ≡ false → ⊥
-wait_alone b (inl e) other = not_both (is_wait b) (ap is_wait (sym e)) other
-wait_alone b (inr run) other = absurd (cc)
+one_wait_alone : (b : Reply) → Same Wait b → is_wait b ≡ false → ⊥
+one_wait_alone b (inl e) other = not_both (is_wait b) (ap is_wait (sym e)) other
+one_wait_alone b (inr run) other = absurd (cc)
 
 never_runs : (a : Reply) → both_run a Wait ≡ false
 never_runs (Run task code arg own) = refl
 never_runs _ = refl
 
-wait_alone_too : (a : Reply) → Same a Wait → is_wait a ≡ false → ⊥
-wait_alone_too a (inl e) other = not_both (is_wait a) (ap is_wait e) other
-wait_alone_too a (inr run) other = not_both (both_run a Wait) run (never_runs a)
+other_wait_alone : (a : Reply) → Same a Wait → is_wait a ≡ false → ⊥
+other_wait_alone a (inl e) other = not_both (is_wait a) (ap is_wait e) other
+other_wait_alone a (inr run) other = not_both (both_run a Wait) run (never_runs a)
 
 one_uncancelled : (c : Bool) (May : Reply → Type 0) → ((a b : Reply) → May a → May b → Same a b) → (a b : Reply) → OrWaitsCancelled c May a → OrWaitsCancelled c May b → Same a b
 one_uncancelled c May one a b x y =
     elim (uncancelled_answer c May a x) [
       | inl p ↦ elim (uncancelled_answer c May b y) [
         | inl q ↦ inl (p.0 ∙ sym q.0)
-        | inr q ↦ absurd (wait_alone b (one Wait b p.2 q.1) (q.0 p.1))
+        | inr q ↦ absurd (one_wait_alone b (one Wait b p.2 q.1) (q.0 p.1))
       ]
       | inr p ↦ elim (uncancelled_answer c May b y) [
-        | inl q ↦ absurd (wait_alone_too a (one a Wait p.1 q.2) (p.0 q.1))
+        | inl q ↦ absurd (other_wait_alone a (one a Wait p.1 q.2) (p.0 q.1))
         | inr q ↦ one a b p.1 q.1
       ]
     ]
@@ -376,8 +355,8 @@ sees_rule members m Sections h lt named = record { sees = record { member = lt; 
 sees_rule members m Taskgroup h lt named = record { sees = record { member = lt; cancelled = named }; share = tt }
 
 -- events in two parts
-regrouped : (members : ℕ) (last : Event) (events : List Event) (first : Event) (h : List Event) → Always (TeamRule members) (last ∷ (events ++ (first ∷ h))) → Always (TeamRule members) (last ∷ ((events ++ (first ∷ [])) ++ h))
-regrouped members last events first h all = rw append_assoc all
+regroup_last : (members : ℕ) (last : Event) (events : List Event) (first : Event) (h : List Event) → Always (TeamRule members) (last ∷ (events ++ (first ∷ h))) → Always (TeamRule members) (last ∷ ((events ++ (first ∷ [])) ++ h))
+regroup_last members last events first h all = rw append_assoc all
 
 told_is : (told : Bool) → Cancelling true ≡ Cancelling told → told ≡ true
 told_is true e = refl
@@ -389,7 +368,7 @@ named_keeps members m kind true allowed h (Cancelling true) lt named may all =
     let rules = cancelled_rule members m kind h lt named all in
     let sees = sees_rule members m kind (discards m named.scope h ++ (Cancel m named.scope ∷ h)) lt (cancelled_named members m kind h named) in
     subst (λ (scope : Option Scope). Always (TeamRule members) (See m kind ∷ (cancels m scope h ++ h))) (sym named.is)
-    (regrouped members (See m kind) (discards m named.scope h) (Cancel m named.scope) h (sees, rules))
+    (regroup_last members (See m kind) (discards m named.scope h) (Cancel m named.scope) h (sees, rules))
 named_keeps members m kind false allowed h (Cancelling true) lt named may all =
     let told : (allowed && names_cancelled kind m h) ≡ true = told_is (allowed && names_cancelled kind m h) may in
     (sees_rule members m kind h lt (and_right allowed (names_cancelled kind m h) told), all)
@@ -400,9 +379,9 @@ told_only : (kind : CancelKind) (clause allowed told : Bool) (m : ℕ) (h : List
 told_only kind clause allowed told m h reply may off = rw (may, off) refl
 
 -- such a call is not repeated
-asked_once : (kind : CancelKind) (clause : Bool) (room : ℕ) (memory : Bool) (may : Option CancelKind) (repeated : Bool) (m : ℕ) (p : Past) → Ready (named_row kind clause room memory may) repeated m p → repeated ≡ false
-asked_once kind clause room memory may false m p ready = refl
-asked_once kind clause room memory may true m p ready = let on = (ready.lasting refl).2 in absurd (let off : goes_on on.1 ≡ false = ap goes_on on.3 in not_both (goes_on on.1) on.2 off)
+named_asked_once : (kind : CancelKind) (clause : Bool) (room : ℕ) (memory : Bool) (may : Option CancelKind) (repeated : Bool) (m : ℕ) (p : Past) → Ready (named_row kind clause room memory may) repeated m p → repeated ≡ false
+named_asked_once kind clause room memory may false m p ready = refl
+named_asked_once kind clause room memory may true m p ready = let on = (ready.lasting refl).2 in absurd (let off : goes_on on.1 ≡ false = ap goes_on on.3 in not_both (goes_on on.1) on.2 off)
 
 shown_once : (repeated : Bool) → repeated ≡ false → shows false repeated ≡ true
 shown_once true first = absurd (cc)
@@ -430,7 +409,7 @@ named_sound kind clause room memory may allowed = record {
   gives_own = λ m p reply. named_own may kind clause m p.events reply allowed;
   begins_keep = λ m p ready all. all;
   gives_keep = λ repeated m p reply ready x all.
-      let first = asked_once kind clause room memory may repeated m p ready in
+      let first = named_asked_once kind clause room memory may repeated m p ready in
       named_keeps p.terms.members m kind clause p.terms.cancellation p.events reply ready.member (construct_names p.terms.members m kind p.events (ready.place (shown_once repeated first) refl) (ready.task first)) x all;
   still = λ stays m p. absurd (cc);
   placed = λ stays m h. refl;

@@ -29,7 +29,7 @@ row_layers repeated row m p =
     least_append (leaving_tests repeated row m p) (place_tests repeated row m p ++ (board_tests repeated row m p ++ book_tests repeated row m p))
     ∙ ap (lesser (least (leaving_tests repeated row m p)))
     (least_append (place_tests repeated row m p) (board_tests repeated row m p ++ book_tests repeated row m p)
-        ∙ ap (lesser (least (place_tests repeated row m p))) (least_append (board_tests repeated row m p) (book_tests repeated row m p)))
+    ∙ ap (lesser (least (place_tests repeated row m p))) (least_append (board_tests repeated row m p) (book_tests repeated row m p)))
 
 -- of a call that is made: its member's place, unless it gives that up, whether anything is left there, and the comparison
 pub by_layers : (row : Row) (m : ℕ) (p : Past) → least (place_tests false row m p)

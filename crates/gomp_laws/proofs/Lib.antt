@@ -3,6 +3,7 @@ pub mod AtOnce
 pub mod Awaits
 pub mod Calls
 pub mod CallsKeep
+pub mod CancelClauseExamples
 pub mod CancelReplies
 pub mod CancelReplyExamples
 pub mod CancelledEnds

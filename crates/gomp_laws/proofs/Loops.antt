@@ -214,9 +214,9 @@ loop_wordless : (kind : ShareKind) → is_loop kind ≡ true → is_copy kind �
 loop_wordless kinds.SingleCopy e = absurd (cc)
 loop_wordless _ e = refl
 
-loop_inside : (m : ℕ) (h : List Event) (own : Option (ℕ × Shape)) → open_share m h ≡ own → not (in_kind is_loop own) ≡ false → in_part m h ≡ false → MayEndShare m h
-loop_inside m h None at within apart = absurd (cc)
-loop_inside m h (Some share) at within apart =
+loop_may_end : (m : ℕ) (h : List Event) (own : Option (ℕ × Shape)) → open_share m h ≡ own → not (in_kind is_loop own) ≡ false → in_part m h ≡ false → MayEndShare m h
+loop_may_end m h None at within apart = absurd (cc)
+loop_may_end m h (Some share) at within apart =
     let loop = not_false (is_loop share.1.kind) within in
     record { share = share; inside = at; construct = or_left (is_loop share.1.kind) (is_sections share.1.kind) loop; wordless = loop_wordless share.1.kind loop; apart = apart }
 
@@ -225,9 +225,9 @@ loop_inside m h (Some share) at within apart =
 incr_nonzero : (incr : ℤ) → ◌≡◌ {A = Bool} (int_eq incr (pos 0)) false → incr ≢ pos 0
 incr_nonzero incr fine = λ zero. grind (arith, ints, nat_tests, fine, zero)
 
-keeps_order : (ordered may : Bool) → (ordered && may) ≡ false → may ≡ true → ordered ≡ false
-keeps_order true may e is = absurd (let both = rw is at e in cc)
-keeps_order false may e is = refl
+cancellable_keeps_order : (ordered may : Bool) → (ordered && may) ≡ false → may ≡ true → ordered ≡ false
+cancellable_keeps_order true may e is = absurd (let both = rw is at e in cc)
+cancellable_keeps_order false may e is = refl
 
 loop_deal : (loop : LoopDesc) → IsDeal (loop_tests loop) (shape_of loop) DealsOut piece_given
 loop_deal loop = record {
@@ -240,7 +240,7 @@ loop_deal loop = record {
   moves = λ fail. incr_nonzero loop.incr fail.0;
   chunked = chunk_some loop.chunk;
   ordered = λ e. loop_is_loop loop.sched loop.chunk;
-  unordered = λ fail may. keeps_order loop.ordered (same_end loop.end_kind Cancellable) (fail_later (trip_tests loop) ((may_lose_order loop, OrderedLoop) ∷ []) fail).0 may;
+  unordered = λ fail may. cancellable_keeps_order loop.ordered (same_end loop.end_kind Cancellable) (fail_later (trip_tests loop) ((may_lose_order loop, OrderedLoop) ∷ []) fail).0 may;
   keeps = λ members m share reply h fail may at apart held all. piece_keeps members m share (shape_of loop) reply h (Enter share m (shape_of loop) ∷ h) refl at apart (λ ordered. held) (incr_nonzero loop.incr fail.0) may all;
   no_memory = refl;
 }
@@ -297,7 +297,7 @@ loop_next_sound = waits_uncancelled_sound plain_next_row plain_next_sound (recor
 })
 
 loop_ends : (kind : EndKind) → IsEnd (end_tests kind)
-loop_ends kind = record { inside = λ members m h fail all. loop_inside m h (open_share m h) refl fail.0 fail.1.0; no_memory = λ seen. refl }
+loop_ends kind = record { inside = λ members m h fail all. loop_may_end m h (open_share m h) refl fail.0 fail.1.0; no_memory = λ seen. refl }
 
 pub loop_end_sound : IsSound loop_end_row
 loop_end_sound = end_arrival_sound (end_tests WaitEnd) ShareEnd (loop_ends WaitEnd)

@@ -1,10 +1,10 @@
 -- A member's place among the shares and at the barriers, and its tasks, are left as they are by another member's call, whatever that is.
-use Rattle.std.proofs.Common.{◌≡◌, ℕ, Bool, true, false, List, ◌∷◌, None, refl, ◌∙◌}
+use Rattle.std.proofs.Common.{◌≡◌, ℕ, Bool, true, false, List, None, refl, ◌∙◌}
 use Rattle.std.specs.Prelude.{◌==◌, ◌&&◌, ◌||◌, is_some}
 use Rattle.gomp_types.specs.declared.reply.Reply.{Reply}
 use Rattle.gomp_types.specs.declared.reply.Reply.TheVariants.{Wait}
 use Rattle.gomp_types.specs.declared.event.Event.{Event}
-use Rattle.gomp_types.specs.declared.event.Event.TheVariants.{Enter, Take, Drained, End, Part, PartEnd, Arrive, Pass, Hold, Free, Start, Done, Cancel, Discard, See, Break}
+use Rattle.gomp_types.specs.declared.event.Event.TheVariants.{Enter, Take, Drained, End, Part, PartEnd, Arrive, Pass, Hold, Free, Start, Done, See, Break}
 use Rattle.gomp_types.specs.Events.{shares_entered, open_share, has_drained, last_piece, next_part, in_part, barriers_passed, arrival, at_barrier, clash_of}
 use Rattle.gomp_types.specs.Cancels.{same_cancel, leaves_region, leaves_share}
 use Rattle.gomp_types.specs.declared.cancel.CancelKind.TheVariants.{Parallel}

@@ -120,9 +120,9 @@ sections_wordless : (kind : ShareKind) → is_sections kind ≡ true → is_copy
 sections_wordless kinds.Sections e = refl
 sections_wordless _ e = absurd (cc)
 
-sections_inside : (members m : ℕ) (h : List Event) (own : Option (ℕ × Shape)) → open_share m h ≡ own → not (in_kind is_sections own) ≡ false → Always (TeamRule members) h → MayEndShare m h
-sections_inside members m h None at within all = absurd (cc)
-sections_inside members m h (Some share) at within all =
+sections_may_end : (members m : ℕ) (h : List Event) (own : Option (ℕ × Shape)) → open_share m h ≡ own → not (in_kind is_sections own) ≡ false → Always (TeamRule members) h → MayEndShare m h
+sections_may_end members m h None at within all = absurd (cc)
+sections_may_end members m h (Some share) at within all =
     let sections = not_false (is_sections share.1.kind) within in record {
       share = share;
       inside = at;
@@ -188,7 +188,7 @@ sections_next_sound = record {
 }
 
 sections_ends : (kind : EndKind) → IsEnd (sections_end_tests kind)
-sections_ends kind = record { inside = λ members m h fail all. sections_inside members m h (open_share m h) refl fail.0 all; no_memory = λ seen. refl }
+sections_ends kind = record { inside = λ members m h fail all. sections_may_end members m h (open_share m h) refl fail.0 all; no_memory = λ seen. refl }
 
 pub sections_end_sound : IsSound sections_end_row
 sections_end_sound = end_arrival_sound (sections_end_tests WaitEnd) ShareEnd (sections_ends WaitEnd)

@@ -67,10 +67,10 @@ is_cut Cancelled = true
 is_cut _ = false
 
 -- whether it tells that something is cancelled
-abbrev pub tells_cancelled : Reply → Bool
-tells_cancelled Cancelled = true
-tells_cancelled (Cancelling is) = is
-tells_cancelled _ = false
+abbrev pub tells_of_cancellation : Reply → Bool
+tells_of_cancellation Cancelled = true
+tells_of_cancellation (Cancelling is) = is
+tells_of_cancellation _ = false
 
 -- whether the team is broken with it
 abbrev pub breaks : Reply → Bool
@@ -141,7 +141,7 @@ IsLast can m reply (Hold key n task) = (n ≡ m) × (can.holds ≡ Some key) × 
 IsLast can m reply (Free key n task) = (n ≡ m) × (can.holds ≡ Some key) × (is_wait reply ≡ false)
 IsLast can m reply (Start task n) = (n ≡ m) × (is_run reply ≡ true)
 IsLast can m reply (Done task n) = (n ≡ m) × (is_end reply ≡ true)
-IsLast can m reply (See n kind) = (n ≡ m) × (same_cancel kind Parallel ≡ true → tells_cancelled reply ≡ true)
+IsLast can m reply (See n kind) = (n ≡ m) × (same_cancel kind Parallel ≡ true → tells_of_cancellation reply ≡ true)
 IsLast can m reply (Break n place) = (n ≡ m) × (breaks reply ≡ true)
 IsLast can m reply event = IsOwn can m event
 

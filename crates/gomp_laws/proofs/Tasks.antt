@@ -28,10 +28,10 @@ use Rattle.gomp_model.specs.Row.{Row, begun_past, unless_repeated, given_after, 
 use Rattle.gomp_model.specs.Tasks.{is_dropped, task_create_row, task_end_row, taskwait_row, group_start_row, group_end_row}
 use Rattle.gomp_laws.specs.Rules.{TeamRule}
 use Rattle.gomp_laws.proofs.Awaits.{startable_may_start, startable_not_undeferred, one_await, some_await, one_creator, some_creator, CreatorRuns, creator_runs, creator_told, creator_waits, started_own, started_keeps, creator_keeps, once_again, begun_rules}
-use Rattle.gomp_laws.proofs.Cancels.{none_leaves, some_cancelled_same, unless_own, unless_keeps}
+use Rattle.gomp_laws.proofs.Cancels.{some_cancelled_same, unless_own, unless_keeps}
 use Rattle.gomp_types.proofs.LaterTasks.{not_new}
 use Rattle.gomp_types.proofs.Suspended.{tasks_stacked}
-use Rattle.gomp_laws.proofs.TeamShares.{task_rules}
+use Rattle.gomp_laws.proofs.TeamShares.{task_rules, none_leaves}
 use Rattle.gomp_laws.proofs.Sound.{Same, AreGiven, memoryless, HasCreated, Ready, IsSound, quiet, only_creates, outside_lasts}
 
 -- Creation
@@ -91,10 +91,10 @@ created_once desc false m task p ready may = told_first (creates_covered m p.eve
 same_desc : (one other : TaskDesc) → Some one ≡ Some other → one ≡ other
 same_desc one other e = cc
 
-made_first : (c : Bool) (desc : TaskDesc) (m : ℕ) (h : List Event) → creates_covered m h ≡ c → creates_covered m (MadeAs c m desc h) ≡ false → is_undeferred (newest_child (executed_task m h) (MadeAs c m desc h)) (MadeAs c m desc h) ≡ true →
+created_first : (c : Bool) (desc : TaskDesc) (m : ℕ) (h : List Event) → creates_covered m h ≡ c → creates_covered m (MadeAs c m desc h) ≡ false → is_undeferred (newest_child (executed_task m h) (MadeAs c m desc h)) (MadeAs c m desc h) ≡ true →
     HasCreated (task_create_row desc) (executed_task m h) (MadeAs c m desc h)
-made_first true desc m h e uncovered held = absurd (not_both (creates_covered m h) e uncovered)
-made_first false desc m h e uncovered held = λ other is.
+created_first true desc m h e uncovered held = absurd (not_both (creates_covered m h) e uncovered)
+created_first false desc m h e uncovered held = λ other is.
     let parent = executed_task m h in
     let n = suc (tasks_created h) in
     let now : List Event = Create n m parent desc ∷ h in
@@ -109,7 +109,7 @@ creation_made : (desc : TaskDesc) (repeated : Bool) (m : ℕ) (p : Past) → Rea
 creation_made desc true m p ready uncovered held =
     let same : (begun_past true (task_create_row desc) m p).events ≡ p.events = ap (λ (events : List Event). events ++ p.events) (once_again (creates_uncovered m desc p.events)) in
     subst (λ (now : List Event). HasCreated (task_create_row desc) (executed_task m p.events) now) (sym same) (ready.made refl)
-creation_made desc false m p ready uncovered held = made_first (creates_covered m p.events) desc m p.events refl uncovered held
+creation_made desc false m p ready uncovered held = created_first (creates_covered m p.events) desc m p.events refl uncovered held
 
 executes_as : (c repeated : Bool) (desc : TaskDesc) (m : ℕ) (h : List Event) → executed_task m (unless_repeated (unless_cancelled c (creates m desc h)) repeated ++ h) ≡ executed_task m h
 executes_as true repeated desc m h = refl
@@ -149,13 +149,13 @@ creation_begins desc m p ready all =
     let h = p.events in
     unless_keeps p.terms.members (creates_covered m h) (Create (suc (tasks_created h)) m (executed_task m h) desc) h
     (λ uncovered. record {
-        member = ready.member;
-        number = refl;
-        current = refl;
-        away = ready.away refl (none_leaves p.terms.members m h all (uncovered_is_whole (is_cancelled h) (some_cancelled (groups_within (executed_task m h) h) h) uncovered));
-        shallow = not_deepest (depth_of (executed_task m h) h) (ready.task refl).0;
-        uncovered = uncovered;
-      }) all
+      member = ready.member;
+      number = refl;
+      current = refl;
+      away = ready.away refl (none_leaves p.terms.members m h all (uncovered_is_whole (is_cancelled h) (some_cancelled (groups_within (executed_task m h) h) h) uncovered));
+      shallow = not_deepest (depth_of (executed_task m h) h) (ready.task refl).0;
+      uncovered = uncovered;
+    }) all
 
 -- the creation of a task changes no group around the one that its member executes
 around_created : (task m t : ℕ) (parent : Task) (desc : TaskDesc) (h : List Event) → (task == t) ≡ false → groups_around t (Create task m parent desc ∷ h) ≡ groups_around t h

@@ -6,10 +6,7 @@ use Rattle.gomp_types.specs.declared.shape.Shape.{Shape}
 use Rattle.gomp_types.specs.declared.event.Tag.{Tag}
 use Rattle.gomp_types.specs.declared.event.Event.{Event}
 use Rattle.gomp_types.specs.declared.event.Event.TheVariants.{Enter, End, Arrive, Pass, Cancel, See}
-use Rattle.gomp_types.specs.declared.event.Arrival.TheVariants.{RegionEnd}
-use Rattle.gomp_types.specs.declared.cancel.CancelKind.TheVariants.{Parallel}
-use Rattle.gomp_types.specs.declared.cancel.Scope.TheVariants.{Region}
-use Rattle.gomp_types.specs.Cancels.{same_scope, is_cancelled, leaves_region}
+use Rattle.gomp_types.specs.Cancels.{is_cancelled, leaves_region}
 use Rattle.gomp_types.specs.Events.{shares_entered, barriers_passed, arrival, all_arrived, at_barrier, is_region_end, was_region_end, at_region_end, has_left_region}
 use Rattle.gomp_types.specs.Goals.{bound_complete, region_met}
 use Rattle.gomp_types.specs.Deals.{schedule}
@@ -22,12 +19,12 @@ use Rattle.gomp_laws.specs.Rules.{TeamRule}
 use Rattle.gomp_shares.specs.Laws.{TakesItsOwn}
 use Rattle.gomp_laws.specs.Laws.{LeavesHandedOn, PutsOnce, GetsWhatWasPut, LeavesWithWords, ArrivesOutside, ClosesShares, HappensUnbroken, HappensInside, ArrivesOnce, TellsShares, CancelsNamed, SeesCancelled}
 use Rattle.gomp_laws.specs.Headline.{Headline}
-use Rattle.gomp_types.proofs.Booleans.{which_branch, is_equal, same_number, and_left, and_right, and_false, or_tells, or_right, not_both, every_tells}
+use Rattle.gomp_types.proofs.Booleans.{which_branch, is_equal, same_number, and_left, and_right, and_false, or_tells, every_tells}
 use Rattle.gomp_types.proofs.Always.{always_so}
 use Rattle.gomp_shares.proofs.SharesKeep.{shares_keep, left_before}
 use Rattle.gomp_locks.proofs.HoldsKeep.{one_owner_holds, held_once_holds, frees_its_own}
 use Rattle.gomp_locks.proofs.NamesKeep.{passes_free_holds}
-use Rattle.gomp_laws.proofs.TeamShares.{share_rules, arrival_rules, task_rules, hold_rules, name_rules}
+use Rattle.gomp_laws.proofs.TeamShares.{share_rules, arrival_rules, task_rules, hold_rules, name_rules, leaver_is_cancelled, none_leaves}
 use Rattle.gomp_laws.proofs.HandedOn.{leaves_handed_on, all_handed_on}
 use Rattle.gomp_shares.proofs.Assigned.{takes_its_own}
 use Rattle.gomp_shares.proofs.OrderedKeep.{ordered_keep}
@@ -50,28 +47,6 @@ copies_keep members h all = record {
   gets = always_so (TeamRule members) GetsWhatWasPut (λ event earlier rule before. gets_what_was_put members event earlier rule (share_rules members earlier before)) h all;
   served = always_so (TeamRule members) LeavesWithWords (λ event earlier rule before. leaves_with_words members event earlier rule (share_rules members earlier before)) h all;
 }
-
--- Members that leave the region
-
--- a member that has seen that the region is cancelled leaves a cancelled one
-region_left_is_cancelled : (members m : ℕ) (h : List Event) → Always (TeamRule members) h → leaves_region m h ≡ true → is_cancelled h ≡ true
-region_left_is_cancelled members m [] all e = absurd (cc)
-region_left_is_cancelled members m (See n Parallel ∷ earlier) all e = all.0.sees.cancelled
-region_left_is_cancelled members m (See n kind ∷ earlier) all e =
-    elim (or_tells (n == m && false) (leaves_region m earlier) e) [
-      | inl top ↦ absurd (let no = and_right (n == m) false top in cc)
-      | inr below ↦ region_left_is_cancelled members m earlier all.1 below
-    ]
-region_left_is_cancelled members m (Cancel n scope ∷ earlier) all e = or_right (same_scope scope Region) (is_cancelled earlier) (region_left_is_cancelled members m earlier all.1 e)
-region_left_is_cancelled members m (_ ∷ earlier) all e = region_left_is_cancelled members m earlier all.1 e
-
--- so nobody leaves one that is not
-whole_region_not_left : (members m : ℕ) (h : List Event) → Always (TeamRule members) h → is_cancelled h ≡ false → leaves_region m h ≡ false
-whole_region_not_left members m h all whole =
-    elim (cases_Bool (leaves_region m h)) [
-      | inl leaves ↦ absurd (not_both (is_cancelled h) (region_left_is_cancelled members m h all leaves) whole)
-      | inr stays ↦ stays
-    ]
 
 -- Arrivals
 
@@ -128,7 +103,7 @@ arrived_left members barrier m tag (Arrive g member other ∷ earlier) all whole
     let what : other ≡ tag = cc in
     let count : tag.shares ≡ shares_entered m earlier = rw (← who, ← what) all.0.shares in
     let own = was_entered members share m earlier all.1 (omega (arith, count)) in
-    let stays = whole_region_not_left members m earlier all.1 whole in
+    let stays = none_leaves members m earlier all.1 whole in
     let outside = all.0.outside (rw who stays) in
     inr (left_before (schedule members) members m earlier (share_rules members earlier all.1) (rw (← who) outside) share own.0 own.1)
 arrived_left members barrier m tag (_ ∷ earlier) all whole (inl e) share lt = absurd (cc)
@@ -196,10 +171,15 @@ WaitsAtEnd m h = (at_barrier m h ≡ true) × (was_region_end (arrival (barriers
 arrives_at_end : (members barrier m : ℕ) (tag : Tag) (h : List Event) → Always (TeamRule members) h → TeamRule members (Arrive barrier m tag) h → was_region_end (arrival (barriers_passed m h) m h) ≡ true → is_region_end tag.kind ≡ true
 arrives_at_end members barrier m tag h all rule before =
     elim (cases_Bool (leaves_region m h)) [
-      | inl leaves ↦ ap is_region_end (rule.arrives.ends (region_left_is_cancelled members m h all leaves))
+      | inl leaves ↦ ap is_region_end (rule.arrives.ends (leaver_is_cancelled members m h all leaves))
       | inr stays ↦ absurd (some_arrival (arrival (barriers_passed m h) m h) before (rw rule.arrives.number at rule.once stays))
     ]
 
+-- another's pass is none of the member's
+count_of_another : (barrier member m : ℕ) (h : List Event) → (member == m) ≡ false → barriers_passed m (Pass barrier member ∷ h) ≡ barriers_passed m h
+count_of_another barrier member m h other = rw other refl
+
+-- so who has arrived at the region's end, and has not left the region, waits there
 ender_waits : (members m : ℕ) (h : List Event) → Always (TeamRule members) h → has_left_region m h ≡ false → at_region_end m h ≡ true → WaitsAtEnd m h
 ender_waits members m [] all inside ends = absurd (cc)
 ender_waits members m (Arrive barrier member tag ∷ earlier) all inside ends =
@@ -224,8 +204,7 @@ ender_waits members m (Pass barrier member ∷ earlier) all inside ends =
           absurd (let left = rw (who, number, before) at inside in cc)
       | inr other ↦
           let before = ender_waits members m earlier all.1 (or_second (member == m && was_region_end (arrival barrier m earlier)) (has_left_region m earlier) inside) ends in
-          let count : barriers_passed m (Pass barrier member ∷ earlier) ≡ barriers_passed m earlier = rw other refl in
-          (rw other before.0, subst (λ (n : ℕ). was_region_end (arrival n m earlier) ≡ true) (sym count) before.1)
+          (rw other before.0, subst (λ (n : ℕ). was_region_end (arrival n m earlier) ≡ true) (sym (count_of_another barrier member m earlier other)) before.1)
     ]
 ender_waits members m (_ ∷ earlier) all inside ends = ender_waits members m earlier all.1 inside ends
 
