@@ -270,11 +270,17 @@ static unsigned ask_cancelled(struct team *team, unsigned let)
 {
     bool is_some_woken = false, is_end = are_all_at_end(team);
     for (int number = 0; number < team->size; number++) {
-        const struct member *member = &team->members[number];
+        struct member *member = &team->members[number];
         bool is_early =
             leave_is_too_early(team, number, &member->last) || (member->last.kind == CALL_REGION_END && !is_end);
-        if (member->wait & let && !is_early && ask_one(team, number))
+        if (!(member->wait & let))
+            continue;
+        if (member->is_unasked && leave_is_hopeless(team, number, &member->last)) {
+            wake(team, member, (struct reply){.kind = REPLY_SKIPPED});
             is_some_woken = true;
+        } else if (!is_early && ask_one(team, number)) {
+            is_some_woken = true;
+        }
     }
     return is_some_woken ? WAIT_IN_CANCELLED : WAIT_NOT;
 }

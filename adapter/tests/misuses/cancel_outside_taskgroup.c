@@ -1,4 +1,4 @@
-// E24: a task cancels a taskgroup, and is in none.
+// E24 NoGroup: a task cancels a taskgroup, and is in none.
 // environment: OMP_CANCELLATION=true
 // words: #pragma omp cancel taskgroup, no taskgroup
 #include "../check.h"
