@@ -23,9 +23,13 @@
 // - A task's end lets pass the taskwait of the task that created it, and taskgroups' ends. A barrier that
 //   waits for tasks is passed by whoever ended the last one: it is at the barrier itself, asks again for
 //   itself, and then for the others.
+// - A cancellation lets pass who waits for tasks that are discarded by it. In a region that is cancelled each
+//   call asks for all whose calls are not too early (leave.c), and each reply that wakes one asks again. A call
+//   that is too early is not made yet: its member waits as one that was answered `wait`.
 // - The semaphore counts: a reply that comes before the member sleeps is not lost.
 // Were that list too short, the team would not hang in silence: when all members wait, each asks once more,
-// and only if all are answered `wait` again is a deadlock named.
+// and only if all are answered `wait` again is a deadlock named. In a cancelled region one of them may go on
+// then.
 #define _GNU_SOURCE
 #include "team.h"
 
