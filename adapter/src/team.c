@@ -372,9 +372,8 @@ static void wake_others(struct team *team, const struct call *call, const struct
         offer_freed(team);
     } else if (reply->kind == REPLY_CREATED) {
         offer_task(team);
-    } else if (call->kind == CALL_CANCEL && reply->count != 0) {
+    } else if (call->kind == CALL_CANCEL && reply->count != 0) { // the task's end offers what it frees
         let_others_pass(team, WAIT_CHILDREN | WAIT_GROUP);
-        offer_freed(team);
     } else if (!team->is_cancelled) {
         let_others_pass(team, lets_pass(call, reply));
     }
