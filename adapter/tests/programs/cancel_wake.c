@@ -1,5 +1,5 @@
-// A taskwait for a task that a cancellation discards is passed at once, and not when the next task ends: what is discarded waits for a
-// task that waits for that. OpenMP does not promise it, and libgomp 12 hangs.
+// A taskwait for a task that a cancellation discards is passed at once, and not when the next task ends: what is discarded waits
+// for a task that waits for that. OpenMP does not promise it, and libgomp 12 hangs.
 // threads: 4
 // environment: OMP_CANCELLATION=true
 // steps: cancel parallel 1, cancel taskgroup 1, taskwait in

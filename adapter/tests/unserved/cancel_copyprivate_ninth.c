@@ -1,4 +1,5 @@
-// #pragma omp single copyprivate: the ninth work-share that is open in a cancelled region, since a member has left. libgomp 12 hangs.
+// #pragma omp single copyprivate: the ninth work-share that is open in a cancelled region, since a member has left. libgomp 12
+// hangs.
 // environment: OMP_CANCELLATION=true
 #include "../check.h"
 
