@@ -3,13 +3,14 @@ use Rattle.std.proofs.Common.{◌≡◌, ℕ, Bool, true, false, List, refl, sub
 use Rattle.std.specs.Prelude.{◌==◌}
 use Rattle.std.proofs.lemmas.Bool.{cases_Bool}
 use Rattle.gomp_types.specs.declared.reply.Reply.{Reply}
-use Rattle.gomp_types.specs.declared.reply.Reply.TheVariants.{Passed, Wait, Created, Run, Refused}
+use Rattle.gomp_types.specs.declared.reply.Reply.TheVariants.{Passed, Wait, Created, Run, Dropped, Refused}
 use Rattle.gomp_types.specs.declared.event.Event.{Event}
 use Rattle.gomp_types.specs.Laws.{Always}
 use Rattle.gomp_types.specs.Tasks.{tasks_created, executed_task, is_undeferred, newest_child}
 use Rattle.gomp_types.specs.Goals.{may_start}
 use Rattle.gomp_types.specs.TaskRules.{TaskRule}
 use Rattle.gomp_types.specs.TaskCalls.{AnswersCreator, CreatesTask, AwaitsOwn, AwaitsTasks}
+use Rattle.gomp_types.specs.CancelCalls.{creates_covered, CreatesOrDrops}
 use Rattle.gomp_types.proofs.OpenTasks.{created_low}
 use Rattle.gomp_tasks.specs.Stands.{IsNumber}
 use Rattle.gomp_tasks.proofs.Laws.{created_tasks_have_numbers}
@@ -67,3 +68,11 @@ own_waits m t h _ held waits = absurd waits
 
 pub creator_has_to_wait : (m t : ℕ) (h : List Event) (reply : Reply) → t ≡ newest_child (executed_task m h) h → is_undeferred t h ≡ true → may_start m t h ≡ false → AwaitsTasks m false h reply → CreatesTask m h reply
 creator_has_to_wait m t h reply newest undeferred held waits = undeferred_answer m t h reply newest undeferred (own_waits m t h reply held waits)
+
+-- Of a task that nothing reaches
+
+pub answers_undropped : (m : ℕ) (h : List Event) (reply : Reply) → creates_covered m h ≡ false → CreatesTask m h reply → CreatesOrDrops m h reply
+answers_undropped m h reply uncovered may = rw uncovered may
+
+pub answers_dropped : (m : ℕ) (h : List Event) → creates_covered m h ≡ true → CreatesOrDrops m h Dropped
+answers_dropped m h covered = rw covered refl

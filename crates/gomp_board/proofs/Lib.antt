@@ -4,6 +4,7 @@ pub mod ArrivalPerformed
 pub mod BarrierNumbers
 pub mod BoardExamples
 pub mod Creators
+pub mod Discards
 pub mod Freed
 pub mod GroupsOpen
 pub mod Joined
@@ -22,6 +23,7 @@ pub mod RefusalOrder
 pub mod Refused
 pub mod RegionLeft
 pub mod RoomKeeps
+pub mod Sealed
 pub mod Startables
 pub mod StoredExamples
 pub mod StoredKeeps

@@ -15,6 +15,6 @@ returns c = record {
       let room = c.await_pass.ensures.room in
       let own = reverse c.args.self.now.history in
       let reply : IsReply c.await_pass.result = awaits_is_reply c.args.member (may_pass (members_of c.args.self.now) c.args.member own) own c.await_pass.result (c.await_pass.ensures.answer own c.await_pass.ensures.known) in
-      op_performed AwaitBarrier c.args.member c.args.self.now c.await_pass.new.self c.await_pass.result reply c.requires.admitted c.await_pass.ensures.answer c.await_pass.ensures.stands c.await_pass.ensures.limits (omega (arith, room))
+      op_performed AwaitBarrier c.args.member c.args.self.now c.await_pass.new.self c.await_pass.result reply refl c.requires.admitted c.await_pass.ensures.answer c.await_pass.ensures.stands c.await_pass.ensures.limits (omega (arith, room))
       (c.await_pass.ensures.kept ∙ sym (set-get_or c.args.self.now.kept c.args.member 0)) (λ wait goes. c.await_pass.ensures.waits wait);
 }

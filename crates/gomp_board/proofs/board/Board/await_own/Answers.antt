@@ -9,7 +9,7 @@ pub returns : goal.returns
 returns c =
     let now = c.args.self.now in let m = c.args.member in let reply = c.answer_creator.result in let room = c.answer_creator.ensures.room in
     record {
-      performs = op_performed AwaitOwn m now c.answer_creator.new.self reply (creator_is_answered m (reverse now.history) reply (c.answer_creator.ensures.answer (reverse now.history) c.answer_creator.ensures.known)) c.requires.admitted
+      performs = op_performed AwaitOwn m now c.answer_creator.new.self reply (creator_is_answered m (reverse now.history) reply (c.answer_creator.ensures.answer (reverse now.history) c.answer_creator.ensures.known)) refl c.requires.admitted
           (λ h st. c.answer_creator.ensures.answer h st) (λ h st. c.answer_creator.ensures.stands h st)
           c.answer_creator.ensures.limits (omega (arith, room)) (c.answer_creator.ensures.kept ∙ sym (set_same now.kept m)) (λ wait goes. c.answer_creator.ensures.waits wait);
     }

@@ -12,7 +12,8 @@ returns-in-Ok c =
     let made = reverse c.add_task.new.self.history in
     let known = c.answer_creator.ensures.answer made c.answer_creator.ensures.known in
     record {
-      performs = op_performed (Create d) m now c.answer_creator.new.self reply (creator_is_answered m made reply known) c.requires.admitted
-          (λ h st. c.answer_creator.ensures.answer (creates m d h ++ h) (c.in-Ok.ensures.stands h st)) (λ h st. c.answer_creator.ensures.stands (creates m d h ++ h) (c.in-Ok.ensures.stands h st))
+      performs = op_performed (Create d) m now c.answer_creator.new.self reply (creator_is_answered m made reply known) (creator_keeps_room m d made reply known) c.requires.admitted
+          (λ h st. let low = uncovered h st in rw (creates_begun m d h low) (answers_undropped m (creates m d h ++ h) reply (still_uncovered _ m d h c.add_task.ensures.known low st) (c.answer_creator.ensures.answer (creates m d h ++ h) (c.in-Ok.ensures.stands h st))))
+          (λ h st. rw (creates_begun m d h (uncovered h st)) (c.answer_creator.ensures.stands (creates m d h ++ h) (c.in-Ok.ensures.stands h st)))
           (c.answer_creator.ensures.limits ∙ c.add_task.ensures.limits) (c.answer_creator.ensures.room ∙ c.in-Ok.ensures.room) (c.answer_creator.ensures.kept ∙ c.add_task.ensures.kept ∙ sym (set_same now.kept m)) (λ wait goes. absurd (cc));
     }

@@ -36,7 +36,7 @@ returns c =
     let longer = c.push_reserved.ensures.items ∙ ap (λ (es : List Event). es ++ Group c.open-group.result m ∷ []) c.reserve_group.ensures.history in
     let room : b.room ≡ now.room = ap (λ (v : BoardView). v.room) c.self.view_is in
     record {
-      performs = op_performed OpenGroup m now _ Finished tt c.requires.admitted (λ h now_st. refl)
+      performs = op_performed OpenGroup m now _ Finished tt refl c.requires.admitted (λ h now_st. refl)
           (λ h now_st.
           let st = subst (λ (v : BoardView). Stands v h) (sym c.self.view_is) now_st in
           let groups = more_group_room c.self.inside.groups c.reserve_group.new.groups h c.reserve_group.ensures.groups st.groups in
