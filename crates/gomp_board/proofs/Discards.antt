@@ -68,7 +68,7 @@ left_by_discards (suc k) t m h low high un =
           let now : is_unstarted t (Discard (suc k) m ∷ (discards_to k m h ++ h)) ≡ true = rw is at un in
           elim (cases_lt t (suc k)) [
             | inl below ↦ left_by_discards k t m h low (omega (arith, below)) (unstarted_before (Discard (suc k) m) t (discards_to k m h ++ h) tt now)
-            | inr past ↦ let e : t ≡ suc k = omega (arith, past, high) in absurd (discarded_is_complete (suc k) m (discards_to k m h ++ h) (rw e at now))
+            | inr past ↦ let e : t ≡ suc k = omega (arith, past, high) in absurd (discarded_is_complete (suc k) m (discards_to k m h ++ h) (subst (λ (u : ℕ). is_unstarted u (Discard (suc k) m ∷ (discards_to k m h ++ h)) ≡ true) e now))
           ]
       | inr not_it ↦
           let now : is_unstarted t (discards_to k m h ++ h) ≡ true = rw not_it at un in
@@ -76,8 +76,8 @@ left_by_discards (suc k) t m h low high un =
             | inl below ↦ left_by_discards k t m h low (omega (arith, below)) now
             | inr past ↦
                 let e : t ≡ suc k = omega (arith, past, high) in
-                let un_last : is_unstarted (suc k) h ≡ true = sym (later_unstarted k (suc k) m h (omega arith)) ∙ rw e at now in
-                rw e (second_fails (is_unstarted (suc k) h) (is_covered (suc k) h) not_it un_last)
+                let un_last : is_unstarted (suc k) h ≡ true = sym (later_unstarted k (suc k) m h (omega arith)) ∙ subst (λ (u : ℕ). is_unstarted u (discards_to k m h ++ h) ≡ true) e now in
+                subst (λ (u : ℕ). is_covered u h ≡ false) (sym e) (second_fails (is_unstarted (suc k) h) (is_covered (suc k) h) not_it un_last)
           ]
     ]
   where

@@ -3,6 +3,7 @@ pub mod AdmittedArrivals
 pub mod ArrivalPerformed
 pub mod BarrierNumbers
 pub mod BoardExamples
+pub mod Cancelled
 pub mod Creators
 pub mod Discards
 pub mod Freed

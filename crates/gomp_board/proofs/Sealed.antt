@@ -11,12 +11,17 @@ use Rattle.gomp_types.specs.declared.task.Task.TheVariants.{Implicit, Explicit}
 use Rattle.gomp_types.specs.declared.task.TaskDesc.{TaskDesc}
 use Rattle.gomp_types.specs.declared.event.Event.{Event}
 use Rattle.gomp_types.specs.declared.event.Event.TheVariants.{Create, Start, Done, Cancel, Discard}
-use Rattle.gomp_types.specs.Tasks.{tasks_created, is_created, has_started, is_complete}
+use Rattle.gomp_types.specs.Laws.{Always}
+use Rattle.gomp_types.specs.TaskRules.{TaskRule}
+use Rattle.gomp_types.specs.TaskCalls.{creates}
+use Rattle.gomp_types.specs.CancelCalls.{creates_covered}
+use Rattle.gomp_types.specs.Tasks.{tasks_created, executed_task, is_created, has_started, is_complete}
 use Rattle.gomp_types.specs.Groups.{open_groups, groups_around}
 use Rattle.gomp_types.specs.Goals.{is_unstarted}
 use Rattle.gomp_types.specs.Cancels.{was_cancelled, is_cancelled, some_cancelled, is_covered, would_be_covered, groups_within}
 use Rattle.gomp_types.proofs.Booleans.{same_number, other_number}
-use Rattle.gomp_types.proofs.Suspended.{unstarted_is_fresh}
+use Rattle.gomp_types.proofs.OpenTasks.{created_high}
+use Rattle.gomp_types.proofs.Suspended.{unstarted_is_fresh, current_open}
 use Rattle.gomp_board.specs.Boards.{AreSealed}
 
 -- at first there is no task
@@ -102,3 +107,13 @@ sealed_created t m p desc h number uncovered sealed = λ u un. elim (eqb_tells t
       let last : (suc (tasks_created h) == u) ≡ false = rw number at other.0 in
       other_is_covered t u m p desc h other.0 ∙ sealed u (rw (made_before u (tasks_created h) last) at un)
 ]
+
+-- nor is another reached that is created in the same task next
+within_as_before : (t m : ℕ) (p q : Task) (desc : TaskDesc) (h : List Event) → ((s : ℕ) → p ≡ Explicit s → (t == s) ≡ false) → would_be_covered p (Create t m q desc ∷ h) ≡ would_be_covered p h
+within_as_before t m (Implicit x) q desc h differ = rw (created_keeps t m q desc (groups_within (Implicit x) h) h) refl
+within_as_before t m (Explicit s) q desc h differ = rw (around_other t s m q desc h (differ s refl), created_keeps t m q desc (groups_within (Explicit s) h) h) refl
+
+pub still_uncovered : (members m : ℕ) (desc : TaskDesc) (h : List Event) → Always (TaskRule members) h → creates_covered m h ≡ false → creates_covered m (creates m desc h ++ h) ≡ false
+still_uncovered members m desc h all uncovered =
+    within_as_before (suc (tasks_created h)) m (executed_task m h) (executed_task m h) desc h
+    (λ s e. other_number (suc (tasks_created h)) s (λ same. let high = created_high s h (current_open members m s h all e).0 in omega (arith, high, same))) ∙ uncovered

@@ -28,15 +28,17 @@ impl Board {
         ensures performs { Performs (Arrive tag leaving) member self.old self.new result }
     {
         let asked = arrival_asks(tag.kind, self.kept[member as usize]);
-        if self.make_room(asked).is_err() {
-            return Reply::Refused(Refusal::NoMemory);
+        match self.make_room(asked) {
+            Err(_) => Reply::Refused(Refusal::NoMemory),
+            Ok(()) => {
+                if self.arrives_nowhere(tag.kind) {
+                    self.use_kept(member, tag.kind);
+                    return Reply::Cancelled;
+                }
+                self.note_arrival(member, tag);
+                self.await_pass(member)
+            }
         }
-        if self.arrives_nowhere(tag.kind) {
-            self.use_kept(member, tag.kind);
-            return Reply::Cancelled;
-        }
-        self.note_arrival(member, tag);
-        self.await_pass(member)
     }
 
     /// The member waits on at the barrier at which it has arrived. In a cancelled region it waits at

@@ -52,11 +52,13 @@ impl Board {
             return Reply::Cancelling(allowed && cancelled);
         }
         let scope = self.scope_named(member, named);
-        if self.make_room(CANCEL_ROOM).is_err() {
-            return Reply::Refused(Refusal::NoMemory);
+        match self.make_room(CANCEL_ROOM) {
+            Err(_) => Reply::Refused(Refusal::NoMemory),
+            Ok(()) => {
+                self.cancel_scope(member, scope);
+                Reply::Cancelling(true)
+            }
         }
-        self.cancel_scope(member, scope);
-        Reply::Cancelling(true)
     }
 
     /// The member comes to a cancellation point.

@@ -1,4 +1,4 @@
-use Rattle.std.proofs.Common.{reverse, sym, ◌∙◌, arith}
+use Rattle.std.proofs.Common.{refl, reverse, sym, ◌∙◌, arith}
 use Rattle.gomp_types.specs.Tasks.{executed_task}
 use Rattle.gomp_types.specs.Groups.{open_groups}
 use Rattle.gomp_types.specs.TaskCalls.{last_complete}
