@@ -56,6 +56,17 @@ discards_none k m h not_it =
     let same : (is_unstarted (suc k) h && is_covered (suc k) h) ≡ false = rw (later_unstarted k (suc k) m h (omega arith), discards_keep_covered k (suc k) m h) at not_it in
     rw same refl
 
+-- the same of the number k + 1
+pub discards_next_at : (k m : ℕ) (h : List Event) → (is_unstarted (k + 1) (discards_to k m h ++ h) && is_covered (k + 1) (discards_to k m h ++ h)) ≡ true → Discard (k + 1) m ∷ (discards_to k m h ++ h) ≡ discards_to (k + 1) m h ++ h
+discards_next_at k m h =
+    let e : suc k ≡ k + 1 = omega arith in
+    subst (λ (n : ℕ). (is_unstarted n (discards_to k m h ++ h) && is_covered n (discards_to k m h ++ h)) ≡ true → Discard n m ∷ (discards_to k m h ++ h) ≡ discards_to n m h ++ h) e (discards_next k m h)
+
+pub discards_none_at : (k m : ℕ) (h : List Event) → (is_unstarted (k + 1) (discards_to k m h ++ h) && is_covered (k + 1) (discards_to k m h ++ h)) ≡ false → discards_to k m h ++ h ≡ discards_to (k + 1) m h ++ h
+discards_none_at k m h =
+    let e : suc k ≡ k + 1 = omega arith in
+    subst (λ (n : ℕ). (is_unstarted n (discards_to k m h ++ h) && is_covered n (discards_to k m h ++ h)) ≡ false → discards_to k m h ++ h ≡ discards_to n m h ++ h) e (discards_none k m h)
+
 -- Together they leave none of the tasks up to k
 discarded_is_complete : (t m : ℕ) (h : List Event) → is_unstarted t (Discard t m ∷ h) ≡ true → ⊥
 discarded_is_complete t m h un = not_both (is_complete t (Discard t m ∷ h)) (rw (same_number t) refl) (unstarted_is_fresh t (Discard t m ∷ h) un).2

@@ -4,7 +4,9 @@ pub mod ArrivalPerformed
 pub mod BarrierNumbers
 pub mod BoardExamples
 pub mod Cancelled
+pub mod CancelledExamples
 pub mod Creators
+pub mod DiscardSteps
 pub mod Discards
 pub mod Freed
 pub mod GroupsOpen

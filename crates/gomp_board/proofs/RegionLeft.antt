@@ -13,6 +13,8 @@ use Rattle.gomp_types.proofs.Booleans.{which_branch, and_left, and_right, and_fa
 use Rattle.gomp_types.proofs.ArrivalsKeep.{same_arrivals}
 use Rattle.gomp_types.specs.declared.event.Arrival.TheVariants.{RegionEnd}
 use Rattle.gomp_types.specs.Cancels.{is_cancelled}
+use Rattle.gomp_barrier.specs.Calls.{accepts_arrival}
+use Rattle.gomp_board.specs.Boards.{ArrivesFirst}
 use Rattle.gomp_board.specs.Ops.{awaits_barrier, is_cut_short}
 
 -- a member that has arrived so did
@@ -158,3 +160,15 @@ arrives_first members m h all stays idle outside =
     by true true false e = (λ whole. absurd (cc), λ waits. refl)
     by true false c e = absurd (cc)
     by false b c e = (λ whole. refl, λ waits. absurd (cc))
+
+-- an arrival that comes first is accepted
+pub first_is_accepted : (m : ℕ) (tag : Tag) (h : List Event) → ArrivesFirst m tag h → accepts_arrival m tag h ≡ true
+first_is_accepted m tag h first = elim (cases_Bool (is_cancelled h)) [
+  | inl cancelled ↦
+      let stays : has_left_region m h ≡ false = elim (cases_Bool (has_left_region m h)) [
+        | inl left ↦ absurd (not_both (at_region_end m h) (left_came m h left) first.before)
+        | inr not_left ↦ not_left
+      ] in
+      rw (cancelled, first.ends cancelled, stays) refl
+  | inr whole ↦ let alike = first.alike whole in rw (whole, alike) refl
+]

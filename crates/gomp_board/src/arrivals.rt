@@ -33,10 +33,11 @@ impl Board {
             Ok(()) => {
                 if self.arrives_nowhere(tag.kind) {
                     self.use_kept(member, tag.kind);
-                    return Reply::Cancelled;
+                    Reply::Cancelled
+                } else {
+                    self.note_arrival(member, tag);
+                    self.await_pass(member)
                 }
-                self.note_arrival(member, tag);
-                self.await_pass(member)
             }
         }
     }

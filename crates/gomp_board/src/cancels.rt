@@ -1,17 +1,18 @@
 //! Cancel and cancellation point constructs of the region and of groups, and the tasks that a
 //! cancellation discards. OpenMP API 5.2, sections 16.1 and 16.2.
 
-ghost use Rattle.std.specs.Prelude.{◌≡◌, ◌<◌, ◌≤◌, ◌+◌, ◌++◌, ◌∷◌, ℕ, List, [], true, Some, None, length, reverse};
+ghost use Rattle.std.specs.Prelude.{◌≡◌, ◌<◌, ◌≤◌, ◌+◌, ◌++◌, ◌∷◌, ◌&&◌, ℕ, List, [], Some, None, length, reverse};
 ghost use Rattle.std.specs.Vec.{vec_capacity};
 ghost use Rattle.gomp_types.specs.declared.event.Event.{Event as Happening};
 ghost use Rattle.gomp_types.specs.declared.event.Event.TheVariants.{Cancel as Cancelled, Discard};
 ghost use Rattle.gomp_types.specs.TaskRules.{MayDiscard};
 ghost use Rattle.gomp_types.specs.Tasks.{tasks_created};
-ghost use Rattle.gomp_types.specs.Cancels.{scope_of, names_cancelled};
+ghost use Rattle.gomp_types.specs.Cancels.{is_covered, scope_of, names_cancelled};
 ghost use Rattle.gomp_types.specs.CancelCalls.{cancel_tests, cancels, discards_to};
+ghost use Rattle.gomp_types.specs.Goals.{is_unstarted};
 ghost use Rattle.gomp_types.specs.Least.{least};
-ghost use Rattle.gomp_tasks.specs.Stands.{members_of as task_members, count_of};
-ghost use Rattle.gomp_groups.specs.Stands.{members_of as group_members};
+ghost use Rattle.gomp_tasks.specs.Stands.{Stands as TasksStand, IsNumber, members_of as task_members, count_of};
+ghost use Rattle.gomp_groups.specs.Stands.{Stands as GroupsStand, members_of as group_members};
 ghost use Rattle.gomp_barrier.specs.Stands.{Stands as BarriersStand, members_of as barrier_members};
 ghost use Rattle.gomp_cancel.specs.Cancellations.{CancelView, CancelStands};
 ghost use Rattle.gomp_board.specs.Ops.{kind_of};
@@ -22,6 +23,7 @@ ghost use Rattle.gomp_board.specs.declared.op.Op.TheVariants.{Cancel, Point};
 
 use crate::board::Board;
 use crate::op::TeamCancel;
+use crate::refusals::both;
 use gomp_barrier::Barriers;
 use gomp_cancel::Cancellation;
 use gomp_depend::Depends;
@@ -47,9 +49,9 @@ impl Board {
         requires admitted { IsAdmitted (Cancel named clause allowed) member self.old }
         ensures performs { Performs (Cancel named clause allowed) member self.old self.new result }
     {
-        if !(allowed && clause) {
+        if !both(allowed, clause) {
             let cancelled = self.names_cancelled(member, named);
-            return Reply::Cancelling(allowed && cancelled);
+            return Reply::Cancelling(both(allowed, cancelled));
         }
         let scope = self.scope_named(member, named);
         match self.make_room(CANCEL_ROOM) {
@@ -68,7 +70,7 @@ impl Board {
         ensures performs { Performs (Point named allowed) member self.old self.new result }
     {
         let cancelled = self.names_cancelled(member, named);
-        Reply::Cancelling(allowed && cancelled)
+        Reply::Cancelling(both(allowed, cancelled))
     }
 
     /// Whether what a construct of the member names is cancelled.
@@ -179,6 +181,9 @@ fn discard_covered(
     ensures owes { (n : ℕ) → length history.new.items + owed n (reverse history.new.items)
         ≤ length history.old.items + owed n (reverse history.old.items) }
     ensures memory { vec_capacity history.new ≡ vec_capacity history.old }
+    ensures history { reverse history.new.items ≡ discards_to (tasks_created
+        (reverse history.old.items)) member (reverse history.old.items)
+        ++ reverse history.old.items }
     ensures in_tasks { task_members tasks.new ≡ task_members tasks.old }
     ensures in_groups { group_members groups.new ≡ group_members groups.old }
     ensures in_barriers { barrier_members barriers.new ≡ barrier_members barriers.old }
@@ -186,12 +191,26 @@ fn discard_covered(
     let count = tasks.count();
     for place in 0..count {
         let task = place + 1;
-        if tasks.is_unstarted(task) && cancelled.is_covered(groups, task) {
+        if is_discarded(cancelled, tasks, groups, task) {
             discard_task(
                 member, task, history, tasks, groups, barriers, depends, ready,
             );
         }
     }
+}
+
+/// Whether the task is to be discarded: nobody has started it, and a cancellation reaches it.
+fn is_discarded(cancelled: &Cancellation, tasks: &Tasks, groups: &Groups, task: u32) -> bool
+    requires task { IsNumber task tasks.now }
+    requires known { (h : List Happening) × CancelStands cancelled.now h × TasksStand tasks.now h ×
+        GroupsStand groups.now h }
+    ensures value { (h : List Happening) → CancelStands cancelled.now h → TasksStand tasks.now h →
+        GroupsStand groups.now h → result ≡ (is_unstarted task h && is_covered task h) }
+{
+    if !tasks.is_unstarted(task) {
+        return false;
+    }
+    cancelled.is_covered(groups, task)
 }
 
 /// Discards a task that nobody has started and that a cancellation reaches.

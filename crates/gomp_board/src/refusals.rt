@@ -1,6 +1,6 @@
 //! Why an operation is refused.
 
-ghost use Rattle.std.specs.Prelude.{◌≡◌, ◌<◌, List, [], ◌∷◌, ◌++◌, ◌&&◌, not, Option, Some, None, if◌then◌else◌, nat_le, nat_lt, length, reverse};
+ghost use Rattle.std.specs.Prelude.{◌≡◌, ◌<◌, List, [], ◌∷◌, ◌++◌, ◌&&◌, ◌||◌, not, Option, Some, None, if◌then◌else◌, nat_le, nat_lt, length, reverse};
 ghost use Rattle.gomp_types.specs.declared.event.Event.{Event};
 ghost use Rattle.gomp_types.specs.declared.depend.Dep.{Dep as Item};
 ghost use Rattle.gomp_types.specs.declared.task.TaskDesc.{TaskDesc};
@@ -24,6 +24,7 @@ use crate::groups::GROUP_ROOM;
 use crate::op::{Op, TeamCancel};
 use crate::tasks::TASK_ROOM;
 use crate::words::words_ask;
+use gomp_barrier::AtBarrier;
 use gomp_types::{Arrival, Dep, MAX_DEPENDS, MAX_TASK_DEPTH, Place, Refusal, Tag, Task};
 
 impl Board {
@@ -122,7 +123,7 @@ impl Board {
     {
         let lacks = self.lacks_room(TASK_ROOM);
         let dropped = self.drops_creation(member);
-        let full = first(lacks && !dropped, Refusal::TraceFull, None);
+        let full = first(both(lacks, !dropped), Refusal::TraceFull, None);
         let named = first(has_too_many(items), Refusal::TooManyDepends, full);
         let many = first(self.has_all_tasks(), Refusal::TooManyTasks, named);
         let deep = first(self.is_deepest(member), Refusal::TooDeep, many);
@@ -340,9 +341,7 @@ impl Board {
         requires member { member < members_of self.now }
         ensures value { (h : List Event) → Stands self.now h → result ≡ at_region_end member h }
     {
-        let seen = self.barriers.look(member);
-        let at_end = is_at_end(seen.arrived);
-        seen.left || at_end
+        is_at_end(self.barriers.look(member))
     }
 
     /// Whether the member leaves a group of its task open: it has one, and does not give it up.
@@ -431,14 +430,24 @@ impl Board {
     }
 }
 
-/// Whether a member that has arrived so at its next barrier did at the region's end.
-fn is_at_end(arrived: Option<Tag>) -> bool
-    ensures { result ≡ was_region_end arrived }
+/// Whether a member that sees this has arrived at the region's end: it has passed it, or is there.
+fn is_at_end(seen: AtBarrier) -> bool
+    ensures { result ≡ (seen.left || was_region_end seen.arrived) }
 {
-    match arrived {
+    if seen.left {
+        return true;
+    }
+    match seen.arrived {
         Some(tag) => ends_region(tag.kind),
         None => false,
     }
+}
+
+/// Whether both hold.
+pub(crate) fn both(one: bool, other: bool) -> bool
+    ensures { result ≡ (one && other) }
+{
+    one && other
 }
 
 /// Whether a `depend` clause has more items than it may have.

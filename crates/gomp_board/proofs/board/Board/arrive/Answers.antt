@@ -54,8 +54,8 @@ returns-in-Err c =
     c.arrival_asks-asked.ensures ∙ ap (arrival_asks c.args.tag.kind) (c.index.ensures ∙ get_or_default c.self.inside.kept.items c.args.member _ 0 low ∙ kept) in
     record { performs = nothing_performed (Arrive c.args.tag c.args.leaving) c.args.member now c.make_room.new.self c.arrival_asks-asked.result asked (λ h. refl) c.requires.admitted c.in-Err.ensures.err c.in-Err.ensures.there }
 
-pub returns-in-Ok : goal.returns-in-Ok
-returns-in-Ok c =
+pub returns-else-arrives_nowhere : goal.returns-else-arrives_nowhere
+returns-else-arrives_nowhere c =
     let now = c.args.self.now in
     let more = c.arrival_asks-asked.result in
     let low = subst (λ (v : BoardView). c.args.member < members_of v) (sym c.self.view_is) c.requires.member in
@@ -70,8 +70,8 @@ returns-in-Ok c =
           c.await_pass.ensures.known c.await_pass.ensures.answer c.await_pass.ensures.stands c.await_pass.ensures.limits c.await_pass.ensures.room c.await_pass.ensures.kept;
     }
 
-pub returns-in-Ok-then-arrives_nowhere : goal.returns-in-Ok-then-arrives_nowhere
-returns-in-Ok-then-arrives_nowhere c =
+pub returns-then-arrives_nowhere : goal.returns-then-arrives_nowhere
+returns-then-arrives_nowhere c =
     let now = c.args.self.now in
     let more = c.arrival_asks-asked.result in
     let low = subst (λ (v : BoardView). c.args.member < members_of v) (sym c.self.view_is) c.requires.member in

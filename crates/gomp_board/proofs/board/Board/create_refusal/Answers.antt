@@ -10,6 +10,6 @@ returns c = record {
   value = λ h st.
       let now = c.args.self.now in let m = c.args.member in
       let full : c.first-full.result ≡ first_refusal (creation_room_tests (creates_covered m h) now.limits now.room) =
-      c.first-full.ensures ∙ rw (c.lacks_room-lacks.ensures, c.drops_creation-dropped.ensures.value h st) (creation_room_is (creates_covered m h) now.limits now.room) in
+      rw (c.first-full.ensures, c.both.ensures, c.lacks_room-lacks.ensures, c.drops_creation-dropped.ensures.value h st) (creation_room_is (creates_covered m h) now.limits now.room) in
       rw (c.first.ensures, c.first-deep.ensures, c.first-many.ensures, c.first-named.ensures, full, c.is_busy.ensures.value h st, c.is_deepest.ensures.value h st, c.has_all_tasks.ensures.value h st, c.has_too_many.ensures) refl;
 }
