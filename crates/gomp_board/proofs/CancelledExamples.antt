@@ -170,7 +170,7 @@ pub discards_after_a_cancel : op_after 0 (Cancel Parallel true true) (Cancelling
 discards_after_a_cancel = refl
 
 -- those of the group alone
-pub discards_of_a_group : op_after 0 (Cancel Taskgroup true true) (Cancelling true) (creates_root 2 ∷ Start 1 0 ∷ group_ready) ≡ CancelEvent 0 (OneGroup 0) ∷ creates_root 2 ∷ Start 1 0 ∷ group_ready
+pub discards_of_a_group : op_after 0 (Cancel Taskgroup true true) (Cancelling true) (Start 2 0 ∷ creates_root 2 ∷ Group 0 0 ∷ one_ready) ≡ CancelEvent 0 (OneGroup 0) ∷ Start 2 0 ∷ creates_root 2 ∷ Group 0 0 ∷ one_ready
 discards_of_a_group = refl
 
 pub discards_in_a_group : op_after 0 (Cancel Taskgroup true true) (Cancelling true) (creates_in 1 2 ∷ Start 1 0 ∷ group_ready) ≡ Discard 2 0 ∷ CancelEvent 0 (OneGroup 0) ∷ creates_in 1 2 ∷ Start 1 0 ∷ group_ready

@@ -107,10 +107,10 @@ module _ {t0 t : TasksView} {g0 g : GroupsView} {b0 b : BarriersView} {d0 d : De
       ((v : CancelView) (h : List Event) → PartsStand v t g b d ids es h → MayDiscard (task_members t) (k + 1) m h → MayDiscard (group_members g) (k + 1) m h → PartsStand v t' g' b' d' ids' es' (Discard (k + 1) m ∷ h)) →
       es' ≡ es ++ Discard (k + 1) m ∷ [] → count_of t' ≡ count_of t → task_members t' ≡ task_members t → group_members g' ≡ group_members g → barrier_members b' ≡ barrier_members b →
       AreDiscarded (k + 1) m c t0 t' g0 g' b0 b' d0 d' ids0 ids' es0 es'
-  one_more_discarded {es' = es'} low_t low_g own tells step longer count in_tasks in_groups in_barriers = record {
+  one_more_discarded {t' = t'} {g' = g'} {b' = b'} {d' = d'} {ids' = ids'} {es' = es'} low_t low_g own tells step longer count in_tasks in_groups in_barriers = record {
     stands = λ h st0.
         let st = all.stands h st0 in let is = sym (tells (discards_to k m h ++ h) st.cancelled st.tasks st.groups) in
-        subst (λ (e : List Event). PartsStand c _ _ _ _ _ es' e) (discards_next_at k m h is) (step c (discards_to k m h ++ h) st (may_t (discards_to k m h ++ h) is) (may_g (discards_to k m h ++ h) is));
+        subst (λ (e : List Event). PartsStand c t' g' b' d' ids' es' e) (discards_next_at k m h is) (step c (discards_to k m h ++ h) st (may_t (discards_to k m h ++ h) is) (may_g (discards_to k m h ++ h) is));
     history =
         let st = own_discarded own in let is0 = sym (tells (reverse es) st.cancelled st.tasks st.groups) in
         let is = subst (λ (e : List Event). (is_unstarted (k + 1) e && is_covered (k + 1) e) ≡ true) all.history is0 in

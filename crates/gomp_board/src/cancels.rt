@@ -49,6 +49,7 @@ impl Board {
         requires admitted { IsAdmitted (Cancel named clause allowed) member self.old }
         ensures performs { Performs (Cancel named clause allowed) member self.old self.new result }
     {
+        let _ = &self.room; // opens the board
         if !both(allowed, clause) {
             let cancelled = self.names_cancelled(member, named);
             return Reply::Cancelling(both(allowed, cancelled));

@@ -80,7 +80,7 @@ returns-then-arrives_nowhere c =
     c.arrival_asks-asked.ensures ∙ ap (arrival_asks c.args.tag.kind) (c.index.ensures ∙ get_or_default c.self.inside.kept.items c.args.member _ 0 low ∙ kept) in
     let made : c.make_room.new.self ≡ record now { room = now.room + more } = c.in-Ok.ensures.room in
     record {
-      performs = arrival_cancelled c.args.tag c.args.leaving c.args.member more now c.make_room.new.self c.use_kept.new.self c.requires.admitted asked made c.use_kept.ensures
+      performs = arrival_cancelled c.args.tag c.args.leaving c.args.member more now c.make_room.new.self c.use_kept.new.self c.requires.admitted asked made c.use_kept.ensures.value
           (λ h st. sym (c.arrives_nowhere.ensures.value h (subst (λ (v : BoardView). Stands v h) (sym made) (roomy_stands now (now.room + more) h st))) ∙ c.if-arrives_nowhere.true)
           (λ h st. before_end_of c.args.tag c.args.leaving c.args.member now c.requires.admitted h st);
     }

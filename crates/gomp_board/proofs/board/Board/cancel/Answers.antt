@@ -35,7 +35,7 @@ make_room-requires c = record {
 
 pub returns-then-not-both : goal.returns-then-not-both
 returns-then-not-both c = record {
-  performs = rw c.both-2.ensures (cancel_told c.args.named c.args.clause c.args.allowed c.names_cancelled-cancelled.result c.args.member c.args.self.now c.requires.admitted (sym c.both.ensures ∙ c.if-not-both.true) c.names_cancelled-cancelled.ensures.value);
+  performs = rw c.both-then-not-both.ensures (cancel_told c.args.named c.args.clause c.args.allowed c.names_cancelled-cancelled.result c.args.member c.args.self.now c.requires.admitted (sym c.both.ensures ∙ c.if-not-both.true) c.names_cancelled-cancelled.ensures.value);
 }
 
 pub returns-in-Ok : goal.returns-in-Ok
