@@ -109,8 +109,10 @@ impl Board {
     /// The member uses what it has kept for an arrival of this kind.
     fn use_kept(&mut self, member: u16, kind: Arrival)
         requires member { member < members_of self.old }
-        ensures value { self.new ≡ record self.old { kept =
-            slice_set self.old.kept member (arrival_keeps kind (kept_by member self.old)) } }
+        ensures value { self.new ≡ record self.old {
+          kept =
+              slice_set self.old.kept member (arrival_keeps kind (kept_by member self.old));
+        } }
     {
         let place = member as usize;
         self.kept[place] = arrival_keeps(kind, self.kept[place]);

@@ -29,7 +29,14 @@ impl Board {
     {
         let task = self.current(member);
         let room = self.room + GROUP_ROOM;
-        if reserve_group(&mut self.history, room, &mut self.groups, &mut self.cancelled).is_err() {
+        if reserve_group(
+            &mut self.history,
+            room,
+            &mut self.groups,
+            &mut self.cancelled,
+        )
+        .is_err()
+        {
             return Reply::Refused(Refusal::NoMemory);
         }
         let group = self.groups.open(task);

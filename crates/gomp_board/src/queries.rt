@@ -89,7 +89,11 @@ impl Board {
         ensures value { (h : List Event) → Stands self.now h →
             result ≡ least (end_task_tests leaving member h) }
     {
-        let open = first(self.keeps_group_open(member, leaving), Refusal::GroupOpen, None);
+        let open = first(
+            self.keeps_group_open(member, leaving),
+            Refusal::GroupOpen,
+            None,
+        );
         first(!self.in_task(member), Refusal::NotInTask, open)
     }
 
@@ -100,7 +104,11 @@ impl Board {
         ensures value { (h : List Event) → Stands self.now h →
             result ≡ least (end_region_tests leaving member h) }
     {
-        let open = first(self.keeps_group_open(member, leaving), Refusal::GroupOpen, None);
+        let open = first(
+            self.keeps_group_open(member, leaving),
+            Refusal::GroupOpen,
+            None,
+        );
         first(self.in_task(member), Refusal::InsideTask, open)
     }
 

@@ -136,7 +136,11 @@ impl Board {
         ensures value { (h : List Event) → Stands self.now h →
             result ≡ first_refusal (busy_tests member h ++ end_task_tests leaving member h) }
     {
-        let open = first(self.keeps_group_open(member, leaving), Refusal::GroupOpen, None);
+        let open = first(
+            self.keeps_group_open(member, leaving),
+            Refusal::GroupOpen,
+            None,
+        );
         let outside = first(!self.in_task(member), Refusal::NotInTask, open);
         first(self.is_busy(member), Refusal::Waiting, outside)
     }
@@ -191,7 +195,11 @@ impl Board {
     {
         match kind {
             Arrival::RegionEnd => {
-                first(self.keeps_group_open(member, leaving), Refusal::GroupOpen, other)
+                first(
+                    self.keeps_group_open(member, leaving),
+                    Refusal::GroupOpen,
+                    other,
+                )
             }
             Arrival::Barrier => other,
             Arrival::ShareEnd => other,

@@ -35,8 +35,7 @@ loop-place-preserved c =
     let k = c.loop-place.place in let m = c.args.member in let all = c.loop-place.invariant.0 in
     elim c.if-is_discarded.branch [
       | then-is_discarded w ↦
-          rw (w.tasks-is, w.groups-is, w.barriers-is, w.depends-is, w.ready-is, w.history-is)
-          (
+          rw (w.tasks-is, w.groups-is, w.barriers-is, w.depends-is, w.ready-is, w.history-is) (
             one_more_discarded k m c.args.cancelled.now all c.requires.in_tasks c.requires.in_groups c.requires.own (λ h cancelled tasks groups. sym w.if-is_discarded.true ∙ c.is_discarded.ensures.value h cancelled tasks groups)
                 w.discard_task.ensures.stands w.discard_task.ensures.history w.discard_task.ensures.count w.discard_task.ensures.in_tasks w.discard_task.ensures.in_groups w.discard_task.ensures.in_barriers,
             w.discard_task.ensures.memory ∙ c.loop-place.invariant.1,
@@ -48,7 +47,7 @@ loop-place-preserved c =
 
 pub returns-clause-stands : goal.returns-clause-stands
 returns-clause-stands c = λ h st.
-    let few = c.loop-place.auto.place in let done = c.loop-place-test.false in
+    let few = c.loop-place.auto.place-end in let done = c.loop-place-test.false in
     let count = c.count-count.ensures.value h st.tasks in
     let place : c.loop-place.place ≡ tasks_created h = omega (arith, few, done, count) in
     subst (λ (n : ℕ). PartsStand c.args.cancelled.now c.loop-place.tasks c.loop-place.groups c.loop-place.barriers c.loop-place.depends c.loop-place.ready.ids c.loop-place.history.items (discards_to n c.args.member h ++ h)) place (c.loop-place.invariant.0.stands h st)
