@@ -11,7 +11,7 @@ use Rattle.gomp_types.specs.declared.event.Event.TheVariants.{Create, Done, Disc
 use Rattle.gomp_types.specs.Cancels.{is_cancelled}
 use Rattle.gomp_types.specs.Tasks.{tasks_created, is_created, is_complete, all_complete, epoch, epoch_of_child, how_many, open_tasks, is_odd}
 use Rattle.gomp_types.specs.Goals.{bound_complete}
-use Rattle.gomp_types.proofs.Booleans.{and_false, same_number, other_number, is_equal}
+use Rattle.gomp_types.proofs.Booleans.{and_false, or_false, same_number, other_number, is_equal}
 use Rattle.gomp_types.proofs.OpenTasks.{how_many_same, none_counted, created_low, created_high, open_done, open_done_other, open_discard, open_discard_other, open_created, closed_all, all_closed}
 use Rattle.gomp_types.proofs.LaterTasks.{old_created}
 use Rattle.gomp_barrier.specs.declared.bound.BoundTasks.{BoundTasks}
@@ -161,10 +161,6 @@ count_less tasks true true n now e is = let more : tasks.odd ≡ now + 1 = rw (�
 count_less tasks true false n now e is = sym (rw (← e) at is)
 count_less tasks false true n now e is = sym (rw (← e) at is)
 count_less tasks false false n now e is = let more : tasks.even ≡ now + 1 = rw (← e) at is in omega (arith, more)
-
-or_false : (b c : Bool) → (b || c) ≡ false → c ≡ false
-or_false true c e = absurd (cc)
-or_false false c e = e
 
 released_count : (own : Bool) (task member : ℕ) (h : List Event) → IsOpen task h → open_bound own h ≡ (if of_parity own (epoch task h) then open_bound own (Done task member ∷ h) + 1 else open_bound own (Done task member ∷ h))
 released_count own task member h is =

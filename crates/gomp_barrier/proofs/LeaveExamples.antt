@@ -76,8 +76,8 @@ pub seen_before_it_leaves : barrier_seen 1 one_left ≡ sees_barrier 0 (Some at_
 seen_before_it_leaves = refl
 
 -- members that came to it from two barriers see two numbers, each one more than before; at the first the other had arrived
-pub seen_apart : (barrier_seen 0 left_apart ≡ sees_barrier 1 (Some at_end_tag) None true) × (barrier_seen 1 left_apart ≡ sees_barrier 2 None None true)
-seen_apart = (refl, refl)
+pub seen_one_barrier_apart : (barrier_seen 0 left_apart ≡ sees_barrier 1 (Some at_end_tag) None true) × (barrier_seen 1 left_apart ≡ sees_barrier 2 None None true)
+seen_one_barrier_apart = (refl, refl)
 
 -- What the barriers see
 

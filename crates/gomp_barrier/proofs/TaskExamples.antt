@@ -35,8 +35,8 @@ pub passes_before_the_next : may_pass 2 0 next_task ≡ true
 passes_before_the_next = refl
 
 -- at the region's end it does not
-pub ends_after_all : may_pass 2 0 task_after_end ≡ false
-ends_after_all = refl
+pub open_task_at_the_end : may_pass 2 0 task_after_end ≡ false
+open_task_at_the_end = refl
 
 -- nor if one has not arrived
 pub waits_for_the_other : may_pass 3 0 (Done 2 1 ∷ Done 1 0 ∷ two_tasks) ≡ false

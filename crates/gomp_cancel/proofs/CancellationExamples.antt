@@ -19,8 +19,8 @@ use Rattle.gomp_cancel.specs.Examples.{cancelled_with, two_groups, second_cancel
 -- What is cancelled
 
 -- of two groups the second
-pub second_stands : CancelStands (cancelled_with false (false ∷ true ∷ [])) second_cancelled
-second_stands = record { region = refl; opened = refl; marked = marked }
+pub second_cancellation_stands : CancelStands (cancelled_with false (false ∷ true ∷ [])) second_cancelled
+second_cancellation_stands = record { region = refl; opened = refl; marked = marked }
   where
     marked : (q : ℕ) → was_cancelled (OneGroup q) second_cancelled ≡ get_or (false ∷ true ∷ []) q false
     marked zero = refl

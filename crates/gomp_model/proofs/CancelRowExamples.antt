@@ -153,13 +153,13 @@ pub ends_of_their_own :
 ends_of_their_own = (refl, refl, refl, refl, refl, refl, refl, refl, refl, refl, refl)
 
 -- all else is refused to a member that leaves; one that waits was let make its call
-pub tests_of_leavers :
+pub tests_while_leaving :
     (map (λ call. leaving_tests false (row_of call) 0 (past_with 2 leaves_the_region)) (Barrier ∷ RegionEnd ∷ TaskEnd ∷ []) ≡ ((true, Leaving) ∷ []) ∷ ((false, Leaving) ∷ []) ∷ ((true, Leaving) ∷ []) ∷ [])
     × (map (λ call. leaving_tests true (row_of call) 0 (past_with 2 leaves_the_region)) (Barrier ∷ RegionEnd ∷ TaskEnd ∷ []) ≡ [] ∷ [] ∷ [] ∷ [])
     × (map (λ call. leaving_tests false (row_of call) 1 (past_with 2 leaves_the_region)) (Barrier ∷ RegionEnd ∷ TaskEnd ∷ []) ≡ ((false, Leaving) ∷ []) ∷ ((false, Leaving) ∷ []) ∷ ((false, Leaving) ∷ []) ∷ [])
     × (map (λ call. leaving_tests false (row_of call) 0 (past_with 2 leaves_the_loop)) (RegionEnd ∷ LoopEndCancel ∷ LoopEnd ∷ LoopNext ∷ []) ≡ ((true, Leaving) ∷ []) ∷ ((false, Leaving) ∷ []) ∷ ((true, Leaving) ∷ []) ∷ ((true, Leaving) ∷ []) ∷ [])
     × (map (λ call. leaving_tests false (row_of call) 0 (past_with 2 leaves_the_task)) (RegionEnd ∷ LoopEndCancel ∷ TaskEnd ∷ []) ≡ ((true, Leaving) ∷ []) ∷ ((true, Leaving) ∷ []) ∷ ((false, Leaving) ∷ []) ∷ [])
-tests_of_leavers = (refl, refl, refl, refl, refl)
+tests_while_leaving = (refl, refl, refl, refl, refl)
 
 -- nothing is refused so to a member that has seen no cancellation
 pub tests_of_others :
@@ -284,13 +284,13 @@ abbrev keeping : Row
 keeping = record plain_row { room = 3; keeps_room = λ reply. is_dropped reply }
 
 -- so much room was asked for then: a refusal and a resume change nothing
-pub room_that_is_kept :
+pub room_after_replies :
     (map (λ reply. room_after false keeping reply 9) (Dropped ∷ Finished ∷ Wait ∷ Refused TraceFull ∷ []) ≡ 12 ∷ 9 ∷ 9 ∷ 9 ∷ []) × (map (λ reply. room_after true keeping reply 9) (Dropped ∷ Finished ∷ []) ≡ 9 ∷ 9 ∷ [])
     × (map (λ reply. room_after false (row_of (Cancel Parallel true)) reply 9) (Cancelling true ∷ Cancelling false ∷ Refused TraceFull ∷ []) ≡ 10 ∷ 9 ∷ 9 ∷ [])
     × (map (λ reply. room_after false (row_of (Cancel Parallel false)) reply 9) (Cancelling true ∷ Cancelling false ∷ []) ≡ 9 ∷ 9 ∷ [])
     × (map (λ reply. room_after false (row_of (TaskCreate at_once)) reply 9) (Dropped ∷ Created 1 ∷ Wait ∷ []) ≡ 9 ∷ 12 ∷ 12 ∷ []) × (room_after true (row_of (TaskCreate at_once)) Dropped 12 ≡ 12)
     × (map (λ reply. room_after false (row_of Barrier) reply 9) (Cancelled ∷ Wait ∷ Passed ∷ []) ≡ 11 ∷ 11 ∷ 11 ∷ [])
-room_that_is_kept = (refl, refl, refl, refl, refl, refl, refl)
+room_after_replies = (refl, refl, refl, refl, refl, refl, refl)
 
 -- Flags of the calls of cancellation
 
@@ -365,11 +365,11 @@ pub begun_if_cancelled :
 begun_if_cancelled = (refl, refl, refl)
 
 -- who ends a cancelled share sees that it is cancelled, if it has not
-pub seen_at_the_end :
+pub seen_by_the_end :
     (begun loop_unseen cancel_ends ≡ (Arrive 0 0 (at ShareEnd 1) ∷ End 0 0 ∷ See 0 Loop ∷ []) ∷ (Arrive 0 0 (at ShareEnd 1) ∷ End 0 0 ∷ See 0 Loop ∷ []) ∷ [])
     × (begun leaves_the_loop cancel_ends ≡ (Arrive 0 0 (at ShareEnd 1) ∷ End 0 0 ∷ []) ∷ (Arrive 0 0 (at ShareEnd 1) ∷ End 0 0 ∷ []) ∷ [])
     × (begun (loop_unseen ++ Drained 0 0 ∷ []) (LoopEndCancel ∷ []) ≡ (Arrive 0 0 (at ShareEnd 1) ∷ End 0 0 ∷ []) ∷ [])
-seen_at_the_end = (refl, refl, refl)
+seen_by_the_end = (refl, refl, refl)
 
 -- a cancel construct and a cancellation point begin with nothing
 pub begun_by_cancels : map (λ happened. begun happened on_cancellation) all_of_these ≡ map (λ happened. map (λ call. []) on_cancellation) all_of_these

@@ -90,14 +90,14 @@ abbrev in_a_task : List Event
 in_a_task = Create 1 0 (Implicit 0) one_job ∷ Start 1 0 ∷ []
 
 -- outside of tasks: the region may be cancelled; a share if the member is in one of its kind that may be; no group
-pub refused_outside_of_tasks :
+pub cancels_outside_of_tasks :
     (refusals_after [] (cancels_of true) ≡ None ∷ Some OutsideShare ∷ Some OutsideShare ∷ Some NotInTask ∷ [])
     × (refusals_after loop_unseen (cancels_of true) ≡ None ∷ None ∷ Some OutsideShare ∷ Some NotInTask ∷ [])
     × (refusals_after (Enter 0 0 (sections_shape 3 Cancellable) ∷ []) (cancels_of true) ≡ None ∷ Some OutsideShare ∷ None ∷ Some NotInTask ∷ [])
     × (refusals_after (Enter 0 0 (four false) ∷ []) (cancels_of true) ≡ None ∷ Some NotCancellable ∷ Some OutsideShare ∷ Some NotInTask ∷ [])
     × (refusals_after (Enter 0 0 (sections_shape 3 Nowait) ∷ []) (cancels_of true) ≡ None ∷ Some OutsideShare ∷ Some NotCancellable ∷ Some NotInTask ∷ [])
     × (refusals_after (Enter 0 0 (single_shape true) ∷ []) (cancels_of true) ≡ None ∷ Some OutsideShare ∷ Some OutsideShare ∷ Some NotInTask ∷ [])
-refused_outside_of_tasks = (refl, refl, refl, refl, refl, refl)
+cancels_outside_of_tasks = (refl, refl, refl, refl, refl, refl)
 
 -- a false clause and a point are tested as a true clause
 pub refused_alike :

@@ -16,7 +16,7 @@ use Rattle.gomp_types.specs.Laws.{Always, Happened}
 use Rattle.gomp_types.specs.Arrivals.{ArrivalRule}
 use Rattle.gomp_types.specs.TaskRules.{TaskRule}
 use Rattle.gomp_types.specs.TaskLaws.{CreatesLater}
-use Rattle.gomp_types.proofs.Booleans.{and_left, and_right, and_false, same_number, other_number, is_equal, not_both, every_tells}
+use Rattle.gomp_types.proofs.Booleans.{and_left, and_right, and_false, or_false, same_number, other_number, is_equal, not_both, every_tells}
 use Rattle.gomp_types.proofs.ArrivalsKeep.{uncancelled_before, passed_met, passed_cancelled}
 use Rattle.gomp_types.proofs.OpenTasks.{created_high, complete_at}
 use Rattle.gomp_types.proofs.Suspended.{current_open}
@@ -120,10 +120,6 @@ old_created t task h number other made =
     let low = and_left (nat_lt 0 t) (nat_le t (suc (tasks_created h))) made in
     let high = and_right (nat_lt 0 t) (nat_le t (suc (tasks_created h))) made in
     rw low (grind (arith, nat_tests, high, number, other))
-
-or_false : (b c : Bool) → (b || c) ≡ false → c ≡ false
-or_false true c e = absurd (cc)
-or_false false c e = e
 
 later_open : (members g n : ℕ) (h : List Event) → Always (ArrivalRule members) h → Always (TaskRule members) h → Happened (Pass g n) h → LaterOpen g h
 later_open members g n [] arrivals tasks past = absurd past
