@@ -110,11 +110,13 @@ pub fn leaving_refusal<S: Shares>(
         return None;
     }
     let seen = shares.look(member);
-    if is_leaving(&seen, leaving) && !lets_leave(&seen, call, leaving) {
-        Some(Refusal::Leaving)
-    } else {
-        None
+    if !is_leaving(&seen, leaving) {
+        return None;
     }
+    if lets_leave(&seen, call, leaving) {
+        return None;
+    }
+    Some(Refusal::Leaving)
 }
 
 /// Whether a member that sees this of its place leaves something.
@@ -151,5 +153,12 @@ fn ends_its_own(seen: &Seen, leaving: Leaving, construct: Construct, end_kind: E
         && is_none (least (end_tests_of construct end_kind seen.now))) }
 {
     let placed = end_refusal(seen, construct, end_kind).is_none();
-    seen.leaving && !(leaving.region || leaving.task) && placed
+    leaves_alone(seen.leaving, leaving) && placed
+}
+
+/// Whether a member that leaves its share, or does not (`share`), leaves that alone.
+fn leaves_alone(share: bool, leaving: Leaving) -> bool
+    ensures { result ≡ (share && not (leaving.region || leaving.task)) }
+{
+    share && !(leaving.region || leaving.task)
 }
