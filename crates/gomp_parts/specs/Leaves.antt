@@ -22,6 +22,10 @@ pub record IsMadeSo (manner : Manner) (m : ℕ) (p : Past) : Type 0 where
   pub leaves : LeavesAs manner.leaving m p.events
   pub allowed : p.terms.cancellation ≡ manner.allowed
 
+-- a member that leaves nothing
+abbrev pub leaves_nothing : Leaving
+leaves_nothing = record { region = false; task = false }
+
 -- what a construct names, if the call is one
 abbrev pub named_by : Call → Option CancelKind
 named_by (Cancel kind clause) = Some kind
