@@ -26,7 +26,10 @@ pub enum Op {
     AwaitGroup,
     /// Arrives with this tag at the member's next barrier (section 15.3); `leaving` says that the
     /// member leaves a cancelled region, and so gives up the groups of its task.
-    Arrive { tag: Tag, leaving: bool },
+    Arrive {
+        tag: Tag,
+        leaving: bool,
+    },
     /// Waits on at the barrier at which the member has arrived.
     AwaitBarrier,
     /// Keeps room for so many events that the member gives later in a share that it starts: its
@@ -34,9 +37,15 @@ pub enum Op {
     Reserve(u32),
     /// Puts the words of the executor of this share, a `single`, for the other members (section
     /// 5.7.2).
-    Put { share: u64, words: Payload },
+    Put {
+        share: u64,
+        words: Payload,
+    },
     /// Notes that the member is given these words of this share (section 5.7.2).
-    Got { share: u64, words: Payload },
+    Got {
+        share: u64,
+        words: Payload,
+    },
     /// A cancel construct with this clause (section 16.1); `allowed` says what the control
     /// variable `cancel-var` does.
     Cancel {
@@ -45,7 +54,10 @@ pub enum Op {
         allowed: bool,
     },
     /// A cancellation point construct (section 16.2).
-    Point { named: TeamCancel, allowed: bool },
+    Point {
+        named: TeamCancel,
+        allowed: bool,
+    },
     /// Breaks the team there (own).
     Break(Place),
 }
