@@ -494,8 +494,11 @@ copy_deals m n starts shape (Executor false) none = tt
 copy_deals m n starts shape _ none = tt
 
 copy_share_events : (m : ℕ) (reply : Reply) → GivesNoWords reply → GivesShareEvents single_copy_start_row m reply
-copy_share_events m reply none = λ repeated p sealed. (tt, cut_share_events m (Some (single_shape true)) reply _
-    (behind_entry m (shares_entered m p.events) (single_shape true) (copy_given (shares_entered m p.events) (single_shape true) m reply) (copy_deals m (shares_entered m p.events) (Some (single_shape true)) (single_shape true) reply none)))
+copy_share_events m reply none = λ repeated p sealed. (
+  tt,
+  cut_share_events m (Some (single_shape true)) reply _
+      (behind_entry m (shares_entered m p.events) (single_shape true) (copy_given (shares_entered m p.events) (single_shape true) m reply) (copy_deals m (shares_entered m p.events) (Some (single_shape true)) (single_shape true) reply none)),
+)
 
 uncopied_answers : {S : Type 0} (stands : S → List Event → Type 0) (shares after : S) (members : ℕ) (cancelled : Bool) (manner : Manner) (m : ℕ) (board kept board_after : BoardView) {reply : Reply} → members_of board ≡ members → SomeReady stands shares board single_copy_start_row manner m →
     KeepsMore (asked_once manner.repeated 1) m board kept → ((p : Past) → PartsStand stands shares board p → is_cancelled p.events ≡ cancelled) → SharesServe (WordsStand stands shares kept cancelled) stands members manner.allowed shares after single_copy_start_row m reply → GivesNoWords reply → board_after ≡ kept →

@@ -1,6 +1,10 @@
 -- A call's refusal by its member's place, and by the comparison with other members, is the least of its tests.
 use Rattle.std.proofs.Common.{◌≡◌, ◌≤◌, ℕ, Bool, true, false, List, [], ◌∷◌, Option, Some, None, Result, Ok, Err, refl, ap, sym, ◌∙◌, arith}
-use Rattle.std.specs.Prelude.{nat_le, ◌&&◌, IfSome, IfOk}
+use Rattle.std.specs.Prelude.{nat_le, ◌&&◌, not, IfSome, IfOk}
+use Rattle.gomp_types.specs.declared.call.Call.{Call}
+use Rattle.gomp_types.specs.declared.call.Call.TheVariants as calls
+use Rattle.gomp_types.specs.declared.refusal.Refusal.TheVariants.{Mismatch}
+use Rattle.gomp_model.specs.Calls.{row_of}
 use Rattle.std.specs.Result.{result_err, result_map_both}
 use Rattle.std.proofs.lemmas.Bool.Decides.{nat_tests}
 use Rattle.gomp_types.specs.declared.limits.Limits.{Limits}
@@ -137,6 +141,23 @@ drained_then row m p found none is = is ∙ sym (least_append (drain_tests row.d
 pub lets_end : (drains : Bool) (m : ℕ) (h : List Event) → None ≡ least (drain_tests drains m h) → drains ≡ true → is_drained m h ≡ true
 lets_end true m h none e = not_false (is_drained m h) (all_fail (drained_tests m h) (sym none)).0
 lets_end false m h none e = absurd (cc)
+
+-- no comparison comes before the test of what is left
+pub compared_high : (call : Call) (m : ℕ) (p : Past) → beginning 18 ((row_of call).compared false m p) ≡ true
+compared_high (calls.LoopStart loop) m p = refl
+compared_high calls.Barrier m p = refl
+compared_high _ m p = refl
+
+-- an arrival that differs, in a region that is not cancelled, is refused
+pub arrival_refused : (cancelled differs : Bool) → cancelled ≡ false → differs ≡ true → Some Mismatch ≡ least ((not cancelled && differs, Mismatch) ∷ [])
+arrival_refused cancelled differs e other = rw (e, other) refl
+
+pub arrival_agrees : (cancelled differs : Bool) → differs ≡ false → None ≡ least ((not cancelled && differs, Mismatch) ∷ [])
+arrival_agrees true differs other = refl
+arrival_agrees false differs other = rw other refl
+
+pub arrival_uncompared : (cancelled differs : Bool) → cancelled ≡ true → None ≡ least ((not cancelled && differs, Mismatch) ∷ [])
+arrival_uncompared cancelled differs e = rw e refl
 
 -- The tests of a construct that cancels a share
 

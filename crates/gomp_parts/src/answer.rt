@@ -145,7 +145,11 @@ fn start_copy<S: Shares>(shares: &mut S, board: &mut Board, member: u16, manner:
     ensures answers { AnswersCall S.stands shares.old shares.new board.old board.new
         single_copy_start_row manner member result }
 {
-    if !keep_room(board, member, asked_once(manner.repeated, &Call::SingleCopyStart)) {
+    if !keep_room(
+        board,
+        member,
+        asked_once(manner.repeated, &Call::SingleCopyStart),
+    ) {
         return Reply::Refused(Refusal::NoMemory);
     }
     let cancelled = board.is_cancelled();

@@ -6,6 +6,8 @@ ghost use Rattle.std.specs.Result.{result_err, result_map_both};
 ghost use Rattle.gomp_types.specs.declared.event.Event.{Event};
 ghost use Rattle.gomp_types.specs.Tests.{outcome, first_refusal};
 ghost use Rattle.gomp_types.specs.declared.limits.Limits.{Limits};
+ghost use Rattle.gomp_types.specs.Compare.{tag_differs, tag_with};
+ghost use Rattle.gomp_types.specs.Events.{shares_entered, barriers_passed, tag_at};
 ghost use Rattle.gomp_types.specs.Least.{lesser, least};
 ghost use Rattle.gomp_types.specs.Limits.{shown_number};
 ghost use Rattle.gomp_shares.specs.Calls.{EachStands};
@@ -106,6 +108,8 @@ fn admit_or_give_up<S: Shares>(
         ByPlace (row_of call.now) limits.now ((row_of call.now).gives_up member h)
         (S.seen shares.now member) (result_err result) }
     ensures starts { IfOk result (StartsShare (row_of call.now) (S.seen shares.now member)) }
+    ensures stays { (row_of call.now).stays ≡ true → result_err result ≡
+        least ((row_of call.now).by_place limits.now (S.seen shares.now member)) }
     ensures leaving { (row_of call.now).stays ≡ false → (row_of call.now).starts ≡ None }
 {
     if leaving.region && matches!(call, Call::RegionEnd) {
@@ -245,12 +249,13 @@ fn later_refusal<S: Shares>(
     ensures drained { result ≡ None →
         IsDrained repeated (row_of call.now) S.stands shares.old member }
 {
-    if !repeated {
-        if let Some(refusal) = undrained_refusal(shares, member, call) {
-            return Some(refusal);
-        }
+    if repeated {
+        return compared_refusal(shares, barriers, member, call, starts, true);
     }
-    compared_refusal(shares, barriers, member, call, starts, repeated)
+    if let Some(refusal) = undrained_refusal(shares, member, call) {
+        return Some(refusal);
+    }
+    compared_refusal(shares, barriers, member, call, starts, false)
 }
 
 /// Why the call does not end the member's share: `NotDrained`, if it is an end, the member was not
@@ -374,16 +379,32 @@ fn arrival_refusal<S: Shares>(
     ensures compared { EachStands (BothStand S.stands shares.now barriers.now)
         (λ h. result ≡ least (compared_arrival kind repeated member h)) }
 {
-    if repeated || barriers.is_cancelled() {
+    if repeated {
         return None;
     }
+    if barriers.is_cancelled() {
+        return None;
+    }
+    if arrival_differs(shares, barriers, member, kind) {
+        return Some(Refusal::Mismatch);
+    }
+    None
+}
+
+/// Whether others arrived otherwise at the member's next barrier.
+fn arrival_differs<S: Shares>(shares: &S, barriers: &Barriers, member: u16, kind: Arrival) -> bool
+    requires member { member < S.members shares.now }
+    requires team { barrier_members barriers.now ≡ S.members shares.now }
+    ensures compared { EachStands (BothStand S.stands shares.now barriers.now) (λ h. result ≡
+        tag_differs (tag_with kind (shares_entered member h)) (tag_at (barriers_passed member h) h)) }
+{
     let own = Tag {
         kind,
         shares: shares.look(member).entered,
     };
     match barriers.look(member).tag {
-        Some(other) if !other.is_same(&own) => Some(Refusal::Mismatch),
-        _ => None,
+        Some(other) => !other.is_same(&own),
+        None => false,
     }
 }
 

@@ -1,4 +1,4 @@
-use Rattle.std.proofs.Common.{◌≡◌, subst, sym, true, false, Bool, ℕ, [], ◌++◌, refl}
+use Rattle.std.proofs.Common.{rules, ◌≡◌, subst, sym, true, false, Bool, ℕ, [], ◌++◌, refl}
 use Rattle.gomp_types.specs.declared.reply.Reply.{Reply}
 use Rattle.gomp_types.specs.Cancels.{is_cancelled}
 use Rattle.gomp_types.specs.CancelCalls.{TellsCancelled}
@@ -124,15 +124,15 @@ returns-in-SectionsNext-clause-events g c = rw c.in-SectionsNext.is (λ repeated
 
 -- Ends
 
-pub leave_at_once-requires-clause-place : goal.leave_at_once-requires-clause-place
-leave_at_once-requires-clause-place g c =
+pub leave_at_once-requires : goal.leave_at_once-requires
+leave_at_once-requires g c =
     let (h, st) = c.requires.known in
     let e = g.met.S.Shares.agrees c.args.shares.now h c.args.member st c.requires.member in
     let (limits, none) = c.requires.place in
-    end_lets_leave Loop Nowait (g.S.Shares.members c.args.shares.now) c.args.member _ h (g.met.S.Shares.ruled c.args.shares.now h st) e c.requires.member (rw c.in-LoopEndNowait.is at none)
-
-pub leave_at_once-requires-clause-drained : goal.leave_at_once-requires-clause-drained
-leave_at_once-requires-clause-drained g c = c.requires.drained refl (rw c.in-LoopEndNowait.is refl)
+    record {
+      place = end_lets_leave Loop Nowait (g.S.Shares.members c.args.shares.now) c.args.member _ h (g.met.S.Shares.ruled c.args.shares.now h st) e c.requires.member (rw c.in-LoopEndNowait.is at none);
+      drained = c.requires.drained refl (rw c.in-LoopEndNowait.is refl);
+    }
 
 pub returns-in-LoopEndNowait-clause-serves : goal.returns-in-LoopEndNowait-clause-serves
 returns-in-LoopEndNowait-clause-serves g c =
@@ -141,15 +141,15 @@ returns-in-LoopEndNowait-clause-serves g c =
 pub returns-in-LoopEndNowait-clause-events : goal.returns-in-LoopEndNowait-clause-events
 returns-in-LoopEndNowait-clause-events g c = rw c.in-LoopEndNowait.is (done_events true (end_tests Nowait) leaves c.args.member c.leave_at_once.result (leave_share_events c.args.member))
 
-pub leave_at_once-requires-in-SectionsEndNowait-clause-place : goal.leave_at_once-requires-in-SectionsEndNowait-clause-place
-leave_at_once-requires-in-SectionsEndNowait-clause-place g c =
+pub leave_at_once-requires-in-SectionsEndNowait : goal.leave_at_once-requires-in-SectionsEndNowait
+leave_at_once-requires-in-SectionsEndNowait g c =
     let (h, st) = c.requires.known in
     let e = g.met.S.Shares.agrees c.args.shares.now h c.args.member st c.requires.member in
     let (limits, none) = c.requires.place in
-    end_lets_leave Sections Nowait (g.S.Shares.members c.args.shares.now) c.args.member _ h (g.met.S.Shares.ruled c.args.shares.now h st) e c.requires.member (rw c.in-SectionsEndNowait.is at none)
-
-pub leave_at_once-requires-in-SectionsEndNowait-clause-drained : goal.leave_at_once-requires-in-SectionsEndNowait-clause-drained
-leave_at_once-requires-in-SectionsEndNowait-clause-drained g c = c.requires.drained refl (rw c.in-SectionsEndNowait.is refl)
+    record {
+      place = end_lets_leave Sections Nowait (g.S.Shares.members c.args.shares.now) c.args.member _ h (g.met.S.Shares.ruled c.args.shares.now h st) e c.requires.member (rw c.in-SectionsEndNowait.is at none);
+      drained = c.requires.drained refl (rw c.in-SectionsEndNowait.is refl);
+    }
 
 pub returns-in-SectionsEndNowait-clause-serves : goal.returns-in-SectionsEndNowait-clause-serves
 returns-in-SectionsEndNowait-clause-serves g c =
@@ -172,12 +172,13 @@ returns-in-OrderedStart-clause-serves g c =
     let serves = c.begin_part-reply.ensures.serves in
     let deals : (p : Past) → Reply → Type 0 = λ p r. BeginsPart p.terms.members m (open_share m p.events) r p.events in
     let may : (p : Past) → p.terms.members ≡ g.S.Shares.members shares → stands shares p.events → deals p reply = λ p size st. subst (λ (n : ℕ). BeginsPart n m (open_share m p.events) reply p.events) (sym size) (serves.answer p.events st) in
+    let given : (p : Past) → stands shares p.events → stands after (part_given (open_share m p.events) m c.in-OrderedStart.value reply ++ p.events) = search rules in
     rw (c.in-OrderedStart.is, c.cut_reply-in-OrderedStart.ensures) (record {
       waits = λ wait. serves.waits (cut_waits cancelled reply wait);
       answer = λ repeated p size allows st goes. cut_may (is_cancelled p.events) cancelled (deals p) reply st.1 (λ tells. part_cancels p.terms.members m (open_share m p.events) p.events tells) (may p size st.0);
       accepts = λ repeated p refusal gives. cut_refuses (is_cancelled p.events) (deals p) refusal (λ refuses. part_refuses p.terms.members m (open_share m p.events) refusal p.events refuses) gives;
       stands_for = λ repeated p size allows st goes. cut_given (stands after) cancelled m (λ (r : Reply). part_given (open_share m p.events) m c.in-OrderedStart.value r) p.events reply (λ wait. sees_waiting stands shares after m p.events (g.met.S.Shares.aside shares p.events) st.0 (serves.waits wait))
-          (λ tells. part_cancels p.terms.members m (open_share m p.events) p.events (subst (deals p) tells (may p size st.0))) (serves.stands_for p.events st.0);
+          (λ tells. part_cancels p.terms.members m (open_share m p.events) p.events (subst (deals p) tells (may p size st.0))) (given p st.0);
     })
 
 pub returns-in-OrderedStart-clause-events : goal.returns-in-OrderedStart-clause-events
