@@ -7,6 +7,7 @@ ghost use Rattle.gomp_types.specs.declared.event.Event.{Event};
 ghost use Rattle.gomp_types.specs.declared.event.Event.TheVariants.{Create, Done, Cancel, Discard};
 ghost use Rattle.gomp_types.specs.declared.cancel.Scope.TheVariants.{Region};
 ghost use Rattle.gomp_types.specs.Events.{barriers_passed, at_barrier};
+ghost use Rattle.gomp_types.specs.Cancels.{is_cancelled};
 ghost use Rattle.gomp_types.specs.Tasks.{tasks_created, is_odd};
 ghost use Rattle.gomp_types.specs.Goals.{may_pass};
 ghost use Rattle.gomp_types.specs.Compare.{tag_differs};
@@ -225,6 +226,15 @@ impl Barriers {
     {
         let others = self.tasks.one_less(odd);
         self.tasks = others;
+    }
+
+    /// Whether some member has cancelled the region. OpenMP API 5.2, section 16.1.
+    pub fn is_cancelled(&self) -> bool
+        ensures known { (h : List Event) × Stands self.now h }
+        ensures value { (h : List Event) → Stands self.now h → result ≡ is_cancelled h }
+    {
+        let Barriers { cancelled, .. } = self;
+        *cancelled
     }
 
     /// Some member cancelled the region: from now on members arrive at the region's end alone. It
