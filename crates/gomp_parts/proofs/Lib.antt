@@ -9,4 +9,5 @@ pub mod ShareRows
 pub mod Reserved
 pub mod Laws
 pub mod Answered
+pub mod LeavesAfter
 pub mod PartExamples
