@@ -25,7 +25,10 @@ use Rattle.gomp_model.specs.Team.{Record, call_meant, is_resume, refusal_of, May
 use Rattle.gomp_board.specs.Boards.{BoardView, IsSame, kept_by}
 use Rattle.gomp_laws.proofs.Known.{unrefused_step_passes, known_of}
 use Rattle.gomp_laws.proofs.Waiting.{AreBeneath}
+use Rattle.gomp_parts.specs.declared.leaving.Leaving.{Leaving}
+use Rattle.gomp_parts.specs.declared.leaving.Manner.{Manner}
 use Rattle.gomp_parts.specs.Answers.{KeepsStart}
+use Rattle.gomp_parts.specs.Leaves.{LeavesAs, leaving_after}
 use Rattle.gomp_held.specs.Stands.{IsKnown}
 use Rattle.gomp_core.specs.Replies.{IsAdmitted, NamesStay, AnswersAll}
 use Rattle.gomp_core.specs.Stands.{TeamView, Stands, TakesMemory, Keeps, past, terms_of, members_of}
@@ -34,17 +37,28 @@ use Rattle.gomp_core.proofs.BookKept.{book_moved, events_so, locks_so, room_so, 
 use Rattle.gomp_core.proofs.Stepping.{at_own, at_other, unequal_kept, parts_moved, stands_by, kept_alike, keeps_alike, may_answer, takes_itself, still_known, own_known, own_kept}
 
 -- the team with what an answer to this step leaves
-abbrev pub team_after : {S : Type 0} → TeamView S → S → BoardView → BookView → Step → Waits → Reply → TeamView S
-team_after team shares board book step waits reply = record { icv = team.icv; board = board; waits = slice_set team.waits step.member (waits_after reply step.call waits); book = book; shares = shares }
+abbrev pub team_after : {S : Type 0} → TeamView S → S → BoardView → BookView → Step → Waits → Leaving → Reply → TeamView S
+team_after team shares board book step waits leaving reply = record {
+  icv = team.icv;
+  board = board;
+  waits = slice_set team.waits step.member (waits_after reply step.call waits);
+  leaving = slice_set team.leaving step.member (leaving_after reply (call_meant step.call waits.open_call) leaving);
+  book = book;
+  shares = shares;
+}
 
 -- the call of a step
 abbrev pub meant_at : {S : Type 0} → TeamView S → Record → Step → Call
 meant_at team before step = call_meant step.call ((past team before).waits step.member).open_call
 
+-- how its member makes it, which leaves this
+abbrev pub manner_at : {S : Type 0} → TeamView S → Step → Leaving → Manner
+manner_at team step leaving = record { repeated = is_resume step.call; leaving = leaving; allowed = team.icv.cancellation }
+
 -- what the parts and the book promise of the reply to a step
-abbrev pub AnswersStep : {S : Type 0} → (S → List Event → Type 0) → TeamView S → S → BoardView → BookView → Record → Step → Reply → Type 0
-AnswersStep stands team shares board book before step reply =
-    AnswersAll stands team.shares shares team.board board team.book book (meant_at team before step) (is_resume step.call) step.member reply
+abbrev pub AnswersStep : {S : Type 0} → (S → List Event → Type 0) → TeamView S → S → BoardView → BookView → Record → Step → Leaving → Reply → Type 0
+AnswersStep stands team shares board book before step leaving reply =
+    AnswersAll stands team.shares shares team.board board team.book book (meant_at team before step) (manner_at team step leaving) step.member reply
 
 -- no test of the parts holds of the step, nor one of the book
 pub team_admits : {S : Type 0} (stands : S → List Event → Type 0) (members : S → ℕ) (team : TeamView S) (before : Record) (step : Step) → Stands stands members team before → refusal_of (past team before) step ≡ None →
