@@ -73,10 +73,10 @@ repeated_kept m board p Resume (Some call) fail kept repeated = kept call refl
 repeated_kept m board p _ waiting fail kept repeated = absurd (cc)
 
 -- no test of the parts holds of a step that is not refused, nor one of the book
-pub step_admitted : (terms : Terms) (run : Record) (step : Step) (board : BoardView) → Caused terms run → refusal_of (past_of terms run) step ≡ None →
+pub step_admitted : (terms : Terms) (run : Record) (step : Step) (manner : Manner) (board : BoardView) → Caused terms run → refusal_of (past_of terms run) step ≡ None →
     ((call : Call) → ((past_of terms run).waits step.member).open_call ≡ Some call → KeepsStart (row_of call) step.member board) →
-    IsAdmitted (row_at (past_of terms run) step) (is_resume step.call) step.member board (past_of terms run)
-step_admitted terms run step board caused none kept =
+    manner.repeated ≡ is_resume step.call → LeavesAs manner.leaving step.member (past_of terms run).events → terms.cancellation ≡ manner.allowed → IsAdmitted (row_at (past_of terms run) step) manner step.member board (past_of terms run)
+step_admitted terms run step manner board caused none kept again leaves allowed =
     let p = past_of terms run in
     let m = step.member in
     let known = known_of terms run caused in
