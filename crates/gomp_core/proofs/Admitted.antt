@@ -19,7 +19,7 @@ use Rattle.gomp_types.proofs.LeastTests.{AllFail, fail_first, fail_later, none_h
 use Rattle.gomp_types.proofs.Booleans.{same_number}
 use Rattle.gomp_types.proofs.TaskDepths.{few_suspended}
 use Rattle.gomp_model.specs.Past.{Terms, Waits, Past}
-use Rattle.gomp_model.specs.Row.{place_tests, board_tests, book_tests, row_tests}
+use Rattle.gomp_model.specs.Row.{leaving_tests, place_tests, board_tests, book_tests, row_tests}
 use Rattle.gomp_model.specs.Calls.{row_of}
 use Rattle.gomp_model.specs.Team.{Record, call_meant, is_resume, row_at, broken_tests, refusal_of, waits_after, past_of, Caused}
 use Rattle.gomp_types.specs.Laws.{Always}
@@ -30,6 +30,8 @@ use Rattle.gomp_laws.proofs.Waiting.{Pending, Covers}
 use Rattle.gomp_laws.proofs.Known.{known_of, same_terms, unrefused_step_passes, unrefused_step_is_ready}
 use Rattle.gomp_board.specs.Boards.{BoardView}
 use Rattle.gomp_parts.specs.Answers.{in_place, KeepsStart}
+use Rattle.gomp_parts.specs.declared.leaving.Manner.{Manner}
+use Rattle.gomp_parts.specs.Leaves.{LeavesAs}
 use Rattle.gomp_core.specs.Replies.{IsAdmitted}
 use Rattle.gomp_core.proofs.Refused.{bad_member}
 use Rattle.gomp_core.proofs.WaitsThere.{arrived_waits_there, awaits_if_repeated}
@@ -84,18 +86,22 @@ step_admitted terms run step manner board caused none kept again leaves allowed 
     let row = row_at p step in
     let repeated = is_resume step.call in
     let passes = (unrefused_step_passes p step none).row in
-    let later = fail_later (place_tests repeated row m p) (board_tests repeated row m p ++ book_tests repeated row m p) passes in
-    let whole = unrefused_whole p step none in (
+    let later = fail_later (place_tests repeated row m p) (board_tests repeated row m p ++ book_tests repeated row m p) (fail_later (leaving_tests repeated row m p) (place_tests repeated row m p ++ (board_tests repeated row m p ++ book_tests repeated row m p)) passes) in
+    let whole = unrefused_whole p step none in
+    rw again (
       record {
-        place = λ e. none_holds (row.by_place p.terms.limits (seen_of m p.events)) (ready.place (place_is_shown row.stays repeated e));
+        place = λ e given. none_holds (row.by_place p.terms.limits (seen_of m p.events)) (ready.place (place_is_shown row.stays repeated e) given);
         compared = none_holds (row.compared repeated m p) ready.compared;
         tasks = none_holds (board_tests repeated row m p) (fail_first (board_tests repeated row m p) (book_tests repeated row m p) later);
         waits = λ again. (ready.lasting again).2;
         inside = unrefused_inside p step none;
         whole = whole;
-        barrier = λ goes. awaits_if_repeated p step none known whole (arrived_waits_there terms run caused m) (goes p);
+        arrived = ?arrived;
+        away = ?away;
+        ends = ?ends;
         kept = λ again. repeated_kept m board p step.call (p.waits m).open_call passes kept again;
       },
+      record { leaves = leaves; allowed = ap (λ (t : Terms). t.cancellation) (same_terms terms run) ∙ allowed },
       record {
         free = none_holds (book_tests repeated row m p) (fail_later (board_tests repeated row m p) (book_tests repeated row m p) later);
         lasting = λ again. (ready.lasting again).1;

@@ -34,6 +34,7 @@ use Rattle.gomp_core.specs.Replies.{IsAdmitted, NamesStay, AnswersAll}
 use Rattle.gomp_core.specs.Stands.{TeamView, Stands, TakesMemory, Keeps, past, terms_of, members_of}
 use Rattle.gomp_core.proofs.Admitted.{step_admitted, few_beneath}
 use Rattle.gomp_core.proofs.BookKept.{book_moved, events_so, locks_so, room_so, terms_so}
+use Rattle.gomp_core.proofs.LeavesKept.{member_leaves, others_leave}
 use Rattle.gomp_core.proofs.Stepping.{at_own, at_other, unequal_kept, parts_moved, stands_by, kept_alike, keeps_alike, may_answer, takes_itself, still_known, own_known, own_kept}
 
 -- the team with what an answer to this step leaves
@@ -130,6 +131,7 @@ stands_answered stands members team shares board book before step waits leaving 
     let after = team_after team shares board book step waits leaving reply in
     let size : members_of after ≡ members_of team = length-set team.waits m (waits_after reply step.call waits) in
     let limits = answers.leaves.limits in
+    let call_so : call_meant step.call waits.open_call ≡ meant_at team before step = ap (λ (w : Waits). call_meant step.call w.open_call) (sym (st.wait m waits at)) in
     let beneath = ((known_of (terms_of team) before st.caused).each m).beneath in
     let terms : terms_of team ≡ terms_of after = rw (size, limits) refl in
     stands_by stands members (terms_of team) after ((step, reply) ∷ before) terms
@@ -143,8 +145,8 @@ stands_answered stands members team shares board book before step waits leaving 
         | inr e ↦ at_other m k (waits_after reply step.call (p.waits k)) (p.waits k) e.0 ∙ st.wait k other e.1
       ];
       leave = λ k other found. elim (slice_get-set team.leaving m k (leaving_after reply (call_meant step.call waits.open_call) leaving) other found) [
-        | inl e ↦ ?own_leaves
-        | inr e ↦ ?others_leave
+        | inl e ↦ subst (λ (h : List Event). LeavesAs other k h) (sym events) (rw (e.0, e.1, call_so) (member_leaves (meant_at team before step) repeated m p reply leaving may (st.leave m leaving there)))
+        | inr e ↦ subst (λ (h : List Event). LeavesAs other k h) (sym events) (others_leave (meant_at team before step) repeated m k p reply other (λ same. e.0 (sym same)) (st.leave k other e.1))
       ];
       waiting_kept = λ k call is.
           kept_after_reply team.board board p step reply k beneath (kept_at_refusal m team.board board reply answers.refuses (λ lacks. (answers.lacks lacks).0.1)) answers.leaves.others st.waiting_kept answers.keeps call is;

@@ -5,6 +5,7 @@ pub mod Begun
 pub mod BookKept
 pub mod Breaks
 pub mod Laws
+pub mod LeavesKept
 pub mod Lists
 pub mod LocksStand
 pub mod Refused
