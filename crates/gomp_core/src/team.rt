@@ -317,7 +317,8 @@ impl<S: Shares> Team<S> {
             repeated,
             leaving,
         );
-        let by_parts = unless_also(unless_refused(by_leaving, by_place), by_tasks);
+        let by_own = unless_refused(by_leaving, by_place);
+        let by_parts = unless_also(by_own, by_tasks);
         unless_refused(by_team, unless_also(by_parts, by_book))
     }
 

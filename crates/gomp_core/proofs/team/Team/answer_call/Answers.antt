@@ -13,7 +13,7 @@ use Rattle.gomp_core.proofs.team.Team.answer_call.Goals as goal
 
 pub index-requires : goal.index-requires
 index-requires g c =
-    let team : TeamView g.row.S.Denot = record { icv = c.self.inside.icv; board = c.self.inside.board; waits = c.self.inside.waits.items; book = c.self.inside.book; shares = c.self.inside.shares } in
+    let team : TeamView g.row.S.Denot = record { icv = c.self.inside.icv; board = c.self.inside.board; waits = c.self.inside.waits.items; leaving = c.self.inside.leaving.items; book = c.self.inside.book; shares = c.self.inside.shares } in
     let step : Step = record { member = c.args.member; call = c.args.call } in
     let (before, st) = c.self.invariant in
     let none = unrefused_here g.S.Shares.stands g.S.Shares.members team c.args.self.now before step c.self.view_is st c.requires.admitted in
@@ -22,7 +22,7 @@ index-requires g c =
 
 pub team_reply-reply-requires-clause-member : goal.team_reply-reply-requires-clause-member
 team_reply-reply-requires-clause-member g c =
-    let team : TeamView g.row.S.Denot = record { icv = c.self.inside.icv; board = c.self.inside.board; waits = c.self.inside.waits.items; book = c.self.inside.book; shares = c.self.inside.shares } in
+    let team : TeamView g.row.S.Denot = record { icv = c.self.inside.icv; board = c.self.inside.board; waits = c.self.inside.waits.items; leaving = c.self.inside.leaving.items; book = c.self.inside.book; shares = c.self.inside.shares } in
     let step : Step = record { member = c.args.member; call = c.args.call } in
     let (before, st) = c.self.invariant in
     let none = unrefused_here g.S.Shares.stands g.S.Shares.members team c.args.self.now before step c.self.view_is st c.requires.admitted in
@@ -31,7 +31,7 @@ team_reply-reply-requires-clause-member g c =
 
 pub team_reply-reply-requires-clause-starts : goal.team_reply-reply-requires-clause-starts
 team_reply-reply-requires-clause-starts g c =
-    let team : TeamView g.row.S.Denot = record { icv = c.self.inside.icv; board = c.self.inside.board; waits = c.self.inside.waits.items; book = c.self.inside.book; shares = c.self.inside.shares } in
+    let team : TeamView g.row.S.Denot = record { icv = c.self.inside.icv; board = c.self.inside.board; waits = c.self.inside.waits.items; leaving = c.self.inside.leaving.items; book = c.self.inside.book; shares = c.self.inside.shares } in
     let step : Step = record { member = c.args.member; call = c.args.call } in
     let (before, st) = c.self.invariant in
     let none = unrefused_here g.S.Shares.stands g.S.Shares.members team c.args.self.now before step c.self.view_is st c.requires.admitted in
@@ -48,7 +48,7 @@ team_reply-reply-requires-clause-team g c =
 
 pub team_reply-reply-requires-clause-admitted : goal.team_reply-reply-requires-clause-admitted
 team_reply-reply-requires-clause-admitted g c =
-    let team : TeamView g.row.S.Denot = record { icv = c.self.inside.icv; board = c.self.inside.board; waits = c.self.inside.waits.items; book = c.self.inside.book; shares = c.self.inside.shares } in
+    let team : TeamView g.row.S.Denot = record { icv = c.self.inside.icv; board = c.self.inside.board; waits = c.self.inside.waits.items; leaving = c.self.inside.leaving.items; book = c.self.inside.book; shares = c.self.inside.shares } in
     let step : Step = record { member = c.args.member; call = c.args.call } in
     let (before, st) = c.self.invariant in
     let none = unrefused_here g.S.Shares.stands g.S.Shares.members team c.args.self.now before step c.self.view_is st c.requires.admitted in
@@ -59,7 +59,7 @@ team_reply-reply-requires-clause-admitted g c =
 
 pub team_reply-reply-requires-clause-known : goal.team_reply-reply-requires-clause-known
 team_reply-reply-requires-clause-known g c = λ repeated.
-    let team : TeamView g.row.S.Denot = record { icv = c.self.inside.icv; board = c.self.inside.board; waits = c.self.inside.waits.items; book = c.self.inside.book; shares = c.self.inside.shares } in
+    let team : TeamView g.row.S.Denot = record { icv = c.self.inside.icv; board = c.self.inside.board; waits = c.self.inside.waits.items; leaving = c.self.inside.leaving.items; book = c.self.inside.book; shares = c.self.inside.shares } in
     let step : Step = record { member = c.args.member; call = c.args.call } in
     let (before, st) = c.self.invariant in
     let none = unrefused_here g.S.Shares.stands g.S.Shares.members team c.args.self.now before step c.self.view_is st c.requires.admitted in
@@ -70,7 +70,7 @@ team_reply-reply-requires-clause-known g c = λ repeated.
 
 pub index_mut-requires : goal.index_mut-requires
 index_mut-requires g c =
-    let team : TeamView g.row.S.Denot = record { icv = c.self.inside.icv; board = c.self.inside.board; waits = c.self.inside.waits.items; book = c.self.inside.book; shares = c.self.inside.shares } in
+    let team : TeamView g.row.S.Denot = record { icv = c.self.inside.icv; board = c.self.inside.board; waits = c.self.inside.waits.items; leaving = c.self.inside.leaving.items; book = c.self.inside.book; shares = c.self.inside.shares } in
     let step : Step = record { member = c.args.member; call = c.args.call } in
     let (before, st) = c.self.invariant in
     let none = unrefused_here g.S.Shares.stands g.S.Shares.members team c.args.self.now before step c.self.view_is st c.requires.admitted in
@@ -80,14 +80,14 @@ index_mut-requires g c =
 -- The reply
 
 abbrev team_of : (g : Over) (c : goal.After-self-1 g) → TeamView g.row.S.Denot
-team_of g c = record { icv = c.self.inside.icv; board = c.self.inside.board; waits = c.self.inside.waits.items; book = c.self.inside.book; shares = c.self.inside.shares }
+team_of g c = record { icv = c.self.inside.icv; board = c.self.inside.board; waits = c.self.inside.waits.items; leaving = c.self.inside.leaving.items; book = c.self.inside.book; shares = c.self.inside.shares }
 
 abbrev step_of : (g : Over) (c : goal.After-self-1 g) → Step
 step_of g c = record { member = c.args.member; call = c.args.call }
 
 pub note-requires : goal.note-requires
 note-requires g c =
-    let team : TeamView g.row.S.Denot = record { icv = c.self.inside.icv; board = c.self.inside.board; waits = c.self.inside.waits.items; book = c.self.inside.book; shares = c.self.inside.shares } in
+    let team : TeamView g.row.S.Denot = record { icv = c.self.inside.icv; board = c.self.inside.board; waits = c.self.inside.waits.items; leaving = c.self.inside.leaving.items; book = c.self.inside.book; shares = c.self.inside.shares } in
     let step : Step = record { member = c.args.member; call = c.args.call } in
     let (before, st) = c.self.invariant in
     let none = unrefused_here g.S.Shares.stands g.S.Shares.members team c.args.self.now before step c.self.view_is st c.requires.admitted in
@@ -95,7 +95,7 @@ note-requires g c =
     let at = slice_get_read c.self.inside.waits.items _ c.args.member _ refl lt c.index.ensures in
     let at_mut = slice_get_read c.self.inside.waits.items _ c.args.member _ refl lt c.index_mut.ensures.value in
     let is = c.call_meant.ensures ∙ ap (call_meant c.args.call) c.open_call-waiting.ensures ∙ call_kept g.S.Shares.stands g.S.Shares.members team before step _ st at in
-    let answers : AnswersStep g.S.Shares.stands team c.team_reply-reply.new.shares c.team_reply-reply.new.board c.team_reply-reply.new.book before step c.team_reply-reply.result = rw (is, c.is_resume.ensures) at c.team_reply-reply.ensures.answers in
+    let answers : AnswersStep g.S.Shares.stands team c.team_reply-reply.new.shares c.team_reply-reply.new.board c.team_reply-reply.new.book before step c.index-leaving.result.now c.team_reply-reply.result = rw (is, c.is_resume.ensures) at c.team_reply-reply.ensures.answers in
     let cause = answered_cause g.S.Shares.stands g.S.Shares.members team c.team_reply-reply.new.shares c.team_reply-reply.new.board c.team_reply-reply.new.book before step c.team_reply-reply.result st none answers in
     record { room = answered_room g.S.Shares.stands g.S.Shares.members team before step _ c.team_reply-reply.result st at_mut cause }
 
