@@ -1,7 +1,7 @@
 -- How a member leaves a loop or a sections construct that was cancelled, or of which nothing is left for it.
 use Rattle.std.proofs.Common.{◌≡◌, ℕ, ◌<◌, Bool, true, false, List, [], ◌∷◌, ◌++◌, Option, Some, refl, ap, sym, subst, inl, inr}
 use Rattle.std.specs.Prelude.{◌&&◌, ◌||◌, not, if◌then◌else◌}
-use Rattle.gomp_types.specs.declared.cancel.CancelKind.TheVariants.{Parallel, Loop, Sections}
+use Rattle.gomp_types.specs.declared.cancel.CancelKind.TheVariants.{Parallel, Loop, Sections, Taskgroup}
 use Rattle.gomp_types.specs.declared.shape.Shape.{Shape}
 use Rattle.gomp_types.specs.declared.event.Event.{Event}
 use Rattle.gomp_types.specs.declared.event.Event.TheVariants.{End, See}
@@ -46,11 +46,18 @@ of_a_share own = by_test (in_kind is_sections own)
     by_test true = refl
     by_test false = refl
 
+never_a_group : (own : Option (ℕ × Shape)) → same_cancel (kind_in own) Taskgroup ≡ false
+never_a_group own = by_test (in_kind is_sections own)
+  where
+    by_test : (b : Bool) → same_cancel (if b then Sections else Loop) Taskgroup ≡ false
+    by_test true = refl
+    by_test false = refl
+
 pub leaves_own : (can : Gives) (m : ℕ) (h : List Event) → AreOwn can m (leaves m h)
 leaves_own can m h = (refl, by_test (own_cancelled m h && not (has_drained m h || leaves_share m h)))
   where
     by_test : (b : Bool) → AreOwn can m (if b then See m (kind_in (open_share m h)) ∷ [] else [])
-    by_test true = ((refl, kind_of_share (open_share m h)), tt)
+    by_test true = ((refl, kind_of_share (open_share m h), never_a_group (open_share m h)), tt)
     by_test false = tt
 
 -- Leaving

@@ -102,7 +102,7 @@ one_uncancelled c May one a b x y =
     ]
 
 pub sees_given : (can : Gives) (m : ℕ) (reply : Reply) (events : List Event) → AreGiven can m reply events → AreGiven can m reply (sees_cancelled m reply events)
-sees_given can m Cancelled events given = ((refl, (λ region. refl)), tt)
+sees_given can m Cancelled events given = ((refl, (λ region. refl), (λ group. refl)), tt)
 sees_given can m _ events given = given
 
 pub sees_keep : (members m : ℕ) (reply : Reply) (events h : List Event) → m < members → (reply ≡ Cancelled → is_cancelled h ≡ true) → (is_cut reply ≡ false → Always (TeamRule members) (events ++ h)) → Always (TeamRule members) h →
@@ -334,8 +334,8 @@ cancelled_own may m None h some = tt
 cancelled_own may m (Some scope) h some = own_append (named_gives may) m (discards m scope h) (Cancel m scope ∷ []) (discarded_own may m (tasks_created h) (Cancel m scope ∷ h) some) ((refl, some), tt)
 
 named_own : (may : Option CancelKind) (kind : CancelKind) (clause : Bool) (m : ℕ) (h : List Event) (reply : Reply) → (clause ≡ true → is_some may ≡ true) → AreGiven (named_gives may) m reply (told_events kind clause m h reply)
-named_own may kind true m h (Cancelling true) allowed = ((refl, (λ region. refl)), cancelled_own may m (scope_of kind m h) h (allowed refl))
-named_own may kind false m h (Cancelling true) allowed = ((refl, (λ region. refl)), tt)
+named_own may kind true m h (Cancelling true) allowed = ((refl, (λ region. refl), (λ group. refl)), cancelled_own may m (scope_of kind m h) h (allowed refl))
+named_own may kind false m h (Cancelling true) allowed = ((refl, (λ region. refl), (λ group. refl)), tt)
 named_own may kind clause m h (Cancelling false) allowed = tt
 named_own may kind clause m h _ allowed = tt
 

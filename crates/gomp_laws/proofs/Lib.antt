@@ -24,6 +24,7 @@ pub mod InTime
 pub mod Known
 pub mod Laws
 pub mod Layers
+pub mod Leaving
 pub mod Locks
 pub mod Loops
 pub mod NewestChild

@@ -17,7 +17,7 @@ use Rattle.gomp_types.specs.declared.task.Task.{Task}
 use Rattle.gomp_types.specs.Tasks.{executed_task, in_task, task_desc, newest_child, is_undeferred}
 use Rattle.gomp_types.specs.Goals.{may_start}
 use Rattle.gomp_types.specs.TaskCalls.{HasJob}
-use Rattle.gomp_types.specs.declared.cancel.CancelKind.TheVariants.{Parallel}
+use Rattle.gomp_types.specs.declared.cancel.CancelKind.TheVariants.{Parallel, Taskgroup}
 use Rattle.gomp_types.specs.Cancels.{same_cancel, is_cancelled, would_be_covered, leaves_region}
 use Rattle.gomp_laws.specs.Rules.{TeamRule}
 use Rattle.gomp_types.specs.Seen.{seen_of}
@@ -112,7 +112,7 @@ only_cancels = record { arrives = false; creates = false; puts = false; holds = 
 abbrev pub gives_of : Row → Gives
 gives_of row = record { arrives = is_some row.arrives; creates = is_some row.creates; puts = row.puts; holds = row.holds; cancels = is_some row.cancels }
 
--- an event of the member that neither passes a barrier, nor holds or frees anything, nor starts or ends a task, nor sees that the region is cancelled, nor breaks the team;
+-- an event of the member that neither passes a barrier, nor holds or frees anything, nor starts or ends a task, nor sees that the region or its task is cancelled, nor breaks the team;
 -- it arrives, creates a task, puts words or cancels something only if its call does
 abbrev pub IsOwn : Gives → ℕ → Event → Type 0
 IsOwn can m (Arrive barrier n tag) = (n ≡ m) × (can.arrives ≡ true)
@@ -125,7 +125,7 @@ IsOwn can m (Start task n) = ⊥
 IsOwn can m (Done task n) = ⊥
 IsOwn can m (Cancel n scope) = (n ≡ m) × (can.cancels ≡ true)
 IsOwn can m (Discard task n) = (n ≡ m) × (can.cancels ≡ true)
-IsOwn can m (See n kind) = (n ≡ m) × (same_cancel kind Parallel ≡ false)
+IsOwn can m (See n kind) = (n ≡ m) × (same_cancel kind Parallel ≡ false) × (same_cancel kind Taskgroup ≡ false)
 IsOwn can m (Break n place) = ⊥
 IsOwn can m event = member_of event ≡ m
 
@@ -134,14 +134,14 @@ abbrev pub AreOwn : Gives → ℕ → List Event → Type 0
 AreOwn can m [] = Unit {0}
 AreOwn can m (event ∷ events) = IsOwn can m event × AreOwn can m events
 
--- the newest event of a reply may pass a barrier, hold or free what the call is about, start or end a task, see that the region is cancelled, or break the team, if the reply says so
+-- the newest event of a reply may pass a barrier, hold or free what the call is about, start or end a task, see that the region or the task is cancelled, or break the team, if the reply says so
 abbrev pub IsLast : Gives → ℕ → Reply → Event → Type 0
 IsLast can m reply (Pass barrier n) = (n ≡ m) × (can.arrives ≡ true) × (is_pass reply ≡ true)
 IsLast can m reply (Hold key n task) = (n ≡ m) × (can.holds ≡ Some key) × (is_wait reply ≡ false)
 IsLast can m reply (Free key n task) = (n ≡ m) × (can.holds ≡ Some key) × (is_wait reply ≡ false)
 IsLast can m reply (Start task n) = (n ≡ m) × (is_run reply ≡ true)
 IsLast can m reply (Done task n) = (n ≡ m) × (is_end reply ≡ true)
-IsLast can m reply (See n kind) = (n ≡ m) × (same_cancel kind Parallel ≡ true → tells_of_cancellation reply ≡ true)
+IsLast can m reply (See n kind) = (n ≡ m) × (same_cancel kind Parallel ≡ true → tells_of_cancellation reply ≡ true) × (same_cancel kind Taskgroup ≡ true → tells_of_cancellation reply ≡ true)
 IsLast can m reply (Break n place) = (n ≡ m) × (breaks reply ≡ true)
 IsLast can m reply event = IsOwn can m event
 
@@ -156,7 +156,7 @@ own_last can m reply (Hold key n task) own = absurd own
 own_last can m reply (Free key n task) own = absurd own
 own_last can m reply (Start task n) own = absurd own
 own_last can m reply (Done task n) own = absurd own
-own_last can m reply (See n kind) own = (own.0, λ region. absurd (not_both (same_cancel kind Parallel) region own.1))
+own_last can m reply (See n kind) own = (own.0, (λ region. absurd (not_both (same_cancel kind Parallel) region own.1)), (λ group. absurd (not_both (same_cancel kind Taskgroup) group own.2)))
 own_last can m reply (Break n place) own = absurd own
 own_last can m reply _ own = own
 
