@@ -29,23 +29,23 @@ use Rattle.gomp_types.specs.Seen.{seen_of}
 use Rattle.gomp_types.specs.Tests.{Test}
 use Rattle.gomp_types.specs.Least.{least}
 use Rattle.gomp_types.specs.Tasks.{in_task}
-use Rattle.gomp_types.specs.TaskCalls.{arrival_room, outside_tasks_tests, AwaitsTasks}
+use Rattle.gomp_types.specs.TaskCalls.{arrival_room, AwaitsTasks}
 use Rattle.gomp_types.proofs.Booleans.{same_number, other_number, not_false, and_left}
-use Rattle.gomp_types.proofs.LeastTests.{AllFail, all_fail}
+use Rattle.gomp_types.proofs.LeastTests.{all_fail}
 use Rattle.gomp_shares.specs.Calls.{IsAside as SharesAside, events_left, kind_in}
 use Rattle.gomp_shares.specs.Loops.{end_tests}
 use Rattle.gomp_shares.specs.Sections.{sections_end_tests}
 use Rattle.gomp_shares.specs.Starts.{leaves}
 use Rattle.gomp_shares.specs.Singles.{is_executor, put_tests, copy_given}
 use Rattle.gomp_model.specs.Past.{Past}
-use Rattle.gomp_model.specs.Row.{Row, unless_repeated, begun_past, MayReply, MayGive, given_after, past_given, room_after}
+use Rattle.gomp_model.specs.Row.{Row, unless_repeated, begun_past, MayReply, MayGive, past_given, room_after}
 use Rattle.gomp_model.specs.Starts.{end_room, words_room, share_room}
 use Rattle.gomp_model.specs.Arrivals.{compared_arrival, arrival_row, is_cut_short, ending}
 use Rattle.gomp_model.specs.Singles.{single_copy_start_row, single_copy_end_row}
 use Rattle.gomp_board.specs.declared.op.Op.{Op}
 use Rattle.gomp_board.specs.declared.op.Op.TheVariants as ops
-use Rattle.gomp_board.specs.Ops.{arrival_asks, words_ask, awaits_barrier, op_refusal, begun, OpAnswer}
-use Rattle.gomp_board.specs.Boards.{BoardView, Stands as BoardStands, AreSealed, Performs, members_of, kept_by}
+use Rattle.gomp_board.specs.Ops.{arrival_asks, words_ask, op_refusal, begun, OpAnswer}
+use Rattle.gomp_board.specs.Boards.{BoardView, Stands as BoardStands, Performs, members_of, kept_by}
 use Rattle.gomp_board.proofs.Laws.{event_aside_keeps_board, events_aside_keep_board}
 use Rattle.gomp_board.proofs.Waiting.{IsReply, after_reply, not_refused}
 use Rattle.gomp_parts.specs.declared.leaving.Manner.{Manner}

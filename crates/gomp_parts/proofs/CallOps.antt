@@ -1,6 +1,6 @@
 -- Which operation on the board a call is: an arrival, a call on tasks and groups, or a construct that cancels.
 use Rattle.std.proofs.Common.{◌≡◌, ◌<◌, ℕ, ◌+◌, Bool, true, false, List, [], ◌∷◌, ◌++◌, Option, Some, None, refl, ap, sym, subst, ◌∙◌, arith}
-use Rattle.std.specs.Prelude.{◌&&◌, not, is_some, nat_lt, if◌then◌else◌}
+use Rattle.std.specs.Prelude.{◌&&◌, not, is_some}
 use Rattle.gomp_types.specs.declared.call.Call.{Call}
 use Rattle.gomp_types.specs.declared.call.Call.TheVariants as calls
 use Rattle.gomp_types.specs.declared.cancel.CancelKind.{CancelKind}
@@ -20,14 +20,14 @@ use Rattle.gomp_types.specs.declared.event.Event.TheVariants.{Arrive, See}
 use Rattle.gomp_types.specs.declared.event.Tag.{Tag}
 use Rattle.gomp_types.specs.Tests.{Test}
 use Rattle.gomp_types.specs.Cancels.{is_cancelled, leaves_region, leaves_task}
-use Rattle.gomp_types.specs.CancelCalls.{cancel_tests, cancel_room, OrIsCancelled, AnswersCreation, CreatesOrDrops, creates_covered, creates_uncovered, unless_cancelled, sees_cancelled, keeps_cancel, tells_cancelled}
+use Rattle.gomp_types.specs.CancelCalls.{cancel_tests, OrIsCancelled, AnswersCreation, CreatesOrDrops, creates_covered, creates_uncovered, unless_cancelled, sees_cancelled, tells_cancelled}
 use Rattle.gomp_types.specs.Compare.{tag_with}
 use Rattle.gomp_types.specs.Events.{shares_entered, barriers_passed, at_region_end, is_region_end}
 use Rattle.gomp_types.specs.Goals.{may_pass}
 use Rattle.gomp_types.specs.Tasks.{executed_task, is_undeferred, newest_child}
 use Rattle.gomp_types.specs.TaskCalls.{AwaitsTasks, AnswersCreator, EndsTask, unless_given_up, group_open_tests, end_task_tests, create_tests, room_tests}
-use Rattle.gomp_types.proofs.Booleans.{some_of, same_number, and_left}
-use Rattle.gomp_types.proofs.LeastTests.{AllFail, all_fail, fail_first, fail_later}
+use Rattle.gomp_types.proofs.Booleans.{some_of, same_number}
+use Rattle.gomp_types.proofs.LeastTests.{AllFail, all_fail, fail_first}
 use Rattle.gomp_model.specs.Past.{Past}
 use Rattle.gomp_model.specs.Row.{Row, asked_tests, board_tests, begun_past, unless_repeated, goes_on, room_after}
 use Rattle.gomp_model.specs.Arrivals.{compared_arrival, passes, barrier_row, region_end_row}

@@ -1,7 +1,7 @@
 -- What the board answers an operation that no test refuses, and for what the shares and the board stand then.
 use Rattle.std.proofs.Common.{◌≡◌, ◌≢◌, ◌<◌, ◌≤◌, ℕ, ◌+◌, Bool, true, false, List, [], ◌∷◌, ◌++◌, Option, Some, None, refl, ap, sym, subst, ◌∙◌, arith, inl, inr}
-use Rattle.std.specs.Prelude.{slice_index_or, slice_set, IfSome, if◌then◌else◌, ◌&&◌, not, nat_lt}
-use Rattle.std.proofs.lemmas.Bool.{cases_eq, cases_Bool}
+use Rattle.std.specs.Prelude.{slice_index_or, slice_set, IfSome, if◌then◌else◌, nat_lt}
+use Rattle.std.proofs.lemmas.Bool.{cases_eq}
 use Rattle.std.proofs.lemmas.Bool.Decides.{nat_tests}
 use Rattle.std.proofs.lemmas.List.{get_or-set_same, get_or-set_other}
 use Rattle.gomp_types.specs.declared.limits.Limits.{Limits}
@@ -30,7 +30,7 @@ use Rattle.gomp_parts.specs.declared.leaving.Manner.{Manner}
 use Rattle.gomp_parts.specs.Leaves.{IsMadeSo}
 use Rattle.gomp_parts.specs.Answers.{room_left, PutsInside, PartsStand, ArePartsKept, IsReady, SomeReady, LeavesBoard, AnswersCall}
 use Rattle.gomp_parts.specs.Serves.{asked_once}
-use Rattle.gomp_parts.proofs.BoardEvents.{AreBoardEvents, AreBesideBoth, beside_both, beside_board, shares_stand_beside, shares_stay, puts_stay_with_board, board_events_append, puts_no_words, begins_on_board, gives_on_board}
+use Rattle.gomp_parts.proofs.BoardEvents.{AreBesideBoth, beside_both, beside_board, shares_stand_beside, shares_stay, puts_stay_with_board, puts_no_words, begins_on_board, gives_on_board}
 
 -- Tests
 

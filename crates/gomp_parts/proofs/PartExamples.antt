@@ -26,7 +26,7 @@ use Rattle.gomp_model.specs.Past.{Terms, Past}
 use Rattle.gomp_model.specs.Row.{Row, plain_row, given_after, goes_on}
 use Rattle.gomp_model.specs.Loops.{loop_end_nowait_row, loop_next_row}
 use Rattle.gomp_model.specs.Singles.{single_copy_start_row}
-use Rattle.gomp_model.specs.Arrivals.{barrier_row, region_end_row}
+use Rattle.gomp_model.specs.Arrivals.{barrier_row}
 use Rattle.gomp_model.specs.Tasks.{task_end_row, taskwait_row}
 use Rattle.gomp_model.specs.Calls.{resume_row, stop_row}
 use Rattle.gomp_model.specs.Team.{before_all}

@@ -13,11 +13,11 @@ use Rattle.gomp_types.specs.Tasks.{tasks_created}
 use Rattle.gomp_types.specs.Shapes.{is_loop, is_sections}
 use Rattle.std.proofs.lemmas.Bool.{cases_Bool}
 use Rattle.gomp_types.specs.declared.event.Event.{Event}
-use Rattle.gomp_types.specs.declared.event.Event.TheVariants.{Enter, End, Put, Cancel, See, Discard}
+use Rattle.gomp_types.specs.declared.event.Event.TheVariants.{Enter, End, Put, Cancel, See}
 use Rattle.gomp_types.specs.declared.reply.Reply.{Reply}
 use Rattle.gomp_types.specs.declared.reply.Reply.TheVariants.{Chunk, NoChunk, Section, Executor, Finished, Cancelled, Cancelling}
 use Rattle.gomp_types.specs.declared.shape.Shape.{Shape}
-use Rattle.gomp_types.specs.Events.{open_share, open_number, has_drained}
+use Rattle.gomp_types.specs.Events.{open_share, has_drained}
 use Rattle.gomp_types.specs.Laws.{Always}
 use Rattle.gomp_types.proofs.Booleans.{is_equal}
 use Rattle.gomp_shares.specs.Loops.{piece_given, handed_on, next_given}

@@ -1,5 +1,5 @@
 -- What a member leaves since it has seen that it is cancelled, a share aside, and how a call is made. (own; OpenMP API 5.2, section 16.1)
-use Rattle.std.specs.Prelude.{ℕ, ◌≡◌, Bool, true, false, List, Option, Some, None}
+use Rattle.std.specs.Prelude.{ℕ, ◌≡◌, true, false, List, Option, Some, None}
 use Rattle.gomp_types.specs.declared.call.Call.{Call}
 use Rattle.gomp_types.specs.declared.call.Call.TheVariants.{Cancel, Point}
 use Rattle.gomp_types.specs.declared.cancel.CancelKind.{CancelKind}

@@ -24,9 +24,9 @@ use gomp_types::{Arrival, Call, CancelKind, Refusal, Reply, Shape};
 /// answers the calls on these.
 ///
 /// No test of the call holds. `NoMemory` if there is none for the room that the call asks for:
-/// nothing changes then. If a call that waits is asked about again and waits on, nothing changes. In a
-/// cancelled region a call that would wait at its share or at a barrier is answered `Cancelled`
-/// (OpenMP API 5.2, section 16.1).
+/// nothing changes then. If a call that waits is asked about again and waits on, nothing changes.
+/// In a cancelled region a call that would wait at its share or at a barrier is answered
+/// `Cancelled` (OpenMP API 5.2, section 16.1).
 pub fn answer<S: Shares>(
     shares: &mut S,
     board: &mut Board,

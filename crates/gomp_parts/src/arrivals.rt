@@ -21,8 +21,8 @@ use gomp_types::{Arrival, Reply, Tag};
 
 /// Ends a construct with a barrier at its end, or goes on at that if the call is repeated: the
 /// member leaves the construct, which it sees to be cancelled if it leaves it since it is, and
-/// arrives. It passes if it may, and else executes a task, or waits; in a cancelled region it does not
-/// arrive, and is answered `Cancelled`.
+/// arrives. It passes if it may, and else executes a task, or waits; in a cancelled region it does
+/// not arrive, and is answered `Cancelled`.
 pub(crate) fn end_reply<S: Shares>(
     shares: &mut S,
     board: &mut Board,
@@ -47,9 +47,9 @@ pub(crate) fn end_reply<S: Shares>(
     arrival_reply(shares, board, member, Arrival::ShareEnd, manner)
 }
 
-/// The member arrives at its next barrier, or goes on there if the call is repeated, and passes it if
-/// it may; else it executes a task, or waits. A cancelled region has it arrive at the region's end
-/// alone.
+/// The member arrives at its next barrier, or goes on there if the call is repeated, and passes it
+/// if it may; else it executes a task, or waits. A cancelled region has it arrive at the region's
+/// end alone.
 pub(crate) fn arrival_reply<S: Shares>(
     shares: &S,
     board: &mut Board,
@@ -73,8 +73,8 @@ pub(crate) fn arrival_reply<S: Shares>(
     )
 }
 
-/// An arrival with this tag, of a member that leaves the region or does not (`leaving`), or the wait
-/// after it (`repeated`).
+/// An arrival with this tag, of a member that leaves the region or does not (`leaving`), or the
+/// wait after it (`repeated`).
 fn arrival_op(repeated: bool, leaving: bool, tag: Tag) -> Op
     ensures { result ≡ arrival_op repeated leaving tag }
 {

@@ -34,8 +34,8 @@ pub struct Manner {
     pub repeated: bool,
     /// What the member leaves.
     pub leaving: Leaving,
-    /// Whether the control variable `cancel-var` lets something be cancelled (OpenMP API 5.2, section
-    /// 2.1).
+    /// Whether the control variable `cancel-var` lets something be cancelled (OpenMP API 5.2,
+    /// section 2.1).
     pub allowed: bool,
 }
 
@@ -46,9 +46,9 @@ impl Leaving {
         task: false,
     };
 
-    /// What the member leaves after this reply to the call that it made or repeated: the region if it
-    /// was answered `Cancelled`, what its construct named if that is cancelled, and no task that it has
-    /// just started, nor one to which it comes back.
+    /// What the member leaves after this reply to the call that it made or repeated: the region if
+    /// it was answered `Cancelled`, what its construct named if that is cancelled, and no task that
+    /// it has just started, nor one to which it comes back.
     pub fn after(self, reply: &Reply, call: &Call) -> Leaving
         ensures { result ≡ leaving_after reply.now call.now self }
     {
@@ -92,9 +92,9 @@ fn named_by(call: &Call) -> Option<CancelKind>
     }
 }
 
-/// Why the member, numbered from 0, does not make the call, or go on with it: `Leaving` if it leaves
-/// something, and the call is not one by which it does. A call that is repeated (`repeated`) was let
-/// through when it was made.
+/// Why the member, numbered from 0, does not make the call, or go on with it: `Leaving` if it
+/// leaves something, and the call is not one by which it does. A call that is repeated (`repeated`)
+/// was let through when it was made.
 pub fn leaving_refusal<S: Shares>(
     shares: &S,
     member: u16,

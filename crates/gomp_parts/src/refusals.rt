@@ -55,12 +55,12 @@ pub fn unless_refused(
 }
 
 /// The shape of the share that the call starts, if it starts one, unless one of its own tests
-/// refuses it: those on the place of the member, numbered from 0, among the shares (E8 to E23, E34),
-/// and the comparison with other members' calls (`Mismatch`). A call that is repeated (`repeated`) is
-/// only compared: its place was tested when it was made. A member that leaves the region (`leaving`)
-/// gives up its share at the region's end. What names and locks refuse is none of this, nor what tasks
-/// and groups do ([`task_refusal`](crate::task_refusal); OpenMP API 5.2, chapter 11 and sections 16.1
-/// and 17.1).
+/// refuses it: those on the place of the member, numbered from 0, among the shares (E8 to E23,
+/// E34), and the comparison with other members' calls (`Mismatch`). A call that is repeated
+/// (`repeated`) is only compared: its place was tested when it was made. A member that leaves the
+/// region (`leaving`) gives up its share at the region's end. What names and locks refuse is none
+/// of this, nor what tasks and groups do ([`task_refusal`](crate::task_refusal); OpenMP API 5.2,
+/// chapter 11 and sections 16.1 and 17.1).
 pub fn admit_call<S: Shares>(
     shares: &mut S,
     barriers: &Barriers,
@@ -230,8 +230,8 @@ fn barrier_refusal(seen: &Seen) -> Option<Refusal>
     }
 }
 
-/// Why the call is refused behind the tests of the member's place: `NotDrained`, or by the comparison
-/// with other members' calls. A call that is repeated (`repeated`) is only compared.
+/// Why the call is refused behind the tests of the member's place: `NotDrained`, or by the
+/// comparison with other members' calls. A call that is repeated (`repeated`) is only compared.
 fn later_refusal<S: Shares>(
     shares: &mut S,
     barriers: &Barriers,
@@ -288,9 +288,9 @@ fn drains(call: &Call) -> bool
     )
 }
 
-/// Why the call, which starts a share of this shape if it starts one, is refused when it is compared
-/// with other members': `Mismatch` if its construct is another, and for a resume with no wait open
-/// `NotInside`.
+/// Why the call, which starts a share of this shape if it starts one, is refused when it is
+/// compared with other members': `Mismatch` if its construct is another, and for a resume with no
+/// wait open `NotInside`.
 fn compared_refusal<S: Shares>(
     shares: &mut S,
     barriers: &Barriers,
@@ -395,8 +395,9 @@ fn arrival_refusal<S: Shares>(
 fn arrival_differs<S: Shares>(shares: &S, barriers: &Barriers, member: u16, kind: Arrival) -> bool
     requires member { member < S.members shares.now }
     requires team { barrier_members barriers.now ≡ S.members shares.now }
-    ensures compared { EachStands (BothStand S.stands shares.now barriers.now) (λ h. result ≡
-        tag_differs (tag_with kind (shares_entered member h)) (tag_at (barriers_passed member h) h)) }
+    ensures compared { EachStands (BothStand S.stands shares.now barriers.now) (λ h.
+        result ≡ tag_differs (tag_with kind (shares_entered member h))
+        (tag_at (barriers_passed member h) h)) }
 {
     let own = Tag {
         kind,

@@ -28,8 +28,8 @@ const WORDS_ROOM: u32 = 1;
 /// The room that the cancellation of the region or of a group asks for.
 const CANCEL_ROOM: u32 = 1;
 
-/// For how many events the call asks room (own): for those of a task or a group, for an arrival at a
-/// barrier, at the start of a construct for the barrier at its end, or for its words, and for the
+/// For how many events the call asks room (own): for those of a task or a group, for an arrival at
+/// a barrier, at the start of a construct for the barrier at its end, or for its words, and for the
 /// cancellation of the region or of a group.
 pub(crate) fn room_asked(call: &Call) -> u32
     ensures { result ≡ (row_of call.now).room }

@@ -35,8 +35,8 @@ pub(crate) struct Team {
 }
 
 /// Answers a call that neither arrives at a barrier nor has words, or goes on with it: that it is
-/// repeated changes nothing. `starts` is the shape of the share that it starts, if it starts one. In a
-/// cancelled region a call that would wait is answered `Cancelled`.
+/// repeated changes nothing. `starts` is the shape of the share that it starts, if it starts one.
+/// In a cancelled region a call that would wait is answered `Cancelled`.
 ///
 /// The call was tested, and its room is kept: here it is performed.
 pub(crate) fn share_reply<S: Shares>(

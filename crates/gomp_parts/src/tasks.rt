@@ -22,11 +22,11 @@ use crate::room::room_asked;
 use gomp_board::{Board, Op, TeamCancel, items_refusal};
 use gomp_types::{Call, CancelKind, Place, Refusal, Reply, TaskDesc};
 
-/// Why tasks, groups, cancellation or want of room for events refuse the call of the member, numbered
-/// from 0: `InsideTask` if no explicit task may make it, `TooDeep`, `TooManyTasks`, `TooManyDepends`,
-/// `NotInTask`, `NoGroup`, `GroupOpen` or `TraceFull`. A call that is repeated (`repeated`) was tested
-/// when it was made. A member that leaves its task or the region (`leaving`) gives up the groups that
-/// it has open there.
+/// Why tasks, groups, cancellation or want of room for events refuse the call of the member,
+/// numbered from 0: `InsideTask` if no explicit task may make it, `TooDeep`, `TooManyTasks`,
+/// `TooManyDepends`, `NotInTask`, `NoGroup`, `GroupOpen` or `TraceFull`. A call that is repeated
+/// (`repeated`) was tested when it was made. A member that leaves its task or the region
+/// (`leaving`) gives up the groups that it has open there.
 pub fn task_refusal(
     board: &Board,
     member: u16,
@@ -47,8 +47,8 @@ pub fn task_refusal(
     lesser(own, asked_refusal(board, member, call))
 }
 
-/// Why there is no room for the events of the call: `TraceFull`. A creation that is dropped asks for
-/// none.
+/// Why there is no room for the events of the call: `TraceFull`. A creation that is dropped asks
+/// for none.
 fn asked_refusal(board: &Board, member: u16, call: &Call) -> Option<Refusal>
     requires member { member < members_of board.now }
     ensures least { (p : Past) → BoardStands board.now p.events →
@@ -151,8 +151,8 @@ fn lesser(one: Option<Refusal>, other: Option<Refusal>) -> Option<Refusal>
     }
 }
 
-/// Answers a call on tasks or groups, a construct that names the region or a group, or the stop of the
-/// team, or goes on with a call that waits.
+/// Answers a call on tasks or groups, a construct that names the region or a group, or the stop of
+/// the team, or goes on with a call that waits.
 pub(crate) fn task_reply(board: &mut Board, member: u16, call: &Call, manner: Manner) -> Reply
     requires member { member < members_of board.old }
     requires served { is_some (board_op manner call.now) ≡ true }

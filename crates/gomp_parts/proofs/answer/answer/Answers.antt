@@ -5,7 +5,6 @@ use Rattle.gomp_types.specs.declared.event.Arrival.TheVariants.{Barrier, RegionE
 use Rattle.gomp_types.specs.Compare.{tag_with}
 use Rattle.gomp_types.specs.Events.{shares_entered}
 use Rattle.gomp_shares.specs.declared.admission.Construct.TheVariants.{Loop, Sections}
-use Rattle.gomp_shares.specs.Cancels.{names_share}
 use Rattle.gomp_shares.specs.Loops.{end_tests}
 use Rattle.gomp_shares.specs.Sections.{sections_end_tests}
 use Rattle.gomp_shares.proofs.Admitted.{end_lets_leave}

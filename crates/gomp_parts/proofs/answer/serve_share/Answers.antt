@@ -1,4 +1,4 @@
-use Rattle.std.proofs.Common.{◌<◌, ◌≡◌, ℕ, subst, sym, ◌∙◌, false}
+use Rattle.std.proofs.Common.{◌<◌, ℕ, subst, sym}
 use Rattle.gomp_model.specs.Calls.{row_of}
 use Rattle.gomp_parts.specs.Serves.{KeepsMore, SharesStand}
 use Rattle.gomp_parts.proofs.CallOps.{made_once}

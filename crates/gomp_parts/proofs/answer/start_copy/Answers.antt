@@ -1,4 +1,4 @@
-use Rattle.std.proofs.Common.{◌<◌, ℕ, [], true, sym, subst, ◌∙◌}
+use Rattle.std.proofs.Common.{◌<◌, ℕ, [], true, sym, subst}
 use Rattle.gomp_types.specs.declared.seen.Seen.{Seen}
 use Rattle.gomp_types.specs.declared.reply.Reply.{Reply}
 use Rattle.gomp_types.specs.Singles.{single_shape}

@@ -1,4 +1,4 @@
-use Rattle.std.proofs.Common.{◌≡◌, ◌∙◌, ap, sym}
+use Rattle.std.proofs.Common.{◌∙◌, ap, sym}
 use Rattle.std.specs.Prelude.{◌||◌, is_none}
 use Rattle.gomp_types.specs.Least.{least}
 use Rattle.gomp_shares.specs.Admission.{end_tests_of}

@@ -1,4 +1,4 @@
-use Rattle.std.proofs.Common.{◌≡◌, ◌∙◌, sym}
+use Rattle.std.proofs.Common.{◌∙◌, sym}
 use Rattle.gomp_types.specs.Cancels.{is_leaving}
 use Rattle.gomp_model.specs.Calls.{row_of}
 use Rattle.gomp_parts.proofs.LeavingTests.{leaves_alike, stays_unrefused, let_unrefused, bound_refused}

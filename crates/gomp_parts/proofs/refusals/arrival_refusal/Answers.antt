@@ -1,4 +1,4 @@
-use Rattle.std.proofs.Common.{◌≡◌, ◌∙◌, sym}
+use Rattle.std.proofs.Common.{◌∙◌, sym}
 use Rattle.gomp_types.specs.Cancels.{is_cancelled}
 use Rattle.gomp_parts.proofs.Refused.{arrival_refused, arrival_agrees, arrival_uncompared}
 use Rattle.gomp_parts.proofs.refusals.arrival_refusal.Goals as goal

@@ -1,4 +1,4 @@
-use Rattle.std.proofs.Common.{◌≡◌, ◌∙◌, sym}
+use Rattle.std.proofs.Common.{◌∙◌, sym}
 use Rattle.gomp_model.specs.Calls.{row_of}
 use Rattle.gomp_parts.proofs.Refused.{undrained_first, drained_then, lets_end, compared_high}
 use Rattle.gomp_parts.proofs.refusals.later_refusal.Goals as goal
