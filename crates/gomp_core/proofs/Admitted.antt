@@ -35,6 +35,7 @@ use Rattle.gomp_parts.specs.Leaves.{LeavesAs}
 use Rattle.gomp_core.specs.Replies.{IsAdmitted}
 use Rattle.gomp_core.proofs.Refused.{bad_member}
 use Rattle.gomp_core.proofs.WaitsThere.{arrived_waits_there, awaits_if_repeated}
+use Rattle.gomp_core.proofs.EndsThere.{ends_there, away_unless_repeated, ends_if_repeated}
 
 -- a team's terms, with limits that are not above the standard ones
 pub same_members : (terms : Terms) (run : Record) → (past_of terms run).terms.members ≡ terms.members
@@ -96,15 +97,15 @@ step_admitted terms run step manner board caused none kept again leaves allowed 
         waits = λ again. (ready.lasting again).2;
         inside = unrefused_inside p step none;
         whole = whole;
-        arrived = ?arrived;
-        away = ?away;
-        ends = ?ends;
+        arrived = awaits_if_repeated p step none known (arrived_waits_there terms run caused m);
+        away = away_unless_repeated p step none known whole (unrefused_inside p step none) (ends_there terms run caused m);
+        ends = ends_if_repeated p step none known whole (unrefused_inside p step none) (ends_there terms run caused m);
         kept = λ again. repeated_kept m board p step.call (p.waits m).open_call passes kept again;
       },
       record { leaves = leaves; allowed = ap (λ (t : Terms). t.cancellation) (same_terms terms run) ∙ allowed },
       record {
         free = none_holds (book_tests repeated row m p) (fail_later (board_tests repeated row m p) (book_tests repeated row m p) later);
-        lasting = λ again. (ready.lasting again).1;
+        lasting = λ again key holds. ((ready.lasting again).1 key holds).0;
         waits = λ again. (ready.lasting again).2;
         rule = rule_of_holds terms run caused;
       },

@@ -11,5 +11,6 @@ pub mod LocksStand
 pub mod Refused
 pub mod Stepping
 pub mod WaitsThere
+pub mod EndsThere
 pub mod KeepsExamples
 pub mod StandsExamples

@@ -21,7 +21,7 @@ use Rattle.gomp_types.proofs.LeastTests.{lesser_low}
 use Rattle.gomp_locks.specs.Book.{BookView}
 use Rattle.gomp_locks.specs.Holders.{holder}
 use Rattle.gomp_model.specs.Past.{Terms, Waits, no_waits, Past}
-use Rattle.gomp_model.specs.Row.{Row, refusal_gives, MayGive}
+use Rattle.gomp_model.specs.Row.{Row, asks_memory, refusal_gives, MayGive}
 use Rattle.gomp_model.specs.Calls.{row_of}
 use Rattle.gomp_model.specs.Team.{Record, call_meant, is_resume, row_at, broken_tests, refusal_of, MayAnswer, open_first, waits_after, past_of, Caused}
 use Rattle.gomp_board.specs.declared.op.Op.TheVariants.{Break as BreakOp}
@@ -258,7 +258,7 @@ meant_itself _ waiting once = refl
 
 -- a reply that such a call may give has its cause, and want of memory if the call is made
 pub may_answer : (p : Past) (step : Step) (reply : Reply) → refusal_of p step ≡ None → MayGive (row_at p step) (is_resume step.call) step.member p reply → (reply ≡ Refused NoMemory → is_resume step.call ≡ false) → MayAnswer p step reply
-may_answer p step (Refused NoMemory) none may once = (none, subst (λ (call : Call). IsTrue (row_of call).memory) (meant_itself step.call (p.waits step.member).open_call (once refl)) may)
+may_answer p step (Refused NoMemory) none may once = (none, subst (λ (call : Call). IsTrue (asks_memory (row_of call) step.member p)) (meant_itself step.call (p.waits step.member).open_call (once refl)) may)
 may_answer p step (Refused refusal) none may once = absurd ((row_is_sound (call_meant step.call (p.waits step.member).open_call)).accepts step.member _ refusal may)
 may_answer p step reply none may once = (none, may)
 

@@ -4,7 +4,7 @@
 ghost use Rattle.std.specs.Prelude.{◌≡◌, ◌<◌, true, Some};
 ghost use Rattle.gomp_model.specs.Calls.{row_of};
 ghost use Rattle.gomp_board.specs.Boards.{members_of};
-ghost use Rattle.gomp_parts.specs.Answers.{StartsShare};
+ghost use Rattle.gomp_parts.specs.Answers.{StartsShare, IsDrained};
 ghost use Rattle.gomp_held.specs.Stands.{IsKnown};
 ghost use Rattle.gomp_core.specs.Replies.{SomeAdmitted, AnswersAll};
 
@@ -33,6 +33,7 @@ pub fn team_reply<S: Shares>(
 ) -> Reply
     requires member { member < S.members shares.old }
     requires starts { StartsShare (row_of call.now) (S.seen shares.old member) starts.now }
+    requires drained { IsDrained manner.repeated (row_of call.now) S.stands shares.old member }
     requires team { members_of board.old ≡ S.members shares.old }
     requires admitted { SomeAdmitted S.stands shares.old board.old book.old
         (row_of call.now) manner member }

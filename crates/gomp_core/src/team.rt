@@ -14,7 +14,7 @@ ghost use Rattle.gomp_model.specs.Team.{Record, row_at, call_meant, is_resume, m
 ghost use Rattle.gomp_board.specs.Boards.{Stands as BoardStands, members_of as board_members};
 ghost use Rattle.gomp_parts.specs.Answers.{StartsShare};
 ghost use Rattle.gomp_parts.specs.Leaves.{leaves_nothing};
-ghost use Rattle.gomp_core.specs.Stands.{Stands, Begins, terms_by, Keeps, TakesMemory, past, terms_of, members_of};
+ghost use Rattle.gomp_core.specs.Stands.{Stands, Begins, EndsDrained, terms_by, Keeps, TakesMemory, past, terms_of, members_of};
 ghost use Rattle.gomp_core.specs.LocksMade.{kinds_of, locks_made};
 ghost use Rattle.gomp_core.specs.Resolved.{resolved_call, resolved_step, step_by};
 
@@ -244,6 +244,8 @@ impl<S: Shares> Team<S> {
         requires starts { (before : Record) → Stands S.stands S.members self.old before →
             StartsShare (row_at (past self.old before) (step_by member call))
             (S.seen self.old.shares member) starts.now }
+        requires drained { (before : Record) → Stands S.stands S.members self.old before →
+            EndsDrained S.stands self.old before (step_by member call) }
         ensures keeps { Keeps self.old self.new call result }
         ensures memory { result ≡ Refused NoMemory → TakesMemory (row_of call) }
         ensures answer { (before : Record) → Stands S.stands S.members self.old before →
@@ -294,6 +296,8 @@ impl<S: Shares> Team<S> {
         ensures starts { (before : Record) → Stands S.stands S.members self.old before →
             IfOk result (StartsShare (row_at (past self.old before) (step_by member call.now))
             (S.seen self.old.shares member)) }
+        ensures drained { (before : Record) → Stands S.stands S.members self.old before →
+            IfOk result (λ starts. EndsDrained S.stands self.old before (step_by member call.now)) }
     {
         if member as usize >= self.waits.len() {
             return Err(Refusal::BadMember);

@@ -81,7 +81,7 @@ away_meant _ None fail acts = refl
 away_meant _ (Some other) fail acts = absurd (let shut = fail.0 in cc)
 
 -- a call that is answered while a wait is open repeats it, or stops the team
-repeats_or_stops : (call : Call) (waiting : Option Call) → AllFail (wait_tests call waiting) → is_some (row_of (call_meant call waiting)).arrives ≡ false → (call ≡ Stop) ⊎ (has_arrived waiting ≡ false)
+pub repeats_or_stops : (call : Call) (waiting : Option Call) → AllFail (wait_tests call waiting) → is_some (row_of (call_meant call waiting)).arrives ≡ false → (call ≡ Stop) ⊎ (has_arrived waiting ≡ false)
 repeats_or_stops Stop waiting fail silent = inl refl
 repeats_or_stops Resume None fail silent = inr refl
 repeats_or_stops Resume (Some call) fail silent = inr silent
@@ -275,7 +275,7 @@ stays_away m h now same away = (rw same.number (same.arrivals (barriers_passed m
 stop_breaks : (repeated : Bool) (m : ℕ) (p : Past) (reply : Reply) → stop_row.may_reply m (begun_past repeated stop_row m p) reply → clash_of (events_after repeated stop_row m p reply) ≡ None → ⊥
 stop_breaks repeated m p reply may whole = let broken = (rw may at whole) in cc
 
-never_stopped : (p : Past) (call : Call) (waiting : Option Call) (m : ℕ) (reply : Reply) → call ≡ Stop → (row_of (call_meant call waiting)).may_reply m (begun_past (is_resume call) (row_of (call_meant call waiting)) m p) reply →
+pub never_stopped : (p : Past) (call : Call) (waiting : Option Call) (m : ℕ) (reply : Reply) → call ≡ Stop → (row_of (call_meant call waiting)).may_reply m (begun_past (is_resume call) (row_of (call_meant call waiting)) m p) reply →
     clash_of (events_after (is_resume call) (row_of (call_meant call waiting)) m p reply) ≡ None → ⊥
 never_stopped p call waiting m reply stop =
     subst (λ (c : Call). (row_of (call_meant c waiting)).may_reply m (begun_past (is_resume c) (row_of (call_meant c waiting)) m p) reply → clash_of (events_after (is_resume c) (row_of (call_meant c waiting)) m p reply) ≡ None → ⊥)

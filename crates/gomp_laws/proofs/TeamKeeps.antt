@@ -164,7 +164,7 @@ some_arrival None ends none = absurd (cc)
 some_arrival (Some tag) ends none = absurd (cc)
 
 -- a member that has arrived at the region's end, and not passed it, waits there
-abbrev WaitsAtEnd : ℕ → List Event → Type 0
+abbrev pub WaitsAtEnd : ℕ → List Event → Type 0
 WaitsAtEnd m h = (at_barrier m h ≡ true) × (was_region_end (arrival (barriers_passed m h) m h) ≡ true)
 
 -- a member that arrives again leaves a cancelled region, and arrives at its end
@@ -180,7 +180,7 @@ count_of_another : (barrier member m : ℕ) (h : List Event) → (member == m) �
 count_of_another barrier member m h other = rw other refl
 
 -- so who has arrived at the region's end, and has not left the region, waits there
-ender_waits : (members m : ℕ) (h : List Event) → Always (TeamRule members) h → has_left_region m h ≡ false → at_region_end m h ≡ true → WaitsAtEnd m h
+pub ender_waits : (members m : ℕ) (h : List Event) → Always (TeamRule members) h → has_left_region m h ≡ false → at_region_end m h ≡ true → WaitsAtEnd m h
 ender_waits members m [] all inside ends = absurd (cc)
 ender_waits members m (Arrive barrier member tag ∷ earlier) all inside ends =
     elim (cases_Bool (member == m)) [

@@ -8,7 +8,7 @@ use Rattle.gomp_types.specs.Least.{lesser, least}
 use Rattle.gomp_model.specs.Past.{Waits}
 use Rattle.gomp_model.specs.Team.{call_meant, member_tests, wait_tests, refusal_of, row_at}
 use Rattle.gomp_board.specs.Boards.{members_of as board_members}
-use Rattle.gomp_core.specs.Stands.{TeamView, past, terms_of, members_of}
+use Rattle.gomp_core.specs.Stands.{TeamView, EndsDrained, past, terms_of, members_of}
 use Rattle.gomp_parts.specs.Answers.{StartsShare}
 use Rattle.gomp_core.proofs.Refused.{bad_member, step_refused, all_admitted}
 use Rattle.gomp_core.proofs.Admitted.{same_members, rule_of_holds, step_place}
@@ -95,3 +95,16 @@ returns-clause-starts g c = λ before st0.
     subst (λ (t : TeamView g.row.S.Denot). IfOk c.unless_refused.result (StartsShare (row_at (past t before) step) (g.S.Shares.seen t.shares c.args.member))) c.self.view_is
     (all_admitted (StartsShare (row_at (past team before) step) (g.S.Shares.seen team.shares c.args.member)) c.admit_call-by_place.result c.unless_refused-by_own.result c.unless_also-by_parts.result c.unless_also.result c.unless_refused.result
     c.unless_refused.ensures.admitted c.unless_also.ensures.admitted c.unless_also-by_parts.ensures.admitted c.unless_refused-by_own.ensures.admitted starts)
+
+pub returns-clause-drained : goal.returns-clause-drained
+returns-clause-drained g c = λ before st0.
+    let team : TeamView g.row.S.Denot = record { icv = c.self.inside.icv; board = c.self.inside.board; waits = c.self.inside.waits.items; leaving = c.self.inside.leaving.items; book = c.self.inside.book; shares = c.self.inside.shares } in
+    let st = same_stands g.S.Shares.stands g.S.Shares.members team c.args.self.now before c.self.view_is st0 in
+    let step : Step = record { member = c.args.member; call = c.args.call.now } in
+    let lt : c.args.member < length c.self.inside.waits.items = let under = c.if-member-len.false in let len = c.len.ensures in omega arith in
+    let at = slice_get_read c.self.inside.waits.items _ c.args.member _ refl lt c.index.ensures in
+    let is = c.call_meant-meant.ensures ∙ ap (call_meant c.args.call.now) c.open_call-waiting.ensures ∙ call_kept g.S.Shares.stands g.S.Shares.members team before step _ st at in
+    let drained : IfOk c.admit_call-by_place.result (λ starts. EndsDrained g.S.Shares.stands team before step) = rw (is, c.is_resume-repeated.ensures) at c.admit_call-by_place.ensures.drained in
+    subst (λ (t : TeamView g.row.S.Denot). IfOk c.unless_refused.result (λ starts. EndsDrained g.S.Shares.stands t before step)) c.self.view_is
+    (all_admitted (λ starts. EndsDrained g.S.Shares.stands team before step) c.admit_call-by_place.result c.unless_refused-by_own.result c.unless_also-by_parts.result c.unless_also.result c.unless_refused.result
+    c.unless_refused.ensures.admitted c.unless_also.ensures.admitted c.unless_also-by_parts.ensures.admitted c.unless_refused-by_own.ensures.admitted drained)
