@@ -34,7 +34,7 @@ use Rattle.gomp_barrier.specs.Seats.{differ, is_ahead, has_odd_number, seat_acce
 use Rattle.gomp_barrier.specs.Calls.{barrier_seen, accepts_arrival, IsPart, IsParent, MayBind, MayRelease, IsAside}
 use Rattle.gomp_barrier.specs.declared.bound.BoundTasks.{BoundTasks}
 use Rattle.gomp_barrier.specs.Bound.{open_bound, bound_count, one_more, one_less, TasksStand}
-use Rattle.gomp_barrier.specs.Stands.{BarriersView, Stands, MayTurn, MayLeave}
+use Rattle.gomp_barrier.specs.Stands.{BarriersView, Stands, MayTurn, MayLeave, uncancelled}
 use Rattle.gomp_barrier.proofs.BarrierKeeps.{not_gone_yet, stays_here, next_behind, next_gone, tag_is, number_is, arrival_keeps_the_front, turn_arrived, pass_keeps_the_front, moves_on, behind_again, there_before, met_by, met_all, not_met_ahead}
 use Rattle.gomp_barrier.proofs.BoundKeeps.{odd_next, front_complete, front_closed, tasks_complete, tasks_closed, tasks_move_on, bind_keeps, release_keeps, discard_keeps}
 use Rattle.gomp_barrier.proofs.RegionEnds.{waits_there, comes_to_end, others_end}
@@ -265,7 +265,7 @@ all_come seats front tasks m seat h st at behind all come =
     others_end (length seats) m x h st.cancelled st.rule (λ g le. there_before front st.least x (get_or seats x seat) h g st.cancelled (st.barrier.seat x (get_or seats x seat) at_x) (all x seat lt) (subst (λ (n : ℕ). g ≤ n) (at_least seats front tasks m seat h st at behind) le)) come)
 
 -- a member may pass if it may pass the front
-may_now : (seats : List Seat) (front : Front) (tasks : BoundTasks) (m : ℕ) (seat : Seat) (h : List Event) → StandAt seats front tasks false h → slice_get seats m ≡ Some seat → MayTurn (record { seats = seats; front = front; tasks = tasks; cancelled = false }) seat → may_pass (length seats) m h ≡ true
+may_now : (seats : List Seat) (front : Front) (tasks : BoundTasks) (m : ℕ) (seat : Seat) (h : List Event) → StandAt seats front tasks false h → slice_get seats m ≡ Some seat → MayTurn (uncancelled seats front tasks) seat → may_pass (length seats) m h ≡ true
 may_now seats front tasks m seat h st at may =
     let whole : is_cancelled h ≡ false = st.cancelled in
     let number = at_least seats front tasks m seat h st at may.behind in
@@ -282,7 +282,7 @@ may_now seats front tasks m seat h st at may =
     ])
 
 -- and only then
-must_now : (seats : List Seat) (front : Front) (tasks : BoundTasks) (m : ℕ) (seat : Seat) (h : List Event) → StandAt seats front tasks false h → slice_get seats m ≡ Some seat → may_pass (length seats) m h ≡ true → MayTurn (record { seats = seats; front = front; tasks = tasks; cancelled = false }) seat
+must_now : (seats : List Seat) (front : Front) (tasks : BoundTasks) (m : ℕ) (seat : Seat) (h : List Event) → StandAt seats front tasks false h → slice_get seats m ≡ Some seat → may_pass (length seats) m h ≡ true → MayTurn (uncancelled seats front tasks) seat
 must_now seats front tasks m seat h st at passes =
     let whole : is_cancelled h ≡ false = st.cancelled in
     let may : (barrier_met (length seats) (barriers_passed m h) h && (not (at_region_end m h) || region_met (length seats) h)) ≡ true = rw whole at passes in
@@ -340,7 +340,7 @@ must_leave seats front tasks m seat h st at passes =
 
 -- the answer of a turn
 pub turn_is : (seats : List Seat) (front : Front) (tasks : BoundTasks) (m : ℕ) (seat : Seat) (h : List Event) (result : Bool) → StandAt seats front tasks false h → slice_get seats m ≡ Some seat →
-    IsTrue result ↔ MayTurn (record { seats = seats; front = front; tasks = tasks; cancelled = false }) seat → result ≡ may_pass (length seats) m h
+    IsTrue result ↔ MayTurn (uncancelled seats front tasks) seat → result ≡ may_pass (length seats) m h
 turn_is seats front tasks m seat h true st at is = sym (may_now seats front tasks m seat h st at (is.0 refl))
 turn_is seats front tasks m seat h false st at is =
     elim (cases_Bool (may_pass (length seats) m h)) [
@@ -386,7 +386,7 @@ settle_keeps seats front settled tasks m seat least h whole st counts none at ru
 there_tag : (front : Front) (seat : Seat) → is_ahead front seat ≡ false → IsThere front seat → (tag : Tag) × (seat.arrived ≡ Some tag)
 there_tag front seat behind is = some_of seat.arrived (subst (λ b. (b || is_some seat.arrived) ≡ true) behind is)
 
-pub turn_keeps : (seats : List Seat) (front settled : Front) (tasks : BoundTasks) (m : ℕ) (seat : Seat) (h : List Event) → StandAt seats front tasks false h → slice_get seats m ≡ Some seat → MayTurn (record { seats = seats; front = front; tasks = tasks; cancelled = false }) seat →
+pub turn_keeps : (seats : List Seat) (front settled : Front) (tasks : BoundTasks) (m : ℕ) (seat : Seat) (h : List Event) → StandAt seats front tasks false h → slice_get seats m ≡ Some seat → MayTurn (uncancelled seats front tasks) seat →
     (All (λ p. is_ahead front p ≡ true) (slice_set seats m (passed_by seat (was_region_end seat.arrived))) → settled ≡ next_front front) →
     ((All (λ p. is_ahead front p ≡ true) (slice_set seats m (passed_by seat (was_region_end seat.arrived))) → ⊥) → settled ≡ front) →
     StandAt (slice_set seats m (passed_by seat (was_region_end seat.arrived))) settled tasks false (Pass (barriers_passed m h) m ∷ h)

@@ -17,6 +17,10 @@ pub record BarriersView : Type 0 where
   pub tasks : BoundTasks
   pub cancelled : Bool
 
+-- the barriers of a region that is not cancelled
+abbrev pub uncancelled : List Seat → Front → BoundTasks → BarriersView
+uncancelled seats front tasks = record { seats = seats; front = front; tasks = tasks; cancelled = false }
+
 -- how many members the team has
 abbrev pub members_of : BarriersView → ℕ
 members_of barriers = length barriers.seats

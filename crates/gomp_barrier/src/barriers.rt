@@ -13,7 +13,7 @@ ghost use Rattle.gomp_types.specs.Goals.{may_pass};
 ghost use Rattle.gomp_types.specs.Compare.{tag_differs};
 ghost use Rattle.gomp_barrier.specs.Calls.{barrier_seen, accepts_arrival, arrived_after, turn_after, MayBind, MayRelease};
 ghost use Rattle.gomp_barrier.specs.Seats.{AllCome, seat_accepts};
-ghost use Rattle.gomp_barrier.specs.Stands.{BarriersView, Stands, MayTurn, MayLeave, members_of};
+ghost use Rattle.gomp_barrier.specs.Stands.{BarriersView, Stands, MayTurn, MayLeave, members_of, uncancelled};
 
 use crate::bound::BoundTasks;
 use crate::front::{
@@ -276,12 +276,7 @@ fn may_leave(seats: &[Seat], tasks: &BoundTasks, member: &Seat) -> bool
 
 /// Whether the member may pass its next barrier, in a region that is not cancelled.
 fn may_turn(seats: &[Seat], front: &Front, tasks: &BoundTasks, member: &Seat) -> bool
-    ensures { IsTrue result ↔ MayTurn (record {
-      seats = seats.now;
-      front = front.now;
-      tasks = tasks.now;
-      cancelled = false;
-    }) member.now }
+    ensures { IsTrue result ↔ MayTurn (uncancelled seats.now front.now tasks.now) member.now }
 {
     !is_ahead(front, member)
         && all_there(front, seats)

@@ -57,15 +57,15 @@ not_waiting m h fails whole out = away (at_barrier m h) (rw (out, whole) at fail
     away false e = e
 
 -- a task that nothing would reach is created in a region that is not cancelled
-uncovered_is_whole : (a b : Bool) → (a || b) ≡ false → a ≡ false
-uncovered_is_whole true b e = e
-uncovered_is_whole false b e = refl
+uncovered_region_goes_on : (a b : Bool) → (a || b) ≡ false → a ≡ false
+uncovered_region_goes_on true b e = e
+uncovered_region_goes_on false b e = refl
 
 -- the member creates a task
 pub create_may : (limits : Limits) (room kept members m : ℕ) (desc : TaskDesc) (h : List Event) → m < members → creates_covered m h ≡ false → op_refusal limits room kept m (Create desc) h ≡ None → MayCreate members (suc (tasks_created h)) m (executed_task m h) h
 create_may limits room kept members m desc h lt uncovered fine =
     let fails = tests_fail limits room kept m (Create desc) h fine in
-    let whole = uncovered_is_whole (is_cancelled h) (some_cancelled (groups_within (executed_task m h) h) h) uncovered in
+    let whole = uncovered_region_goes_on (is_cancelled h) (some_cancelled (groups_within (executed_task m h) h) h) uncovered in
     record { member = lt; number = refl; current = refl; away = not_waiting m h fails.0 whole; uncovered = uncovered; shallow = leb-false MAX_TASK_DEPTH (depth_of (executed_task m h) h) fails.1.0 }
 
 pub create_few : (limits : Limits) (room kept m : ℕ) (desc : TaskDesc) (h : List Event) → op_refusal limits room kept m (Create desc) h ≡ None → tasks_created h < limits.tasks

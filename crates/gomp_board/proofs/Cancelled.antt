@@ -62,11 +62,11 @@ group_is_named m task found q h current first some =
 
 -- What is told
 
-nothing_given : (allowed clause told : Bool) (kind : CancelKind) (m : ℕ) (h : List Event) → (allowed && clause) ≡ false → cancelled_by clause kind m h (Cancelling (allowed && told)) ≡ []
-nothing_given true true told kind m h e = absurd (cc)
-nothing_given true false true kind m h e = refl
-nothing_given true false false kind m h e = refl
-nothing_given false clause told kind m h e = refl
+no_cancel_given : (allowed clause told : Bool) (kind : CancelKind) (m : ℕ) (h : List Event) → (allowed && clause) ≡ false → cancelled_by clause kind m h (Cancelling (allowed && told)) ≡ []
+no_cancel_given true true told kind m h e = absurd (cc)
+no_cancel_given true false true kind m h e = refl
+no_cancel_given true false false kind m h e = refl
+no_cancel_given false clause told kind m h e = refl
 
 nothing_kept : (allowed clause told : Bool) → (allowed && clause) ≡ false → keeps_cancel clause (Cancelling (allowed && told)) ≡ false
 nothing_kept true true told e = absurd (cc)
@@ -83,7 +83,7 @@ pub cancel_told : (named : TeamCancel) (clause allowed told : Bool) (m : ℕ) (b
     Performs (Cancel named clause allowed) m board board (Cancelling (allowed && told))
 cancel_told named clause allowed told m board admitted never names =
     nothing_changed (Cancel named clause allowed) m board (Cancelling (allowed && told)) tt admitted
-    (λ h st. told_so allowed clause told (names_cancelled (kind_of named) m h) never (names h st)) (λ h st. refl) (λ h st. nothing_given allowed clause told (kind_of named) m h never)
+    (λ h st. told_so allowed clause told (names_cancelled (kind_of named) m h) never (names h st)) (λ h st. refl) (λ h st. no_cancel_given allowed clause told (kind_of named) m h never)
     (let off = nothing_kept allowed clause told never in rw off refl) refl
 
 pub point_told : (named : TeamCancel) (allowed told : Bool) (m : ℕ) (board : BoardView) → IsAdmitted (Point named allowed) m board → ((h : List Event) → Stands board h → told ≡ names_cancelled (kind_of named) m h) → Performs (Point named allowed) m board board (Cancelling (allowed && told))

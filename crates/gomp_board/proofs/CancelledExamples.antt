@@ -142,8 +142,8 @@ dropped_begins_nothing = (refl, refl)
 -- Cancellation
 
 -- a true clause cancels, if that is allowed
-pub cancels_the_region : Allows (Cancel Parallel true true) [] (Cancelling true) × Allows (Cancel Parallel true false) [] (Cancelling false) × Allows (Cancel Parallel false true) [] (Cancelling false) × Allows (Cancel Parallel false true) cancelled_at_first (Cancelling true)
-cancels_the_region = ((refl, refl), (refl, refl), (refl, refl), (refl, refl))
+pub allows_cancel_of_region : Allows (Cancel Parallel true true) [] (Cancelling true) × Allows (Cancel Parallel true false) [] (Cancelling false) × Allows (Cancel Parallel false true) [] (Cancelling false) × Allows (Cancel Parallel false true) cancelled_at_first (Cancelling true)
+allows_cancel_of_region = ((refl, refl), (refl, refl), (refl, refl), (refl, refl))
 
 pub wrong_at_a_cancel : Excludes (Cancel Parallel true true) [] (Cancelling false) × Excludes (Cancel Parallel true false) [] (Cancelling true) × Excludes (Cancel Parallel false true) [] (Cancelling true) × Excludes (Cancel Parallel false true) cancelled_at_first (Cancelling false)
 wrong_at_a_cancel = search rules

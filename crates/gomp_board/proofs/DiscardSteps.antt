@@ -44,10 +44,10 @@ use Rattle.gomp_board.proofs.StoredKeeps.{stored_with, reverse_with, history_aft
 pub discard_releases : (t : ℕ) (odd : Bool) (h : List Event) → is_unstarted t h ≡ true → odd ≡ is_odd (epoch t h) → MayRelease t odd h
 discard_releases t odd h un parity = let fresh = unstarted_is_fresh t h un in record { is_open = (fresh.0, fresh.2); parity = parity }
 
-pub task_discarded : {t t' : TasksView} {g g' : GroupsView} {b b' : BarriersView} {d d' : DependsView} {ids ids' : List ℕ} {es es' : List Event} (c : CancelView) (task m : ℕ) (h : List Event) → PartsStand c t g b d ids es h →
+pub parts_discard_task : {t t' : TasksView} {g g' : GroupsView} {b b' : BarriersView} {d d' : DependsView} {ids ids' : List ℕ} {es es' : List Event} (c : CancelView) (task m : ℕ) (h : List Event) → PartsStand c t g b d ids es h →
     TasksStand t' (Discard task m ∷ h) → GroupsStand g' (Discard task m ∷ h) → BarriersStand b' (Discard task m ∷ h) → DependsStand d' (Discard task m ∷ h) → ids' ≡ without task ids → es' ≡ es ++ Discard task m ∷ [] →
     PartsStand c t' g' b' d' ids' es' (Discard task m ∷ h)
-task_discarded {ids = ids} {es = es} {es' = es'} c task m h st tasks groups barriers depends less longer = record {
+parts_discard_task {ids = ids} {es = es} {es' = es'} c task m h st tasks groups barriers depends less longer = record {
   cancelled = events_aside_keep_cancelled c h (Discard task m) tt st.cancelled;
   tasks = tasks;
   groups = groups;
@@ -59,11 +59,11 @@ task_discarded {ids = ids} {es = es} {es' = es'} c task m h st tasks groups barr
 
 -- whether it is discarded
 
-pub task_is_seated : (t : TasksView) (g : GroupsView) (task : ℕ) (h : List Event) → TasksStand t h → GroupsStand g h → IsNumber task t → IsSeated g (Explicit task)
-task_is_seated t g task h tasks groups number = let count = tasks.count in let created = groups.created in let high = number.1 in (number.0, omega (arith, count, created, high))
+pub numbered_task_is_seated : (t : TasksView) (g : GroupsView) (task : ℕ) (h : List Event) → TasksStand t h → GroupsStand g h → IsNumber task t → IsSeated g (Explicit task)
+numbered_task_is_seated t g task h tasks groups number = let count = tasks.count in let created = groups.created in let high = number.1 in (number.0, omega (arith, count, created, high))
 
-pub never_started : (task : ℕ) (h : List Event) → is_unstarted task h ≡ false → false ≡ (is_unstarted task h && is_covered task h)
-never_started task h started = rw started refl
+pub started_is_not_discarded : (task : ℕ) (h : List Event) → is_unstarted task h ≡ false → false ≡ (is_unstarted task h && is_covered task h)
+started_is_not_discarded task h started = rw started refl
 
 pub then_covered : (task : ℕ) (covered : Bool) (h : List Event) → is_unstarted task h ≡ true → covered ≡ is_covered task h → covered ≡ (is_unstarted task h && is_covered task h)
 then_covered task covered h un is = rw un is

@@ -68,8 +68,8 @@ discards_none_at k m h =
     subst (λ (n : ℕ). (is_unstarted n (discards_to k m h ++ h) && is_covered n (discards_to k m h ++ h)) ≡ false → discards_to k m h ++ h ≡ discards_to n m h ++ h) e (discards_none k m h)
 
 -- Together they leave none of the tasks up to k
-discarded_is_complete : (t m : ℕ) (h : List Event) → is_unstarted t (Discard t m ∷ h) ≡ true → ⊥
-discarded_is_complete t m h un = not_both (is_complete t (Discard t m ∷ h)) (rw (same_number t) refl) (unstarted_is_fresh t (Discard t m ∷ h) un).2
+discarded_is_not_unstarted : (t m : ℕ) (h : List Event) → is_unstarted t (Discard t m ∷ h) ≡ true → ⊥
+discarded_is_not_unstarted t m h un = not_both (is_complete t (Discard t m ∷ h)) (rw (same_number t) refl) (unstarted_is_fresh t (Discard t m ∷ h) un).2
 
 left_by_discards : (k t m : ℕ) (h : List Event) → 0 < t → t ≤ k → is_unstarted t (discards_to k m h ++ h) ≡ true → is_covered t h ≡ false
 left_by_discards zero t m h low high un = absurd (omega (arith, low, high))
@@ -79,7 +79,7 @@ left_by_discards (suc k) t m h low high un =
           let now : is_unstarted t (Discard (suc k) m ∷ (discards_to k m h ++ h)) ≡ true = rw is at un in
           elim (cases_lt t (suc k)) [
             | inl below ↦ left_by_discards k t m h low (omega (arith, below)) (unstarted_before (Discard (suc k) m) t (discards_to k m h ++ h) tt now)
-            | inr past ↦ let e : t ≡ suc k = omega (arith, past, high) in absurd (discarded_is_complete (suc k) m (discards_to k m h ++ h) (subst (λ (u : ℕ). is_unstarted u (Discard (suc k) m ∷ (discards_to k m h ++ h)) ≡ true) e now))
+            | inr past ↦ let e : t ≡ suc k = omega (arith, past, high) in absurd (discarded_is_not_unstarted (suc k) m (discards_to k m h ++ h) (subst (λ (u : ℕ). is_unstarted u (Discard (suc k) m ∷ (discards_to k m h ++ h)) ≡ true) e now))
           ]
       | inr not_it ↦
           let now : is_unstarted t (discards_to k m h ++ h) ≡ true = rw not_it at un in

@@ -16,26 +16,26 @@ use Rattle.gomp_board.specs.Boards.{BoardView, Stands, IsSame, IsAdmitted, Perfo
 use Rattle.gomp_board.proofs.Joined.{keeping_stands}
 use Rattle.gomp_board.proofs.Waiting.{IsReply, op_answered, after_reply, not_refused}
 
-unrefused : (op : Op) (kept room : ℕ) (reply : Reply) → IsReply reply → room_after op kept reply room ≡ (if keeps_room op reply then room + op_asks op kept else room)
-unrefused op kept room (Refused refusal) is = absurd is
-unrefused op kept room _ is = refl
+room_unless_refused : (op : Op) (kept room : ℕ) (reply : Reply) → IsReply reply → room_after op kept reply room ≡ (if keeps_room op reply then room + op_asks op kept else room)
+room_unless_refused op kept room (Refused refusal) is = absurd is
+room_unless_refused op kept room _ is = refl
 
 room_of_reply : (op : Op) (kept room : ℕ) (reply : Reply) → IsReply reply → keeps_room op reply ≡ true → room_after op kept reply room ≡ room + op_asks op kept
 room_of_reply op kept room (Refused refusal) is keeps = absurd is
-room_of_reply op kept room reply is keeps = rw (unrefused op kept room reply is, keeps) refl
+room_of_reply op kept room reply is keeps = rw (room_unless_refused op kept room reply is, keeps) refl
 
 room_given_back : (op : Op) (kept room : ℕ) (reply : Reply) → IsReply reply → keeps_room op reply ≡ false → room_after op kept reply room ≡ room
-room_given_back op kept room reply is keeps = rw (unrefused op kept room reply is, keeps) refl
+room_given_back op kept room reply is keeps = rw (room_unless_refused op kept room reply is, keeps) refl
 
 kept_of_reply : (op : Op) (m : ℕ) (board : BoardView) (reply : Reply) → IsReply reply → kept_after op m reply board.kept ≡ slice_set board.kept m (op_keeps op (kept_by m board))
 kept_of_reply op m board (Refused refusal) is = absurd is
 kept_of_reply op m board _ is = refl
 
 -- a reply that is no refusal
-pub op_answers : (op : Op) (m : ℕ) (board after : BoardView) (reply : Reply) → IsReply reply → IsAdmitted op m board → ((h : List Event) → Stands board h → OpReply (members_of board) m op (begun m op h) reply) →
+pub op_is_answered : (op : Op) (m : ℕ) (board after : BoardView) (reply : Reply) → IsReply reply → IsAdmitted op m board → ((h : List Event) → Stands board h → OpReply (members_of board) m op (begun m op h) reply) →
     ((h : List Event) → Stands board h → Stands after (op_gives m op (begun m op h) reply ++ begun m op h)) → after.limits ≡ board.limits → after.room ≡ room_after op (kept_by m board) reply board.room →
     after.kept ≡ slice_set board.kept m (op_keeps op (kept_by m board)) → (reply ≡ Wait → goes_on_waiting op ≡ true → after ≡ board) → Performs op m board after reply
-op_answers op m board after reply is admitted answer stands limits room kept waits = record {
+op_is_answered op m board after reply is admitted answer stands limits room kept waits = record {
   answer = λ h st. op_answered board.limits board.room (kept_by m board) (members_of board) m op h reply is (admitted h st) (answer h st);
   stands = λ h st. rw (after_reply m op reply h is) (stands h st);
   limits = limits;
@@ -51,13 +51,13 @@ pub op_performed : (op : Op) (m : ℕ) (board after : BoardView) (reply : Reply)
     ((h : List Event) → Stands board h → Stands after (op_gives m op (begun m op h) reply ++ begun m op h)) → after.limits ≡ board.limits → after.room ≡ board.room + op_asks op (kept_by m board) →
     after.kept ≡ slice_set board.kept m (op_keeps op (kept_by m board)) → (reply ≡ Wait → goes_on_waiting op ≡ true → after ≡ board) → Performs op m board after reply
 op_performed op m board after reply is keeps admitted answer stands limits room kept waits =
-    op_answers op m board after reply is admitted answer stands limits (room ∙ sym (room_of_reply op (kept_by m board) board.room reply is keeps)) kept waits
+    op_is_answered op m board after reply is admitted answer stands limits (room ∙ sym (room_of_reply op (kept_by m board) board.room reply is keeps)) kept waits
 
 -- or which changes nothing
 pub nothing_changed : (op : Op) (m : ℕ) (board : BoardView) (reply : Reply) → IsReply reply → IsAdmitted op m board → ((h : List Event) → Stands board h → OpReply (members_of board) m op (begun m op h) reply) → ((h : List Event) → Stands board h → op_begins m op h ≡ []) →
     ((h : List Event) → Stands board h → op_gives m op h reply ≡ []) → room_after op (kept_by m board) reply board.room ≡ board.room → op_keeps op (kept_by m board) ≡ kept_by m board → Performs op m board board reply
 nothing_changed op m board reply is admitted answer begins gives room keeps =
-    op_answers op m board board reply is admitted answer
+    op_is_answered op m board board reply is admitted answer
     (λ h st. let none : begun m op h ≡ h = ap (λ (es : List Event). es ++ h) (begins h st) in rw (none, gives h st) st)
     refl (sym room) (sym (ap (slice_set board.kept m) keeps ∙ set-get_or board.kept m 0)) (λ wait goes. refl)
 

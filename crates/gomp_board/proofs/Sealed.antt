@@ -25,11 +25,11 @@ use Rattle.gomp_types.proofs.Suspended.{unstarted_is_fresh, current_open}
 use Rattle.gomp_board.specs.Boards.{AreSealed}
 
 -- at first there is no task
-no_number : (t : ℕ) → (nat_lt 0 t && nat_le t 0) ≡ false
-no_number t = grind (arith, nat_tests)
+no_number_yet : (t : ℕ) → (nat_lt 0 t && nat_le t 0) ≡ false
+no_number_yet t = grind (arith, nat_tests)
 
 pub none_unsealed : AreSealed []
-none_unsealed = λ t un. absurd (let none = no_number t in let never : false ≡ true = rw none at un in cc)
+none_unsealed = λ t un. absurd (let none = no_number_yet t in let never : false ≡ true = rw none at un in cc)
 
 -- Events that neither create a task nor cancel the region or a group
 abbrev pub IsAside : Event → Type 0
@@ -83,29 +83,29 @@ created_keeps : (t m : ℕ) (p : Task) (desc : TaskDesc) (qs : List ℕ) (h : Li
 created_keeps t m p desc [] h = refl
 created_keeps t m p desc (q ∷ qs) h = ap (λ b. was_cancelled (OneGroup q) h || b) (created_keeps t m p desc qs h)
 
-around_new : (t m : ℕ) (p : Task) (desc : TaskDesc) (h : List Event) → groups_around t (Create t m p desc ∷ h) ≡ groups_within p h
-around_new t m (Implicit x) desc h = rw (same_number t) (sym (append-nil (open_groups (Implicit x) h)))
-around_new t m (Explicit s) desc h = rw (same_number t) refl
+around_the_created : (t m : ℕ) (p : Task) (desc : TaskDesc) (h : List Event) → groups_around t (Create t m p desc ∷ h) ≡ groups_within p h
+around_the_created t m (Implicit x) desc h = rw (same_number t) (sym (append-nil (open_groups (Implicit x) h)))
+around_the_created t m (Explicit s) desc h = rw (same_number t) refl
 
 around_other : (t u m : ℕ) (p : Task) (desc : TaskDesc) (h : List Event) → (t == u) ≡ false → groups_around u (Create t m p desc ∷ h) ≡ groups_around u h
 around_other t u m (Implicit x) desc h other = rw other refl
 around_other t u m (Explicit s) desc h other = rw other refl
 
 new_is_uncovered : (t m : ℕ) (p : Task) (desc : TaskDesc) (h : List Event) → would_be_covered p h ≡ false → is_covered t (Create t m p desc ∷ h) ≡ false
-new_is_uncovered t m p desc h uncovered = rw (around_new t m p desc h, created_keeps t m p desc (groups_within p h) h) uncovered
+new_is_uncovered t m p desc h uncovered = rw (around_the_created t m p desc h, created_keeps t m p desc (groups_within p h) h) uncovered
 
 other_is_covered : (t u m : ℕ) (p : Task) (desc : TaskDesc) (h : List Event) → (t == u) ≡ false → is_covered u (Create t m p desc ∷ h) ≡ is_covered u h
 other_is_covered t u m p desc h other = rw (around_other t u m p desc h other, created_keeps t m p desc (groups_around u h) h) refl
 
-made_before : (u n : ℕ) → (suc n == u) ≡ false → (nat_lt 0 u && nat_le u (suc n)) ≡ (nat_lt 0 u && nat_le u n)
-made_before u n other = grind (arith, nat_tests, other)
+last_made_before : (u n : ℕ) → (suc n == u) ≡ false → (nat_lt 0 u && nat_le u (suc n)) ≡ (nat_lt 0 u && nat_le u n)
+last_made_before u n other = grind (arith, nat_tests, other)
 
 pub sealed_created : (t m : ℕ) (p : Task) (desc : TaskDesc) (h : List Event) → t ≡ suc (tasks_created h) → would_be_covered p h ≡ false → AreSealed h → AreSealed (Create t m p desc ∷ h)
 sealed_created t m p desc h number uncovered sealed = λ u un. elim (eqb_tells t u) [
   | inl same ↦ rw (← same.1) (new_is_uncovered t m p desc h uncovered)
   | inr other ↦
       let last : (suc (tasks_created h) == u) ≡ false = rw number at other.0 in
-      other_is_covered t u m p desc h other.0 ∙ sealed u (rw (made_before u (tasks_created h) last) at un)
+      other_is_covered t u m p desc h other.0 ∙ sealed u (rw (last_made_before u (tasks_created h) last) at un)
 ]
 
 -- nor is another reached that is created in the same task next

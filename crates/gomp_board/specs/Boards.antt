@@ -6,6 +6,7 @@ use Rattle.gomp_types.specs.declared.reply.Reply.{Reply}
 use Rattle.gomp_types.specs.declared.reply.Reply.TheVariants.{Wait, Refused}
 use Rattle.gomp_types.specs.declared.event.Event.{Event}
 use Rattle.gomp_types.specs.Limits.{capped_limits, IsTeamSize}
+use Rattle.gomp_types.specs.declared.event.Arrival.{Arrival}
 use Rattle.gomp_types.specs.declared.event.Tag.{Tag}
 use Rattle.gomp_types.specs.Compare.{tag_differs}
 use Rattle.gomp_types.specs.Events.{barriers_passed, tag_at, at_barrier, at_region_end, is_region_end, clash_of}
@@ -21,7 +22,7 @@ use Rattle.gomp_depend.specs.Stands.{DependsView, Stands as DependsStand}
 use Rattle.gomp_barrier.specs.Stands.{BarriersView, Stands as BarriersStand, members_of as barrier_members}
 use Rattle.gomp_board.specs.declared.op.Op.{Op}
 use Rattle.gomp_board.specs.declared.payloads.Put.{Put}
-use Rattle.gomp_board.specs.Ops.{op_asks, op_keeps, keeps_room, op_refusal, op_after, goes_on_waiting, OpAnswer}
+use Rattle.gomp_board.specs.Ops.{arrival_keeps, op_asks, op_keeps, keeps_room, op_refusal, op_after, goes_on_waiting, OpAnswer}
 use Rattle.gomp_board.specs.ReadyTasks.{AreReady}
 use Rattle.gomp_board.specs.Payloads.{PayloadsStand}
 use Rattle.gomp_board.specs.Stored.{stored}
@@ -56,6 +57,10 @@ members_of board = length board.kept
 -- what a member keeps for its shares
 abbrev pub kept_by : ℕ → BoardView → ℕ
 kept_by m board = slice_index_or board.kept m 0
+
+-- the board once the member has used what it kept for an arrival of this kind
+abbrev pub with_kept_used : Arrival → ℕ → BoardView → BoardView
+with_kept_used kind m board = record board { kept = slice_set board.kept m (arrival_keeps kind (kept_by m board)) }
 
 -- no task that nobody has started is reached by a cancellation: each was discarded
 abbrev pub AreSealed : List Event → Type 0

@@ -10,7 +10,7 @@ ghost use Rattle.gomp_types.specs.Cancels.{is_cancelled};
 ghost use Rattle.gomp_types.specs.Goals.{may_pass};
 ghost use Rattle.gomp_types.specs.TaskCalls.{AwaitsTasks};
 ghost use Rattle.gomp_board.specs.Ops.{arrival_asks, arrival_keeps, op_refusal, passes_barrier};
-ghost use Rattle.gomp_board.specs.Boards.{HasSpare, ArrivesFirst, IsAdmitted, Performs, Stands, members_of, kept_by};
+ghost use Rattle.gomp_board.specs.Boards.{HasSpare, ArrivesFirst, IsAdmitted, Performs, Stands, members_of, kept_by, with_kept_used};
 ghost use Rattle.gomp_board.specs.declared.op.Op.TheVariants.{Arrive, AwaitBarrier, Break};
 
 use crate::board::Board;
@@ -109,10 +109,7 @@ impl Board {
     /// The member uses what it has kept for an arrival of this kind.
     fn use_kept(&mut self, member: u16, kind: Arrival)
         requires member { member < members_of self.old }
-        ensures value { self.new ≡ record self.old {
-          kept =
-              slice_set self.old.kept member (arrival_keeps kind (kept_by member self.old));
-        } }
+        ensures value { self.new ≡ with_kept_used kind member self.old }
     {
         let place = member as usize;
         self.kept[place] = arrival_keeps(kind, self.kept[place]);

@@ -5,7 +5,6 @@ ghost use Rattle.std.specs.Prelude.{◌≡◌, ◌<◌, ◌≤◌, ◌+◌, ◌+
 ghost use Rattle.std.specs.Vec.{vec_capacity};
 ghost use Rattle.gomp_types.specs.declared.event.Event.{Event as Happening};
 ghost use Rattle.gomp_types.specs.declared.event.Event.TheVariants.{Cancel as Cancelled, Discard};
-ghost use Rattle.gomp_types.specs.TaskRules.{MayDiscard};
 ghost use Rattle.gomp_types.specs.Tasks.{tasks_created};
 ghost use Rattle.gomp_types.specs.Cancels.{is_covered, scope_of, names_cancelled};
 ghost use Rattle.gomp_types.specs.CancelCalls.{cancel_tests, cancels, discards_to};
@@ -17,7 +16,7 @@ ghost use Rattle.gomp_barrier.specs.Stands.{Stands as BarriersStand, members_of 
 ghost use Rattle.gomp_cancel.specs.Cancellations.{CancelView, CancelStands};
 ghost use Rattle.gomp_board.specs.Ops.{kind_of};
 ghost use Rattle.gomp_board.specs.Owed.{owed};
-ghost use Rattle.gomp_board.specs.Discards.{PartsStand, IsOfTeam};
+ghost use Rattle.gomp_board.specs.Discards.{PartsStand, IsOfTeam, MayDiscardHere, DiscardsTask, DiscardsAll};
 ghost use Rattle.gomp_board.specs.Boards.{HasSpare, IsAdmitted, Performs, Stands, members_of};
 ghost use Rattle.gomp_board.specs.declared.op.Op.TheVariants.{Cancel, Point};
 
@@ -174,11 +173,9 @@ fn discard_covered(
         ready.old.ids history.old.items (reverse history.old.items) }
     requires room { (n : ℕ) × (length history.old.items
         + owed n (reverse history.old.items) ≤ vec_capacity history.old) }
-    ensures stands { (h : List Happening) →
-        PartsStand cancelled.now tasks.old groups.old barriers.old depends.old
-        ready.old.ids history.old.items h →
-        PartsStand cancelled.now tasks.new groups.new barriers.new depends.new
-        ready.new.ids history.new.items (discards_to (tasks_created h) member h ++ h) }
+    ensures stands { DiscardsAll member cancelled.now tasks.old tasks.new groups.old groups.new
+        barriers.old barriers.new depends.old depends.new ready.old.ids ready.new.ids
+        history.old.items history.new.items }
     ensures owes { (n : ℕ) → length history.new.items + owed n (reverse history.new.items)
         ≤ length history.old.items + owed n (reverse history.old.items) }
     ensures memory { vec_capacity history.new ≡ vec_capacity history.old }
@@ -227,15 +224,11 @@ fn discard_task(
 )
     requires may { (cancelled : CancelView) × (h : List Happening) × PartsStand cancelled tasks.old
         groups.old barriers.old depends.old ready.old.ids history.old.items h ×
-        MayDiscard (task_members tasks.old) task member h ×
-        MayDiscard (group_members groups.old) task member h }
+        MayDiscardHere task member tasks.old groups.old h }
     requires space { length history.old.items < vec_capacity history.old }
-    ensures stands { (cancelled : CancelView) (h : List Happening) →
-        PartsStand cancelled tasks.old groups.old barriers.old depends.old ready.old.ids
-        history.old.items h → MayDiscard (task_members tasks.old) task member h →
-        MayDiscard (group_members groups.old) task member h →
-        PartsStand cancelled tasks.new groups.new barriers.new depends.new ready.new.ids
-        history.new.items (Discard task member ∷ h) }
+    ensures stands { DiscardsTask task member tasks.old tasks.new groups.old groups.new
+        barriers.old barriers.new depends.old depends.new ready.old.ids ready.new.ids
+        history.old.items history.new.items }
     ensures history { history.new.items ≡ history.old.items ++ Discard task member ∷ [] }
     ensures memory { vec_capacity history.new ≡ vec_capacity history.old }
     ensures count { count_of tasks.new ≡ count_of tasks.old }

@@ -24,9 +24,9 @@ same_at_once : (k : ℕ) (h : List Event) → LeavesTheSame k h h
 same_at_once k h = record { region = refl; task = refl }
 
 -- what is seen is something else
-unseen : (own of_it rest : Bool) → of_it ≡ false → ((own && of_it) || rest) ≡ rest
-unseen true of_it rest e = rw e refl
-unseen false of_it rest e = refl
+other_kind_is_not_seen : (own of_it rest : Bool) → of_it ≡ false → ((own && of_it) || rest) ≡ rest
+other_kind_is_not_seen true of_it rest e = rw e refl
+other_kind_is_not_seen false of_it rest e = refl
 
 -- another member sees it
 seen_by_another : (own of_it rest : Bool) → own ≡ false → ((own && of_it) || rest) ≡ rest
@@ -38,8 +38,8 @@ kept_of_another own rest e = rw e refl
 -- what a call gives beside the newest event of its reply changes nothing
 own_leaves : (can : Gives) (m k : ℕ) (before : List Event) → OwnKeeps can m (LeavesTheSame k before)
 own_leaves can m k before (See n kind) now own same = record {
-  region = unseen (n == k) (same_cancel kind Parallel) (leaves_region k now) own.1 ∙ same.region;
-  task = unseen (n == k) (same_cancel kind Taskgroup) (leaves_task k now) own.2 ∙ same.task;
+  region = other_kind_is_not_seen (n == k) (same_cancel kind Parallel) (leaves_region k now) own.1 ∙ same.region;
+  task = other_kind_is_not_seen (n == k) (same_cancel kind Taskgroup) (leaves_task k now) own.2 ∙ same.task;
 }
 own_leaves can m k before (Pass barrier n) now own same = absurd own
 own_leaves can m k before (Hold key n task) now own same = absurd own
@@ -69,14 +69,14 @@ others_leave_the_same row sound repeated m k p reply other =
     step_keeps row sound repeated m p reply (LeavesTheSame k p.events) (last_leaves_others (gives_of row) m k reply p.events other) (same_at_once k p.events)
 
 -- a reply that neither starts nor ends a task, nor tells of a cancellation, changes nothing
-untold : (of_it tells : Bool) → (of_it ≡ true → tells ≡ true) → tells ≡ false → of_it ≡ false
-untold true tells is none = absurd (not_both tells (is refl) none)
-untold false tells is none = refl
+not_told_not_cancelled : (of_it tells : Bool) → (of_it ≡ true → tells ≡ true) → tells ≡ false → of_it ≡ false
+not_told_not_cancelled true tells is none = absurd (not_both tells (is refl) none)
+not_told_not_cancelled false tells is none = refl
 
 last_leaves_quietly : (can : Gives) (m k : ℕ) (reply : Reply) (before : List Event) → is_run reply ≡ false → is_end reply ≡ false → tells_of_cancellation reply ≡ false → LastKeeps can m reply (LeavesTheSame k before)
 last_leaves_quietly can m k reply before run end tells (See n kind) now last same = record {
-  region = unseen (n == k) (same_cancel kind Parallel) (leaves_region k now) (untold (same_cancel kind Parallel) (tells_of_cancellation reply) last.1 tells) ∙ same.region;
-  task = unseen (n == k) (same_cancel kind Taskgroup) (leaves_task k now) (untold (same_cancel kind Taskgroup) (tells_of_cancellation reply) last.2 tells) ∙ same.task;
+  region = other_kind_is_not_seen (n == k) (same_cancel kind Parallel) (leaves_region k now) (not_told_not_cancelled (same_cancel kind Parallel) (tells_of_cancellation reply) last.1 tells) ∙ same.region;
+  task = other_kind_is_not_seen (n == k) (same_cancel kind Taskgroup) (leaves_task k now) (not_told_not_cancelled (same_cancel kind Taskgroup) (tells_of_cancellation reply) last.2 tells) ∙ same.task;
 }
 last_leaves_quietly can m k reply before run end tells (Start task n) now last same = absurd (not_both (is_run reply) last.1 run)
 last_leaves_quietly can m k reply before run end tells (Done task n) now last same = absurd (not_both (is_end reply) last.1 end)

@@ -1,7 +1,7 @@
 -- To each call the answers of cancellation, and to each call of cancellation the answers of other calls, refusals and want of memory: none of them has a cause.
 use Rattle.std.proofs.Common.{true, false, List, [], ◌∷◌, rules}
 use Rattle.std.specs.Prelude.{pos, take, ◌++◌}
-use Rattle.gomp_types.specs.declared.call.Call.TheVariants.{LoopNext, LoopEnd, LoopEndNowait, LoopEndCancel, SectionsStart, SectionsNext, SectionsEnd, SectionsEndNowait, SectionsEndCancel, SingleStart, SingleCopyStart, SingleCopyEnd, OrderedStart, OrderedEnd, Barrier, RegionEnd, CriticalStart, CriticalEnd, LockInit, NestInit, LockDestroy, Set, Test as TestLock, Unset, SetNest, TestNest, UnsetNest, TaskCreate, TaskEnd, Taskwait, GroupStart, GroupEnd, Cancel, Point, Resume, Stop}
+use Rattle.gomp_types.specs.declared.call.Call.TheVariants.{LoopNext, LoopEnd, LoopEndNowait, LoopEndCancel, SectionsStart, SectionsNext, SectionsEnd, SectionsEndNowait, SectionsEndCancel, SingleStart, SingleCopyStart, SingleCopyEnd, OrderedStart, Barrier, RegionEnd, CriticalStart, CriticalEnd, LockInit, NestInit, LockDestroy, Set, Test as TestLock, Unset, SetNest, TestNest, UnsetNest, TaskCreate, TaskEnd, Taskwait, GroupStart, GroupEnd, Cancel, Point, Resume, Stop}
 use Rattle.gomp_types.specs.declared.cancel.CancelKind.TheVariants.{Parallel, Loop, Sections, Taskgroup}
 use Rattle.gomp_types.specs.declared.loop_desc.EndKind.TheVariants.{Cancellable}
 use Rattle.gomp_types.specs.declared.refusal.Refusal.TheVariants.{NoMemory}
@@ -9,7 +9,7 @@ use Rattle.gomp_types.specs.declared.reply.Reply.{Reply}
 use Rattle.gomp_types.specs.declared.reply.Reply.TheVariants.{Finished, Wait, Cancelled, Dropped, Cancelling, Section, Refused}
 use Rattle.gomp_types.specs.TaskExamples.{one_job}
 use Rattle.gomp_model.specs.Examples.{AreWrong, AreWrongOf, IsWrongOf, cancel_answers, later_answers, share_answers, all_refusals, asks, one_nowait, loop_of_two, loop_alone, eight_ahead}
-use Rattle.gomp_model.specs.ShareExamples.{three_sections, sections_of_two, no_sections, single_of_two, copy_of_three, ordered_of_two, handed_of_two, ordered_alone}
+use Rattle.gomp_model.specs.ShareExamples.{three_sections, sections_of_two, no_sections, single_of_two, copy_of_three, ordered_of_two, handed_of_two, ordered_alone, part_end}
 use Rattle.gomp_model.specs.HoldExamples.{name_a, holding, both_made, both_set}
 use Rattle.gomp_model.specs.TaskRuns.{down_to, group_of_one, wait_for_children, wait_for_a_running_child}
 use Rattle.gomp_model.specs.DependRuns.{creates_at_once, waits_for_its_own}
@@ -34,7 +34,7 @@ cancelled_at_sections = search rules
 -- of ordered parts
 pub cancelled_at_parts :
     AreWrong 2 (take 1 ordered_of_two) (asks 0 (OrderedStart (pos 0))) cancel_answers × AreWrong 2 (take 2 ordered_of_two) (asks 1 (OrderedStart (pos 1))) cancel_answers
-    × AreWrong 1 (take 2 ordered_alone) (asks 0 OrderedEnd) cancel_answers × AreWrong 2 (take 2 handed_of_two) (asks 1 LoopNext) cancel_answers
+    × AreWrong 1 (take 2 ordered_alone) (asks 0 part_end) cancel_answers × AreWrong 2 (take 2 handed_of_two) (asks 1 LoopNext) cancel_answers
 cancelled_at_parts = search rules
 
 -- at barriers, and at a resume and a stop

@@ -2,7 +2,7 @@
 use Rattle.std.proofs.Common.{ℕ, ◌≡◌, true, false, List, [], ◌∷◌, Some, None, refl}
 use Rattle.std.specs.Prelude.{Option, pos, map, take, ◌++◌}
 use Rattle.gomp_types.specs.declared.call.Call.{Call}
-use Rattle.gomp_types.specs.declared.call.Call.TheVariants.{LoopNext, LoopEnd, LoopEndNowait, LoopEndCancel, SectionsStart, SectionsEndCancel, SingleStart, OrderedStart, OrderedEnd, Barrier, RegionEnd, CriticalStart, CriticalEnd, Set, Unset, UnsetNest, TaskEnd, Taskwait, GroupStart, GroupEnd, Cancel, Point, Resume, Stop}
+use Rattle.gomp_types.specs.declared.call.Call.TheVariants.{LoopNext, LoopEnd, LoopEndNowait, LoopEndCancel, SectionsStart, SectionsEndCancel, SingleStart, OrderedStart, Barrier, RegionEnd, CriticalStart, CriticalEnd, Set, Unset, UnsetNest, TaskEnd, Taskwait, GroupStart, GroupEnd, Cancel, Point, Resume, Stop}
 use Rattle.gomp_types.specs.declared.cancel.CancelKind.TheVariants.{Parallel, Loop, Sections, Taskgroup}
 use Rattle.gomp_types.specs.declared.cancel.Scope.TheVariants.{Region, OneShare}
 use Rattle.gomp_types.specs.declared.loop_desc.EndKind.TheVariants.{Nowait, Cancellable}
@@ -27,6 +27,7 @@ use Rattle.gomp_model.specs.Calls.{row_of}
 use Rattle.gomp_model.specs.Team.{refusal_of, before_all, past_of}
 use Rattle.gomp_model.specs.Examples.{Run, run_recorded, past_with, asks, up_to, one_nowait}
 use Rattle.gomp_types.specs.declared.call.Call.TheVariants.{LoopStart}
+use Rattle.gomp_model.specs.ShareExamples.{part_end}
 use Rattle.gomp_model.specs.HoldExamples.{name_a}
 use Rattle.gomp_model.specs.TaskRuns.{creates_task}
 use Rattle.gomp_model.specs.DependRuns.{creates_with, reads}
@@ -160,7 +161,7 @@ room_if_not_allowed = (refl, refl)
 -- a member that leaves the region ends it from within its share and its part, with its groups; not with a name
 pub refused_to_region_leavers :
     (refusals_after leaves_from_a_loop (RegionEnd ∷ LoopNext ∷ LoopEndCancel ∷ Barrier ∷ []) ≡ None ∷ Some Leaving ∷ Some Leaving ∷ Some Leaving ∷ [])
-    × (refusals_after (Group 0 0 ∷ Enter 0 0 (four true) ∷ Take 0 0 0 2 ∷ Part 0 0 0 ∷ leaves_the_region) (RegionEnd ∷ OrderedEnd ∷ GroupEnd ∷ []) ≡ None ∷ Some Leaving ∷ Some Leaving ∷ [])
+    × (refusals_after (Group 0 0 ∷ Enter 0 0 (four true) ∷ Take 0 0 0 2 ∷ Part 0 0 0 ∷ leaves_the_region) (RegionEnd ∷ part_end ∷ GroupEnd ∷ []) ≡ None ∷ Some Leaving ∷ Some Leaving ∷ [])
     × (refusals_after (Hold (Critical name_a) 0 (Implicit 0) ∷ leaves_the_region) (RegionEnd ∷ CriticalEnd name_a ∷ CriticalStart name_a ∷ []) ≡ Some HoldsCritical ∷ None ∷ Some Leaving ∷ [])
     × (refusals_after leaves_the_region (CriticalEnd name_a ∷ Unset 0 ∷ UnsetNest 0 ∷ Set 0 ∷ Stop ∷ []) ≡ Some NotHolder ∷ Some NoLock ∷ Some NoLock ∷ Some Leaving ∷ None ∷ [])
 refused_to_region_leavers = (refl, refl, refl, refl)

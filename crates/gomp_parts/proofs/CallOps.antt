@@ -132,13 +132,13 @@ sees_beside m _ = tt
 pub awaits_as_many : (members n m : ℕ) (h : List Event) (reply : Reply) → members ≡ n → AwaitsTasks m (may_pass n m h) h reply → AwaitsTasks m (may_pass members m h) h reply
 awaits_as_many members n m h reply same awaits = subst (λ (k : ℕ). AwaitsTasks m (may_pass k m h) h reply) (sym same) awaits
 
-and_true : (b : Bool) → (b && true) ≡ b
-and_true true = refl
-and_true false = refl
+and_with_true : (b : Bool) → (b && true) ≡ b
+and_with_true true = refl
+and_with_true false = refl
 
 -- a member that has not arrived at the region's end is cut short if the region is cancelled
 cut_short_away : (m : ℕ) (h : List Event) → at_region_end m h ≡ false → is_cut_short m h ≡ is_cancelled h
-cut_short_away m h away = ap (λ (b : Bool). is_cancelled h && not b) away ∙ and_true (is_cancelled h)
+cut_short_away m h away = ap (λ (b : Bool). is_cancelled h && not b) away ∙ and_with_true (is_cancelled h)
 
 cut_short_there : (m : ℕ) (h : List Event) → at_region_end m h ≡ true → is_cut_short m h ≡ false
 cut_short_there m h there = ap (λ (b : Bool). is_cancelled h && not b) there ∙ neither_waits (is_cancelled h)
@@ -149,7 +149,7 @@ away_then true n m tag h other away = away
 away_then false n m tag h other away = rw (same_number m, other) away
 
 cut_ends_region : (c : Bool) (kind : Arrival) → is_region_end kind ≡ false → (c && not (is_region_end kind)) ≡ c
-cut_ends_region c kind other = ap (λ (b : Bool). c && not b) other ∙ and_true c
+cut_ends_region c kind other = ap (λ (b : Bool). c && not b) other ∙ and_with_true c
 
 -- a cut arrival begins as its call
 pub cut_begins : (repeated leaving : Bool) (kind : Arrival) (m : ℕ) (h : List Event) → is_region_end kind ≡ false →
@@ -223,10 +223,10 @@ barrier_is_op stands shares false leaving m board p parts ready =
     }
 
 -- the region's end is begun in a cancelled region too
-end_begins : (repeated leaving : Bool) (m : ℕ) (h : List Event) →
+region_end_begins : (repeated leaving : Bool) (m : ℕ) (h : List Event) →
     op_begins m (arrival_op repeated leaving (tag_with RegionEnd (shares_entered m h))) h ≡ unless_repeated (Arrive (barriers_passed m h) m (tag_with RegionEnd (shares_entered m h)) ∷ []) repeated
-end_begins true leaving m h = refl
-end_begins false leaving m h = ap (λ (b : Bool). unless_cancelled b (Arrive (barriers_passed m h) m (tag_with RegionEnd (shares_entered m h)) ∷ [])) (neither_waits (is_cancelled h))
+region_end_begins true leaving m h = refl
+region_end_begins false leaving m h = ap (λ (b : Bool). unless_cancelled b (Arrive (barriers_passed m h) m (tag_with RegionEnd (shares_entered m h)) ∷ [])) (neither_waits (is_cancelled h))
 
 pub region_end_is_op : {S : Type 0} (stands : S → List Event → Type 0) (shares : S) (repeated leaving : Bool) (m : ℕ) (board : BoardView) (p : Past) → PartsStand stands shares board p → IsReady region_end_row repeated m board p → leaves_region m p.events ≡ leaving →
     IsCallOp (arrival_op repeated leaving (tag_with RegionEnd (shares_entered m p.events))) region_end_row repeated m board p
@@ -249,13 +249,13 @@ region_end_is_op stands shares false leaving m board p parts ready leaves =
     let tag = tag_with RegionEnd (shares_entered m p.events) in
     let groups = fail_first (unless_given_up (leaves_region m p.events) (group_open_tests m p.events)) (room_tests p.terms.limits p.room 0) tests.1 in
     let open_ = subst (λ (b : Bool). AllFail (unless_given_up b (group_open_tests m p.events))) leaves groups in
-    let e = begun_alike (ops.Arrive tag leaving) region_end_row false m p (end_begins false leaving m p.events) in
+    let e = begun_alike (ops.Arrive tag leaving) region_end_row false m p (region_end_begins false leaving m p.events) in
     let there : at_region_end m (begun m (ops.Arrive tag leaving) p.events) ≡ true = subst (λ (es : List Event). at_region_end m es ≡ true) (sym e) (rw (same_number m) refl) in
     record {
       fine = ready_op_fine stands shares region_end_row false m board p parts ready (ops.Arrive tag leaving)
           (ready.away (λ q may. may) refl, (tests.0, both_fail (unless_given_up leaving (group_open_tests m p.events)) _ open_ (same.0, (refl, tt))));
       memory = λ asks. asks_none asks;
-      begins = end_begins false leaving m p.events;
+      begins = region_end_begins false leaving m p.events;
       may = λ reply awaits. end_awaits p.terms.members (members_of board) m (begun m (ops.Arrive tag leaving) p.events) _ reply parts.members e there awaits;
       sees = λ reply. [];
       beside = sees_nothing;
@@ -456,9 +456,9 @@ point_gives kind m h (Cancelling true) = refl
 point_gives kind m h (Cancelling false) = refl
 point_gives kind m h _ = refl
 
-cancel_keeps : (what : TeamCancel) (clause allowed : Bool) (kept : ℕ) (reply : Reply) (n : ℕ) → IsReply reply → board_room_after (ops.Cancel what clause allowed) kept reply n ≡ room_after false (cancel_row (kind_of what) clause) reply n
-cancel_keeps what clause allowed kept (Refused refusal) n is = absurd is
-cancel_keeps what clause allowed kept _ n is = refl
+cancel_keeps_room : (what : TeamCancel) (clause allowed : Bool) (kept : ℕ) (reply : Reply) (n : ℕ) → IsReply reply → board_room_after (ops.Cancel what clause allowed) kept reply n ≡ room_after false (cancel_row (kind_of what) clause) reply n
+cancel_keeps_room what clause allowed kept (Refused refusal) n is = absurd is
+cancel_keeps_room what clause allowed kept _ n is = refl
 
 cancel_is_op : {S : Type 0} (stands : S → List Event → Type 0) (shares : S) (what : TeamCancel) (clause allowed repeated : Bool) (m : ℕ) (board : BoardView) (p : Past) → PartsStand stands shares board p → IsReady (cancel_row (kind_of what) clause) repeated m board p → p.terms.cancellation ≡ allowed →
     IsCallOp (ops.Cancel what clause allowed) (cancel_row (kind_of what) clause) repeated m board p
@@ -473,7 +473,7 @@ cancel_is_op stands shares what clause allowed false m board p parts ready allow
       sees = λ reply. told_sees (kind_of what) m reply;
       beside = told_beside what m;
       gives = λ reply tells. cancel_gives (kind_of what) clause m p.events reply;
-      room = cancel_keeps what clause allowed (kept_by m board);
+      room = cancel_keeps_room what clause allowed (kept_by m board);
       own = parts.kept m;
       no_words = refl;
     }

@@ -276,9 +276,9 @@ plain_sees : (m : ℕ) (reply : Reply) (events : List Event) → IsPlain reply �
 plain_sees m Cancelled events plain = absurd plain
 plain_sees m _ events plain = refl
 
-cut_leaves : (cut : Bool) (May : Reply → Type 0) (call : Call) (given : Reply → List Event) (m : ℕ) (reply : Reply) (leaving : Leaving) (h : List Event) → ((r : Reply) → May r → IsPlain r) → ((r : Reply) → AreQuiet (given r)) → OrWaitsCancelled cut May reply →
+cut_row_leaves : (cut : Bool) (May : Reply → Type 0) (call : Call) (given : Reply → List Event) (m : ℕ) (reply : Reply) (leaving : Leaving) (h : List Event) → ((r : Reply) → May r → IsPlain r) → ((r : Reply) → AreQuiet (given r)) → OrWaitsCancelled cut May reply →
     LeavesAs leaving m h → LeavesAs (leaving_after reply call leaving) m (sees_cancelled m reply (given reply) ++ h)
-cut_leaves cut May call given m reply leaving h plain quiet may as_before =
+cut_row_leaves cut May call given m reply leaving h plain quiet may as_before =
     elim (cut_plain cut May reply plain may) [
       | inl e ↦ subst (λ (r : Reply). LeavesAs (leaving_after r call leaving) m (sees_cancelled m r (given r) ++ h)) (sym e) (region_seen leaving m h as_before)
       | inr is ↦ subst (λ (es : List Event). LeavesAs (leaving_after reply call leaving) m (es ++ h)) (sym (plain_sees m reply (given reply) is)) (plain_leaves reply call (given reply) leaving m h is (quiet reply) as_before)
@@ -297,19 +297,19 @@ arrives_leaves : (cut : Bool) (call : Call) (m : ℕ) (met : Bool) (g : List Eve
 arrives_leaves true call m met g reply leaving h may as_before = subst (λ (r : Reply). LeavesAs (leaving_after r call leaving) m (sees_cancelled m r (passes m g r) ++ h)) (sym may) (region_seen leaving m h as_before)
 arrives_leaves false call m met g reply leaving h may as_before = awaits_leaves call m met g (λ r. sees_cancelled m r (passes m g r)) reply leaving h (tt, tt) tt (λ task code arg own. refl) may as_before
 
-own_leaves : (call : Call) (m t : ℕ) (g : List Event) (reply : Reply) (leaving : Leaving) (h : List Event) → AwaitsOwn m t g reply → LeavesAs leaving m h → LeavesAs (leaving_after reply call leaving) m (starts_task m reply ++ h)
-own_leaves call m t g (Run task code arg own) leaving h may as_before = task_started task leaving m h as_before
-own_leaves call m t g Passed leaving h may as_before = absurd may
-own_leaves call m t g Wait leaving h may as_before = as_before
-own_leaves call m t g _ leaving h may as_before = absurd may
+own_start_leaves : (call : Call) (m t : ℕ) (g : List Event) (reply : Reply) (leaving : Leaving) (h : List Event) → AwaitsOwn m t g reply → LeavesAs leaving m h → LeavesAs (leaving_after reply call leaving) m (starts_task m reply ++ h)
+own_start_leaves call m t g (Run task code arg own) leaving h may as_before = task_started task leaving m h as_before
+own_start_leaves call m t g Passed leaving h may as_before = absurd may
+own_start_leaves call m t g Wait leaving h may as_before = as_before
+own_start_leaves call m t g _ leaving h may as_before = absurd may
 
 creator_leaves : (held : Bool) (call : Call) (m t : ℕ) (g : List Event) (reply : Reply) (leaving : Leaving) (h : List Event) → AnswersCreator held m t g reply → LeavesAs leaving m h → LeavesAs (leaving_after reply call leaving) m (starts_task m reply ++ h)
-creator_leaves true call m t g reply leaving h may as_before = own_leaves call m t g reply leaving h may as_before
+creator_leaves true call m t g reply leaving h may as_before = own_start_leaves call m t g reply leaving h may as_before
 creator_leaves false call m t g reply leaving h may as_before = subst (λ (r : Reply). LeavesAs (leaving_after r call leaving) m (starts_task m r ++ h)) (sym may) as_before
 
-creation_leaves : (covered : Bool) (call : Call) (m : ℕ) (g : List Event) (reply : Reply) (leaving : Leaving) (h : List Event) → AnswersCreation covered m g reply → LeavesAs leaving m h → LeavesAs (leaving_after reply call leaving) m (starts_task m reply ++ h)
-creation_leaves true call m g reply leaving h may as_before = subst (λ (r : Reply). LeavesAs (leaving_after r call leaving) m (starts_task m r ++ h)) (sym may) as_before
-creation_leaves false call m g reply leaving h may as_before = let newest = newest_child (executed_task m g) g in creator_leaves (is_undeferred newest g) call m newest g reply leaving h may as_before
+answered_creation_leaves : (covered : Bool) (call : Call) (m : ℕ) (g : List Event) (reply : Reply) (leaving : Leaving) (h : List Event) → AnswersCreation covered m g reply → LeavesAs leaving m h → LeavesAs (leaving_after reply call leaving) m (starts_task m reply ++ h)
+answered_creation_leaves true call m g reply leaving h may as_before = subst (λ (r : Reply). LeavesAs (leaving_after r call leaving) m (starts_task m r ++ h)) (sym may) as_before
+answered_creation_leaves false call m g reply leaving h may as_before = let newest = newest_child (executed_task m g) g in creator_leaves (is_undeferred newest g) call m newest g reply leaving h may as_before
 
 task_end_leaves : (task : Task) (call : Call) (m : ℕ) (g : List Event) (reply : Reply) (leaving : Leaving) (h : List Event) → EndsTask task g reply → LeavesAs leaving m h → LeavesAs (leaving_after reply call leaving) m (ends_task m reply ++ h)
 task_end_leaves (Explicit t) call m g reply leaving h may as_before = subst (λ (r : Reply). LeavesAs (leaving_after r call leaving) m (ends_task m r ++ h)) (sym may) (task_done t leaving m h as_before)
@@ -329,7 +329,7 @@ pub record LeavesBy (call : Call) (row : Row) : Type 0 where
 start_leaves : (call : Call) (memory : Bool) (own : List Test) (shape : Shape) (deals : Deals) (Given : ℕ → Shape → ℕ → Reply → List Event) → DealsPlain deals → GivesQuiet Given → LeavesBy call (start_row memory own shape deals Given)
 start_leaves call memory own shape deals Given plain quiet = record {
   begins = λ m p. tt;
-  gives = λ m p reply leaving h may as_before. cut_leaves (is_cancelled p.events) (λ r. Starts deals p.terms.members m shape r p.events) call (λ r. entry_and Given shape m p.events r) m reply leaving h
+  gives = λ m p reply leaving h may as_before. cut_row_leaves (is_cancelled p.events) (λ r. Starts deals p.terms.members m shape r p.events) call (λ r. entry_and Given shape m p.events r) m reply leaving h
       (λ r starts. starts_plain deals plain p.terms.members m shape r p.events starts) (λ r. entry_quiet Given quiet shape m p.events r) may as_before;
 }
 
@@ -343,8 +343,8 @@ cut_quiet : (cut : Bool) (events : List Event) → AreQuiet events → AreQuiet 
 cut_quiet true events quiet = tt
 cut_quiet false events quiet = quiet
 
-end_leaves : (call : Call) (tests : Seen → List Test) → LeavesBy call (ending tests (is_cut_short (arrival_row ShareEnd)))
-end_leaves call tests = record {
+ending_row_leaves : (call : Call) (tests : Seen → List Test) → LeavesBy call (ending tests (is_cut_short (arrival_row ShareEnd)))
+ending_row_leaves call tests = record {
   begins = λ m p. quiet_append (unless_cancelled (is_cancelled p.events) (Arrive (barriers_passed m p.events) m (tag_with ShareEnd (shares_entered m p.events)) ∷ [])) (leaves m p.events) (cut_quiet (is_cancelled p.events) _ (tt, tt)) (leave_quiet m p.events);
   gives = λ m p reply leaving h may as_before. arrives_leaves (is_cancelled p.events) call m (may_pass p.terms.members m p.events) p.events reply leaving h may as_before;
 }
@@ -354,20 +354,20 @@ row_leaves : (call : Call) → (row_of call).asks_book ≡ false → LeavesBy ca
 row_leaves (calls.LoopStart loop) aside = start_leaves (calls.LoopStart loop) true (loop_tests loop) (shape_of loop) DealsOut piece_given pieces_plain piece_quiet
 row_leaves calls.LoopNext aside = record {
   begins = λ m p. tt;
-  gives = λ m p reply leaving h may as_before. cut_leaves (is_cancelled p.events) (λ r. DealsNext p.terms.members m (open_share m p.events) r p.events) calls.LoopNext (λ r. next_given p.terms.members (open_share m p.events) m p.events r) m reply leaving h
+  gives = λ m p reply leaving h may as_before. cut_row_leaves (is_cancelled p.events) (λ r. DealsNext p.terms.members m (open_share m p.events) r p.events) calls.LoopNext (λ r. next_given p.terms.members (open_share m p.events) m p.events r) m reply leaving h
       (λ r deals. nexts_plain p.terms.members m (open_share m p.events) r p.events deals) (λ r. next_quiet p.terms.members (open_share m p.events) m p.events r) may as_before;
 }
-row_leaves calls.LoopEnd aside = end_leaves calls.LoopEnd (end_tests ends.Wait)
+row_leaves calls.LoopEnd aside = ending_row_leaves calls.LoopEnd (end_tests ends.Wait)
 row_leaves calls.LoopEndNowait aside = done_leaves calls.LoopEndNowait true (end_tests ends.Nowait) leaves leave_quiet
-row_leaves calls.LoopEndCancel aside = end_leaves calls.LoopEndCancel (end_tests ends.Cancellable)
+row_leaves calls.LoopEndCancel aside = ending_row_leaves calls.LoopEndCancel (end_tests ends.Cancellable)
 row_leaves (calls.SectionsStart count end_kind) aside = start_leaves (calls.SectionsStart count end_kind) true (sections_tests count) (sections_shape count end_kind) DealsSections section_given sections_plain section_quiet
 row_leaves calls.SectionsNext aside = record {
   begins = λ m p. tt;
   gives = λ m p reply leaving h may as_before. plain_leaves reply calls.SectionsNext (section_next_given (open_share m p.events) m reply) leaving m h (sections_plain p.terms.members m (open_share m p.events) reply p.events may) (section_next_quiet (open_share m p.events) m reply) as_before;
 }
-row_leaves calls.SectionsEnd aside = end_leaves calls.SectionsEnd (sections_end_tests ends.Wait)
+row_leaves calls.SectionsEnd aside = ending_row_leaves calls.SectionsEnd (sections_end_tests ends.Wait)
 row_leaves calls.SectionsEndNowait aside = done_leaves calls.SectionsEndNowait true (sections_end_tests ends.Nowait) leaves leave_quiet
-row_leaves calls.SectionsEndCancel aside = end_leaves calls.SectionsEndCancel (sections_end_tests ends.Cancellable)
+row_leaves calls.SectionsEndCancel aside = ending_row_leaves calls.SectionsEndCancel (sections_end_tests ends.Cancellable)
 row_leaves calls.SingleStart aside = start_leaves calls.SingleStart false [] (single_shape false) DealsSingle single_given singles_plain single_quiet
 row_leaves calls.SingleCopyStart aside = start_leaves calls.SingleCopyStart true [] (single_shape true) DealsCopy copy_given copies_plain copy_quiet
 row_leaves (calls.SingleCopyEnd words) aside = record {
@@ -376,7 +376,7 @@ row_leaves (calls.SingleCopyEnd words) aside = record {
 }
 row_leaves (calls.OrderedStart value) aside = record {
   begins = λ m p. tt;
-  gives = λ m p reply leaving h may as_before. cut_leaves (is_cancelled p.events) (λ r. BeginsPart p.terms.members m (open_share m p.events) r p.events) (calls.OrderedStart value) (λ r. part_given (open_share m p.events) m value r) m reply leaving h
+  gives = λ m p reply leaving h may as_before. cut_row_leaves (is_cancelled p.events) (λ r. BeginsPart p.terms.members m (open_share m p.events) r p.events) (calls.OrderedStart value) (λ r. part_given (open_share m p.events) m value r) m reply leaving h
       (λ r begins. parts_plain p.terms.members m (open_share m p.events) r p.events begins) (λ r. part_quiet (open_share m p.events) m value r) may as_before;
 }
 row_leaves calls.OrderedEnd aside = done_leaves calls.OrderedEnd false part_end_tests part_end_events (λ m h. (tt, tt))
@@ -390,7 +390,7 @@ row_leaves calls.RegionEnd aside = record {
 }
 row_leaves (calls.TaskCreate desc) aside = record {
   begins = λ m p. cut_quiet (creates_covered m p.events) _ (tt, tt);
-  gives = λ m p reply leaving h may as_before. creation_leaves (creates_covered m p.events) (calls.TaskCreate desc) m p.events reply leaving h may as_before;
+  gives = λ m p reply leaving h may as_before. answered_creation_leaves (creates_covered m p.events) (calls.TaskCreate desc) m p.events reply leaving h may as_before;
 }
 row_leaves calls.TaskEnd aside = record {
   begins = λ m p. tt;

@@ -98,16 +98,16 @@ place_by_same_limits : (row : Row) (m : ℕ) (p : Past) (limits : Limits) → p.
 place_by_same_limits row m p limits is = ap (λ (l : Limits). least (unless_given_up (row.gives_up m p.events) (row.by_place l (seen_of m p.events)))) (sym is)
 
 -- what is found by the place that is seen is found by that which the events tell
-found_there : (row : Row) (m : ℕ) (p : Past) (limits : Limits) (seen : Seen) (found other : Option Refusal) → p.terms.limits ≡ limits → seen ≡ seen_of m p.events → found ≡ least (unless_given_up (row.gives_up m p.events) (row.by_place limits seen)) →
+found_by_place : (row : Row) (m : ℕ) (p : Past) (limits : Limits) (seen : Seen) (found other : Option Refusal) → p.terms.limits ≡ limits → seen ≡ seen_of m p.events → found ≡ least (unless_given_up (row.gives_up m p.events) (row.by_place limits seen)) →
     found ≡ other → least (unless_given_up (row.gives_up m p.events) (row.by_place p.terms.limits (seen_of m p.events))) ≡ other
-found_there row m p limits seen found other bounds at is same =
+found_by_place row m p limits seen found other bounds at is same =
     sym (place_by_same_limits row m p limits bounds) ∙ ap (λ (s : Seen). least (unless_given_up (row.gives_up m p.events) (row.by_place limits s))) (sym at) ∙ sym is ∙ same
 
 pub refused_there : (row : Row) (m : ℕ) (p : Past) (limits : Limits) (seen : Seen) (found : Option Refusal) (refusal : Refusal) → p.terms.limits ≡ limits → seen ≡ seen_of m p.events → ByPlace row limits (row.gives_up m p.events) seen found →
     found ≡ Some refusal → Some refusal ≡ least (place_tests false row m p)
 refused_there row m p limits seen found refusal bounds at place some =
     let own = unless_given_up (row.gives_up m p.events) (row.by_place p.terms.limits (seen_of m p.events)) in
-    let here : least own ≡ Some refusal = found_there row m p limits seen found (Some refusal) bounds at place.place some in
+    let here : least own ≡ Some refusal = found_by_place row m p limits seen found (Some refusal) bounds at place.place some in
     let rest : ComesFirst row (Some refusal) = rw some at place.first in
     sym (least_append own (later_tests false row m p) ∙ ap (λ (x : Option Refusal). lesser x (least (later_tests false row m p))) here ∙ rest m p)
 
@@ -115,7 +115,7 @@ pub compared_then : (row : Row) (m : ℕ) (p : Past) (limits : Limits) (seen : S
     other ≡ least (later_tests false row m p) → other ≡ least (place_tests false row m p)
 compared_then row m p limits seen found other bounds at place none same =
     let own = unless_given_up (row.gives_up m p.events) (row.by_place p.terms.limits (seen_of m p.events)) in
-    let here : least own ≡ None = found_there row m p limits seen found None bounds at place.place none in
+    let here : least own ≡ None = found_by_place row m p limits seen found None bounds at place.place none in
     same ∙ sym (least_append own (later_tests false row m p) ∙ ap (λ (x : Option Refusal). lesser x (least (later_tests false row m p))) here)
 
 -- what the later tests answer is the call's answer: if it is repeated no other test is made, and else its place has let it

@@ -161,11 +161,11 @@ not_both_so true b none = none refl
 not_both_so false b none = refl
 
 -- so it discards none, if each that another reaches was discarded
-discards_none : (n m i : ℕ) (h : List Event) → AreSealed h → discards_to n m (Cancel m (OneShare i) ∷ h) ≡ []
-discards_none zero m i h sealed = refl
-discards_none (suc k) m i h sealed =
+share_cancel_discards_none : (n m i : ℕ) (h : List Event) → AreSealed h → discards_to n m (Cancel m (OneShare i) ∷ h) ≡ []
+share_cancel_discards_none zero m i h sealed = refl
+share_cancel_discards_none (suc k) m i h sealed =
     let none : (is_unstarted (suc k) h && is_covered (suc k) (Cancel m (OneShare i) ∷ h)) ≡ false = not_both_so (is_unstarted (suc k) h) _ (λ unstarted. share_covers_none (suc k) m i h ∙ sealed (suc k) unstarted) in
-    rw none (discards_none k m i h sealed)
+    rw none (share_cancel_discards_none k m i h sealed)
 
 -- a share's
 abbrev IsOfShare : Option Scope → Type 0
@@ -189,7 +189,7 @@ named_of_share _ m h names = absurd (cc)
 cancel_share_events : (m : ℕ) (scope : Option Scope) (h : List Event) → IsOfShare scope → AreSealed h → AreShareEvents m None (cancels m scope h)
 cancel_share_events m None h of sealed = tt
 cancel_share_events m (Some (OneShare i)) h of sealed =
-    subst (λ (events : List Event). AreShareEvents m None (events ++ (Cancel m (OneShare i) ∷ []))) (sym (discards_none (tasks_created h) m i h sealed)) (tt, tt)
+    subst (λ (events : List Event). AreShareEvents m None (events ++ (Cancel m (OneShare i) ∷ []))) (sym (share_cancel_discards_none (tasks_created h) m i h sealed)) (tt, tt)
 cancel_share_events m (Some _) h of sealed = absurd of
 
 cancels_by_share_events : (clause : Bool) (kind : CancelKind) (m : ℕ) (h : List Event) → names_share kind ≡ true → AreSealed h → AreShareEvents m None (cancels_by clause kind m h)

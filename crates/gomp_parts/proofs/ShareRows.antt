@@ -304,13 +304,13 @@ begin_may shape deals members n m h reply size none answers =
 -- In a cancelled region
 
 -- a reply that a call may give is cut to one that it may give in a cancelled region
-pub cut_may : (cut cancelled : Bool) (May : Reply → Type 0) (reply : Reply) → cut ≡ cancelled → (May Cancelled → ⊥) → May reply → OrWaitsCancelled cut May (cut_reply cancelled reply)
-cut_may true true May Wait same never may = may
-cut_may true true May Cancelled same never may = absurd (never may)
-cut_may true true May _ same never may = may
-cut_may false false May reply same never may = may
-cut_may true false May reply same never may = absurd (cc)
-cut_may false true May reply same never may = absurd (cc)
+pub cut_reply_may : (cut cancelled : Bool) (May : Reply → Type 0) (reply : Reply) → cut ≡ cancelled → (May Cancelled → ⊥) → May reply → OrWaitsCancelled cut May (cut_reply cancelled reply)
+cut_reply_may true true May Wait same never may = may
+cut_reply_may true true May Cancelled same never may = absurd (never may)
+cut_reply_may true true May _ same never may = may
+cut_reply_may false false May reply same never may = may
+cut_reply_may true false May reply same never may = absurd (cc)
+cut_reply_may false true May reply same never may = absurd (cc)
 
 pub cut_refuses : (cut : Bool) (May : Reply → Type 0) (refusal : Refusal) → (May (Refused refusal) → ⊥) → OrWaitsCancelled cut May (Refused refusal) → ⊥
 cut_refuses true May refusal never may = never may
@@ -340,7 +340,7 @@ pub start_serves : {S : Type 0} (stand : List Event → Type 0) (stands : S → 
     SharesServe stand stands members allowed before after (start_row memory own shape deals Given) m (cut_reply cancelled reply)
 start_serves stand stands members allowed cancelled before after memory own shape deals Given m reply accepts cancels aside known tells waits answer stands_for = record {
   waits = λ wait. waits (cut_waits cancelled reply wait);
-  answer = λ repeated p size allows st goes. cut_may (is_cancelled p.events) cancelled (λ r. Starts deals p.terms.members m shape r p.events) reply (tells p.events st) (λ starts. cancels p.terms.members m _ p.events starts.1)
+  answer = λ repeated p size allows st goes. cut_reply_may (is_cancelled p.events) cancelled (λ r. Starts deals p.terms.members m shape r p.events) reply (tells p.events st) (λ starts. cancels p.terms.members m _ p.events starts.1)
       (begin_may shape deals members p.terms.members m p.events reply size goes.compared (answer p.events st));
   accepts = λ repeated p refusal may. cut_refuses (is_cancelled p.events) (λ r. Starts deals p.terms.members m shape r p.events) refusal (λ starts. accepts p.terms.members m _ refusal p.events starts.1) may;
   stands_for = λ repeated p size allows st goes. cut_given (stands after) cancelled m (λ r. entry_and Given shape m p.events r) p.events reply

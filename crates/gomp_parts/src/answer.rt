@@ -69,14 +69,7 @@ pub fn answer<S: Shares>(
         | Call::SingleStart
         | Call::OrderedStart(_)
         | Call::OrderedEnd => serve_share(shares, board, member, call, starts, manner),
-        Call::Cancel { kind, .. } => {
-            if names_share(*kind) {
-                serve_share(shares, board, member, call, starts, manner)
-            } else {
-                task_reply(board, member, call, manner)
-            }
-        }
-        Call::Point(kind) => {
+        Call::Cancel { kind, .. } | Call::Point(kind) => {
             if names_share(*kind) {
                 serve_share(shares, board, member, call, starts, manner)
             } else {
@@ -84,17 +77,10 @@ pub fn answer<S: Shares>(
             }
         }
         Call::Resume => unreachable!(),
-        Call::CriticalStart(_)
-        | Call::CriticalEnd(_)
-        | Call::LockInit
-        | Call::NestInit
-        | Call::LockDestroy(_)
-        | Call::Set(_)
-        | Call::Test(_)
-        | Call::Unset(_)
-        | Call::SetNest(_)
-        | Call::TestNest(_)
-        | Call::UnsetNest(_) => unreachable!(),
+        Call::CriticalStart(_) | Call::CriticalEnd(_) => unreachable!(),
+        Call::LockInit | Call::NestInit | Call::LockDestroy(_) => unreachable!(),
+        Call::Set(_) | Call::Test(_) | Call::Unset(_) => unreachable!(),
+        Call::SetNest(_) | Call::TestNest(_) | Call::UnsetNest(_) => unreachable!(),
     }
 }
 

@@ -157,25 +157,15 @@ fn admit_place<S: Shares>(
         Call::OrderedStart(value) => none_started(part_refusal(&seen, *value)),
         Call::OrderedEnd => none_started(part_end_refusal(&seen)),
         Call::Barrier | Call::RegionEnd => none_started(barrier_refusal(&seen)),
-        Call::TaskCreate(_)
-        | Call::TaskEnd
-        | Call::Taskwait(_)
-        | Call::GroupStart
-        | Call::GroupEnd => Ok(None),
+        Call::TaskCreate(_) | Call::TaskEnd | Call::Taskwait(_) => Ok(None),
+        Call::GroupStart | Call::GroupEnd => Ok(None),
         Call::Cancel { kind, .. } => none_started(cancel_refusal(&seen, *kind)),
         Call::Point(kind) => none_started(cancel_refusal(&seen, *kind)),
         Call::Stop | Call::Resume => Ok(None),
-        Call::CriticalStart(_)
-        | Call::CriticalEnd(_)
-        | Call::LockInit
-        | Call::NestInit
-        | Call::LockDestroy(_)
-        | Call::Set(_)
-        | Call::Test(_)
-        | Call::Unset(_)
-        | Call::SetNest(_)
-        | Call::TestNest(_)
-        | Call::UnsetNest(_) => Ok(None),
+        Call::CriticalStart(_) | Call::CriticalEnd(_) => Ok(None),
+        Call::LockInit | Call::NestInit | Call::LockDestroy(_) => Ok(None),
+        Call::Set(_) | Call::Test(_) | Call::Unset(_) => Ok(None),
+        Call::SetNest(_) | Call::TestNest(_) | Call::UnsetNest(_) => Ok(None),
     }
 }
 
@@ -240,9 +230,9 @@ fn later_refusal<S: Shares>(
     starts: &Option<Shape>,
     repeated: bool,
 ) -> Option<Refusal>
+    requires starts { starts.now ≡ (row_of call.now).starts }
     requires member { member < S.members shares.old }
     requires team { barrier_members barriers.now ≡ S.members shares.old }
-    requires starts { starts.now ≡ (row_of call.now).starts }
     ensures kept { shares.new ≡ shares.old }
     ensures later { (p : Past) → BothStand S.stands shares.old barriers.now p.events →
         result ≡ least (later_tests repeated (row_of call.now) member p) }
@@ -328,13 +318,8 @@ fn compared_refusal<S: Shares>(
         | Call::OrderedStart(_)
         | Call::OrderedEnd
         | Call::Stop => None,
-        Call::TaskCreate(_)
-        | Call::TaskEnd
-        | Call::Taskwait(_)
-        | Call::GroupStart
-        | Call::GroupEnd
-        | Call::Cancel { .. }
-        | Call::Point(_) => None,
+        Call::TaskCreate(_) | Call::TaskEnd | Call::Taskwait(_) => None,
+        Call::GroupStart | Call::GroupEnd | Call::Cancel { .. } | Call::Point(_) => None,
         Call::CriticalStart(_)
         | Call::CriticalEnd(_)
         | Call::LockInit

@@ -35,9 +35,8 @@ pub fn task_refusal(
     leaving: Leaving,
 ) -> Option<Refusal>
     requires member { member < members_of board.now }
-    ensures least { (p : Past) → BoardStands board.now p.events →
-        p.terms.limits ≡ board.now.limits → p.room ≡ board.now.room →
-        LeavesAs leaving member p.events →
+    ensures least { (p : Past) → BoardStands board.now p.events → p.terms.limits ≡
+        board.now.limits → p.room ≡ board.now.room → LeavesAs leaving member p.events →
         result ≡ least (board_tests repeated (row_of call.now) member p) }
 {
     if repeated {

@@ -87,11 +87,11 @@ pub fn make_call<S: Shares>(shares: &mut S, count: u16, step: &ShareStep) -> Sha
     ensures stands { EachStands (S.stands shares.old) (λ h.
         S.stands shares.new (events_answered count step.now result h)) }
 {
-    if step.member >= count {
+    let member = step.member;
+    if member >= count {
         return ShareAnswer::NotMade;
     }
-    let seen = shares.look(step.member);
-    if !may_make(&seen, &step.call) {
+    if !may_make(&shares.look(member), &step.call) {
         return ShareAnswer::NotMade;
     }
     match step.call {
@@ -99,35 +99,33 @@ pub fn make_call<S: Shares>(shares: &mut S, count: u16, step: &ShareStep) -> Sha
             let Ok(shape) = desc.shape() else {
                 return ShareAnswer::NotMade;
             };
-            ShareAnswer::Opened(shares.try_open(step.member, &shape))
+            ShareAnswer::Opened(shares.try_open(member, &shape))
         }
         ShareCall::OpenSections { count, end_kind } => {
             let Ok(shape) = sections_shape(count, end_kind) else {
                 return ShareAnswer::NotMade;
             };
-            ShareAnswer::Opened(shares.try_open(step.member, &shape))
+            ShareAnswer::Opened(shares.try_open(member, &shape))
         }
         ShareCall::OpenSingle { copies } => {
-            ShareAnswer::Opened(shares.try_open(step.member, &single_shape(copies)))
+            ShareAnswer::Opened(shares.try_open(member, &single_shape(copies)))
         }
-        ShareCall::Claim => ShareAnswer::Claimed(shares.claim(step.member)),
+        ShareCall::Claim => ShareAnswer::Claimed(shares.claim(member)),
         ShareCall::Leave => {
-            shares.leave(step.member);
+            shares.leave(member);
             ShareAnswer::Left
         }
-        ShareCall::Begin(iteration) => {
-            ShareAnswer::Turned(shares.try_turn(step.member, iteration))
-        }
+        ShareCall::Begin(iteration) => ShareAnswer::Turned(shares.try_turn(member, iteration)),
         ShareCall::EndPart => {
-            shares.end_part(step.member);
+            shares.end_part(member);
             ShareAnswer::Ended
         }
-        ShareCall::HandOn => ShareAnswer::Turned(shares.hand_on(step.member)),
+        ShareCall::HandOn => ShareAnswer::Turned(shares.hand_on(member)),
         ShareCall::Cancel => {
-            shares.cancel(step.member);
+            shares.cancel(member);
             ShareAnswer::Cancelled
         }
-        ShareCall::See => ShareAnswer::Saw(see_if_cancelled(shares, step.member)),
+        ShareCall::See => ShareAnswer::Saw(see_if_cancelled(shares, member)),
     }
 }
 

@@ -28,7 +28,7 @@ discard_task-requires c =
     let (n, room) = c.requires.room in
     let memory = c.loop-place.invariant.1 in
     let fits = discard_has_memory k m c.args.cancelled.now all n _ room (and_left (is_unstarted (k + 1) (reverse es)) (is_covered (k + 1) (reverse es)) is) in
-    record { may = (c.args.cancelled.now, reverse es, own, may.0, may.1); space = omega (arith, fits, memory) }
+    record { may = (c.args.cancelled.now, reverse es, own, (may.0, may.1)); space = omega (arith, fits, memory) }
 
 pub loop-place-preserved : goal.loop-place-preserved
 loop-place-preserved c =

@@ -143,19 +143,17 @@ returns-in-TaskCreate-clause-answers g c =
         ]
       ]
     ] in
-    board_call_answers g.S.Shares.stands c.args.shares.now (g.met.S.Shares.aside c.args.shares.now) c.args.call.now c.args.manner c.args.member c.args.board.now c.task_reply-in-TaskCreate.new.board c.task_reply-in-TaskCreate.result
-    (subst (λ (n : ℕ). c.args.member < n) (sym c.requires.team) c.requires.member) c.requires.ready served c.task_reply-in-TaskCreate.ensures.performs
+    board_call_answers g.S.Shares.stands c.args.shares.now (g.met.S.Shares.aside c.args.shares.now) c.args.call.now c.args.manner c.args.member c.args.board.now c.task_reply.new.board c.task_reply.result
+    (subst (λ (n : ℕ). c.args.member < n) (sym c.requires.team) c.requires.member) c.requires.ready served c.task_reply.ensures.performs
 
 -- Cancellation
 
 pub returns-else-names_share-clause-answers : goal.returns-else-names_share-clause-answers
 returns-else-names_share-clause-answers g c =
-    let served : is_some (board_op c.args.manner c.args.call.now) ≡ true = rw c.in-Cancel.is (team_cancel_served c.args.manner c.in-Cancel.kind c.in-Cancel.clause (sym c.names_share.ensures ∙ c.if-names_share.false)) in
-    board_call_answers g.S.Shares.stands c.args.shares.now (g.met.S.Shares.aside c.args.shares.now) c.args.call.now c.args.manner c.args.member c.args.board.now c.task_reply.new.board c.task_reply.result
-    (subst (λ (n : ℕ). c.args.member < n) (sym c.requires.team) c.requires.member) c.requires.ready served c.task_reply.ensures.performs
-
-pub returns-else-names_share-2-clause-answers : goal.returns-else-names_share-2-clause-answers
-returns-else-names_share-2-clause-answers g c =
-    let served : is_some (board_op c.args.manner c.args.call.now) ≡ true = rw c.in-Point.is (team_point_served c.args.manner c.in-Point.kind (sym c.names_share-in-Point.ensures ∙ c.if-names_share-2.false)) in
-    board_call_answers g.S.Shares.stands c.args.shares.now (g.met.S.Shares.aside c.args.shares.now) c.args.call.now c.args.manner c.args.member c.args.board.now c.task_reply-else-names_share-2.new.board c.task_reply-else-names_share-2.result
-    (subst (λ (n : ℕ). c.args.member < n) (sym c.requires.team) c.requires.member) c.requires.ready served c.task_reply-else-names_share-2.ensures.performs
+    let other = sym c.names_share.ensures ∙ c.if-names_share.false in
+    let served : is_some (board_op c.args.manner c.args.call.now) ≡ true = elim c.in-Cancel.is [
+      | inl is ↦ rw is.1 (team_cancel_served c.args.manner c.in-Cancel.kind is.0 other)
+      | inr is ↦ rw is (team_point_served c.args.manner c.in-Cancel.kind other)
+    ] in
+    board_call_answers g.S.Shares.stands c.args.shares.now (g.met.S.Shares.aside c.args.shares.now) c.args.call.now c.args.manner c.args.member c.args.board.now c.task_reply-else-names_share.new.board c.task_reply-else-names_share.result
+    (subst (λ (n : ℕ). c.args.member < n) (sym c.requires.team) c.requires.member) c.requires.ready served c.task_reply-else-names_share.ensures.performs

@@ -20,7 +20,7 @@ use Rattle.gomp_shares.specs.declared.admission.Construct.TheVariants.{Loop, Sec
 use Rattle.gomp_shares.proofs.Admitted.{end_lets_leave}
 use Rattle.gomp_parts.proofs.Refused.{start_has_its_share, opens_own}
 use Rattle.gomp_parts.proofs.ShareEvents.{piece_share_events, section_share_events, single_share_events, next_share_events, section_next_share_events, part_share_events, cut_share_events, leave_share_events, tell_share_events}
-use Rattle.gomp_parts.proofs.ShareRows.{start_serves, start_events, done_serves, done_events, piece_refuses, piece_cancels, next_refuses, next_cancels, section_refuses, section_cancels, single_refuses, single_cancels, part_refuses, part_cancels, cut_may, cut_refuses, cut_waits, cut_given, sees_waiting}
+use Rattle.gomp_parts.proofs.ShareRows.{start_serves, start_events, done_serves, done_events, piece_refuses, piece_cancels, next_refuses, next_cancels, section_refuses, section_cancels, single_refuses, single_cancels, part_refuses, part_cancels, cut_reply_may, cut_refuses, cut_waits, cut_given, sees_waiting}
 use Rattle.gomp_parts.proofs.shares.share_reply.Goals as goal
 
 -- Starts
@@ -96,7 +96,7 @@ returns-in-LoopNext-clause-serves g c =
     let may : (p : Past) → p.terms.members ≡ g.S.Shares.members shares → stands shares p.events → deals p reply = λ p size st. subst (λ (n : ℕ). DealsNext n m (open_share m p.events) reply p.events) (sym size) (serves.answer p.events st) in
     rw (c.in-LoopNext.is, c.cut_reply-in-LoopNext.ensures) (record {
       waits = λ wait. serves.waits (cut_waits cancelled reply wait);
-      answer = λ repeated p size allows st goes. cut_may (is_cancelled p.events) cancelled (deals p) reply st.1 (λ tells. next_cancels p.terms.members m (open_share m p.events) p.events tells) (may p size st.0);
+      answer = λ repeated p size allows st goes. cut_reply_may (is_cancelled p.events) cancelled (deals p) reply st.1 (λ tells. next_cancels p.terms.members m (open_share m p.events) p.events tells) (may p size st.0);
       accepts = λ repeated p refusal gives. cut_refuses (is_cancelled p.events) (deals p) refusal (λ refuses. next_refuses p.terms.members m (open_share m p.events) refusal p.events refuses) gives;
       stands_for = λ repeated p size allows st goes. cut_given (stands after) cancelled m (λ (r : Reply). next_given p.terms.members (open_share m p.events) m p.events r) p.events reply (λ wait. sees_waiting stands shares after m p.events (g.met.S.Shares.aside shares p.events) st.0 (serves.waits wait))
           (λ tells. next_cancels p.terms.members m (open_share m p.events) p.events (subst (deals p) tells (may p size st.0))) (subst (λ (n : ℕ). stands after (next_given n (open_share m p.events) m p.events reply ++ p.events)) (sym size) (serves.stands_for p.events st.0));
@@ -175,7 +175,7 @@ returns-in-OrderedStart-clause-serves g c =
     let given : (p : Past) → stands shares p.events → stands after (part_given (open_share m p.events) m c.in-OrderedStart.value reply ++ p.events) = search rules in
     rw (c.in-OrderedStart.is, c.cut_reply-in-OrderedStart.ensures) (record {
       waits = λ wait. serves.waits (cut_waits cancelled reply wait);
-      answer = λ repeated p size allows st goes. cut_may (is_cancelled p.events) cancelled (deals p) reply st.1 (λ tells. part_cancels p.terms.members m (open_share m p.events) p.events tells) (may p size st.0);
+      answer = λ repeated p size allows st goes. cut_reply_may (is_cancelled p.events) cancelled (deals p) reply st.1 (λ tells. part_cancels p.terms.members m (open_share m p.events) p.events tells) (may p size st.0);
       accepts = λ repeated p refusal gives. cut_refuses (is_cancelled p.events) (deals p) refusal (λ refuses. part_refuses p.terms.members m (open_share m p.events) refusal p.events refuses) gives;
       stands_for = λ repeated p size allows st goes. cut_given (stands after) cancelled m (λ (r : Reply). part_given (open_share m p.events) m c.in-OrderedStart.value r) p.events reply (λ wait. sees_waiting stands shares after m p.events (g.met.S.Shares.aside shares p.events) st.0 (serves.waits wait))
           (λ tells. part_cancels p.terms.members m (open_share m p.events) p.events (subst (deals p) tells (may p size st.0))) (given p st.0);

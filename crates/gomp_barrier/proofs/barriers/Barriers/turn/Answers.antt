@@ -6,7 +6,7 @@ use Rattle.gomp_types.specs.Events.{barriers_passed}
 use Rattle.gomp_types.specs.Goals.{may_pass}
 use Rattle.gomp_barrier.specs.declared.front.Seat.{Seat}
 use Rattle.gomp_barrier.specs.Seats.{is_ahead, passed_by, gone_from, next_front}
-use Rattle.gomp_barrier.specs.Stands.{BarriersView, MayTurn, MayLeave, members_of}
+use Rattle.gomp_barrier.specs.Stands.{BarriersView, MayTurn, MayLeave, members_of, uncancelled}
 use Rattle.gomp_barrier.proofs.BarrierSteps.{StandAt, view_stands_too, turn_is, turn_keeps, leave_is, leave_keeps}
 use Rattle.gomp_barrier.proofs.barriers.Barriers.turn.Goals as goal
 
@@ -46,7 +46,7 @@ returns-then-not-may_turn-clause-answer c = λ h st0.
     let st = subst (λ (b : Bool). StandAt c.self.inside.seats.items c.self.inside.front c.self.inside.tasks b h) c.if-self.false st1 in
     let lt : c.args.member < length c.self.inside.seats.items = subst (λ (v : BarriersView). c.args.member < members_of v) (sym c.self.view_is) c.requires.member in
     let at = slice_get_read c.self.inside.seats.items _ c.args.member _ refl lt c.index.ensures in
-    let is = subst (λ (xs : List Seat). IsTrue c.may_turn.result ↔ MayTurn (record { seats = xs; front = c.self.inside.front; tasks = c.self.inside.tasks; cancelled = false }) c.index.result.now) c.deref-2.ensures.value c.may_turn.ensures in
+    let is = subst (λ (xs : List Seat). IsTrue c.may_turn.result ↔ MayTurn (uncancelled xs c.self.inside.front c.self.inside.tasks) c.index.result.now) c.deref-2.ensures.value c.may_turn.ensures in
     let answer = turn_is c.self.inside.seats.items c.self.inside.front c.self.inside.tasks c.args.member _ h c.may_turn.result st at is in
     sym c.if-not-may_turn.true ∙ subst (λ (v : BarriersView). c.may_turn.result ≡ may_pass (members_of v) c.args.member h) c.self.view_is answer
 
@@ -56,7 +56,7 @@ returns-clause-answer c = λ h st0.
     let st = subst (λ (b : Bool). StandAt c.self.inside.seats.items c.self.inside.front c.self.inside.tasks b h) c.if-self.false st1 in
     let lt : c.args.member < length c.self.inside.seats.items = subst (λ (v : BarriersView). c.args.member < members_of v) (sym c.self.view_is) c.requires.member in
     let at = slice_get_read c.self.inside.seats.items _ c.args.member _ refl lt c.index.ensures in
-    let is = subst (λ (xs : List Seat). IsTrue c.may_turn.result ↔ MayTurn (record { seats = xs; front = c.self.inside.front; tasks = c.self.inside.tasks; cancelled = false }) c.index.result.now) c.deref-2.ensures.value c.may_turn.ensures in
+    let is = subst (λ (xs : List Seat). IsTrue c.may_turn.result ↔ MayTurn (uncancelled xs c.self.inside.front c.self.inside.tasks) c.index.result.now) c.deref-2.ensures.value c.may_turn.ensures in
     let answer = turn_is c.self.inside.seats.items c.self.inside.front c.self.inside.tasks c.args.member _ h c.may_turn.result st at is in
     sym c.if-not-may_turn.false ∙ subst (λ (v : BarriersView). c.may_turn.result ≡ may_pass (members_of v) c.args.member h) c.self.view_is answer
 
@@ -66,7 +66,7 @@ returns-clause-stands c = λ h st0.
     let st = subst (λ (b : Bool). StandAt c.self.inside.seats.items c.self.inside.front c.self.inside.tasks b h) c.if-self.false st1 in
     let lt : c.args.member < length c.self.inside.seats.items = subst (λ (v : BarriersView). c.args.member < members_of v) (sym c.self.view_is) c.requires.member in
     let at = slice_get_read c.self.inside.seats.items _ c.args.member _ refl lt c.index.ensures in
-    let is = subst (λ (xs : List Seat). IsTrue c.may_turn.result ↔ MayTurn (record { seats = xs; front = c.self.inside.front; tasks = c.self.inside.tasks; cancelled = false }) c.index.result.now) c.deref-2.ensures.value c.may_turn.ensures in
+    let is = subst (λ (xs : List Seat). IsTrue c.may_turn.result ↔ MayTurn (uncancelled xs c.self.inside.front c.self.inside.tasks) c.index.result.now) c.deref-2.ensures.value c.may_turn.ensures in
     let seat : c.passed_by.result ≡ _ = c.passed_by.ensures ∙ ap (passed_by c.index.result.now) c.ends_region.ensures in
     let now : c.deref-3.result.now ≡ _ = c.deref-3.ensures.value ∙ ap (slice_set c.self.inside.seats.items c.args.member) seat in
     subst (λ (b : Bool). StandAt (slice_set c.self.inside.seats.items c.args.member c.passed_by.result) c.front_after-self-inside.result c.self.inside.tasks b (Pass (barriers_passed c.args.member h) c.args.member ∷ h)) (sym c.if-self.false)
