@@ -132,7 +132,12 @@ const CANCELLED: &[Line] = &[
     (1, Act::Arrive(BARRIER), false, (0, AT, None, false)),
     (1, Act::Arrive(END), true, (0, LAST, LAST, false)),
     (1, Act::Turn, false, (0, LAST, LAST, false)),
-    (0, Act::Arrive(OTHER), true, (0, OTHER_LAST, OTHER_LAST, false)),
+    (
+        0,
+        Act::Arrive(OTHER),
+        true,
+        (0, OTHER_LAST, OTHER_LAST, false),
+    ),
     (0, Act::Turn, true, (1, None, None, true)),
     (0, Act::Turn, false, (1, None, None, true)),
     (0, Act::Arrive(END), false, (1, None, None, true)),
