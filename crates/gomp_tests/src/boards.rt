@@ -7,6 +7,7 @@ ghost use Rattle.gomp_board.specs.Boards.{members_of};
 
 use crate::checks::{SIZES, items_of, same};
 use gomp_board::{Board, Op, TeamCancel};
+use gomp_cancel::Cancellation;
 use gomp_depend::Depends;
 use gomp_groups::Groups;
 use gomp_ready::Ready;
@@ -420,7 +421,7 @@ fn cancelled_region(
     Ok(trial)
 }
 
-/// That the parts of a board for so many members, and lists of so many ready tasks, are made.
+/// That the parts of a board for so many members, and lists of so many ready tasks and of the marks of groups, are made.
 fn parts(rt: &impl Abort, alloc: Global, members: u16, count: usize) -> Result<(), AllocError> {
     let mut tasks = Tasks::make(alloc, members)?;
     tasks.reserve()?;
@@ -432,10 +433,14 @@ fn parts(rt: &impl Abort, alloc: Global, members: u16, count: usize) -> Result<(
     depends.reserve()?;
     same(rt, &depends.as_slice().len(), &0, "open tasks", 0);
     let mut ready = Ready::new(alloc);
+    let mut cancelled = Cancellation::new(alloc);
     for _ in 0..count {
         ready.reserve()?;
         ready.put(1);
+        cancelled.reserve()?;
+        cancelled.open();
     }
+    same(rt, &cancelled.is_cancelled(), &false, "cancelled", 0);
     same(rt, &ready.len(), &count, "ready tasks", members as u64);
     Ok(())
 }
