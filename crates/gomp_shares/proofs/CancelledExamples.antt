@@ -348,6 +348,10 @@ left_the_next = End 1 0 ∷ Take 1 0 0 3 ∷ Enter 1 0 (shape_of cancellable_ten
 pub whole_beside_the_cancel : WholeWhereOver 1 left_the_next → ⊥
 whole_beside_the_cancel law = absurd (let last = law 1 0 (shape_of cancellable_ten) (inr (inr (inl refl))) (λ m lt. let first : 0 ≡ m = omega arith in inl (rw first refl)) refl 3 (omega arith) in omega arith)
 
+-- nor if the region is cancelled later
+pub whole_before_the_cancel : WholeWhereOver 1 (CancelEvent 0 Region ∷ left_the_next) → ⊥
+whole_before_the_cancel law = absurd (let last = law 1 0 (shape_of cancellable_ten) (inr (inr (inr (inl refl)))) (λ m lt. let first : 0 ≡ m = omega arith in inr (inl (rw first refl))) refl 3 (omega arith) in omega arith)
+
 -- a member in a loop cancels it
 pub cancels_its_loop : CancelsCancellable (CancelEvent 0 (OneShare 0)) in_cancellable
 cancels_its_loop = (shape_of cancellable_ten, inr (inr (inr (inl refl))), never_left, refl)

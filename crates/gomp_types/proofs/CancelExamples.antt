@@ -15,6 +15,7 @@ use Rattle.gomp_types.specs.declared.event.Arrival.TheVariants.{Barrier, RegionE
 use Rattle.gomp_types.specs.EventLists.{at}
 use Rattle.gomp_types.specs.Goals.{may_pass}
 use Rattle.gomp_types.specs.Sections.{sections_shape}
+use Rattle.gomp_types.specs.Seen.{seen_of}
 use Rattle.gomp_types.specs.Singles.{single_shape}
 use Rattle.gomp_types.specs.TaskExamples.{after, one_job}
 use Rattle.gomp_types.specs.Cancels.{is_cancelled, share_cancelled, own_cancelled, groups_over, groups_within, is_covered, would_be_covered, scope_of, names_cancelled, may_be_cancelled, leaves_region, leaves_share, leaves_task, is_leaving}
@@ -103,19 +104,20 @@ pub events_of_a_cancel :
     × (tells_cancelled Loop true 0 in_a_loop (Cancelling true) ≡ See 0 Loop ∷ Cancel 0 (OneShare 1) ∷ [])
 events_of_a_cancel = (refl, refl, refl, refl)
 
--- it tells of the region, of the share, and of a group around the task or the region
+-- it tells of the region, of the share, and of a group around the task, be it the last opened or one around that, or the region
 pub cancellations_that_are_told :
     (map (λ kind. names_cancelled kind 1 outer_cancelled) (Parallel ∷ Loop ∷ Sections ∷ Taskgroup ∷ []) ≡ false ∷ false ∷ false ∷ true ∷ [])
     × (names_cancelled Taskgroup 1 (Cancel 1 (OneGroup 1) ∷ groups_in_groups) ≡ false) × (names_cancelled Taskgroup 1 (Cancel 1 Region ∷ groups_in_groups) ≡ true)
     × (names_cancelled Loop 0 (Cancel 1 Region ∷ in_a_loop) ≡ false) × (names_cancelled Loop 0 (Cancel 1 (OneShare 1) ∷ in_a_loop) ≡ true)
     × (names_cancelled Sections 0 (Cancel 1 (OneShare 1) ∷ in_a_loop) ≡ false) × (names_cancelled Sections 0 (Cancel 1 (OneShare 0) ∷ in_sections) ≡ true)
-cancellations_that_are_told = (refl, refl, refl, refl, refl, refl, refl)
+    × (names_cancelled Taskgroup 1 (Start 3 1 ∷ outer_cancelled) ≡ true)
+cancellations_that_are_told = (refl, refl, refl, refl, refl, refl, refl, refl)
 
--- if the control variable allows none, nothing is cancelled
+-- if the control variable allows none, nothing is cancelled, whatever was
 pub answers_to_a_cancel :
     TellsCancelled true Parallel true 0 [] (Cancelling true) × TellsCancelled true Parallel false 0 [] (Cancelling false) × TellsCancelled false Parallel true 0 [] (Cancelling false)
-    × TellsCancelled true Parallel false 0 (Cancel 1 Region ∷ []) (Cancelling true)
-answers_to_a_cancel = (refl, refl, refl, refl)
+    × TellsCancelled true Parallel false 0 (Cancel 1 Region ∷ []) (Cancelling true) × TellsCancelled false Parallel false 0 (Cancel 1 Region ∷ []) (Cancelling false)
+answers_to_a_cancel = (refl, refl, refl, refl, refl)
 
 -- what a construct is tested for, by what it names
 pub tests_of_a_cancel :
@@ -125,13 +127,17 @@ pub tests_of_a_cancel :
     × (cancel_tests Taskgroup 0 [] ≡ (true, NotInTask) ∷ (true, NoGroup) ∷ (false, GroupOpen) ∷ [])
 tests_of_a_cancel = (refl, refl, refl, refl, refl)
 
--- a member leaves the region for good, a share until its end, a task until its end
+-- a member leaves the region for good, a share until its end, a task until its end; not the next share, nor a task that it starts
 pub members_that_leave :
     (map (λ h. leaves_region 0 h) ([] ∷ (See 0 Parallel ∷ []) ∷ (See 1 Parallel ∷ []) ∷ (End 0 0 ∷ Done 1 0 ∷ See 0 Parallel ∷ []) ∷ (See 0 Loop ∷ []) ∷ []) ≡ false ∷ true ∷ false ∷ true ∷ false ∷ [])
     × (map (λ h. leaves_share 0 h) ((See 0 Loop ∷ []) ∷ (See 0 Sections ∷ []) ∷ (See 0 Taskgroup ∷ []) ∷ (End 0 1 ∷ See 0 Loop ∷ []) ∷ (End 0 0 ∷ See 0 Loop ∷ []) ∷ (Enter 1 0 cancellable_loop ∷ See 0 Loop ∷ []) ∷ (Enter 0 1 cancellable_loop ∷ See 0 Loop ∷ []) ∷ []) ≡ true ∷ true ∷ false ∷ true ∷ false ∷ false ∷ true ∷ [])
-    × (map (λ h. leaves_task 0 h) ((See 0 Taskgroup ∷ []) ∷ (See 0 Loop ∷ []) ∷ (Done 2 1 ∷ See 0 Taskgroup ∷ []) ∷ (Done 2 0 ∷ See 0 Taskgroup ∷ []) ∷ (See 1 Taskgroup ∷ []) ∷ []) ≡ true ∷ false ∷ true ∷ false ∷ false ∷ [])
+    × (map (λ h. leaves_task 0 h) ((See 0 Taskgroup ∷ []) ∷ (See 0 Loop ∷ []) ∷ (Done 2 1 ∷ See 0 Taskgroup ∷ []) ∷ (Done 2 0 ∷ See 0 Taskgroup ∷ []) ∷ (See 1 Taskgroup ∷ []) ∷ (Start 2 1 ∷ See 0 Taskgroup ∷ []) ∷ (Start 2 0 ∷ See 0 Taskgroup ∷ []) ∷ []) ≡ true ∷ false ∷ true ∷ false ∷ false ∷ true ∷ false ∷ [])
     × (map (λ h. is_leaving 0 h) ([] ∷ (See 0 Parallel ∷ []) ∷ (See 0 Sections ∷ []) ∷ (See 0 Taskgroup ∷ []) ∷ (See 1 Taskgroup ∷ []) ∷ []) ≡ false ∷ true ∷ true ∷ true ∷ false ∷ [])
 members_that_leave = (refl, refl, refl, refl)
+
+-- at its place a member sees that it leaves its share, and not that it leaves the region or a task, nor what another leaves
+pub leaving_that_is_seen : map (λ h. (seen_of 0 h).leaving) ((See 0 Loop ∷ []) ∷ (See 0 Parallel ∷ []) ∷ (See 0 Taskgroup ∷ []) ∷ (See 1 Loop ∷ []) ∷ []) ≡ true ∷ false ∷ false ∷ false ∷ []
+leaving_that_is_seen = refl
 
 -- the region or a group asks for the room of an event, and may find no memory; a share does neither
 pub room_of_a_cancel :
@@ -174,10 +180,10 @@ pub ends_that_leave_groups :
     × (end_region_tests true 1 groups_in_groups ≡ (true, InsideTask) ∷ [])
 ends_that_leave_groups = (refl, refl, refl, refl, refl)
 
--- in a cancelled region a member passes the region's end once all are there, at whatever barrier they were, and once; no other barrier is passed, though all have arrived there
+-- in a cancelled region a member passes the region's end once all are there, at whatever barrier they were, and once; no other barrier is passed, though all have arrived there, nor by one who has not
 pub passes_of_a_cancelled_region :
     (map (λ m. may_pass 2 m (after (Arrive 0 0 (at Barrier 0) ∷ Arrive 0 1 (at Barrier 0) ∷ Cancel 1 Region ∷ []))) (0 ∷ 1 ∷ []) ≡ false ∷ false ∷ [])
     × (map (λ m. may_pass 2 m (after (Arrive 0 0 (at Barrier 0) ∷ Cancel 1 Region ∷ Arrive 0 1 (at RegionEnd 0) ∷ []))) (0 ∷ 1 ∷ []) ≡ false ∷ false ∷ [])
-    × (map (λ m. may_pass 2 m (after (Arrive 0 0 (at Barrier 0) ∷ Cancel 1 Region ∷ Arrive 0 1 (at RegionEnd 0) ∷ Arrive 0 0 (at RegionEnd 0) ∷ []))) (0 ∷ 1 ∷ []) ≡ true ∷ true ∷ [])
+    × (map (λ m. may_pass 2 m (after (Arrive 0 0 (at Barrier 0) ∷ Cancel 1 Region ∷ Arrive 0 1 (at RegionEnd 0) ∷ Arrive 0 0 (at RegionEnd 0) ∷ []))) (0 ∷ 1 ∷ 2 ∷ []) ≡ true ∷ true ∷ false ∷ [])
     × (map (λ m. may_pass 2 m (after (Arrive 0 0 (at Barrier 0) ∷ Cancel 1 Region ∷ Arrive 0 1 (at RegionEnd 0) ∷ Arrive 0 0 (at RegionEnd 0) ∷ Pass 0 0 ∷ []))) (0 ∷ 1 ∷ []) ≡ false ∷ true ∷ [])
 passes_of_a_cancelled_region = (refl, refl, refl, refl)

@@ -1,7 +1,8 @@
 -- Each field of the rules that a cancellation changes by itself refuses an event after some others, and the rule allows one beside it. All is computed.
-use Rattle.std.proofs.Common.{List, [], ◌∷◌, refl, ap, arith, rules}
+use Rattle.std.proofs.Common.{◌≡◌, List, [], ◌∷◌, Some, refl, ap, arith, rules}
 use Rattle.gomp_types.specs.declared.event.Tag.{Tag}
-use Rattle.gomp_types.specs.declared.cancel.CancelKind.TheVariants.{Parallel, Taskgroup}
+use Rattle.gomp_types.specs.declared.cancel.CancelKind.{CancelKind}
+use Rattle.gomp_types.specs.declared.cancel.CancelKind.TheVariants.{Parallel, Loop, Sections, Taskgroup}
 use Rattle.gomp_types.specs.declared.cancel.Scope.TheVariants.{Region, OneShare, OneGroup}
 use Rattle.gomp_types.specs.declared.task.Task.TheVariants.{Implicit}
 use Rattle.gomp_types.specs.declared.event.Arrival.TheVariants.{Barrier, RegionEnd}
@@ -10,8 +11,9 @@ use Rattle.gomp_types.specs.declared.event.Event.TheVariants.{Create, Start, Gro
 use Rattle.gomp_types.specs.EventLists.{at}
 use Rattle.gomp_types.specs.Arrivals.{ArrivalRule}
 use Rattle.gomp_types.specs.TaskRules.{TaskRule}
+use Rattle.gomp_types.specs.Cancels.{scope_of}
 use Rattle.gomp_types.specs.CancelRules.{CancelRule}
-use Rattle.gomp_types.specs.TaskExamples.{Allows, Forbids, one_job}
+use Rattle.gomp_types.specs.TaskExamples.{after, Allows, Forbids, one_job}
 
 -- Arrivals
 
@@ -98,6 +100,15 @@ cancel_the_group = record { member = omega arith; kind = Taskgroup; named = refl
 
 pub cancel_by_a_stranger : Forbids (CancelRule 2) [] (Cancel 2 Region)
 cancel_by_a_stranger may = absurd (let member = may.member in omega arith)
+
+pub cancel_another_group : Forbids (CancelRule 1) (Group 0 0 ∷ Group 1 0 ∷ Create 1 0 (Implicit 0) one_job ∷ Start 1 0 ∷ []) (Cancel 0 (OneGroup 0))
+cancel_another_group may = names_it_not may.kind may.named
+  where
+    names_it_not : (kind : CancelKind) → scope_of kind 0 (after (Group 0 0 ∷ Group 1 0 ∷ Create 1 0 (Implicit 0) one_job ∷ Start 1 0 ∷ [])) ≡ Some (OneGroup 0) → ⊥
+    names_it_not Parallel e = absurd (cc)
+    names_it_not Loop e = absurd (cc)
+    names_it_not Sections e = absurd (cc)
+    names_it_not Taskgroup e = absurd (cc)
 
 -- a member sees a cancellation only after it
 pub see_what_is_cancelled : Allows (CancelRule 2) (Cancel 1 Region ∷ []) (See 0 Parallel)
