@@ -150,9 +150,9 @@ silent_waits call waits _ silent quiet = rw (quiet_ends_none waits.open_call qui
 
 -- A call that arrives
 
-or_none : (b : Bool) → (b || false) ≡ b
-or_none true = refl
-or_none false = refl
+or_no_end : (b : Bool) → (b || false) ≡ b
+or_no_end true = refl
+or_no_end false = refl
 
 -- a call that is repeated ends the region if the one that waits does
 repeats_end : (m : ℕ) (p : Past) (call : Call) (waiting : Option Call) → AllFail (row_tests (is_resume call) (row_of (call_meant call waiting)) m p) → is_resume call ≡ true → end_open waiting ≡ ends_by (row_of (call_meant call waiting)).arrives
@@ -164,20 +164,20 @@ begun_at_end : (call : Call) (waiting : Option Call) (repeated : Bool) (m : ℕ)
     (repeated ≡ false → end_open waiting ≡ false) → at_region_end m (begun_past repeated (row_of call) m p).events ≡ ends_by (row_of call).arrives
 begun_at_end call waiting true m p arrives at again first = rw (once_again_none ((row_of call).begins m p)) (at ∙ again refl)
 begun_at_end call waiting false m p arrives at again first =
-    rw (once_first_all ((row_of call).begins m p)) (begins_at_end call m p arrives ∙ ap (λ (b : Bool). ends_by (row_of call).arrives || b) (at ∙ first refl) ∙ or_none (ends_by (row_of call).arrives))
+    rw (once_first_all ((row_of call).begins m p)) (begins_at_end call m p arrives ∙ ap (λ (b : Bool). ends_by (row_of call).arrives || b) (at ∙ first refl) ∙ or_no_end (ends_by (row_of call).arrives))
 
 never_stops : (call : Call) (m : ℕ) (p : Past) → is_some (row_of call).arrives ≡ true → (row_of call).may_reply m p Stopped → ⊥
 never_stops call m p arrives may = elim ((row_is_sound call).tells arrives m p Stopped may) [ inl e ↦ absurd (cc) | inr (inl e) ↦ absurd (cc) | inr (inr e) ↦ absurd (cc) ]
 
 -- no other call of its member is not answered whole
-end_alone : (p : Past) (step : Step) → refusal_of p step ≡ None → Known p → is_some (row_at p step).arrives ≡ true → end_of (p.waits step.member) ≡ end_open (p.waits step.member).open_call
-end_alone p step none known arrives = rw (none_under p step none known arrives) (or_none (end_open (p.waits step.member).open_call))
+only_waiting_ends : (p : Past) (step : Step) → refusal_of p step ≡ None → Known p → is_some (row_at p step).arrives ≡ true → end_of (p.waits step.member) ≡ end_open (p.waits step.member).open_call
+only_waiting_ends p step none known arrives = rw (none_under p step none known arrives) (or_no_end (end_open (p.waits step.member).open_call))
 
-opens_again : (p : Past) (step : Step) → refusal_of p step ≡ None → is_resume step.call ≡ true → end_open (p.waits step.member).open_call ≡ ends_by (row_at p step).arrives
-opens_again p step none again = repeats_end step.member p step.call (p.waits step.member).open_call (unrefused_step_passes p step none).row again
+repeated_call_ends : (p : Past) (step : Step) → refusal_of p step ≡ None → is_resume step.call ≡ true → end_open (p.waits step.member).open_call ≡ ends_by (row_at p step).arrives
+repeated_call_ends p step none again = repeats_end step.member p step.call (p.waits step.member).open_call (unrefused_step_passes p step none).row again
 
-opens_once : (p : Past) (step : Step) → refusal_of p step ≡ None → is_some (row_at p step).arrives ≡ true → is_resume step.call ≡ false → end_open (p.waits step.member).open_call ≡ false
-opens_once p step none arrives once =
+first_call_ends_none : (p : Past) (step : Step) → refusal_of p step ≡ None → is_some (row_at p step).arrives ≡ true → is_resume step.call ≡ false → end_open (p.waits step.member).open_call ≡ false
+first_call_ends_none p step none arrives once =
     let waiting = (p.waits step.member).open_call in
     quiet_ends_none waiting (open_is_away step.member p step.call waiting (unrefused_step_passes p step none).wait (never_stops (call_meant step.call waiting) step.member p arrives) (rw once refl))
 
@@ -186,7 +186,7 @@ begun_end : (p : Past) (step : Step) → refusal_of p step ≡ None → Known p 
     at_region_end step.member (begun_past (is_resume step.call) (row_at p step) step.member p).events ≡ ends_by (row_at p step).arrives
 begun_end p step none known arrives at =
     let waiting = (p.waits step.member).open_call in
-    begun_at_end (call_meant step.call waiting) waiting (is_resume step.call) step.member p arrives (at ∙ end_alone p step none known arrives) (λ again. opens_again p step none again) (λ once. opens_once p step none arrives once)
+    begun_at_end (call_meant step.call waiting) waiting (is_resume step.call) step.member p arrives (at ∙ only_waiting_ends p step none known arrives) (λ again. repeated_call_ends p step none again) (λ once. first_call_ends_none p step none arrives once)
 
 -- of a member that has arrived at the region's end, and passes it
 passed_end : (members m : ℕ) (h : List Event) → Always (TeamRule members) h → was_region_end (arrival (barriers_passed m h) m h) ≡ false → has_left_region m h ≡ false → at_region_end m h ≡ false
@@ -204,10 +204,10 @@ reply_end : (made : Call) (waits : Waits) (repeated : Bool) (members m : ℕ) (p
 reply_end made waits repeated members m p (Refused refusal) arrives under may rules at inside = absurd ((row_is_sound (call_meant made waits.open_call)).accepts m _ refusal may)
 reply_end made waits repeated members m p Wait arrives under may rules at inside =
     let call = call_meant made waits.open_call in
-    rw ((row_is_sound call).waits_quietly arrives m (begun_past repeated (row_of call) m p), under) (at ∙ sym (or_none (ends_by (row_of call).arrives)))
+    rw ((row_is_sound call).waits_quietly arrives m (begun_past repeated (row_of call) m p), under) (at ∙ sym (or_no_end (ends_by (row_of call).arrives)))
 reply_end made waits repeated members m p (Run task code arg false) arrives under may rules at inside =
     let call = call_meant made waits.open_call in
-    rw (((row_is_sound call).runs m (begun_past repeated (row_of call) m p) task code arg false may).5, under) (at ∙ sym (or_none (ends_by (row_of call).arrives)))
+    rw (((row_is_sound call).runs m (begun_past repeated (row_of call) m p) task code arg false may).5, under) (at ∙ sym (or_no_end (ends_by (row_of call).arrives)))
 reply_end made waits repeated members m p (Run task code arg true) arrives under may rules at inside =
     let call = call_meant made waits.open_call in
     absurd (not_both (is_some (row_of call).arrives) arrives (((row_is_sound call).runs m (begun_past repeated (row_of call) m p) task code arg true may).6 refl).0)
@@ -280,8 +280,8 @@ pub ends_if_repeated : (p : Past) (step : Step) → refusal_of p step ≡ None �
 ends_if_repeated p step none known whole inside there =
     let waits = p.waits step.member in
     end_shown (row_at p step).arrives (is_resume step.call) (at_region_end step.member p.events)
-    (λ arrives. end_chosen (is_resume step.call) (at_region_end step.member p.events) (end_open waits.open_call) (ends_by (row_at p step).arrives) (there whole inside ∙ end_alone p step none known arrives)
-    (λ again. opens_again p step none again) (λ once. opens_once p step none arrives once))
+    (λ arrives. end_chosen (is_resume step.call) (at_region_end step.member p.events) (end_open waits.open_call) (ends_by (row_at p step).arrives) (there whole inside ∙ only_waiting_ends p step none known arrives)
+    (λ again. repeated_call_ends p step none again) (λ once. first_call_ends_none p step none arrives once))
 
 in_no_task : (a b : Bool) → ((a && not true) && b) ≡ false
 in_no_task true b = refl

@@ -65,17 +65,17 @@ book_untold _ m p told asks may = absurd (cc)
 
 -- The member whose call it is
 
-book_leaves : (call : Call) (repeated : Bool) (m : ℕ) (p : Past) (reply : Reply) (leaving : Leaving) → (row_of call).asks_book ≡ true → MayGive (row_of call) repeated m p reply → LeavesAs leaving m p.events →
+book_call_leaves : (call : Call) (repeated : Bool) (m : ℕ) (p : Past) (reply : Reply) (leaving : Leaving) → (row_of call).asks_book ≡ true → MayGive (row_of call) repeated m p reply → LeavesAs leaving m p.events →
     LeavesAs (leaving_after reply call leaving) m (past_given (row_of call) repeated m p reply).events
-book_leaves call repeated m p (Refused refusal) leaving asks may as_before = as_before
-book_leaves call repeated m p (Run task code arg own) leaving asks may as_before =
+book_call_leaves call repeated m p (Refused refusal) leaving asks may as_before = as_before
+book_call_leaves call repeated m p (Run task code arg own) leaving asks may as_before =
     let none = starter_leaves_no_task (row_of call) (row_is_sound call) repeated m p task code arg own may in record { region = none.0 ∙ as_before.region; task = none.1 }
-book_leaves call repeated m p (TaskDone task waiting) leaving asks may as_before =
+book_call_leaves call repeated m p (TaskDone task waiting) leaving asks may as_before =
     let none = ender_leaves_no_task (row_of call) (row_is_sound call) repeated m p task waiting may in record { region = none.0 ∙ as_before.region; task = none.1 }
-book_leaves call repeated m p Cancelled leaving asks may as_before =
+book_call_leaves call repeated m p Cancelled leaving asks may as_before =
     let told = told_member_leaves_the_region (row_of call) (row_is_sound call) repeated m p may in record { region = told.0; task = told.1 ∙ as_before.task }
-book_leaves call repeated m p (Cancelling told) leaving asks may as_before = absurd (book_untold call m _ told asks may)
-book_leaves call repeated m p reply leaving asks may as_before =
+book_call_leaves call repeated m p (Cancelling told) leaving asks may as_before = absurd (book_untold call m _ told asks may)
+book_call_leaves call repeated m p reply leaving asks may as_before =
     let same = quiet_reply_leaves_the_same (row_of call) (row_is_sound call) repeated m m p reply refl refl refl in record { region = same.region ∙ as_before.region; task = same.task ∙ as_before.task }
 
 parts_leave : (call : Call) (repeated : Bool) (m : ℕ) (p : Past) (reply : Reply) (leaving : Leaving) → (row_of call).asks_book ≡ false → MayGive (row_of call) repeated m p reply → LeavesAs leaving m p.events →
@@ -87,7 +87,7 @@ pub member_leaves : (call : Call) (repeated : Bool) (m : ℕ) (p : Past) (reply 
     LeavesAs (leaving_after reply call leaving) m (past_given (row_of call) repeated m p reply).events
 member_leaves call repeated m p reply leaving may as_before =
     elim (cases_Bool (row_of call).asks_book) [
-      | inl asks ↦ book_leaves call repeated m p reply leaving asks may as_before
+      | inl asks ↦ book_call_leaves call repeated m p reply leaving asks may as_before
       | inr aside ↦ parts_leave call repeated m p reply leaving aside may as_before
     ]
 
