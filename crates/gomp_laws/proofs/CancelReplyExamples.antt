@@ -1,5 +1,6 @@
 -- What the laws of the replies in a cancelled region refuse, computed, and runs that keep them. OpenMP API 5.2, sections 2.1, 16.1 and 16.2.
 use Rattle.std.proofs.Common.{true, [], ◌∷◌, refl, inl, inr}
+use Rattle.std.specs.Prelude.{take}
 use Rattle.gomp_types.specs.declared.call.Call.TheVariants.{TaskCreate, Barrier, Cancel as CancelCall}
 use Rattle.gomp_types.specs.declared.cancel.CancelKind.TheVariants.{Parallel}
 use Rattle.gomp_types.specs.declared.cancel.Scope.TheVariants.{Region, OneShare, OneGroup}
@@ -9,7 +10,7 @@ use Rattle.gomp_types.specs.TaskExamples.{one_job}
 use Rattle.gomp_model.specs.Past.{Terms}
 use Rattle.gomp_model.specs.Team.{Record}
 use Rattle.gomp_model.specs.Examples.{Run, team_of, run_recorded, past_with, asks}
-use Rattle.gomp_model.specs.CancelRuns.{cancellable_team, region_cancelled}
+use Rattle.gomp_model.specs.CancelRuns.{cancellable_team, region_cancelled, loop_cancelled}
 use Rattle.gomp_laws.specs.Replies.{EachReply, TellsCancelledRegion, DropsCovered, NothingCancelled, CancelReplies}
 use Rattle.gomp_laws.proofs.TaskReplyExamples.{RefusesReplyAfter}
 
@@ -50,6 +51,10 @@ cancel_of_the_region = (asks 0 (CancelCall Parallel true), Cancelling true) ∷ 
 -- does so in a team that allows none
 pub cancels_though_disallowed : NothingCancelled (team_of 2) (run_recorded cancel_of_the_region []) → ⊥
 cancels_though_disallowed law = law refl 0 Region (inr (inl refl))
+
+-- and so does one that names a loop
+pub cancels_a_loop_though_disallowed : NothingCancelled (team_of 2) (run_recorded (take 3 loop_cancelled) []) → ⊥
+cancels_a_loop_though_disallowed law = law refl 0 (OneShare 0) (inr (inl refl))
 
 -- in one that allows it the law says nothing
 pub cancels_as_allowed : NothingCancelled (cancellable_team 2) (run_recorded cancel_of_the_region [])
