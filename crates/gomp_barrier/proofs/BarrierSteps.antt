@@ -23,7 +23,7 @@ use Rattle.gomp_types.specs.Compare.{tag_differs}
 use Rattle.gomp_types.specs.Laws.{Always}
 use Rattle.gomp_types.specs.Arrivals.{MayArrive, ArrivalRule}
 use Rattle.gomp_types.proofs.ArrivalsKeep.{uncancelled_before}
-use Rattle.gomp_types.proofs.Booleans.{every_tells, false_of_not, not_false, some_of, and_left, and_right, or_right, not_both, every_by}
+use Rattle.gomp_types.proofs.Booleans.{every_tells, false_of_not, some_of, and_left, and_right, or_right, not_both, every_by}
 use Rattle.gomp_types.proofs.OpenTasks.{created_low, created_high}
 use Rattle.gomp_types.proofs.Compared.{same_tags}
 use Rattle.gomp_types.proofs.Lists.{slice_get-set}

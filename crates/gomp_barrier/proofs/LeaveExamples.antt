@@ -1,16 +1,14 @@
 -- What the barriers of a cancelled region answer, and when they stand for the events: for each line of a definition what it says, and what it alone refuses.
-use Rattle.std.proofs.Common.{◌≡◌, ℕ, ◌<◌, ◌^◌, ◌-◌, Bool, true, false, List, [], ◌∷◌, Some, None, suc, zero, slice_set, refl, arith}
-use Rattle.std.specs.Prelude.{All, ◌&&◌, not}
+use Rattle.std.proofs.Common.{◌≡◌, ℕ, ◌^◌, ◌-◌, Bool, true, false, [], ◌∷◌, Some, None, suc, zero, refl, arith}
+use Rattle.std.specs.Prelude.{All}
 use Rattle.gomp_types.specs.declared.cancel.CancelKind.TheVariants.{Parallel}
 use Rattle.gomp_types.specs.declared.cancel.Scope.TheVariants.{Region, OneShare, OneGroup}
 use Rattle.gomp_types.specs.declared.task.Task.TheVariants.{Implicit}
 use Rattle.gomp_types.specs.declared.event.Event.TheVariants.{Arrive, Pass, Cancel, Discard, See}
-use Rattle.gomp_types.specs.declared.event.Event.{Event}
 use Rattle.gomp_types.specs.Goals.{may_pass}
-use Rattle.gomp_types.specs.Tasks.{is_complete}
 use Rattle.gomp_barrier.specs.declared.front.Seat.{Seat}
 use Rattle.gomp_barrier.specs.Calls.{barrier_seen, accepts_arrival, IsPart, IsAside}
-use Rattle.gomp_barrier.specs.Seats.{has_odd_number, tag_for, number_for, barrier_of, has_come_to_end, seat_accepts, passed_by, gone_from, SeatStands}
+use Rattle.gomp_barrier.specs.Seats.{has_odd_number, tag_for, number_for, barrier_of, has_come_to_end, seat_accepts, gone_from, SeatStands}
 use Rattle.gomp_barrier.specs.Bound.{open_bound, bound_count, TasksStand}
 use Rattle.gomp_barrier.specs.Stands.{Stands, MayLeave}
 use Rattle.gomp_barrier.proofs.TaskExamples.{turn_without_tasks}

@@ -22,7 +22,6 @@ use Rattle.gomp_types.proofs.LeastTests.{AllFail, all_fail, fail_first, fail_lat
 use Rattle.gomp_board.specs.declared.op.Op.{Op}
 use Rattle.gomp_board.specs.declared.op.Op.TheVariants.{Arrive, Reserve, Put, Got, Cancel}
 use Rattle.gomp_board.specs.declared.op.TeamCancel.{TeamCancel}
-use Rattle.gomp_board.specs.declared.op.TeamCancel.TheVariants as TeamCancel
 use Rattle.gomp_board.specs.Ops.{arrival_asks, words_ask, broken_tests, member_tests, end_tests, kind_of, op_tests, op_refusal}
 use Rattle.gomp_barrier.specs.Stands.{members_of as barrier_members}
 use Rattle.gomp_board.specs.Boards.{BoardView, Stands, IsBoard, IsAdmitted, ArrivesFirst, kept_by}

@@ -19,7 +19,6 @@ use Rattle.gomp_types.proofs.Booleans.{and_left, and_right, not_both, not_false}
 use Rattle.gomp_types.proofs.LeastTests.{AllFail, all_fail}
 use Rattle.gomp_board.specs.declared.op.Op.TheVariants.{Cancel, Point}
 use Rattle.gomp_board.specs.declared.op.TeamCancel.{TeamCancel}
-use Rattle.gomp_board.specs.declared.op.TeamCancel.TheVariants as TeamCancel
 use Rattle.gomp_board.specs.Ops.{kind_of, cancelled_by}
 use Rattle.gomp_board.specs.Boards.{BoardView, Stands, IsAdmitted, Performs, kept_by}
 use Rattle.gomp_board.proofs.AdmittedArrivals.{cancel_is_placed}

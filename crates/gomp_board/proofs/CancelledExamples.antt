@@ -1,23 +1,21 @@
 -- Operations in a cancelled team, by examples: for each line of a definition what it says, and what it alone refuses.
-use Rattle.std.proofs.Common.{◌≡◌, ℕ, Bool, true, false, List, [], ◌∷◌, ◌++◌, None, Some, refl, arith, suc, zero, rules}
+use Rattle.std.proofs.Common.{◌≡◌, true, false, List, [], ◌∷◌, None, Some, refl, arith, rules}
 use Rattle.std.specs.Prelude.{map}
 use Rattle.gomp_types.specs.declared.cancel.CancelKind.{CancelKind}
-use Rattle.gomp_types.specs.declared.cancel.CancelKind.TheVariants as CancelKind
 use Rattle.gomp_types.specs.declared.cancel.Scope.TheVariants.{Region, OneShare, OneGroup}
-use Rattle.gomp_types.specs.declared.task.Task.TheVariants.{Implicit, Explicit}
 use Rattle.gomp_types.specs.declared.refusal.Refusal.TheVariants.{Waiting, InsideTask, NotInTask, NoGroup, GroupOpen, Mismatch, TraceFull, NoMemory}
-use Rattle.gomp_types.specs.declared.reply.Reply.TheVariants.{Finished, Passed, Wait, Cancelled, Created, Dropped, Run, TaskDone, Cancelling, Refused}
+use Rattle.gomp_types.specs.declared.reply.Reply.TheVariants.{Finished, Passed, Wait, Cancelled, Created, Dropped, Cancelling, Refused}
 use Rattle.gomp_types.specs.declared.event.Arrival.TheVariants.{Barrier, ShareEnd, RegionEnd}
 use Rattle.gomp_types.specs.declared.event.Event.{Event}
-use Rattle.gomp_types.specs.declared.event.Event.TheVariants.{Arrive, Create, Start, Group, Cancel as CancelEvent, Discard, See}
+use Rattle.gomp_types.specs.declared.event.Event.TheVariants.{Arrive, Start, Group, Cancel as CancelEvent, Discard, See}
 use Rattle.gomp_types.specs.EventLists.{at}
-use Rattle.gomp_board.specs.declared.op.Op.TheVariants.{Create as CreateTask, AwaitOwn, EndTask, OpenGroup, EndGroup, Arrive as ArriveAt, AwaitBarrier, Reserve, Cancel, Point}
+use Rattle.gomp_board.specs.declared.op.Op.TheVariants.{Create as CreateTask, AwaitOwn, EndTask, OpenGroup, Arrive as ArriveAt, AwaitBarrier, Cancel, Point}
 use Rattle.gomp_board.specs.declared.op.TeamCancel.TheVariants.{Parallel, Taskgroup}
 use Rattle.gomp_board.specs.Ops.{kind_of, op_asks, keeps_room, is_cut_short, op_drops, asks_memory, op_begins, op_after, op_refusal}
 use Rattle.gomp_board.specs.Stored.{is_stored, IsAside}
 use Rattle.gomp_board.specs.Discards.{IsOfTeam}
 use Rattle.gomp_board.specs.Boards.{AreSealed, room_after}
-use Rattle.gomp_board.specs.Examples.{seven, creates_root, creates_in, one_ready, one_runs, group_empty, group_ready, first_waits, usual_limits, limits_of, usual_refusal, Allows, Excludes, ExcludesEach}
+use Rattle.gomp_board.specs.Examples.{seven, creates_root, creates_in, one_ready, one_runs, group_empty, group_ready, first_waits, limits_of, usual_refusal, Allows, Excludes, ExcludesEach}
 
 -- Lists of events, the newest first
 

@@ -1,14 +1,14 @@
 -- The discards of a cancellation: what each leaves of the others, and that together they leave no task that nobody has started and that a cancellation reaches.
-use Rattle.std.proofs.Common.{◌≡◌, ◌≢◌, ℕ, ◌+◌, ◌<◌, ◌≤◌, Bool, true, false, List, [], ◌∷◌, ◌++◌, Some, length, refl, ap, ◌∙◌, sym, subst, arith, suc, zero, inl, inr}
-use Rattle.std.specs.Prelude.{◌&&◌, ◌||◌, ◌==◌, not, if◌then◌else◌, reverse}
+use Rattle.std.proofs.Common.{◌≡◌, ℕ, ◌+◌, ◌<◌, ◌≤◌, Bool, true, false, List, ◌∷◌, ◌++◌, refl, ◌∙◌, sym, subst, arith, suc, zero, inl, inr}
+use Rattle.std.specs.Prelude.{◌&&◌, ◌==◌}
 use Rattle.std.proofs.lemmas.Bool.{cases_Bool, cases_lt}
 use Rattle.gomp_types.specs.declared.event.Event.{Event}
-use Rattle.gomp_types.specs.declared.event.Event.TheVariants.{Cancel, Discard}
+use Rattle.gomp_types.specs.declared.event.Event.TheVariants.{Discard}
 use Rattle.gomp_types.specs.Tasks.{tasks_created, is_complete}
 use Rattle.gomp_types.specs.Goals.{is_unstarted}
 use Rattle.gomp_types.specs.Cancels.{is_covered}
 use Rattle.gomp_types.specs.CancelCalls.{discards_to}
-use Rattle.gomp_types.proofs.Booleans.{and_left, and_right, same_number, other_number, not_both}
+use Rattle.gomp_types.proofs.Booleans.{same_number, other_number, not_both}
 use Rattle.gomp_types.proofs.OpenTasks.{created_low, created_high}
 use Rattle.gomp_types.proofs.Suspended.{unstarted_is_fresh}
 use Rattle.gomp_board.specs.Boards.{AreSealed}

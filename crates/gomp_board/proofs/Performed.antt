@@ -1,7 +1,7 @@
 -- What an operation does to a board, by the kind of its reply.
 use Rattle.std.proofs.Common.{◌≡◌, ℕ, ◌+◌, true, false, List, ◌∷◌, ◌++◌, Some, length, refl, ap, ◌∙◌, sym, subst, length-set, zero, suc, arith}
 use Rattle.std.proofs.lemmas.Bool.Decides.{nat_tests}
-use Rattle.std.specs.Prelude.{IsTrue, nat_lt, slice_set, not, ◌&&◌, if◌then◌else◌, []}
+use Rattle.std.specs.Prelude.{IsTrue, nat_lt, slice_set, if◌then◌else◌, []}
 use Rattle.std.proofs.lemmas.List.{set-get_or}
 use Rattle.gomp_types.specs.declared.refusal.Refusal.TheVariants as refusals
 use Rattle.gomp_types.specs.declared.reply.Reply.{Reply}

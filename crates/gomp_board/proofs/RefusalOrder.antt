@@ -20,7 +20,6 @@ use Rattle.gomp_types.proofs.LeastTests.{from, first_is_least}
 use Rattle.gomp_board.specs.declared.op.Op.{Op}
 use Rattle.gomp_board.specs.declared.op.Op.TheVariants.{Create, AwaitOwn, EndTask, AwaitChildren, OpenGroup, EndGroup, AwaitGroup, Arrive, AwaitBarrier, Reserve, Put, Got, Cancel, Point, Break}
 use Rattle.gomp_board.specs.declared.op.TeamCancel.{TeamCancel}
-use Rattle.gomp_board.specs.declared.op.TeamCancel.TheVariants as TeamCancel
 use Rattle.gomp_board.specs.Ops.{member_tests, broken_tests, busy_tests, end_tests, creation_room_tests, kind_of, arrival_asks, op_tests, op_refusal}
 
 -- those of an arrival

@@ -24,7 +24,6 @@ use Rattle.gomp_types.specs.Least.{lesser, least}
 use Rattle.gomp_board.specs.declared.op.Op.{Op}
 use Rattle.gomp_board.specs.declared.op.Op.TheVariants.{Create, AwaitOwn, EndTask, AwaitChildren, OpenGroup, EndGroup, AwaitGroup, Arrive, AwaitBarrier, Reserve, Put, Got, Cancel, Point, Break}
 use Rattle.gomp_board.specs.declared.op.TeamCancel.{TeamCancel}
-use Rattle.gomp_board.specs.declared.op.TeamCancel.TheVariants as TeamCancel
 use Rattle.gomp_board.specs.Ops.{broken_tests, member_tests, end_tests, creation_room_tests, kind_of, op_tests, op_refusal, op_place, refusal_gives, OpAnswer}
 use Rattle.gomp_board.specs.Boards.{BoardView, Stands, Performs, members_of, kept_by}
 

@@ -1,18 +1,13 @@
 -- What a member is answered at a wait, by its goal: passed if that is met, and else a task to execute, or to wait.
-use Rattle.std.proofs.Common.{◌≡◌, ℕ, Bool, false, List, ◌++◌, None, refl, ap, ◌∙◌, sym, subst}
+use Rattle.std.proofs.Common.{◌≡◌, ℕ, Bool, false, List, ◌++◌, None, refl, sym, subst}
 use Rattle.gomp_types.specs.declared.limits.Limits.{Limits}
 use Rattle.gomp_types.specs.declared.refusal.Refusal.{Refusal}
 use Rattle.gomp_types.specs.declared.reply.Reply.{Reply}
 use Rattle.gomp_types.specs.declared.reply.Reply.TheVariants.{Passed, Refused}
-use Rattle.gomp_types.specs.declared.event.Tag.{Tag}
 use Rattle.gomp_types.specs.declared.depend.Dep.{Dep}
 use Rattle.gomp_types.specs.declared.event.Event.{Event}
-use Rattle.gomp_types.specs.Tasks.{executed_task}
-use Rattle.gomp_types.specs.Groups.{open_groups}
-use Rattle.gomp_types.specs.Goals.{may_pass}
-use Rattle.gomp_types.specs.TaskCalls.{AwaitsTasks, starts_task, waited, ends_group, last_complete}
+use Rattle.gomp_types.specs.TaskCalls.{AwaitsTasks, starts_task, waited, ends_group}
 use Rattle.gomp_board.specs.declared.op.Op.{Op}
-use Rattle.gomp_board.specs.declared.op.Op.TheVariants.{EndGroup, Arrive, AwaitBarrier}
 use Rattle.gomp_board.specs.Ops.{op_refusal, op_after, op_gives, begun, passes_barrier, OpReply, OpAnswer}
 
 -- a reply that is no refusal

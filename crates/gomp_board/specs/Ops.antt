@@ -28,7 +28,6 @@ use Rattle.gomp_types.specs.TaskCalls.{outside_tasks_tests, unless_given_up, gro
 use Rattle.gomp_board.specs.declared.op.Op.{Op}
 use Rattle.gomp_board.specs.declared.op.Op.TheVariants.{Create, AwaitOwn, EndTask, AwaitChildren, OpenGroup, EndGroup, AwaitGroup, Arrive, AwaitBarrier, Reserve, Put, Got, Cancel, Point, Break}
 use Rattle.gomp_board.specs.declared.op.TeamCancel.{TeamCancel}
-use Rattle.gomp_board.specs.declared.op.TeamCancel.TheVariants as TeamCancel
 
 -- Room
 

@@ -8,12 +8,12 @@ use Rattle.gomp_types.specs.declared.refusal.Refusal.TheVariants.{NoMemory}
 use Rattle.gomp_types.specs.declared.reply.Reply.{Reply}
 use Rattle.gomp_types.specs.declared.reply.Reply.TheVariants.{Finished, Wait, Cancelled, Dropped, Cancelling, Section, Refused}
 use Rattle.gomp_types.specs.TaskExamples.{one_job}
-use Rattle.gomp_model.specs.Examples.{AreWrong, AreWrongOf, IsWrongOf, cancel_answers, later_answers, share_answers, all_refusals, asks, one_nowait, loop_of_two, loop_alone, eight_ahead}
+use Rattle.gomp_model.specs.Examples.{AreWrong, AreWrongOf, cancel_answers, later_answers, share_answers, all_refusals, asks, one_nowait, loop_of_two, loop_alone, eight_ahead}
 use Rattle.gomp_model.specs.ShareExamples.{three_sections, sections_of_two, no_sections, single_of_two, copy_of_three, ordered_of_two, handed_of_two, ordered_alone, part_end}
 use Rattle.gomp_model.specs.HoldExamples.{name_a, holding, both_made, both_set}
 use Rattle.gomp_model.specs.TaskRuns.{down_to, group_of_one, wait_for_children, wait_for_a_running_child}
 use Rattle.gomp_model.specs.DependRuns.{creates_at_once, waits_for_its_own}
-use Rattle.gomp_model.specs.CancelRuns.{cancellable_team, cancels_parallel, region_cancelled, barrier_cut_short, loop_cancelled, sections_cancelled, group_cancelled}
+use Rattle.gomp_model.specs.CancelRuns.{cancellable_team, cancels_parallel, barrier_cut_short, loop_cancelled, sections_cancelled, group_cancelled}
 
 -- No call of a region that is not cancelled is answered so
 

@@ -2,15 +2,14 @@
 use Rattle.std.proofs.Common.{ℕ, ◌≡◌, true, false, List, [], ◌∷◌, Some, None, refl}
 use Rattle.std.specs.Prelude.{Bool, Option, pos, map, ◌++◌}
 use Rattle.gomp_types.specs.declared.call.Call.{Call}
-use Rattle.gomp_types.specs.declared.call.Call.TheVariants.{LoopNext, LoopEnd, LoopEndNowait, LoopEndCancel, SectionsStart, SectionsNext, SectionsEnd, SectionsEndCancel, SingleStart, SingleCopyStart, OrderedStart, Barrier, RegionEnd, CriticalStart, TaskCreate, TaskEnd, GroupStart, GroupEnd, Cancel, Point, Resume}
+use Rattle.gomp_types.specs.declared.call.Call.TheVariants.{LoopNext, LoopEnd, LoopEndCancel, SectionsStart, SectionsNext, SectionsEnd, SectionsEndCancel, SingleStart, SingleCopyStart, OrderedStart, Barrier, RegionEnd, TaskCreate, TaskEnd, GroupStart, GroupEnd, Cancel, Point, Resume}
 use Rattle.gomp_types.specs.declared.cancel.CancelKind.{CancelKind}
 use Rattle.gomp_types.specs.declared.cancel.CancelKind.TheVariants.{Parallel, Loop, Sections, Taskgroup}
 use Rattle.gomp_types.specs.declared.cancel.Scope.TheVariants.{Region, OneShare, OneGroup}
 use Rattle.gomp_types.specs.declared.loop_desc.EndKind.TheVariants.{Wait as WaitEnd, Nowait, Cancellable}
-use Rattle.gomp_types.specs.declared.refusal.Refusal.{Refusal}
 use Rattle.gomp_types.specs.declared.refusal.Refusal.TheVariants.{Leaving, InsideTask, NotInTask, InsideShare, NotDrained, GroupOpen, TooDeep, TooManyTasks, TooManyDepends, Mismatch, TraceFull, NoMemory}
 use Rattle.gomp_types.specs.declared.reply.Reply.{Reply}
-use Rattle.gomp_types.specs.declared.reply.Reply.TheVariants.{Chunk, NoChunk, Section, Executor, Finished, Passed, Cancelled, Wait, Created, Run as RunTask, TaskDone, Dropped, Cancelling, Stopped, Refused}
+use Rattle.gomp_types.specs.declared.reply.Reply.TheVariants.{Finished, Passed, Cancelled, Wait, Created, Run as RunTask, Dropped, Cancelling, Refused}
 use Rattle.gomp_types.specs.declared.shape.Shape.{Shape}
 use Rattle.gomp_types.specs.declared.task.Task.TheVariants.{Implicit, Explicit}
 use Rattle.gomp_types.specs.declared.event.Arrival.{Arrival}
@@ -33,7 +32,7 @@ use Rattle.gomp_model.specs.CancelRuns.{cancellable_team}
 use Rattle.gomp_model.specs.Examples.{past_with, dynamic_loop, waits_for, lock_answers, share_answers, task_answers, cancel_answers, all_refusals}
 use Rattle.gomp_shares.specs.Loops.{end_tests}
 use Rattle.gomp_shares.specs.Sections.{sections_end_tests}
-use Rattle.gomp_model.proofs.RowExamples.{starts, nexts, ends, arrivals, in_team, on_names, on_locks, in_book, others, flags, keys, kinds, three_locks}
+use Rattle.gomp_model.proofs.RowExamples.{starts, nexts, ends, arrivals, in_team, in_book, others, flags, keys, kinds, three_locks}
 use Rattle.gomp_model.proofs.TaskRowExamples.{on_tasks, creations, rooms}
 
 -- the cancel constructs with a true clause, those with a false one, and the cancellation points

@@ -2,18 +2,17 @@
 use Rattle.std.proofs.Common.{ℕ, ◌≡◌, true, false, List, [], ◌∷◌, Some, None, refl}
 use Rattle.std.specs.Prelude.{Option, pos, map, take, ◌++◌}
 use Rattle.gomp_types.specs.declared.call.Call.{Call}
-use Rattle.gomp_types.specs.declared.call.Call.TheVariants.{LoopNext, LoopEnd, LoopEndNowait, LoopEndCancel, SectionsStart, SectionsEndCancel, SingleStart, OrderedStart, Barrier, RegionEnd, CriticalStart, CriticalEnd, Set, Unset, UnsetNest, TaskEnd, Taskwait, GroupStart, GroupEnd, Cancel, Point, Resume, Stop}
+use Rattle.gomp_types.specs.declared.call.Call.TheVariants.{LoopNext, LoopEnd, LoopEndNowait, LoopEndCancel, SectionsEndCancel, SingleStart, OrderedStart, Barrier, RegionEnd, CriticalStart, CriticalEnd, Set, Unset, UnsetNest, TaskEnd, Taskwait, GroupStart, GroupEnd, Cancel, Point, Resume, Stop}
 use Rattle.gomp_types.specs.declared.cancel.CancelKind.TheVariants.{Parallel, Loop, Sections, Taskgroup}
-use Rattle.gomp_types.specs.declared.cancel.Scope.TheVariants.{Region, OneShare}
 use Rattle.gomp_types.specs.declared.loop_desc.EndKind.TheVariants.{Nowait, Cancellable}
 use Rattle.gomp_types.specs.declared.refusal.Place.TheVariants.{Stopped as AtStop}
 use Rattle.gomp_types.specs.declared.refusal.Refusal.{Refusal}
 use Rattle.gomp_types.specs.declared.refusal.Refusal.TheVariants.{BadMember, Ended, Broken, Waiting, Leaving, InsideTask, NotInTask, InsideShare, OutsideShare, InOrdered, HoldsCritical, OrderedLoop, BadChunk, EndDiffers, NotDrained, NotInside, NotCancellable, NoGroup, GroupOpen, NotHolder, NoLock, Mismatch, TraceFull}
-use Rattle.gomp_types.specs.declared.reply.Reply.TheVariants.{Passed, Cancelling, Stopped}
+use Rattle.gomp_types.specs.declared.reply.Reply.TheVariants.{Cancelling, Stopped}
 use Rattle.gomp_types.specs.declared.task.Task.TheVariants.{Implicit, Explicit}
 use Rattle.gomp_types.specs.declared.event.Arrival.TheVariants.{RegionEnd as RegionEndArrival}
 use Rattle.gomp_types.specs.declared.event.Event.{Event}
-use Rattle.gomp_types.specs.declared.event.Event.TheVariants.{Enter, Take, Drained, Part, Arrive, Create, Start, Group, Hold, Cancel as CancelEvent, See}
+use Rattle.gomp_types.specs.declared.event.Event.TheVariants.{Enter, Take, Drained, Part, Arrive, Create, Start, Group, Hold}
 use Rattle.gomp_types.specs.declared.key.Key.TheVariants.{Critical}
 use Rattle.gomp_types.specs.EventLists.{four, at}
 use Rattle.gomp_types.specs.Least.{least}
@@ -21,7 +20,6 @@ use Rattle.gomp_types.specs.Sections.{sections_shape}
 use Rattle.gomp_types.specs.Singles.{single_shape}
 use Rattle.gomp_types.specs.TaskExamples.{one_job}
 use Rattle.gomp_types.specs.Tests.{Test}
-use Rattle.gomp_model.specs.Past.{Past}
 use Rattle.gomp_model.specs.Row.{row_tests}
 use Rattle.gomp_model.specs.Calls.{row_of}
 use Rattle.gomp_model.specs.Team.{refusal_of, before_all, past_of}
@@ -31,7 +29,7 @@ use Rattle.gomp_model.specs.ShareExamples.{part_end}
 use Rattle.gomp_model.specs.HoldExamples.{name_a}
 use Rattle.gomp_model.specs.TaskRuns.{creates_task}
 use Rattle.gomp_model.specs.DependRuns.{creates_with, reads}
-use Rattle.gomp_model.specs.CancelRuns.{cancellable_team, cancellable_with, cancels_parallel, region_cancelled, barrier_cut_short, loop_cancelled, stopped_leaving}
+use Rattle.gomp_model.specs.CancelRuns.{cancellable_team, cancellable_with, cancels_parallel, region_cancelled, barrier_cut_short, loop_cancelled}
 use Rattle.gomp_model.proofs.CancelRowExamples.{cancels_of, points, cancellable_four, region_unseen, leaves_the_region, leaves_from_a_loop, loop_unseen, leaves_the_loop, leaves_the_sections, task_unseen, leaves_the_task}
 
 -- The tests of each call

@@ -1,12 +1,12 @@
 -- Answers in the worked runs of cancellation that have no cause.
 use Rattle.std.proofs.Common.{◌≡◌, true, false, Some, None, [], ◌∷◌, rules}
 use Rattle.std.specs.Prelude.{pos, take, ◌++◌}
-use Rattle.gomp_types.specs.declared.call.Call.TheVariants.{LoopNext, LoopEnd, LoopEndNowait, LoopEndCancel, SectionsStart, SectionsNext, SectionsEnd, SectionsEndCancel, SingleStart, SingleCopyStart, SingleCopyEnd, OrderedStart, Barrier, RegionEnd, CriticalStart, CriticalEnd, Set, Unset, TaskEnd, Taskwait, GroupStart, GroupEnd, Cancel, Point, Resume, Stop}
+use Rattle.gomp_types.specs.declared.call.Call.TheVariants.{LoopNext, LoopEnd, LoopEndNowait, LoopEndCancel, SectionsStart, SectionsNext, SectionsEnd, SectionsEndCancel, SingleStart, SingleCopyEnd, OrderedStart, Barrier, RegionEnd, CriticalStart, CriticalEnd, Set, Unset, TaskEnd, Taskwait, GroupStart, GroupEnd, Cancel, Point, Resume, Stop}
 use Rattle.gomp_types.specs.declared.cancel.CancelKind.TheVariants.{Parallel, Loop, Sections, Taskgroup}
 use Rattle.gomp_types.specs.declared.depend.DepKind.TheVariants.{DepIn, DepOut}
-use Rattle.gomp_types.specs.declared.loop_desc.EndKind.TheVariants.{Wait as WaitEnd, Nowait, Cancellable}
-use Rattle.gomp_types.specs.declared.refusal.Refusal.TheVariants.{Ended, Waiting, Leaving, InsideTask, NotInTask, InsideShare, OutsideShare, InOrdered, HoldsCritical, EndDiffers, NotDrained, Drained, NotInside, NotCancellable, NoGroup, GroupOpen, AlreadyHeld, NotHolder, Mismatch, TraceFull, NoMemory}
-use Rattle.gomp_types.specs.declared.reply.Reply.TheVariants.{Chunk, NoChunk, Section, Executor, Copied, Finished, Passed, Cancelled, Wait, Created, Run as RunTask, TaskDone, Dropped, Cancelling, Stopped, Refused}
+use Rattle.gomp_types.specs.declared.loop_desc.EndKind.TheVariants.{Cancellable}
+use Rattle.gomp_types.specs.declared.refusal.Refusal.TheVariants.{Waiting, Leaving, InsideTask, NotInTask, InsideShare, OutsideShare, InOrdered, EndDiffers, NotDrained, Drained, NotInside, NotCancellable, NoGroup, GroupOpen, AlreadyHeld, NotHolder, Mismatch, TraceFull, NoMemory}
+use Rattle.gomp_types.specs.declared.reply.Reply.TheVariants.{Chunk, NoChunk, Section, Executor, Copied, Finished, Passed, Cancelled, Wait, Created, Run as RunTask, TaskDone, Dropped, Cancelling, Refused}
 use Rattle.gomp_model.specs.Examples.{AreWrong, AreWrongOf, IsWrongOf, asks, dynamic_loop, one_nowait, eight_ahead}
 use Rattle.gomp_model.specs.TaskRuns.{creates_task}
 use Rattle.gomp_model.specs.DependRuns.{creates_with, creates_at_once, one_item}

@@ -1,11 +1,11 @@
 -- Worked runs of cancellation. OpenMP API 5.2, chapter 16. (own)
-use Rattle.std.specs.Prelude.{ℕ, pos, Bool, true, false, [], ◌∷◌, ◌++◌}
+use Rattle.std.specs.Prelude.{ℕ, pos, true, false, [], ◌∷◌, ◌++◌}
 use Rattle.gomp_types.specs.declared.call.Call.{Call}
-use Rattle.gomp_types.specs.declared.call.Call.TheVariants.{LoopNext, LoopEnd, LoopEndNowait, LoopEndCancel, SectionsStart, SectionsNext, SectionsEndCancel, SingleStart, SingleCopyStart, SingleCopyEnd, OrderedStart, Barrier, RegionEnd, CriticalStart, CriticalEnd, LockInit, Set, Unset, TaskEnd, Taskwait, GroupStart, GroupEnd, Cancel, Point, Resume, Stop}
+use Rattle.gomp_types.specs.declared.call.Call.TheVariants.{LoopNext, LoopEnd, LoopEndNowait, LoopEndCancel, SectionsStart, SectionsNext, SectionsEndCancel, SingleCopyStart, SingleCopyEnd, OrderedStart, Barrier, RegionEnd, CriticalStart, CriticalEnd, LockInit, Set, Unset, TaskEnd, Taskwait, GroupStart, GroupEnd, Cancel, Point, Resume, Stop}
 use Rattle.gomp_types.specs.declared.cancel.CancelKind.TheVariants.{Parallel, Loop, Sections, Taskgroup}
 use Rattle.gomp_types.specs.declared.depend.DepKind.TheVariants.{DepIn, DepOut}
-use Rattle.gomp_types.specs.declared.loop_desc.EndKind.TheVariants.{Wait as WaitEnd, Nowait, Cancellable}
-use Rattle.gomp_types.specs.declared.refusal.Refusal.TheVariants.{Waiting, Leaving, InsideTask, NotInTask, OutsideShare, HoldsCritical, NotDrained, NotCancellable, NoGroup, GroupOpen, TraceFull}
+use Rattle.gomp_types.specs.declared.loop_desc.EndKind.TheVariants.{Wait as WaitEnd, Cancellable}
+use Rattle.gomp_types.specs.declared.refusal.Refusal.TheVariants.{Leaving, InsideTask, NotInTask, OutsideShare, HoldsCritical, NotDrained, NotCancellable, NoGroup, GroupOpen, TraceFull}
 use Rattle.gomp_types.specs.declared.reply.Reply.TheVariants.{Chunk, NoChunk, Section, Executor, Finished, Passed, Cancelled, Wait, Created, Run as RunTask, TaskDone, Dropped, Lock as LockMade, Cancelling, Stopped, Refused}
 use Rattle.gomp_types.specs.Limits.{standard}
 use Rattle.gomp_model.specs.Past.{Terms}

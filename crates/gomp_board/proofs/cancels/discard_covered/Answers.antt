@@ -1,4 +1,4 @@
-use Rattle.std.proofs.Common.{◌≡◌, ◌<◌, ◌≤◌, ◌+◌, refl, sym, ◌∙◌, arith, ℕ, reverse, true, false, subst, ◌++◌}
+use Rattle.std.proofs.Common.{◌≡◌, ◌+◌, refl, sym, ◌∙◌, arith, ℕ, reverse, true, subst, ◌++◌}
 use Rattle.std.specs.Prelude.{◌&&◌}
 use Rattle.gomp_types.specs.Goals.{is_unstarted}
 use Rattle.gomp_types.specs.Cancels.{is_covered}

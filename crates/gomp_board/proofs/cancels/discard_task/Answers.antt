@@ -1,10 +1,6 @@
-use Rattle.std.proofs.Common.{refl, ◌∷◌, ◌≡◌}
-use Rattle.gomp_types.specs.declared.event.Event.TheVariants.{Discard}
 use Rattle.gomp_types.proofs.Suspended.{unstarted_is_fresh}
 use Rattle.gomp_tasks.proofs.Laws.{created_tasks_have_numbers}
-use Rattle.gomp_cancel.proofs.Laws.{events_aside_keep_cancelled}
 use Rattle.gomp_board.proofs.Freed.{unstarted_is_open}
-use Rattle.gomp_board.proofs.ReadyKeeps.{discarded_ready}
 use Rattle.gomp_board.proofs.DiscardSteps.{discard_releases, parts_discard_task}
 use Rattle.gomp_board.proofs.cancels.discard_task.Goals as goal
 

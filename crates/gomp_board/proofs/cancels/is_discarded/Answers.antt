@@ -1,4 +1,4 @@
-use Rattle.std.proofs.Common.{refl, sym, ◌∙◌, arith, ◌≡◌, false, true}
+use Rattle.std.proofs.Common.{sym, ◌∙◌}
 use Rattle.gomp_cancel.proofs.Laws.{each_group_has_a_mark}
 use Rattle.gomp_board.proofs.DiscardSteps.{numbered_task_is_seated, started_is_not_discarded, then_covered}
 use Rattle.gomp_board.proofs.cancels.is_discarded.Goals as goal

@@ -1,4 +1,3 @@
-use Rattle.std.proofs.Common.{refl}
 use Rattle.gomp_types.specs.declared.cancel.Scope.TheVariants.{OneGroup}
 use Rattle.gomp_types.specs.declared.event.Event.TheVariants.{Cancel}
 use Rattle.gomp_barrier.proofs.Laws.{events_aside_keep_barriers}

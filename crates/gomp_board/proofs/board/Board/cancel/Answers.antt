@@ -1,8 +1,6 @@
-use Rattle.std.proofs.Common.{◌≡◌, ◌<◌, ◌+◌, refl, sym, ◌∙◌, ap, subst, arith, length}
-use Rattle.std.specs.Prelude.{ℕ}
+use Rattle.std.proofs.Common.{◌≡◌, sym, ◌∙◌, ap, subst, arith}
 use Rattle.gomp_board.specs.declared.op.Op.TheVariants.{Cancel}
-use Rattle.gomp_board.specs.Boards.{BoardView, Stands, IsAdmitted, HasSpare, members_of}
-use Rattle.gomp_board.specs.Discards.{IsOfTeam}
+use Rattle.gomp_board.specs.Boards.{BoardView, IsAdmitted}
 use Rattle.gomp_board.specs.contracts.board.Board.{the_view}
 use Rattle.gomp_board.proofs.AdmittedArrivals.{cancel_stays_small}
 use Rattle.gomp_board.proofs.Cancelled.{cancel_may_name, cancel_told, cancel_without_memory, cancel_performed}

@@ -1,4 +1,4 @@
-use Rattle.std.proofs.Common.{◌≡◌, ◌<◌, ◌≤◌, ◌+◌, ◌∷◌, reverse, refl, sym, subst, ap, ◌∙◌, arith, length, ℕ}
+use Rattle.std.proofs.Common.{◌<◌, ◌∷◌, reverse, sym, subst, ◌∙◌, length}
 use Rattle.gomp_types.specs.declared.event.Event.TheVariants.{Cancel}
 use Rattle.gomp_board.specs.Discards.{IsOfTeam}
 use Rattle.gomp_board.specs.Boards.{BoardView, Stands, HasSpare, members_of}

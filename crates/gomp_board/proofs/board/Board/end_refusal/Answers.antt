@@ -1,4 +1,4 @@
-use Rattle.std.proofs.Common.{refl, ◌∙◌}
+use Rattle.std.proofs.Common.{◌∙◌}
 use Rattle.gomp_types.specs.TaskCalls.{group_is_open}
 use Rattle.gomp_board.proofs.RefusalOrder.{given_up_then}
 use Rattle.gomp_board.proofs.board.Board.end_refusal.Goals as goal

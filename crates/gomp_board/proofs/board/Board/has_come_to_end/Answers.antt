@@ -1,4 +1,4 @@
-use Rattle.std.proofs.Common.{sym, subst, refl}
+use Rattle.std.proofs.Common.{sym, subst}
 use Rattle.gomp_barrier.specs.Stands.{members_of as barrier_members}
 use Rattle.gomp_board.specs.Boards.{BoardView, Stands}
 use Rattle.gomp_board.proofs.RegionLeft.{came_to_end}

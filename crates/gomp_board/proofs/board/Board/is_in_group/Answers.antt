@@ -1,8 +1,5 @@
-use Rattle.std.proofs.Common.{refl, sym, ◌∙◌, subst, reverse}
-use Rattle.gomp_types.specs.Tasks.{executed_task}
-use Rattle.gomp_types.specs.Cancels.{groups_over}
-use Rattle.gomp_board.specs.Boards.{BoardView, Stands, members_of}
-use Rattle.gomp_board.specs.contracts.board.Board.{the_view}
+use Rattle.std.proofs.Common.{sym, subst}
+use Rattle.gomp_board.specs.Boards.{BoardView, Stands}
 use Rattle.gomp_board.proofs.Cancelled.{group_found, group_missing}
 use Rattle.gomp_board.proofs.board.Board.is_in_group.Goals as goal
 

@@ -1,8 +1,3 @@
-use Rattle.std.proofs.Common.{◌≡◌, sym, subst}
-use Rattle.std.specs.Prelude.{Bool, ◌&&◌}
-use Rattle.gomp_types.specs.declared.reply.Reply.TheVariants.{Cancelling}
-use Rattle.gomp_board.specs.Boards.{Performs}
-use Rattle.gomp_board.specs.declared.op.Op.TheVariants.{Point}
 use Rattle.gomp_board.proofs.Cancelled.{point_told}
 use Rattle.gomp_board.proofs.board.Board.point.Goals as goal
 

@@ -1,4 +1,4 @@
-use Rattle.std.proofs.Common.{◌≡◌, ◌<◌, refl, sym, ◌∙◌, subst, reverse, arith, length, Bool}
+use Rattle.std.proofs.Common.{◌≡◌, subst, reverse}
 use Rattle.gomp_board.specs.Boards.{BoardView, Stands}
 use Rattle.std.specs.Prelude.{None}
 use Rattle.gomp_types.specs.Least.{least}
@@ -6,8 +6,7 @@ use Rattle.gomp_types.specs.CancelCalls.{cancel_tests}
 use Rattle.gomp_board.specs.Ops.{kind_of}
 use Rattle.gomp_board.specs.declared.op.TeamCancel.{TeamCancel}
 use Rattle.gomp_board.specs.contracts.board.Board.{the_view}
-use Rattle.gomp_cancel.proofs.Laws.{each_group_has_a_mark}
-use Rattle.gomp_board.proofs.Cancelled.{never_without_group, group_is_named}
+use Rattle.gomp_board.proofs.Cancelled.{never_without_group}
 use Rattle.gomp_board.proofs.board.Board.scope_named.Goals as goal
 
 pub unreachable-requires : goal.unreachable-requires

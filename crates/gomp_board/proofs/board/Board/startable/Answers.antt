@@ -1,4 +1,4 @@
-use Rattle.std.proofs.Common.{◌≡◌, ◌<◌, ◌-◌, sym, subst, ap, ◌∙◌, refl, length, List, arith, reverse}
+use Rattle.std.proofs.Common.{◌<◌, ◌-◌, sym, subst, ◌∙◌, refl, length, arith, reverse}
 use Rattle.std.specs.Prelude.{slice_index_or}
 use Rattle.gomp_board.specs.Boards.{BoardView, Stands}
 use Rattle.gomp_board.specs.contracts.board.Board.{the_view}

@@ -1,4 +1,3 @@
-use Rattle.std.proofs.Common.{refl}
 use Rattle.gomp_types.specs.TaskCalls.{group_is_open}
 use Rattle.gomp_board.proofs.RefusalOrder.{given_up_is, task_end_is_least}
 use Rattle.gomp_board.proofs.board.Board.task_end_refusal.Goals as goal
