@@ -1,5 +1,5 @@
 -- What each member leaves after a reply is what the events after it say: the member whose call it is, and every other.
-use Rattle.std.proofs.Common.{◌≡◌, ℕ, Bool, true, false, List, Option, Some, None, refl, ◌∙◌, inl, inr}
+use Rattle.std.proofs.Common.{◌≡◌, ℕ, Bool, true, false, Option, Some, None, refl, ◌∙◌, inl, inr}
 use Rattle.std.specs.Prelude.{◌≢◌}
 use Rattle.std.proofs.lemmas.Bool.{cases_Bool}
 use Rattle.gomp_types.specs.declared.call.Call.{Call}
@@ -14,7 +14,7 @@ use Rattle.gomp_locks.specs.CriticalNames.{EntersCritical}
 use Rattle.gomp_locks.specs.Holders.{asker, holder, holding_owner, found_lock}
 use Rattle.gomp_locks.specs.Locks.{SetsLock, TestsLock, SetsNest, TestsNest, UnsetsNest}
 use Rattle.gomp_model.specs.Past.{Past}
-use Rattle.gomp_model.specs.Row.{MayGive, past_given, events_after}
+use Rattle.gomp_model.specs.Row.{MayGive, past_given}
 use Rattle.gomp_model.specs.Calls.{row_of}
 use Rattle.gomp_laws.proofs.Calls.{row_is_sound}
 use Rattle.gomp_laws.proofs.Leaving.{others_leave_the_same, quiet_reply_leaves_the_same, starter_leaves_no_task, ender_leaves_no_task, told_member_leaves_the_region}

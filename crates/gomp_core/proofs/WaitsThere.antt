@@ -1,6 +1,6 @@
 -- A member one of whose calls has arrived at a barrier waits there, and no other member does.
 use Rattle.std.proofs.Common.{◌≡◌, ℕ, Bool, true, false, List, [], ◌∷◌, ◌++◌, Option, Some, None, refl, sym, ◌∙◌, subst, inl, inr}
-use Rattle.std.specs.Prelude.{◌==◌, ◌&&◌, ◌||◌, not, is_some}
+use Rattle.std.specs.Prelude.{◌==◌, ◌&&◌, ◌||◌, is_some}
 use Rattle.std.proofs.lemmas.Bool.{cases_Bool}
 use Rattle.gomp_types.specs.declared.call.Call.{Call}
 use Rattle.gomp_types.specs.declared.call.Call.TheVariants.{Resume, Stop}
@@ -9,7 +9,7 @@ use Rattle.gomp_types.specs.declared.reply.Reply.{Reply}
 use Rattle.gomp_types.specs.declared.reply.Reply.TheVariants.{Passed, Cancelled, Wait, Run, TaskDone, Stopped, Refused}
 use Rattle.gomp_types.specs.declared.refusal.Refusal.TheVariants.{Mismatch}
 use Rattle.gomp_types.specs.declared.event.Event.{Event}
-use Rattle.gomp_types.specs.Events.{at_barrier, clash_of}
+use Rattle.gomp_types.specs.Events.{at_barrier}
 use Rattle.gomp_types.specs.Tasks.{task_stack, in_task}
 use Rattle.gomp_types.proofs.Booleans.{is_equal, or_right}
 use Rattle.gomp_types.proofs.LeastTests.{AllFail}
@@ -19,11 +19,11 @@ use Rattle.gomp_model.specs.Row.{Row, unless_repeated, begun_past, row_tests, ev
 use Rattle.gomp_model.specs.Calls.{row_of}
 use Rattle.gomp_model.specs.Team.{Record, call_meant, is_resume, row_at, wait_tests, refusal_of, MayAnswer, open_first, waits_after, past_after, past_of, Caused}
 use Rattle.gomp_board.specs.Ops.{awaits_barrier}
-use Rattle.gomp_laws.proofs.Sound.{Ready, outside_of_tasks, IsSound}
+use Rattle.gomp_laws.proofs.Sound.{outside_of_tasks, IsSound}
 use Rattle.gomp_laws.proofs.Calls.{row_is_sound}
 use Rattle.gomp_laws.proofs.Places.{barriers_other, barriers_own}
 use Rattle.gomp_laws.proofs.Waiting.{has_arrived, some_arrived, covers_none, none_arrived}
-use Rattle.gomp_laws.proofs.Known.{Known, Passes, known_of, unrefused_step_passes, unrefused_step_is_ready}
+use Rattle.gomp_laws.proofs.Known.{Known, known_of, unrefused_step_passes, unrefused_step_is_ready}
 
 -- whether a call of the member that is not answered whole has arrived
 abbrev pub arrived_of : Waits → Bool

@@ -1,5 +1,5 @@
 -- What the parts of a team and its book of names and locks are asked together, and what they stand for after the reply. (own)
-use Rattle.std.specs.Prelude.{ℕ, ◌≡◌, Bool, true, false, List, Some, IsSome}
+use Rattle.std.specs.Prelude.{ℕ, ◌≡◌, true, false, List, Some, IsSome}
 use Rattle.gomp_types.specs.declared.call.Call.{Call}
 use Rattle.gomp_types.specs.declared.event.Event.{Event}
 use Rattle.gomp_types.specs.declared.refusal.Refusal.{Refusal}
