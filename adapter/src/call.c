@@ -88,6 +88,24 @@ static int hold_line(const struct call *call, int member, char line[LINE_SIZE])
                     *call->name != 0 ? " " : "", call->name);
 }
 
+static const char *cancel_word(enum cancel_kind kind)
+{
+    switch (kind) {
+    case CANCEL_LOOP: return "loop";
+    case CANCEL_SECTIONS: return "sections";
+    case CANCEL_TASKGROUP: return "taskgroup";
+    default: return "parallel";
+    }
+}
+
+static int cancel_line(const struct call *call, int member, char line[LINE_SIZE])
+{
+    const char *word = cancel_word(call->cancel.kind);
+    if (call->kind == CALL_POINT)
+        return snprintf(line, LINE_SIZE, "%d point %s\n", member, word);
+    return snprintf(line, LINE_SIZE, "%d cancel %s %d\n", member, word, call->cancel.clause);
+}
+
 // The line of a call that may have a depend clause.
 static size_t task_line(const struct call *call, int member, char line[CALL_LINE_SIZE])
 {
@@ -113,6 +131,8 @@ size_t call_line(const struct call *call, int member, char line[CALL_LINE_SIZE])
     case CALL_ORDERED: return (size_t)snprintf(line, LINE_SIZE, "%d ordered %ld\n", member, call->iteration);
     case CALL_TASK:
     case CALL_TASKWAIT: return task_line(call, member, line);
+    case CALL_CANCEL:
+    case CALL_POINT: return (size_t)cancel_line(call, member, line);
     case CALL_CRITICAL:
     case CALL_CRITICAL_END: return (size_t)hold_line(call, member, line);
     default:
@@ -142,6 +162,12 @@ static void critical_words(const struct call *call, struct text *text)
     text_add(text, "%s#pragma omp critical", call->kind == CALL_CRITICAL ? "" : "the end of ");
     if (*call->name != 0)
         text_add(text, " (%s)", call->name);
+}
+
+static void cancel_words(const struct call *call, struct text *text)
+{
+    const char *word = call->cancel.kind == CANCEL_LOOP ? "for" : cancel_word(call->cancel.kind);
+    text_add(text, "#pragma omp %s %s", call->kind == CALL_POINT ? "cancellation point" : "cancel", word);
 }
 
 static void lock_words(const struct call *call, struct text *text)
@@ -190,6 +216,8 @@ void call_words(const struct call *call, const struct call *share, struct text *
         break;
     case CALL_GROUP: text_add(text, "#pragma omp taskgroup"); break;
     case CALL_GROUP_END: text_add(text, "the end of #pragma omp taskgroup"); break;
+    case CALL_CANCEL:
+    case CALL_POINT: cancel_words(call, text); break;
     case CALL_CRITICAL:
     case CALL_CRITICAL_END: critical_words(call, text); break;
     case CALL_LOCK_INIT: text_add(text, "omp_init_lock"); break;
@@ -207,9 +235,11 @@ void call_words(const struct call *call, const struct call *share, struct text *
 }
 
 // A task's creation is answered `created`; that of an undeferred one `run`: of this task, or of another while
-// it waits for those that it depends on.
+// it waits for those that it depends on; both `dropped`.
 static bool may_be_answered_creation(const struct task *task, const struct reply *answer)
 {
+    if (answer->kind == REPLY_DROPPED)
+        return true;
     if (!task->is_undeferred)
         return answer->kind == REPLY_CREATED;
     return answer->kind == REPLY_RUN && answer->is_own == (answer->count == task->number);
@@ -220,6 +250,8 @@ static bool may_be_answered(const struct call *call, const struct reply *answer)
     enum reply_kind reply = answer->kind;
     if (answer->is_own && call->kind != CALL_TASK)
         return false;
+    if (reply == REPLY_CANCELLED) // others are not made when they could be answered so: see leave.c
+        return call->can_leave;
     switch (call->kind) {
     case CALL_LOOP:
     case CALL_LOOP_NEXT: return reply == REPLY_CHUNK || reply == REPLY_NONE;
@@ -234,6 +266,8 @@ static bool may_be_answered(const struct call *call, const struct reply *answer)
     case CALL_GROUP_END: return reply == REPLY_PASSED || reply == REPLY_RUN;
     case CALL_TASK: return may_be_answered_creation(call->task, answer);
     case CALL_TASK_END: return reply == REPLY_TASK_DONE;
+    case CALL_CANCEL:
+    case CALL_POINT: return reply == REPLY_CANCELLING;
     case CALL_LOCK_INIT:
     case CALL_NEST_INIT: return reply == REPLY_LOCK && answer->count < NO_LOCK;
     case CALL_TEST: return reply == REPLY_GOT;
@@ -296,6 +330,10 @@ static struct reply read_reply(const char *line)
         {"wait", REPLY_WAIT, 0},
         {"got yes", REPLY_GOT, 1},
         {"got no", REPLY_GOT, 0},
+        {"cancel yes", REPLY_CANCELLING, 1},
+        {"cancel no", REPLY_CANCELLING, 0},
+        {"cancelled", REPLY_CANCELLED, 0},
+        {"dropped", REPLY_DROPPED, 0},
     };
     static const struct {
         const char *word;

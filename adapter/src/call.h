@@ -32,6 +32,8 @@ enum call_kind {
     CALL_TASKWAIT,
     CALL_GROUP,
     CALL_GROUP_END,
+    CALL_CANCEL,
+    CALL_POINT,
     CALL_CRITICAL,
     CALL_CRITICAL_END,
     CALL_LOCK_INIT,
@@ -67,12 +69,22 @@ struct lock_name {
 };
 #define NO_LOCK UINT32_MAX // the engine gives this number to no lock
 
+// What a cancel construct or a cancellation point names. The numbers are those of libgomp, which GOMP_cancel is
+// given.
+enum cancel_kind { CANCEL_PARALLEL = 1, CANCEL_LOOP = 2, CANCEL_SECTIONS = 4, CANCEL_TASKGROUP = 8 };
+
+struct cancel {
+    enum cancel_kind kind;
+    bool clause; // of a cancel construct: its `if` clause
+};
+
 struct task;
 
 struct call {
     enum call_kind kind;
     void *address;       // where in the program it returns to
     struct items *items; // of its depend clause, NULL for none; they stand up to the reply
+    bool can_leave;      // of a barrier: the compiled code can go from here to the end of a cancelled region
     union {
         struct loop loop;
         unsigned sections;
@@ -80,6 +92,7 @@ struct call {
         unsigned long word; // what a single hands to the other members
         const char *name;   // of a critical region, empty if it has none
         struct lock_name lock;
+        struct cancel cancel;
         struct task *task; // that is created or ended; it stands up to the reply
     };
 };
@@ -98,6 +111,10 @@ enum reply_kind {
     REPLY_CREATED,
     REPLY_RUN,
     REPLY_TASK_DONE,
+    REPLY_CANCELLING,
+    REPLY_CANCELLED,
+    REPLY_DROPPED,
+    REPLY_SKIPPED, // by the adapter, in a cancelled region: the engine is not asked
     REPLY_WAIT,
     REPLY_REFUSED,
     REPLY_UNKNOWN

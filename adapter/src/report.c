@@ -43,12 +43,14 @@ static const struct meaning faults[] = {
     {11, "the member is in a critical region, in which this may not be met"},
     {12, "the loop's step is 0"},
     {13, "the chunk is negative, or above 2^39"},
+    {16, "the loop may be cancelled, and is ordered"},
     {17, "the construct ends otherwise than it began"},
     {18, "the member left before nothing was left to do"},
     {19, "the member asked again though nothing was left"},
     {20, "the loop has no ordered clause"},
     {21, "an ordered part comes twice in an iteration, or not in the order of the iterations"},
     {22, "no such part is open"},
+    {23, "the work-share may not be cancelled"},
     {24, "the task has no taskgroup open"},
     {25, "the task has a taskgroup open"},
     {31, "the thread does not hold this lock"},
@@ -79,6 +81,8 @@ static const char *fault_of(const struct team *team, const struct call *call, in
 {
     if (refused == 30)
         return meaning_of_held(call);
+    if (refused == 24 && (call->kind == CALL_CANCEL || call->kind == CALL_POINT))
+        return "the task is in no taskgroup";
     if (refused == 31 && team->tasks_made.count > 0)
         return "the task does not hold this lock: the task that sets a lock unsets it, and no other";
     return meaning_of(faults, refused);
@@ -222,6 +226,8 @@ _Noreturn void report_refusal(struct team *team, int number, const struct call *
     char name[LINE_SIZE];
     snprintf(name, sizeof name, "%s", refusal + strlen("refused "));
     int refused = atoi(name + 1);
+    if (refused == 5)
+        end_by_fault("the adapter asked for what a member may not do that leaves: '%s'", name);
     const char *limit = meaning_of(limits, refused);
     const char *fault = fault_of(team, call, refused);
     claim_end();
@@ -243,7 +249,8 @@ _Noreturn void report_deadlock(struct team *team)
 {
     static struct text text;
     claim_end();
-    text_add(&text, "dillbeam: deadlock: all %d members of a team wait, and none can go on\n", team->size);
+    text_add(&text, "dillbeam: deadlock: all %d members of a team wait%s, and none can go on\n", team->size,
+             team->is_cancelled ? ", in a region that is cancelled" : "");
     add_members(team, -1, &text);
     end_with(STATUS_STUCK, &text);
 }

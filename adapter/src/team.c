@@ -23,12 +23,17 @@
 // - A task's end lets pass the taskwait of the task that created it, and taskgroups' ends. A barrier that
 //   waits for tasks is passed by whoever ended the last one: it is at the barrier itself, asks again for
 //   itself, and then for the others.
+// - A cancellation lets pass who waits for tasks that are discarded by it. In a region that is cancelled each
+//   call asks for all whose calls are not too early (leave.c), and each reply that wakes one asks again. A call
+//   that is too early is not made yet: its member waits as one that was answered `wait`.
 // - The semaphore counts: a reply that comes before the member sleeps is not lost.
 // Were that list too short, the team would not hang in silence: when all members wait, each asks once more,
-// and only if all are answered `wait` again is a deadlock named.
+// and only if all are answered `wait` again is a deadlock named. In a cancelled region one of them may go on
+// then.
 #define _GNU_SOURCE
 #include "team.h"
 
+#include "leave.h"
 #include "memory.h"
 #include "message.h"
 #include "record.h"
@@ -151,12 +156,13 @@ static void note_free(struct member *member, const struct call *call)
 static void note_reply(struct team *team, struct member *member, const struct call *call,
                        const struct reply *reply)
 {
+    leave_note(team, member, call, reply);
     if (gives_hold(call, reply))
         note_hold(member, call);
     if (frees_hold(call, reply))
         note_free(member, call);
-    tasks_made_note(&team->tasks_made, &member->task, reply);
-    if (reply->kind == REPLY_RUN)
+    tasks_made_note(&team->tasks_made, &member->task, call, reply);
+    if (reply->kind == REPLY_RUN || reply->kind == REPLY_CANCELLED)
         return;
     switch (call->kind) {
     case CALL_LOOP:
@@ -172,11 +178,23 @@ static void note_reply(struct team *team, struct member *member, const struct ca
     case CALL_SECTIONS_END:
     case CALL_SINGLE_COPY_END: member->inside = false; break;
     case CALL_BARRIER:
-    case CALL_BARRIER_OF_SHARE: member->barriers++; break;
+    case CALL_BARRIER_OF_SHARE:
+        member->barriers++;
+        member->has_copies = false;
+        break;
     case CALL_GROUP: member->groups++; break;
     case CALL_GROUP_END: member->groups--; break;
     default: break;
     }
+}
+
+static void wake(struct team *team, struct member *member, struct reply reply)
+{
+    member->reply = reply;
+    member->wait = WAIT_NOT;
+    member->is_unasked = false;
+    team->waiting--;
+    sem_post(&member->answered);
 }
 
 // Takes the reply to a member's `resume`, and wakes the member if it may go on, or is to execute a task.
@@ -185,27 +203,42 @@ static bool receive_again(struct team *team, int number)
 {
     struct member *member = &team->members[number];
     struct reply reply = receive(team, number, &member->last);
+    member->is_unasked = false;
     if (reply.kind == REPLY_WAIT)
         return false;
     note_reply(team, member, &member->last, &reply);
-    member->reply = reply;
-    member->wait = WAIT_NOT;
-    team->waiting--;
-    sem_post(&member->answered);
+    wake(team, member, reply);
     return true;
+}
+
+// Whether it is too early to ask for a member (leave.c), unless it is asked whether all are stuck.
+static bool waits_for_later(const struct team *team, int number, unsigned let)
+{
+    return let != WAIT_ANY && leave_is_too_early(team, number, &team->members[number].last);
+}
+
+// Writes the line that asks for a member which waits: again, or for the first time.
+static size_t question(const struct member *member, int number, char line[LINE_SIZE])
+{
+    if (!member->is_unasked)
+        return (size_t)snprintf(line, LINE_SIZE, "%d resume\n", number);
+    char call[CALL_LINE_SIZE];
+    size_t length = call_line(&member->last, number, call);
+    memcpy(line, call, length); // it is a work-share's or a barrier's, which are short
+    return length;
 }
 
 // Asks once more for each member that waits for one of these, in one write. Answers whom the replies let pass
 // in turn.
 static unsigned ask_again(struct team *team, unsigned let)
 {
-    char lines[MOST_MEMBERS * 16];
+    char lines[MOST_MEMBERS * LINE_SIZE];
     int asked[MOST_MEMBERS], count = 0;
     size_t length = 0;
     for (int number = 0; number < team->size; number++)
-        if (team->members[number].wait & let) {
+        if (team->members[number].wait & let && !waits_for_later(team, number, let)) {
             asked[count++] = number;
-            length += (size_t)snprintf(lines + length, sizeof lines - length, "%d resume\n", number);
+            length += question(&team->members[number], number, lines + length);
         }
     if (count > 0)
         send_lines(team, lines, length);
@@ -219,12 +252,41 @@ static unsigned ask_again(struct team *team, unsigned let)
     return let_in_turn;
 }
 
-// Asks once more for one member. Answers whether it is woken.
+// Asks for one member. Answers whether it is woken.
 static bool ask_one(struct team *team, int number)
 {
     char line[LINE_SIZE];
-    send_lines(team, line, (size_t)snprintf(line, sizeof line, "%d resume\n", number));
+    send_lines(team, line, question(&team->members[number], number, line));
     return receive_again(team, number);
+}
+
+static bool are_all_at_end(const struct team *team)
+{
+    for (int number = 0; number < team->size; number++)
+        if (team->members[number].last.kind != CALL_REGION_END)
+            return false;
+    return true;
+}
+
+// The same in a cancelled region, one after another: who is woken may make it time for another. The region's end
+// is passed once all are there.
+static unsigned ask_cancelled(struct team *team, unsigned let)
+{
+    bool is_some_woken = false, is_end = are_all_at_end(team);
+    for (int number = 0; number < team->size; number++) {
+        struct member *member = &team->members[number];
+        bool is_early =
+            leave_is_too_early(team, number, &member->last) || (member->last.kind == CALL_REGION_END && !is_end);
+        if (!(member->wait & let))
+            continue;
+        if (member->is_unasked && leave_is_hopeless(team, number, &member->last)) {
+            wake(team, member, (struct reply){.kind = REPLY_SKIPPED});
+            is_some_woken = true;
+        } else if (!is_early && ask_one(team, number)) {
+            is_some_woken = true;
+        }
+    }
+    return is_some_woken ? WAIT_IN_CANCELLED : WAIT_NOT;
 }
 
 // The member that waits longest for one of these, of those whose wait began after another; -1 if there is
@@ -259,7 +321,7 @@ static bool hand_on(struct team *team, unsigned let, const struct call *freed)
 static void let_others_pass(struct team *team, unsigned let)
 {
     while (let != WAIT_NOT && team->waiting > 0)
-        let = ask_again(team, let);
+        let = team->is_cancelled ? ask_cancelled(team, let) : ask_again(team, let);
 }
 
 // Who waits at a barrier is asked first, since it may begin any task; if it has to wait, so have the others
@@ -267,6 +329,8 @@ static void let_others_pass(struct team *team, unsigned let)
 static bool offer_task(struct team *team)
 {
     int first = next_waiter(team, WAIT_ARRIVAL, NULL, 0);
+    if (team->is_cancelled) // there are no more tasks to be begun
+        return false;
     if (first >= 0 && ask_one(team, first))
         return true;
     return hand_on(team, WAIT_CHILDREN | WAIT_GROUP, NULL);
@@ -308,9 +372,23 @@ static void wake_others(struct team *team, const struct call *call, const struct
         offer_freed(team);
     } else if (reply->kind == REPLY_CREATED) {
         offer_task(team);
-    } else {
+    } else if (call->kind == CALL_CANCEL && reply->count != 0) { // the task's end offers what it frees
+        let_others_pass(team, WAIT_CHILDREN | WAIT_GROUP);
+    } else if (!team->is_cancelled) {
         let_others_pass(team, lets_pass(call, reply));
     }
+    if (team->is_cancelled)
+        let_others_pass(team, WAIT_IN_CANCELLED);
+}
+
+// Where all members of a cancelled region wait: ends the wait of one that nothing else would end.
+static void skip_one(struct team *team)
+{
+    int number = team->waiting == team->size ? leave_last_resort(team) : -1;
+    if (number < 0)
+        return;
+    team->members[number].is_stranded |= team->members[number].last.kind == CALL_LOOP_NEXT;
+    wake(team, &team->members[number], (struct reply){.kind = REPLY_SKIPPED});
 }
 
 static struct reply wait_for_reply(struct team *team, int number, const struct call *call)
@@ -319,10 +397,15 @@ static struct reply wait_for_reply(struct team *team, int number, const struct c
     member->wait = waits_for(call);
     member->since = ++team->waits;
     team->waiting++;
+    if (team->is_cancelled)
+        let_others_pass(team, WAIT_IN_CANCELLED);
     if (team->waiting == team->size) {
         let_others_pass(team, WAIT_ANY);
-        if (team->waiting == team->size)
+        skip_one(team);
+        if (team->waiting == team->size) {
+            leave_end_if_stuck(team);
             report_deadlock(team);
+        }
     }
     pthread_mutex_unlock(&team->lock);
     while (sem_wait(&member->answered) != 0)
@@ -347,13 +430,27 @@ static struct reply make_step(struct team *team, int number, const struct call *
     send_lines(team, line, length);
     struct reply reply = receive(team, number, call);
     member->last = *call;
-    if (reply.kind == REPLY_WAIT)
+    if (reply.kind == REPLY_WAIT) {
+        tasks_made_note(&team->tasks_made, &member->task, call, &reply);
         return wait_for_reply(team, number, call);
+    }
     note_reply(team, member, call, &reply);
     locks_made_note(&team->locks_made, call, &reply);
     wake_others(team, call, &reply);
     pthread_mutex_unlock(&team->lock);
     return reply;
+}
+
+// Whether a call comes too early (leave.c). It is then the one that the member waits with.
+static bool comes_too_early(struct team *team, int number, const struct call *call)
+{
+    struct member *member = &team->members[number];
+    if (call->kind == CALL_BARRIER || call->kind == CALL_BARRIER_OF_SHARE)
+        member->is_copying = false;
+    if (!leave_is_too_early(team, number, call))
+        return false;
+    member->last = *call;
+    return true;
 }
 
 // Makes a member's call and answers its reply, which is not `wait`. After `run` and the end of that task the
@@ -368,6 +465,14 @@ struct reply team_call(struct team *team, int number, const struct call *call)
         tasks_made_add(&team->tasks_made, call, team->record);
     if (call->items != NULL)
         items_number(call->items, &team->tasks_made.addresses);
+    if (leave_is_hopeless(team, number, call)) {
+        pthread_mutex_unlock(&team->lock);
+        return (struct reply){.kind = REPLY_SKIPPED};
+    }
+    if (comes_too_early(team, number, call)) {
+        team->members[number].is_unasked = true;
+        return wait_for_reply(team, number, call);
+    }
     return make_step(team, number, call, line, call_line(call, number, line));
 }
 
@@ -377,6 +482,8 @@ struct reply team_resume(struct team *team, int number, const struct call *call)
     char line[LINE_SIZE];
     pthread_mutex_lock(&team->lock);
     size_t length = (size_t)snprintf(line, sizeof line, "%d resume\n", number);
+    if (comes_too_early(team, number, call))
+        return wait_for_reply(team, number, call);
     return make_step(team, number, call, line, length);
 }
 
@@ -393,6 +500,7 @@ static void begin(struct team *team, int size)
     team->size = size;
     team->waiting = 0;
     team->in_use = true;
+    team->is_cancelled = team->has_cancelled = false;
     team->number = atomic_fetch_add(&teams_begun, 1) + 1;
     team->record = record_open();
     team->locks_made.recorded = false;
@@ -400,7 +508,8 @@ static void begin(struct team *team, int size)
         struct member *member = &team->members[number];
         member->thread = 0;
         member->last.kind = member->share.kind = CALL_NONE;
-        member->inside = false;
+        member->inside = member->is_leaving = member->is_unasked = false;
+        member->has_copies = member->is_copying = member->is_stranded = false;
         member->shares = member->barriers = 0;
         member->task = NULL;
         member->groups = 0;

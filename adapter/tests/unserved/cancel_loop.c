@@ -1,4 +1,4 @@
-// GOMP_cancel: cancellation of a loop, which OMP_CANCELLATION turns on.
+// #pragma omp cancel for: a loop is cancelled, which OMP_CANCELLATION turns on.
 // environment: OMP_CANCELLATION=true
 #include "../check.h"
 

@@ -206,7 +206,7 @@ not_the_next g = grind (arith, nat_tests)
 
 -- the seats when the second member is ahead
 first_stands : SeatStands front_between 0 0 seat_behind second_ahead
-first_stands = record { passed_is = refl; here = refl; behind = λ g below. absurd (omega arith); beyond = not_later; left_is = refl }
+first_stands = record { passed_is = refl; here = refl; behind = λ g below. absurd (omega arith); beyond = not_later; left_is = refl; gone_is = λ e. absurd (cc) }
   where
     not_later : (g : ℕ) → 0 < g → arrival g 0 second_ahead ≡ None
     not_later zero below = absurd (omega arith)
@@ -214,7 +214,7 @@ first_stands = record { passed_is = refl; here = refl; behind = λ g below. absu
     not_later (suc (suc g)) below = rw (not_the_first g, not_the_next g) refl
 
 second_stands : SeatStands front_between 0 1 seat_ahead second_ahead
-second_stands = record { passed_is = refl; here = refl; behind = only_zero (λ g. is_some (arrival g 1 second_ahead) ≡ true) refl; beyond = not_later; left_is = refl }
+second_stands = record { passed_is = refl; here = refl; behind = only_zero (λ g. is_some (arrival g 1 second_ahead) ≡ true) refl; beyond = not_later; left_is = refl; gone_is = λ e. absurd (cc) }
   where
     not_later : (g : ℕ) → 1 < g → arrival g 1 second_ahead ≡ None
     not_later zero below = absurd (omega arith)
@@ -313,7 +313,7 @@ two_seats P a b first second (suc (suc m)) seat at = absurd (cc)
 no_tasks_stand : (h : List Event) → tasks_created h ≡ 0 → ((t : ℕ) → is_complete t h ≡ false) → TasksStand no_tasks 0 h
 no_tasks_stand h none never = record {
   counted = λ odd. open_none_yet odd;
-  near = λ t is. absurd (let low = created_low t h is.0 in let high = created_high t h is.0 in omega (arith, low, high, none));
+  near = λ whole t is. absurd (let low = created_low t h is.0 in let high = created_high t h is.0 in omega (arith, low, high, none));
   unborn = λ t lt. never t;
 }
   where
@@ -328,9 +328,10 @@ barriers_stand = record {
   tasks = no_tasks_stand second_ahead refl (λ t. refl);
   barrier = record { parity = refl; number = refl; tag = refl; next = refl; beyond = front_stands.beyond; seat = two_seats (λ m seat. SeatStands front_between 0 m seat second_ahead) seat_behind seat_ahead first_stands second_stands };
   behind = first_is_behind;
+  cancelled = refl;
   rule = (
-    record { number = refl; same = λ other at. absurd (cc) },
-    (record { number = refl; met = refl }, (record { number = refl; same = λ other at. cc }, (record { number = refl; same = λ other at. absurd (cc) }, tt))),
+    record { number = refl; same = λ whole other at. absurd (cc); ends = λ on. absurd (cc) },
+    (record { number = refl; met = refl }, (record { number = refl; same = λ whole other at. cc; ends = λ on. absurd (cc) }, (record { number = refl; same = λ whole other at. absurd (cc); ends = λ on. absurd (cc) }, tt))),
   );
 }
 
@@ -348,7 +349,7 @@ barriers_all_passed stands = nobody_is_behind stands.behind
 
 -- members that arrived with two tags
 pub barriers_of_two_tags : Stands (barriers_with (seat_behind ∷ seat_with false (Some at_end_tag) false ∷ []) (front_with false 0 (Some at_end_tag) None) no_tasks) (Arrive 0 1 at_end_tag ∷ Arrive 0 0 at_barrier_tag ∷ []) → ⊥
-barriers_of_two_tags stands = absurd (let same = ap (λ (tag : Tag). tag.kind) (stands.rule.0.same at_barrier_tag refl) in cc)
+barriers_of_two_tags stands = absurd (let same = ap (λ (tag : Tag). tag.kind) (stands.rule.0.same refl at_barrier_tag refl) in cc)
 
 -- a member that passed alone
 pub barriers_passed_alone : Stands (barriers_with (seat_with true None false ∷ new_seat ∷ []) (front_with false 0 (Some at_barrier_tag) None) no_tasks) (Pass 0 0 ∷ Arrive 0 0 at_barrier_tag ∷ []) → ⊥

@@ -1,17 +1,18 @@
 -- The counts of open tasks stay in step with the events.
 use Rattle.std.proofs.Common.{◌≡◌, ℕ, ◌+◌, ◌<◌, ◌≤◌, Bool, true, false, not, List, ◌∷◌, refl, ap, ◌∙◌, sym, subst, arith, suc, zero, inl, inr}
-use Rattle.std.specs.Prelude.{◌==◌, ◌&&◌, ◌||◌, nat_le, nat_lt, if◌then◌else◌}
+use Rattle.std.specs.Prelude.{◌==◌, ◌&&◌, nat_le, nat_lt, if◌then◌else◌}
 use Rattle.std.proofs.lemmas.Bool.{cases_Bool, cases_lt}
 use Rattle.std.proofs.lemmas.Bool.Decides.{nat_tests}
 use Rattle.gomp_types.specs.declared.task.Task.{Task}
 use Rattle.gomp_types.specs.declared.task.Task.TheVariants.{Implicit, Explicit}
 use Rattle.gomp_types.specs.declared.task.TaskDesc.{TaskDesc}
 use Rattle.gomp_types.specs.declared.event.Event.{Event}
-use Rattle.gomp_types.specs.declared.event.Event.TheVariants.{Create, Done}
+use Rattle.gomp_types.specs.declared.event.Event.TheVariants.{Create, Done, Discard}
+use Rattle.gomp_types.specs.Cancels.{is_cancelled}
 use Rattle.gomp_types.specs.Tasks.{tasks_created, is_created, is_complete, all_complete, epoch, epoch_of_child, how_many, open_tasks, is_odd}
 use Rattle.gomp_types.specs.Goals.{bound_complete}
-use Rattle.gomp_types.proofs.Booleans.{and_false, same_number, other_number, is_equal}
-use Rattle.gomp_types.proofs.OpenTasks.{how_many_same, none_counted, created_low, created_high, open_done, open_done_other, open_created, closed_all, all_closed}
+use Rattle.gomp_types.proofs.Booleans.{and_false, or_false, same_number, other_number, is_equal}
+use Rattle.gomp_types.proofs.OpenTasks.{how_many_same, none_counted, created_low, created_high, open_done, open_done_other, open_discard, open_discard_other, open_created, closed_all, all_closed}
 use Rattle.gomp_types.proofs.LaterTasks.{old_created}
 use Rattle.gomp_barrier.specs.declared.bound.BoundTasks.{BoundTasks}
 use Rattle.gomp_barrier.specs.Calls.{IsOpen, MayBind, MayRelease}
@@ -50,21 +51,21 @@ which_near least n low high =
 is_made : (t : ℕ) (h : List Event) → 0 < t → t ≤ tasks_created h → is_created t h ≡ true
 is_made t h low high = rw (let e : nat_lt 0 t ≡ true = grind (arith, nat_tests, low) in e) (grind (arith, nat_tests, high))
 
--- the open tasks that are bound to the front have its parity
-bound_open : (tasks : BoundTasks) (least : ℕ) (h : List Event) → TasksStand tasks least h → open_tasks (λ t. nat_le (epoch t h) least) h ≡ bound_count tasks (is_odd least)
-bound_open tasks least h st =
+-- the open tasks that are bound to the front have its parity, while the region is not cancelled
+bound_open : (tasks : BoundTasks) (least : ℕ) (h : List Event) → is_cancelled h ≡ false → TasksStand tasks least h → open_tasks (λ t. nat_le (epoch t h) least) h ≡ bound_count tasks (is_odd least)
+bound_open tasks least h whole st =
     how_many_same (tasks_created h) (λ t. nat_le (epoch t h) least && not (is_complete t h)) (λ t. of_parity (is_odd least) (epoch t h) && not (is_complete t h)) (λ t low high.
     elim (cases_Bool (is_complete t h)) [
       | inl done ↦ rw done (and_false (nat_le (epoch t h) least) false refl ∙ sym (and_false (of_parity (is_odd least) (epoch t h)) false refl))
-      | inr not_done ↦ let near = st.near t (is_made t h low high, not_done) in ap (λ (b : Bool). b && not (is_complete t h)) (which_near least (epoch t h) near.0 near.1)
+      | inr not_done ↦ let near = st.near whole t (is_made t h low high, not_done) in ap (λ (b : Bool). b && not (is_complete t h)) (which_near least (epoch t h) near.0 near.1)
     ])
     ∙ st.counted (is_odd least)
 
-pub front_complete : (tasks : BoundTasks) (least : ℕ) (h : List Event) → TasksStand tasks least h → bound_count tasks (is_odd least) ≡ 0 → bound_complete least h ≡ true
-front_complete tasks least h st none = all_closed (λ t. nat_le (epoch t h) least) h (bound_open tasks least h st ∙ none)
+pub front_complete : (tasks : BoundTasks) (least : ℕ) (h : List Event) → is_cancelled h ≡ false → TasksStand tasks least h → bound_count tasks (is_odd least) ≡ 0 → bound_complete least h ≡ true
+front_complete tasks least h whole st none = all_closed (λ t. nat_le (epoch t h) least) h (bound_open tasks least h whole st ∙ none)
 
-pub front_closed : (tasks : BoundTasks) (least : ℕ) (h : List Event) → TasksStand tasks least h → bound_complete least h ≡ true → bound_count tasks (is_odd least) ≡ 0
-front_closed tasks least h st all = sym (bound_open tasks least h st) ∙ closed_all (λ t. nat_le (epoch t h) least) h all
+pub front_closed : (tasks : BoundTasks) (least : ℕ) (h : List Event) → is_cancelled h ≡ false → TasksStand tasks least h → bound_complete least h ≡ true → bound_count tasks (is_odd least) ≡ 0
+front_closed tasks least h whole st all = sym (bound_open tasks least h whole st) ∙ closed_all (λ t. nat_le (epoch t h) least) h all
 
 -- all open tasks are those of both parities
 split_count : (n : ℕ) (odd all : ℕ → Bool) → how_many n all ≡ how_many n (λ t. odd t && all t) + how_many n (λ t. not (odd t) && all t)
@@ -98,12 +99,12 @@ pub tasks_closed : (tasks : BoundTasks) (least : ℕ) (h : List Event) → Tasks
 tasks_closed tasks least h st odd all = let both = all_open tasks least h st odd in let none = closed_all (λ t. true) h all in omega (arith, both, none)
 
 -- once none is bound to the front, each is near the barrier after it
-pub tasks_move_on : (tasks : BoundTasks) (least : ℕ) (h : List Event) → TasksStand tasks least h → bound_count tasks (is_odd least) ≡ 0 → TasksStand tasks (least + 1) h
-tasks_move_on tasks least h st none = record {
+pub tasks_move_on : (tasks : BoundTasks) (least : ℕ) (h : List Event) → is_cancelled h ≡ false → TasksStand tasks least h → bound_count tasks (is_odd least) ≡ 0 → TasksStand tasks (least + 1) h
+tasks_move_on tasks least h whole st none = record {
   counted = st.counted;
-  near = λ t is.
-      let near = st.near t is in
-      let closed = none_counted (tasks_created h) (λ u. nat_le (epoch u h) least && not (is_complete u h)) (bound_open tasks least h st ∙ none) t (created_low t h is.0) (created_high t h is.0) in
+  near = λ still t is.
+      let near = st.near whole t is in
+      let closed = none_counted (tasks_created h) (λ u. nat_le (epoch u h) least && not (is_complete u h)) (bound_open tasks least h whole st ∙ none) t (created_low t h is.0) (created_high t h is.0) in
       let off : nat_le (epoch t h) least ≡ false = by (nat_le (epoch t h) least) (rw is.1 at closed) in
       (grind (arith, nat_tests, off), let high = near.1 in omega (arith, high));
   unborn = st.unborn;
@@ -131,15 +132,15 @@ count_more tasks false true n e = rw (← e) refl
 count_more tasks false false n e = rw (← e) refl
 
 pub bind_keeps : (tasks : BoundTasks) (least members task member : ℕ) (parent : Task) (desc : TaskDesc) (odd : Bool) (h : List Event) → TasksStand tasks least h → MayBind members task parent odd h →
-    (least ≤ epoch_of_child parent h) × (epoch_of_child parent h ≤ least + 1) → TasksStand (one_more tasks odd) least (Create task member parent desc ∷ h)
+    (is_cancelled h ≡ false → (least ≤ epoch_of_child parent h) × (epoch_of_child parent h ≤ least + 1)) → TasksStand (one_more tasks odd) least (Create task member parent desc ∷ h)
 bind_keeps tasks least members task member parent desc odd h st may near = record {
   counted = λ own. subst (λ (t : ℕ). open_bound own (Create t member parent desc ∷ h) ≡ bound_count (one_more tasks odd) own) (sym may.number) (at own);
-  near = λ t is.
+  near = λ whole t is.
       elim (cases_Bool (task == t)) [
         | inl new ↦
             let e : epoch t (Create task member parent desc ∷ h) ≡ epoch_of_child parent h = subst (λ (u : ℕ). epoch u (Create task member parent desc ∷ h) ≡ epoch_of_child parent h) (is_equal task t new) (epoch_of_new task member parent desc h) in
-            rw e near
-        | inr old ↦ rw (epoch_of_old t task member parent desc h old) (st.near t (old_created t task h may.number old is.0, is.1))
+            rw e (near whole)
+        | inr old ↦ rw (epoch_of_old t task member parent desc h old) (st.near whole t (old_created t task h may.number old is.0, is.1))
       ];
   unborn = λ t lt. st.unborn t (omega (arith, lt));
 }
@@ -171,16 +172,30 @@ released_count own task member h is =
 pub release_keeps : (tasks : BoundTasks) (least task member : ℕ) (odd : Bool) (h : List Event) → TasksStand tasks least h → MayRelease task odd h → TasksStand (one_less tasks odd) least (Done task member ∷ h)
 release_keeps tasks least task member odd h st may = record {
   counted = λ own. count_less tasks odd own (epoch task h) (open_bound own (Done task member ∷ h)) may.parity (sym (st.counted own) ∙ released_count own task member h may.is_open);
-  near = λ t is. st.near t (is.0, or_false (task == t) (is_complete t h) is.1);
+  near = λ whole t is. st.near whole t (is.0, or_false (task == t) (is_complete t h) is.1);
   unborn = λ t lt.
       let high = created_high task h may.is_open.0 in
       let other : (task == t) ≡ false = other_number task t (λ same. omega (arith, high, lt, same)) in
       rw other (st.unborn t lt);
 }
-  where
-    or_false : (b c : Bool) → (b || c) ≡ false → c ≡ false
-    or_false true c e = absurd (cc)
-    or_false false c e = e
+
+-- so is it if it is discarded
+discarded_count : (own : Bool) (task member : ℕ) (h : List Event) → IsOpen task h → open_bound own h ≡ (if of_parity own (epoch task h) then open_bound own (Discard task member ∷ h) + 1 else open_bound own (Discard task member ∷ h))
+discarded_count own task member h is =
+    elim (cases_Bool (of_parity own (epoch task h))) [
+      | inl counted ↦ rw counted (open_discard (λ t. of_parity own (epoch t h)) task member h is.0 counted is.1)
+      | inr not_counted ↦ rw not_counted (open_discard_other (λ t. of_parity own (epoch t h)) task member h not_counted)
+    ]
+
+pub discard_keeps : (tasks : BoundTasks) (least task member : ℕ) (odd : Bool) (h : List Event) → TasksStand tasks least h → MayRelease task odd h → TasksStand (one_less tasks odd) least (Discard task member ∷ h)
+discard_keeps tasks least task member odd h st may = record {
+  counted = λ own. count_less tasks odd own (epoch task h) (open_bound own (Discard task member ∷ h)) may.parity (sym (st.counted own) ∙ discarded_count own task member h may.is_open);
+  near = λ whole t is. st.near whole t (is.0, or_false (task == t) (is_complete t h) is.1);
+  unborn = λ t lt.
+      let high = created_high task h may.is_open.0 in
+      let other : (task == t) ≡ false = other_number task t (λ same. omega (arith, high, lt, same)) in
+      rw other (st.unborn t lt);
+}
 
 -- The counts have room
 

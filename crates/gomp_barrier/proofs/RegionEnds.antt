@@ -4,29 +4,33 @@ use Rattle.std.specs.Prelude.{◌==◌, ◌&&◌, ◌||◌, Option, is_some}
 use Rattle.std.proofs.lemmas.Bool.{cases_Bool}
 use Rattle.gomp_types.specs.declared.event.Tag.{Tag}
 use Rattle.gomp_types.specs.declared.event.Event.{Event}
-use Rattle.gomp_types.specs.declared.event.Event.TheVariants.{Arrive, Pass}
+use Rattle.gomp_types.specs.declared.event.Event.TheVariants.{Arrive, Pass, Cancel}
+use Rattle.gomp_types.specs.declared.event.Arrival.TheVariants.{RegionEnd}
+use Rattle.gomp_types.specs.Cancels.{is_cancelled}
 use Rattle.gomp_types.specs.Events.{barriers_passed, arrival, tag_at, at_barrier, is_region_end, was_region_end, at_region_end, has_left_region}
 use Rattle.gomp_types.specs.Laws.{Always}
 use Rattle.gomp_types.specs.Arrivals.{ArrivalRule}
+use Rattle.gomp_types.proofs.ArrivalsKeep.{uncancelled_before}
 use Rattle.gomp_types.proofs.Booleans.{which_branch, and_left, and_right, and_false, or_tells, or_right, is_equal, same_number}
 
--- a later arrival has the barrier's tag
-tag_kept : (members g : ℕ) (tag : Tag) (barrier member : ℕ) (other : Tag) (earlier : List Event) → ArrivalRule members (Arrive barrier member other) earlier → tag_at g earlier ≡ Some tag → tag_at g (Arrive barrier member other ∷ earlier) ≡ Some tag
-tag_kept members g tag barrier member other earlier rule at =
+-- a later arrival has the barrier's tag, while the region is not cancelled
+tag_kept : (members g : ℕ) (tag : Tag) (barrier member : ℕ) (other : Tag) (earlier : List Event) → is_cancelled earlier ≡ false → ArrivalRule members (Arrive barrier member other) earlier → tag_at g earlier ≡ Some tag → tag_at g (Arrive barrier member other ∷ earlier) ≡ Some tag
+tag_kept members g tag barrier member other earlier whole rule at =
     elim (cases_Bool (barrier == g)) [
-      | inl here ↦ rw here (let same : tag ≡ other = rule.same tag (rw (is_equal barrier g here) at) in rw same refl)
+      | inl here ↦ rw here (let same : tag ≡ other = rule.same whole tag (rw (is_equal barrier g here) at) in rw same refl)
       | inr away ↦ rw away at
     ]
 
 -- so every arrival has it
-arrival_tag : (members g m : ℕ) (tag : Tag) (h : List Event) → Always (ArrivalRule members) h → arrival g m h ≡ Some tag → tag_at g h ≡ Some tag
-arrival_tag members g m tag [] all at = absurd (cc)
-arrival_tag members g m tag (Arrive barrier member other ∷ earlier) all at =
+arrival_tag : (members g m : ℕ) (tag : Tag) (h : List Event) → is_cancelled h ≡ false → Always (ArrivalRule members) h → arrival g m h ≡ Some tag → tag_at g h ≡ Some tag
+arrival_tag members g m tag [] whole all at = absurd (cc)
+arrival_tag members g m tag (Arrive barrier member other ∷ earlier) whole all at =
     elim (which_branch (barrier == g && member == m) (Some other) (arrival g m earlier) (Some tag) at) [
       | inl own ↦ rw (and_left (barrier == g) (member == m) own.0) own.1
-      | inr old ↦ tag_kept members g tag barrier member other earlier all.0 (arrival_tag members g m tag earlier all.1 old.1)
+      | inr old ↦ tag_kept members g tag barrier member other earlier whole all.0 (arrival_tag members g m tag earlier whole all.1 old.1)
     ]
-arrival_tag members g m tag (_ ∷ earlier) all at = arrival_tag members g m tag earlier all.1 at
+arrival_tag members g m tag (Cancel member scope ∷ earlier) whole all at = arrival_tag members g m tag earlier (uncancelled_before (Cancel member scope) earlier whole) all.1 at
+arrival_tag members g m tag (_ ∷ earlier) whole all at = arrival_tag members g m tag earlier whole all.1 at
 
 -- a member arrives at no barrier after its next one
 none_beyond : (members g m : ℕ) (h : List Event) → Always (ArrivalRule members) h → barriers_passed m h < g → arrival g m h ≡ None
@@ -94,10 +98,14 @@ or_passed false false = refl
 still_end : (members m barrier member : ℕ) (tag : Tag) (h : List Event) (own : Option Tag) → ArrivalRule members (Arrive barrier member tag) h → Always (ArrivalRule members) h → (member == m) ≡ true → arrival (barriers_passed m h) m h ≡ own → was_region_end own ≡ true → is_region_end tag.kind ≡ true
 still_end members m barrier member tag h None rule all who at was = absurd (cc)
 still_end members m barrier member tag h (Some other) rule all who at was =
-    let number : barrier ≡ barriers_passed m h = subst (λ (k : ℕ). barrier ≡ barriers_passed k h) (is_equal member m who) rule.number in
-    let there : tag_at barrier h ≡ Some other = rw number (arrival_tag members (barriers_passed m h) m other h all at) in
-    let same : other ≡ tag = rule.same other there in
-    rw (← same) was
+    elim (cases_Bool (is_cancelled h)) [
+      | inl cancelled ↦ let kind : tag.kind ≡ RegionEnd = rule.ends cancelled in rw kind refl
+      | inr whole ↦
+          let number : barrier ≡ barriers_passed m h = subst (λ (k : ℕ). barrier ≡ barriers_passed k h) (is_equal member m who) rule.number in
+          let there : tag_at barrier h ≡ Some other = rw number (arrival_tag members (barriers_passed m h) m other h whole all at) in
+          let same : other ≡ tag = rule.same whole other there in
+          rw (← same) was
+    ]
 
 -- a member has arrived at the region's end exactly if it has passed it or waits at it
 pub comes_to_end : (members m : ℕ) (h : List Event) → Always (ArrivalRule members) h → at_region_end m h ≡ (has_left_region m h || was_region_end (arrival (barriers_passed m h) m h))
@@ -127,9 +135,9 @@ record EndsAt (g m : ℕ) (tag : Tag) (h : List Event) : Type 0 where
   ends : is_region_end tag.kind ≡ true
   near : g ≤ barriers_passed m h
 
-end_barrier : (members m : ℕ) (h : List Event) → Always (ArrivalRule members) h → at_region_end m h ≡ true → (g : ℕ) × (tag : Tag) × EndsAt g m tag h
-end_barrier members m [] all e = absurd (cc)
-end_barrier members m (Arrive barrier member tag ∷ earlier) all e =
+end_barrier : (members m : ℕ) (h : List Event) → is_cancelled h ≡ false → Always (ArrivalRule members) h → at_region_end m h ≡ true → (g : ℕ) × (tag : Tag) × EndsAt g m tag h
+end_barrier members m [] whole all e = absurd (cc)
+end_barrier members m (Arrive barrier member tag ∷ earlier) whole all e =
     elim (or_tells (member == m && is_region_end tag.kind) (at_region_end m earlier) e) [
       | inl own ↦ (
         barrier,
@@ -140,14 +148,17 @@ end_barrier members m (Arrive barrier member tag ∷ earlier) all e =
           near = let number : barrier ≡ barriers_passed m earlier = subst (λ (k : ℕ). barrier ≡ barriers_passed k earlier) (is_equal member m (and_left (member == m) (is_region_end tag.kind) own)) all.0.number in omega (arith, number);
         },
       )
-      | inr old ↦ let (g, first, was) = end_barrier members m earlier all.1 old in
-          (g, first, record { here = tag_kept members g first barrier member tag earlier all.0 was.here; ends = was.ends; near = was.near })
+      | inr old ↦ let (g, first, was) = end_barrier members m earlier whole all.1 old in
+          (g, first, record { here = tag_kept members g first barrier member tag earlier whole all.0 was.here; ends = was.ends; near = was.near })
     ]
-end_barrier members m (Pass barrier member ∷ earlier) all e =
-    let (g, tag, was) = end_barrier members m earlier all.1 e in
+end_barrier members m (Pass barrier member ∷ earlier) whole all e =
+    let (g, tag, was) = end_barrier members m earlier whole all.1 e in
     (g, tag, record { here = was.here; ends = was.ends; near = elim (cases_Bool (member == m)) [ inl who ↦ rw who (let le = was.near in omega (arith, le)) | inr other ↦ rw other was.near ] })
-end_barrier members m (_ ∷ earlier) all e =
-    let (g, tag, was) = end_barrier members m earlier all.1 e in
+end_barrier members m (Cancel member scope ∷ earlier) whole all e =
+    let (g, tag, was) = end_barrier members m earlier (uncancelled_before (Cancel member scope) earlier whole) all.1 e in
+    (g, tag, record { here = was.here; ends = was.ends; near = was.near })
+end_barrier members m (_ ∷ earlier) whole all e =
+    let (g, tag, was) = end_barrier members m earlier whole all.1 e in
     (g, tag, record { here = was.here; ends = was.ends; near = was.near })
 
 -- who arrived at some barrier with such a tag has arrived at the region's end
@@ -162,15 +173,15 @@ ended_at g m tag (Arrive barrier member other ∷ earlier) at ends =
     ]
 ended_at g m tag (_ ∷ earlier) at ends = ended_at g m tag earlier at ends
 
--- who has arrived at every barrier up to the next of a member that has come to the region's end has come there too
-pub others_end : (members m x : ℕ) (h : List Event) → Always (ArrivalRule members) h → ((g : ℕ) → g ≤ barriers_passed m h → is_some (arrival g x h) ≡ true) → at_region_end m h ≡ true → at_region_end x h ≡ true
-others_end members m x h all arrived e =
-    let (g, tag, is) = end_barrier members m h all e in
+-- who has arrived at every barrier up to the next of a member that has come to the region's end has come there too, while the region is not cancelled
+pub others_end : (members m x : ℕ) (h : List Event) → is_cancelled h ≡ false → Always (ArrivalRule members) h → ((g : ℕ) → g ≤ barriers_passed m h → is_some (arrival g x h) ≡ true) → at_region_end m h ≡ true → at_region_end x h ≡ true
+others_end members m x h whole all arrived e =
+    let (g, tag, is) = end_barrier members m h whole all e in
     by g tag is (arrival g x h) refl (arrived g is.near)
   where
     by : (g : ℕ) (tag : Tag) → EndsAt g m tag h → (own : Option Tag) → arrival g x h ≡ own → is_some own ≡ true → at_region_end x h ≡ true
     by g tag is None at some = absurd (cc)
     by g tag is (Some other) at some =
-        let there = arrival_tag members g x other h all at in
+        let there = arrival_tag members g x other h whole all at in
         let same : tag ≡ other = let here = is.here in cc in
         ended_at g x other h at (rw (← same) is.ends)

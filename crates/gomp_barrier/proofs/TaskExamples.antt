@@ -35,8 +35,8 @@ pub passes_before_the_next : may_pass 2 0 next_task ≡ true
 passes_before_the_next = refl
 
 -- at the region's end it does not
-pub ends_after_all : may_pass 2 0 task_after_end ≡ false
-ends_after_all = refl
+pub open_task_at_the_end : may_pass 2 0 task_after_end ≡ false
+open_task_at_the_end = refl
 
 -- nor if one has not arrived
 pub waits_for_the_other : may_pass 3 0 (Done 2 1 ∷ Done 1 0 ∷ two_tasks) ≡ false
@@ -88,7 +88,7 @@ not_done_yet t lt = rw (other_number 2 t (λ same. omega (arith, same, lt)), oth
 pub counts_stand : TasksStand (bound_with 0 1) 0 next_task
 counts_stand = record {
   counted = both_counts (λ odd. open_bound odd next_task ≡ bound_count (bound_with 0 1) odd) refl refl;
-  near = one_of_three (λ t. (0 ≤ epoch t next_task) × (epoch t next_task ≤ 0 + 1)) (λ is. absurd (let open' = is.1 in cc)) (λ is. absurd (let open' = is.1 in cc)) (λ is. (omega arith, omega arith));
+  near = λ whole. one_of_three (λ t. (0 ≤ epoch t next_task) × (epoch t next_task ≤ 0 + 1)) (λ is. absurd (let open' = is.1 in cc)) (λ is. absurd (let open' = is.1 in cc)) (λ is. (omega arith, omega arith));
   unborn = not_done_yet;
 }
 
@@ -106,11 +106,11 @@ counts_of_the_other_parity st = absurd (let counted = st.counted true in omega (
 
 -- a task is bound to a barrier before the front
 pub bound_before_the_front : TasksStand (bound_with 2 0) 2 two_tasks → ⊥
-bound_before_the_front st = absurd (let near = st.near 1 (refl, refl) in let low = near.0 in omega (arith, low))
+bound_before_the_front st = absurd (let near = st.near refl 1 (refl, refl) in let low = near.0 in omega (arith, low))
 
 -- or two barriers after it
 pub bound_two_after : TasksStand (bound_with 1 0) 0 (creates 1 0 (Implicit 0) ∷ Pass 1 0 ∷ Pass 0 0 ∷ []) → ⊥
-bound_two_after st = absurd (let near = st.near 1 (refl, refl) in let high = near.1 in omega (arith, high))
+bound_two_after st = absurd (let near = st.near refl 1 (refl, refl) in let high = near.1 in omega (arith, high))
 
 -- a task is ended that was not created
 pub ended_before_it_was : TasksStand no_tasks 0 (Done 1 0 ∷ []) → ⊥
@@ -220,8 +220,8 @@ release_the_other_parity may = absurd (let parity = may.parity in cc)
 -- the one member of a new team creates a task, and ends it
 pub one_task_stands : Stands (barriers_with (new_seat ∷ []) new_front (bound_with 1 0)) (creates 1 0 (Implicit 0) ∷ [])
 one_task_stands =
-    task_bound (new_seat ∷ []) new_front no_tasks 1 0 (Implicit 0) (record { code = 0; arg = 0; undeferred = false; final_task = false; deps = [] }) false [] (new_barriers_stand (new_seat ∷ []) 1 (omega arith) refl)
+    task_bound (new_seat ∷ []) new_front no_tasks false 1 0 (Implicit 0) (record { code = 0; arg = 0; undeferred = false; final_task = false; deps = [] }) false [] (new_barriers_stand (new_seat ∷ []) 1 (omega arith) refl)
     (record { number = refl; parent_is = omega arith; parity = refl })
 
 pub ended_task_stands : Stands (barriers_with (new_seat ∷ []) new_front no_tasks) (Done 1 0 ∷ creates 1 0 (Implicit 0) ∷ [])
-ended_task_stands = task_released (new_seat ∷ []) new_front (bound_with 1 0) 1 0 false (creates 1 0 (Implicit 0) ∷ []) one_task_stands (record { is_open = (refl, refl); parity = refl })
+ended_task_stands = task_released (new_seat ∷ []) new_front (bound_with 1 0) false 1 0 false (creates 1 0 (Implicit 0) ∷ []) one_task_stands (record { is_open = (refl, refl); parity = refl })

@@ -1,12 +1,16 @@
 -- What the calls on a team's barriers answer, require and add to the events. The newest event stands first. OpenMP API 5.2, section 15.3.
-use Rattle.std.specs.Prelude.{ℕ, ◌<◌, ◌≡◌, Bool, true, false, List, ◌∷◌}
+use Rattle.std.specs.Prelude.{ℕ, ◌<◌, ◌≡◌, ◌&&◌, Bool, true, false, not, if◌then◌else◌, List, ◌∷◌}
 use Rattle.std.proofs.Common.{suc}
 use Rattle.gomp_types.specs.declared.task.Task.{Task}
 use Rattle.gomp_types.specs.declared.task.Task.TheVariants.{Implicit, Explicit}
 use Rattle.gomp_types.specs.declared.event.Tag.{Tag}
 use Rattle.gomp_types.specs.declared.event.Event.{Event}
-use Rattle.gomp_types.specs.declared.event.Event.TheVariants.{Arrive, Pass, Create, Done}
-use Rattle.gomp_types.specs.Events.{barriers_passed, arrival, tag_at, has_left_region}
+use Rattle.gomp_types.specs.declared.event.Event.TheVariants.{Arrive, Pass, Create, Done, Cancel, Discard}
+use Rattle.gomp_types.specs.declared.cancel.Scope.{Scope}
+use Rattle.gomp_types.specs.declared.cancel.Scope.TheVariants.{Region}
+use Rattle.gomp_types.specs.Events.{barriers_passed, arrival, tag_at, has_left_region, is_region_end}
+use Rattle.gomp_types.specs.Cancels.{is_cancelled}
+use Rattle.gomp_types.specs.Compare.{tag_differs}
 use Rattle.gomp_types.specs.Tasks.{tasks_created, is_created, is_complete, epoch, epoch_of_child, is_odd}
 use Rattle.gomp_types.specs.Limits.{shown_number}
 use Rattle.gomp_barrier.specs.declared.barriers.AtBarrier.{AtBarrier}
@@ -19,6 +23,12 @@ barrier_seen m h = record {
   arrived = arrival (barriers_passed m h) m h;
   left = has_left_region m h;
 }
+
+-- whether the barriers accept the member's arrival with this tag: with that of the others there; once the region is cancelled at its end alone, unless the member has left it (OpenMP API 5.2, section 16.1)
+abbrev pub accepts_arrival : ℕ → Tag → List Event → Bool
+accepts_arrival m tag h =
+    if is_cancelled h then is_region_end tag.kind && not (has_left_region m h)
+    else not (tag_differs tag (tag_at (barriers_passed m h) h))
 
 -- the events after an arrival that was accepted, or was not
 abbrev pub arrived_after : Bool → ℕ → Tag → List Event → List Event
@@ -45,10 +55,15 @@ pub record MayBind (members t : ℕ) (parent : Task) (odd : Bool) (h : List Even
   pub parent_is : IsParent members parent h
   pub parity : odd ≡ is_odd (epoch_of_child parent h)
 
--- an open task is ended, which is bound to a barrier of this parity
+-- an open task is ended or discarded, which is bound to a barrier of this parity
 pub record MayRelease (t : ℕ) (odd : Bool) (h : List Event) : Type 0 where
   pub is_open : IsOpen t h
   pub parity : odd ≡ is_odd (epoch t h)
+
+-- a part of the region: a share or a group
+abbrev pub IsPart : Scope → Type 0
+IsPart Region = ⊥
+IsPart _ = Unit {0}
 
 -- an event that the barriers do not see
 abbrev pub IsAside : Event → Type 0
@@ -56,4 +71,6 @@ IsAside (Arrive barrier m tag) = ⊥
 IsAside (Pass barrier m) = ⊥
 IsAside (Create task m parent desc) = ⊥
 IsAside (Done task m) = ⊥
+IsAside (Discard task m) = ⊥
+IsAside (Cancel m scope) = IsPart scope
 IsAside _ = Unit {0}

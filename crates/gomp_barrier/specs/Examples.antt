@@ -5,7 +5,8 @@ use Rattle.gomp_types.specs.declared.event.Tag.{Tag}
 use Rattle.gomp_types.specs.declared.event.Event.{Event}
 use Rattle.gomp_types.specs.declared.task.Task.{Task}
 use Rattle.gomp_types.specs.declared.task.Task.TheVariants.{Implicit, Explicit}
-use Rattle.gomp_types.specs.declared.event.Event.TheVariants.{Arrive, Pass, Create, Done}
+use Rattle.gomp_types.specs.declared.event.Event.TheVariants.{Arrive, Pass, Create, Done, Cancel}
+use Rattle.gomp_types.specs.declared.cancel.Scope.TheVariants.{Region}
 use Rattle.gomp_barrier.specs.declared.barriers.AtBarrier.{AtBarrier}
 use Rattle.gomp_barrier.specs.declared.front.Seat.{Seat}
 use Rattle.gomp_barrier.specs.declared.front.Front.{Front}
@@ -51,8 +52,28 @@ next_task = creates 3 1 (Implicit 1) ∷ tasks_ended
 abbrev pub task_after_end : List Event
 task_after_end = creates 1 1 (Implicit 1) ∷ Pass 0 1 ∷ Arrive 0 1 at_end_tag ∷ Arrive 0 0 at_end_tag ∷ []
 
+-- the second waits at a barrier, and the first cancels the region
+abbrev pub cancelled_at_barrier : List Event
+cancelled_at_barrier = Cancel 0 Region ∷ Arrive 0 1 at_barrier_tag ∷ []
+
+-- then both arrive at its end
+abbrev pub both_at_end : List Event
+both_at_end = Arrive 0 1 at_end_tag ∷ Arrive 0 0 at_end_tag ∷ cancelled_at_barrier
+
+-- and the first passes it
+abbrev pub one_left : List Event
+one_left = Pass 0 0 ∷ both_at_end
+
+-- the second has passed the first barrier when the first member cancels the region; then both arrive at its end
+abbrev pub ends_apart : List Event
+ends_apart = Arrive 0 0 at_end_tag ∷ Arrive 1 1 at_end_tag ∷ Cancel 0 Region ∷ Pass 0 1 ∷ both_arrived
+
+-- and both pass it
+abbrev pub left_apart : List Event
+left_apart = Pass 0 0 ∷ Pass 1 1 ∷ ends_apart
+
 abbrev pub seat_with : Bool → Option Tag → Bool → Seat
-seat_with odd arrived left = record { odd = odd; arrived = arrived; left = left }
+seat_with odd arrived left = record { odd = odd; arrived = arrived; left = left; gone = false }
 
 abbrev pub front_with : Bool → ℕ → Option Tag → Option Tag → Front
 front_with odd number tag next = record { odd = odd; number = number; tag = tag; next = next }
@@ -65,7 +86,11 @@ abbrev pub no_tasks : BoundTasks
 no_tasks = bound_with 0 0
 
 abbrev pub barriers_with : List Seat → Front → BoundTasks → BarriersView
-barriers_with seats front tasks = record { seats = seats; front = front; tasks = tasks }
+barriers_with seats front tasks = record { seats = seats; front = front; tasks = tasks; cancelled = false }
+
+-- and of a cancelled region
+abbrev pub cancelled_with : List Seat → Front → BoundTasks → BarriersView
+cancelled_with seats front tasks = record { seats = seats; front = front; tasks = tasks; cancelled = true }
 
 abbrev pub sees_barrier : ℕ → Option Tag → Option Tag → Bool → AtBarrier
 sees_barrier number tag arrived left = record { number = number; tag = tag; arrived = arrived; left = left }
@@ -98,3 +123,7 @@ seat_ahead = seat_with true (Some at_end_tag) false
 
 abbrev pub front_between : Front
 front_between = front_with false 0 (Some at_barrier_tag) (Some at_end_tag)
+
+-- a member that has passed the end of a cancelled region, by how many it had passed before
+abbrev pub gone_seat : Bool → Seat
+gone_seat odd = record { odd = odd; arrived = None; left = true; gone = true }

@@ -1,12 +1,13 @@
 -- When the barriers of a team stand for a list of events. (own)
-use Rattle.std.specs.Prelude.{ℕ, ◌≡◌, true, false, not, List, length, All}
+use Rattle.std.specs.Prelude.{ℕ, ◌≡◌, Bool, true, false, not, List, length, All}
 use Rattle.gomp_types.specs.declared.event.Event.{Event}
 use Rattle.gomp_types.specs.Laws.{Always}
 use Rattle.gomp_types.specs.Arrivals.{ArrivalRule}
+use Rattle.gomp_types.specs.Cancels.{is_cancelled}
 use Rattle.gomp_barrier.specs.declared.front.Seat.{Seat}
 use Rattle.gomp_barrier.specs.declared.front.Front.{Front}
 use Rattle.gomp_barrier.specs.declared.bound.BoundTasks.{BoundTasks}
-use Rattle.gomp_barrier.specs.Seats.{is_ahead, IsThere, has_come_to_end, FrontStands, SomeBehind}
+use Rattle.gomp_barrier.specs.Seats.{is_ahead, IsThere, has_come_to_end, AllCome, FrontStands, SomeBehind}
 use Rattle.gomp_barrier.specs.Bound.{bound_count, TasksStand}
 
 -- the barriers of a team, as data
@@ -14,12 +15,17 @@ pub record BarriersView : Type 0 where
   pub seats : List Seat
   pub front : Front
   pub tasks : BoundTasks
+  pub cancelled : Bool
+
+-- the barriers of a region that is not cancelled
+abbrev pub uncancelled : List Seat → Front → BoundTasks → BarriersView
+uncancelled seats front tasks = record { seats = seats; front = front; tasks = tasks; cancelled = false }
 
 -- how many members the team has
 abbrev pub members_of : BarriersView → ℕ
 members_of barriers = length barriers.seats
 
--- a member may pass the front: it has not, all are there, and no open task holds it up
+-- a member may pass the front of a region that is not cancelled: it has not, all are there, and no open task holds it up
 pub record MayTurn (barriers : BarriersView) (member : Seat) : Type 0 where
   pub behind : is_ahead barriers.front member ≡ false
   pub there : All (IsThere barriers.front) barriers.seats
@@ -28,10 +34,18 @@ pub record MayTurn (barriers : BarriersView) (member : Seat) : Type 0 where
   -- and at the region's end none to the barrier after it
   pub ended : has_come_to_end member ≡ true → bound_count barriers.tasks (not barriers.front.odd) ≡ 0
 
--- each seat, the front and the counts say what the events do, some member has not passed the front, and the events keep their rule
+-- a member may pass the end of a cancelled region: it has not, all have come there, and no task is open
+pub record MayLeave (seats : List Seat) (tasks : BoundTasks) (member : Seat) : Type 0 where
+  pub stays : member.left ≡ false
+  pub come : AllCome seats
+  pub even : tasks.even ≡ 0
+  pub odd : tasks.odd ≡ 0
+
+-- each seat, the front, the counts and the flag say what the events do, some member has not passed the front, and the events keep their rule
 pub record Stands (barriers : BarriersView) (h : List Event) : Type 0 where
   pub least : ℕ
   pub barrier : FrontStands barriers.seats barriers.front least h
   pub tasks : TasksStand barriers.tasks least h
   pub behind : SomeBehind barriers.front barriers.seats
+  pub cancelled : is_cancelled h ≡ barriers.cancelled
   pub rule : Always (ArrivalRule (members_of barriers)) h

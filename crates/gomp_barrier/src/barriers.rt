@@ -4,18 +4,21 @@ ghost use Rattle.std.specs.Prelude.{◌≡◌, ◌<◌, ◌↔◌, ℕ, List, []
 ghost use Rattle.gomp_types.specs.declared.task.Task.{Task};
 ghost use Rattle.gomp_types.specs.declared.task.TaskDesc.{TaskDesc};
 ghost use Rattle.gomp_types.specs.declared.event.Event.{Event};
-ghost use Rattle.gomp_types.specs.declared.event.Event.TheVariants.{Create, Done};
-ghost use Rattle.gomp_types.specs.Events.{barriers_passed, tag_at, at_barrier};
+ghost use Rattle.gomp_types.specs.declared.event.Event.TheVariants.{Create, Done, Cancel, Discard};
+ghost use Rattle.gomp_types.specs.declared.cancel.Scope.TheVariants.{Region};
+ghost use Rattle.gomp_types.specs.Events.{barriers_passed, at_barrier};
+ghost use Rattle.gomp_types.specs.Cancels.{is_cancelled};
 ghost use Rattle.gomp_types.specs.Tasks.{tasks_created, is_odd};
 ghost use Rattle.gomp_types.specs.Goals.{may_pass};
 ghost use Rattle.gomp_types.specs.Compare.{tag_differs};
-ghost use Rattle.gomp_barrier.specs.Calls.{barrier_seen, arrived_after, turn_after, MayBind, MayRelease};
-ghost use Rattle.gomp_barrier.specs.Stands.{BarriersView, Stands, MayTurn, members_of};
+ghost use Rattle.gomp_barrier.specs.Calls.{barrier_seen, accepts_arrival, arrived_after, turn_after, MayBind, MayRelease};
+ghost use Rattle.gomp_barrier.specs.Seats.{AllCome, seat_accepts};
+ghost use Rattle.gomp_barrier.specs.Stands.{BarriersView, Stands, MayTurn, MayLeave, members_of, uncancelled};
 
 use crate::bound::BoundTasks;
 use crate::front::{
-    Front, Seat, all_there, arrived_at, ends_region, front_after, has_come_to_end, is_ahead,
-    number_for, passed_by, tag_for,
+    Front, Seat, all_there, arrived_at, ends_region, front_after, gone_from, has_come_to_end,
+    has_odd_number, is_ahead, number_for, passed_by, tag_for,
 };
 use gomp_types::Tag;
 use std::alloc::{AllocError, Global};
@@ -41,6 +44,7 @@ pub struct Barriers {
     seats: Vec<Seat>,
     front: Front,
     tasks: BoundTasks,
+    cancelled: bool,
 }
 
 impl Model for Barriers {
@@ -50,9 +54,19 @@ impl Model for Barriers {
 
     ghost Value = { BarriersView };
 
-    ghost view = { λ b. record { seats = b.seats.items; front = b.front; tasks = b.tasks } };
+    ghost view = { λ b. record {
+      seats = b.seats.items;
+      front = b.front;
+      tasks = b.tasks;
+      cancelled = b.cancelled;
+    } };
 
-    ghost invariant = { λ b. (h : List Event) × Stands (record { seats = b.seats.items; front = b.front; tasks = b.tasks }) h };
+    ghost invariant = { λ b. (h : List Event) × Stands (record {
+      seats = b.seats.items;
+      front = b.front;
+      tasks = b.tasks;
+      cancelled = b.cancelled;
+    }) h };
 }
 
 impl Barriers {
@@ -67,6 +81,7 @@ impl Barriers {
             odd: false,
             arrived: None,
             left: false,
+            gone: false,
         };
         Ok(Barriers {
             seats: vec![in alloc; seat; count as usize]?,
@@ -77,6 +92,7 @@ impl Barriers {
                 next: None,
             },
             tasks: BoundTasks { even: 0, odd: 0 },
+            cancelled: false,
         })
     }
 
@@ -97,25 +113,28 @@ impl Barriers {
 
     /// The member, numbered from 0, arrives at its next barrier with this tag, unless someone
     /// arrived there with another one: then nothing changes, and the answer is false. It is asked
-    /// once for each barrier, and not after the region's end: `look` tells both.
+    /// once for each barrier, and not after the region's end: `look` tells both. In a cancelled
+    /// region it arrives at the region's end alone, whatever others did, and also if it waits at
+    /// another barrier; not once it has passed that end. OpenMP API 5.2, section 16.1.
     pub fn arrive(&mut self, member: u16, tag: Tag) -> bool
         requires member { member < members_of self.old }
         ensures members { members_of self.new ≡ members_of self.old }
         ensures known { (h : List Event) × Stands self.old h }
         ensures answer { (h : List Event) → Stands self.old h →
-            result ≡ not (tag_differs tag (tag_at (barriers_passed member h) h)) }
+            result ≡ accepts_arrival member tag h }
         ensures kept { result ≡ false → self.new ≡ self.old }
         ensures stands { (h : List Event) → Stands self.old h →
             Stands self.new (arrived_after result member tag h) }
     {
         let seat = self.seats[member as usize];
-        if differs(tag, tag_for(&self.front, &seat)) {
+        if !accepts(self.cancelled, &self.front, &seat, tag) {
             return false;
         }
         self.seats[member as usize] = Seat {
             odd: seat.odd,
             arrived: Some(tag),
             left: seat.left,
+            gone: seat.gone,
         };
         self.front = arrived_at(&self.front, &seat, tag);
         true
@@ -129,7 +148,7 @@ impl Barriers {
         ensures value { (h : List Event) → Stands self.now h →
             result ≡ is_odd (barriers_passed member h) }
     {
-        self.seats[member as usize].odd
+        has_odd_number(&self.seats[member as usize])
     }
 
     /// Whether the member, numbered from 0, waits at a barrier: it has arrived there, and has not
@@ -143,8 +162,9 @@ impl Barriers {
     }
 
     /// The member, numbered from 0, passes its next barrier if every member has arrived there and
-    /// every task that is bound to it is complete; at the region's end, if every task is. Else
-    /// nothing changes, and the answer is false.
+    /// every task that is bound to it is complete; at the region's end, if every task is. In a
+    /// cancelled region it passes the region's end alone, and that once. Else nothing changes, and
+    /// the answer is false.
     pub fn turn(&mut self, member: u16) -> bool
         requires member { member < members_of self.old }
         ensures members { members_of self.new ≡ members_of self.old }
@@ -156,6 +176,13 @@ impl Barriers {
             Stands self.new (turn_after result member h) }
     {
         let seat = self.seats[member as usize];
+        if self.cancelled {
+            if !may_leave(&self.seats, &self.tasks, &seat) {
+                return false;
+            }
+            self.seats[member as usize] = gone_from(&seat);
+            return true;
+        }
         if !may_turn(&self.seats, &self.front, &self.tasks, &seat) {
             return false;
         }
@@ -188,12 +215,68 @@ impl Barriers {
     {
         self.tasks = self.tasks.one_less(odd);
     }
+
+    /// A task was discarded, by a cancellation, that was bound to a barrier whose number has this
+    /// parity (`odd`). OpenMP API 5.2, section 16.1.
+    pub fn discard(&mut self, odd: bool)
+        requires may { (h : List Event) × (task : ℕ) × Stands self.old h × MayRelease task odd h }
+        ensures members { members_of self.new ≡ members_of self.old }
+        ensures stands { (h : List Event) (task member : ℕ) → Stands self.old h →
+            MayRelease task odd h → Stands self.new (Discard task member ∷ h) }
+    {
+        let others = self.tasks.one_less(odd);
+        self.tasks = others;
+    }
+
+    /// Whether some member has cancelled the region. OpenMP API 5.2, section 16.1.
+    pub fn is_cancelled(&self) -> bool
+        ensures known { (h : List Event) × Stands self.now h }
+        ensures value { (h : List Event) → Stands self.now h → result ≡ is_cancelled h }
+    {
+        let Barriers { cancelled, .. } = self;
+        *cancelled
+    }
+
+    /// Some member cancelled the region: from now on members arrive at the region's end alone. It
+    /// changes nothing if the region is cancelled already. OpenMP API 5.2, section 16.1.
+    pub fn cancel(&mut self)
+        ensures members { members_of self.new ≡ members_of self.old }
+        ensures known { (h : List Event) × Stands self.old h }
+        ensures stands { (h : List Event) (member : ℕ) → Stands self.old h →
+            Stands self.new (Cancel member Region ∷ h) }
+    {
+        self.cancelled = true;
+    }
 }
 
-/// Whether the member may pass its next barrier.
+/// Whether an arrival of the member with this tag is accepted.
+fn accepts(cancelled: bool, front: &Front, member: &Seat, tag: Tag) -> bool
+    ensures value { result ≡ seat_accepts cancelled front.now member.now tag }
+{
+    if cancelled {
+        ends_region(Some(tag)) && !member.left
+    } else {
+        !differs(tag, tag_for(front, member))
+    }
+}
+
+/// Whether every member has arrived at the region's end, or has passed it.
+fn all_come_to_end(members: &[Seat]) -> bool
+    ensures { IsTrue result ↔ AllCome members.now }
+{
+    members.iter().all(|member| has_come_to_end(member))
+}
+
+/// Whether the member may pass the end of a cancelled region.
+fn may_leave(seats: &[Seat], tasks: &BoundTasks, member: &Seat) -> bool
+    ensures { IsTrue result ↔ MayLeave seats.now tasks.now member.now }
+{
+    !member.left && all_come_to_end(seats) && tasks.even == 0 && tasks.odd == 0
+}
+
+/// Whether the member may pass its next barrier, in a region that is not cancelled.
 fn may_turn(seats: &[Seat], front: &Front, tasks: &BoundTasks, member: &Seat) -> bool
-    ensures { IsTrue result ↔ MayTurn
-        (record { seats = seats.now; front = front.now; tasks = tasks.now }) member.now }
+    ensures { IsTrue result ↔ MayTurn (uncancelled seats.now front.now tasks.now) member.now }
 {
     !is_ahead(front, member)
         && all_there(front, seats)

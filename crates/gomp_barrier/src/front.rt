@@ -1,23 +1,26 @@
 //! The seats of a team's members at its barriers, and the barrier that the slowest come to next.
 //!
 //! No member is two barriers ahead of another, so it is enough to know of each whether it is ahead
-//! of the slowest, which the parities tell.
+//! of the slowest, which the parities tell. One that has passed the end of a cancelled region is a
+//! barrier further than that; its seat tells so too.
 
 ghost use Rattle.std.specs.Prelude.{◌≡◌, ◌↔◌, IsTrue, All};
 ghost use Rattle.gomp_types.specs.Events.{was_region_end};
-ghost use Rattle.gomp_barrier.specs.Seats.{is_ahead, tag_for, number_for, IsThere, has_come_to_end, AllAhead, SomeBehind, arrived_at, passed_by, next_front};
+ghost use Rattle.gomp_barrier.specs.Seats.{is_ahead, has_odd_number, tag_for, number_for, IsThere, has_come_to_end, AllAhead, SomeBehind, arrived_at, passed_by, gone_from, next_front};
 
 use gomp_types::{Arrival, Tag};
 
 /// A member's seat at the barriers.
 #[derive(Clone, Copy, Debug, PartialEq, Eq)]
 pub struct Seat {
-    /// Whether it has passed an odd number of barriers.
+    /// Whether it has passed an odd number of barriers, the end of a cancelled region apart.
     pub odd: bool,
     /// With which tag it has arrived at its next barrier: none if it has not.
     pub arrived: Option<Tag>,
     /// Whether it has passed the region's end.
     pub left: bool,
+    /// Whether it did so once the region was cancelled: then no front moves on.
+    pub gone: bool,
 }
 
 /// The barrier that the slowest members come to next.
@@ -33,18 +36,31 @@ pub struct Front {
     pub next: Option<Tag>,
 }
 
-/// Whether the member has passed the front.
+/// Whether the member has passed the front. A pass of a cancelled region's end does not count here.
 pub fn is_ahead(front: &Front, member: &Seat) -> bool
     ensures { result ≡ is_ahead front.now member.now }
 {
     member.odd != front.odd
 }
 
+/// Whether the member has passed an odd number of barriers.
+pub fn has_odd_number(member: &Seat) -> bool
+    ensures { result ≡ has_odd_number member.now }
+{
+    member.odd != member.gone
+}
+
 /// With which tag any member has arrived at the member's next barrier: none if nobody has.
 pub fn tag_for(front: &Front, member: &Seat) -> Option<Tag>
     ensures { result ≡ tag_for front.now member.now }
 {
-    if is_ahead(front, member) {
+    if member.gone {
+        if is_ahead(front, member) {
+            None
+        } else {
+            front.next
+        }
+    } else if is_ahead(front, member) {
         front.next
     } else {
         front.tag
@@ -55,7 +71,13 @@ pub fn tag_for(front: &Front, member: &Seat) -> Option<Tag>
 pub fn number_for(front: &Front, member: &Seat) -> u64
     ensures { result ≡ number_for front.now member.now }
 {
-    if is_ahead(front, member) {
+    if member.gone {
+        if is_ahead(front, member) {
+            front.number.saturating_add(2)
+        } else {
+            front.number.saturating_add(1)
+        }
+    } else if is_ahead(front, member) {
         front.number.saturating_add(1)
     } else {
         front.number
@@ -98,6 +120,19 @@ pub fn passed_by(member: &Seat, at_region_end: bool) -> Seat
         odd: !member.odd,
         arrived: None,
         left: member.left || at_region_end,
+        gone: member.gone,
+    }
+}
+
+/// The member after it has passed the end of a cancelled region.
+pub fn gone_from(member: &Seat) -> Seat
+    ensures { result ≡ gone_from member.now }
+{
+    Seat {
+        odd: member.odd,
+        arrived: None,
+        left: true,
+        gone: true,
     }
 }
 

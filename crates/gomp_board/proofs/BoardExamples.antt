@@ -101,7 +101,7 @@ pub refused_and_kept : (board : BoardView) → Leaves (Reserve 2) (keeping (3 �
 refused_and_kept board does = absurd (let kept = does.kept in cc)
 
 -- a refusal changes nothing, be it of a test or want of memory
-pub refused_and_changed : (board : BoardView) → Leaves EndTask board (longer board) (Refused NotInTask) × Leaves OpenGroup board (longer board) (Refused TraceFull) × Leaves OpenGroup board (longer board) (Refused NoMemory)
+pub refused_and_changed : (board : BoardView) → Leaves (EndTask false) board (longer board) (Refused NotInTask) × Leaves OpenGroup board (longer board) (Refused TraceFull) × Leaves OpenGroup board (longer board) (Refused NoMemory)
 refused_and_changed board = (
   λ does. never_longer board (does.same NotInTask refl (λ e. absurd (cc))).history,
   λ does. never_longer board (does.same TraceFull refl (λ e. absurd (cc))).history,
@@ -122,6 +122,6 @@ waited_and_changed board = (
 -- these five go on with a wait, and no other operation
 pub operations_that_go_on :
     map goes_on_waiting
-    (CreateTask seven ∷ AwaitOwn ∷ EndTask ∷ AwaitChildren [] ∷ OpenGroup ∷ EndGroup ∷ AwaitGroup ∷ ArriveAt (at Barrier 0) ∷ AwaitBarrier ∷ Reserve 4 ∷ PutWords 3 words ∷ GiveWords 3 words ∷ BreakAt AtStop ∷ [])
+    (CreateTask seven ∷ AwaitOwn ∷ EndTask false ∷ AwaitChildren [] ∷ OpenGroup ∷ EndGroup ∷ AwaitGroup ∷ ArriveAt (at Barrier 0) false ∷ AwaitBarrier ∷ Reserve 4 ∷ PutWords 3 words ∷ GiveWords 3 words ∷ BreakAt AtStop ∷ [])
     ≡ false ∷ true ∷ false ∷ true ∷ false ∷ true ∷ true ∷ false ∷ true ∷ false ∷ false ∷ false ∷ false ∷ []
 operations_that_go_on = refl

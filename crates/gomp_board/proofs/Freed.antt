@@ -9,6 +9,7 @@ use Rattle.gomp_types.specs.declared.event.Event.{Event}
 use Rattle.gomp_types.specs.declared.event.Event.TheVariants.{Create}
 use Rattle.gomp_types.specs.Laws.{Always}
 use Rattle.gomp_types.specs.Tasks.{contains, same_task, tasks_created, executed_task, is_child, newest_child, all_complete, is_created, is_complete, is_undeferred}
+use Rattle.gomp_types.specs.Cancels.{is_covered}
 use Rattle.gomp_types.specs.Depends.{task_items, child_waits, waits_for, is_free}
 use Rattle.gomp_types.specs.Goals.{is_unstarted, is_startable, some_startable, may_descend, may_start, children_complete, taskwait_met}
 use Rattle.gomp_types.specs.TaskRules.{TaskRule, MayStart}
@@ -23,7 +24,7 @@ use Rattle.gomp_depend.specs.Stands.{has_items, row_of, has_row, rows_up_to, IsO
 use Rattle.gomp_depend.proofs.TaskFacts.{none_open_is_complete}
 use Rattle.gomp_depend.proofs.RowsKeep.{row_found, free_without_items}
 use Rattle.gomp_board.specs.ReadyTasks.{is_listed}
-use Rattle.gomp_board.specs.Boards.{BoardView, Stands}
+use Rattle.gomp_board.specs.Boards.{BoardView, Stands, AreSealed}
 use Rattle.gomp_board.specs.Startable.{IsRowOf, MayStartNoneListed, MayStartNone}
 use Rattle.gomp_board.proofs.ReadyKeeps.{listed_is_unstarted, listed_is_deferred, listed_has_none, place_of}
 
@@ -41,7 +42,7 @@ listed_startable b m t h st listed =
     let none : has_row t h ≡ false = rw (listed_has_none t h listed) refl in
     let no_row : row_of_task t b.depends.rows ≡ None = row_found b.depends.rows t h st.depends open_task ∙ rw none refl in
     let free = free_without_items b.depends.rows t h st.depends open_task no_row in
-    rw (listed_is_deferred t h listed, un, ← free) refl
+    rw (listed_is_deferred t h listed, un, ← free, st.sealed t un) refl
 
 -- Rows
 
@@ -186,23 +187,20 @@ pub items_are_apart : (t : ℕ) (h : List Event) → has_items (task_items t h) 
 items_are_apart t h items = rw items (and_false (is_unstarted t h) (not (is_undeferred t h) && false) (and_false (not (is_undeferred t h)) false refl))
 
 -- what it takes to start a task: it may be run, and is free
-pub run_and_free : (m t : ℕ) (h : List Event) → (may_run m t h && is_free t h) ≡ may_start m t h
-run_and_free m t h = swap (is_unstarted t h) (may_descend m t h) (is_free t h)
+pub run_and_free : (m t : ℕ) (h : List Event) → AreSealed h → (may_run m t h && is_free t h) ≡ may_start m t h
+run_and_free m t h sealed = swap (is_unstarted t h) (may_descend m t h) (is_free t h) (is_covered t h) (sealed t)
   where
-    swap : (a b c : Bool) → ((a && b) && c) ≡ ((a && c) && b)
-    swap true true c = right c
-      where
-        right : (d : Bool) → d ≡ (d && true)
-        right true = refl
-        right false = refl
-    swap true false c = sym (and_false c false refl)
-    swap false b c = refl
+    swap : (a b c d : Bool) → (a ≡ true → d ≡ false) → ((a && b) && c) ≡ ((a && (c && not d)) && b)
+    swap true true true d never = rw (never refl) refl
+    swap true true false d never = refl
+    swap true false c d never = sym (and_false (c && not d) false refl)
+    swap false b c d never = refl
 
-pub not_run : (m t : ℕ) (h : List Event) → may_run m t h ≡ false → false ≡ may_start m t h
-not_run m t h fails = rw fails at (run_and_free m t h)
+pub not_run : (m t : ℕ) (h : List Event) → AreSealed h → may_run m t h ≡ false → false ≡ may_start m t h
+not_run m t h sealed fails = rw fails at (run_and_free m t h sealed)
 
-pub run_then_free : (m t : ℕ) (free : Bool) (h : List Event) → may_run m t h ≡ true → free ≡ is_free t h → free ≡ may_start m t h
-run_then_free m t free h runs e = e ∙ rw runs at (run_and_free m t h)
+pub run_then_free : (m t : ℕ) (free : Bool) (h : List Event) → AreSealed h → may_run m t h ≡ true → free ≡ is_free t h → free ≡ may_start m t h
+run_then_free m t free h sealed runs e = e ∙ rw runs at (run_and_free m t h sealed)
 
 pub run_is_open : (m t : ℕ) (h : List Event) → may_run m t h ≡ true → IsOpen t h
 run_is_open m t h runs = unstarted_is_open t h (and_left (is_unstarted t h) (may_descend m t h) runs)

@@ -17,11 +17,13 @@ use Rattle.gomp_barrier.specs.Calls.{barrier_seen}
 use Rattle.gomp_barrier.specs.Stands.{BarriersView, Stands as BarriersStand, members_of as barrier_members}
 use Rattle.gomp_barrier.proofs.Laws.{events_aside_keep_barriers}
 use Rattle.gomp_depend.proofs.Laws.{events_aside_keep_depends}
+use Rattle.gomp_cancel.proofs.Laws.{events_aside_keep_cancelled}
 use Rattle.gomp_board.specs.Owed.{owed}
 use Rattle.gomp_board.specs.Ops.{arrival_asks, arrival_keeps}
 use Rattle.gomp_board.specs.Boards.{BoardView, Stands, HasMembers, HasSpare, IsBoard, ArrivesFirst, members_of, kept_by}
 use Rattle.gomp_board.proofs.BarrierNumbers.{passed_within, shown_exactly}
 use Rattle.gomp_board.proofs.PayloadsKeep.{payloads_stay}
+use Rattle.gomp_board.proofs.Sealed.{sealed_aside}
 use Rattle.gomp_board.proofs.StoredKeeps.{stored_with, history_after}
 use Rattle.gomp_board.proofs.RoomKeeps.{room_within, sum_with, kept_within}
 use Rattle.gomp_board.proofs.OwedKeeps.{arrival_owes, pass_owes, break_owes}
@@ -38,14 +40,14 @@ executed_task_seated space board m task is low executes =
 
 -- room changes nothing of what it stands for
 pub roomy_stands : (b : BoardView) (room : ℕ) (h : List Event) → Stands b h → Stands (record b { room = room }) h
-roomy_stands b room h st = record { tasks = st.tasks; groups = st.groups; barriers = st.barriers; depends = st.depends; ready = st.ready; clash = st.clash; payloads = st.payloads; history = st.history }
+roomy_stands b room h st = record { tasks = st.tasks; groups = st.groups; barriers = st.barriers; depends = st.depends; cancelled = st.cancelled; sealed = st.sealed; ready = st.ready; clash = st.clash; payloads = st.payloads; history = st.history }
 
 pub stands_before : (b : BoardView) (room : ℕ) (h : List Event) → Stands (record b { room = room }) h → Stands b h
-stands_before b room h st = record { tasks = st.tasks; groups = st.groups; barriers = st.barriers; depends = st.depends; ready = st.ready; clash = st.clash; payloads = st.payloads; history = st.history }
+stands_before b room h st = record { tasks = st.tasks; groups = st.groups; barriers = st.barriers; depends = st.depends; cancelled = st.cancelled; sealed = st.sealed; ready = st.ready; clash = st.clash; payloads = st.payloads; history = st.history }
 
 -- nor does what a member keeps
 pub keeping_stands : (b : BoardView) (room : ℕ) (kept : List ℕ) (h : List Event) → Stands b h → Stands (record b { room = room; kept = kept }) h
-keeping_stands b room kept h st = record { tasks = st.tasks; groups = st.groups; barriers = st.barriers; depends = st.depends; ready = st.ready; clash = st.clash; payloads = st.payloads; history = st.history }
+keeping_stands b room kept h st = record { tasks = st.tasks; groups = st.groups; barriers = st.barriers; depends = st.depends; cancelled = st.cancelled; sealed = st.sealed; ready = st.ready; clash = st.clash; payloads = st.payloads; history = st.history }
 
 pub keeping_board : (space m more : ℕ) (b : BoardView) → IsBoard space b → m < members_of b → HasSpare more b → IsBoard space (record b { kept = slice_set b.kept m (kept_by m b + more) })
 keeping_board space m more b is low spare =
@@ -77,6 +79,8 @@ arrived_stands b history barriers kept m barrier tag h more next st = record {
   groups = events_aside_keep_groups b.groups h (Arrive barrier m tag) tt tt st.groups;
   barriers = next;
   depends = events_aside_keep_depends b.depends h (Arrive barrier m tag) tt st.depends;
+  cancelled = events_aside_keep_cancelled b.cancelled h (Arrive barrier m tag) tt st.cancelled;
+  sealed = sealed_aside (Arrive barrier m tag) h tt st.sealed;
   ready = record { ready = st.ready.ready; apart = st.ready.apart };
   clash = st.clash;
   payloads = payloads_stay b.payloads (Arrive barrier m tag) h tt st.payloads;
@@ -97,6 +101,8 @@ passed_stands b history barriers m barrier h more next st = record {
   groups = events_aside_keep_groups b.groups h (Pass barrier m) tt tt st.groups;
   barriers = next;
   depends = events_aside_keep_depends b.depends h (Pass barrier m) tt st.depends;
+  cancelled = events_aside_keep_cancelled b.cancelled h (Pass barrier m) tt st.cancelled;
+  sealed = sealed_aside (Pass barrier m) h tt st.sealed;
   ready = record { ready = st.ready.ready; apart = st.ready.apart };
   clash = st.clash;
   payloads = payloads_stay b.payloads (Pass barrier m) h tt st.payloads;
@@ -116,6 +122,8 @@ broken_stands b history m place h more whole st = record {
   groups = events_aside_keep_groups b.groups h (Break m place) tt tt st.groups;
   barriers = events_aside_keep_barriers b.barriers h (Break m place) tt st.barriers;
   depends = events_aside_keep_depends b.depends h (Break m place) tt st.depends;
+  cancelled = events_aside_keep_cancelled b.cancelled h (Break m place) tt st.cancelled;
+  sealed = sealed_aside (Break m place) h tt st.sealed;
   ready = record { ready = st.ready.ready; apart = st.ready.apart };
   clash = rw (st.clash ∙ whole) refl;
   payloads = payloads_stay b.payloads (Break m place) h tt st.payloads;
@@ -159,7 +167,7 @@ pub arrived_board : (space new_space m barrier : ℕ) (tag : Tag) (b : BoardView
     HasSpare (arrival_asks tag.kind (kept_by m b)) b → history ≡ b.history ++ Arrive barrier m tag ∷ [] → barrier_members barriers ≡ barrier_members b.barriers → BarriersStand barriers (Arrive barrier m tag ∷ reverse b.history) → new_space ≡ space →
     IsBoard new_space (record b { history = history; barriers = barriers; kept = slice_set b.kept m (arrival_keeps tag.kind (kept_by m b)) })
 arrived_board space new_space m barrier tag b history barriers is low first spare more size next memory =
-    let owes = arrival_owes (members_of b) m barrier (kept_by m b) tag (reverse b.history) low first.away first.before in
+    let owes = arrival_owes (members_of b) m barrier (kept_by m b) tag (reverse b.history) low first in
     let kept = sum_with b.kept m (arrival_keeps tag.kind (kept_by m b)) low in
     let same : length (slice_set b.kept m (arrival_keeps tag.kind (kept_by m b))) ≡ length b.kept = length-set b.kept m (arrival_keeps tag.kind (kept_by m b)) in
     let within = is.space in
@@ -171,7 +179,7 @@ arrived_board space new_space m barrier tag b history barriers is low first spar
 -- there was memory for it
 pub arrival_fits : (space m barrier : ℕ) (tag : Tag) (b : BoardView) → IsBoard space b → m < members_of b → ArrivesFirst m tag (reverse b.history) → HasSpare (arrival_asks tag.kind (kept_by m b)) b → length b.history < space
 arrival_fits space m barrier tag b is low first spare =
-    let owes = arrival_owes (members_of b) m barrier (kept_by m b) tag (reverse b.history) low first.away first.before in
+    let owes = arrival_owes (members_of b) m barrier (kept_by m b) tag (reverse b.history) low first in
     let few = kept_within b.kept m low in
     let within = is.space in
     omega (arith, owes, few, spare, within)

@@ -3,7 +3,11 @@ pub mod AdmittedArrivals
 pub mod ArrivalPerformed
 pub mod BarrierNumbers
 pub mod BoardExamples
+pub mod Cancelled
+pub mod CancelledExamples
 pub mod Creators
+pub mod DiscardSteps
+pub mod Discards
 pub mod Freed
 pub mod GroupsOpen
 pub mod Joined
@@ -22,6 +26,7 @@ pub mod RefusalOrder
 pub mod Refused
 pub mod RegionLeft
 pub mod RoomKeeps
+pub mod Sealed
 pub mod Startables
 pub mod StoredExamples
 pub mod StoredKeeps

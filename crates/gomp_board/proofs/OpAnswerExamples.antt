@@ -41,10 +41,10 @@ pub wrong_resumed_creations :
 wrong_resumed_creations = search rules
 
 -- the end of a task names it
-pub task_end_answer : Allows EndTask one_runs (TaskDone 1 true)
+pub task_end_answer : Allows (EndTask false) one_runs (TaskDone 1 true)
 task_end_answer = search rules
 
-pub wrong_task_end_answers : ExcludesEach EndTask one_runs (TaskDone 2 true ∷ TaskDone 1 false ∷ Finished ∷ [])
+pub wrong_task_end_answers : ExcludesEach (EndTask false) one_runs (TaskDone 2 true ∷ TaskDone 1 false ∷ Finished ∷ [])
 wrong_task_end_answers = search rules
 
 -- Taskwaits
@@ -123,24 +123,24 @@ group_end_beside_a_task = search rules
 -- Barriers
 
 -- the last to arrive passes at once
-pub last_arrival_passes : Allows (ArriveAt (at RegionEnd 0)) second_ends Passed
+pub last_arrival_passes : Allows (ArriveAt (at RegionEnd 0) false) second_ends Passed
 last_arrival_passes = search rules
 
-pub wrong_at_last_arrival : ExcludesEach (ArriveAt (at RegionEnd 0)) second_ends (Wait ∷ Finished ∷ Run 1 7 9 false ∷ [])
+pub wrong_at_last_arrival : ExcludesEach (ArriveAt (at RegionEnd 0) false) second_ends (Wait ∷ Finished ∷ Run 1 7 9 false ∷ [])
 wrong_at_last_arrival = search rules
 
 -- the first one waits, and so does the last while a task of the barrier is not done
-pub first_arrival_waits : Allows (ArriveAt (at Barrier 0)) [] Wait
+pub first_arrival_waits : Allows (ArriveAt (at Barrier 0) false) [] Wait
 first_arrival_waits = search rules
 
-pub wrong_at_first_arrival : ExcludesEach (ArriveAt (at Barrier 0)) [] (Passed ∷ Finished ∷ [])
+pub wrong_at_first_arrival : ExcludesEach (ArriveAt (at Barrier 0) false) [] (Passed ∷ Finished ∷ [])
 wrong_at_first_arrival = search rules
 
 -- or runs a task
-pub arrival_runs : Allows (ArriveAt (at Barrier 0)) one_ready (Run 1 7 9 false)
+pub arrival_runs : Allows (ArriveAt (at Barrier 0) false) one_ready (Run 1 7 9 false)
 arrival_runs = search rules
 
-pub wrong_at_running_arrival : ExcludesEach (ArriveAt (at Barrier 0)) one_ready (Passed ∷ Wait ∷ Run 1 7 9 true ∷ [])
+pub wrong_at_running_arrival : ExcludesEach (ArriveAt (at Barrier 0) false) one_ready (Passed ∷ Wait ∷ Run 1 7 9 true ∷ [])
 wrong_at_running_arrival = search rules
 
 -- at the wait once all have arrived, and no task is left
@@ -198,28 +198,28 @@ wrong_stop_answers = search rules
 -- Refusals
 
 -- the one whose test holds, and nothing else
-pub refusal_answer : Allows EndTask one_ready (Refused NotInTask)
+pub refusal_answer : Allows (EndTask false) one_ready (Refused NotInTask)
 refusal_answer = search rules
 
-pub wrong_refusals : ExcludesEach EndTask one_ready (Refused GroupOpen ∷ Refused Waiting ∷ TaskDone 1 true ∷ [])
+pub wrong_refusals : ExcludesEach (EndTask false) one_ready (Refused GroupOpen ∷ Refused Waiting ∷ TaskDone 1 true ∷ [])
 wrong_refusals = search rules
 
 -- of two the one with the lesser number
-pub lesser_refusal_answer : Allows EndTask first_waits (Refused Waiting)
+pub lesser_refusal_answer : Allows (EndTask false) first_waits (Refused Waiting)
 lesser_refusal_answer = search rules
 
-pub greater_refusal_is_wrong : Excludes EndTask first_waits (Refused NotInTask)
+pub greater_refusal_is_wrong : Excludes (EndTask false) first_waits (Refused NotInTask)
 greater_refusal_is_wrong = search rules
 
 -- none if no test holds
-pub refusals_without_a_test : ExcludesEach EndTask one_runs (Refused NotInTask ∷ Refused GroupOpen ∷ Refused Ended ∷ [])
+pub refusals_without_a_test : ExcludesEach (EndTask false) one_runs (Refused NotInTask ∷ Refused GroupOpen ∷ Refused Ended ∷ [])
 refusals_without_a_test = search rules
 
 -- a construct that differs
-pub mismatch_answer : Allows (ArriveAt (at Barrier 0)) second_ends (Refused Mismatch) × Allows (BreakAt (Share 2)) [] (Refused Mismatch)
+pub mismatch_answer : Allows (ArriveAt (at Barrier 0) false) second_ends (Refused Mismatch) × Allows (BreakAt (Share 2)) [] (Refused Mismatch)
 mismatch_answer = search rules
 
-pub differing_arrival_let_in : ExcludesEach (ArriveAt (at Barrier 0)) second_ends (Wait ∷ Passed ∷ Refused TraceFull ∷ [])
+pub differing_arrival_let_in : ExcludesEach (ArriveAt (at Barrier 0) false) second_ends (Wait ∷ Passed ∷ Refused TraceFull ∷ [])
 differing_arrival_let_in = search rules
 
 pub differing_share_let_in : Excludes (BreakAt (Share 2)) [] Stopped
@@ -229,12 +229,12 @@ differing_share_let_in = search rules
 
 -- at operations that ask for room
 pub no_memory_for_room :
-    Allows (CreateTask seven) [] (Refused NoMemory) × Allows OpenGroup [] (Refused NoMemory) × Allows (ArriveAt (at Barrier 0)) [] (Refused NoMemory) × Allows (Reserve 1) [] (Refused NoMemory)
-    × Allows (ArriveAt (at ShareEnd 0)) [] (Refused NoMemory) × Allows (PutWords 3 words) [] (Refused NoMemory) × Allows (GiveWords 3 words) [] (Refused NoMemory)
+    Allows (CreateTask seven) [] (Refused NoMemory) × Allows OpenGroup [] (Refused NoMemory) × Allows (ArriveAt (at Barrier 0) false) [] (Refused NoMemory) × Allows (Reserve 1) [] (Refused NoMemory)
+    × Allows (ArriveAt (at ShareEnd 0) false) [] (Refused NoMemory) × Allows (PutWords 3 words) [] (Refused NoMemory) × Allows (GiveWords 3 words) [] (Refused NoMemory)
 no_memory_for_room = search rules
 
 -- at no other
-pub no_memory_at_task_end : Excludes EndTask one_runs (Refused NoMemory)
+pub no_memory_at_task_end : Excludes (EndTask false) one_runs (Refused NoMemory)
 no_memory_at_task_end = search rules
 
 pub no_memory_at_taskwait : Excludes (AwaitChildren []) one_ready (Refused NoMemory)
@@ -243,7 +243,7 @@ no_memory_at_taskwait = search rules
 pub no_memory_at_group_end : Excludes EndGroup group_ready (Refused NoMemory)
 no_memory_at_group_end = search rules
 
-pub no_memory_at_region_end : Excludes (ArriveAt (at RegionEnd 0)) [] (Refused NoMemory)
+pub no_memory_at_region_end : Excludes (ArriveAt (at RegionEnd 0) false) [] (Refused NoMemory)
 no_memory_at_region_end = search rules
 
 pub no_memory_at_barrier : Excludes AwaitBarrier first_waits (Refused NoMemory)
@@ -256,7 +256,7 @@ pub no_memory_at_stop : Excludes (BreakAt AtStop) [] (Refused NoMemory)
 no_memory_at_stop = search rules
 
 -- not at the end of a share whose room was kept
-pub no_memory_with_room_kept : OpAnswer usual_limits 5 2 2 0 (ArriveAt (at ShareEnd 0)) [] (Refused NoMemory) → ⊥
+pub no_memory_with_room_kept : OpAnswer usual_limits 5 2 2 0 (ArriveAt (at ShareEnd 0) false) [] (Refused NoMemory) → ⊥
 no_memory_with_room_kept = search rules
 
 -- nor for words whose room was kept
@@ -264,5 +264,5 @@ pub no_memory_with_words_kept : (OpAnswer usual_limits 5 1 2 0 (PutWords 3 words
 no_memory_with_words_kept = search rules
 
 -- and not beside a test that holds
-pub no_memory_beside_a_test : Excludes (CreateTask seven) first_waits (Refused NoMemory) × Excludes (ArriveAt (at Barrier 0)) second_ends (Refused NoMemory)
+pub no_memory_beside_a_test : Excludes (CreateTask seven) first_waits (Refused NoMemory) × Excludes (ArriveAt (at Barrier 0) false) second_ends (Refused NoMemory)
 no_memory_beside_a_test = search rules

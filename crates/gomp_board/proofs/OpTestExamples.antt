@@ -31,19 +31,19 @@ words_ask_alike = (refl, refl)
 -- each operation asks for so much if its member has kept two
 pub operations_ask :
     map (λ op. op_asks op 2)
-    (CreateTask seven ∷ EndTask ∷ AwaitChildren [] ∷ OpenGroup ∷ EndGroup ∷ ArriveAt (at Barrier 0) ∷ ArriveAt (at ShareEnd 0) ∷ ArriveAt (at RegionEnd 0) ∷ AwaitBarrier ∷ Reserve 0 ∷ Reserve 4 ∷ PutWords 3 words ∷ GiveWords 3 words ∷ BreakAt AtStop ∷ AwaitGroup ∷ AwaitOwn ∷ [])
+    (CreateTask seven ∷ EndTask false ∷ AwaitChildren [] ∷ OpenGroup ∷ EndGroup ∷ ArriveAt (at Barrier 0) false ∷ ArriveAt (at ShareEnd 0) false ∷ ArriveAt (at RegionEnd 0) false ∷ AwaitBarrier ∷ Reserve 0 ∷ Reserve 4 ∷ PutWords 3 words ∷ GiveWords 3 words ∷ BreakAt AtStop ∷ AwaitGroup ∷ AwaitOwn ∷ [])
     ≡ 3 ∷ 0 ∷ 0 ∷ 2 ∷ 0 ∷ 2 ∷ 0 ∷ 0 ∷ 0 ∷ 0 ∷ 4 ∷ 0 ∷ 0 ∷ 0 ∷ 0 ∷ 0 ∷ []
 operations_ask = refl
 
 -- so for memory: those that ask for room
 pub operations_take_memory :
-    map (λ op. asks_memory op 1)
-    (CreateTask seven ∷ EndTask ∷ AwaitChildren [] ∷ OpenGroup ∷ EndGroup ∷ ArriveAt (at Barrier 0) ∷ ArriveAt (at ShareEnd 0) ∷ ArriveAt (at RegionEnd 0) ∷ AwaitBarrier ∷ Reserve 0 ∷ Reserve 4 ∷ PutWords 3 words ∷ GiveWords 3 words ∷ BreakAt AtStop ∷ AwaitGroup ∷ AwaitOwn ∷ [])
+    map (λ op. asks_memory op 1 0 [])
+    (CreateTask seven ∷ EndTask false ∷ AwaitChildren [] ∷ OpenGroup ∷ EndGroup ∷ ArriveAt (at Barrier 0) false ∷ ArriveAt (at ShareEnd 0) false ∷ ArriveAt (at RegionEnd 0) false ∷ AwaitBarrier ∷ Reserve 0 ∷ Reserve 4 ∷ PutWords 3 words ∷ GiveWords 3 words ∷ BreakAt AtStop ∷ AwaitGroup ∷ AwaitOwn ∷ [])
     ≡ true ∷ false ∷ false ∷ true ∷ false ∷ true ∷ true ∷ false ∷ false ∷ false ∷ true ∷ false ∷ false ∷ false ∷ false ∷ false ∷ []
 operations_take_memory = refl
 
 -- words do if none is kept
-pub words_take_memory : map (λ op. asks_memory op 0) (PutWords 3 words ∷ GiveWords 3 words ∷ []) ≡ true ∷ true ∷ []
+pub words_take_memory : map (λ op. asks_memory op 0 0 []) (PutWords 3 words ∷ GiveWords 3 words ∷ []) ≡ true ∷ true ∷ []
 words_take_memory = refl
 
 -- the end of a share uses two of what was kept, if there is so much
@@ -58,14 +58,14 @@ words_keep_room = refl
 -- a member keeps more after it has reserved it
 pub operations_keep_room :
     map (λ op. op_keeps op 3)
-    (CreateTask seven ∷ EndTask ∷ AwaitChildren [] ∷ OpenGroup ∷ EndGroup ∷ ArriveAt (at Barrier 0) ∷ ArriveAt (at ShareEnd 0) ∷ ArriveAt (at RegionEnd 0) ∷ AwaitBarrier ∷ Reserve 4 ∷ PutWords 3 words ∷ GiveWords 3 words ∷ BreakAt AtStop ∷ AwaitGroup ∷ AwaitOwn ∷ [])
+    (CreateTask seven ∷ EndTask false ∷ AwaitChildren [] ∷ OpenGroup ∷ EndGroup ∷ ArriveAt (at Barrier 0) false ∷ ArriveAt (at ShareEnd 0) false ∷ ArriveAt (at RegionEnd 0) false ∷ AwaitBarrier ∷ Reserve 4 ∷ PutWords 3 words ∷ GiveWords 3 words ∷ BreakAt AtStop ∷ AwaitGroup ∷ AwaitOwn ∷ [])
     ≡ 3 ∷ 3 ∷ 3 ∷ 3 ∷ 3 ∷ 3 ∷ 1 ∷ 3 ∷ 3 ∷ 7 ∷ 2 ∷ 2 ∷ 3 ∷ 3 ∷ 3 ∷ []
 operations_keep_room = refl
 
 -- Tests of every operation
 
 abbrev all_operations : List Op
-all_operations = CreateTask seven ∷ EndTask ∷ AwaitChildren [] ∷ OpenGroup ∷ EndGroup ∷ AwaitGroup ∷ ArriveAt (at Barrier 0) ∷ AwaitBarrier ∷ Reserve 4 ∷ PutWords 3 words ∷ GiveWords 3 words ∷ BreakAt AtStop ∷ AwaitOwn ∷ []
+all_operations = CreateTask seven ∷ EndTask false ∷ AwaitChildren [] ∷ OpenGroup ∷ EndGroup ∷ AwaitGroup ∷ ArriveAt (at Barrier 0) false ∷ AwaitBarrier ∷ Reserve 4 ∷ PutWords 3 words ∷ GiveWords 3 words ∷ BreakAt AtStop ∷ AwaitOwn ∷ []
 
 -- a member that has left the region
 pub refused_after_the_region :
@@ -80,12 +80,12 @@ pub refused_in_a_broken_team :
 refused_in_a_broken_team = refl
 
 pub each_refused_in_a_broken_team :
-    map (λ op. usual_refusal op stopped) (EndTask ∷ AwaitOwn ∷ AwaitChildren [] ∷ OpenGroup ∷ AwaitGroup ∷ ArriveAt (at Barrier 0) ∷ AwaitBarrier ∷ Reserve 4 ∷ PutWords 3 words ∷ GiveWords 3 words ∷ [])
-    ≡ map (λ op. Some (Broken (record { member = 1; place = AtStop }))) (EndTask ∷ AwaitOwn ∷ AwaitChildren [] ∷ OpenGroup ∷ AwaitGroup ∷ ArriveAt (at Barrier 0) ∷ AwaitBarrier ∷ Reserve 4 ∷ PutWords 3 words ∷ GiveWords 3 words ∷ [])
+    map (λ op. usual_refusal op stopped) (EndTask false ∷ AwaitOwn ∷ AwaitChildren [] ∷ OpenGroup ∷ AwaitGroup ∷ ArriveAt (at Barrier 0) false ∷ AwaitBarrier ∷ Reserve 4 ∷ PutWords 3 words ∷ GiveWords 3 words ∷ [])
+    ≡ map (λ op. Some (Broken (record { member = 1; place = AtStop }))) (EndTask false ∷ AwaitOwn ∷ AwaitChildren [] ∷ OpenGroup ∷ AwaitGroup ∷ ArriveAt (at Barrier 0) false ∷ AwaitBarrier ∷ Reserve 4 ∷ PutWords 3 words ∷ GiveWords 3 words ∷ [])
 each_refused_in_a_broken_team = refl
 
 -- a member that has left is told so, in a broken team too
-pub left_before_broken : usual_refusal EndTask (stopped ++ first_left) ≡ Some Ended
+pub left_before_broken : usual_refusal (EndTask false) (stopped ++ first_left) ≡ Some Ended
 left_before_broken = refl
 
 -- Waiting
@@ -135,12 +135,12 @@ task_refused_by_the_least = refl
 
 -- the end of a task by a member that executes none, and one that leaves a group open
 pub refused_task_ends :
-    map (usual_refusal EndTask) (one_ready ∷ (Start 1 1 ∷ one_ready) ∷ one_runs ∷ (Group 0 0 ∷ one_runs) ∷ (GroupEnd 0 0 ∷ Group 0 0 ∷ one_runs) ∷ [])
+    map (usual_refusal (EndTask false)) (one_ready ∷ (Start 1 1 ∷ one_ready) ∷ one_runs ∷ (Group 0 0 ∷ one_runs) ∷ (GroupEnd 0 0 ∷ Group 0 0 ∷ one_runs) ∷ [])
     ≡ Some NotInTask ∷ Some NotInTask ∷ None ∷ Some GroupOpen ∷ None ∷ []
 refused_task_ends = refl
 
 -- a group of another task does not count
-pub task_ends_in_a_group : usual_refusal EndTask (Start 1 0 ∷ creates_root 1 ∷ group_empty) ≡ None
+pub task_ends_in_a_group : usual_refusal (EndTask false) (Start 1 0 ∷ creates_root 1 ∷ group_empty) ≡ None
 task_ends_in_a_group = refl
 
 -- a group for whose events there is no room
@@ -153,31 +153,31 @@ pub refused_group_ends :
 refused_group_ends = refl
 
 -- an arrival in a task
-pub refused_arrivals_in_tasks : map (λ kind. usual_refusal (ArriveAt (at kind 0)) one_runs) (Barrier ∷ ShareEnd ∷ RegionEnd ∷ []) ≡ Some InsideTask ∷ Some InsideTask ∷ Some InsideTask ∷ []
+pub refused_arrivals_in_tasks : map (λ kind. usual_refusal (ArriveAt (at kind 0) false) one_runs) (Barrier ∷ ShareEnd ∷ RegionEnd ∷ []) ≡ Some InsideTask ∷ Some InsideTask ∷ Some InsideTask ∷ []
 refused_arrivals_in_tasks = refl
 
 -- at the region's end with a group open; at a barrier one may be
-pub refused_arrivals_in_groups : map (λ kind. usual_refusal (ArriveAt (at kind 0)) group_empty) (Barrier ∷ ShareEnd ∷ RegionEnd ∷ []) ≡ None ∷ None ∷ Some GroupOpen ∷ []
+pub refused_arrivals_in_groups : map (λ kind. usual_refusal (ArriveAt (at kind 0) false) group_empty) (Barrier ∷ ShareEnd ∷ RegionEnd ∷ []) ≡ None ∷ None ∷ Some GroupOpen ∷ []
 refused_arrivals_in_groups = refl
 
 -- one with another tag than that of the others
 pub refused_differing_arrivals :
-    map (λ tag. usual_refusal (ArriveAt tag) second_ends) (at RegionEnd 0 ∷ at Barrier 0 ∷ at ShareEnd 0 ∷ at RegionEnd 1 ∷ []) ≡ None ∷ Some Mismatch ∷ Some Mismatch ∷ Some Mismatch ∷ []
+    map (λ tag. usual_refusal (ArriveAt tag false) second_ends) (at RegionEnd 0 ∷ at Barrier 0 ∷ at ShareEnd 0 ∷ at RegionEnd 1 ∷ []) ≡ None ∷ Some Mismatch ∷ Some Mismatch ∷ Some Mismatch ∷ []
 refused_differing_arrivals = refl
 
 -- which is compared at the member's next barrier alone
-pub compared_at_its_barrier : usual_refusal (ArriveAt (at RegionEnd 0)) (Pass 0 0 ∷ both_wait) ≡ None
+pub compared_at_its_barrier : usual_refusal (ArriveAt (at RegionEnd 0) false) (Pass 0 0 ∷ both_wait) ≡ None
 compared_at_its_barrier = refl
 
 -- one for which there is no room, save at the region's end and at a share's end with room kept
 pub refused_arrivals_without_room :
-    (map (λ limit. op_refusal (limits_of 64 limit) 5 0 0 (ArriveAt (at Barrier 0)) []) (6 ∷ 7 ∷ []) ≡ Some TraceFull ∷ None ∷ [])
-    × (map (λ kept. op_refusal (limits_of 64 6) 5 kept 0 (ArriveAt (at ShareEnd 0)) []) (0 ∷ 1 ∷ 2 ∷ []) ≡ Some TraceFull ∷ Some TraceFull ∷ None ∷ [])
-    × (op_refusal (limits_of 64 0) 5 0 0 (ArriveAt (at RegionEnd 0)) [] ≡ None)
+    (map (λ limit. op_refusal (limits_of 64 limit) 5 0 0 (ArriveAt (at Barrier 0) false) []) (6 ∷ 7 ∷ []) ≡ Some TraceFull ∷ None ∷ [])
+    × (map (λ kept. op_refusal (limits_of 64 6) 5 kept 0 (ArriveAt (at ShareEnd 0) false) []) (0 ∷ 1 ∷ 2 ∷ []) ≡ Some TraceFull ∷ Some TraceFull ∷ None ∷ [])
+    × (op_refusal (limits_of 64 0) 5 0 0 (ArriveAt (at RegionEnd 0) false) [] ≡ None)
 refused_arrivals_without_room = (refl, refl, refl)
 
 -- of these the tag is named before the room
-pub arrival_refused_by_the_least : op_refusal (limits_of 64 0) 5 0 0 (ArriveAt (at Barrier 0)) second_ends ≡ Some Mismatch
+pub arrival_refused_by_the_least : op_refusal (limits_of 64 0) 5 0 0 (ArriveAt (at Barrier 0) false) second_ends ≡ Some Mismatch
 arrival_refused_by_the_least = refl
 
 -- room that is kept in a task, and too much of it; none can always be
@@ -235,7 +235,7 @@ pub after_a_resumed_creation :
 after_a_resumed_creation = refl
 
 -- after the end of a task
-pub after_a_task : op_after 0 EndTask (TaskDone 1 true) one_runs ≡ one_done
+pub after_a_task : op_after 0 (EndTask false) (TaskDone 1 true) one_runs ≡ one_done
 after_a_task = refl
 
 -- after a taskwait that is passed, that runs a task, or that waits
@@ -256,7 +256,7 @@ after_a_group_wait = refl
 
 -- after an arrival that passes at once, runs a task, or waits
 pub after_an_arrival :
-    map (λ reply. op_after 0 (ArriveAt (at RegionEnd 0)) reply second_ends) (Passed ∷ Run 1 7 9 false ∷ Wait ∷ []) ≡ first_left ∷ (Start 1 0 ∷ both_end) ∷ both_end ∷ []
+    map (λ reply. op_after 0 (ArriveAt (at RegionEnd 0) false) reply second_ends) (Passed ∷ Run 1 7 9 false ∷ Wait ∷ []) ≡ first_left ∷ (Start 1 0 ∷ both_end) ∷ both_end ∷ []
 after_an_arrival = refl
 
 -- and after the wait there
@@ -283,6 +283,6 @@ after_a_refusal = refl
 
 -- but for a mismatch, which breaks the team at the member's next barrier, or where the break says
 pub after_a_mismatch :
-    (op_after 0 (ArriveAt (at Barrier 0)) (Refused Mismatch) (Pass 0 0 ∷ both_wait) ≡ Break 0 (AtBarrier 1) ∷ Pass 0 0 ∷ both_wait)
+    (op_after 0 (ArriveAt (at Barrier 0) false) (Refused Mismatch) (Pass 0 0 ∷ both_wait) ≡ Break 0 (AtBarrier 1) ∷ Pass 0 0 ∷ both_wait)
     × (op_after 0 (BreakAt (Share 2)) (Refused Mismatch) (Pass 0 0 ∷ both_wait) ≡ Break 0 (Share 2) ∷ Pass 0 0 ∷ both_wait)
 after_a_mismatch = (refl, refl)

@@ -1,5 +1,5 @@
 -- What is owed after each stored event: the event and what is owed then are no more than what was owed and what the event's operation asks for.
-use Rattle.std.proofs.Common.{◌≡◌, ◌≢◌, ℕ, ◌+◌, ◌*◌, ◌<◌, Bool, true, false, List, [], ◌∷◌, None, refl, ap, sym, arith, suc, zero, inl, inr, add-one}
+use Rattle.std.proofs.Common.{◌≡◌, ◌≢◌, ℕ, ◌+◌, ◌*◌, ◌<◌, ◌≤◌, Bool, true, false, List, [], ◌∷◌, None, refl, ap, sym, arith, suc, zero, inl, inr, add-one}
 use Rattle.std.specs.Prelude.{◌&&◌, ◌||◌, ◌==◌, not, if◌then◌else◌, nat_le}
 use Rattle.std.proofs.lemmas.Bool.{cases_Bool, cases_lt}
 use Rattle.std.proofs.lemmas.Bool.Decides.{nat_tests, eqb_tells}
@@ -11,20 +11,23 @@ use Rattle.gomp_types.specs.declared.event.Arrival.{Arrival}
 use Rattle.gomp_types.specs.declared.event.Arrival.TheVariants.{Barrier, ShareEnd, RegionEnd}
 use Rattle.gomp_types.specs.declared.event.Tag.{Tag}
 use Rattle.gomp_types.specs.declared.event.Event.{Event}
-use Rattle.gomp_types.specs.declared.event.Event.TheVariants.{Put, Got, Create, Start, Done, Group, GroupEnd, Arrive, Pass, Break}
+use Rattle.gomp_types.specs.declared.event.Event.TheVariants.{Put, Got, Create, Start, Done, Group, GroupEnd, Arrive, Pass, Cancel, Discard, Break}
+use Rattle.gomp_types.specs.declared.cancel.Scope.{Scope}
 use Rattle.gomp_types.specs.Events.{at_barrier, at_region_end, is_region_end, clash_of}
+use Rattle.gomp_types.specs.Cancels.{is_cancelled}
 use Rattle.gomp_types.specs.Tasks.{tasks_created, executed_task, has_started, is_complete, how_many}
 use Rattle.gomp_types.specs.Groups.{groups_opened, open_groups}
-use Rattle.gomp_types.specs.Goals.{may_start}
+use Rattle.gomp_types.specs.Goals.{is_unstarted, may_start}
 use Rattle.gomp_types.specs.Laws.{Always}
 use Rattle.gomp_types.specs.TaskRules.{TaskRule, MayEndGroup}
 use Rattle.gomp_types.specs.TaskCalls.{task_room, group_room, arrival_room, first_room}
-use Rattle.gomp_types.proofs.Booleans.{same_number, other_number}
-use Rattle.gomp_types.proofs.OpenTasks.{how_many_same, one_less, open_done, created_low, created_high}
-use Rattle.gomp_types.proofs.Suspended.{startable_is_fresh, runner_has_started, current_open}
+use Rattle.gomp_types.proofs.Booleans.{same_number, other_number, not_both, not_false}
+use Rattle.gomp_types.proofs.OpenTasks.{how_many_same, one_less, open_done, open_discard, created_low, created_high}
+use Rattle.gomp_types.proofs.Suspended.{unstarted_is_fresh, startable_is_fresh, runner_has_started, current_open}
 use Rattle.gomp_types.proofs.TaskRoom.{uncreated_not_started}
 use Rattle.gomp_board.specs.Owed.{owed_by_tasks, has_group_ended, count_below, owed_by_groups, owed_by_member, owed_by_members, owed_for_break, owed}
 use Rattle.gomp_board.specs.Ops.{arrival_asks, arrival_keeps, words_room, words_ask, words_keep}
+use Rattle.gomp_board.specs.Boards.{ArrivesFirst}
 use Rattle.gomp_board.proofs.GroupsOpen.{next_not_ended, last_not_ended}
 
 -- Members
@@ -86,6 +89,15 @@ done_owes members m task h all current =
     let same = still_counted task h (runner_has_started task m h is.2) in
     omega (arith, fewer, same)
 
+discarded_owes : (m task : ℕ) (h : List Event) → is_unstarted task h ≡ true → owed_by_tasks (Discard task m ∷ h) + 2 ≡ owed_by_tasks h
+discarded_owes m task h un =
+    let is = unstarted_is_fresh task h un in
+    let fewer = open_discard (λ t. true) task m h is.0 refl is.2 in
+    let unstarted =
+    one_less (tasks_created h) task (λ u. not (has_started u h) && not (is_complete u h)) (λ u. not (has_started u h) && not (task == u || is_complete u h)) (created_low task h is.0) (created_high task h is.0)
+    (rw (is.1, is.2) refl) (rw (is.1, same_number task) refl) (λ u differ. rw (other_number task u (λ e. differ (sym e))) refl) in
+    omega (arith, fewer, unstarted)
+
 -- Groups
 
 count_same : (n : ℕ) (p q : ℕ → Bool) → ((k : ℕ) → k < n → p k ≡ q k) → count_below n p ≡ count_below n q
@@ -141,6 +153,17 @@ end_owes members m task h all current =
     let rest = members_owe_same members (Done task m ∷ h) h (λ x. refl) in
     omega (arith, tasks, rest)
 
+-- a discard is one event for two
+pub discard_owes : (members m task : ℕ) (h : List Event) → is_unstarted task h ≡ true → owed members (Discard task m ∷ h) + 2 ≡ owed members h
+discard_owes members m task h un =
+    let tasks = discarded_owes m task h un in
+    let rest = members_owe_same members (Discard task m ∷ h) h (λ x. refl) in
+    omega (arith, tasks, rest)
+
+-- a cancellation owes nothing more
+pub cancel_owes : (members m : ℕ) (scope : Scope) (h : List Event) → owed members (Cancel m scope ∷ h) ≡ owed members h
+cancel_owes members m scope h = let rest = members_owe_same members (Cancel m scope ∷ h) h (λ x. refl) in omega (arith, rest)
+
 -- that of a group for two: itself and its end
 pub group_owes : (members m q : ℕ) (h : List Event) → Always (TaskRule members) h → owed members (Group q m ∷ h) + 1 ≡ owed members h + group_room
 group_owes members m q h all =
@@ -155,6 +178,10 @@ group_end_owes members m q h all may =
     omega (arith, groups, rest)
 
 -- an arrival asks for two: itself and the pass; that at the region's end for none
+-- or one event less, if the member waited at another barrier
+arrived_again : (x barrier : ℕ) (tag : Tag) (h : List Event) → at_barrier x h ≡ true → at_region_end x h ≡ false → is_region_end tag.kind ≡ true → owed_by_member x (Arrive barrier x tag ∷ h) + 2 ≡ owed_by_member x h + 0
+arrived_again x barrier tag h there before ends = rw (same_number x, there, before, ends) refl
+
 arrived_owes : (x barrier : ℕ) (tag : Tag) (h : List Event) → at_barrier x h ≡ false → at_region_end x h ≡ false →
     owed_by_member x (Arrive barrier x tag ∷ h) + 1 ≡ owed_by_member x h + (if is_region_end tag.kind then 0 else 2)
 arrived_owes x barrier tag h away before = rw (same_number x, away, before) (by (is_region_end tag.kind))
@@ -176,12 +203,27 @@ asks_enough ShareEnd kept =
     ]
 asks_enough RegionEnd kept = refl
 
-pub arrival_owes : (members m barrier kept : ℕ) (tag : Tag) (h : List Event) → m < members → at_barrier m h ≡ false → at_region_end m h ≡ false →
-    owed members (Arrive barrier m tag ∷ h) + 1 + arrival_keeps tag.kind kept ≡ owed members h + arrival_asks tag.kind kept + kept
-arrival_owes members m barrier kept tag h low away before =
-    let all = members_owe_other members m 1 (if is_region_end tag.kind then 0 else 2) (Arrive barrier m tag ∷ h) h low (λ x differ. other_arrived m x barrier tag h differ) (arrived_owes m barrier tag h away before) in
+pub arrival_owes : (members m barrier kept : ℕ) (tag : Tag) (h : List Event) → m < members → ArrivesFirst m tag h →
+    owed members (Arrive barrier m tag ∷ h) + 1 + arrival_keeps tag.kind kept ≤ owed members h + arrival_asks tag.kind kept + kept
+arrival_owes members m barrier kept tag h low first =
     let enough = asks_enough tag.kind kept in
-    omega (arith, all, enough)
+    elim (cases_Bool (at_barrier m h)) [
+      | inl there ↦
+          let cancelled = not_false (is_cancelled h) (whole_is_never there) in
+          let ends = first.ends cancelled in
+          let all = members_owe_other members m 2 0 (Arrive barrier m tag ∷ h) h low (λ x differ. other_arrived m x barrier tag h differ) (arrived_again m barrier tag h there first.before ends) in
+          let none : 0 + arrival_keeps tag.kind kept ≡ arrival_asks tag.kind kept + kept = rw ends at enough in
+          omega (arith, all, none)
+      | inr away ↦
+          let all = members_owe_other members m 1 (if is_region_end tag.kind then 0 else 2) (Arrive barrier m tag ∷ h) h low (λ x differ. other_arrived m x barrier tag h differ) (arrived_owes m barrier tag h away first.before) in
+          omega (arith, all, enough)
+    ]
+  where
+    whole_is_never : at_barrier m h ≡ true → not (is_cancelled h) ≡ false
+    whole_is_never there = elim (cases_Bool (is_cancelled h)) [
+      | inl cancelled ↦ rw cancelled refl
+      | inr whole ↦ absurd (not_both (at_barrier m h) there (first.away whole))
+    ]
 
 passed_owes : (x barrier : ℕ) (h : List Event) → at_barrier x h ≡ true → owed_by_member x (Pass barrier x ∷ h) + 1 ≡ owed_by_member x h + 0
 passed_owes x barrier h there = rw (same_number x, there) (omega arith)

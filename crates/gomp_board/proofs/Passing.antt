@@ -1,14 +1,16 @@
 -- A member that may pass a barrier waits there.
 use Rattle.std.proofs.Common.{◌≡◌, ℕ, ◌<◌, true, List, [], ◌∷◌, refl, arith, inl, inr, ◌⊎◌}
-use Rattle.std.specs.Prelude.{◌||◌, ◌==◌, not, is_some}
+use Rattle.std.specs.Prelude.{◌&&◌, ◌||◌, ◌==◌, not, is_some}
 use Rattle.std.proofs.lemmas.Bool.{cases_Bool}
 use Rattle.gomp_types.specs.declared.event.Event.{Event}
 use Rattle.gomp_types.specs.declared.event.Event.TheVariants.{Arrive, Pass}
-use Rattle.gomp_types.specs.Events.{barriers_passed, arrival, at_barrier, at_region_end, all_arrived}
+use Rattle.gomp_types.specs.Events.{barriers_passed, arrival, at_barrier, at_region_end, has_left_region, all_arrived}
+use Rattle.gomp_types.specs.Cancels.{is_cancelled}
 use Rattle.gomp_types.specs.Goals.{bound_complete, barrier_met, region_met, may_pass}
 use Rattle.gomp_types.specs.Laws.{Always}
 use Rattle.gomp_types.specs.Arrivals.{ArrivalRule}
-use Rattle.gomp_types.proofs.Booleans.{and_left, and_false, is_equal, every_tells}
+use Rattle.gomp_types.proofs.Booleans.{and_left, and_right, and_false, false_of_not, is_equal, every_tells}
+use Rattle.gomp_board.proofs.RegionLeft.{end_waits}
 
 -- the member has passed the barrier, or waits at it
 abbrev PassedOrWaits : ℕ → ℕ → List Event → Type 0
@@ -34,9 +36,18 @@ arrived_passed_or_waits members g m (_ ∷ earlier) all e = arrived_passed_or_wa
 -- who may pass has arrived at its next barrier
 pub passes_where_it_waits : (members m : ℕ) (h : List Event) → Always (ArrivalRule members) h → m < members → may_pass members m h ≡ true → at_barrier m h ≡ true
 passes_where_it_waits members m h all low may =
-    let met = and_left (barrier_met members (barriers_passed m h) h) (not (at_region_end m h) || region_met members h) may in
-    let arrived = and_left (all_arrived members (barriers_passed m h) h) (bound_complete (barriers_passed m h) h) met in
-    elim (arrived_passed_or_waits members (barriers_passed m h) m h all (every_tells members (λ x. is_some (arrival (barriers_passed m h) x h)) m arrived low)) [
-      | inl past ↦ absurd (omega (arith, past))
-      | inr here ↦ here.1
+    elim (cases_Bool (is_cancelled h)) [
+      | inl cancelled ↦
+          let ends : (at_region_end m h && (not (has_left_region m h) && region_met members h)) ≡ true = rw cancelled at may in
+          let came = and_left (at_region_end m h) (not (has_left_region m h) && region_met members h) ends in
+          let stays = and_left (not (has_left_region m h)) (region_met members h) (and_right (at_region_end m h) (not (has_left_region m h) && region_met members h) ends) in
+          end_waits members m h all (false_of_not (has_left_region m h) stays) came
+      | inr whole ↦
+          let passes : (barrier_met members (barriers_passed m h) h && (not (at_region_end m h) || region_met members h)) ≡ true = rw whole at may in
+          let met = and_left (barrier_met members (barriers_passed m h) h) (not (at_region_end m h) || region_met members h) passes in
+          let arrived = and_left (all_arrived members (barriers_passed m h) h) (bound_complete (barriers_passed m h) h) met in
+          elim (arrived_passed_or_waits members (barriers_passed m h) m h all (every_tells members (λ x. is_some (arrival (barriers_passed m h) x h)) m arrived low)) [
+            | inl past ↦ absurd (omega (arith, past))
+            | inr here ↦ here.1
+          ]
     ]

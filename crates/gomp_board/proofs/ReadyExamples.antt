@@ -27,7 +27,7 @@ abbrev one_done : List Event
 one_done = Done 1 0 ∷ one_started
 
 one_created_keeps_rules : Always (TaskRule 2) one_created
-one_created_keeps_rules = (record { member = omega arith; number = refl; current = refl; away = λ out. refl; shallow = omega arith }, tt)
+one_created_keeps_rules = (record { member = omega arith; number = refl; current = refl; away = λ out. refl; shallow = omega arith; uncovered = refl }, tt)
 
 -- no task is ready at the beginning
 pub none_at_first : AreReady [] []

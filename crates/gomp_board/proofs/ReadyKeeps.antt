@@ -8,7 +8,7 @@ use Rattle.gomp_types.specs.declared.task.Task.{Task}
 use Rattle.gomp_types.specs.declared.task.Task.TheVariants.{Explicit}
 use Rattle.gomp_types.specs.declared.task.TaskDesc.{TaskDesc}
 use Rattle.gomp_types.specs.declared.event.Event.{Event}
-use Rattle.gomp_types.specs.declared.event.Event.TheVariants.{Create, Start, Done}
+use Rattle.gomp_types.specs.declared.event.Event.TheVariants.{Create, Start, Done, Discard}
 use Rattle.gomp_types.specs.Laws.{Always}
 use Rattle.gomp_types.specs.Tasks.{contains, tasks_created, executed_task, is_created, has_started, is_complete, is_undeferred, becomes_undeferred}
 use Rattle.gomp_types.specs.Depends.{task_items}
@@ -18,6 +18,7 @@ use Rattle.gomp_types.proofs.Booleans.{and_left, and_right, and_false, false_of_
 use Rattle.gomp_types.proofs.Suspended.{runner_has_started, current_open}
 use Rattle.gomp_types.proofs.TaskRoom.{uncreated_not_started}
 use Rattle.gomp_depend.specs.Stands.{has_items}
+use Rattle.gomp_ready.specs.Ready.{without}
 use Rattle.gomp_board.specs.ReadyTasks.{is_listed, listed_with, Apart, AreReady}
 
 -- Lists of numbers
@@ -181,11 +182,55 @@ ended_ready t m ids h on are = record { ready = each; apart = are.apart }
 pub done_ready : (members t m : ℕ) (ids : List ℕ) (h : List Event) → Always (TaskRule members) h → executed_task m h ≡ Explicit t → AreReady ids h → AreReady ids (Done t m ∷ h)
 done_ready members t m ids h all current are = ended_ready t m ids h (runner_has_started t m h (current_open members m t h all current).2) are
 
--- an event that creates, starts or ends no task
+-- what a list has without a task
+contains_without : (u t : ℕ) (ids : List ℕ) → Apart ids → contains u (without t ids) ≡ (contains u ids && not (t == u))
+contains_without u t [] apart = refl
+contains_without u t (x ∷ xs) apart =
+    elim (eqb_tells x t) [
+      | inl first ↦ rw first.0 (elim (eqb_tells t u) [
+        | inl same ↦
+            let gone : contains u xs ≡ false = subst (λ (n : ℕ). contains n xs ≡ false) (first.1 ∙ same.1) apart.0 in
+            rw (same.0, gone) (sym (and_false (x == u || false) false refl))
+        | inr other ↦
+            let away : (x == u) ≡ false = rw first.1 other.0 in
+            rw (other.0, away) (sym (and_true_is_same (contains u xs)))
+      ])
+      | inr later ↦ rw later.0 (elim (eqb_tells x u) [
+        | inl here ↦
+            let stays : (t == u) ≡ false = other_number t u (λ same. not_both (x == t) (rw (here.1 ∙ sym same) (same_number t)) later.0) in
+            rw (here.0, stays) refl
+        | inr away ↦ rw away.0 (contains_without u t xs apart.1)
+      ])
+    ]
+
+apart_without : (t : ℕ) (ids : List ℕ) → Apart ids → Apart (without t ids)
+apart_without t [] apart = tt
+apart_without t (x ∷ xs) apart = elim (cases_Bool (x == t)) [
+  | inl first ↦ rw first apart.1
+  | inr later ↦ rw later (contains_without x t xs apart.1 ∙ rw apart.0 refl, apart_without t xs apart.1)
+]
+
+-- a task that is discarded stands there no more
+pub discarded_ready : (t m : ℕ) (ids : List ℕ) (h : List Event) → AreReady ids h → AreReady (without t ids) (Discard t m ∷ h)
+discarded_ready t m ids h are = record { ready = each; apart = apart_without t ids are.apart }
+  where
+    each : (u : ℕ) → contains u (without t ids) ≡ is_listed u (Discard t m ∷ h)
+    each u = contains_without u t ids are.apart ∙ elim (cases_Bool (t == u)) [
+      | inl same ↦ rw same (and_false (contains u ids) false refl ∙ sym (ended_left (is_created u h) (not (has_started u h)) (not (is_undeferred u h) && not (has_items (task_items u h)))))
+      | inr other ↦ rw other (and_true_is_same (contains u ids) ∙ are.ready u)
+    ]
+      where
+        ended_left : (a b c : Bool) → ((a && (b && false)) && c) ≡ false
+        ended_left true true c = refl
+        ended_left true false c = refl
+        ended_left false b c = refl
+
+-- an event that creates, starts, ends or discards no task
 abbrev pub IsAside : Event → Type 0
 IsAside (Create t m parent desc) = ⊥
 IsAside (Start t m) = ⊥
 IsAside (Done t m) = ⊥
+IsAside (Discard t m) = ⊥
 IsAside _ = Unit {0}
 
 -- changes nothing
@@ -193,6 +238,7 @@ same_ready : (event : Event) (u : ℕ) (h : List Event) → IsAside event → is
 same_ready (Create t m parent desc) u h is = absurd is
 same_ready (Start t m) u h is = absurd is
 same_ready (Done t m) u h is = absurd is
+same_ready (Discard t m) u h is = absurd is
 same_ready _ u h is = refl
 
 pub aside_ready : (event : Event) (ids : List ℕ) (h : List Event) → IsAside event → AreReady ids h → AreReady ids (event ∷ h)

@@ -1,5 +1,5 @@
 -- A refusal by a test is the answer, and changes nothing, unless a construct differs.
-use Rattle.std.proofs.Common.{◌≡◌, ◌≢◌, ℕ, ◌<◌, true, false, List, [], ◌∷◌, ◌++◌, Option, Some, None, refl, sym, ◌∙◌, arith, ◌⊎◌, inl, inr}
+use Rattle.std.proofs.Common.{◌≡◌, ◌≢◌, ℕ, ◌<◌, Bool, true, false, List, [], ◌∷◌, ◌++◌, Option, Some, None, refl, sym, ◌∙◌, arith, ◌⊎◌, inl, inr}
 use Rattle.std.specs.Prelude.{nat_le}
 use Rattle.std.proofs.lemmas.Bool.{cases_Bool}
 use Rattle.gomp_types.specs.declared.limits.Limits.{Limits}
@@ -18,10 +18,13 @@ use Rattle.gomp_types.specs.RefusalTexts.{number_of}
 use Rattle.gomp_types.specs.Limits.{shown_number}
 use Rattle.gomp_types.specs.Events.{barriers_passed, clash_of}
 use Rattle.gomp_types.specs.Tests.{Test}
+use Rattle.gomp_types.specs.TaskCalls.{end_task_tests}
+use Rattle.gomp_types.specs.CancelCalls.{cancel_tests, creates_covered}
 use Rattle.gomp_types.specs.Least.{lesser, least}
 use Rattle.gomp_board.specs.declared.op.Op.{Op}
-use Rattle.gomp_board.specs.declared.op.Op.TheVariants.{Create, AwaitOwn, EndTask, AwaitChildren, OpenGroup, EndGroup, AwaitGroup, Arrive, AwaitBarrier, Reserve, Put, Got, Break}
-use Rattle.gomp_board.specs.Ops.{broken_tests, member_tests, end_tests, op_tests, op_refusal, op_place, refusal_gives, OpAnswer}
+use Rattle.gomp_board.specs.declared.op.Op.TheVariants.{Create, AwaitOwn, EndTask, AwaitChildren, OpenGroup, EndGroup, AwaitGroup, Arrive, AwaitBarrier, Reserve, Put, Got, Cancel, Point, Break}
+use Rattle.gomp_board.specs.declared.op.TeamCancel.{TeamCancel}
+use Rattle.gomp_board.specs.Ops.{broken_tests, member_tests, end_tests, creation_room_tests, kind_of, op_tests, op_refusal, op_place, refusal_gives, OpAnswer}
 use Rattle.gomp_board.specs.Boards.{BoardView, Stands, Performs, members_of, kept_by}
 
 -- No test is for want of memory
@@ -56,24 +59,39 @@ broken_is_low : (clash : Option Clash) → AreLow (broken_tests clash)
 broken_is_low None = tt
 broken_is_low (Some clash) = (omega arith, tt)
 
-end_is_low : (kind : Arrival) (m : ℕ) (h : List Event) → AreLow (end_tests kind m h)
-end_is_low Barrier m h = tt
-end_is_low ShareEnd m h = tt
-end_is_low RegionEnd m h = (omega arith, tt)
+end_is_low : (kind : Arrival) (leaving : Bool) (m : ℕ) (h : List Event) → AreLow (end_tests kind leaving m h)
+end_is_low Barrier leaving m h = tt
+end_is_low ShareEnd leaving m h = tt
+end_is_low RegionEnd true m h = tt
+end_is_low RegionEnd false m h = (omega arith, tt)
+
+task_end_is_low : (leaving : Bool) (m : ℕ) (h : List Event) → AreLow (end_task_tests leaving m h)
+task_end_is_low true m h = (omega arith, tt)
+task_end_is_low false m h = (omega arith, (omega arith, tt))
+
+creation_is_low : (covered : Bool) (limits : Limits) (room : ℕ) → AreLow (creation_room_tests covered limits room)
+creation_is_low true limits room = tt
+creation_is_low false limits room = (omega arith, tt)
+
+cancel_is_low : (named : TeamCancel) (m : ℕ) (h : List Event) → AreLow (cancel_tests (kind_of named) m h)
+cancel_is_low TeamCancel.Parallel m h = (omega arith, tt)
+cancel_is_low TeamCancel.Taskgroup m h = (omega arith, (omega arith, (omega arith, tt)))
 
 own_are_low : (limits : Limits) (room kept m : ℕ) (op : Op) (h : List Event) → AreLow (op_tests limits room kept m op h)
-own_are_low limits room kept m (Create desc) h = (omega arith, (omega arith, (omega arith, (omega arith, (omega arith, tt)))))
+own_are_low limits room kept m (Create desc) h = (omega arith, (omega arith, (omega arith, (omega arith, creation_is_low (creates_covered m h) limits room))))
 own_are_low limits room kept m AwaitOwn h = (omega arith, tt)
-own_are_low limits room kept m EndTask h = (omega arith, (omega arith, (omega arith, tt)))
+own_are_low limits room kept m (EndTask leaving) h = (omega arith, task_end_is_low leaving m h)
 own_are_low limits room kept m (AwaitChildren items) h = (omega arith, tt)
 own_are_low limits room kept m OpenGroup h = (omega arith, (omega arith, tt))
 own_are_low limits room kept m EndGroup h = (omega arith, (omega arith, tt))
 own_are_low limits room kept m AwaitGroup h = (omega arith, tt)
-own_are_low limits room kept m (Arrive tag) h = (omega arith, (omega arith, low_of_both (end_tests tag.kind m h) _ (end_is_low tag.kind m h) (omega arith, (omega arith, tt))))
+own_are_low limits room kept m (Arrive tag leaving) h = (omega arith, (omega arith, low_of_both (end_tests tag.kind leaving m h) _ (end_is_low tag.kind leaving m h) (omega arith, (omega arith, tt))))
 own_are_low limits room kept m AwaitBarrier h = (omega arith, tt)
 own_are_low limits room kept m (Reserve more) h = (omega arith, (omega arith, (omega arith, tt)))
 own_are_low limits room kept m (Put share words) h = (omega arith, (omega arith, (omega arith, tt)))
 own_are_low limits room kept m (Got share words) h = (omega arith, (omega arith, tt))
+own_are_low limits room kept m (Cancel named clause allowed) h = (omega arith, low_of_both (cancel_tests (kind_of named) m h) _ (cancel_is_low named m h) (omega arith, tt))
+own_are_low limits room kept m (Point named allowed) h = (omega arith, cancel_is_low named m h)
 own_are_low limits room kept m (Break place) h = (omega arith, tt)
 
 refusal_is_low : (limits : Limits) (room kept m : ℕ) (op : Op) (h : List Event) (found : Refusal) → op_refusal limits room kept m op h ≡ Some found → number_of found < 37
@@ -105,10 +123,14 @@ broken_no_clash : (clash : Option Clash) (tests : List Test) → NoClash tests �
 broken_no_clash None tests none = none
 broken_no_clash (Some clash) tests none = ((λ e. absurd (cc)), none)
 
+creation_room_no_clash : (covered : Bool) (limits : Limits) (room : ℕ) → NoClash (creation_room_tests covered limits room)
+creation_room_no_clash true limits room = tt
+creation_room_no_clash false limits room = ((λ e. absurd (cc)), tt)
+
 pub creation_no_clash : (limits : Limits) (room kept m : ℕ) (desc : TaskDesc) (h : List Event) (found : Refusal) → Some found ≡ op_refusal limits room kept m (Create desc) h → found ≢ Mismatch
 creation_no_clash limits room kept m desc h found e =
     least_is_no_clash (member_tests m h ++ op_tests limits room kept m (Create desc) h) found
-    ((λ e. absurd (cc)), broken_no_clash (clash_of h) (op_tests limits room kept m (Create desc) h) ((λ e. absurd (cc)), ((λ e. absurd (cc)), ((λ e. absurd (cc)), ((λ e. absurd (cc)), ((λ e. absurd (cc)), tt))))))
+    ((λ e. absurd (cc)), broken_no_clash (clash_of h) (op_tests limits room kept m (Create desc) h) ((λ e. absurd (cc)), ((λ e. absurd (cc)), ((λ e. absurd (cc)), ((λ e. absurd (cc)), creation_room_no_clash (creates_covered m h) limits room)))))
     (sym e)
 
 pub taskwait_no_clash : (limits : Limits) (room kept m : ℕ) (items : List Dep) (h : List Event) (found : Refusal) → Some found ≡ op_refusal limits room kept m (AwaitChildren items) h → found ≢ Mismatch

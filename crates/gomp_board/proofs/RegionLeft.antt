@@ -1,6 +1,6 @@
 -- A member that does not wait at a barrier has left the region if it has arrived at the region's end.
-use Rattle.std.proofs.Common.{◌≡◌, ℕ, Bool, true, false, List, [], ◌∷◌, Some, refl, sym, subst, inl, inr, ◌⊎◌}
-use Rattle.std.specs.Prelude.{◌&&◌, ◌==◌, not}
+use Rattle.std.proofs.Common.{◌≡◌, ℕ, Bool, true, false, List, [], ◌∷◌, Some, refl, sym, subst, ◌∙◌, inl, inr, ◌⊎◌}
+use Rattle.std.specs.Prelude.{◌&&◌, ◌||◌, ◌==◌, not, Option, None}
 use Rattle.std.proofs.lemmas.Bool.{cases_Bool}
 use Rattle.gomp_types.specs.declared.event.Tag.{Tag}
 use Rattle.gomp_types.specs.declared.event.Event.{Event}
@@ -11,7 +11,11 @@ use Rattle.gomp_types.specs.Laws.{Always, Happened}
 use Rattle.gomp_types.specs.Arrivals.{ArrivalRule}
 use Rattle.gomp_types.proofs.Booleans.{which_branch, and_left, and_right, and_false, or_tells, or_right, same_number, is_equal, not_both}
 use Rattle.gomp_types.proofs.ArrivalsKeep.{same_arrivals}
-use Rattle.gomp_board.specs.Ops.{awaits_barrier}
+use Rattle.gomp_types.specs.declared.event.Arrival.TheVariants.{RegionEnd}
+use Rattle.gomp_types.specs.Cancels.{is_cancelled}
+use Rattle.gomp_barrier.specs.Calls.{accepts_arrival}
+use Rattle.gomp_board.specs.Boards.{ArrivesFirst}
+use Rattle.gomp_board.specs.Ops.{awaits_barrier, is_cut_short}
 
 -- a member that has arrived so did
 arrival_happened : (g m : ℕ) (tag : Tag) (h : List Event) → arrival g m h ≡ Some tag → Happened (Arrive g m tag) h
@@ -30,13 +34,17 @@ record WaitsAtEnd (m : ℕ) (h : List Event) : Type 0 where
   here : arrival (barriers_passed m h) m h ≡ Some tag
   ends : is_region_end tag.kind ≡ true
 
--- it does so still after it has arrived again, since the tags are the same
+-- it does so still after it has arrived again: with the same tag, or at the end of a cancelled region
 still_ends : (members m barrier : ℕ) (tag : Tag) (h : List Event) → Always (ArrivalRule members) (Arrive barrier m tag ∷ h) → WaitsAtEnd m h → is_region_end tag.kind ≡ true
 still_ends members m barrier tag h all waits =
     let number : barrier ≡ barriers_passed m h = all.0.number in
-    let old : Happened (Arrive barrier m waits.tag) h = rw number (arrival_happened (barriers_passed m h) m waits.tag h waits.here) in
-    let same : waits.tag ≡ tag = (same_arrivals members (Arrive barrier m tag ∷ h) all).tags barrier m m waits.tag tag (inr old) (inl refl) in
-    rw (← same) waits.ends
+    elim (cases_Bool (is_cancelled h)) [
+      | inl cancelled ↦ let kind : tag.kind ≡ RegionEnd = all.0.ends cancelled in rw kind refl
+      | inr whole ↦
+          let old : Happened (Arrive barrier m waits.tag) h = rw number (arrival_happened (barriers_passed m h) m waits.tag h waits.here) in
+          let same : waits.tag ≡ tag = (same_arrivals members (Arrive barrier m tag ∷ h) all).tags.0 whole m waits.tag old in
+          rw (← same) waits.ends
+    ]
 
 arrived_at_end : (members m barrier : ℕ) (tag : Tag) (h : List Event) → Always (ArrivalRule members) (Arrive barrier m tag ∷ h) → is_region_end tag.kind ≡ true → WaitsAtEnd m (Arrive barrier m tag ∷ h)
 arrived_at_end members m barrier tag h all ends =
@@ -89,21 +97,78 @@ left_or_waits members m (_ ∷ earlier) all came =
       | inr waits ↦ inr (record { there = waits.there; tag = waits.tag; here = waits.here; ends = waits.ends })
     ]
 
--- what the tests of an arrival tell: the member waits at no barrier, and has not arrived at the region's end
-pub arrives_first : (members m : ℕ) (h : List Event) → Always (ArrivalRule members) h → has_left_region m h ≡ false → awaits_barrier m h ≡ false → in_task m h ≡ false → (at_barrier m h ≡ false) × (at_region_end m h ≡ false)
+-- who has arrived somewhere with such a tag, or has left, has arrived at the region's end
+ended_once : (g m : ℕ) (tag : Tag) (h : List Event) → arrival g m h ≡ Some tag → is_region_end tag.kind ≡ true → at_region_end m h ≡ true
+ended_once g m tag [] at ends = absurd (cc)
+ended_once g m tag (Arrive barrier member other ∷ earlier) at ends =
+    elim (which_branch (barrier == g && member == m) (Some other) (arrival g m earlier) (Some tag) at) [
+      | inl own ↦ let same : other ≡ tag = let e = own.1 in cc in rw (and_right (barrier == g) (member == m) own.0, same, ends) refl
+      | inr before ↦ or_right (member == m && is_region_end other.kind) (at_region_end m earlier) (ended_once g m tag earlier before.1 ends)
+    ]
+ended_once g m tag (_ ∷ earlier) at ends = ended_once g m tag earlier at ends
+
+tag_of_end : (own : Option Tag) → was_region_end own ≡ true → (tag : Tag) × (own ≡ Some tag) × (is_region_end tag.kind ≡ true)
+tag_of_end None is = absurd (cc)
+tag_of_end (Some tag) is = (tag, refl, is)
+
+left_came : (m : ℕ) (h : List Event) → has_left_region m h ≡ true → at_region_end m h ≡ true
+left_came m [] left = absurd (cc)
+left_came m (Pass barrier member ∷ earlier) left =
+    elim (or_tells (member == m && was_region_end (arrival barrier m earlier)) (has_left_region m earlier) left) [
+      | inl now ↦ let found = tag_of_end (arrival barrier m earlier) (and_right (member == m) (was_region_end (arrival barrier m earlier)) now) in ended_once barrier m found.0 earlier found.1 found.2
+      | inr before ↦ left_came m earlier before
+    ]
+left_came m (Arrive barrier member tag ∷ earlier) left = or_right (member == m && is_region_end tag.kind) (at_region_end m earlier) (left_came m earlier left)
+left_came m (_ ∷ earlier) left = left_came m earlier left
+
+-- a member has arrived at the region's end exactly if it has left the region, or waits at its end
+pub came_to_end : (members m : ℕ) (h : List Event) → Always (ArrivalRule members) h → at_region_end m h ≡ (has_left_region m h || was_region_end (arrival (barriers_passed m h) m h))
+came_to_end members m h all = elim (cases_Bool (at_region_end m h)) [
+  | inl came ↦ came ∙ sym (elim (left_or_waits members m h all came) [
+    | inl left ↦ rw left refl
+    | inr waits ↦ or_right (has_left_region m h) (was_region_end (arrival (barriers_passed m h) m h)) (rw waits.here waits.ends)
+  ])
+  | inr never ↦ never ∙ sym (neither (has_left_region m h) (was_region_end (arrival (barriers_passed m h) m h)) (λ left. not_both (at_region_end m h) (left_came m h left) never)
+      (λ ends. let found = tag_of_end (arrival (barriers_passed m h) m h) ends in not_both (at_region_end m h) (ended_once (barriers_passed m h) m found.0 h found.1 found.2) never))
+]
+  where
+    neither : (a b : Bool) → (a ≡ true → ⊥) → (b ≡ true → ⊥) → (a || b) ≡ false
+    neither true b not_a not_b = absurd (not_a refl)
+    neither false true not_a not_b = absurd (not_b refl)
+    neither false false not_a not_b = refl
+
+-- who has come to the region's end and not left it waits there
+pub end_waits : (members m : ℕ) (h : List Event) → Always (ArrivalRule members) h → has_left_region m h ≡ false → at_region_end m h ≡ true → at_barrier m h ≡ true
+end_waits members m h all stays came = elim (left_or_waits members m h all came) [
+  | inl left ↦ absurd (not_both (has_left_region m h) left stays)
+  | inr waits ↦ waits.there
+]
+
+-- what the tests of an arrival tell: in a region that is not cancelled the member waits at no barrier; it has not arrived at the region's end
+pub arrives_first : (members m : ℕ) (h : List Event) → Always (ArrivalRule members) h → has_left_region m h ≡ false → (awaits_barrier m h && not (is_cut_short m h)) ≡ false → in_task m h ≡ false → (is_cancelled h ≡ false → at_barrier m h ≡ false) × (at_region_end m h ≡ false)
 arrives_first members m h all stays idle outside =
-    let away = by (at_barrier m h) (in_task m h) idle outside in (
-      away,
+    let tells = by (at_barrier m h) (is_cancelled h) (at_region_end m h) (rw outside at idle) in (
+      tells.0,
       elim (cases_Bool (at_region_end m h)) [
-        | inl came ↦ elim (left_or_waits members m h all came) [
-          | inl left ↦ absurd (not_both (has_left_region m h) left stays)
-          | inr waits ↦ absurd (not_both (at_barrier m h) waits.there away)
-        ]
+        | inl came ↦ absurd (not_both (at_region_end m h) came (tells.1 (end_waits members m h all stays came)))
         | inr never ↦ never
       ],
     )
   where
-    by : (a b : Bool) → (a && not b) ≡ false → b ≡ false → a ≡ false
-    by true true e is = absurd (cc)
-    by true false e is = absurd (cc)
-    by false b e is = refl
+    by : (a b c : Bool) → ((a && true) && not (b && not c)) ≡ false → (b ≡ false → a ≡ false) × (a ≡ true → c ≡ false)
+    by true true true e = absurd (cc)
+    by true true false e = (λ whole. absurd (cc), λ waits. refl)
+    by true false c e = absurd (cc)
+    by false b c e = (λ whole. refl, λ waits. absurd (cc))
+
+-- an arrival that comes first is accepted
+pub first_is_accepted : (m : ℕ) (tag : Tag) (h : List Event) → ArrivesFirst m tag h → accepts_arrival m tag h ≡ true
+first_is_accepted m tag h first = elim (cases_Bool (is_cancelled h)) [
+  | inl cancelled ↦
+      let stays : has_left_region m h ≡ false = elim (cases_Bool (has_left_region m h)) [
+        | inl left ↦ absurd (not_both (at_region_end m h) (left_came m h left) first.before)
+        | inr not_left ↦ not_left
+      ] in
+      rw (cancelled, first.ends cancelled, stays) refl
+  | inr whole ↦ let alike = first.alike whole in rw (whole, alike) refl
+]

@@ -23,6 +23,10 @@ listed_at b ids place h st same low =
     let at = get_at b.ready place (subst (λ (xs : List ℕ). place < length xs) same low) in
     rw same (ready_at b.ready place (slice_index_or b.ready place 0) h st.ready at)
 
+-- a task that was read there
+pub task_read_at : (ids : List ℕ) (place task : ℕ) → place < length ids → slice_get ids place ≡ Some task → task ≡ slice_index_or ids place 0
+task_read_at ids place task low found = let at = get_at ids place low in let both = sym found ∙ at in cc
+
 -- and its number is that of a task
 pub ready_number_at : (b : BoardView) (ids : List ℕ) (place : ℕ) (h : List Event) → Stands b h → ids ≡ b.ready → place < length ids → IsNumber (slice_index_or ids place 0) b.tasks
 ready_number_at b ids place h st same low =

@@ -45,7 +45,7 @@ pub tested_creations :
 tested_creations = (refl, refl)
 
 -- of the end of a task
-pub tested_task_ends : map (λ h. least (end_task_tests 0 h)) ([] ∷ one_runs ∷ (Group 0 0 ∷ one_runs) ∷ other_runs ∷ []) ≡ Some NotInTask ∷ None ∷ Some GroupOpen ∷ Some NotInTask ∷ []
+pub tested_task_ends : map (λ h. least (end_task_tests false 0 h)) ([] ∷ one_runs ∷ (Group 0 0 ∷ one_runs) ∷ other_runs ∷ []) ≡ Some NotInTask ∷ None ∷ Some GroupOpen ∷ Some NotInTask ∷ []
 tested_task_ends = refl
 
 -- of the end of a group

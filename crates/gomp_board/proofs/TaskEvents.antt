@@ -12,6 +12,7 @@ use Rattle.gomp_types.specs.Limits.{IsTeamSize}
 use Rattle.gomp_types.specs.Laws.{Always}
 use Rattle.gomp_types.specs.Tasks.{tasks_created, executed_task, is_created, is_complete, is_undeferred, becomes_undeferred}
 use Rattle.gomp_types.specs.Groups.{groups_opened}
+use Rattle.gomp_types.specs.Cancels.{would_be_covered}
 use Rattle.gomp_types.specs.Goals.{may_start, is_startable, taskwait_met}
 use Rattle.gomp_types.specs.TaskRules.{TaskRule, MayStart, MayEndGroup}
 use Rattle.gomp_types.proofs.Booleans.{and_left, and_right, false_of_not, not_both}
@@ -24,6 +25,8 @@ use Rattle.gomp_barrier.specs.Calls.{IsParent}
 use Rattle.gomp_barrier.specs.Stands.{BarriersView, Stands as BarriersStand, members_of as barrier_members}
 use Rattle.gomp_barrier.proofs.Laws.{events_aside_keep_barriers}
 use Rattle.gomp_depend.proofs.Laws.{events_aside_keep_depends}
+use Rattle.gomp_cancel.specs.Cancellations.{CancelView, CancelStands}
+use Rattle.gomp_cancel.proofs.Laws.{events_aside_keep_cancelled}
 use Rattle.gomp_depend.specs.Stands.{DependsView, RowsStand, Stands as DependsStand, has_items, IsOpen}
 use Rattle.gomp_depend.specs.declared.rows.DependRow.{DependRow}
 use Rattle.gomp_board.specs.ReadyTasks.{is_listed, listed_with}
@@ -34,6 +37,7 @@ use Rattle.gomp_board.proofs.Admitted.{implicit_is_own}
 use Rattle.gomp_board.proofs.ReadyKeeps.{created_ready, started_ready, started_apart, done_ready, aside_ready}
 use Rattle.gomp_board.proofs.PayloadsKeep.{payloads_stay}
 use Rattle.gomp_board.proofs.RoomKeeps.{room_with}
+use Rattle.gomp_board.proofs.Sealed.{sealed_aside, sealed_created}
 use Rattle.gomp_board.proofs.StoredKeeps.{stored_with, stored_aside, history_after}
 
 -- The parts
@@ -126,6 +130,8 @@ started_stands b history tasks ready place t m h has low longer less at may next
   groups = events_aside_keep_groups b.groups h (Start t m) tt (start_rule (group_members b.groups) m t h (group_member b m has low) may) st.groups;
   barriers = events_aside_keep_barriers b.barriers h (Start t m) tt st.barriers;
   depends = events_aside_keep_depends b.depends h (Start t m) tt st.depends;
+  cancelled = events_aside_keep_cancelled b.cancelled h (Start t m) tt st.cancelled;
+  sealed = sealed_aside (Start t m) h tt st.sealed;
   ready = rw less (started_ready t m b.ready place h at st.ready);
   clash = st.clash;
   payloads = payloads_stay b.payloads (Start t m) h tt st.payloads;
@@ -140,6 +146,8 @@ apart_stands b history tasks t m h has low longer rule away next st = record {
   groups = events_aside_keep_groups b.groups h (Start t m) tt (rule_for (members_of b) (group_members b.groups) m t h (group_member b m has low) rule) st.groups;
   barriers = events_aside_keep_barriers b.barriers h (Start t m) tt st.barriers;
   depends = events_aside_keep_depends b.depends h (Start t m) tt st.depends;
+  cancelled = events_aside_keep_cancelled b.cancelled h (Start t m) tt st.cancelled;
+  sealed = sealed_aside (Start t m) h tt st.sealed;
   ready = started_apart t m b.ready h away st.ready;
   clash = st.clash;
   payloads = payloads_stay b.payloads (Start t m) h tt st.payloads;
@@ -149,14 +157,16 @@ apart_stands b history tasks t m h has low longer rule away next st = record {
 -- A task is created
 
 pub created_stands : (b : BoardView) (history : List Event) (room : ℕ) (tasks : TasksView) (groups : GroupsView) (barriers : BarriersView) (depends : DependsView) (ready : List ℕ) (t m : ℕ) (listed : Bool) (p : Task) (desc : TaskDesc) (h : List Event) → history ≡ b.history ++ Create t m p desc ∷ [] → ready ≡ listed_with listed t b.ready → t ≡ suc (tasks_created h) →
-    listed ≡ (not (becomes_undeferred desc p h) && not (has_items desc.deps)) →
+    listed ≡ (not (becomes_undeferred desc p h) && not (has_items desc.deps)) → would_be_covered p h ≡ false →
     TasksStand tasks (Create t m p desc ∷ h) → GroupsStand groups (Create t m p desc ∷ h) → BarriersStand barriers (Create t m p desc ∷ h) → DependsStand depends (Create t m p desc ∷ h) → Stands b h →
     Stands (record b { history = history; room = room; tasks = tasks; groups = groups; barriers = barriers; depends = depends; ready = ready }) (Create t m p desc ∷ h)
-created_stands b history room tasks groups barriers depends ready t m listed p desc h longer more number plain next_tasks next_groups next_barriers next_depends st = record {
+created_stands b history room tasks groups barriers depends ready t m listed p desc h longer more number plain uncovered next_tasks next_groups next_barriers next_depends st = record {
   tasks = next_tasks;
   groups = next_groups;
   barriers = next_barriers;
   depends = next_depends;
+  cancelled = events_aside_keep_cancelled b.cancelled h (Create t m p desc) tt st.cancelled;
+  sealed = sealed_created t m p desc h number uncovered st.sealed;
   ready = rw more (created_ready (task_members b.tasks) t m listed p desc b.ready h st.tasks.rule number plain st.ready);
   clash = st.clash;
   payloads = payloads_stay b.payloads (Create t m p desc) h tt st.payloads;
@@ -181,6 +191,8 @@ ended_stands b history tasks groups barriers depends t m h longer current next_t
   groups = next_groups;
   barriers = next_barriers;
   depends = next_depends;
+  cancelled = events_aside_keep_cancelled b.cancelled h (Done t m) tt st.cancelled;
+  sealed = sealed_aside (Done t m) h tt st.sealed;
   ready = done_ready (task_members b.tasks) t m b.ready h st.tasks.rule current st.ready;
   clash = st.clash;
   payloads = payloads_stay b.payloads (Done t m) h tt st.payloads;
@@ -195,13 +207,15 @@ task_open b m t h st current = let is = executed_open b m t h st current in reco
 
 -- A group is opened and ended
 
-pub opened_stands : (b : BoardView) (history : List Event) (room : ℕ) (groups : GroupsView) (q m : ℕ) (h : List Event) → HasMembers b → m < members_of b → history ≡ b.history ++ Group q m ∷ [] → q ≡ groups_opened h →
-    GroupsStand groups (Group q m ∷ h) → Stands b h → Stands (record b { history = history; room = room; groups = groups }) (Group q m ∷ h)
-opened_stands b history room groups q m h has low longer number next st = record {
+pub opened_stands : (b : BoardView) (history : List Event) (room : ℕ) (groups : GroupsView) (cancelled : CancelView) (q m : ℕ) (h : List Event) → HasMembers b → m < members_of b → history ≡ b.history ++ Group q m ∷ [] → q ≡ groups_opened h →
+    GroupsStand groups (Group q m ∷ h) → CancelStands cancelled (Group q m ∷ h) → Stands b h → Stands (record b { history = history; room = room; groups = groups; cancelled = cancelled }) (Group q m ∷ h)
+opened_stands b history room groups cancelled q m h has low longer number next next_cancelled st = record {
   tasks = events_aside_keep_tasks b.tasks h (Group q m) tt (record { member = task_member b m has low; number = number }) st.tasks;
   groups = next;
   barriers = events_aside_keep_barriers b.barriers h (Group q m) tt st.barriers;
   depends = events_aside_keep_depends b.depends h (Group q m) tt st.depends;
+  cancelled = next_cancelled;
+  sealed = sealed_aside (Group q m) h tt st.sealed;
   ready = aside_ready (Group q m) b.ready h tt st.ready;
   clash = st.clash;
   payloads = payloads_stay b.payloads (Group q m) h tt st.payloads;
@@ -215,6 +229,8 @@ closed_stands b history groups q m h may longer next st = record {
   groups = next;
   barriers = events_aside_keep_barriers b.barriers h (GroupEnd q m) tt st.barriers;
   depends = events_aside_keep_depends b.depends h (GroupEnd q m) tt st.depends;
+  cancelled = events_aside_keep_cancelled b.cancelled h (GroupEnd q m) tt st.cancelled;
+  sealed = sealed_aside (GroupEnd q m) h tt st.sealed;
   ready = aside_ready (GroupEnd q m) b.ready h tt st.ready;
   clash = st.clash;
   payloads = payloads_stay b.payloads (GroupEnd q m) h tt st.payloads;
@@ -229,6 +245,8 @@ waited_stands b m items h has low complete st = record {
   groups = events_aside_keep_groups b.groups h (Waited m items) tt (record { member = group_member b m has low; complete = complete }) st.groups;
   barriers = events_aside_keep_barriers b.barriers h (Waited m items) tt st.barriers;
   depends = events_aside_keep_depends b.depends h (Waited m items) tt st.depends;
+  cancelled = events_aside_keep_cancelled b.cancelled h (Waited m items) tt st.cancelled;
+  sealed = sealed_aside (Waited m items) h tt st.sealed;
   ready = aside_ready (Waited m items) b.ready h tt st.ready;
   clash = st.clash;
   payloads = payloads_stay b.payloads (Waited m items) h tt st.payloads;
@@ -252,6 +270,9 @@ more_group_room old new h e st = subst (λ (v : GroupsView). GroupsStand v h) (s
 
 pub more_task_room : (old new : GroupsView) (h : List Event) → new ≡ record old { task_room = new.task_room } → GroupsStand old h → GroupsStand new h
 more_task_room old new h e st = subst (λ (v : GroupsView). GroupsStand v h) (sym e) st
+
+pub more_mark_room : (old new : CancelView) (h : List Event) → new ≡ record old { room = new.room } → CancelStands old h → CancelStands new h
+more_mark_room old new h e st = subst (λ (v : CancelView). CancelStands v h) (sym e) (record { region = st.region; opened = st.opened; marked = st.marked })
 
 pub more_room : (old new : TasksView) (h : List Event) → new ≡ record old { room = new.room } → TasksStand old h → TasksStand new h
 more_room old new h e st = subst (λ (v : TasksView). TasksStand v h) (sym e) st

@@ -1,5 +1,5 @@
 -- What the parts of a board ask for when a task is created or ended, and a group opened or ended.
-use Rattle.std.proofs.Common.{◌≡◌, ℕ, ◌+◌, ◌<◌, ◌≤◌, Bool, true, List, [], ◌∷◌, Option, Some, None, refl, ap, ◌∙◌, sym, subst, arith, suc}
+use Rattle.std.proofs.Common.{◌≡◌, ℕ, ◌+◌, ◌<◌, ◌≤◌, Bool, true, false, List, [], ◌∷◌, Option, Some, None, refl, ap, ◌∙◌, sym, subst, arith, suc}
 use Rattle.std.specs.Prelude.{min, reverse, not, ◌&&◌}
 use Rattle.gomp_types.specs.declared.depend.Dep.{Dep}
 use Rattle.gomp_depend.specs.Stands.{has_items}
@@ -12,11 +12,13 @@ use Rattle.gomp_types.specs.declared.event.Event.{Event}
 use Rattle.gomp_types.specs.Tasks.{tasks_created, executed_task, in_task, after_first, is_odd, epoch, epoch_of_child, becomes_undeferred}
 use Rattle.gomp_types.specs.Groups.{open_groups}
 use Rattle.gomp_types.specs.TaskRules.{MayCreate, MayEndGroup}
+use Rattle.gomp_types.specs.Cancels.{first_of}
+use Rattle.gomp_types.specs.CancelCalls.{creates_covered}
 use Rattle.gomp_types.specs.TaskCalls.{last_complete}
 use Rattle.gomp_types.proofs.Booleans.{not_both}
 use Rattle.gomp_tasks.specs.Calls.{MayCreateNext, task_or_implicit}
 use Rattle.gomp_tasks.specs.Stands.{TasksView, Stands as TasksStand, members_of as task_members, count_of}
-use Rattle.gomp_groups.specs.Calls.{first_of, last_open}
+use Rattle.gomp_groups.specs.Calls.{last_open}
 use Rattle.gomp_barrier.specs.Calls.{MayBind, MayRelease}
 use Rattle.gomp_barrier.specs.Stands.{members_of as barrier_members}
 use Rattle.gomp_board.specs.declared.op.Op.TheVariants.{Create, EndTask}
@@ -26,13 +28,13 @@ use Rattle.gomp_board.proofs.TaskEvents.{parent_is, executed_open}
 
 -- A task is created
 
-pub creates_so : (now b : BoardView) (m n : ℕ) (desc : TaskDesc) (h : List Event) → b ≡ now → IsAdmitted (Create desc) m now → m < n → Stands b h → MayCreate n (suc (tasks_created h)) m (executed_task m h) h
-creates_so now b m n desc h e admitted low st = create_may now.limits now.room (kept_by m now) n m desc h low (admitted h (subst (λ (v : BoardView). Stands v h) e st))
+pub creates_so : (now b : BoardView) (m n : ℕ) (desc : TaskDesc) (h : List Event) → b ≡ now → IsAdmitted (Create desc) m now → m < n → creates_covered m h ≡ false → Stands b h → MayCreate n (suc (tasks_created h)) m (executed_task m h) h
+creates_so now b m n desc h e admitted low uncovered st = create_may now.limits now.room (kept_by m now) n m desc h low uncovered (admitted h (subst (λ (v : BoardView). Stands v h) e st))
 
-pub creates_next : (now b : BoardView) (tasks : TasksView) (m : ℕ) (odd : Bool) (desc : TaskDesc) (h : List Event) → b ≡ now → IsAdmitted (Create desc) m now → m < task_members tasks → TasksStand tasks h → odd ≡ is_odd (epoch_of_child (executed_task m h) h) → Stands b h →
+pub creates_next : (now b : BoardView) (tasks : TasksView) (m : ℕ) (odd : Bool) (desc : TaskDesc) (h : List Event) → b ≡ now → IsAdmitted (Create desc) m now → m < task_members tasks → creates_covered m h ≡ false → TasksStand tasks h → odd ≡ is_odd (epoch_of_child (executed_task m h) h) → Stands b h →
     MayCreateNext tasks m odd h
-creates_next now b tasks m odd desc h e admitted low next parity st = record {
-  rule = subst (λ (n : ℕ). MayCreate (task_members tasks) (suc n) m (executed_task m h) h) next.count (creates_so now b m (task_members tasks) desc h e admitted low st);
+creates_next now b tasks m odd desc h e admitted low uncovered next parity st = record {
+  rule = subst (λ (n : ℕ). MayCreate (task_members tasks) (suc n) m (executed_task m h) h) next.count (creates_so now b m (task_members tasks) desc h e admitted low uncovered st);
   odd_is = parity;
 }
 
@@ -51,10 +53,10 @@ limits_low limits capped =
     (omega (arith, tasks), omega (arith, events))
 
 -- the room that was asked for with that of a task
-pub creation_fits : (now b : BoardView) (m : ℕ) (desc : TaskDesc) (space : ℕ) → b ≡ now → IsBoard space b → IsAdmitted (Create desc) m now → b.room + 3 < 4294967296
-creation_fits now b m desc space e is admitted =
+pub creation_fits : (now b : BoardView) (m : ℕ) (desc : TaskDesc) (space : ℕ) → b ≡ now → IsBoard space b → IsAdmitted (Create desc) m now → creates_covered m (reverse b.history) ≡ false → b.room + 3 < 4294967296
+creation_fits now b m desc space e is admitted uncovered =
     let fine = admitted (reverse b.history) (subst (λ (v : BoardView). Stands v (reverse b.history)) e is.stands) in
-    let asked = create_room now.limits now.room (kept_by m now) m desc (reverse b.history) fine in
+    let asked = create_room now.limits now.room (kept_by m now) m desc (reverse b.history) uncovered fine in
     let low = (limits_low b.limits is.limits).1 in
     let room : b.room ≡ now.room = ap (λ (v : BoardView). v.room) e in
     let limit : b.limits.events ≡ now.limits.events = ap (λ (v : BoardView). v.limits.events) e in
@@ -77,10 +79,10 @@ next_task_number tasks after t h st number more = let count = st.count in omega 
 -- A task is ended
 
 -- the member executes an explicit task
-pub never_the_implicit_task : (now b : BoardView) (m : ℕ) (found : Option ℕ) (h : List Event) → b ≡ now → IsAdmitted EndTask m now → Stands b h → executed_task m h ≡ task_or_implicit m found → found ≡ None → ⊥
-never_the_implicit_task now b m found h e admitted st current none =
+pub never_the_implicit_task : (now b : BoardView) (m : ℕ) (leaving : Bool) (found : Option ℕ) (h : List Event) → b ≡ now → IsAdmitted (EndTask leaving) m now → Stands b h → executed_task m h ≡ task_or_implicit m found → found ≡ None → ⊥
+never_the_implicit_task now b m leaving found h e admitted st current none =
     let fine = admitted h (subst (λ (v : BoardView). Stands v h) e st) in
-    not_both (in_task m h) (end_within now.limits now.room (kept_by m now) m h fine) (out_of_tasks m m h (current ∙ ap (task_or_implicit m) none))
+    not_both (in_task m h) (end_within now.limits now.room (kept_by m now) m leaving h fine) (out_of_tasks m m h (current ∙ ap (task_or_implicit m) none))
 
 pub member_executes : (m t : ℕ) (found : Option ℕ) (h : List Event) → executed_task m h ≡ task_or_implicit m found → found ≡ Some t → executed_task m h ≡ Explicit t
 member_executes m t found h current some = current ∙ ap (task_or_implicit m) some

@@ -1,18 +1,13 @@
 -- What a member is answered at a wait, by its goal: passed if that is met, and else a task to execute, or to wait.
-use Rattle.std.proofs.Common.{◌≡◌, ℕ, Bool, false, List, ◌++◌, None, refl, ap, ◌∙◌, sym, subst}
+use Rattle.std.proofs.Common.{◌≡◌, ℕ, Bool, false, List, ◌++◌, None, refl, sym, subst}
 use Rattle.gomp_types.specs.declared.limits.Limits.{Limits}
 use Rattle.gomp_types.specs.declared.refusal.Refusal.{Refusal}
 use Rattle.gomp_types.specs.declared.reply.Reply.{Reply}
 use Rattle.gomp_types.specs.declared.reply.Reply.TheVariants.{Passed, Refused}
-use Rattle.gomp_types.specs.declared.event.Tag.{Tag}
 use Rattle.gomp_types.specs.declared.depend.Dep.{Dep}
 use Rattle.gomp_types.specs.declared.event.Event.{Event}
-use Rattle.gomp_types.specs.Tasks.{executed_task}
-use Rattle.gomp_types.specs.Groups.{open_groups}
-use Rattle.gomp_types.specs.Goals.{may_pass}
-use Rattle.gomp_types.specs.TaskCalls.{AwaitsTasks, starts_task, waited, ends_group, last_complete}
+use Rattle.gomp_types.specs.TaskCalls.{AwaitsTasks, starts_task, waited, ends_group}
 use Rattle.gomp_board.specs.declared.op.Op.{Op}
-use Rattle.gomp_board.specs.declared.op.Op.TheVariants.{EndGroup, Arrive, AwaitBarrier}
 use Rattle.gomp_board.specs.Ops.{op_refusal, op_after, op_gives, begun, passes_barrier, OpReply, OpAnswer}
 
 -- a reply that is no refusal
@@ -55,27 +50,3 @@ ended_runs m h _ runs = refl
 pub passed_runs : (m : ℕ) (h : List Event) (reply : Reply) → AwaitsTasks m false h reply → passes_barrier m h reply ≡ starts_task m reply
 passed_runs m h Passed runs = absurd (cc)
 passed_runs m h _ runs = refl
-
--- at waits that go on
-module _ (limits : Limits) (room kept members m : ℕ) (h : List Event) (reply : Reply) (runs : AwaitsTasks m false h reply) where
-  pub group_answered : op_refusal limits room kept m EndGroup h ≡ None → last_complete (open_groups (executed_task m h) h) h ≡ false → OpAnswer limits room kept members m EndGroup h reply
-  group_answered fine unmet = op_answered limits room kept members m EndGroup h reply (runs_is_reply m h reply runs) fine (runs_unmet m (last_complete (open_groups (executed_task m h) h) h) h reply unmet runs)
-
-  pub barrier_answered : op_refusal limits room kept m AwaitBarrier h ≡ None → may_pass members m h ≡ false → OpAnswer limits room kept members m AwaitBarrier h reply
-  barrier_answered fine unmet = op_answered limits room kept members m AwaitBarrier h reply (runs_is_reply m h reply runs) fine (runs_unmet m (may_pass members m h) h reply unmet runs)
-
--- the events after it
-module _ (m : ℕ) (h : List Event) (reply : Reply) (runs : AwaitsTasks m false h reply) where
-  pub after_group : op_after m EndGroup reply h ≡ starts_task m reply ++ h
-  after_group = after_reply m EndGroup reply h (runs_is_reply m h reply runs) ∙ ap (λ es. es ++ h) (ended_runs m h reply runs)
-
-  pub after_barrier : op_after m AwaitBarrier reply h ≡ starts_task m reply ++ h
-  after_barrier = after_reply m AwaitBarrier reply h (runs_is_reply m h reply runs) ∙ ap (λ es. es ++ h) (passed_runs m h reply runs)
-
--- at an arrival, whose own event comes first
-module _ (limits : Limits) (room kept members m : ℕ) (tag : Tag) (h : List Event) (reply : Reply) (runs : AwaitsTasks m false (begun m (Arrive tag) h) reply) where
-  pub arrival_answered : op_refusal limits room kept m (Arrive tag) h ≡ None → may_pass members m (begun m (Arrive tag) h) ≡ false → OpAnswer limits room kept members m (Arrive tag) h reply
-  arrival_answered fine unmet = op_answered limits room kept members m (Arrive tag) h reply (runs_is_reply m (begun m (Arrive tag) h) reply runs) fine (runs_unmet m (may_pass members m (begun m (Arrive tag) h)) (begun m (Arrive tag) h) reply unmet runs)
-
-  pub after_arrival : op_after m (Arrive tag) reply h ≡ starts_task m reply ++ begun m (Arrive tag) h
-  after_arrival = after_reply m (Arrive tag) reply h (runs_is_reply m (begun m (Arrive tag) h) reply runs) ∙ ap (λ es. es ++ begun m (Arrive tag) h) (passed_runs m (begun m (Arrive tag) h) reply runs)

@@ -1,5 +1,5 @@
 -- What words do to a board: their room is made, and they are noted.
-use Rattle.std.proofs.Common.{◌≡◌, ℕ, ◌+◌, ◌<◌, List, [], ◌∷◌, ◌++◌, Option, length, length-set, refl, ap, ◌∙◌, sym, subst, arith}
+use Rattle.std.proofs.Common.{◌≡◌, ℕ, true, ◌+◌, ◌<◌, List, [], ◌∷◌, ◌++◌, Option, length, length-set, refl, ap, ◌∙◌, sym, subst, arith}
 use Rattle.std.specs.Prelude.{reverse, sum, slice_set}
 use Rattle.gomp_types.specs.declared.event.Event.{Event}
 use Rattle.gomp_types.specs.declared.event.Event.TheVariants.{Put as PutEvent, Got as GotEvent}
@@ -11,9 +11,10 @@ use Rattle.gomp_groups.proofs.Laws.{events_aside_keep_groups}
 use Rattle.gomp_barrier.specs.Stands.{members_of as barrier_members}
 use Rattle.gomp_barrier.proofs.Laws.{events_aside_keep_barriers}
 use Rattle.gomp_depend.proofs.Laws.{events_aside_keep_depends}
+use Rattle.gomp_cancel.proofs.Laws.{events_aside_keep_cancelled}
 use Rattle.gomp_board.specs.declared.op.Op.{Op}
 use Rattle.gomp_board.specs.declared.payloads.Put.{Put as Kept}
-use Rattle.gomp_board.specs.Ops.{op_asks, op_keeps, op_gives, begun, words_ask, words_keep, OpReply}
+use Rattle.gomp_board.specs.Ops.{op_asks, keeps_room, op_keeps, op_gives, begun, words_ask, words_keep, OpReply}
 use Rattle.gomp_board.specs.Payloads.{PayloadsStand}
 use Rattle.gomp_board.specs.Owed.{owed}
 use Rattle.gomp_board.specs.Boards.{BoardView, Stands, HasSpare, IsBoard, IsAdmitted, Performs, members_of, kept_by}
@@ -23,6 +24,7 @@ use Rattle.gomp_board.proofs.PayloadsKeep.{payloads_stay}
 use Rattle.gomp_board.proofs.Performed.{op_performed}
 use Rattle.gomp_board.proofs.ReadyKeeps.{aside_ready}
 use Rattle.gomp_board.proofs.RoomKeeps.{sum_with, kept_within}
+use Rattle.gomp_board.proofs.Sealed.{sealed_aside}
 use Rattle.gomp_board.proofs.StoredKeeps.{stored_with}
 use Rattle.gomp_board.proofs.TaskEvents.{members_with}
 
@@ -35,6 +37,8 @@ put_words_stand b history kept payloads share m words h longer next st = record 
   groups = events_aside_keep_groups b.groups h (PutEvent share m words) tt tt st.groups;
   barriers = events_aside_keep_barriers b.barriers h (PutEvent share m words) tt st.barriers;
   depends = events_aside_keep_depends b.depends h (PutEvent share m words) tt st.depends;
+  cancelled = events_aside_keep_cancelled b.cancelled h (PutEvent share m words) tt st.cancelled;
+  sealed = sealed_aside (PutEvent share m words) h tt st.sealed;
   ready = aside_ready (PutEvent share m words) b.ready h tt st.ready;
   clash = st.clash;
   payloads = next;
@@ -48,6 +52,8 @@ given_words_stand b history kept share m words h longer st = record {
   groups = events_aside_keep_groups b.groups h (GotEvent share m words) tt tt st.groups;
   barriers = events_aside_keep_barriers b.barriers h (GotEvent share m words) tt st.barriers;
   depends = events_aside_keep_depends b.depends h (GotEvent share m words) tt st.depends;
+  cancelled = events_aside_keep_cancelled b.cancelled h (GotEvent share m words) tt st.cancelled;
+  sealed = sealed_aside (GotEvent share m words) h tt st.sealed;
   ready = aside_ready (GotEvent share m words) b.ready h tt st.ready;
   clash = st.clash;
   payloads = payloads_stay b.payloads (GotEvent share m words) h tt st.payloads;
@@ -79,11 +85,11 @@ module _ (space m : ℕ) (b : BoardView) (is : IsBoard space b) (low : m < membe
 
 -- What the operation does
 
-pub words_performed : (op : Op) (m more : ℕ) (old made noted : BoardView) → IsAdmitted op m old → ((h : List Event) → OpReply (members_of old) m op (begun m op h) Finished) → more ≡ op_asks op (kept_by m old) → made ≡ record old { room = old.room + more } →
+pub words_performed : (op : Op) (m more : ℕ) (old made noted : BoardView) → keeps_room op Finished ≡ true → IsAdmitted op m old → ((h : List Event) → OpReply (members_of old) m op (begun m op h) Finished) → more ≡ op_asks op (kept_by m old) → made ≡ record old { room = old.room + more } →
     ((h : List Event) → Stands made h → Stands noted (op_gives m op (begun m op h) Finished ++ begun m op h)) → noted.limits ≡ made.limits → noted.room ≡ made.room → noted.kept ≡ slice_set made.kept m (op_keeps op (kept_by m made)) →
     Performs op m old noted Finished
-words_performed op m more old made noted admitted finishes asks room_made notes limits room kept =
-    op_performed op m old noted Finished tt admitted (λ h st. finishes h)
+words_performed op m more old made noted keeps admitted finishes asks room_made notes limits room kept =
+    op_performed op m old noted Finished tt keeps admitted (λ h st. finishes h)
     (λ h st. notes h (subst (λ (v : BoardView). Stands v h) (sym room_made) (roomy_stands old (old.room + more) h st)))
     (limits ∙ ap (λ (v : BoardView). v.limits) room_made)
     (room ∙ ap (λ (v : BoardView). v.room) room_made ∙ ap (λ (n : ℕ). old.room + n) asks)

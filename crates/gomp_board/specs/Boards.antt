@@ -1,14 +1,18 @@
 -- When a board stands for a list of all events of its team. (own)
-use Rattle.std.specs.Prelude.{ℕ, ◌+◌, ◌≤◌, ◌≡◌, ◌≢◌, true, false, List, Option, None, length, reverse, sum, slice_index_or, slice_set}
+use Rattle.std.specs.Prelude.{ℕ, ◌+◌, ◌≤◌, ◌≡◌, ◌≢◌, true, false, if◌then◌else◌, List, Option, None, length, reverse, sum, slice_index_or, slice_set}
 use Rattle.gomp_types.specs.declared.limits.Limits.{Limits}
 use Rattle.gomp_types.specs.declared.refusal.Clash.{Clash}
 use Rattle.gomp_types.specs.declared.reply.Reply.{Reply}
 use Rattle.gomp_types.specs.declared.reply.Reply.TheVariants.{Wait, Refused}
 use Rattle.gomp_types.specs.declared.event.Event.{Event}
 use Rattle.gomp_types.specs.Limits.{capped_limits, IsTeamSize}
+use Rattle.gomp_types.specs.declared.event.Arrival.{Arrival}
 use Rattle.gomp_types.specs.declared.event.Tag.{Tag}
 use Rattle.gomp_types.specs.Compare.{tag_differs}
-use Rattle.gomp_types.specs.Events.{barriers_passed, tag_at, at_barrier, at_region_end, clash_of}
+use Rattle.gomp_types.specs.Events.{barriers_passed, tag_at, at_barrier, at_region_end, is_region_end, clash_of}
+use Rattle.gomp_types.specs.Cancels.{is_cancelled, is_covered}
+use Rattle.gomp_types.specs.Goals.{is_unstarted}
+use Rattle.gomp_cancel.specs.Cancellations.{CancelView, CancelStands}
 use Rattle.gomp_types.specs.TaskCalls.{AwaitsTasks}
 use Rattle.gomp_types.specs.declared.refusal.Refusal.{Refusal}
 use Rattle.gomp_types.specs.declared.refusal.Refusal.TheVariants.{Mismatch}
@@ -18,7 +22,7 @@ use Rattle.gomp_depend.specs.Stands.{DependsView, Stands as DependsStand}
 use Rattle.gomp_barrier.specs.Stands.{BarriersView, Stands as BarriersStand, members_of as barrier_members}
 use Rattle.gomp_board.specs.declared.op.Op.{Op}
 use Rattle.gomp_board.specs.declared.payloads.Put.{Put}
-use Rattle.gomp_board.specs.Ops.{op_asks, op_keeps, op_refusal, op_after, goes_on_waiting, OpAnswer}
+use Rattle.gomp_board.specs.Ops.{arrival_keeps, op_asks, op_keeps, keeps_room, op_refusal, op_after, goes_on_waiting, OpAnswer}
 use Rattle.gomp_board.specs.ReadyTasks.{AreReady}
 use Rattle.gomp_board.specs.Payloads.{PayloadsStand}
 use Rattle.gomp_board.specs.Stored.{stored}
@@ -39,6 +43,8 @@ pub record BoardView : Type 0 where
   pub barriers : BarriersView
   -- for which open tasks the tasks with items wait
   pub depends : DependsView
+  -- what is cancelled: the region, and which groups
+  pub cancelled : CancelView
   -- the deferred tasks without items that nobody has started, the oldest first
   pub ready : List ℕ
   -- the words that executors of singles put, at most one share's at each of eight places
@@ -52,12 +58,22 @@ members_of board = length board.kept
 abbrev pub kept_by : ℕ → BoardView → ℕ
 kept_by m board = slice_index_or board.kept m 0
 
+-- the board once the member has used what it kept for an arrival of this kind
+abbrev pub with_kept_used : Arrival → ℕ → BoardView → BoardView
+with_kept_used kind m board = record board { kept = slice_set board.kept m (arrival_keeps kind (kept_by m board)) }
+
+-- no task that nobody has started is reached by a cancellation: each was discarded
+abbrev pub AreSealed : List Event → Type 0
+AreSealed h = (t : ℕ) → is_unstarted t h ≡ true → is_covered t h ≡ false
+
 -- each part stands for the events, and the history has those of them that are stored
 pub record Stands (board : BoardView) (h : List Event) : Type 0 where
   pub tasks : TasksStand board.tasks h
   pub groups : GroupsStand board.groups h
   pub barriers : BarriersStand board.barriers h
   pub depends : DependsStand board.depends h
+  pub cancelled : CancelStands board.cancelled h
+  pub sealed : AreSealed h
   pub ready : AreReady board.ready h
   pub payloads : PayloadsStand board.payloads h
   pub clash : clash_of h ≡ board.clash
@@ -94,10 +110,10 @@ pub record IsSame (board after : BoardView) : Type 0 where
   pub kept : after.kept ≡ board.kept
   pub stands : (h : List Event) → Stands board h → Stands after h
 
--- the room that was asked for after an operation; one that is refused asks for none
+-- the room that was asked for after an operation; one that is refused asks for none, and not every reply has it keep what it asked for
 abbrev pub room_after : Op → ℕ → Reply → ℕ → ℕ
 room_after op kept (Refused refusal) room = room
-room_after op kept reply room = room + op_asks op kept
+room_after op kept reply room = if keeps_room op reply then room + op_asks op kept else room
 
 -- what each member keeps of it then: the one whose operation it is what the operation leaves, unless it is refused
 abbrev pub kept_after : Op → ℕ → Reply → List ℕ → List ℕ
@@ -123,11 +139,13 @@ pub record Performs (op : Op) (m : ℕ) (board after : BoardView) (reply : Reply
   -- nor does a wait that goes on
   pub waits : reply ≡ Wait → goes_on_waiting op ≡ true → after ≡ board
 
--- an arrival that comes first: the member waits at no barrier, has not arrived at the region's end, and nobody has arrived at its barrier with another tag
+-- an arrival that comes first: the member waits at no barrier, unless the region is cancelled, has not arrived at the region's end, and nobody has arrived at its barrier with another tag
 pub record ArrivesFirst (m : ℕ) (tag : Tag) (h : List Event) : Type 0 where
-  pub away : at_barrier m h ≡ false
+  pub away : is_cancelled h ≡ false → at_barrier m h ≡ false
   pub before : at_region_end m h ≡ false
-  pub alike : tag_differs tag (tag_at (barriers_passed m h) h) ≡ false
+  pub alike : is_cancelled h ≡ false → tag_differs tag (tag_at (barriers_passed m h) h) ≡ false
+  -- in a cancelled region it is at the region's end
+  pub ends : is_cancelled h ≡ true → is_region_end tag.kind ≡ true
 
 -- what a member is answered at a wait whose goal is not met: a task to execute, or to wait
 abbrev pub RunsOrWaits : ℕ → List Event → Reply → Type 0

@@ -4,5 +4,6 @@ pub mod Owed
 pub mod Ops
 pub mod ReadyTasks
 pub mod Boards
+pub mod Discards
 pub mod Examples
 pub mod Startable

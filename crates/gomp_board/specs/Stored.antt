@@ -2,9 +2,10 @@
 use Rattle.std.specs.Prelude.{Bool, true, false, if◌then◌else◌, List, [], ◌∷◌}
 use Rattle.std.specs.Bool.{OnTrue}
 use Rattle.gomp_types.specs.declared.event.Event.{Event}
-use Rattle.gomp_types.specs.declared.event.Event.TheVariants.{Put, Got, Arrive, Pass, Create, Start, Done, Group, GroupEnd, Waited, Break}
+use Rattle.gomp_types.specs.declared.event.Event.TheVariants.{Put, Got, Arrive, Pass, Create, Start, Done, Group, GroupEnd, Waited, Cancel, Discard, Break}
+use Rattle.gomp_types.specs.declared.cancel.Scope.TheVariants.{OneShare}
 
--- whether a board stores the event: not what a member does in its shares, nor a taskwait, nor what names and locks keep
+-- whether a board stores the event: not what a member does in its shares, nor a taskwait, nor what names and locks keep, nor that a member sees a cancellation
 abbrev pub is_stored : Event → Bool
 is_stored (Put share m payload) = true
 is_stored (Got share m payload) = true
@@ -15,6 +16,9 @@ is_stored (Start task m) = true
 is_stored (Done task m) = true
 is_stored (Group group m) = true
 is_stored (GroupEnd group m) = true
+is_stored (Cancel m (OneShare share)) = false
+is_stored (Cancel m scope) = true
+is_stored (Discard task m) = true
 is_stored (Break m place) = true
 is_stored _ = false
 

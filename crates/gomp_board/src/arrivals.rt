@@ -1,15 +1,16 @@
 //! Barriers, and breaks of the team. OpenMP API 5.2, section 15.3.
 
-ghost use Rattle.std.specs.Prelude.{◌≡◌, ◌<◌, ◌++◌, List, ◌∷◌, Some, None, reverse, slice_set};
+ghost use Rattle.std.specs.Prelude.{◌≡◌, ◌<◌, ◌++◌, ◌&&◌, not, List, ◌∷◌, Some, None, reverse, slice_set};
 ghost use Rattle.gomp_types.specs.declared.event.Event.{Event as AnyEvent};
-ghost use Rattle.gomp_types.specs.declared.event.Event.TheVariants.{Break as BreakEvent};
+ghost use Rattle.gomp_types.specs.declared.event.Event.TheVariants.{Arrive as ArriveEvent, Break as BreakEvent};
 ghost use Rattle.gomp_types.specs.declared.refusal.Refusal.TheVariants.{Mismatch};
 ghost use Rattle.gomp_types.specs.declared.reply.Reply.TheVariants.{Wait};
-ghost use Rattle.gomp_types.specs.Events.{clash_of};
+ghost use Rattle.gomp_types.specs.Events.{barriers_passed, is_region_end, clash_of};
+ghost use Rattle.gomp_types.specs.Cancels.{is_cancelled};
 ghost use Rattle.gomp_types.specs.Goals.{may_pass};
 ghost use Rattle.gomp_types.specs.TaskCalls.{AwaitsTasks};
-ghost use Rattle.gomp_board.specs.Ops.{arrival_asks, arrival_keeps, op_refusal, begun, passes_barrier};
-ghost use Rattle.gomp_board.specs.Boards.{HasSpare, ArrivesFirst, IsAdmitted, Performs, Stands, members_of, kept_by};
+ghost use Rattle.gomp_board.specs.Ops.{arrival_asks, arrival_keeps, op_refusal, passes_barrier};
+ghost use Rattle.gomp_board.specs.Boards.{HasSpare, ArrivesFirst, IsAdmitted, Performs, Stands, members_of, kept_by, with_kept_used};
 ghost use Rattle.gomp_board.specs.declared.op.Op.TheVariants.{Arrive, AwaitBarrier, Break};
 
 use crate::board::Board;
@@ -21,27 +22,36 @@ const ARRIVAL_ROOM: u32 = 2;
 
 impl Board {
     /// The member arrives at its next barrier.
-    pub(crate) fn arrive(&mut self, member: u16, tag: Tag) -> Reply
+    pub(crate) fn arrive(&mut self, member: u16, tag: Tag, leaving: bool) -> Reply
         requires member { member < members_of self.old }
-        requires admitted { IsAdmitted (Arrive tag) member self.old }
-        ensures performs { Performs (Arrive tag) member self.old self.new result }
+        requires admitted { IsAdmitted (Arrive tag leaving) member self.old }
+        ensures performs { Performs (Arrive tag leaving) member self.old self.new result }
     {
         let asked = arrival_asks(tag.kind, self.kept[member as usize]);
         match self.make_room(asked) {
             Err(_) => Reply::Refused(Refusal::NoMemory),
             Ok(()) => {
-                self.note_arrival(member, tag);
-                self.await_pass(member)
+                if self.arrives_nowhere(tag.kind) {
+                    self.use_kept(member, tag.kind);
+                    Reply::Cancelled
+                } else {
+                    self.note_arrival(member, tag);
+                    self.await_pass(member)
+                }
             }
         }
     }
 
-    /// The member waits on at the barrier at which it has arrived.
+    /// The member waits on at the barrier at which it has arrived. In a cancelled region it waits at
+    /// the region's end alone (OpenMP API 5.2, section 16.1).
     pub(crate) fn await_barrier(&mut self, member: u16) -> Reply
         requires member { member < members_of self.old }
         requires admitted { IsAdmitted AwaitBarrier member self.old }
         ensures performs { Performs AwaitBarrier member self.old self.new result }
     {
+        if self.is_cut_short(member) {
+            return Reply::Cancelled;
+        }
         self.await_pass(member)
     }
 
@@ -86,13 +96,32 @@ impl Board {
         Reply::Refused(Refusal::Mismatch)
     }
 
+    /// Whether an arrival of this kind is none: the region is cancelled, and it is not at its end.
+    fn arrives_nowhere(&self, kind: Arrival) -> bool
+        ensures value { (h : List AnyEvent) → Stands self.now h →
+            result ≡ (is_cancelled h && not (is_region_end kind)) }
+    {
+        let cancelled = self.cancelled.is_cancelled();
+        let ends = ends_region(kind);
+        cancelled && !ends
+    }
+
+    /// The member uses what it has kept for an arrival of this kind.
+    fn use_kept(&mut self, member: u16, kind: Arrival)
+        requires member { member < members_of self.old }
+        ensures value { self.new ≡ with_kept_used kind member self.old }
+    {
+        let place = member as usize;
+        self.kept[place] = arrival_keeps(kind, self.kept[place]);
+    }
+
     /// The member's arrival comes to the history.
     fn note_arrival(&mut self, member: u16, tag: Tag)
         requires member { member < members_of self.old }
         requires first { (h : List AnyEvent) → Stands self.old h → ArrivesFirst member tag h }
         requires spare { HasSpare (arrival_asks tag.kind (kept_by member self.old)) self.old }
         ensures stands { (h : List AnyEvent) → Stands self.old h →
-            Stands self.new (begun member (Arrive tag) h) }
+            Stands self.new (ArriveEvent (barriers_passed member h) member tag ∷ h) }
         ensures limits { self.new.limits ≡ self.old.limits }
         ensures room { self.new.room ≡ self.old.room }
         ensures kept { self.new.kept ≡
@@ -143,6 +172,17 @@ impl Board {
     {
         self.clash = Some(Clash { member, place });
         self.history.push_reserved(Event::Break { member, place });
+    }
+}
+
+/// Whether an arrival of this kind is at the region's end.
+pub(crate) fn ends_region(kind: Arrival) -> bool
+    ensures { result ≡ is_region_end kind }
+{
+    match kind {
+        Arrival::RegionEnd => true,
+        Arrival::Barrier => false,
+        Arrival::ShareEnd => false,
     }
 }
 

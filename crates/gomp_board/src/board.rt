@@ -14,6 +14,7 @@ ghost use Rattle.gomp_board.specs.declared.op.Op.TheVariants.{Create, AwaitChild
 use crate::op::Op;
 use crate::payloads::Payloads;
 use gomp_barrier::Barriers;
+use gomp_cancel::Cancellation;
 use gomp_depend::Depends;
 use gomp_groups::Groups;
 use gomp_ready::Ready;
@@ -25,7 +26,7 @@ use std::marker::Model;
 /// The board of one team of 1 to 64 members, numbered from 0.
 ///
 /// Only `new`, and operations that ask for room for events (`Create`, `OpenGroup`, `Arrive` at a
-/// barrier, `Reserve`, `Put` and `Got` of a member that keeps none), take memory. The items of a
+/// barrier, `Reserve`, `Put` and `Got` of a member that keeps none, `Cancel`), take memory. The items of a
 /// task are copied twice at its creation; a task without items takes no memory for them.
 #[derive(Debug, Drop)]
 pub struct Board {
@@ -39,6 +40,7 @@ pub struct Board {
     pub(crate) groups: Groups,
     pub(crate) barriers: Barriers,
     pub(crate) depends: Depends,
+    pub(crate) cancelled: Cancellation,
     pub(crate) ready: Ready,
     pub(crate) payloads: Payloads,
 }
@@ -49,9 +51,9 @@ impl Model for Board {
 
     ghost Value = { BoardView };
 
-    ghost view = { λ b. record { limits = b.limits; history = b.history.items; room = b.room; kept = b.kept.items; clash = b.clash; tasks = b.tasks; groups = b.groups; barriers = b.barriers; depends = b.depends; ready = b.ready.ids; payloads = b.payloads } };
+    ghost view = { λ b. record { limits = b.limits; history = b.history.items; room = b.room; kept = b.kept.items; clash = b.clash; tasks = b.tasks; groups = b.groups; barriers = b.barriers; depends = b.depends; cancelled = b.cancelled; ready = b.ready.ids; payloads = b.payloads } };
 
-    ghost invariant = { λ b. IsBoard (vec_capacity b.history) (record { limits = b.limits; history = b.history.items; room = b.room; kept = b.kept.items; clash = b.clash; tasks = b.tasks; groups = b.groups; barriers = b.barriers; depends = b.depends; ready = b.ready.ids; payloads = b.payloads }) };
+    ghost invariant = { λ b. IsBoard (vec_capacity b.history) (record { limits = b.limits; history = b.history.items; room = b.room; kept = b.kept.items; clash = b.clash; tasks = b.tasks; groups = b.groups; barriers = b.barriers; depends = b.depends; cancelled = b.cancelled; ready = b.ready.ids; payloads = b.payloads }) };
 }
 
 impl Board {
@@ -77,6 +79,7 @@ impl Board {
             groups: Groups::make(alloc, count)?,
             barriers: Barriers::make(alloc, count)?,
             depends: Depends::new(alloc),
+            cancelled: Cancellation::new(alloc),
             ready: Ready::new(alloc),
             payloads: Payloads::new(),
         })
@@ -107,16 +110,22 @@ impl Board {
         match op {
             Op::Create(desc) => self.create(member, &desc),
             Op::AwaitOwn => self.await_own(member),
-            Op::EndTask => self.end_task(member),
+            Op::EndTask(leaving) => self.end_task(member, leaving),
             Op::AwaitChildren(items) => self.await_children(member, items.as_slice()),
             Op::OpenGroup => self.open_group(member),
             Op::EndGroup => self.end_group(member),
             Op::AwaitGroup => self.await_group(member),
-            Op::Arrive(tag) => self.arrive(member, tag),
+            Op::Arrive { tag, leaving } => self.arrive(member, tag, leaving),
             Op::AwaitBarrier => self.await_barrier(member),
             Op::Reserve(more) => self.reserve(member, more),
             Op::Put { share, words } => self.put_words(member, share, words),
             Op::Got { share, words } => self.give_words(member, share, words),
+            Op::Cancel {
+                named,
+                clause,
+                allowed,
+            } => self.cancel(member, named, clause, allowed),
+            Op::Point { named, allowed } => self.point(member, named, allowed),
             Op::Break(place) => self.stop(member, place),
         }
     }

@@ -12,6 +12,7 @@ ghost use Rattle.gomp_board.specs.declared.op.Op.TheVariants.{OpenGroup, EndGrou
 
 use crate::board::Board;
 use crate::room::reserve_events;
+use gomp_cancel::Cancellation;
 use gomp_groups::Groups;
 use gomp_types::{Event, Refusal, Reply};
 use std::alloc::AllocError;
@@ -28,10 +29,18 @@ impl Board {
     {
         let task = self.current(member);
         let room = self.room + GROUP_ROOM;
-        if reserve_group(&mut self.history, room, &mut self.groups).is_err() {
+        if reserve_group(
+            &mut self.history,
+            room,
+            &mut self.groups,
+            &mut self.cancelled,
+        )
+        .is_err()
+        {
             return Reply::Refused(Refusal::NoMemory);
         }
         let group = self.groups.open(task);
+        self.cancelled.open();
         self.history.push_reserved(Event::Group { group, member });
         self.room += GROUP_ROOM;
         Reply::Finished
@@ -112,13 +121,21 @@ impl Board {
 }
 
 /// Makes memory for so many events in all, and for one more group.
-fn reserve_group(history: &mut Vec<Event>, room: u32, groups: &mut Groups) -> Result<(), AllocError>
+fn reserve_group(
+    history: &mut Vec<Event>,
+    room: u32,
+    groups: &mut Groups,
+    cancelled: &mut Cancellation,
+) -> Result<(), AllocError>
     ensures history { history.new.items ≡ history.old.items }
     ensures grows { vec_capacity history.old ≤ vec_capacity history.new }
     ensures space { OnOk result (room ≤ vec_capacity history.new) }
     ensures groups { groups.new ≡ record groups.old { group_room = groups.new.group_room } }
     ensures group_room { OnOk result (0 < groups.new.group_room) }
+    ensures cancelled { cancelled.new ≡ record cancelled.old { room = cancelled.new.room } }
+    ensures mark_room { OnOk result (0 < cancelled.new.room) }
 {
     reserve_events(history, room)?;
-    groups.reserve_group()
+    groups.reserve_group()?;
+    cancelled.reserve()
 }

@@ -10,6 +10,7 @@
 
 mod arrivals;
 pub mod board;
+mod cancels;
 mod groups;
 pub mod op;
 pub mod payloads;
@@ -21,5 +22,5 @@ mod waits;
 mod words;
 
 pub use board::Board;
-pub use op::Op;
+pub use op::{Op, TeamCancel};
 pub use queries::items_refusal;

@@ -11,8 +11,9 @@ pub enum Op {
     /// Goes on with the creation of the task that was created last in that one: the member starts it
     /// if it is undeferred and may be started, and else waits, or executes another.
     AwaitOwn,
-    /// Ends that task.
-    EndTask,
+    /// Ends that task; the flag says that the member leaves it, and so gives up its open groups
+    /// (section 16.1).
+    EndTask(bool),
     /// Waits, or waits on, for the children of that task, with items for those of them that a child
     /// with these items waits for (section 15.5). Any number of items is allowed here.
     AwaitChildren(Deps),
@@ -23,8 +24,12 @@ pub enum Op {
     /// Waits on for these, or ends the group once they are complete. With no group open it waits, or
     /// executes a task.
     AwaitGroup,
-    /// Arrives with this tag at the member's next barrier (section 15.3).
-    Arrive(Tag),
+    /// Arrives with this tag at the member's next barrier (section 15.3); `leaving` says that the
+    /// member leaves a cancelled region, and so gives up the groups of its task.
+    Arrive {
+        tag: Tag,
+        leaving: bool,
+    },
     /// Waits on at the barrier at which the member has arrived.
     AwaitBarrier,
     /// Keeps room for so many events that the member gives later in a share that it starts: its
@@ -32,9 +37,36 @@ pub enum Op {
     Reserve(u32),
     /// Puts the words of the executor of this share, a `single`, for the other members (section
     /// 5.7.2).
-    Put { share: u64, words: Payload },
+    Put {
+        share: u64,
+        words: Payload,
+    },
     /// Notes that the member is given these words of this share (section 5.7.2).
-    Got { share: u64, words: Payload },
+    Got {
+        share: u64,
+        words: Payload,
+    },
+    /// A cancel construct with this clause (section 16.1); `allowed` says what the control
+    /// variable `cancel-var` does.
+    Cancel {
+        named: TeamCancel,
+        clause: bool,
+        allowed: bool,
+    },
+    /// A cancellation point construct (section 16.2).
+    Point {
+        named: TeamCancel,
+        allowed: bool,
+    },
     /// Breaks the team there (own).
     Break(Place),
+}
+
+/// What a cancel construct may name of a team beside a work-share.
+#[derive(Clone, Copy, Debug, PartialEq, Eq)]
+pub enum TeamCancel {
+    /// The parallel region.
+    Parallel,
+    /// The innermost taskgroup region whose end waits for the task that the member executes.
+    Taskgroup,
 }

@@ -4,11 +4,15 @@
 ghost use Rattle.std.specs.Prelude.{◌≡◌, ◌<◌, List};
 ghost use Rattle.gomp_types.specs.declared.event.Event.{Event};
 ghost use Rattle.gomp_types.specs.Least.{least};
-ghost use Rattle.gomp_types.specs.TaskCalls.{outside_tasks_tests, group_open_tests, items_tests, create_tests, end_task_tests, end_group_tests, room_tests};
+ghost use Rattle.gomp_types.specs.Cancels.{is_cancelled};
+ghost use Rattle.gomp_types.specs.CancelCalls.{cancel_tests, creates_covered};
+ghost use Rattle.gomp_types.specs.TaskCalls.{outside_tasks_tests, group_open_tests, items_tests, create_tests, end_task_tests, end_region_tests, end_group_tests, room_tests};
 ghost use Rattle.gomp_barrier.specs.Stands.{members_of as barrier_members};
+ghost use Rattle.gomp_board.specs.Ops.{kind_of};
 ghost use Rattle.gomp_board.specs.Boards.{Stands, members_of};
 
 use crate::board::Board;
+use crate::op::TeamCancel;
 use crate::refusals::{first, has_too_many};
 use gomp_barrier::Barriers;
 use gomp_types::{Clash, Dep, Limits, Refusal};
@@ -46,7 +50,7 @@ impl Board {
         first(self.in_task(member), Refusal::InsideTask, None)
     }
 
-    /// Why it does not end the region: `GroupOpen` if the task that it executes has a group open.
+    /// Why it leaves no group open: `GroupOpen` if the task that it executes has one open.
     pub fn group_open_refusal(&self, member: u16) -> Option<Refusal>
         requires member { member < members_of self.now }
         ensures value { (h : List Event) → Stands self.now h →
@@ -68,15 +72,62 @@ impl Board {
         first(self.is_deepest(member), Refusal::TooDeep, many)
     }
 
+    /// Whether a cancellation would reach a task that it creates now: then none is created, and the
+    /// answer is `Dropped` (section 16.1).
+    pub fn drops_creation(&self, member: u16) -> bool
+        requires member { member < members_of self.now }
+        ensures value { (h : List Event) → Stands self.now h → result ≡ creates_covered member h }
+    {
+        let task = self.current(member);
+        self.cancelled.would_be_covered(&self.groups, task)
+    }
+
     /// Why it does not end a task: `NotInTask` if it executes none, `GroupOpen` if that has a group
-    /// open.
-    pub fn task_end_refusal(&self, member: u16) -> Option<Refusal>
+    /// open. `leaving` says that the member leaves the task, and gives up its groups (section 16.1).
+    pub fn task_end_refusal(&self, member: u16, leaving: bool) -> Option<Refusal>
         requires member { member < members_of self.now }
         ensures value { (h : List Event) → Stands self.now h →
-            result ≡ least (end_task_tests member h) }
+            result ≡ least (end_task_tests leaving member h) }
     {
-        let open = self.group_open_refusal(member);
+        let open = first(
+            self.keeps_group_open(member, leaving),
+            Refusal::GroupOpen,
+            None,
+        );
         first(!self.in_task(member), Refusal::NotInTask, open)
+    }
+
+    /// Why it does not end the region: `InsideTask` if it executes a task, `GroupOpen` if a group is
+    /// open. `leaving` says that the member leaves the region, and gives up its groups (section 16.1).
+    pub fn region_end_refusal(&self, member: u16, leaving: bool) -> Option<Refusal>
+        requires member { member < members_of self.now }
+        ensures value { (h : List Event) → Stands self.now h →
+            result ≡ least (end_region_tests leaving member h) }
+    {
+        let open = first(
+            self.keeps_group_open(member, leaving),
+            Refusal::GroupOpen,
+            None,
+        );
+        first(self.in_task(member), Refusal::InsideTask, open)
+    }
+
+    /// Why a cancel or a cancellation point construct of it does not name this: `InsideTask` if it
+    /// names the region in a task; `NotInTask` if it names a group in none, `NoGroup` if the end of no
+    /// group waits for the task, `GroupOpen` if the task has a group open (sections 16.1 and 16.2).
+    pub fn cancel_refusal(&self, member: u16, named: TeamCancel) -> Option<Refusal>
+        requires member { member < members_of self.now }
+        ensures value { (h : List Event) → Stands self.now h →
+            result ≡ least (cancel_tests (kind_of named) member h) }
+    {
+        self.cancel_place_refusal(member, named, None)
+    }
+
+    /// Whether the region is cancelled (section 16.1).
+    pub fn is_cancelled(&self) -> bool
+        ensures value { (h : List Event) → Stands self.now h → result ≡ is_cancelled h }
+    {
+        self.cancelled.is_cancelled()
     }
 
     /// Why it does not end a group: `NoGroup` if the task that it executes has none open (section

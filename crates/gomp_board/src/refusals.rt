@@ -1,26 +1,30 @@
 //! Why an operation is refused.
 
-ghost use Rattle.std.specs.Prelude.{◌≡◌, ◌<◌, List, [], ◌∷◌, ◌++◌, Option, Some, None, if◌then◌else◌, nat_le, nat_lt, length, reverse};
+ghost use Rattle.std.specs.Prelude.{◌≡◌, ◌<◌, List, [], ◌∷◌, ◌++◌, ◌&&◌, ◌||◌, not, Option, Some, None, if◌then◌else◌, nat_le, nat_lt, length, reverse};
 ghost use Rattle.gomp_types.specs.declared.event.Event.{Event};
 ghost use Rattle.gomp_types.specs.declared.depend.Dep.{Dep as Item};
 ghost use Rattle.gomp_types.specs.declared.task.TaskDesc.{TaskDesc};
 ghost use Rattle.gomp_types.specs.declared.limits.TheConstants.{MAX_TASK_DEPTH, MAX_DEPENDS};
 ghost use Rattle.gomp_types.specs.declared.refusal.Refusal.TheVariants.{Mismatch};
 ghost use Rattle.gomp_types.specs.Compare.{tag_differs};
-ghost use Rattle.gomp_types.specs.Events.{barriers_passed, tag_at};
+ghost use Rattle.gomp_types.specs.Events.{barriers_passed, tag_at, at_region_end, was_region_end};
+ghost use Rattle.gomp_types.specs.Cancels.{is_cancelled, groups_over};
+ghost use Rattle.gomp_types.specs.CancelCalls.{cancel_tests, cancel_room, creates_covered};
 ghost use Rattle.gomp_types.specs.Tasks.{executed_task, in_task, depth_of, tasks_created};
 ghost use Rattle.gomp_types.specs.Tests.{Test, first_refusal};
-ghost use Rattle.gomp_types.specs.TaskCalls.{group_is_open, lacks_room, create_tests, end_task_tests, end_group_tests, outside_tasks_tests, room_tests, task_room, group_room};
+ghost use Rattle.gomp_types.specs.TaskCalls.{group_is_open, has_some, lacks_room, create_tests, end_task_tests, end_group_tests, outside_tasks_tests, room_tests, group_room};
 ghost use Rattle.gomp_board.specs.declared.op.Op.TheVariants.{Create, AwaitChildren, Arrive};
-ghost use Rattle.gomp_board.specs.Ops.{op_refusal, op_tests, member_tests, busy_tests, end_tests, arrival_asks, words_ask, awaits_barrier};
+ghost use Rattle.gomp_board.specs.Ops.{op_refusal, op_tests, member_tests, busy_tests, end_tests, creation_room_tests, arrival_asks, words_ask, awaits_barrier, is_cut_short, kind_of};
 ghost use Rattle.gomp_board.specs.Boards.{Stands, members_of, kept_by};
 
-use crate::arrivals::arrival_asks;
+use crate::arrivals::{arrival_asks, ends_region};
 use crate::board::Board;
+use crate::cancels::CANCEL_ROOM;
 use crate::groups::GROUP_ROOM;
-use crate::op::Op;
+use crate::op::{Op, TeamCancel};
 use crate::tasks::TASK_ROOM;
 use crate::words::words_ask;
+use gomp_barrier::AtBarrier;
 use gomp_types::{Arrival, Dep, MAX_DEPENDS, MAX_TASK_DEPTH, Place, Refusal, Tag, Task};
 
 impl Board {
@@ -64,7 +68,7 @@ impl Board {
     {
         match self.team_refusal(member) {
             Some(refusal) => Some(refusal),
-            None => first(self.awaits_barrier(member), Refusal::Waiting, None),
+            None => first(self.is_busy(member), Refusal::Waiting, None),
         }
     }
 
@@ -93,17 +97,19 @@ impl Board {
     {
         match op {
             Op::Create(desc) => self.create_refusal(member, desc.deps.as_slice()),
-            Op::AwaitOwn => first(self.awaits_barrier(member), Refusal::Waiting, None),
-            Op::EndTask => self.end_task_refusal(member),
-            Op::AwaitChildren(_) => first(self.awaits_barrier(member), Refusal::Waiting, None),
+            Op::AwaitOwn => first(self.is_busy(member), Refusal::Waiting, None),
+            Op::EndTask(leaving) => self.end_task_refusal(member, *leaving),
+            Op::AwaitChildren(_) => first(self.is_busy(member), Refusal::Waiting, None),
             Op::OpenGroup => self.open_group_refusal(member),
             Op::EndGroup => self.end_group_refusal(member),
-            Op::AwaitGroup => first(self.awaits_barrier(member), Refusal::Waiting, None),
-            Op::Arrive(tag) => self.arrival_refusal(member, *tag),
+            Op::AwaitGroup => first(self.is_busy(member), Refusal::Waiting, None),
+            Op::Arrive { tag, leaving } => self.arrival_refusal(member, *tag, *leaving),
             Op::AwaitBarrier => first(!self.awaits_barrier(member), Refusal::NotInside, None),
             Op::Reserve(more) => self.reserve_refusal(member, *more),
             Op::Put { .. } => self.put_refusal(member),
             Op::Got { .. } => self.give_refusal(member),
+            Op::Cancel { named, .. } => self.cancel_first(member, *named),
+            Op::Point { named, .. } => self.point_first(member, *named),
             Op::Break(place) => { first(!matches!(place, Place::Stopped), Refusal::Mismatch, None) }
         }
     }
@@ -113,24 +119,30 @@ impl Board {
         requires member { member < members_of self.now }
         ensures value { (h : List Event) → Stands self.now h → result ≡ first_refusal
             (busy_tests member h ++ (create_tests self.now.limits items.now member h
-            ++ room_tests self.now.limits self.now.room task_room)) }
+            ++ creation_room_tests (creates_covered member h) self.now.limits self.now.room)) }
     {
-        let full = first(self.lacks_room(TASK_ROOM), Refusal::TraceFull, None);
+        let lacks = self.lacks_room(TASK_ROOM);
+        let dropped = self.drops_creation(member);
+        let full = first(both(lacks, !dropped), Refusal::TraceFull, None);
         let named = first(has_too_many(items), Refusal::TooManyDepends, full);
         let many = first(self.has_all_tasks(), Refusal::TooManyTasks, named);
         let deep = first(self.is_deepest(member), Refusal::TooDeep, many);
-        first(self.awaits_barrier(member), Refusal::Waiting, deep)
+        first(self.is_busy(member), Refusal::Waiting, deep)
     }
 
     /// Why a task is not ended.
-    fn end_task_refusal(&self, member: u16) -> Option<Refusal>
+    fn end_task_refusal(&self, member: u16, leaving: bool) -> Option<Refusal>
         requires member { member < members_of self.now }
         ensures value { (h : List Event) → Stands self.now h →
-            result ≡ first_refusal (busy_tests member h ++ end_task_tests member h) }
+            result ≡ first_refusal (busy_tests member h ++ end_task_tests leaving member h) }
     {
-        let open = first(self.has_group_open(member), Refusal::GroupOpen, None);
+        let open = first(
+            self.keeps_group_open(member, leaving),
+            Refusal::GroupOpen,
+            None,
+        );
         let outside = first(!self.in_task(member), Refusal::NotInTask, open);
-        first(self.awaits_barrier(member), Refusal::Waiting, outside)
+        first(self.is_busy(member), Refusal::Waiting, outside)
     }
 
     /// Why a group is not opened.
@@ -140,7 +152,7 @@ impl Board {
             (busy_tests member h ++ room_tests self.now.limits self.now.room group_room) }
     {
         let full = first(self.lacks_room(GROUP_ROOM), Refusal::TraceFull, None);
-        first(self.awaits_barrier(member), Refusal::Waiting, full)
+        first(self.is_busy(member), Refusal::Waiting, full)
     }
 
     /// Why a group is not ended.
@@ -150,33 +162,45 @@ impl Board {
             result ≡ first_refusal (busy_tests member h ++ end_group_tests member h) }
     {
         let closed = first(!self.has_group_open(member), Refusal::NoGroup, None);
-        first(self.awaits_barrier(member), Refusal::Waiting, closed)
+        first(self.is_busy(member), Refusal::Waiting, closed)
     }
 
     /// Why an arrival is not accepted.
-    fn arrival_refusal(&self, member: u16, tag: Tag) -> Option<Refusal>
+    fn arrival_refusal(&self, member: u16, tag: Tag, leaving: bool) -> Option<Refusal>
         requires member { member < members_of self.now }
         ensures value { (h : List Event) → Stands self.now h →
             result ≡ first_refusal (op_tests self.now.limits self.now.room
-            (kept_by member self.now) member (Arrive tag) h) }
+            (kept_by member self.now) member (Arrive tag leaving) h) }
     {
         let asked = self.arrival_room(member, tag.kind);
         let full = first(self.lacks_room(asked), Refusal::TraceFull, None);
         let other = first(self.differs(member, tag), Refusal::Mismatch, full);
-        let open = self.end_refusal(member, tag.kind, other);
+        let open = self.end_refusal(member, tag.kind, leaving, other);
         let inside = first(self.in_task(member), Refusal::InsideTask, open);
-        first(self.awaits_barrier(member), Refusal::Waiting, inside)
+        first(self.is_busy(member), Refusal::Waiting, inside)
     }
 
     /// Why a member does not arrive at the region's end, and else the other refusal.
-    fn end_refusal(&self, member: u16, kind: Arrival, other: Option<Refusal>) -> Option<Refusal>
+    fn end_refusal(
+        &self,
+        member: u16,
+        kind: Arrival,
+        leaving: bool,
+        other: Option<Refusal>,
+    ) -> Option<Refusal>
         requires member { member < members_of self.now }
         ensures value { (h : List Event) (tests : List Test) → Stands self.now h →
             other ≡ first_refusal tests →
-            result ≡ first_refusal (end_tests kind member h ++ tests) }
+            result ≡ first_refusal (end_tests kind leaving member h ++ tests) }
     {
         match kind {
-            Arrival::RegionEnd => first(self.has_group_open(member), Refusal::GroupOpen, other),
+            Arrival::RegionEnd => {
+                first(
+                    self.keeps_group_open(member, leaving),
+                    Refusal::GroupOpen,
+                    other,
+                )
+            }
             Arrival::Barrier => other,
             Arrival::ShareEnd => other,
         }
@@ -199,7 +223,7 @@ impl Board {
     {
         let full = first(self.lacks_room(more), Refusal::TraceFull, None);
         let inside = first(self.in_task(member), Refusal::InsideTask, full);
-        first(self.awaits_barrier(member), Refusal::Waiting, inside)
+        first(self.is_busy(member), Refusal::Waiting, inside)
     }
 
     /// Why no words are given: the member was let into its single when it came to that, so it is
@@ -212,7 +236,7 @@ impl Board {
     {
         let asked = self.words_room(member);
         let full = first(self.lacks_room(asked), Refusal::TraceFull, None);
-        first(self.awaits_barrier(member), Refusal::Waiting, full)
+        first(self.is_busy(member), Refusal::Waiting, full)
     }
 
     /// Why no words are put.
@@ -223,6 +247,50 @@ impl Board {
             ++ room_tests self.now.limits self.now.room (words_ask (kept_by member self.now)))) }
     {
         self.reserve_refusal(member, self.words_room(member))
+    }
+
+    /// Why nothing is cancelled.
+    fn cancel_first(&self, member: u16, named: TeamCancel) -> Option<Refusal>
+        requires member { member < members_of self.now }
+        ensures value { (h : List Event) → Stands self.now h → result ≡ first_refusal
+            (busy_tests member h ++ (cancel_tests (kind_of named) member h
+            ++ room_tests self.now.limits self.now.room (cancel_room (kind_of named)))) }
+    {
+        let full = first(self.lacks_room(CANCEL_ROOM), Refusal::TraceFull, None);
+        let placed = self.cancel_place_refusal(member, named, full);
+        first(self.is_busy(member), Refusal::Waiting, placed)
+    }
+
+    /// Why a cancellation point is not answered.
+    fn point_first(&self, member: u16, named: TeamCancel) -> Option<Refusal>
+        requires member { member < members_of self.now }
+        ensures value { (h : List Event) → Stands self.now h → result ≡ first_refusal
+            (busy_tests member h ++ cancel_tests (kind_of named) member h) }
+    {
+        let placed = self.cancel_place_refusal(member, named, None);
+        first(self.is_busy(member), Refusal::Waiting, placed)
+    }
+
+    /// Why a construct does not name this where the member is, and else the other refusal.
+    pub(crate) fn cancel_place_refusal(
+        &self,
+        member: u16,
+        named: TeamCancel,
+        other: Option<Refusal>,
+    ) -> Option<Refusal>
+        requires member { member < members_of self.now }
+        ensures value { (h : List Event) (tests : List Test) → Stands self.now h →
+            other ≡ first_refusal tests →
+            result ≡ first_refusal (cancel_tests (kind_of named) member h ++ tests) }
+    {
+        match named {
+            TeamCancel::Parallel => first(self.in_task(member), Refusal::InsideTask, other),
+            TeamCancel::Taskgroup => {
+                let open = first(self.has_group_open(member), Refusal::GroupOpen, other);
+                let around = first(!self.is_in_group(member), Refusal::NoGroup, open);
+                first(!self.in_task(member), Refusal::NotInTask, around)
+            }
+        }
     }
 
     /// The room that words of the member ask for.
@@ -252,6 +320,58 @@ impl Board {
         let waits = self.barriers.at_barrier(member);
         let inside = self.in_task(member);
         waits && !inside
+    }
+
+    /// Whether the member is not to make another call: it waits at a barrier itself. In a cancelled
+    /// region it waits at the region's end alone (OpenMP API 5.2, section 16.1).
+    fn is_busy(&self, member: u16) -> bool
+        requires member { member < members_of self.now }
+        ensures value { (h : List Event) → Stands self.now h →
+            result ≡ (awaits_barrier member h && not (is_cut_short member h)) }
+    {
+        let waits = self.awaits_barrier(member);
+        let cut = self.is_cut_short(member);
+        waits && !cut
+    }
+
+    /// Whether a cancelled region has the member arrive nowhere but at its end, or wait there.
+    pub(crate) fn is_cut_short(&self, member: u16) -> bool
+        requires member { member < members_of self.now }
+        ensures value { (h : List Event) → Stands self.now h → result ≡ is_cut_short member h }
+    {
+        let cancelled = self.cancelled.is_cancelled();
+        let at_end = self.has_come_to_end(member);
+        cancelled && !at_end
+    }
+
+    /// Whether the member has arrived at the region's end.
+    fn has_come_to_end(&self, member: u16) -> bool
+        requires member { member < members_of self.now }
+        ensures value { (h : List Event) → Stands self.now h → result ≡ at_region_end member h }
+    {
+        is_at_end(self.barriers.look(member))
+    }
+
+    /// Whether the member leaves a group of its task open: it has one, and does not give it up.
+    pub(crate) fn keeps_group_open(&self, member: u16, leaving: bool) -> bool
+        requires member { member < members_of self.now }
+        ensures value { (h : List Event) → Stands self.now h →
+            result ≡ (not leaving && group_is_open member h) }
+    {
+        let opened = self.has_group_open(member);
+        !leaving && opened
+    }
+
+    /// Whether a group's end waits for the task that the member executes.
+    fn is_in_group(&self, member: u16) -> bool
+        requires member { member < members_of self.now }
+        ensures value { (h : List Event) → Stands self.now h →
+            result ≡ has_some (groups_over (executed_task member h) h) }
+    {
+        match self.groups.innermost_around(self.tasks.current(member)) {
+            Some(_) => true,
+            None => false,
+        }
     }
 
     /// Whether the task that the member executes lies as deep as a task may.
@@ -284,8 +404,20 @@ impl Board {
         }
     }
 
-    /// Whether a member has arrived at this one's next barrier with another tag.
+    /// Whether a member has arrived at this one's next barrier with another tag, in a region that is
+    /// not cancelled.
     fn differs(&self, member: u16, tag: Tag) -> bool
+        requires member { member < members_of self.now }
+        ensures value { (h : List Event) → Stands self.now h → result ≡
+            (not (is_cancelled h) && tag_differs tag (tag_at (barriers_passed member h) h)) }
+    {
+        let cancelled = self.cancelled.is_cancelled();
+        let other = self.is_another_tag(member, tag);
+        !cancelled && other
+    }
+
+    /// Whether a member has arrived at this one's next barrier with another tag.
+    fn is_another_tag(&self, member: u16, tag: Tag) -> bool
         requires member { member < members_of self.now }
         ensures value { (h : List Event) → Stands self.now h →
             result ≡ tag_differs tag (tag_at (barriers_passed member h) h) }
@@ -304,6 +436,26 @@ impl Board {
         let wanted = self.room as u64 + more as u64;
         more > 0 && limit < wanted
     }
+}
+
+/// Whether a member that sees this has arrived at the region's end: it has passed it, or is there.
+fn is_at_end(seen: AtBarrier) -> bool
+    ensures { result ≡ (seen.left || was_region_end seen.arrived) }
+{
+    if seen.left {
+        return true;
+    }
+    match seen.arrived {
+        Some(tag) => ends_region(tag.kind),
+        None => false,
+    }
+}
+
+/// Whether both hold.
+pub(crate) fn both(one: bool, other: bool) -> bool
+    ensures { result ≡ (one && other) }
+{
+    one && other
 }
 
 /// Whether a `depend` clause has more items than it may have.

@@ -7,6 +7,7 @@ ghost use Rattle.gomp_types.specs.declared.event.Event.TheVariants.{Create as Cr
 ghost use Rattle.gomp_types.specs.declared.reply.Reply.TheVariants.{Wait};
 ghost use Rattle.gomp_types.specs.Tasks.{executed_task, epoch_of_child, is_odd, newest_child, is_undeferred, becomes_undeferred};
 ghost use Rattle.gomp_types.specs.Goals.{may_start};
+ghost use Rattle.gomp_types.specs.CancelCalls.{creates_covered};
 ghost use Rattle.gomp_types.specs.TaskCalls.{creates, task_room, CreatesTask, starts_task};
 ghost use Rattle.gomp_depend.specs.Stands.{has_items};
 ghost use Rattle.gomp_board.specs.Boards.{IsAdmitted, IsSame, Performs, Stands, members_of};
@@ -28,12 +29,16 @@ pub(crate) const TASK_ROOM: u32 = 3;
 
 impl Board {
     /// The member creates a task in the one that it executes, and starts it if it is undeferred and may
-    /// be started; if it may not yet, the member executes another, or waits.
+    /// be started; if it may not yet, the member executes another, or waits. A task that a cancellation
+    /// would reach is not created.
     pub(crate) fn create(&mut self, member: u16, desc: &TaskDesc) -> Reply
         requires member { member < members_of self.old }
         requires admitted { IsAdmitted (Create desc.now) member self.old }
         ensures performs { Performs (Create desc.now) member self.old self.new result }
     {
+        if self.drops_creation(member) {
+            return Reply::Dropped;
+        }
         match self.add_task(member, desc) {
             Err(_) => Reply::Refused(Refusal::NoMemory),
             Ok(()) => self.answer_creator(member),
@@ -46,6 +51,9 @@ impl Board {
         requires admitted { IsAdmitted AwaitOwn member self.old }
         ensures performs { Performs AwaitOwn member self.old self.new result }
     {
+        if self.drops_creation(member) {
+            return Reply::Dropped;
+        }
         self.answer_creator(member)
     }
 
@@ -54,6 +62,8 @@ impl Board {
     fn add_task(&mut self, member: u16, desc: &TaskDesc) -> Result<(), AllocError>
         requires member { member < members_of self.old }
         requires admitted { IsAdmitted (Create desc.now) member self.old }
+        requires uncovered { (h : List Happening) → Stands self.old h →
+            creates_covered member h ≡ false }
         ensures stands { (h : List Happening) → Stands self.old h →
             OnOk result (Stands self.new (creates member desc.now h ++ h)) }
         ensures limits { self.new.limits ≡ self.old.limits }
@@ -156,10 +166,10 @@ impl Board {
     }
 
     /// The member ends the task that it executes.
-    pub(crate) fn end_task(&mut self, member: u16) -> Reply
+    pub(crate) fn end_task(&mut self, member: u16, leaving: bool) -> Reply
         requires member { member < members_of self.old }
-        requires admitted { IsAdmitted EndTask member self.old }
-        ensures performs { Performs EndTask member self.old self.new result }
+        requires admitted { IsAdmitted (EndTask leaving) member self.old }
+        ensures performs { Performs (EndTask leaving) member self.old self.new result }
     {
         let Some(task) = self.tasks.finish(member) else {
             unreachable!()

@@ -94,9 +94,9 @@ impl Board {
             (λ place. MayStartAt member place self.now) }
     {
         let waits = self.barriers.at_barrier(member);
-        let ids = self.ready.as_slice();
-        for place in (0..ids.len()).rev() {
-            if self.tasks.may_run(member, waits, ids[place]) {
+        for place in (0..self.ready.len()).rev() {
+            let task = self.ready.at(place);
+            if self.tasks.may_run(member, waits, task) {
                 return Some(place);
             }
         }

@@ -19,7 +19,7 @@ use Rattle.gomp_types.proofs.LeastTests.{AllFail, fail_first, fail_later, none_h
 use Rattle.gomp_types.proofs.Booleans.{same_number}
 use Rattle.gomp_types.proofs.TaskDepths.{few_suspended}
 use Rattle.gomp_model.specs.Past.{Terms, Waits, Past}
-use Rattle.gomp_model.specs.Row.{place_tests, board_tests, book_tests, row_tests}
+use Rattle.gomp_model.specs.Row.{leaving_tests, place_tests, board_tests, book_tests, row_tests}
 use Rattle.gomp_model.specs.Calls.{row_of}
 use Rattle.gomp_model.specs.Team.{Record, call_meant, is_resume, row_at, broken_tests, refusal_of, waits_after, past_of, Caused}
 use Rattle.gomp_types.specs.Laws.{Always}
@@ -30,9 +30,12 @@ use Rattle.gomp_laws.proofs.Waiting.{Pending, Covers}
 use Rattle.gomp_laws.proofs.Known.{known_of, same_terms, unrefused_step_passes, unrefused_step_is_ready}
 use Rattle.gomp_board.specs.Boards.{BoardView}
 use Rattle.gomp_parts.specs.Answers.{in_place, KeepsStart}
+use Rattle.gomp_parts.specs.declared.leaving.Manner.{Manner}
+use Rattle.gomp_parts.specs.Leaves.{LeavesAs}
 use Rattle.gomp_core.specs.Replies.{IsAdmitted}
 use Rattle.gomp_core.proofs.Refused.{bad_member}
 use Rattle.gomp_core.proofs.WaitsThere.{arrived_waits_there, awaits_if_repeated}
+use Rattle.gomp_core.proofs.EndsThere.{ends_there, away_unless_repeated, ends_if_repeated}
 
 -- a team's terms, with limits that are not above the standard ones
 pub same_members : (terms : Terms) (run : Record) → (past_of terms run).terms.members ≡ terms.members
@@ -73,10 +76,10 @@ repeated_kept m board p Resume (Some call) fail kept repeated = kept call refl
 repeated_kept m board p _ waiting fail kept repeated = absurd (cc)
 
 -- no test of the parts holds of a step that is not refused, nor one of the book
-pub step_admitted : (terms : Terms) (run : Record) (step : Step) (board : BoardView) → Caused terms run → refusal_of (past_of terms run) step ≡ None →
+pub step_admitted : (terms : Terms) (run : Record) (step : Step) (manner : Manner) (board : BoardView) → Caused terms run → refusal_of (past_of terms run) step ≡ None →
     ((call : Call) → ((past_of terms run).waits step.member).open_call ≡ Some call → KeepsStart (row_of call) step.member board) →
-    IsAdmitted (row_at (past_of terms run) step) (is_resume step.call) step.member board (past_of terms run)
-step_admitted terms run step board caused none kept =
+    manner.repeated ≡ is_resume step.call → LeavesAs manner.leaving step.member (past_of terms run).events → terms.cancellation ≡ manner.allowed → IsAdmitted (row_at (past_of terms run) step) manner step.member board (past_of terms run)
+step_admitted terms run step manner board caused none kept again leaves allowed =
     let p = past_of terms run in
     let m = step.member in
     let known = known_of terms run caused in
@@ -84,21 +87,25 @@ step_admitted terms run step board caused none kept =
     let row = row_at p step in
     let repeated = is_resume step.call in
     let passes = (unrefused_step_passes p step none).row in
-    let later = fail_later (place_tests repeated row m p) (board_tests repeated row m p ++ book_tests repeated row m p) passes in
-    let whole = unrefused_whole p step none in (
+    let later = fail_later (place_tests repeated row m p) (board_tests repeated row m p ++ book_tests repeated row m p) (fail_later (leaving_tests repeated row m p) (place_tests repeated row m p ++ (board_tests repeated row m p ++ book_tests repeated row m p)) passes) in
+    let whole = unrefused_whole p step none in
+    rw again (
       record {
-        place = λ e. none_holds (row.by_place p.terms.limits (seen_of m p.events)) (ready.place (place_is_shown row.stays repeated e));
+        place = λ e given. none_holds (row.by_place p.terms.limits (seen_of m p.events)) (ready.place (place_is_shown row.stays repeated e) given);
         compared = none_holds (row.compared repeated m p) ready.compared;
         tasks = none_holds (board_tests repeated row m p) (fail_first (board_tests repeated row m p) (book_tests repeated row m p) later);
         waits = λ again. (ready.lasting again).2;
         inside = unrefused_inside p step none;
         whole = whole;
-        barrier = λ goes. awaits_if_repeated p step none known whole (arrived_waits_there terms run caused m) (goes p);
+        arrived = awaits_if_repeated p step none known (arrived_waits_there terms run caused m);
+        away = away_unless_repeated p step none known whole (unrefused_inside p step none) (ends_there terms run caused m);
+        ends = ends_if_repeated p step none known whole (unrefused_inside p step none) (ends_there terms run caused m);
         kept = λ again. repeated_kept m board p step.call (p.waits m).open_call passes kept again;
       },
+      record { leaves = leaves; allowed = ap (λ (t : Terms). t.cancellation) (same_terms terms run) ∙ allowed },
       record {
         free = none_holds (book_tests repeated row m p) (fail_later (board_tests repeated row m p) (book_tests repeated row m p) later);
-        lasting = λ again. (ready.lasting again).1;
+        lasting = λ again key holds. ((ready.lasting again).1 key holds).0;
         waits = λ again. (ready.lasting again).2;
         rule = rule_of_holds terms run caused;
       },

@@ -1,5 +1,5 @@
 -- A call of the book, and a call of the parts, is answered by both together as by one of them.
-use Rattle.std.proofs.Common.{◌≡◌, ℕ, Bool, true, false, List, refl, sym, inl, inr}
+use Rattle.std.proofs.Common.{◌≡◌, ℕ, true, false, List, refl, sym, inl, inr}
 use Rattle.std.proofs.lemmas.Bool.{cases_Bool}
 use Rattle.gomp_types.specs.declared.call.Call.{Call}
 use Rattle.gomp_types.specs.declared.refusal.Refusal.TheVariants.{NoMemory}
@@ -15,43 +15,44 @@ use Rattle.gomp_parts.specs.Answers.{AnswersCall}
 use Rattle.gomp_held.specs.Stands.{HeldReply}
 use Rattle.gomp_core.specs.Replies.{SomeAdmitted, AnswersAll}
 use Rattle.gomp_core.proofs.BookKept.{KeepsHolds, lacks_if_memory, parts_leave_book, knows_nothing, book_leaves_parts, book_starts_nothing}
+use Rattle.gomp_parts.specs.declared.leaving.Manner.{Manner}
 use Rattle.gomp_core.proofs.Stepping.{keeps_none}
 
 same_board : (board : BoardView) → IsSame board board
 same_board board = record { history = refl; room = refl; kept = refl; stands = λ h st. st }
 
 -- the book answers, and the parts stay
-pub book_answers : {S : Type 0} (stands : S → List Event → Type 0) (shares : S) (board : BoardView) (book after : BookView) (call : Call) (repeated : Bool) (m : ℕ) (task : Task) (reply : Reply) →
-    (row_of call).asks_book ≡ true → KeepsHolds (stands shares) → ((h : List Event) → BoardStands board h → task ≡ executed_task m h) → HeldReply book after (row_of call) repeated m task reply →
-    SomeAdmitted stands shares board book (row_of call) repeated m → AnswersAll stands shares shares board board book after call repeated m reply
-book_answers stands shares board book after call repeated m task reply asks keeps executed held (q, all, admitted) = record {
+pub book_answers : {S : Type 0} (stands : S → List Event → Type 0) (shares : S) (board : BoardView) (book after : BookView) (call : Call) (manner : Manner) (m : ℕ) (task : Task) (reply : Reply) →
+    (row_of call).asks_book ≡ true → KeepsHolds (stands shares) → ((h : List Event) → BoardStands board h → task ≡ executed_task m h) → HeldReply book after (row_of call) manner.repeated m task reply →
+    SomeAdmitted stands shares board book (row_of call) manner m → AnswersAll stands shares shares board board book after call manner m reply
+book_answers stands shares board book after call manner m task reply asks keeps executed held (q, all, admitted) = record {
   leaves = record { members = refl; limits = refl; others = λ k other. refl };
   waits = λ again wait. (refl, refl, held.kept wait);
   lacks = λ lacks. ((refl, same_board board), held.lacks lacks);
-  memory = λ lacks. (first lacks, (lacks_if_memory (row_of call) repeated m q reply lacks (held.serves q all.1 (sym (executed q.events all.0.board_is)) admitted.1).0, inl asks));
+  memory = λ lacks. (first lacks, (lacks_if_memory (row_of call) manner.repeated m q reply lacks (held.serves q all.1 (sym (executed q.events all.0.board_is)) admitted.2).0, inl asks));
   refuses = held.refusal;
-  answer = λ p stand ready. (held.serves p stand.1 (sym (executed p.events stand.0.board_is)) ready.1).0;
-  stands_for = λ p stand ready. (book_leaves_parts stands shares board keeps call repeated m p reply asks stand.0, (held.serves p stand.1 (sym (executed p.events stand.0.board_is)) ready.1).1);
+  answer = λ p stand ready. (held.serves p stand.1 (sym (executed p.events stand.0.board_is)) ready.2).0;
+  stands_for = λ p stand ready. (book_leaves_parts stands shares board keeps call manner.repeated m p reply asks stand.0, (held.serves p stand.1 (sym (executed p.events stand.0.board_is)) ready.2).1);
   names = held.names;
   known = held.waits;
   keeps = λ wait. keeps_none (row_of call) m board (book_starts_nothing call asks);
 }
   where
-    first : reply ≡ Refused NoMemory → repeated ≡ false
-    first lacks = elim (cases_Bool repeated) [ inl again ↦ absurd (held.once again lacks) | inr once ↦ once ]
+    first : reply ≡ Refused NoMemory → manner.repeated ≡ false
+    first lacks = elim (cases_Bool manner.repeated) [ inl again ↦ absurd (held.once again lacks) | inr once ↦ once ]
 
 -- the parts answer, and the book stays
-pub parts_answer : {S : Type 0} (stands : S → List Event → Type 0) (shares shares_after : S) (board board_after : BoardView) (book : BookView) (call : Call) (repeated : Bool) (m : ℕ) (reply : Reply) →
-    (row_of call).asks_book ≡ false → AnswersCall stands shares shares_after board board_after (row_of call) repeated m reply →
-    SomeAdmitted stands shares board book (row_of call) repeated m → AnswersAll stands shares shares_after board board_after book book call repeated m reply
-parts_answer stands shares shares_after board board_after book call repeated m reply aside answers (q, all, admitted) = record {
+pub parts_answer : {S : Type 0} (stands : S → List Event → Type 0) (shares shares_after : S) (board board_after : BoardView) (book : BookView) (call : Call) (manner : Manner) (m : ℕ) (reply : Reply) →
+    (row_of call).asks_book ≡ false → AnswersCall stands shares shares_after board board_after (row_of call) manner m reply →
+    SomeAdmitted stands shares board book (row_of call) manner m → AnswersAll stands shares shares_after board board_after book book call manner m reply
+parts_answer stands shares shares_after board board_after book call manner m reply aside answers (q, all, admitted) = record {
   leaves = answers.leaves;
   waits = λ again wait. let kept = answers.waits again wait in (kept.0, kept.1, refl);
   lacks = λ lacks. ((answers.lacks lacks).0, refl);
-  memory = λ lacks. let wants = answers.lacks lacks in (wants.1, (lacks_if_memory (row_of call) repeated m q reply lacks (answers.answer q all.0 admitted.0), inr wants.2));
+  memory = λ lacks. let wants = answers.lacks lacks in (wants.1, (lacks_if_memory (row_of call) manner.repeated m q reply lacks (answers.answer q all.0 admitted.0 admitted.1), inr wants.2));
   refuses = answers.refuses;
-  answer = λ p stand ready. answers.answer p stand.0 ready.0;
-  stands_for = λ p stand ready. (answers.stands_for p stand.0 ready.0, parts_leave_book book call repeated m p reply aside (answers.answer p stand.0 ready.0) stand.1);
+  answer = λ p stand ready. answers.answer p stand.0 ready.0 ready.1;
+  stands_for = λ p stand ready. (answers.stands_for p stand.0 ready.0 ready.1, parts_leave_book book call manner.repeated m p reply aside (answers.answer p stand.0 ready.0 ready.1) stand.1);
   names = λ name known. known;
   known = λ wait. knows_nothing book call aside;
   keeps = answers.keeps;

@@ -25,41 +25,57 @@ use Rattle.gomp_model.specs.Team.{Record, call_meant, is_resume, refusal_of, May
 use Rattle.gomp_board.specs.Boards.{BoardView, IsSame, kept_by}
 use Rattle.gomp_laws.proofs.Known.{unrefused_step_passes, known_of}
 use Rattle.gomp_laws.proofs.Waiting.{AreBeneath}
+use Rattle.gomp_parts.specs.declared.leaving.Leaving.{Leaving}
+use Rattle.gomp_parts.specs.declared.leaving.Manner.{Manner}
 use Rattle.gomp_parts.specs.Answers.{KeepsStart}
+use Rattle.gomp_parts.specs.Leaves.{LeavesAs, leaving_after}
 use Rattle.gomp_held.specs.Stands.{IsKnown}
 use Rattle.gomp_core.specs.Replies.{IsAdmitted, NamesStay, AnswersAll}
 use Rattle.gomp_core.specs.Stands.{TeamView, Stands, TakesMemory, Keeps, past, terms_of, members_of}
 use Rattle.gomp_core.proofs.Admitted.{step_admitted, few_beneath}
 use Rattle.gomp_core.proofs.BookKept.{book_moved, events_so, locks_so, room_so, terms_so}
+use Rattle.gomp_core.proofs.LeavesKept.{member_leaves, others_leave}
 use Rattle.gomp_core.proofs.Stepping.{at_own, at_other, unequal_kept, parts_moved, stands_by, kept_alike, keeps_alike, may_answer, takes_itself, still_known, own_known, own_kept}
 
 -- the team with what an answer to this step leaves
-abbrev pub team_after : {S : Type 0} → TeamView S → S → BoardView → BookView → Step → Waits → Reply → TeamView S
-team_after team shares board book step waits reply = record { icv = team.icv; board = board; waits = slice_set team.waits step.member (waits_after reply step.call waits); book = book; shares = shares }
+abbrev pub team_after : {S : Type 0} → TeamView S → S → BoardView → BookView → Step → Waits → Leaving → Reply → TeamView S
+team_after team shares board book step waits leaving reply = record {
+  icv = team.icv;
+  board = board;
+  waits = slice_set team.waits step.member (waits_after reply step.call waits);
+  leaving = slice_set team.leaving step.member (leaving_after reply (call_meant step.call waits.open_call) leaving);
+  book = book;
+  shares = shares;
+}
 
 -- the call of a step
 abbrev pub meant_at : {S : Type 0} → TeamView S → Record → Step → Call
 meant_at team before step = call_meant step.call ((past team before).waits step.member).open_call
 
+-- how its member makes it, which leaves this
+abbrev pub manner_at : {S : Type 0} → TeamView S → Step → Leaving → Manner
+manner_at team step leaving = record { repeated = is_resume step.call; leaving = leaving; allowed = team.icv.cancellation }
+
 -- what the parts and the book promise of the reply to a step
-abbrev pub AnswersStep : {S : Type 0} → (S → List Event → Type 0) → TeamView S → S → BoardView → BookView → Record → Step → Reply → Type 0
-AnswersStep stands team shares board book before step reply =
-    AnswersAll stands team.shares shares team.board board team.book book (meant_at team before step) (is_resume step.call) step.member reply
+abbrev pub AnswersStep : {S : Type 0} → (S → List Event → Type 0) → TeamView S → S → BoardView → BookView → Record → Step → Leaving → Reply → Type 0
+AnswersStep stands team shares board book before step leaving reply =
+    AnswersAll stands team.shares shares team.board board team.book book (meant_at team before step) (manner_at team step leaving) step.member reply
 
 -- no test of the parts holds of the step, nor one of the book
-pub team_admits : {S : Type 0} (stands : S → List Event → Type 0) (members : S → ℕ) (team : TeamView S) (before : Record) (step : Step) → Stands stands members team before → refusal_of (past team before) step ≡ None →
-    IsAdmitted (row_of (meant_at team before step)) (is_resume step.call) step.member team.board (past team before)
-team_admits stands members team before step st none = step_admitted (terms_of team) before step team.board st.caused none (st.waiting_kept step.member)
+pub team_admits : {S : Type 0} (stands : S → List Event → Type 0) (members : S → ℕ) (team : TeamView S) (before : Record) (step : Step) (leaving : Leaving) → Stands stands members team before → slice_get team.leaving step.member ≡ Some leaving → refusal_of (past team before) step ≡ None →
+    IsAdmitted (row_of (meant_at team before step)) (manner_at team step leaving) step.member team.board (past team before)
+team_admits stands members team before step leaving st there none =
+    step_admitted (terms_of team) before step (manner_at team step leaving) team.board st.caused none (st.waiting_kept step.member) refl (st.leave step.member leaving there) refl
 
 -- the reply is one that the call's row may give, so it has its cause
-answered_so : {S : Type 0} (stands : S → List Event → Type 0) (members : S → ℕ) (team : TeamView S) (shares : S) (board : BoardView) (book : BookView) (before : Record) (step : Step) (reply : Reply) →
-    Stands stands members team before → refusal_of (past team before) step ≡ None → AnswersStep stands team shares board book before step reply → MayGive (row_of (meant_at team before step)) (is_resume step.call) step.member (past team before) reply
-answered_so stands members team shares board book before step reply st none answers = answers.answer (past team before) (st.parts_are, st.book_are) (team_admits stands members team before step st none)
+answered_so : {S : Type 0} (stands : S → List Event → Type 0) (members : S → ℕ) (team : TeamView S) (shares : S) (board : BoardView) (book : BookView) (before : Record) (step : Step) (leaving : Leaving) (reply : Reply) →
+    Stands stands members team before → slice_get team.leaving step.member ≡ Some leaving → refusal_of (past team before) step ≡ None → AnswersStep stands team shares board book before step leaving reply → MayGive (row_of (meant_at team before step)) (is_resume step.call) step.member (past team before) reply
+answered_so stands members team shares board book before step leaving reply st there none answers = answers.answer (past team before) (st.parts_are, st.book_are) (team_admits stands members team before step leaving st there none)
 
-pub answered_cause : {S : Type 0} (stands : S → List Event → Type 0) (members : S → ℕ) (team : TeamView S) (shares : S) (board : BoardView) (book : BookView) (before : Record) (step : Step) (reply : Reply) →
-    Stands stands members team before → refusal_of (past team before) step ≡ None → AnswersStep stands team shares board book before step reply → MayAnswer (past team before) step reply
-answered_cause stands members team shares board book before step reply st none answers =
-    may_answer (past team before) step reply none (answered_so stands members team shares board book before step reply st none answers) (λ lacks. (answers.memory lacks).0)
+pub answered_cause : {S : Type 0} (stands : S → List Event → Type 0) (members : S → ℕ) (team : TeamView S) (shares : S) (board : BoardView) (book : BookView) (before : Record) (step : Step) (leaving : Leaving) (reply : Reply) →
+    Stands stands members team before → slice_get team.leaving step.member ≡ Some leaving → refusal_of (past team before) step ≡ None → AnswersStep stands team shares board book before step leaving reply → MayAnswer (past team before) step reply
+answered_cause stands members team shares board book before step leaving reply st there none answers =
+    may_answer (past team before) step reply none (answered_so stands members team shares board book before step leaving reply st there none answers) (λ lacks. (answers.memory lacks).0)
 
 -- before a task is started there is room for the call at which it is
 pub answered_room : {S : Type 0} (stands : S → List Event → Type 0) (members : S → ℕ) (team : TeamView S) (before : Record) (step : Step) (waits : Waits) (reply : Reply) →
@@ -98,23 +114,24 @@ kept_after_reply board after p step reply k beneath same others kept here call i
 kept_at_refusal : (m : ℕ) (board after : BoardView) (reply : Reply) → ((refusal : Refusal) → reply ≡ Refused refusal → refusal ≡ NoMemory) → (reply ≡ Refused NoMemory → IsSame board after) → (refusal : Refusal) → reply ≡ Refused refusal → kept_by m board ≡ kept_by m after
 kept_at_refusal m board after reply refuses lacks refusal same = kept_alike m board after (lacks (same ∙ ap Refused (refuses refusal same))).kept
 
-pub stands_answered : {S : Type 0} (stands : S → List Event → Type 0) (members : S → ℕ) (team : TeamView S) (shares : S) (board : BoardView) (book : BookView) (before : Record) (step : Step) (waits : Waits) (reply : Reply) →
-    Stands stands members team before → slice_get team.waits step.member ≡ Some waits → refusal_of (past team before) step ≡ None → AnswersStep stands team shares board book before step reply → members shares ≡ members team.shares →
-    Stands stands members (team_after team shares board book step waits reply) ((step, reply) ∷ before)
-stands_answered stands members team shares board book before step waits reply st at none answers shares_same =
+pub stands_answered : {S : Type 0} (stands : S → List Event → Type 0) (members : S → ℕ) (team : TeamView S) (shares : S) (board : BoardView) (book : BookView) (before : Record) (step : Step) (waits : Waits) (leaving : Leaving) (reply : Reply) →
+    Stands stands members team before → slice_get team.waits step.member ≡ Some waits → slice_get team.leaving step.member ≡ Some leaving → refusal_of (past team before) step ≡ None → AnswersStep stands team shares board book before step leaving reply → members shares ≡ members team.shares →
+    Stands stands members (team_after team shares board book step waits leaving reply) ((step, reply) ∷ before)
+stands_answered stands members team shares board book before step waits leaving reply st at there none answers shares_same =
     let p = past team before in
     let m = step.member in
     let row = row_of (meant_at team before step) in
     let repeated = is_resume step.call in
     let q = past team ((step, reply) ∷ before) in
     let given : Past = past_given row repeated m p reply in
-    let may = answered_so stands members team shares board book before step reply st none answers in
-    let cause = answered_cause stands members team shares board book before step reply st none answers in
-    let all = answers.stands_for p (st.parts_are, st.book_are) (team_admits stands members team before step st none) in
+    let may = answered_so stands members team shares board book before step leaving reply st there none answers in
+    let cause = answered_cause stands members team shares board book before step leaving reply st there none answers in
+    let all = answers.stands_for p (st.parts_are, st.book_are) (team_admits stands members team before step leaving st there none) in
     let events : q.events ≡ given.events = events_so (meant_at team before step) repeated m p reply may in
-    let after = team_after team shares board book step waits reply in
+    let after = team_after team shares board book step waits leaving reply in
     let size : members_of after ≡ members_of team = length-set team.waits m (waits_after reply step.call waits) in
     let limits = answers.leaves.limits in
+    let call_so : call_meant step.call waits.open_call ≡ meant_at team before step = ap (λ (w : Waits). call_meant step.call w.open_call) (sym (st.wait m waits at)) in
     let beneath = ((known_of (terms_of team) before st.caused).each m).beneath in
     let terms : terms_of team ≡ terms_of after = rw (size, limits) refl in
     stands_by stands members (terms_of team) after ((step, reply) ∷ before) terms
@@ -123,14 +140,18 @@ stands_answered stands members team shares board book before step waits reply st
       parts_are = parts_moved stands shares board given q events (terms_so row repeated m p reply) (room_so row repeated m p reply) all.0;
       book_are = book_moved book given q (λ key. ap (holder key) events) (locks_so row repeated m p reply) all.1;
       names_known = λ k. names_after team.book book p step reply k beneath answers.names st.names_known answers.known;
-      wait = λ k other there. elim (slice_get-set team.waits m k (waits_after reply step.call waits) other there) [
+      wait = λ k other found. elim (slice_get-set team.waits m k (waits_after reply step.call waits) other found) [
         | inl e ↦ own_wait p (st.wait m waits at) k other e.0 e.1
         | inr e ↦ at_other m k (waits_after reply step.call (p.waits k)) (p.waits k) e.0 ∙ st.wait k other e.1
+      ];
+      leave = λ k other found. elim (slice_get-set team.leaving m k (leaving_after reply (call_meant step.call waits.open_call) leaving) other found) [
+        | inl e ↦ subst (λ (h : List Event). LeavesAs other k h) (sym events) (rw (e.0, e.1, call_so) (member_leaves (meant_at team before step) repeated m p reply leaving may (st.leave m leaving there)))
+        | inr e ↦ subst (λ (h : List Event). LeavesAs other k h) (sym events) (others_leave (meant_at team before step) repeated m k p reply other (λ same. e.0 (sym same)) (st.leave k other e.1))
       ];
       waiting_kept = λ k call is.
           kept_after_reply team.board board p step reply k beneath (kept_at_refusal m team.board board reply answers.refuses (λ lacks. (answers.lacks lacks).0.1)) answers.leaves.others st.waiting_kept answers.keeps call is;
     })
-    (subst IsTeamSize (sym size) st.size) (rw limits st.limits_are) (shares_same ∙ st.shares_size ∙ sym size)
+    (subst IsTeamSize (sym size) st.size) (rw limits st.limits_are) (shares_same ∙ st.shares_size ∙ sym size) (length-set team.leaving m (leaving_after reply (call_meant step.call waits.open_call) leaving) ∙ st.leaving_size ∙ sym size)
   where
     own_wait : (p : Past) → p.waits step.member ≡ waits → (k : ℕ) (other : Waits) → k ≡ step.member → other ≡ waits_after reply step.call waits → (if step.member == k then waits_after reply step.call (p.waits k) else p.waits k) ≡ other
     own_wait p is k other same e = rw (same, e) (at_own step.member (waits_after reply step.call (p.waits step.member)) (p.waits step.member) ∙ ap (waits_after reply step.call) is)
@@ -151,24 +172,24 @@ open_again m p Resume (Some call) beneath fail again = refl
 open_again m p _ waiting beneath fail again = absurd (cc)
 
 -- if a call that waits is asked about again and waits on, nothing changes
-pub waits_on : {S : Type 0} (stands : S → List Event → Type 0) (members : S → ℕ) (team : TeamView S) (shares : S) (board : BoardView) (book : BookView) (before : Record) (step : Step) (waits : Waits) (reply : Reply) →
-    Stands stands members team before → slice_get team.waits step.member ≡ Some waits → refusal_of (past team before) step ≡ None → AnswersStep stands team shares board book before step reply → reply ≡ Wait → step.call ≡ Resume →
-    team_after team shares board book step waits reply ≡ team
-waits_on stands members team shares board book before step waits reply st at none answers same resume =
+pub waits_on : {S : Type 0} (stands : S → List Event → Type 0) (members : S → ℕ) (team : TeamView S) (shares : S) (board : BoardView) (book : BookView) (before : Record) (step : Step) (waits : Waits) (leaving : Leaving) (reply : Reply) →
+    Stands stands members team before → slice_get team.waits step.member ≡ Some waits → slice_get team.leaving step.member ≡ Some leaving → refusal_of (past team before) step ≡ None → AnswersStep stands team shares board book before step leaving reply → reply ≡ Wait → step.call ≡ Resume →
+    team_after team shares board book step waits leaving reply ≡ team
+waits_on stands members team shares board book before step waits leaving reply st at there none answers same resume =
     let p = past team before in
     let m = step.member in
     let own = p.waits m in
     let kept = answers.waits (ap is_resume resume) same in
     let stays : waits_after Wait step.call own ≡ own = open_again m p step.call own.open_call own.beneath (unrefused_step_passes p step none).row resume in
     let here : waits_after Wait step.call waits ≡ waits = subst (λ (w : Waits). waits_after Wait step.call w ≡ w) (st.wait m waits at) stays in
-    rw (same, kept.0, kept.1, kept.2, here, set_there team.waits m waits at) refl
+    rw (same, kept.0, kept.1, kept.2, here, set_there team.waits m waits at, set_there team.leaving m leaving there) refl
 
 -- nor if it finds no memory, but for what the board has of that
-pub lacks_memory : {S : Type 0} (stands : S → List Event → Type 0) (team : TeamView S) (shares : S) (board : BoardView) (book : BookView) (before : Record) (step : Step) (waits : Waits) (reply : Reply) →
-    slice_get team.waits step.member ≡ Some waits → AnswersStep stands team shares board book before step reply → reply ≡ Refused NoMemory → team_after team shares board book step waits reply ≡ record team { board = board }
-lacks_memory stands team shares board book before step waits reply at answers same =
+pub lacks_memory : {S : Type 0} (stands : S → List Event → Type 0) (team : TeamView S) (shares : S) (board : BoardView) (book : BookView) (before : Record) (step : Step) (waits : Waits) (leaving : Leaving) (reply : Reply) →
+    slice_get team.waits step.member ≡ Some waits → slice_get team.leaving step.member ≡ Some leaving → AnswersStep stands team shares board book before step leaving reply → reply ≡ Refused NoMemory → team_after team shares board book step waits leaving reply ≡ record team { board = board }
+lacks_memory stands team shares board book before step waits leaving reply at there answers same =
     let kept = answers.lacks same in
-    rw (same, kept.0.0, kept.1, set_there team.waits step.member waits at) refl
+    rw (same, kept.0.0, kept.1, set_there team.waits step.member waits at, set_there team.leaving step.member leaving there) refl
 
 -- what is put twice is what was put last
 pub set_twice : {A : Type 0} (items : List A) (i : ℕ) (one other : A) → slice_set (slice_set items i one) i other ≡ slice_set items i other
@@ -177,22 +198,22 @@ set_twice (first ∷ items) zero one other = refl
 set_twice (first ∷ items) (suc i) one other = ap (λ xs. first ∷ xs) (set_twice items i one other)
 
 -- so what an answer leaves of the team as it was
-pub answer_keeps : {S : Type 0} (stands : S → List Event → Type 0) (members : S → ℕ) (team : TeamView S) (shares : S) (board : BoardView) (book : BookView) (before : Record) (step : Step) (waits : Waits) (reply : Reply) →
-    Stands stands members team before → slice_get team.waits step.member ≡ Some waits → refusal_of (past team before) step ≡ None → AnswersStep stands team shares board book before step reply →
-    Keeps team (team_after team shares board book step waits reply) step.call reply
-answer_keeps stands members team shares board book before step waits reply st at none answers = record {
+pub answer_keeps : {S : Type 0} (stands : S → List Event → Type 0) (members : S → ℕ) (team : TeamView S) (shares : S) (board : BoardView) (book : BookView) (before : Record) (step : Step) (waits : Waits) (leaving : Leaving) (reply : Reply) →
+    Stands stands members team before → slice_get team.waits step.member ≡ Some waits → slice_get team.leaving step.member ≡ Some leaving → refusal_of (past team before) step ≡ None → AnswersStep stands team shares board book before step leaving reply →
+    Keeps team (team_after team shares board book step waits leaving reply) step.call reply
+answer_keeps stands members team shares board book before step waits leaving reply st at there none answers = record {
   members = length-set team.waits step.member (waits_after reply step.call waits);
   icv = refl;
   limits = answers.leaves.limits;
   refused = λ refusal same differ lacks. absurd (lacks (answers.refuses refusal same));
-  lacks = λ same. (lacks_memory stands team shares board book before step waits reply at answers same, (answers.lacks same).0.1);
+  lacks = λ same. (lacks_memory stands team shares board book before step waits leaving reply at there answers same, (answers.lacks same).0.1);
   broken = λ same. absurd (let never = answers.refuses Mismatch same in cc);
-  waits = λ same resume. waits_on stands members team shares board book before step waits reply st at none answers same resume;
+  waits = λ same resume. waits_on stands members team shares board book before step waits leaving reply st at there none answers same resume;
 }
 
-pub answer_takes : {S : Type 0} (stands : S → List Event → Type 0) (team : TeamView S) (shares : S) (board : BoardView) (book : BookView) (before : Record) (step : Step) (reply : Reply) →
-    AnswersStep stands team shares board book before step reply → reply ≡ Refused NoMemory → TakesMemory (row_of step.call)
-answer_takes stands team shares board book before step reply answers lacks =
+pub answer_takes : {S : Type 0} (stands : S → List Event → Type 0) (team : TeamView S) (shares : S) (board : BoardView) (book : BookView) (before : Record) (step : Step) (leaving : Leaving) (reply : Reply) →
+    AnswersStep stands team shares board book before step leaving reply → reply ≡ Refused NoMemory → TakesMemory (row_of step.call)
+answer_takes stands team shares board book before step leaving reply answers lacks =
     let takes = answers.memory lacks in
     takes_itself step.call ((past team before).waits step.member).open_call takes.0 takes.1
 

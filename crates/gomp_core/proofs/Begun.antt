@@ -17,7 +17,9 @@ use Rattle.gomp_parts.specs.Answers.{room_left, PutsInside}
 use Rattle.gomp_held.specs.Stands.{IsKnown}
 use Rattle.gomp_core.specs.Stands.{TeamView, Stands, Begins, terms_by}
 use Rattle.gomp_core.proofs.Admitted.{same_members, same_limits}
-use Rattle.gomp_core.proofs.Stepping.{nobody_waits, stands_by}
+use Rattle.gomp_parts.specs.declared.leaving.Leaving.{Leaving}
+use Rattle.gomp_parts.specs.Leaves.{leaves_nothing}
+use Rattle.gomp_core.proofs.Stepping.{nobody_waits, nobody_leaves, stands_by}
 
 -- the parts of a new team
 pub record NewParts {S : Type 0} (stands : S → List Event → Type 0) (members : S → ℕ) (count : ℕ) (limits : Limits) (board : BoardView) (shares : S) : Type 0 where
@@ -31,13 +33,13 @@ pub record NewParts {S : Type 0} (stands : S → List Event → Type 0) (members
 quiet_keeps_none : (k : ℕ) (board : BoardView) (h : List Event) → h ≡ [] → room_left (open_share k h) ≤ kept_by k board
 quiet_keeps_none k board h quiet = rw quiet (omega arith)
 
-pub begun_stands : {S : Type 0} (stands : S → List Event → Type 0) (members : S → ℕ) (count : ℕ) (limits : Limits) (icv : Variables) (board : BoardView) (waits : List Waits) (book : BookView) (shares : S) (before : Record) →
-    IsTeamSize count → capped_limits limits ≡ limits → Begins (terms_by count limits icv) book before → NewParts stands members count limits board shares → waits ≡ replicate count no_waits →
-    Stands stands members (record { icv = icv; board = board; waits = waits; book = book; shares = shares }) before
-begun_stands {S} stands members count limits icv board waits book shares before size small begins new none =
+pub begun_stands : {S : Type 0} (stands : S → List Event → Type 0) (members : S → ℕ) (count : ℕ) (limits : Limits) (icv : Variables) (board : BoardView) (waits : List Waits) (leaving : List Leaving) (book : BookView) (shares : S) (before : Record) →
+    IsTeamSize count → capped_limits limits ≡ limits → Begins (terms_by count limits icv) book before → NewParts stands members count limits board shares → waits ≡ replicate count no_waits → leaving ≡ replicate count leaves_nothing →
+    Stands stands members (record { icv = icv; board = board; waits = waits; leaving = leaving; book = book; shares = shares }) before
+begun_stands {S} stands members count limits icv board waits leaving book shares before size small begins new none stay =
     let terms : Terms = terms_by count limits icv in
     let p = past_of terms before in
-    let team : TeamView S = record { icv = icv; board = board; waits = waits; book = book; shares = shares } in
+    let team : TeamView S = record { icv = icv; board = board; waits = waits; leaving = leaving; book = book; shares = shares } in
     let many : length waits ≡ count = ap length none ∙ length-replicate {A = Waits} count no_waits in
     stands_by stands members terms team before (rw (many, new.limits_are) refl)
     (record {
@@ -54,6 +56,7 @@ begun_stands {S} stands members count limits icv board waits book shares before 
       book_are = begins.book_are;
       names_known = λ m. subst (λ (w : Waits). IsKnown book w.open_call) (sym (begins.nobody m)) tt;
       wait = λ m own at. begins.nobody m ∙ nobody_waits waits count m own none at;
+      leave = λ m own at. nobody_leaves leaving count m own p.events stay at begins.quiet;
       waiting_kept = λ m call is. absurd (let open_call = sym (ap (λ (w : Waits). w.open_call) (begins.nobody m)) ∙ is in cc);
     })
-    (subst IsTeamSize (sym many) size) (rw new.limits_are small) (new.size ∙ sym many)
+    (subst IsTeamSize (sym many) size) (rw new.limits_are small) (new.size ∙ sym many) (ap length stay ∙ length-replicate {A = Leaving} count leaves_nothing ∙ sym many)

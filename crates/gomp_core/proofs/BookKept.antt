@@ -1,6 +1,6 @@
 -- A call of the parts leaves the book of names and locks standing, and a call of the book the parts.
 use Rattle.std.proofs.Common.{◌≡◌, ℕ, Bool, true, false, List, [], ◌∷◌, ◌++◌, Option, Some, None, refl, ap, ◌∙◌, sym, subst, arith}
-use Rattle.std.specs.Prelude.{◌≤◌, slice_get, option_map}
+use Rattle.std.specs.Prelude.{◌≤◌, ◌+◌, not, if◌then◌else◌, slice_get, option_map}
 use Rattle.gomp_types.specs.declared.call.Call.{Call}
 use Rattle.gomp_types.specs.declared.call.Call.TheVariants.{Stop}
 use Rattle.gomp_types.specs.declared.key.Key.{Key}
@@ -16,6 +16,7 @@ use Rattle.gomp_locks.specs.Book.{BookView}
 use Rattle.gomp_locks.specs.Holders.{key_of, holder, holding_owner}
 use Rattle.gomp_types.specs.Events.{open_share}
 use Rattle.gomp_types.specs.Laws.{Always}
+use Rattle.gomp_types.proofs.Booleans.{and_left}
 use Rattle.gomp_model.specs.Past.{Terms, Past}
 use Rattle.gomp_model.specs.Row.{Row, begun_past, given_after, events_after, room_after, locks_after, MayGive, past_given}
 use Rattle.gomp_model.specs.CriticalNames.{held_once, freed_once}
@@ -49,7 +50,7 @@ terms_so row repeated m p _ = refl
 
 -- want of memory is given only by a call that may find none
 pub lacks_if_memory : (row : Row) (repeated : Bool) (m : ℕ) (p : Past) (reply : Reply) → reply ≡ Refused NoMemory → MayGive row repeated m p reply → row.memory ≡ true
-lacks_if_memory row repeated m p reply lacks may = subst (MayGive row repeated m p) lacks may
+lacks_if_memory row repeated m p reply lacks may = and_left row.memory (not (row.drops m p)) (subst (MayGive row repeated m p) lacks may)
 
 -- A book stands for what is held alike
 
@@ -129,10 +130,14 @@ pub book_starts_nothing : (call : Call) → (row_of call).asks_book ≡ true →
 book_starts_nothing Stop asks = absurd (cc)
 book_starts_nothing _ asks = cc
 
+nothing_more : (keeps : Bool) (room more : ℕ) → more ≡ 0 → (if keeps then room + more else room) ≡ room
+nothing_more true room more none = omega (arith, none)
+nothing_more false room more none = refl
+
 no_room_asked : (row : Row) (repeated : Bool) (m : ℕ) (p : Past) (reply : Reply) → row.room ≡ 0 → (past_given row repeated m p reply).room ≡ p.room
 no_room_asked row repeated m p (Refused refusal) none = refl
 no_room_asked row true m p _ none = refl
-no_room_asked row false m p _ none = omega (arith, none)
+no_room_asked row false m p reply none = nothing_more (row.keeps_room reply) p.room row.room none
 
 pub book_leaves_parts : {S : Type 0} (stands : S → List Event → Type 0) (shares : S) (board : BoardView) → KeepsHolds (stands shares) → (call : Call) (repeated : Bool) (m : ℕ) (p : Past) (reply : Reply) → (row_of call).asks_book ≡ true →
     PartsStand stands shares board p → PartsStand stands shares board (past_given (row_of call) repeated m p reply)

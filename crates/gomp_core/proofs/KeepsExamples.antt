@@ -1,5 +1,5 @@
 -- What a step leaves of a team as it was: for each line of that what it alone refuses.
-use Rattle.std.proofs.Common.{ℕ, true, false, List, [], ◌∷◌, Option, Some, None, refl, arith, ap}
+use Rattle.std.proofs.Common.{ℕ, Bool, true, false, List, [], ◌∷◌, Option, Some, None, refl, arith, ap}
 use Rattle.std.specs.Prelude.{replicate}
 use Rattle.gomp_types.specs.declared.call.Call.{Call}
 use Rattle.gomp_types.specs.declared.call.Call.TheVariants.{LoopNext, Barrier, TaskCreate, Resume}
@@ -12,6 +12,8 @@ use Rattle.gomp_types.specs.declared.limits.Limits.{Limits}
 use Rattle.gomp_icv.specs.Variables.{Variables, initial}
 use Rattle.gomp_model.specs.Past.{Waits, no_waits}
 use Rattle.gomp_board.specs.Boards.{BoardView}
+use Rattle.gomp_parts.specs.declared.leaving.Leaving.{Leaving}
+use Rattle.gomp_parts.specs.Leaves.{leaves_nothing}
 use Rattle.gomp_core.specs.Stands.{TeamView, Keeps}
 
 -- a board of two members on which nothing happened
@@ -22,9 +24,10 @@ plain_board = record {
   room = 5;
   kept = 0 ∷ 0 ∷ [];
   clash = None;
+  cancelled = record { region = false; marks = []; room = 0 };
   tasks = record { rows = []; stacks = [] ∷ [] ∷ []; room = 0 };
   groups = record { groups = []; tasks = []; members = []; task_room = 0; group_room = 0 };
-  barriers = record { seats = []; front = record { odd = false; number = 0; tag = None; next = None }; tasks = record { even = 0; odd = 0 } };
+  barriers = record { seats = []; cancelled = false; front = record { odd = false; number = 0; tag = None; next = None }; tasks = record { even = 0; odd = 0 } };
   depends = record { rows = []; room = 0 };
   ready = [];
   payloads = replicate OPEN_SHARES None;
@@ -40,6 +43,7 @@ one_waits = record {
   icv = initial;
   board = plain_board;
   waits = calls_of (Some Barrier) [] ∷ no_waits ∷ [];
+  leaving = leaves_nothing ∷ leaves_nothing ∷ [];
   book = record { names = []; locks = [] };
   shares = 7;
 }
@@ -55,6 +59,10 @@ other_shares = record one_waits { shares = 8 }
 -- and but for its locks
 abbrev other_book : TeamView ℕ
 other_book = record one_waits { book = record { names = []; locks = None ∷ [] } }
+
+-- and but for its first member, which leaves the region
+abbrev other_leaving : TeamView ℕ
+other_leaving = record one_waits { leaving = record { region = true; task = false } ∷ leaves_nothing ∷ [] }
 
 -- and but for its board, which has more room, is broken, or keeps some for the second member
 abbrev more_room : TeamView ℕ
@@ -73,6 +81,14 @@ first_waiting team = first_of_all team.waits
     first_of_all : List Waits → Option Call
     first_of_all [] = None
     first_of_all (calls ∷ rest) = calls.open_call
+
+-- whether its first member leaves the region
+abbrev first_leaves : TeamView ℕ → Bool
+first_leaves team = first_region team.leaving
+  where
+    first_region : List Leaving → Bool
+    first_region [] = false
+    first_region (leaving ∷ rest) = leaving.region
 
 -- a step may close a wait
 pub keeps_what_is_left : Keeps one_waits none_waits Resume Passed
@@ -156,4 +172,15 @@ keeps_the_book = (
   λ keeps. absurd (let locks = ap (λ (team : TeamView ℕ). team.book.locks) (keeps.broken refl).0 in cc),
   λ keeps. absurd (let locks = ap (λ (team : TeamView ℕ). team.book.locks) (keeps.lacks refl).0 in cc),
   λ keeps. absurd (let locks = ap (λ (team : TeamView ℕ). team.book.locks) (keeps.waits refl refl) in cc),
+)
+
+-- or has a member leave what it is in
+pub keeps_who_leaves :
+    (Keeps one_waits other_leaving LoopNext (Refused InsideShare) → ⊥) × (Keeps one_waits other_leaving LoopNext (Refused Mismatch) → ⊥) × (Keeps one_waits other_leaving Barrier (Refused NoMemory) → ⊥)
+    × (Keeps one_waits other_leaving Resume Wait → ⊥)
+keeps_who_leaves = (
+  λ keeps. absurd (let leaving = ap first_leaves (keeps.refused InsideShare refl (λ is. absurd (cc)) (λ is. absurd (cc))) in cc),
+  λ keeps. absurd (let leaving = ap first_leaves (keeps.broken refl).0 in cc),
+  λ keeps. absurd (let leaving = ap first_leaves (keeps.lacks refl).0 in cc),
+  λ keeps. absurd (let leaving = ap first_leaves (keeps.waits refl refl) in cc),
 )

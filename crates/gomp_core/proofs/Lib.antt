@@ -5,10 +5,12 @@ pub mod Begun
 pub mod BookKept
 pub mod Breaks
 pub mod Laws
+pub mod LeavesKept
 pub mod Lists
 pub mod LocksStand
 pub mod Refused
 pub mod Stepping
 pub mod WaitsThere
+pub mod EndsThere
 pub mod KeepsExamples
 pub mod StandsExamples

@@ -13,7 +13,7 @@ use Rattle.gomp_types.specs.RefusalTexts.{number_of}
 use Rattle.gomp_types.specs.Events.{has_left_region, clash_of}
 use Rattle.gomp_types.specs.Least.{lesser, least}
 use Rattle.gomp_model.specs.Past.{Past}
-use Rattle.gomp_model.specs.Row.{place_tests, board_tests, book_tests, row_tests}
+use Rattle.gomp_model.specs.Row.{leaving_tests, place_tests, board_tests, book_tests, row_tests}
 use Rattle.gomp_model.specs.Team.{is_resume, row_at, broken_tests, member_tests, wait_tests, refusal_of}
 use Rattle.gomp_laws.proofs.Layers.{step_layers, row_layers}
 use Rattle.gomp_types.proofs.LeastTests.{lesser_assoc}
@@ -83,13 +83,13 @@ wait_alone members m h wait found is none =
     let here : least (member_tests members m h) ≡ None = sym is ∙ none in
     rw here refl
 
--- the refusals of the team, of a member's place, of its tasks and of the book together
-pub step_refused : (p : Past) (step : Step) (team place tasks book : Option Refusal) → team ≡ lesser (least (member_tests p.terms.members step.member p.events)) (least (wait_tests step.call (p.waits step.member).open_call)) →
-    place ≡ least (place_tests (is_resume step.call) (row_at p step) step.member p) → tasks ≡ least (board_tests (is_resume step.call) (row_at p step) step.member p) →
-    book ≡ least (book_tests (is_resume step.call) (row_at p step) step.member p) → lesser team (lesser (lesser place tasks) book) ≡ refusal_of p step
-step_refused p step team place tasks book one two three four =
-    let row : lesser (lesser place tasks) book ≡ least (row_tests (is_resume step.call) (row_at p step) step.member p) =
-    sym (lesser_assoc place tasks book) ∙ (rw (two, three, four) (sym (row_layers (is_resume step.call) (row_at p step) step.member p))) in
+-- the refusals of the team, of what a member leaves, of its place, of its tasks and of the book together
+pub step_refused : (p : Past) (step : Step) (team leaving place tasks book : Option Refusal) → team ≡ lesser (least (member_tests p.terms.members step.member p.events)) (least (wait_tests step.call (p.waits step.member).open_call)) →
+    leaving ≡ least (leaving_tests (is_resume step.call) (row_at p step) step.member p) → place ≡ least (place_tests (is_resume step.call) (row_at p step) step.member p) → tasks ≡ least (board_tests (is_resume step.call) (row_at p step) step.member p) →
+    book ≡ least (book_tests (is_resume step.call) (row_at p step) step.member p) → lesser team (lesser (lesser (lesser leaving place) tasks) book) ≡ refusal_of p step
+step_refused p step team leaving place tasks book one zero two three four =
+    let row : lesser (lesser (lesser leaving place) tasks) book ≡ least (row_tests (is_resume step.call) (row_at p step) step.member p) =
+    sym (lesser_assoc (lesser leaving place) tasks book) ∙ sym (lesser_assoc leaving place (lesser tasks book)) ∙ (rw (zero, two, three, four) (sym (row_layers (is_resume step.call) (row_at p step) step.member p))) in
     rw (one, row) (sym (lesser_assoc (least (member_tests p.terms.members step.member p.events)) (least (wait_tests step.call (p.waits step.member).open_call)) (least (row_tests (is_resume step.call) (row_at p step) step.member p))))
     ∙ sym (step_layers p step)
 
@@ -98,6 +98,7 @@ pub still_admitted : {A : Type 0} (P : A → Type 0) (own all : Result A Refusal
 still_admitted P own (Ok found) same may = rw same at may
 still_admitted P own (Err refusal) same may = tt
 
--- and if three others refuse it
-pub all_admitted : {A : Type 0} (P : A → Type 0) (own some more all : Result A Refusal) → IfOk all (λ found. more ≡ Ok found) → IfOk more (λ found. some ≡ Ok found) → IfOk some (λ found. own ≡ Ok found) → IfOk own P → IfOk all P
-all_admitted P own some more all last then first may = still_admitted P more all last (still_admitted P some more then (still_admitted P own some first may))
+-- and if four others don't refuse it
+pub all_admitted : {A : Type 0} (P : A → Type 0) (own led some more all : Result A Refusal) → IfOk all (λ found. more ≡ Ok found) → IfOk more (λ found. some ≡ Ok found) → IfOk some (λ found. led ≡ Ok found) → IfOk led (λ found. own ≡ Ok found) →
+    IfOk own P → IfOk all P
+all_admitted P own led some more all last then next first may = still_admitted P more all last (still_admitted P some more then (still_admitted P led some next (still_admitted P own led first may)))

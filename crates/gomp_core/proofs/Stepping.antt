@@ -21,7 +21,7 @@ use Rattle.gomp_types.proofs.LeastTests.{lesser_low}
 use Rattle.gomp_locks.specs.Book.{BookView}
 use Rattle.gomp_locks.specs.Holders.{holder}
 use Rattle.gomp_model.specs.Past.{Terms, Waits, no_waits, Past}
-use Rattle.gomp_model.specs.Row.{Row, refusal_gives, MayGive}
+use Rattle.gomp_model.specs.Row.{Row, asks_memory, refusal_gives, MayGive}
 use Rattle.gomp_model.specs.Calls.{row_of}
 use Rattle.gomp_model.specs.Team.{Record, call_meant, is_resume, row_at, broken_tests, refusal_of, MayAnswer, open_first, waits_after, past_of, Caused}
 use Rattle.gomp_board.specs.declared.op.Op.TheVariants.{Break as BreakOp}
@@ -29,7 +29,9 @@ use Rattle.gomp_board.specs.Boards.{BoardView, Stands as BoardStands, Performs, 
 use Rattle.gomp_laws.proofs.Layers.{step_layers}
 use Rattle.gomp_laws.proofs.Calls.{row_is_sound}
 use Rattle.gomp_laws.proofs.Waiting.{AreBeneath}
+use Rattle.gomp_parts.specs.declared.leaving.Leaving.{Leaving}
 use Rattle.gomp_parts.specs.Answers.{room_left, PutsInside, PartsStand, KeepsStart}
+use Rattle.gomp_parts.specs.Leaves.{LeavesAs, leaves_nothing}
 use Rattle.gomp_held.specs.Stands.{BookStands, IsKnown}
 use Rattle.gomp_core.specs.Replies.{NamesStay}
 use Rattle.gomp_core.specs.Stands.{TeamView, Stands, Keeps, TakesMemory, past, terms_of, members_of}
@@ -62,6 +64,17 @@ only_none_wait (suc count) (suc m) waits at = only_none_wait count m waits at
 
 pub nobody_waits : (kept : List Waits) (count m : ℕ) (waits : Waits) → kept ≡ replicate count no_waits → slice_get kept m ≡ Some waits → no_waits ≡ waits
 nobody_waits kept count m waits all at = only_none_wait count m waits (subst (λ (xs : List Waits). slice_get xs m ≡ Some waits) all at)
+
+-- nor does anyone leave anything
+only_none_leave : (count m : ℕ) (leaving : Leaving) → slice_get (replicate {A = Leaving} count leaves_nothing) m ≡ Some leaving → leaves_nothing ≡ leaving
+only_none_leave zero m leaving at = absurd (cc)
+only_none_leave (suc count) zero leaving at = cc
+only_none_leave (suc count) (suc m) leaving at = only_none_leave count m leaving at
+
+pub nobody_leaves : (kept : List Leaving) (count m : ℕ) (leaving : Leaving) (h : List Event) → kept ≡ replicate count leaves_nothing → slice_get kept m ≡ Some leaving → h ≡ [] → LeavesAs leaving m h
+nobody_leaves kept count m leaving h all at quiet =
+    let none = only_none_leave count m leaving (subst (λ (xs : List Leaving). slice_get xs m ≡ Some leaving) all at) in
+    rw (← none, quiet) (record { region = refl; task = refl })
 
 -- A team that is the other
 
@@ -114,17 +127,20 @@ pub record StandsBy {S : Type 0} (stands : S → List Event → Type 0) (terms :
   pub book_are : BookStands team.book (past_of terms before)
   pub names_known : (m : ℕ) → IsKnown team.book ((past_of terms before).waits m).open_call
   pub wait : (m : ℕ) (waits : Waits) → slice_get team.waits m ≡ Some waits → (past_of terms before).waits m ≡ waits
+  pub leave : (m : ℕ) (leaving : Leaving) → slice_get team.leaving m ≡ Some leaving → LeavesAs leaving m (past_of terms before).events
   pub waiting_kept : (m : ℕ) (call : Call) → ((past_of terms before).waits m).open_call ≡ Some call → KeepsStart (row_of call) m team.board
 
 pub stands_by : {S : Type 0} (stands : S → List Event → Type 0) (members : S → ℕ) (terms : Terms) (team : TeamView S) (before : Record) → terms ≡ terms_of team → StandsBy stands terms team before → IsTeamSize (members_of team) →
-    capped_limits team.board.limits ≡ team.board.limits → members team.shares ≡ members_of team → Stands stands members team before
-stands_by stands members terms team before same by size limits shares =
+    capped_limits team.board.limits ≡ team.board.limits → members team.shares ≡ members_of team → length team.leaving ≡ members_of team → Stands stands members team before
+stands_by stands members terms team before same by size limits shares leaving =
     let own = subst (λ (t : Terms). StandsBy stands t team before) same by in record {
       caused = own.caused;
       parts_are = own.parts_are;
       book_are = own.book_are;
       names_known = own.names_known;
       wait = own.wait;
+      leave = own.leave;
+      leaving_size = leaving;
       waiting_kept = own.waiting_kept;
       size = size;
       limits_are = limits;
@@ -150,6 +166,8 @@ stands_refused stands members team before step refusal st may other =
       book_are = book_moved team.book p q (λ key. ap (holder key) same) refl st.book_are;
       names_known = λ k. subst (λ (w : Waits). IsKnown team.book w.open_call) (sym (waits_refused p step k)) (st.names_known k);
       wait = λ k waits at. waits_refused p step k ∙ st.wait k waits at;
+      leave = λ k leaving at. subst (LeavesAs leaving k) (sym same) (st.leave k leaving at);
+      leaving_size = st.leaving_size;
       waiting_kept = λ k call is. st.waiting_kept k call (ap (λ (w : Waits). w.open_call) (sym (waits_refused p step k)) ∙ is);
       size = st.size;
       limits_are = st.limits_are;
@@ -222,9 +240,10 @@ stands_broken stands members team board before step place st may at shares break
       book_are = book_moved team.book p q (λ key. ap (holder key) same) refl st.book_are;
       names_known = λ k. subst (λ (w : Waits). IsKnown team.book w.open_call) (sym (waits_refused p step k)) (st.names_known k);
       wait = λ k waits there. waits_refused p step k ∙ st.wait k waits there;
+      leave = λ k leaving there. let as_before = st.leave k leaving there in subst (LeavesAs leaving k) (sym same) (record { region = as_before.region; task = as_before.task });
       waiting_kept = λ k call is. keeps_alike (row_of call) k team.board board (kept_alike k team.board board breaks.kept) (st.waiting_kept k call (ap (λ (w : Waits). w.open_call) (sym (waits_refused p step k)) ∙ is));
     })
-    st.size (rw breaks.limits st.limits_are) st.shares_size
+    st.size (rw breaks.limits st.limits_are) st.shares_size st.leaving_size
 
 -- No refusal is for want of memory
 pub refused_memory : (p : Past) (step : Step) (refusal : Refusal) → MayAnswer p step (Refused refusal) → refusal_of p step ≡ Some refusal → Refused refusal ≢ Refused NoMemory
@@ -239,7 +258,7 @@ meant_itself _ waiting once = refl
 
 -- a reply that such a call may give has its cause, and want of memory if the call is made
 pub may_answer : (p : Past) (step : Step) (reply : Reply) → refusal_of p step ≡ None → MayGive (row_at p step) (is_resume step.call) step.member p reply → (reply ≡ Refused NoMemory → is_resume step.call ≡ false) → MayAnswer p step reply
-may_answer p step (Refused NoMemory) none may once = (none, subst (λ (call : Call). IsTrue (row_of call).memory) (meant_itself step.call (p.waits step.member).open_call (once refl)) may)
+may_answer p step (Refused NoMemory) none may once = (none, subst (λ (call : Call). IsTrue (asks_memory (row_of call) step.member p)) (meant_itself step.call (p.waits step.member).open_call (once refl)) may)
 may_answer p step (Refused refusal) none may once = absurd ((row_is_sound (call_meant step.call (p.waits step.member).open_call)).accepts step.member _ refusal may)
 may_answer p step reply none may once = (none, may)
 

@@ -1,15 +1,15 @@
 -- A member one of whose calls has arrived at a barrier waits there, and no other member does.
 use Rattle.std.proofs.Common.{◌≡◌, ℕ, Bool, true, false, List, [], ◌∷◌, ◌++◌, Option, Some, None, refl, sym, ◌∙◌, subst, inl, inr}
-use Rattle.std.specs.Prelude.{◌==◌, ◌&&◌, ◌||◌, not, is_some}
+use Rattle.std.specs.Prelude.{◌==◌, ◌&&◌, ◌||◌, is_some}
 use Rattle.std.proofs.lemmas.Bool.{cases_Bool}
 use Rattle.gomp_types.specs.declared.call.Call.{Call}
 use Rattle.gomp_types.specs.declared.call.Call.TheVariants.{Resume, Stop}
 use Rattle.gomp_types.specs.declared.call.Step.{Step}
 use Rattle.gomp_types.specs.declared.reply.Reply.{Reply}
-use Rattle.gomp_types.specs.declared.reply.Reply.TheVariants.{Passed, Wait, Run, TaskDone, Stopped, Refused}
+use Rattle.gomp_types.specs.declared.reply.Reply.TheVariants.{Passed, Cancelled, Wait, Run, TaskDone, Stopped, Refused}
 use Rattle.gomp_types.specs.declared.refusal.Refusal.TheVariants.{Mismatch}
 use Rattle.gomp_types.specs.declared.event.Event.{Event}
-use Rattle.gomp_types.specs.Events.{at_barrier, clash_of}
+use Rattle.gomp_types.specs.Events.{at_barrier}
 use Rattle.gomp_types.specs.Tasks.{task_stack, in_task}
 use Rattle.gomp_types.proofs.Booleans.{is_equal, or_right}
 use Rattle.gomp_types.proofs.LeastTests.{AllFail}
@@ -19,11 +19,11 @@ use Rattle.gomp_model.specs.Row.{Row, unless_repeated, begun_past, row_tests, ev
 use Rattle.gomp_model.specs.Calls.{row_of}
 use Rattle.gomp_model.specs.Team.{Record, call_meant, is_resume, row_at, wait_tests, refusal_of, MayAnswer, open_first, waits_after, past_after, past_of, Caused}
 use Rattle.gomp_board.specs.Ops.{awaits_barrier}
-use Rattle.gomp_laws.proofs.Sound.{Ready, outside_of_tasks, IsSound}
+use Rattle.gomp_laws.proofs.Sound.{outside_of_tasks, IsSound}
 use Rattle.gomp_laws.proofs.Calls.{row_is_sound}
 use Rattle.gomp_laws.proofs.Places.{barriers_other, barriers_own}
 use Rattle.gomp_laws.proofs.Waiting.{has_arrived, some_arrived, covers_none, none_arrived}
-use Rattle.gomp_laws.proofs.Known.{Known, Passes, known_of, unrefused_step_passes, unrefused_step_is_ready}
+use Rattle.gomp_laws.proofs.Known.{Known, known_of, unrefused_step_passes, unrefused_step_is_ready}
 
 -- whether a call of the member that is not answered whole has arrived
 abbrev pub arrived_of : Waits → Bool
@@ -39,18 +39,19 @@ or_none false b e none = e
 
 -- An arrival
 
-once_again_none : (events : List Event) → unless_repeated events true ≡ []
+pub once_again_none : (events : List Event) → unless_repeated events true ≡ []
 once_again_none [] = refl
 once_again_none (event ∷ events) = refl
 
-once_first_all : (events : List Event) → unless_repeated events false ≡ events
+pub once_first_all : (events : List Event) → unless_repeated events false ≡ events
 once_first_all [] = refl
 once_first_all (event ∷ events) = refl
 
--- a call that arrives waits there once it has begun
-begun_there : (call : Call) (repeated : Bool) (m : ℕ) (p : Past) → is_some (row_of call).arrives ≡ true → (repeated ≡ true → at_barrier m p.events ≡ true) → at_barrier m (begun_past repeated (row_of call) m p).events ≡ true
-begun_there call true m p arrives there = rw (once_again_none ((row_of call).begins m p)) (there refl)
-begun_there call false m p arrives there = rw (once_first_all ((row_of call).begins m p)) ((row_is_sound call).arrives_there arrives m p)
+-- a call that arrives waits there once it has begun, if it goes on
+begun_there : (call : Call) (repeated : Bool) (m : ℕ) (p : Past) (reply : Reply) → is_some (row_of call).arrives ≡ true → goes_on reply ≡ true → (row_of call).may_reply m (begun_past repeated (row_of call) m p) reply → (repeated ≡ true → at_barrier m p.events ≡ true) →
+    at_barrier m (begun_past repeated (row_of call) m p).events ≡ true
+begun_there call true m p reply arrives goes may there = rw (once_again_none ((row_of call).begins m p)) (there refl)
+begun_there call false m p reply arrives goes may there = (row_is_sound call).arrives_there arrives m p reply may goes
 
 -- and stays there while it waits, or while a task is executed there
 stays_there : (call : Call) (repeated : Bool) (m : ℕ) (p : Past) (reply : Reply) → is_some (row_of call).arrives ≡ true → goes_on reply ≡ true → (row_of call).may_reply m (begun_past repeated (row_of call) m p) reply →
@@ -93,16 +94,18 @@ no_more_arrived call waits (Run task code arg false) silent arrived = or_right (
 no_more_arrived call waits (TaskDone task true) silent arrived = or_right (has_arrived waits.open_call) (some_arrived waits.beneath) (sym (first_arrived waits.beneath) ∙ arrived)
 no_more_arrived call waits _ silent arrived = or_right (has_arrived waits.open_call) (some_arrived waits.beneath) arrived
 
--- after a barrier is passed none has
-none_after_pass : (p : Past) (step : Step) → refusal_of p step ≡ None → Known p → is_some (row_at p step).arrives ≡ true → arrived_of (waits_after Passed step.call (p.waits step.member)) ≡ false
-none_after_pass p step none known arrives = none_arrived (p.waits step.member).beneath (none_under p step none known arrives)
+-- after a reply that closes it none has
+none_after_close : (p : Past) (step : Step) (reply : Reply) → refusal_of p step ≡ None → Known p → is_some (row_at p step).arrives ≡ true → waits_after reply step.call (p.waits step.member) ≡ record (p.waits step.member) { open_call = None } →
+    arrived_of (waits_after reply step.call (p.waits step.member)) ≡ false
+none_after_close p step reply none known arrives closed = rw closed (none_arrived (p.waits step.member).beneath (none_under p step none known arrives))
 
 answer_there : (p : Past) (step : Step) (reply : Reply) → refusal_of p step ≡ None → (row_at p step).may_reply step.member (begun_past (is_resume step.call) (row_at p step) step.member p) reply → Known p → IsThere step.member (p.waits step.member) p.events →
     IsThere step.member (waits_after reply step.call (p.waits step.member)) (events_after (is_resume step.call) (row_at p step) step.member p reply)
 answer_there p step reply none may known there = elim (cases_Bool (is_some (row_at p step).arrives)) [
   | inl arrives ↦ elim (sound.tells arrives m (begun_past repeated row m p) reply may) [
-    | inl passes ↦ λ arrived. absurd (let never : true ≡ false = sym (subst (λ (r : Reply). arrived_of (waits_after r step.call (p.waits m)) ≡ true) passes arrived) ∙ none_after_pass p step none known arrives in cc)
-    | inr goes ↦ λ arrived. stays_there meant repeated m p reply arrives goes may (begun_there meant repeated m p arrives (λ again. there (open_arrived again arrives)))
+    | inl passes ↦ λ arrived. absurd (let never : true ≡ false = sym (subst (λ (r : Reply). arrived_of (waits_after r step.call (p.waits m)) ≡ true) passes arrived) ∙ none_after_close p step Passed none known arrives refl in cc)
+    | inr (inl goes) ↦ λ arrived. stays_there meant repeated m p reply arrives goes may (begun_there meant repeated m p reply arrives goes may (λ again. there (open_arrived again arrives)))
+    | inr (inr cut) ↦ λ arrived. absurd (let never : true ≡ false = sym (subst (λ (r : Reply). arrived_of (waits_after r step.call (p.waits m)) ≡ true) cut arrived) ∙ none_after_close p step Cancelled none known arrives refl in cc)
   ]
   | inr silent ↦ λ arrived. (barriers_own row sound repeated m p reply silent).waiting ∙ there (no_more_arrived step.call (p.waits m) reply silent arrived)
 ]
@@ -144,52 +147,23 @@ arrived_waits_there terms (pair ∷ earlier) caused k = step_there (past_of term
 -- A call that no test refuses
 
 -- no call that waits has arrived, unless it is repeated, or the member stops the team
-open_is_away : (m : ℕ) (p : Past) (call : Call) (waiting : Option Call) → AllFail (wait_tests call waiting) → ((row_of (call_meant call waiting)).may_reply m p Stopped → ⊥) → (is_resume call && is_some (row_of (call_meant call waiting)).arrives) ≡ false → has_arrived waiting ≡ false
+pub open_is_away : (m : ℕ) (p : Past) (call : Call) (waiting : Option Call) → AllFail (wait_tests call waiting) → ((row_of (call_meant call waiting)).may_reply m p Stopped → ⊥) → (is_resume call && is_some (row_of (call_meant call waiting)).arrives) ≡ false → has_arrived waiting ≡ false
 open_is_away m p Stop waiting fail goes not_again = absurd (goes refl)
 open_is_away m p Resume None fail goes not_again = refl
 open_is_away m p Resume (Some call) fail goes not_again = not_again
 open_is_away m p _ None fail goes not_again = refl
 open_is_away m p _ (Some other) fail goes not_again = absurd (let shut = fail.0 in cc)
 
-in_no_task : (a : Bool) → (a && not true) ≡ false
-in_no_task true = refl
-in_no_task false = refl
-
-outside_task : (a : Bool) → (a && not false) ≡ a
-outside_task true = refl
-outside_task false = refl
-
 both_true : (a b : Bool) → (a && b) ≡ true → (a ≡ true) × (b ≡ true)
 both_true true true e = (refl, refl)
 both_true true false e = absurd (cc)
 both_true false b e = absurd (cc)
 
--- the member waits at a barrier if it repeats a call that has arrived there, and only then
-pub awaits_if_repeated : (p : Past) (step : Step) → refusal_of p step ≡ None → Known p → clash_of p.events ≡ None → IsThere step.member (p.waits step.member) p.events → ((row_at p step).may_reply step.member p Stopped → ⊥) →
-    awaits_barrier step.member p.events ≡ (is_resume step.call && is_some (row_at p step).arrives)
-awaits_if_repeated p step none known whole there goes = elim (cases_Bool (is_resume step.call && is_some (row_at p step).arrives)) [
-  | inl both ↦
-      let two = both_true (is_resume step.call) (is_some (row_at p step).arrives) both in
-      let outside : in_task m p.events ≡ false = outside_of_tasks ready two.1 (λ fail. sound.outside two.1 m p fail) in
-      let waits = there (rw (repeats_open m p step.call (p.waits m).open_call passes.row two.0 two.1) refl) in
-      rw (outside, waits) (sym both)
-  | inr neither ↦ elim (cases_Bool (in_task m p.events)) [
-    | inl inside ↦ rw (inside, neither) (in_no_task (at_barrier m p.events))
-    | inr outside ↦
-        let under = none_arrived (p.waits m).beneath (covers_none m (p.waits m).beneath (task_stack m p.events) p.events (known.each m).covers (no_task_outside m p.events outside)) in
-        let away = (known.each m).fresh whole (open_is_away m p step.call (p.waits m).open_call passes.wait goes neither) under in
-        rw (away.1, neither) refl
-  ]
-]
-  where
-    m : ℕ
-    m = step.member
-
-    passes : Passes p step
-    passes = unrefused_step_passes p step none
-
-    ready : Ready (row_at p step) (is_resume step.call) step.member p
-    ready = unrefused_step_is_ready p step none known
-
-    sound : IsSound (row_at p step)
-    sound = row_is_sound (call_meant step.call (p.waits step.member).open_call)
+-- a member that repeats a call which arrived waits there
+pub awaits_if_repeated : (p : Past) (step : Step) → refusal_of p step ≡ None → Known p → IsThere step.member (p.waits step.member) p.events → (is_resume step.call && is_some (row_at p step).arrives) ≡ true → awaits_barrier step.member p.events ≡ true
+awaits_if_repeated p step none known there both =
+    let m = step.member in
+    let two = both_true (is_resume step.call) (is_some (row_at p step).arrives) both in
+    let outside : in_task m p.events ≡ false = outside_of_tasks (unrefused_step_is_ready p step none known) two.1 (λ fail. (row_is_sound (call_meant step.call (p.waits m).open_call)).outside two.1 m p fail) in
+    let waits = there (rw (repeats_open m p step.call (p.waits m).open_call (unrefused_step_passes p step none).row two.0 two.1) refl) in
+    rw (outside, waits) refl

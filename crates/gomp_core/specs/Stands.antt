@@ -16,11 +16,13 @@ use Rattle.gomp_locks.specs.Book.{BookView}
 use Rattle.gomp_model.specs.Past.{Terms, Waits, no_waits, Past}
 use Rattle.gomp_model.specs.Row.{Row}
 use Rattle.gomp_model.specs.Calls.{row_of}
-use Rattle.gomp_model.specs.Team.{Record, call_meant, past_of, Caused}
+use Rattle.gomp_model.specs.Team.{Record, call_meant, is_resume, row_at, past_of, Caused}
 use Rattle.gomp_icv.specs.Variables.{Variables}
 use Rattle.gomp_board.specs.declared.op.Op.TheVariants.{Break}
 use Rattle.gomp_board.specs.Boards.{BoardView, IsSame, Performs}
-use Rattle.gomp_parts.specs.Answers.{PartsStand, KeepsStart}
+use Rattle.gomp_parts.specs.declared.leaving.Leaving.{Leaving}
+use Rattle.gomp_parts.specs.Answers.{PartsStand, IsDrained, KeepsStart}
+use Rattle.gomp_parts.specs.Leaves.{LeavesAs}
 use Rattle.gomp_held.specs.Stands.{BookStands, IsKnown}
 
 -- what a team keeps
@@ -30,6 +32,8 @@ pub record TeamView (S : Type 0) : Type 0 where
   pub board : BoardView
   -- of each member the calls that are not answered whole
   pub waits : List Waits
+  -- of each member what it leaves since it has seen that it is cancelled, a share aside
+  pub leaving : List Leaving
   -- the critical names and locks
   pub book : BookView
   pub shares : S
@@ -61,6 +65,9 @@ pub record Stands {S : Type 0} (stands : S → List Event → Type 0) (members :
   pub names_known : (m : ℕ) → IsKnown team.book ((past team before).waits m).open_call
   -- of each member the calls that are not answered whole are kept
   pub wait : (m : ℕ) (waits : Waits) → slice_get team.waits m ≡ Some waits → (past team before).waits m ≡ waits
+  -- and what it leaves
+  pub leave : (m : ℕ) (leaving : Leaving) → slice_get team.leaving m ≡ Some leaving → LeavesAs leaving m (past team before).events
+  pub leaving_size : length team.leaving ≡ members_of team
   -- the board keeps the room of each start that waits
   pub waiting_kept : (m : ℕ) (call : Call) → ((past team before).waits m).open_call ≡ Some call → KeepsStart (row_of call) m team.board
   -- it has 1 to 64 members
@@ -69,6 +76,10 @@ pub record Stands {S : Type 0} (stands : S → List Event → Type 0) (members :
   pub limits_are : capped_limits team.board.limits ≡ team.board.limits
   -- one place for each member in the shares
   pub shares_size : members team.shares ≡ members_of team
+
+-- a member that ends its share by this step was answered before that nothing is left of it, or the share is cancelled
+abbrev pub EndsDrained : {S : Type 0} → (S → List Event → Type 0) → TeamView S → Record → Step → Type 0
+EndsDrained stands team before step = IsDrained (is_resume step.call) (row_at (past team before) step) stands team.shares step.member
 
 -- a member's mismatch breaks the team on the board
 abbrev pub BreaksBoard : BoardView → BoardView → Type 0

@@ -13,7 +13,8 @@ ghost use Rattle.gomp_model.specs.Calls.{row_of};
 ghost use Rattle.gomp_model.specs.Team.{Record, row_at, call_meant, is_resume, member_tests, wait_tests, refusal_of, MayAnswer, events};
 ghost use Rattle.gomp_board.specs.Boards.{Stands as BoardStands, members_of as board_members};
 ghost use Rattle.gomp_parts.specs.Answers.{StartsShare};
-ghost use Rattle.gomp_core.specs.Stands.{Stands, Begins, terms_by, Keeps, TakesMemory, past, terms_of, members_of};
+ghost use Rattle.gomp_parts.specs.Leaves.{leaves_nothing};
+ghost use Rattle.gomp_core.specs.Stands.{Stands, Begins, EndsDrained, terms_by, Keeps, TakesMemory, past, terms_of, members_of};
 ghost use Rattle.gomp_core.specs.LocksMade.{kinds_of, locks_made};
 ghost use Rattle.gomp_core.specs.Resolved.{resolved_call, resolved_step, step_by};
 
@@ -23,7 +24,9 @@ use gomp_board::{Board, Op};
 use gomp_held::held_refusal;
 use gomp_icv::Icv;
 use gomp_locks::LockBook;
-use gomp_parts::{admit_call, place_of, task_refusal, unless_refused};
+use gomp_parts::{
+    Leaving, Manner, admit_call, leaving_refusal, place_of, task_refusal, unless_refused,
+};
 use gomp_shares::Shares;
 use gomp_types::{Call, Limits, Place, Refusal, Reply, Shape, is_team_size};
 use std::alloc::{AllocError, Global};
@@ -40,6 +43,7 @@ pub struct Team<S: Shares> {
     icv: Icv,
     board: Board,
     waits: Vec<Waits>,
+    leaving: Vec<Leaving>,
     book: LockBook,
     shares: S,
 }
@@ -50,9 +54,9 @@ impl<S: Shares> Model for Team<S> {
 
     ghost Value = { TeamView S };
 
-    ghost view = { λ t. record { icv = t.icv; board = t.board; waits = t.waits.items; book = t.book; shares = t.shares } };
+    ghost view = { λ t. record { icv = t.icv; board = t.board; waits = t.waits.items; leaving = t.leaving.items; book = t.book; shares = t.shares } };
 
-    ghost invariant = { λ t. (before : Record) × Stands S.stands S.members (record { icv = t.icv; board = t.board; waits = t.waits.items; book = t.book; shares = t.shares }) before };
+    ghost invariant = { λ t. (before : Record) × Stands S.stands S.members (record { icv = t.icv; board = t.board; waits = t.waits.items; leaving = t.leaving.items; book = t.book; shares = t.shares }) before };
 }
 
 impl<S: Shares> Team<S> {
@@ -176,6 +180,7 @@ impl<S: Shares> Team<S> {
             icv,
             board: Board::new(alloc, count, limits)?,
             waits: none_wait(alloc, count)?,
+            leaving: none_leave(alloc, count)?,
             book,
             shares: S::make(alloc, count)?,
         })
@@ -239,6 +244,8 @@ impl<S: Shares> Team<S> {
         requires starts { (before : Record) → Stands S.stands S.members self.old before →
             StartsShare (row_at (past self.old before) (step_by member call))
             (S.seen self.old.shares member) starts.now }
+        requires drained { (before : Record) → Stands S.stands S.members self.old before →
+            EndsDrained S.stands self.old before (step_by member call) }
         ensures keeps { Keeps self.old self.new call result }
         ensures memory { result ≡ Refused NoMemory → TakesMemory (row_of call) }
         ensures answer { (before : Record) → Stands S.stands S.members self.old before →
@@ -246,16 +253,23 @@ impl<S: Shares> Team<S> {
         ensures stands { (before : Record) → Stands S.stands S.members self.old before →
             Stands S.stands S.members self.new ((step_by member call, result) ∷ before) }
     {
-        let waiting = self.waits[member as usize].open_call();
+        let meant = call_meant(&call, self.waits[member as usize].open_call());
+        let leaving = self.leaving[member as usize];
+        let manner = Manner {
+            repeated: is_resume(&call),
+            leaving,
+            allowed: self.icv.cancellation(),
+        };
         let reply = team_reply(
             &mut self.shares,
             &mut self.board,
             &mut self.book,
             member,
-            call_meant(&call, waiting),
+            meant,
             starts,
-            is_resume(&call),
+            manner,
         );
+        self.leaving[member as usize] = leaving.after(&reply, meant);
         self.waits[member as usize].note(&reply, call);
         reply
     }
@@ -282,6 +296,8 @@ impl<S: Shares> Team<S> {
         ensures starts { (before : Record) → Stands S.stands S.members self.old before →
             IfOk result (StartsShare (row_at (past self.old before) (step_by member call.now))
             (S.seen self.old.shares member)) }
+        ensures drained { (before : Record) → Stands S.stands S.members self.old before →
+            IfOk result (λ starts. EndsDrained S.stands self.old before (step_by member call.now)) }
     {
         if member as usize >= self.waits.len() {
             return Err(Refusal::BadMember);
@@ -289,8 +305,10 @@ impl<S: Shares> Team<S> {
         let waiting = self.waits[member as usize].open_call();
         let meant = call_meant(call, waiting);
         let repeated = is_resume(call);
+        let leaving = self.leaving[member as usize];
         let by_team = team_refusal(&self.board, member, call, waiting);
-        let by_tasks = task_refusal(&self.board, member, meant, repeated);
+        let by_leaving = leaving_refusal(&self.shares, member, meant, repeated, leaving);
+        let by_tasks = task_refusal(&self.board, member, meant, repeated, leaving);
         let task = self.board.current(member);
         let by_book = held_refusal(&self.book, member, task, meant, repeated);
         let limits = self.board.limits();
@@ -301,8 +319,10 @@ impl<S: Shares> Team<S> {
             member,
             meant,
             repeated,
+            leaving,
         );
-        let by_parts = unless_also(by_place, by_tasks);
+        let by_own = unless_refused(by_leaving, by_place);
+        let by_parts = unless_also(by_own, by_tasks);
         unless_refused(by_team, unless_also(by_parts, by_book))
     }
 
@@ -342,6 +362,17 @@ fn none_wait(alloc: Global, count: u16) -> Result<Vec<Waits>, AllocError>
         waits.push_reserved(Waits::make(alloc)?);
     }
     Ok(waits)
+}
+
+/// No member of `count` leaves anything.
+fn none_leave(alloc: Global, count: u16) -> Result<Vec<Leaving>, AllocError>
+    ensures { IfOk result (λ leaving. leaving.items ≡ replicate count leaves_nothing) }
+{
+    let mut leaving = Vec::with_capacity(alloc, count as usize)?;
+    for _ in 0..count {
+        leaving.push_reserved(Leaving::NONE);
+    }
+    Ok(leaving)
 }
 
 /// What a call is admitted to, unless it is refused as well: of both refusals the one with the lesser

@@ -4,7 +4,7 @@ use Rattle.std.specs.Prelude.{◌==◌, ◌&&◌, ◌||◌}
 use Rattle.std.proofs.lemmas.Bool.{cases_Bool}
 use Rattle.std.proofs.lemmas.Bool.Decides.{eqb_tells}
 use Rattle.gomp_types.specs.declared.event.Event.{Event}
-use Rattle.gomp_types.specs.declared.event.Event.TheVariants.{Create, Done}
+use Rattle.gomp_types.specs.declared.event.Event.TheVariants.{Create, Done, Discard}
 use Rattle.gomp_types.specs.Tasks.{tasks_created, open_tasks}
 use Rattle.gomp_types.specs.Depends.{waits_for, is_free}
 use Rattle.gomp_types.proofs.Booleans.{other_number, unequal_numbers}
@@ -16,6 +16,7 @@ use Rattle.gomp_depend.proofs.TaskFacts.{none_open_is_complete}
 row_aside : (k : ℕ) (event : Event) (h : List Event) → IsAside event → (row_of k (event ∷ h) ≡ row_of k h) × (has_row k (event ∷ h) ≡ has_row k h)
 row_aside k (Create t m parent desc) h is = absurd is
 row_aside k (Done t m) h is = absurd is
+row_aside k (Discard t m) h is = absurd is
 row_aside k _ h is = (refl, refl)
 
 rows_aside : (k : ℕ) (event : Event) (h : List Event) → IsAside event → rows_up_to k (event ∷ h) ≡ rows_up_to k h
@@ -29,9 +30,10 @@ count_aside _ h is = refl
 order_aside : (event : Event) (h : List Event) → IsAside event → InOrder event h
 order_aside (Create t m parent desc) h is = absurd is
 order_aside (Done t m) h is = absurd is
+order_aside (Discard t m) h is = absurd is
 order_aside _ h is = tt
 
--- an event that neither creates nor ends a task changes nothing of the counts
+-- an event that neither creates, ends nor discards a task changes nothing of the counts
 pub events_aside_keep_depends : (depends : DependsView) (h : List Event) (event : Event) → IsAside event → Stands depends h → Stands depends (event ∷ h)
 events_aside_keep_depends depends h event is st =
     let same : rows_of (event ∷ h) ≡ rows_of h = rw (count_aside event h is) (rows_aside (tasks_created h) event h is) in
@@ -67,3 +69,7 @@ end_frees t d m h is =
     or_none : (b : Bool) → b ≡ (b || false)
     or_none true = refl
     or_none false = refl
+
+-- and so it is after a task is discarded
+pub discard_frees : (t d m : ℕ) (h : List Event) → IsOpen d h → is_free t (Discard d m ∷ h) ≡ (is_free t h || (waits_for t d h && (open_tasks (λ q. waits_for t q h) h == 1)))
+discard_frees t d m h is = end_frees t d m h is

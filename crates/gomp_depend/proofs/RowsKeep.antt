@@ -10,7 +10,7 @@ use Rattle.gomp_types.specs.declared.task.Task.{Task}
 use Rattle.gomp_types.specs.declared.task.TaskDesc.{TaskDesc}
 use Rattle.gomp_types.specs.declared.depend.Dep.{Dep}
 use Rattle.gomp_types.specs.declared.event.Event.{Event}
-use Rattle.gomp_types.specs.declared.event.Event.TheVariants.{Create, Done}
+use Rattle.gomp_types.specs.declared.event.Event.TheVariants.{Create, Done, Discard}
 use Rattle.gomp_types.specs.Laws.{Always}
 use Rattle.gomp_types.specs.Tasks.{same_task, how_many, tasks_created, is_created, is_complete, open_tasks, is_child}
 use Rattle.gomp_types.specs.Depends.{items_wait, task_items, child_waits, waits_for, is_free}
@@ -268,6 +268,19 @@ rows_keep_at_done rows t m h st is none =
       rows_are = st.rows_are ∙ sym (done_rows t m h st.order is (tasks_created h) (omega arith) ∙ rw left (map_same (lowered (row_of t h)) (rows_of h) (lowers_none t h items)));
       order = (is, st.order);
     }
+
+-- A task that is discarded
+
+-- the rows after it are those after its end
+rows_as_ended : (k t m : ℕ) (h : List Event) → rows_up_to k (Discard t m ∷ h) ≡ rows_up_to k (Done t m ∷ h)
+rows_as_ended zero t m h = refl
+rows_as_ended (suc k) t m h =
+    let kept : has_row (suc k) (Discard t m ∷ h) ≡ has_row (suc k) (Done t m ∷ h) = refl in
+    let row : row_of (suc k) (Discard t m ∷ h) ≡ row_of (suc k) (Done t m ∷ h) = refl in
+    rw (kept, row, rows_as_ended k t m h) refl
+
+pub discard_as_end : (rows : List DependRow) (t m : ℕ) (h : List Event) → RowsStand rows (Done t m ∷ h) → RowsStand rows (Discard t m ∷ h)
+discard_as_end rows t m h st = record { rows_are = st.rows_are ∙ sym (rows_as_ended (tasks_created h) t m h); order = st.order }
 
 -- As the calls read and write them
 

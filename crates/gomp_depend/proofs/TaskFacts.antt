@@ -6,7 +6,7 @@ use Rattle.std.proofs.lemmas.Bool.Decides.{nat_tests}
 use Rattle.gomp_types.specs.declared.task.Task.{Task}
 use Rattle.gomp_types.specs.declared.depend.Dep.{Dep}
 use Rattle.gomp_types.specs.declared.event.Event.{Event}
-use Rattle.gomp_types.specs.declared.event.Event.TheVariants.{Create, Done}
+use Rattle.gomp_types.specs.declared.event.Event.TheVariants.{Create, Done, Discard}
 use Rattle.gomp_types.specs.Laws.{Always}
 use Rattle.gomp_types.specs.Tasks.{same_task, tasks_created, is_created, is_complete, all_complete, open_tasks, is_child}
 use Rattle.gomp_types.specs.Depends.{items_wait, task_items, child_waits, waits_for}
@@ -38,6 +38,11 @@ later_is_no_child (Create task m parent desc ∷ earlier) all t lt =
     let other : (task == t) ≡ false = other_number task t (λ e. omega (arith, number, e, lt)) in
     ((λ p. rw other (was.0 p)), was.1)
 later_is_no_child (Done task m ∷ earlier) all t lt =
+    let was = later_is_no_child earlier all.1 t lt in
+    let high = created_high task earlier all.0.created in
+    let other : (task == t) ≡ false = other_number task t (λ e. omega (arith, high, e, lt)) in
+    (was.0, rw other was.1)
+later_is_no_child (Discard task m ∷ earlier) all t lt =
     let was = later_is_no_child earlier all.1 t lt in
     let high = created_high task earlier all.0.created in
     let other : (task == t) ≡ false = other_number task t (λ e. omega (arith, high, e, lt)) in

@@ -1,5 +1,6 @@
 -- Events, and the rows that stand for them or do not, that the examples share. Each list has the newest event first. (own)
 use Rattle.std.specs.Prelude.{ℕ, false, List, [], ◌∷◌}
+use Rattle.gomp_types.specs.declared.cancel.Scope.TheVariants.{Region}
 use Rattle.gomp_types.specs.declared.task.Task.{Task}
 use Rattle.gomp_types.specs.declared.task.Task.TheVariants.{Implicit, Explicit}
 use Rattle.gomp_types.specs.declared.task.TaskDesc.{TaskDesc}
@@ -7,7 +8,7 @@ use Rattle.gomp_types.specs.declared.depend.Dep.{Dep}
 use Rattle.gomp_types.specs.declared.depend.DepKind.{DepKind}
 use Rattle.gomp_types.specs.declared.depend.DepKind.TheVariants.{DepIn, DepOut, DepInout}
 use Rattle.gomp_types.specs.declared.event.Event.{Event}
-use Rattle.gomp_types.specs.declared.event.Event.TheVariants.{Create, Start, Done}
+use Rattle.gomp_types.specs.declared.event.Event.TheVariants.{Create, Start, Done, Cancel, Discard}
 use Rattle.gomp_depend.specs.declared.rows.DependRow.{DependRow}
 
 -- an item, and a task with such items
@@ -35,6 +36,10 @@ two_writers =
 abbrev pub writer_done : List Event
 writer_done = Done 1 0 ∷ two_writers
 
+-- or it cancels the region, and the first reader is discarded
+abbrev pub reader_discarded : List Event
+reader_discarded = Discard 3 0 ∷ Cancel 0 Region ∷ two_writers
+
 -- the rows of two_writers
 abbrev pub five_rows : List DependRow
 five_rows =
@@ -45,4 +50,10 @@ five_rows =
 abbrev pub four_rows : List DependRow
 four_rows =
     row_with 3 (Implicit 0) (item DepIn 9 ∷ item DepIn 9 ∷ []) 0 ∷ row_with 4 (Implicit 0) (item DepIn 9 ∷ []) 0 ∷ row_with 5 (Implicit 0) (item DepInout 9 ∷ []) 2
+    ∷ row_with 6 (Explicit 1) (item DepIn 9 ∷ []) 0 ∷ []
+
+-- and those of reader_discarded
+abbrev pub rows_without_reader : List DependRow
+rows_without_reader =
+    row_with 1 (Implicit 0) (item DepOut 9 ∷ []) 0 ∷ row_with 4 (Implicit 0) (item DepIn 9 ∷ []) 1 ∷ row_with 5 (Implicit 0) (item DepInout 9 ∷ []) 2
     ∷ row_with 6 (Explicit 1) (item DepIn 9 ∷ []) 0 ∷ []

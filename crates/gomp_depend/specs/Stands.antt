@@ -5,7 +5,7 @@ use Rattle.gomp_types.specs.declared.task.Task.{Task}
 use Rattle.gomp_types.specs.declared.task.Task.TheVariants.{Implicit}
 use Rattle.gomp_types.specs.declared.depend.Dep.{Dep}
 use Rattle.gomp_types.specs.declared.event.Event.{Event}
-use Rattle.gomp_types.specs.declared.event.Event.TheVariants.{Create, Done}
+use Rattle.gomp_types.specs.declared.event.Event.TheVariants.{Create, Done, Discard}
 use Rattle.gomp_types.specs.Laws.{Always}
 use Rattle.gomp_types.specs.Tasks.{tasks_created, is_created, is_complete, open_tasks}
 use Rattle.gomp_types.specs.Depends.{task_items, waits_for}
@@ -49,10 +49,11 @@ pub record IsOpen (t : ℕ) (h : List Event) : Type 0 where
   pub created : is_created t h ≡ true
   pub incomplete : is_complete t h ≡ false
 
--- tasks are created one after another by their numbers, and one that ends was open
+-- tasks are created one after another by their numbers, and one that ends or is discarded was open
 abbrev pub InOrder : Event → List Event → Type 0
 InOrder (Create t m parent desc) earlier = t ≡ suc (tasks_created earlier)
 InOrder (Done t m) earlier = IsOpen t earlier
+InOrder (Discard t m) earlier = IsOpen t earlier
 InOrder _ earlier = Unit {0}
 
 -- these rows stand for the events

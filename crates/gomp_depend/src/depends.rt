@@ -4,7 +4,7 @@ ghost use Rattle.std.specs.Prelude.{◌≡◌, ◌<◌, ◌≤◌, ◌+◌, ◌�
 ghost use Rattle.std.proofs.Common.{suc};
 ghost use Rattle.gomp_types.specs.declared.task.TaskDesc.{TaskDesc};
 ghost use Rattle.gomp_types.specs.declared.event.Event.{Event};
-ghost use Rattle.gomp_types.specs.declared.event.Event.TheVariants.{Create, Done};
+ghost use Rattle.gomp_types.specs.declared.event.Event.TheVariants.{Create, Done, Discard};
 ghost use Rattle.gomp_types.specs.Tasks.{tasks_created, open_tasks, all_complete};
 ghost use Rattle.gomp_types.specs.Depends.{child_waits, is_free};
 ghost use Rattle.gomp_depend.specs.Stands.{Stands, IsOpen, has_items};
@@ -144,5 +144,15 @@ impl Depends {
         };
         let done = self.rows.remove(place);
         lower_all(&mut self.rows, &done);
+    }
+    /// The task with this number, from 1, which is open, is discarded by a cancellation: it is
+    /// complete from now on, so that no other waits for it (OpenMP API 5.2, section 16.1).
+    pub fn discard(&mut self, task: u32)
+        requires open { (h : List Event) × Stands self.old h × IsOpen task h }
+        ensures room { self.old.room ≤ self.new.room }
+        ensures stands { (h : List Event) (m : ℕ) → Stands self.old h → IsOpen task h →
+            Stands self.new (Discard task m ∷ h) }
+    {
+        self.complete(task);
     }
 }

@@ -6,12 +6,12 @@ use Rattle.std.proofs.lemmas.List.{length-append, get_or_append_left, get_or_pas
 use Rattle.gomp_types.specs.declared.task.Task.{Task}
 use Rattle.gomp_types.specs.declared.task.Task.TheVariants.{Implicit, Explicit}
 use Rattle.gomp_types.specs.Tasks.{contains, same_task}
+use Rattle.gomp_types.specs.Cancels.{first_of}
 use Rattle.gomp_types.proofs.Booleans.{or_tells, or_right, same_number, other_number, is_equal}
 use Rattle.gomp_groups.specs.declared.rows.GroupRow.{GroupRow}
 use Rattle.gomp_groups.specs.declared.rows.Seat.{Seat}
 use Rattle.gomp_groups.specs.declared.rows.TaskRow.{TaskRow}
 use Rattle.gomp_groups.specs.Rows.{no_group, no_task, outer_at, pending_at, seat_at, IsChain, IsNested, same_group, own_group}
-use Rattle.gomp_groups.specs.Calls.{first_of}
 
 -- Tasks
 

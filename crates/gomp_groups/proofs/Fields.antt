@@ -8,21 +8,21 @@ use Rattle.gomp_types.specs.declared.task.Task.{Task}
 use Rattle.gomp_types.specs.declared.task.Task.TheVariants.{Implicit, Explicit}
 use Rattle.gomp_types.specs.declared.task.TaskDesc.{TaskDesc}
 use Rattle.gomp_types.specs.declared.event.Event.{Event}
-use Rattle.gomp_types.specs.declared.event.Event.TheVariants.{Create, Done, Group, GroupEnd}
-use Rattle.gomp_types.specs.Tasks.{same_task, contains, how_many, tasks_created, is_created, is_complete, is_child}
+use Rattle.gomp_types.specs.declared.event.Event.TheVariants.{Create, Group, GroupEnd}
+use Rattle.gomp_types.specs.Tasks.{same_task, contains, how_many, tasks_created, is_complete, is_child}
 use Rattle.gomp_types.specs.Groups.{open_groups, groups_around, in_group, group_complete}
 use Rattle.gomp_types.specs.Goals.{children_complete}
-use Rattle.gomp_types.specs.TaskRules.{MayEnd}
 use Rattle.gomp_types.proofs.OpenTasks.{open_done, created_low, created_high}
-use Rattle.gomp_types.proofs.Suspended.{current_open}
 use Rattle.gomp_groups.specs.declared.rows.GroupRow.{GroupRow}
 use Rattle.gomp_groups.specs.declared.rows.Seat.{Seat}
 use Rattle.gomp_groups.specs.declared.rows.TaskRow.{TaskRow}
 use Rattle.gomp_groups.specs.Rows.{no_group, no_seat, no_task, outer_at, pending_at, seat_at, IsSeatedIn, IsChain, same_group, own_group, CountsOneMore}
-use Rattle.gomp_groups.specs.Stands.{GroupsView, GroupsStand, Stands, groups_beyond}
-use Rattle.gomp_groups.specs.Calls.{last_open, Executes, MayClose, MayCreateIn}
-use Rattle.gomp_groups.proofs.Chains.{same_task_self, chain_starts, own_is}
-use Rattle.gomp_groups.proofs.GroupsKeep.{Reseats, done_is, child_is, open_keeps, close_keeps, create_keeps, complete_keeps}
+use Rattle.gomp_types.specs.Cancels.{first_of, groups_over}
+use Rattle.gomp_groups.specs.Stands.{GroupsView, GroupsStand, Stands}
+use Rattle.gomp_groups.specs.Calls.{last_open, IsLastOf, Executes, MayClose, MayCreateIn, MayComplete}
+use Rattle.gomp_groups.proofs.Chains.{same_task_self, chain_first, chain_starts, own_is}
+use Rattle.gomp_groups.proofs.Marks.{begins_with_last}
+use Rattle.gomp_groups.proofs.GroupsKeep.{Reseats, StillOpen, completed_was_open, done_is, child_is, open_keeps, close_keeps, create_keeps, complete_keeps}
 
 -- the value stands for what the fields do
 pub view_stands : (view now : GroupsView) (h : List Event) → view ≡ now → Stands now h → Stands view h
@@ -40,9 +40,9 @@ new_seat n (Implicit m) = all_new n m
 new_seat n (Explicit zero) = refl
 new_seat n (Explicit (suc k)) = refl
 
-no_group_beyond : (p : Task) → groups_beyond p [] ≡ []
-no_group_beyond (Implicit m) = refl
-no_group_beyond (Explicit t) = refl
+no_group_over : (p : Task) → groups_over p [] ≡ []
+no_group_over (Implicit m) = refl
+no_group_over (Explicit t) = refl
 
 new_stands : (n : ℕ) → GroupsStand [] [] (replicate n no_seat) []
 new_stands n = record {
@@ -52,8 +52,8 @@ new_stands n = record {
   pending = λ q. refl;
   parent = λ k lt p. absurd (omega arith);
   children = λ p. rw (new_seat n p) refl;
-  around = λ p. rw (new_seat n p, no_group_beyond p) refl;
-  last = λ p. rw (new_seat n p, no_group_beyond p) refl;
+  around = λ p. rw (new_seat n p, no_group_over p) refl;
+  last = λ p. rw (new_seat n p, no_group_over p) refl;
   rule = tt;
 }
 
@@ -75,16 +75,26 @@ pub done_read : (groups : List GroupRow) (tasks : List TaskRow) (members : List 
 done_read groups tasks members q row h st lt is = ap (λ (n : ℕ). n == 0) (ap (λ (r : GroupRow). r.pending) (get_or_read groups q row lt is no_group) ∙ sym (st.pending q)) ∙ done_is (λ t. in_group q t h) h
 
 pub open_read : (groups : List GroupRow) (tasks : List TaskRow) (members : List Seat) (task : Task) (seat : Seat) (h : List Event) → GroupsStand groups tasks members h → seat ≡ seat_at tasks members task → own_group seat ≡ last_open task h
-open_read groups tasks members task seat h st is = ap own_group is ∙ own_is groups (seat_at tasks members task) (open_groups task h) (groups_beyond task h) st.nested (st.last task) (st.around task)
+open_read groups tasks members task seat h st is = ap own_group is ∙ own_is groups (seat_at tasks members task) (open_groups task h) (groups_over task h) st.nested (st.last task) (st.around task)
 
 pub own_within : (groups : List GroupRow) (tasks : List TaskRow) (members : List Seat) (task : Task) (seat : Seat) (h : List Event) → GroupsStand groups tasks members h → seat ≡ seat_at tasks members task → IfSome (own_group seat) (λ q. q < length groups)
 own_within groups tasks members task seat h st is =
     subst (λ (s : Seat). IfSome (own_group s) (λ q. q < length groups)) (sym is)
-    (by (same_group (seat_at tasks members task).last (seat_at tasks members task).around) (chain_starts groups (seat_at tasks members task).last (open_groups task h ++ groups_beyond task h) (st.last task)))
+    (by (same_group (seat_at tasks members task).last (seat_at tasks members task).around) (chain_starts groups (seat_at tasks members task).last (open_groups task h ++ groups_over task h) (st.last task)))
   where
     by : (b : Bool) → IfSome (seat_at tasks members task).last (λ q. q < length groups) → IfSome (if b then None else (seat_at tasks members task).last) (λ q. q < length groups)
     by true low = tt
     by false low = low
+
+-- the innermost group around a task: it was opened last, and has a row
+pub innermost_read : (groups : List GroupRow) (tasks : List TaskRow) (members : List Seat) (task : Task) (seat : Seat) (h : List Event) → GroupsStand groups tasks members h → seat ≡ seat_at tasks members task → seat.around ≡ first_of (groups_over task h)
+innermost_read groups tasks members task seat h st is = rw is (chain_first groups (seat_at tasks members task).around (groups_over task h) (st.around task))
+
+pub innermost_is_last : (groups : List GroupRow) (tasks : List TaskRow) (members : List Seat) (task : Task) (seat : Seat) (h : List Event) → GroupsStand groups tasks members h → seat ≡ seat_at tasks members task → IfSome seat.around (IsLastOf (groups_over task h))
+innermost_is_last groups tasks members task seat h st is = rw is (begins_with_last groups (seat_at tasks members task).around (groups_over task h) st.nested (st.around task))
+
+pub innermost_within : (groups : List GroupRow) (tasks : List TaskRow) (members : List Seat) (task : Task) (seat : Seat) (h : List Event) → GroupsStand groups tasks members h → seat ≡ seat_at tasks members task → IfSome seat.around (λ q. q < length groups)
+innermost_within groups tasks members task seat h st is = rw is (chain_starts groups (seat_at tasks members task).around (groups_over task h) (st.around task))
 
 -- What is written
 
@@ -151,19 +161,18 @@ pub create_writes : (groups groups_new : List GroupRow) (tasks pushed : List Tas
     Reseats tasks members parent (record { children = seat.children + 1; around = seat.around; last = seat.last }) tasks_now members_now →
     GroupsStand (take n (groups_new ++ drop (length groups_new) groups)) pushed members_now (Create (suc (tasks_created h)) m parent desc ∷ h)
 create_writes groups groups_new tasks pushed members parent seat n tasks_now members_now h m desc st may is size counts pushed_is re =
-    let chain : IsChain groups seat.last (open_groups parent h ++ groups_beyond parent h) = rw is (st.last parent) in
-    let counted = counts (open_groups parent h ++ groups_beyond parent h) chain in
+    let chain : IsChain groups seat.last (open_groups parent h ++ groups_over parent h) = rw is (st.last parent) in
+    let counted = counts (open_groups parent h ++ groups_over parent h) chain in
     rw (slice_written groups_new groups n counted.len size, pushed_is, is) (create_keeps groups tasks members parent groups_new tasks_now members_now h m desc st may counted
     (subst (λ (s : Seat). Reseats tasks members parent (record { children = s.children + 1; around = s.around; last = s.last }) tasks_now members_now) is re))
 
--- a task that was ended
+-- a task that was completed
 
 -- it has a row
-pub row_there : (groups : List GroupRow) (tasks : List TaskRow) (members : List Seat) (t : ℕ) (h : List Event) (m n : ℕ) → GroupsStand groups tasks members h → MayEnd n t m h → (0 < t) × (t - 1 < length tasks)
-row_there groups tasks members t h m n st may =
-    let made = (current_open (length members) m t h st.rule may.current).0 in
-    let low = created_low t h made in
-    let high = created_high t h made in
+pub row_there : (groups : List GroupRow) (tasks : List TaskRow) (members : List Seat) (t : ℕ) (h : List Event) → GroupsStand groups tasks members h → StillOpen t h → (0 < t) × (t - 1 < length tasks)
+row_there groups tasks members t h st open' =
+    let low = created_low t h open'.made in
+    let high = created_high t h open'.made in
     let count = st.created in
     (low, omega (arith, low, high, count))
 
@@ -176,31 +185,30 @@ pub record RowSays (groups : List GroupRow) (tasks : List TaskRow) (members : Li
   -- its parent, of which it is an open child
   pub child : 1 ≤ (seat_at tasks members row.parent).children
 
-pub row_says : (groups : List GroupRow) (tasks : List TaskRow) (members : List Seat) (t : ℕ) (row : TaskRow) (h : List Event) (m n : ℕ) → GroupsStand groups tasks members h → MayEnd n t m h → row ≡ get_or tasks (t - 1) row → RowSays groups tasks members t row h
-row_says groups tasks members t row h m n st may is =
-    let there = row_there groups tasks members t h m n st may in
+pub row_says : (groups : List GroupRow) (tasks : List TaskRow) (members : List Seat) (t : ℕ) (row : TaskRow) (h : List Event) → GroupsStand groups tasks members h → StillOpen t h → row ≡ get_or tasks (t - 1) row → RowSays groups tasks members t row h
+row_says groups tasks members t row h st open' is =
+    let there = row_there groups tasks members t h st open' in
     let read : row ≡ get_or tasks (t - 1) no_task = get_or_read tasks (t - 1) row there.1 is no_task in
     let low = there.0 in
     let place : suc (t - 1) ≡ t = omega (arith, low) in
     let seat : seat_at tasks members (Explicit t) ≡ row.seat = subst (λ (x : ℕ). seat_at tasks members (Explicit x) ≡ row.seat) place (ap (λ (r : TaskRow). r.seat) (sym read)) in
     let parent : (get_or tasks (t - 1) no_task).parent ≡ row.parent = ap (λ (r : TaskRow). r.parent) (sym read) in
-    let own = current_open (length members) m t h st.rule may.current in
     record {
       parent_is = parent;
       around = rw (← seat) (st.around (Explicit t));
-      some = λ q. in_each own.0 own.1 q (contains q (groups_around t h)) refl;
+      some = λ q. in_each q (contains q (groups_around t h)) refl;
       child =
-          let done = open_done (λ u. is_child row.parent u h) t m h own.0 (child_is groups tasks members t h row.parent st own.0 parent row.parent ∙ same_task_self row.parent) own.1 in
+          let done = open_done (λ u. is_child row.parent u h) t 0 h open'.made (child_is groups tasks members t h row.parent st open'.made parent row.parent ∙ same_task_self row.parent) open'.incomplete in
           let was = st.children row.parent in
           omega (arith, done, was);
     }
   where
-    in_each : is_created t h ≡ true → is_complete t h ≡ false → (q : ℕ) (b : Bool) → contains q (groups_around t h) ≡ b → (if b then 1 else 0) ≤ pending_at groups q
-    in_each made incomplete q true there =
-        let done = open_done (λ u. in_group q u h) t m h made there incomplete in
+    in_each : (q : ℕ) (b : Bool) → contains q (groups_around t h) ≡ b → (if b then 1 else 0) ≤ pending_at groups q
+    in_each q true there =
+        let done = open_done (λ u. in_group q u h) t 0 h open'.made there open'.incomplete in
         let was = st.pending q in
         omega (arith, done, was)
-    in_each made incomplete q false away = omega arith
+    in_each q false away = omega arith
 
 -- who has an open child has a seat
 pub parent_seated : (tasks : List TaskRow) (members : List Seat) (p : Task) → 1 ≤ (seat_at tasks members p).children → IsSeatedIn tasks members p
@@ -216,13 +224,13 @@ parent_seated tasks members (Explicit (suc k)) some =
       | inr past ↦ absurd (let none : (get_or tasks k no_task).seat.children ≡ 0 = ap (λ (r : TaskRow). r.seat.children) (get_or_past tasks k no_task past) in omega (arith, none, some))
     ]
 
-pub complete_writes : (groups groups_new : List GroupRow) (tasks : List TaskRow) (members : List Seat) (t : ℕ) (row : TaskRow) (parent : Seat) (n : ℕ) (tasks_now : List TaskRow) (members_now : List Seat) (h : List Event) (m : ℕ) → GroupsStand groups tasks members h → MayEnd (length members) t m h →
+pub complete_writes : (groups groups_new : List GroupRow) (tasks : List TaskRow) (members : List Seat) (t : ℕ) (row : TaskRow) (parent : Seat) (n : ℕ) (tasks_now : List TaskRow) (members_now : List Seat) (h : List Event) (event : Event) → GroupsStand groups tasks members h → MayComplete (length members) t event h →
     row ≡ get_or tasks (t - 1) row → parent ≡ seat_at tasks members row.parent → n ≡ length groups →
     ((qs : List ℕ) → IsChain groups row.seat.around qs → CountsOneMore qs groups_new groups) →
     Reseats tasks members row.parent (record { children = parent.children - 1; around = parent.around; last = parent.last }) tasks_now members_now →
-    GroupsStand (take n (groups_new ++ drop (length groups_new) groups)) tasks_now members_now (Done t m ∷ h)
-complete_writes groups groups_new tasks members t row parent n tasks_now members_now h m st may row_is parent_is size counts re =
-    let says = row_says groups tasks members t row h m (length members) st may row_is in
+    GroupsStand (take n (groups_new ++ drop (length groups_new) groups)) tasks_now members_now (event ∷ h)
+complete_writes groups groups_new tasks members t row parent n tasks_now members_now h event st may row_is parent_is size counts re =
+    let says = row_says groups tasks members t row h st (completed_was_open (length members) t event h st.rule may) row_is in
     let counted = counts (groups_around t h) says.around in
-    rw (slice_written groups_new groups n (sym counted.len) size) (complete_keeps groups tasks members t groups_new tasks_now members_now h m row.parent st may says.parent_is counted
+    rw (slice_written groups_new groups n (sym counted.len) size) (complete_keeps groups tasks members t groups_new tasks_now members_now h event row.parent st may says.parent_is counted
     (subst (λ (s : Seat). Reseats tasks members row.parent (record { children = s.children - 1; around = s.around; last = s.last }) tasks_now members_now) parent_is re))

@@ -1,22 +1,38 @@
 -- What the rows of groups and tasks say, and when they stand for events: for each line of a definition what it says, and what it alone refuses.
-use Rattle.std.proofs.Common.{◌≡◌, ℕ, ◌+◌, ◌<◌, true, false, List, [], ◌∷◌, ◌++◌, Some, None, suc, zero, refl, arith}
+use Rattle.std.proofs.Common.{◌≡◌, ℕ, ◌+◌, ◌<◌, ◌≤◌, true, false, List, [], ◌∷◌, ◌++◌, Some, None, suc, zero, refl, arith}
 use Rattle.std.specs.Prelude.{◌==◌, if◌then◌else◌, slice_index_or, map}
+use Rattle.gomp_types.specs.declared.cancel.CancelKind.{CancelKind}
+use Rattle.gomp_types.specs.declared.cancel.Scope.{Scope}
 use Rattle.gomp_types.specs.declared.refusal.Place.{Place}
 use Rattle.gomp_types.specs.declared.key.Key.{Key}
 use Rattle.gomp_types.specs.declared.shape.Shape.{Shape}
 use Rattle.gomp_types.specs.declared.task.Task.{Task}
 use Rattle.gomp_types.specs.declared.task.Task.TheVariants.{Implicit, Explicit}
 use Rattle.gomp_types.specs.declared.event.Tag.{Tag}
-use Rattle.gomp_types.specs.declared.event.Event.TheVariants.{Enter, Take, Drained, End, HandOn, Part, PartEnd, Put, Got, Arrive, Pass, Hold, Free, Create, Start, Done, Group, GroupEnd, Waited, Break}
+use Rattle.gomp_types.specs.declared.event.Event.TheVariants.{Enter, Take, Drained, End, HandOn, Part, PartEnd, Put, Got, Arrive, Pass, Hold, Free, Create, Start, Done, Discard, Group, GroupEnd, Waited, Cancel, See, Break}
 use Rattle.gomp_types.specs.Laws.{Always}
 use Rattle.gomp_types.specs.Tasks.{open_tasks, is_child, same_task, contains}
 use Rattle.gomp_types.specs.Groups.{in_group, open_groups}
+use Rattle.gomp_types.specs.Cancels.{first_of, groups_over, groups_within}
 use Rattle.gomp_types.specs.TaskRules.{TaskRule}
 use Rattle.gomp_types.proofs.Booleans.{other_number}
-use Rattle.gomp_groups.specs.Rows.{no_seat, no_task, outer_at, pending_at, seat_at, IsSeatedIn, IsChain, IsNested, same_group, own_group, CountsOneMore}
-use Rattle.gomp_groups.specs.Stands.{GroupsStand, groups_beyond}
-use Rattle.gomp_groups.specs.Calls.{last_open, Executes, MayClose, MayCreateIn, rows_room, IsAside}
-use Rattle.gomp_groups.specs.Examples.{some_desc, group_with, seat_with, task_with, one_in_group, grandchild, one_group, one_task, one_member, three_groups, three_tasks, two_members}
+use Rattle.gomp_groups.specs.Rows.{no_seat, no_task, outer_at, pending_at, seat_at, IsSeatedIn, IsChain, IsNested, same_group, own_group, some_marked, CountsOneMore}
+use Rattle.gomp_groups.specs.Stands.{GroupsStand}
+use Rattle.gomp_groups.specs.Calls.{last_open, IsLastOf, Executes, MayClose, MayCreateIn, Completes, MayComplete, rows_room, IsAside}
+use Rattle.gomp_groups.specs.Examples.{some_desc, group_with, seat_with, task_with, one_in_group, discarded, grandchild, one_group, one_task, one_member, three_groups, three_tasks, two_members}
+
+-- no later number is that of one of three groups or tasks
+not_zero : (n : ℕ) → (0 == suc n) ≡ false
+not_zero n = other_number 0 (suc n) (λ e. omega (arith, e))
+
+not_one : (n : ℕ) → (1 == suc (suc n)) ≡ false
+not_one n = other_number 1 (suc (suc n)) (λ e. omega (arith, e))
+
+not_two : (n : ℕ) → (2 == suc (suc (suc n))) ≡ false
+not_two n = other_number 2 (suc (suc (suc n))) (λ e. omega (arith, e))
+
+not_three : (n : ℕ) → (3 == suc (suc (suc (suc n)))) ≡ false
+not_three n = other_number 3 (suc (suc (suc (suc n)))) (λ e. omega (arith, e))
 
 -- Rows and seats
 
@@ -138,27 +154,53 @@ pub last_after_an_end : last_open (Implicit 0) (GroupEnd 1 0 ∷ Group 1 0 ∷ o
 last_after_an_end = refl
 
 -- the groups that wait for a task: those of its parent, and those that wait for that
-pub beyond_the_grandchild : groups_beyond (Explicit 3) grandchild ≡ 2 ∷ 1 ∷ 0 ∷ []
-beyond_the_grandchild = refl
+pub over_the_grandchild : groups_over (Explicit 3) grandchild ≡ 2 ∷ 1 ∷ 0 ∷ []
+over_the_grandchild = refl
 
 -- no group waits for an implicit task
-pub beyond_the_member : groups_beyond (Implicit 0) grandchild ≡ []
-beyond_the_member = refl
+pub over_the_member : groups_over (Implicit 0) grandchild ≡ []
+over_the_member = refl
+
+-- the innermost of them, which `cancel taskgroup` names, was opened last
+pub innermost_of_the_grandchild : first_of (groups_over (Explicit 3) grandchild) ≡ Some 2
+innermost_of_the_grandchild = refl
+
+pub innermost_of_the_member : first_of (groups_over (Implicit 0) grandchild) ≡ None
+innermost_of_the_member = refl
+
+pub last_of_three : IsLastOf (2 ∷ 1 ∷ 0 ∷ []) 2
+last_of_three = (refl, later)
+  where
+    later : (x : ℕ) → contains x (2 ∷ 1 ∷ 0 ∷ []) ≡ true → x ≤ 2
+    later zero there = omega arith
+    later (suc zero) there = omega arith
+    later (suc (suc zero)) there = omega arith
+    later (suc (suc (suc x))) there = absurd (let no : false ≡ true = rw (not_two x, not_one (suc x), not_zero (suc (suc x))) at there in cc)
+
+-- an earlier one, and a later one that is none of them, are not the last
+pub earlier_is_not_the_last : IsLastOf (2 ∷ 1 ∷ 0 ∷ []) 1 → ⊥
+earlier_is_not_the_last is = absurd (let most = is.1 2 refl in omega (arith, most))
+
+pub other_is_not_the_last : IsLastOf (2 ∷ 1 ∷ 0 ∷ []) 3 → ⊥
+other_is_not_the_last is = absurd (let there = is.0 in cc)
+
+-- Marks
+
+-- one of three groups has its mark, and none of two others
+pub mark_of_the_second : some_marked (false ∷ true ∷ false ∷ []) (2 ∷ 1 ∷ 0 ∷ []) ≡ true
+mark_of_the_second = refl
+
+pub mark_of_another : some_marked (false ∷ true ∷ false ∷ []) (2 ∷ 0 ∷ []) ≡ false
+mark_of_another = refl
+
+-- nor has a group that was not opened, nor any of none
+pub mark_of_no_group : some_marked (true ∷ true ∷ []) (2 ∷ []) ≡ false
+mark_of_no_group = refl
+
+pub mark_of_none : some_marked (true ∷ true ∷ []) [] ≡ false
+mark_of_none = refl
 
 -- Counts
-
--- no later number is that of one of three groups or tasks
-not_zero : (n : ℕ) → (0 == suc n) ≡ false
-not_zero n = other_number 0 (suc n) (λ e. omega (arith, e))
-
-not_one : (n : ℕ) → (1 == suc (suc n)) ≡ false
-not_one n = other_number 1 (suc (suc n)) (λ e. omega (arith, e))
-
-not_two : (n : ℕ) → (2 == suc (suc (suc n))) ≡ false
-not_two n = other_number 2 (suc (suc (suc n))) (λ e. omega (arith, e))
-
-not_three : (n : ℕ) → (3 == suc (suc (suc (suc n)))) ≡ false
-not_three n = other_number 3 (suc (suc (suc (suc n)))) (λ e. omega (arith, e))
 
 -- a task in the outer two of three groups
 pub counts_in_two : CountsOneMore (1 ∷ 0 ∷ []) three_groups (group_with None 4 ∷ group_with (Some 0) 3 ∷ group_with (Some 1) 1 ∷ [])
@@ -220,7 +262,7 @@ grandchild_stands = record { opened = refl; created = refl; nested = three_are_n
     children (Explicit (suc (suc (suc zero)))) = refl
     children (Explicit (suc (suc (suc (suc t))))) = rw (not_two (suc t)) refl
 
-    around : (p : Task) → IsChain three_groups (seat_at three_tasks two_members p).around (groups_beyond p grandchild)
+    around : (p : Task) → IsChain three_groups (seat_at three_tasks two_members p).around (groups_over p grandchild)
     around (Implicit zero) = refl
     around (Implicit (suc zero)) = refl
     around (Implicit (suc (suc m))) = refl
@@ -230,7 +272,7 @@ grandchild_stands = record { opened = refl; created = refl; nested = three_are_n
     around (Explicit (suc (suc (suc zero)))) = chain_of_three
     around (Explicit (suc (suc (suc (suc t))))) = rw (not_three t, not_two (suc t), not_one (suc (suc t))) refl
 
-    last : (p : Task) → IsChain three_groups (seat_at three_tasks two_members p).last (open_groups p grandchild ++ groups_beyond p grandchild)
+    last : (p : Task) → IsChain three_groups (seat_at three_tasks two_members p).last (open_groups p grandchild ++ groups_over p grandchild)
     last (Implicit zero) = (refl, omega arith, (refl, omega arith, refl))
     last (Implicit (suc zero)) = refl
     last (Implicit (suc (suc m))) = rw (not_zero (suc m)) refl
@@ -242,16 +284,16 @@ grandchild_stands = record { opened = refl; created = refl; nested = three_are_n
 
     rule : Always (TaskRule 2) grandchild
     rule = (
-      record { member = omega arith; number = refl; current = refl; away = λ free. refl; shallow = omega arith },
+      record { member = omega arith; number = refl; current = refl; away = λ free. refl; shallow = omega arith; uncovered = refl },
       (
         record { member = omega arith; number = refl },
         (
           record { member = omega arith; may = refl; own = λ undeferred. absurd (cc) },
           (
-            record { member = omega arith; number = refl; current = refl; away = λ free. refl; shallow = omega arith },
+            record { member = omega arith; number = refl; current = refl; away = λ free. refl; shallow = omega arith; uncovered = refl },
             (
               record { member = omega arith; number = refl },
-              (record { member = omega arith; number = refl; current = refl; away = λ free. refl; shallow = omega arith }, (record { member = omega arith; number = refl }, tt)),
+              (record { member = omega arith; number = refl; current = refl; away = λ free. refl; shallow = omega arith; uncovered = refl }, (record { member = omega arith; number = refl }, tt)),
             ),
           ),
         ),
@@ -317,6 +359,67 @@ started_before_created stands = absurd (let may = stands.rule.0.may in cc)
 pub ended_with_a_grandchild : GroupsStand (group_with None 1 ∷ []) [] [] (GroupEnd 0 0 ∷ Create 2 0 (Explicit 1) some_desc ∷ Start 1 0 ∷ one_in_group) → ⊥
 ended_with_a_grandchild stands = absurd (let complete = stands.rule.0.complete in cc)
 
+-- the task was discarded: it is open in no group, and for no parent
+pub discarded_stands : GroupsStand (group_with None 0 ∷ []) one_task (seat_with 0 None (Some 0) ∷ seat_with 0 None None ∷ []) discarded
+discarded_stands = record { opened = refl; created = refl; nested = nested; pending = pending; parent = parent; children = children; around = around; last = last; rule = rule }
+  where
+    nested : IsNested (group_with None 0 ∷ [])
+    nested zero = tt
+    nested (suc q) = tt
+
+    pending : (q : ℕ) → open_tasks (λ t. in_group q t discarded) discarded ≡ pending_at (group_with None 0 ∷ []) q
+    pending zero = refl
+    pending (suc q) = rw (not_zero q) refl
+
+    parent : (k : ℕ) → k < 1 → (p : Task) → is_child p (suc k) discarded ≡ same_task (slice_index_or one_task k no_task).parent p
+    parent zero lt p = refl
+    parent (suc k) lt p = absurd (omega (arith, lt))
+
+    children : (p : Task) → open_tasks (λ t. is_child p t discarded) discarded ≡ (seat_at one_task (seat_with 0 None (Some 0) ∷ seat_with 0 None None ∷ []) p).children
+    children (Implicit zero) = refl
+    children (Implicit (suc zero)) = refl
+    children (Implicit (suc (suc m))) = rw (not_zero (suc m)) refl
+    children (Explicit zero) = refl
+    children (Explicit (suc zero)) = refl
+    children (Explicit (suc (suc t))) = refl
+
+    around : (p : Task) → IsChain (group_with None 0 ∷ []) (seat_at one_task (seat_with 0 None (Some 0) ∷ seat_with 0 None None ∷ []) p).around (groups_over p discarded)
+    around (Implicit zero) = refl
+    around (Implicit (suc zero)) = refl
+    around (Implicit (suc (suc m))) = refl
+    around (Explicit zero) = refl
+    around (Explicit (suc zero)) = (refl, omega arith, refl)
+    around (Explicit (suc (suc t))) = rw (not_one t) refl
+
+    last : (p : Task) → IsChain (group_with None 0 ∷ []) (seat_at one_task (seat_with 0 None (Some 0) ∷ seat_with 0 None None ∷ []) p).last (groups_within p discarded)
+    last (Implicit zero) = (refl, omega arith, refl)
+    last (Implicit (suc zero)) = refl
+    last (Implicit (suc (suc m))) = rw (not_zero (suc m)) refl
+    last (Explicit zero) = refl
+    last (Explicit (suc zero)) = (refl, omega arith, refl)
+    last (Explicit (suc (suc t))) = rw (not_one t) refl
+
+    rule : Always (TaskRule 2) discarded
+    rule = (
+      record { member = omega arith; unstarted = refl; covered = refl },
+      (
+        tt,
+        (record { member = omega arith; number = refl; current = refl; away = λ free. refl; shallow = omega arith; uncovered = refl }, (record { member = omega arith; number = refl }, tt)),
+      ),
+    )
+
+-- it does not stand open in its group
+pub discarded_in_its_group : GroupsStand one_group one_task (seat_with 0 None (Some 0) ∷ seat_with 0 None None ∷ []) discarded → ⊥
+discarded_in_its_group stands = absurd (let pending = stands.pending 0 in omega (arith, pending))
+
+-- nor is it an open child
+pub discarded_child : GroupsStand (group_with None 0 ∷ []) one_task one_member discarded → ⊥
+discarded_child stands = absurd (let children = stands.children (Implicit 0) in omega (arith, children))
+
+-- a task that is discarded though nothing is cancelled
+pub discarded_uncancelled : GroupsStand (group_with None 0 ∷ []) one_task (seat_with 0 None (Some 0) ∷ []) (Discard 1 0 ∷ one_in_group) → ⊥
+discarded_uncancelled stands = absurd (let covered = stands.rule.0.covered in cc)
+
 -- Calls
 
 -- member 0 executes its task, and may end its last group only
@@ -346,10 +449,36 @@ closes_the_first may = absurd (let last = may.rule.last in cc)
 
 -- the next task is created in the task that the member executes
 pub creates_in_its_task : MayCreateIn 2 0 (Explicit 2) grandchild
-creates_in_its_task = record { member = omega arith; number = refl; current = refl; away = λ free. refl; shallow = omega arith }
+creates_in_its_task = record { member = omega arith; number = refl; current = refl; away = λ free. refl; shallow = omega arith; uncovered = refl }
 
 pub creates_in_another : MayCreateIn 2 0 (Implicit 0) grandchild → ⊥
 creates_in_another may = absurd (let current = may.current in cc)
+
+-- a task is complete when it is ended, and when it is discarded
+pub ended_is_complete : Completes 1 (Done 1 0)
+ended_is_complete = refl
+
+pub discarded_is_complete : Completes 1 (Discard 1 0)
+discarded_is_complete = refl
+
+-- another one is not, nor one that is started
+pub another_completes : Completes 1 (Done 2 0) → ⊥
+another_completes is = absurd (omega (arith, is))
+
+pub start_completes : Completes 1 (Start 1 0) → ⊥
+start_completes is = is
+
+-- the member ends the task that it executes
+pub completes_its_task : MayComplete 2 2 (Done 2 0) grandchild
+completes_its_task = record { completes = refl; rule = record { member = omega arith; current = refl } }
+
+-- not one that nobody has started
+pub completes_unstarted : MayComplete 2 1 (Done 1 0) one_in_group → ⊥
+completes_unstarted may = absurd (let current = may.rule.current in cc)
+
+-- nor another than is asked for
+pub completes_another : MayComplete 2 1 (Done 2 0) grandchild → ⊥
+completes_another may = absurd (let same = may.completes in omega (arith, same))
 
 -- if there is no room, 64 rows besides the one that is asked for, and a sixteenth from 1040 rows on
 pub rows_room_by_steps : map (λ count. rows_room count 0) (0 ∷ 7 ∷ 1039 ∷ 1040 ∷ 16000 ∷ []) ≡ 65 ∷ 65 ∷ 65 ∷ 66 ∷ 1001 ∷ []
@@ -363,12 +492,16 @@ rows_room_stays = refl
 pub rows_room_never_doubles : (rows_room 16000 0 ≡ 16000 → ⊥) × (rows_room 16000 0 ≡ 1 → ⊥)
 rows_room_never_doubles = (λ e. absurd (let wrong : 1001 ≡ 16000 = e in omega (arith, wrong)), λ e. absurd (let wrong : 1001 ≡ 1 = e in omega (arith, wrong)))
 
--- tasks that are created or ended, and groups, are seen
-pub group_tasks_are_seen : (t m : ℕ) (parent : Task) → (IsAside (Create t m parent some_desc) → ⊥) × (IsAside (Done t m) → ⊥)
-group_tasks_are_seen t m parent = (λ is. is, λ is. is)
+-- tasks that are created, ended or discarded, and groups, are seen
+pub group_tasks_are_seen : (t m : ℕ) (parent : Task) → (IsAside (Create t m parent some_desc) → ⊥) × (IsAside (Done t m) → ⊥) × (IsAside (Discard t m) → ⊥)
+group_tasks_are_seen t m parent = (λ is. is, λ is. is, λ is. is)
 
 pub groups_are_seen : (q m : ℕ) → (IsAside (Group q m) → ⊥) × (IsAside (GroupEnd q m) → ⊥)
 groups_are_seen q m = (λ is. is, λ is. is)
+
+-- a cancellation is not: it is the tasks that it discards
+pub cancels_change_no_group : (m : ℕ) (scope : Scope) (kind : CancelKind) → IsAside (Cancel m scope) × IsAside (See m kind)
+cancels_change_no_group m scope kind = (tt, tt)
 
 -- a start and a wait are not, nor is what shares, barriers and locks see
 pub starts_change_no_group : (t m : ℕ) → IsAside (Start t m) × IsAside (Waited m [])

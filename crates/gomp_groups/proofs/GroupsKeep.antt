@@ -7,21 +7,22 @@ use Rattle.gomp_types.specs.declared.task.Task.{Task}
 use Rattle.gomp_types.specs.declared.task.Task.TheVariants.{Implicit, Explicit}
 use Rattle.gomp_types.specs.declared.task.TaskDesc.{TaskDesc}
 use Rattle.gomp_types.specs.declared.event.Event.{Event}
-use Rattle.gomp_types.specs.declared.event.Event.TheVariants.{Create, Done, Group, GroupEnd}
+use Rattle.gomp_types.specs.declared.event.Event.TheVariants.{Create, Done, Discard, Group, GroupEnd}
 use Rattle.gomp_types.specs.Laws.{Always}
 use Rattle.gomp_types.specs.Tasks.{tasks_created, is_created, is_complete, all_complete, open_tasks, is_child, same_task, contains, executed_task, innermost_task, task_stack, after_first}
-use Rattle.gomp_types.specs.Groups.{open_groups, groups_around, in_group}
-use Rattle.gomp_types.specs.TaskRules.{TaskRule, MayEnd}
+use Rattle.gomp_types.specs.Groups.{groups_opened, open_groups, groups_around, in_group}
+use Rattle.gomp_types.specs.TaskRules.{TaskRule}
 use Rattle.gomp_types.proofs.Booleans.{same_number, other_number, not_both}
 use Rattle.gomp_types.proofs.OpenTasks.{open_done, open_done_other, open_created, closed_all, all_closed, created_low, created_high}
-use Rattle.gomp_types.proofs.Suspended.{current_open}
+use Rattle.gomp_types.proofs.Suspended.{current_open, unstarted_is_fresh}
 use Rattle.gomp_types.proofs.TaskRoom.{uncreated_not_started}
 use Rattle.gomp_groups.specs.declared.rows.GroupRow.{GroupRow}
 use Rattle.gomp_groups.specs.declared.rows.Seat.{Seat}
 use Rattle.gomp_groups.specs.declared.rows.TaskRow.{TaskRow}
-use Rattle.gomp_groups.specs.Rows.{no_seat, no_task, outer_at, pending_at, seat_at, IsSeatedIn, IsChain, CountsOneMore}
-use Rattle.gomp_groups.specs.Stands.{GroupsStand, groups_beyond}
-use Rattle.gomp_groups.specs.Calls.{Executes, MayClose, MayCreateIn}
+use Rattle.gomp_groups.specs.Rows.{no_seat, no_task, outer_at, pending_at, seat_at, IsSeatedIn, IsChain, IsNested, CountsOneMore}
+use Rattle.gomp_types.specs.Cancels.{groups_over, groups_within}
+use Rattle.gomp_groups.specs.Stands.{GroupsStand}
+use Rattle.gomp_groups.specs.Calls.{Executes, MayClose, MayCreateIn, MayComplete}
 use Rattle.gomp_groups.proofs.Chains.{same_task_is, chain_on, chain_starts, outer_at-push, outer_at-pushed, pending_at-push, nested_push, seat_at-push, row-push, row-pushed}
 
 -- whether none of these tasks is open is whether they are complete
@@ -66,13 +67,13 @@ fields_same f tasks members task seat tasks_now members_now re same p =
 
 -- Groups that are opened and ended
 
-beyond_opened : (p : Task) (q m : ℕ) (h : List Event) → groups_beyond p (Group q m ∷ h) ≡ groups_beyond p h
-beyond_opened (Implicit x) q m h = refl
-beyond_opened (Explicit t) q m h = refl
+over_opened : (p : Task) (q m : ℕ) (h : List Event) → groups_over p (Group q m ∷ h) ≡ groups_over p h
+over_opened (Implicit x) q m h = refl
+over_opened (Explicit t) q m h = refl
 
-beyond_closed : (p : Task) (q m : ℕ) (h : List Event) → groups_beyond p (GroupEnd q m ∷ h) ≡ groups_beyond p h
-beyond_closed (Implicit x) q m h = refl
-beyond_closed (Explicit t) q m h = refl
+over_closed : (p : Task) (q m : ℕ) (h : List Event) → groups_over p (GroupEnd q m ∷ h) ≡ groups_over p h
+over_closed (Implicit x) q m h = refl
+over_closed (Explicit t) q m h = refl
 
 pub open_keeps : (groups : List GroupRow) (tasks : List TaskRow) (members : List Seat) (task : Task) (tasks_now : List TaskRow) (members_now : List Seat) (h : List Event) (m : ℕ) → GroupsStand groups tasks members h → Executes (length members) m task h →
     Reseats tasks members task (record { children = (seat_at tasks members task).children; around = (seat_at tasks members task).around; last = Some (length groups) }) tasks_now members_now →
@@ -87,8 +88,8 @@ open_keeps groups tasks members task tasks_now members_now h m st executes re =
       pending = λ q. st.pending q ∙ sym (pending_at-push groups row q refl);
       parent = λ k lt p. st.parent k (rw re.tasks_len at lt) p ∙ ap (λ x. same_task x p) (sym (re.parents k));
       children = λ p. st.children p ∙ sym (fields_same (λ s. s.children) tasks members task seat tasks_now members_now re refl p);
-      around = λ p. rw (beyond_opened p (length groups) m h, fields_same (λ s. s.around) tasks members task seat tasks_now members_now re refl p) (stays (seat_at tasks members p).around (groups_beyond p h) (st.around p));
-      last = λ p. rw (beyond_opened p (length groups) m h, executes.current, re.seat_is p) (last_now p (same_task task p) refl);
+      around = λ p. rw (over_opened p (length groups) m h, fields_same (λ s. s.around) tasks members task seat tasks_now members_now re refl p) (stays (seat_at tasks members p).around (groups_over p h) (st.around p));
+      last = λ p. rw (over_opened p (length groups) m h, executes.current, re.seat_is p) (last_now p (same_task task p) refl);
       rule = subst (λ (n : ℕ). Always (TaskRule n) (Group (length groups) m ∷ h)) (sym re.members_len) (record { member = executes.member; number = sym st.opened }, st.rule);
     }
   where
@@ -101,12 +102,12 @@ open_keeps groups tasks members task tasks_now members_now h m st executes re =
     stays : (first : Option ℕ) (qs : List ℕ) → IsChain groups first qs → IsChain (groups ++ row ∷ []) first qs
     stays first qs chain = let size = length-append groups (row ∷ []) in chain_on groups (groups ++ row ∷ []) first qs (omega (arith, size)) (outer_at-push groups row) chain
 
-    last_now : (p : Task) (b : Bool) → same_task task p ≡ b → IsChain (groups ++ row ∷ []) (if b then seat else seat_at tasks members p).last ((if b then length groups ∷ open_groups p h else open_groups p h) ++ groups_beyond p h)
+    last_now : (p : Task) (b : Bool) → same_task task p ≡ b → IsChain (groups ++ row ∷ []) (if b then seat else seat_at tasks members p).last ((if b then length groups ∷ open_groups p h else open_groups p h) ++ groups_over p h)
     last_now p true same =
         let size = length-append groups (row ∷ []) in
-        let chain : IsChain groups (seat_at tasks members task).last (open_groups p h ++ groups_beyond p h) = rw (same_task_is task p same) (st.last p) in
-        (refl, omega (arith, size), rw (outer_at-pushed groups row) (stays (seat_at tasks members task).last (open_groups p h ++ groups_beyond p h) chain))
-    last_now p false other = stays (seat_at tasks members p).last (open_groups p h ++ groups_beyond p h) (st.last p)
+        let chain : IsChain groups (seat_at tasks members task).last (open_groups p h ++ groups_over p h) = rw (same_task_is task p same) (st.last p) in
+        (refl, omega (arith, size), rw (outer_at-pushed groups row) (stays (seat_at tasks members task).last (open_groups p h ++ groups_over p h) chain))
+    last_now p false other = stays (seat_at tasks members p).last (open_groups p h ++ groups_over p h) (st.last p)
 
 pub close_keeps : (groups : List GroupRow) (tasks : List TaskRow) (members : List Seat) (task : Task) (group : ℕ) (tasks_now : List TaskRow) (members_now : List Seat) (h : List Event) (q m : ℕ) → GroupsStand groups tasks members h → MayClose (length members) q m task h → (seat_at tasks members task).last ≡ Some group →
     Reseats tasks members task (record { children = (seat_at tasks members task).children; around = (seat_at tasks members task).around; last = outer_at groups group }) tasks_now members_now →
@@ -119,19 +120,19 @@ close_keeps groups tasks members task group tasks_now members_now h q m st may i
       pending = st.pending;
       parent = λ k lt p. st.parent k (rw re.tasks_len at lt) p ∙ ap (λ x. same_task x p) (sym (re.parents k));
       children = λ p. st.children p ∙ sym (fields_same (λ s. s.children) tasks members task seat tasks_now members_now re refl p);
-      around = λ p. rw (beyond_closed p q m h, fields_same (λ s. s.around) tasks members task seat tasks_now members_now re refl p) (st.around p);
-      last = λ p. rw (beyond_closed p q m h, may.current, re.seat_is p) (last_now p (same_task task p) refl);
+      around = λ p. rw (over_closed p q m h, fields_same (λ s. s.around) tasks members task seat tasks_now members_now re refl p) (st.around p);
+      last = λ p. rw (over_closed p q m h, may.current, re.seat_is p) (last_now p (same_task task p) refl);
       rule = subst (λ (n : ℕ). Always (TaskRule n) (GroupEnd q m ∷ h)) (sym re.members_len) (may.rule, st.rule);
     }
   where
     seat : Seat
     seat = record { children = (seat_at tasks members task).children; around = (seat_at tasks members task).around; last = outer_at groups group }
 
-    last_now : (p : Task) (b : Bool) → same_task task p ≡ b → IsChain groups (if b then seat else seat_at tasks members p).last ((if b then after_first (open_groups p h) else open_groups p h) ++ groups_beyond p h)
+    last_now : (p : Task) (b : Bool) → same_task task p ≡ b → IsChain groups (if b then seat else seat_at tasks members p).last ((if b then after_first (open_groups p h) else open_groups p h) ++ groups_over p h)
     last_now p true same =
         let here = same_task_is task p same in
         let open' : open_groups p h ≡ q ∷ may.rule.outer = rw (← here, ← may.current) may.rule.last in
-        let chain : IsChain groups (Some group) (open_groups p h ++ groups_beyond p h) = rw (← is, here) (st.last p) in
+        let chain : IsChain groups (Some group) (open_groups p h ++ groups_over p h) = rw (← is, here) (st.last p) in
         let found = rw open' at chain in
         let number : q ≡ group = (let e : ◌≡◌ {A = Option ℕ} (Some group) (Some q) = found.0 in cc) in
         rw (open', ← number) found.2
@@ -140,7 +141,7 @@ close_keeps groups tasks members task group tasks_now members_now h q m st may i
 -- Tasks that are created
 
 -- the groups of the new task
-around_new : (t m : ℕ) (parent : Task) (desc : TaskDesc) (h : List Event) → groups_around t (Create t m parent desc ∷ h) ≡ open_groups parent h ++ groups_beyond parent h
+around_new : (t m : ℕ) (parent : Task) (desc : TaskDesc) (h : List Event) → groups_around t (Create t m parent desc ∷ h) ≡ open_groups parent h ++ groups_over parent h
 around_new t m (Implicit x) desc h = rw (same_number t) (sym (append-nil (open_groups (Implicit x) h)))
 around_new t m (Explicit p) desc h = rw (same_number t) refl
 
@@ -149,9 +150,9 @@ around_old : (t task m : ℕ) (parent : Task) (desc : TaskDesc) (h : List Event)
 around_old t task m (Implicit x) desc h other = rw other refl
 around_old t task m (Explicit p) desc h other = rw other refl
 
-beyond_old : (p : Task) (task m : ℕ) (parent : Task) (desc : TaskDesc) (h : List Event) → same_task (Explicit task) p ≡ false → groups_beyond p (Create task m parent desc ∷ h) ≡ groups_beyond p h
-beyond_old (Implicit x) task m parent desc h other = refl
-beyond_old (Explicit t) task m parent desc h other = around_old t task m parent desc h other
+over_old : (p : Task) (task m : ℕ) (parent : Task) (desc : TaskDesc) (h : List Event) → same_task (Explicit task) p ≡ false → groups_over p (Create task m parent desc ∷ h) ≡ groups_over p h
+over_old (Implicit x) task m parent desc h other = refl
+over_old (Explicit t) task m parent desc h other = around_old t task m parent desc h other
 
 -- a task that was not created has no seat
 none_yet : (tasks : List TaskRow) (members : List Seat) (n : ℕ) → n ≡ length tasks → seat_at tasks members (Explicit (suc n)) ≡ no_seat
@@ -170,7 +171,7 @@ plus_if true n = refl
 plus_if false n = omega arith
 
 pub create_keeps : (groups : List GroupRow) (tasks : List TaskRow) (members : List Seat) (parent : Task) (groups_now : List GroupRow) (tasks_now : List TaskRow) (members_now : List Seat) (h : List Event) (m : ℕ) (desc : TaskDesc) → GroupsStand groups tasks members h → MayCreateIn (length members) m parent h →
-    CountsOneMore (open_groups parent h ++ groups_beyond parent h) groups groups_now →
+    CountsOneMore (open_groups parent h ++ groups_over parent h) groups groups_now →
     Reseats tasks members parent (record { children = (seat_at tasks members parent).children + 1; around = (seat_at tasks members parent).around; last = (seat_at tasks members parent).last }) tasks_now members_now →
     GroupsStand groups_now (tasks_now ++ record { parent = parent; seat = record { children = 0; around = (seat_at tasks members parent).last; last = (seat_at tasks members parent).last } } ∷ []) members_now (Create (suc (tasks_created h)) m parent desc ∷ h)
 create_keeps groups tasks members parent groups_now tasks_now members_now h m desc st may counts re =
@@ -244,30 +245,41 @@ create_keeps groups tasks members parent groups_now tasks_now members_now h m de
         with_one true same = rw (same_task_is parent p same) refl
         with_one false differ = refl
 
-    around_now : (p : Task) (b : Bool) → same_task (Explicit (suc (tasks_created h))) p ≡ b → IsChain groups_now (if b then row.seat else if same_task parent p then with_child else seat_at tasks members p).around (groups_beyond p event)
+    around_now : (p : Task) (b : Bool) → same_task (Explicit (suc (tasks_created h))) p ≡ b → IsChain groups_now (if b then row.seat else if same_task parent p then with_child else seat_at tasks members p).around (groups_over p event)
     around_now p true same =
-        rw (← same_task_is (Explicit (suc (tasks_created h))) p same, around_new (suc (tasks_created h)) m parent desc h) (stays (seat_at tasks members parent).last (open_groups parent h ++ groups_beyond parent h) (st.last parent))
-    around_now p false other = rw (beyond_old p (suc (tasks_created h)) m parent desc h other) (by (same_task parent p) refl)
+        rw (← same_task_is (Explicit (suc (tasks_created h))) p same, around_new (suc (tasks_created h)) m parent desc h) (stays (seat_at tasks members parent).last (open_groups parent h ++ groups_over parent h) (st.last parent))
+    around_now p false other = rw (over_old p (suc (tasks_created h)) m parent desc h other) (by (same_task parent p) refl)
       where
-        by : (b : Bool) → same_task parent p ≡ b → IsChain groups_now (if b then with_child else seat_at tasks members p).around (groups_beyond p h)
-        by true same = rw (same_task_is parent p same) (stays (seat_at tasks members p).around (groups_beyond p h) (st.around p))
-        by false differ = stays (seat_at tasks members p).around (groups_beyond p h) (st.around p)
+        by : (b : Bool) → same_task parent p ≡ b → IsChain groups_now (if b then with_child else seat_at tasks members p).around (groups_over p h)
+        by true same = rw (same_task_is parent p same) (stays (seat_at tasks members p).around (groups_over p h) (st.around p))
+        by false differ = stays (seat_at tasks members p).around (groups_over p h) (st.around p)
 
-    last_now : (p : Task) (b : Bool) → same_task (Explicit (suc (tasks_created h))) p ≡ b → IsChain groups_now (if b then row.seat else if same_task parent p then with_child else seat_at tasks members p).last (open_groups p h ++ groups_beyond p event)
+    last_now : (p : Task) (b : Bool) → same_task (Explicit (suc (tasks_created h))) p ≡ b → IsChain groups_now (if b then row.seat else if same_task parent p then with_child else seat_at tasks members p).last (open_groups p h ++ groups_over p event)
     last_now p true same =
-        let none = no_chain groups (open_groups (Explicit (suc (tasks_created h))) h) (groups_beyond (Explicit (suc (tasks_created h))) h) (rw (none_yet tasks members (tasks_created h) st.created) at (st.last (Explicit (suc (tasks_created h))))) in
-        rw (← same_task_is (Explicit (suc (tasks_created h))) p same, none, around_new (suc (tasks_created h)) m parent desc h) (stays (seat_at tasks members parent).last (open_groups parent h ++ groups_beyond parent h) (st.last parent))
-    last_now p false other = rw (beyond_old p (suc (tasks_created h)) m parent desc h other) (by (same_task parent p) refl)
+        let none = no_chain groups (open_groups (Explicit (suc (tasks_created h))) h) (groups_over (Explicit (suc (tasks_created h))) h) (rw (none_yet tasks members (tasks_created h) st.created) at (st.last (Explicit (suc (tasks_created h))))) in
+        rw (← same_task_is (Explicit (suc (tasks_created h))) p same, none, around_new (suc (tasks_created h)) m parent desc h) (stays (seat_at tasks members parent).last (open_groups parent h ++ groups_over parent h) (st.last parent))
+    last_now p false other = rw (over_old p (suc (tasks_created h)) m parent desc h other) (by (same_task parent p) refl)
       where
-        by : (b : Bool) → same_task parent p ≡ b → IsChain groups_now (if b then with_child else seat_at tasks members p).last (open_groups p h ++ groups_beyond p h)
-        by true same = rw (same_task_is parent p same) (stays (seat_at tasks members p).last (open_groups p h ++ groups_beyond p h) (st.last p))
-        by false differ = stays (seat_at tasks members p).last (open_groups p h ++ groups_beyond p h) (st.last p)
+        by : (b : Bool) → same_task parent p ≡ b → IsChain groups_now (if b then with_child else seat_at tasks members p).last (open_groups p h ++ groups_over p h)
+        by true same = rw (same_task_is parent p same) (stays (seat_at tasks members p).last (open_groups p h ++ groups_over p h) (st.last p))
+        by false differ = stays (seat_at tasks members p).last (open_groups p h ++ groups_over p h) (st.last p)
 
--- Tasks that are ended
+-- Tasks that are complete
 
-beyond_done : (p : Task) (t m : ℕ) (h : List Event) → groups_beyond p (Done t m ∷ h) ≡ groups_beyond p h
-beyond_done (Implicit x) t m h = refl
-beyond_done (Explicit u) t m h = refl
+over_done : (p : Task) (t m : ℕ) (h : List Event) → groups_over p (Done t m ∷ h) ≡ groups_over p h
+over_done (Implicit x) t m h = refl
+over_done (Explicit u) t m h = refl
+
+-- a task that was created, and is not complete
+pub record StillOpen (t : ℕ) (h : List Event) : Type 0 where
+  pub made : is_created t h ≡ true
+  pub incomplete : is_complete t h ≡ false
+
+-- one that is completed was so before
+pub completed_was_open : (members t : ℕ) (event : Event) (h : List Event) → Always (TaskRule members) h → MayComplete members t event h → StillOpen t h
+completed_was_open members t (Done u m) h all may = rw (← may.completes) (let was = current_open members m u h all may.rule.current in record { made = was.0; incomplete = was.1 })
+completed_was_open members t (Discard u m) h all may = rw (← may.completes) (let was = unstarted_is_fresh u h may.rule.unstarted in record { made = was.0; incomplete = was.2 })
+completed_was_open members t event h all may = absurd may.completes
 
 -- whose child a task is
 pub child_is : (groups : List GroupRow) (tasks : List TaskRow) (members : List Seat) (t : ℕ) (h : List Event) (parent : Task) → GroupsStand groups tasks members h → is_created t h ≡ true → (get_or tasks (t - 1) no_task).parent ≡ parent → (p : Task) → is_child p t h ≡ same_task parent p
@@ -279,11 +291,23 @@ child_is groups tasks members t h parent st made is p =
     let at : is_child p (suc (t - 1)) h ≡ same_task (get_or tasks (t - 1) no_task).parent p = st.parent (t - 1) (omega (arith, low, high, count)) p in
     subst (λ (x : ℕ). is_child p x h ≡ same_task (get_or tasks (t - 1) no_task).parent p) place at ∙ ap (λ (x : Task). same_task x p) is
 
-pub complete_keeps : (groups : List GroupRow) (tasks : List TaskRow) (members : List Seat) (t : ℕ) (groups_now : List GroupRow) (tasks_now : List TaskRow) (members_now : List Seat) (h : List Event) (m : ℕ) (parent : Task) → GroupsStand groups tasks members h → MayEnd (length members) t m h → (get_or tasks (t - 1) no_task).parent ≡ parent →
+-- all that the rows and seats say, without the rule of the events
+record RowsTell (groups : List GroupRow) (tasks : List TaskRow) (members : List Seat) (h : List Event) : Type 0 where
+  pub opened : groups_opened h ≡ length groups
+  pub created : tasks_created h ≡ length tasks
+  pub nested : IsNested groups
+  pub pending : (q : ℕ) → open_tasks (λ t. in_group q t h) h ≡ pending_at groups q
+  pub parent : (k : ℕ) → k < length tasks → (p : Task) → is_child p (suc k) h ≡ same_task (get_or tasks k no_task).parent p
+  pub children : (p : Task) → open_tasks (λ t. is_child p t h) h ≡ (seat_at tasks members p).children
+  pub around : (p : Task) → IsChain groups (seat_at tasks members p).around (groups_over p h)
+  pub last : (p : Task) → IsChain groups (seat_at tasks members p).last (groups_within p h)
+
+-- what they say once a member has ended the task
+rows_tell : (groups : List GroupRow) (tasks : List TaskRow) (members : List Seat) (t : ℕ) (groups_now : List GroupRow) (tasks_now : List TaskRow) (members_now : List Seat) (h : List Event) (m : ℕ) (parent : Task) → GroupsStand groups tasks members h → StillOpen t h → (get_or tasks (t - 1) no_task).parent ≡ parent →
     CountsOneMore (groups_around t h) groups_now groups →
     Reseats tasks members parent (record { children = (seat_at tasks members parent).children - 1; around = (seat_at tasks members parent).around; last = (seat_at tasks members parent).last }) tasks_now members_now →
-    GroupsStand groups_now tasks_now members_now (Done t m ∷ h)
-complete_keeps groups tasks members t groups_now tasks_now members_now h m parent st may is counts re =
+    RowsTell groups_now tasks_now members_now (Done t m ∷ h)
+rows_tell groups tasks members t groups_now tasks_now members_now h m parent st open' is counts re =
     record {
       opened = st.opened ∙ counts.len;
       created = st.created ∙ sym re.tasks_len;
@@ -291,9 +315,8 @@ complete_keeps groups tasks members t groups_now tasks_now members_now h m paren
       pending = λ q. pending_now q (contains q (groups_around t h)) refl;
       parent = λ k lt p. st.parent k (rw re.tasks_len at lt) p ∙ ap (λ x. same_task x p) (sym (re.parents k));
       children = λ p. children_now p (same_task parent p) refl;
-      around = λ p. rw (beyond_done p t m h, fields_same (λ s. s.around) tasks members parent less tasks_now members_now re refl p) (stays (seat_at tasks members p).around (groups_beyond p h) (st.around p));
-      last = λ p. rw (beyond_done p t m h, fields_same (λ s. s.last) tasks members parent less tasks_now members_now re refl p) (stays (seat_at tasks members p).last (open_groups p h ++ groups_beyond p h) (st.last p));
-      rule = subst (λ (n : ℕ). Always (TaskRule n) (Done t m ∷ h)) (sym re.members_len) (may, st.rule);
+      around = λ p. rw (over_done p t m h, fields_same (λ s. s.around) tasks members parent less tasks_now members_now re refl p) (stays (seat_at tasks members p).around (groups_over p h) (st.around p));
+      last = λ p. rw (over_done p t m h, fields_same (λ s. s.last) tasks members parent less tasks_now members_now re refl p) (stays (seat_at tasks members p).last (open_groups p h ++ groups_over p h) (st.last p));
     }
   where
     less : Seat
@@ -302,15 +325,12 @@ complete_keeps groups tasks members t groups_now tasks_now members_now h m paren
     stays : (first : Option ℕ) (qs : List ℕ) → IsChain groups first qs → IsChain groups_now first qs
     stays first qs chain = chain_on groups groups_now first qs (let len = counts.len in omega (arith, len)) (λ q lt. sym (counts.outer q)) chain
 
-    open' : (is_created t h ≡ true) × (is_complete t h ≡ false)
-    open' = let was = current_open (length members) m t h st.rule may.current in (was.0, was.1)
-
     pending_now : (q : ℕ) (b : Bool) → contains q (groups_around t h) ≡ b → open_tasks (λ u. in_group q u h) (Done t m ∷ h) ≡ pending_at groups_now q
     pending_now q true there =
         let more = counts.pending q in
         let here : pending_at groups q ≡ pending_at groups_now q + 1 = rw there at more in
         let was = st.pending q in
-        let done = open_done (λ u. in_group q u h) t m h open'.0 there open'.1 in
+        let done = open_done (λ u. in_group q u h) t m h open'.made there open'.incomplete in
         omega (arith, here, was, done)
     pending_now q false away =
         let more = counts.pending q in
@@ -323,11 +343,56 @@ complete_keeps groups tasks members t groups_now tasks_now members_now h m paren
     children_now p true same =
         let here = same_task_is parent p same in
         let was = st.children p in
-        let done = open_done (λ u. is_child p u h) t m h open'.0 (child_is groups tasks members t h parent st open'.0 is p ∙ same) open'.1 in
+        let done = open_done (λ u. is_child p u h) t m h open'.made (child_is groups tasks members t h parent st open'.made is p ∙ same) open'.incomplete in
         let now : (seat_at tasks_now members_now p).children ≡ (seat_at tasks members p).children - 1 = rw (re.seat_is p, same, here) refl in
         omega (arith, was, done, now)
     children_now p false other =
         let was = st.children p in
-        let done = open_done_other (λ u. is_child p u h) t m h (child_is groups tasks members t h parent st open'.0 is p ∙ other) in
+        let done = open_done_other (λ u. is_child p u h) t m h (child_is groups tasks members t h parent st open'.made is p ∙ other) in
         let now : (seat_at tasks_now members_now p).children ≡ (seat_at tasks members p).children = rw (re.seat_is p, other) refl in
         omega (arith, was, done, now)
+
+-- a discarded task is complete as one that was ended, and nothing else is said of either
+tell_discarded : (groups : List GroupRow) (tasks : List TaskRow) (members : List Seat) (t m : ℕ) (h : List Event) → RowsTell groups tasks members (Done t m ∷ h) → RowsTell groups tasks members (Discard t m ∷ h)
+tell_discarded groups tasks members t m h tell = record {
+  opened = tell.opened;
+  created = tell.created;
+  nested = tell.nested;
+  pending = tell.pending;
+  parent = tell.parent;
+  children = tell.children;
+  around = λ p. rw (same_over p) (tell.around p);
+  last = λ p. rw (same_over p) (tell.last p);
+}
+  where
+    same_over : (p : Task) → groups_over p (Discard t m ∷ h) ≡ groups_over p (Done t m ∷ h)
+    same_over (Implicit x) = refl
+    same_over (Explicit u) = refl
+
+-- rows that say so stand for the events, if these keep their rule
+stand_by : (groups : List GroupRow) (tasks : List TaskRow) (members : List Seat) (h : List Event) → RowsTell groups tasks members h → Always (TaskRule (length members)) h → GroupsStand groups tasks members h
+stand_by groups tasks members h tell all = record {
+  opened = tell.opened;
+  created = tell.created;
+  nested = tell.nested;
+  pending = tell.pending;
+  parent = tell.parent;
+  children = tell.children;
+  around = tell.around;
+  last = tell.last;
+  rule = all;
+}
+
+pub complete_keeps : (groups : List GroupRow) (tasks : List TaskRow) (members : List Seat) (t : ℕ) (groups_now : List GroupRow) (tasks_now : List TaskRow) (members_now : List Seat) (h : List Event) (event : Event) (parent : Task) → GroupsStand groups tasks members h → MayComplete (length members) t event h → (get_or tasks (t - 1) no_task).parent ≡ parent →
+    CountsOneMore (groups_around t h) groups_now groups →
+    Reseats tasks members parent (record { children = (seat_at tasks members parent).children - 1; around = (seat_at tasks members parent).around; last = (seat_at tasks members parent).last }) tasks_now members_now →
+    GroupsStand groups_now tasks_now members_now (event ∷ h)
+complete_keeps groups tasks members t groups_now tasks_now members_now h (Done u m) parent st may is counts re =
+    let open' = completed_was_open (length members) t (Done u m) h st.rule may in
+    let tell : RowsTell groups_now tasks_now members_now (Done u m ∷ h) = rw may.completes (rows_tell groups tasks members t groups_now tasks_now members_now h m parent st open' is counts re) in
+    stand_by groups_now tasks_now members_now (Done u m ∷ h) tell (subst (λ (n : ℕ). Always (TaskRule n) (Done u m ∷ h)) (sym re.members_len) (may.rule, st.rule))
+complete_keeps groups tasks members t groups_now tasks_now members_now h (Discard u m) parent st may is counts re =
+    let open' = completed_was_open (length members) t (Discard u m) h st.rule may in
+    let tell : RowsTell groups_now tasks_now members_now (Done u m ∷ h) = rw may.completes (rows_tell groups tasks members t groups_now tasks_now members_now h m parent st open' is counts re) in
+    stand_by groups_now tasks_now members_now (Discard u m ∷ h) (tell_discarded groups_now tasks_now members_now u m h tell) (subst (λ (n : ℕ). Always (TaskRule n) (Discard u m ∷ h)) (sym re.members_len) (may.rule, st.rule))
+complete_keeps groups tasks members t groups_now tasks_now members_now h event parent st may is counts re = absurd may.completes

@@ -4,3 +4,4 @@ pub mod Fields
 pub mod GroupExamples
 pub mod GroupsKeep
 pub mod Laws
+pub mod Marks

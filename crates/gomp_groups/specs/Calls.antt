@@ -1,21 +1,21 @@
 -- What the calls on a team's groups answer and when they may be made. OpenMP API 5.2, sections 15.4 and 15.5.
-use Rattle.std.specs.Prelude.{ℕ, ◌<◌, ◌≡◌, ◌+◌, ◌/◌, max, nat_lt, if◌then◌else◌, List, [], ◌∷◌, Option, Some, None}
+use Rattle.std.specs.Prelude.{ℕ, ◌<◌, ◌≤◌, ◌≡◌, true, ◌+◌, ◌/◌, max, nat_lt, if◌then◌else◌, List, Option}
 use Rattle.std.proofs.Common.{suc}
 use Rattle.gomp_types.specs.declared.task.Task.{Task}
 use Rattle.gomp_types.specs.declared.event.Event.{Event}
-use Rattle.gomp_types.specs.declared.event.Event.TheVariants.{Create, Done, Group, GroupEnd}
-use Rattle.gomp_types.specs.Tasks.{tasks_created, executed_task}
+use Rattle.gomp_types.specs.declared.event.Event.TheVariants.{Create, Done, Discard, Group, GroupEnd}
+use Rattle.gomp_types.specs.Tasks.{tasks_created, executed_task, contains}
 use Rattle.gomp_types.specs.Groups.{open_groups}
-use Rattle.gomp_types.specs.TaskRules.{MayCreate, MayEndGroup}
-
--- the first of these, if there is one
-abbrev pub first_of : List ℕ → Option ℕ
-first_of [] = None
-first_of (q ∷ qs) = Some q
+use Rattle.gomp_types.specs.Cancels.{first_of}
+use Rattle.gomp_types.specs.TaskRules.{TaskRule, MayCreate, MayEndGroup}
 
 -- the last group that the task has opened and not ended
 abbrev pub last_open : Task → List Event → Option ℕ
 last_open task h = first_of (open_groups task h)
+
+-- of these groups this one was opened last
+abbrev pub IsLastOf : List ℕ → ℕ → Type 0
+IsLastOf qs q = (contains q qs ≡ true) × ((other : ℕ) → contains other qs ≡ true → other ≤ q)
 
 -- the member is of the team, and executes the task
 pub record Executes (members m : ℕ) (task : Task) (h : List Event) : Type 0 where
@@ -31,6 +31,17 @@ pub record MayClose (members q m : ℕ) (task : Task) (h : List Event) : Type 0 
 abbrev pub MayCreateIn : (members m : ℕ) → Task → List Event → Type 0
 MayCreateIn members m parent h = MayCreate members (suc (tasks_created h)) m parent h
 
+-- the task is complete after this: a member ended it, or a cancellation discarded it
+abbrev pub Completes : ℕ → Event → Type 0
+Completes t (Done task m) = task ≡ t
+Completes t (Discard task m) = task ≡ t
+Completes t _ = ⊥
+
+-- the rule of tasks allows that
+pub record MayComplete (members t : ℕ) (event : Event) (h : List Event) : Type 0 where
+  pub completes : Completes t event
+  pub rule : TaskRule members event h
+
 -- for how many more rows there is room once it was asked for one: if there was none, for one and for a sixteenth of those that there are, at least 64, besides
 abbrev pub rows_room : ℕ → ℕ → ℕ
 rows_room count room = if nat_lt 0 room then room else max (count / 16) 64 + 1
@@ -39,6 +50,7 @@ rows_room count room = if nat_lt 0 room then room else max (count / 16) 64 + 1
 abbrev pub IsAside : Event → Type 0
 IsAside (Create t m parent desc) = ⊥
 IsAside (Done t m) = ⊥
+IsAside (Discard t m) = ⊥
 IsAside (Group q m) = ⊥
 IsAside (GroupEnd q m) = ⊥
 IsAside _ = Unit {0}

@@ -3,8 +3,9 @@ use Rattle.std.specs.Prelude.{ℕ, false, List, [], ◌∷◌, Option, Some, Non
 use Rattle.gomp_types.specs.declared.task.Task.{Task}
 use Rattle.gomp_types.specs.declared.task.Task.TheVariants.{Implicit, Explicit}
 use Rattle.gomp_types.specs.declared.task.TaskDesc.{TaskDesc}
+use Rattle.gomp_types.specs.declared.cancel.Scope.TheVariants.{Region}
 use Rattle.gomp_types.specs.declared.event.Event.{Event}
-use Rattle.gomp_types.specs.declared.event.Event.TheVariants.{Create, Start, Group}
+use Rattle.gomp_types.specs.declared.event.Event.TheVariants.{Create, Start, Discard, Group, Cancel}
 use Rattle.gomp_groups.specs.declared.rows.GroupRow.{GroupRow}
 use Rattle.gomp_groups.specs.declared.rows.Seat.{Seat}
 use Rattle.gomp_groups.specs.declared.rows.TaskRow.{TaskRow}
@@ -25,6 +26,10 @@ task_with parent seat = record { parent = parent; seat = seat }
 -- member 0 opens a group and creates a task in it
 abbrev pub one_in_group : List Event
 one_in_group = Create 1 0 (Implicit 0) some_desc ∷ Group 0 0 ∷ []
+
+-- it cancels the region, which discards the task
+abbrev pub discarded : List Event
+discarded = Discard 1 0 ∷ Cancel 0 Region ∷ one_in_group
 
 -- it opens a group in that one, and creates another task
 abbrev pub one_nested : List Event

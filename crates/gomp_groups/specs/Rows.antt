@@ -1,5 +1,5 @@
 -- The rows of groups, tasks and members, and the chain of groups that they hold. OpenMP API 5.2, section 15.4.
-use Rattle.std.specs.Prelude.{ℕ, ◌+◌, ◌<◌, ◌≤◌, ◌≡◌, ◌==◌, Bool, true, false, if◌then◌else◌, List, [], ◌∷◌, Option, Some, None, IfSome, length, slice_index_or}
+use Rattle.std.specs.Prelude.{ℕ, ◌+◌, ◌<◌, ◌≤◌, ◌≡◌, ◌==◌, ◌||◌, Bool, true, false, if◌then◌else◌, List, [], ◌∷◌, Option, Some, None, IfSome, length, slice_index_or}
 use Rattle.std.proofs.Common.{zero, suc}
 use Rattle.gomp_types.specs.declared.task.Task.{Task}
 use Rattle.gomp_types.specs.declared.task.Task.TheVariants.{Implicit, Explicit}
@@ -54,6 +54,11 @@ same_group _ _ = false
 -- the last group that the task has opened and not ended: the one that its children are in, unless it is in that itself
 abbrev pub own_group : Seat → Option ℕ
 own_group seat = if same_group seat.last seat.around then None else seat.last
+
+-- whether one of these groups has its mark
+abbrev pub some_marked : List Bool → List ℕ → Bool
+some_marked marks [] = false
+some_marked marks (q ∷ qs) = slice_index_or marks q false || some_marked marks qs
 
 -- one more task is open in each of these groups, and nothing else changes
 pub record CountsOneMore (qs : List ℕ) (old new : List GroupRow) : Type 0 where

@@ -1,12 +1,12 @@
 -- When the groups of a team's tasks stand for a list of events. (own)
-use Rattle.std.specs.Prelude.{ℕ, ◌<◌, ◌≡◌, List, [], ◌++◌, length, slice_index_or}
+use Rattle.std.specs.Prelude.{ℕ, ◌<◌, ◌≡◌, List, length, slice_index_or}
 use Rattle.std.proofs.Common.{suc}
 use Rattle.gomp_types.specs.declared.task.Task.{Task}
-use Rattle.gomp_types.specs.declared.task.Task.TheVariants.{Implicit, Explicit}
 use Rattle.gomp_types.specs.declared.event.Event.{Event}
 use Rattle.gomp_types.specs.Laws.{Always}
 use Rattle.gomp_types.specs.Tasks.{tasks_created, open_tasks, is_child, same_task}
-use Rattle.gomp_types.specs.Groups.{groups_opened, open_groups, groups_around, in_group}
+use Rattle.gomp_types.specs.Groups.{groups_opened, in_group}
+use Rattle.gomp_types.specs.Cancels.{groups_over, groups_within}
 use Rattle.gomp_types.specs.TaskRules.{TaskRule}
 use Rattle.gomp_groups.specs.declared.rows.GroupRow.{GroupRow}
 use Rattle.gomp_groups.specs.declared.rows.Seat.{Seat}
@@ -33,11 +33,6 @@ members_of groups = length groups.members
 abbrev pub IsSeated : GroupsView → Task → Type 0
 IsSeated groups task = IsSeatedIn groups.tasks groups.members task
 
--- the groups whose ends wait for a task: none waits for an implicit one
-abbrev pub groups_beyond : Task → List Event → List ℕ
-groups_beyond (Implicit m) h = []
-groups_beyond (Explicit t) h = groups_around t h
-
 -- each row and seat says what the events do, and the events keep their rule
 pub record GroupsStand (groups : List GroupRow) (tasks : List TaskRow) (members : List Seat) (h : List Event) : Type 0 where
   -- so many groups were opened, and so many tasks created
@@ -52,9 +47,9 @@ pub record GroupsStand (groups : List GroupRow) (tasks : List TaskRow) (members 
   -- so many children of a task are open
   pub children : (p : Task) → open_tasks (λ t. is_child p t h) h ≡ (seat_at tasks members p).children
   -- a task is in these groups
-  pub around : (p : Task) → IsChain groups (seat_at tasks members p).around (groups_beyond p h)
+  pub around : (p : Task) → IsChain groups (seat_at tasks members p).around (groups_over p h)
   -- a child that it creates now is in these
-  pub last : (p : Task) → IsChain groups (seat_at tasks members p).last (open_groups p h ++ groups_beyond p h)
+  pub last : (p : Task) → IsChain groups (seat_at tasks members p).last (groups_within p h)
   pub rule : Always (TaskRule (length members)) h
 
 -- the groups stand for the events

@@ -4,16 +4,19 @@ ghost use Rattle.std.specs.Prelude.{◌≡◌, ◌<◌, ◌≤◌, ◌+◌, ◌�
 ghost use Rattle.std.proofs.Common.{suc};
 ghost use Rattle.gomp_types.specs.declared.task.TaskDesc.{TaskDesc};
 ghost use Rattle.gomp_types.specs.declared.event.Event.{Event};
-ghost use Rattle.gomp_types.specs.declared.event.Event.TheVariants.{Create, Done, Group, GroupEnd};
+ghost use Rattle.gomp_types.specs.declared.event.Event.TheVariants.{Create, Done, Discard, Group, GroupEnd};
 ghost use Rattle.gomp_types.specs.Tasks.{tasks_created};
 ghost use Rattle.gomp_types.specs.Groups.{groups_opened, group_complete};
 ghost use Rattle.gomp_types.specs.Goals.{children_complete};
-ghost use Rattle.gomp_types.specs.TaskRules.{MayEnd};
+ghost use Rattle.gomp_types.specs.Cancels.{first_of, groups_over, groups_within};
+ghost use Rattle.gomp_types.specs.TaskRules.{MayEnd, MayDiscard};
+ghost use Rattle.gomp_groups.specs.Rows.{some_marked};
 ghost use Rattle.gomp_groups.specs.Stands.{Stands, IsSeated, members_of};
-ghost use Rattle.gomp_groups.specs.Calls.{last_open, Executes, MayClose, MayCreateIn, rows_room};
+ghost use Rattle.gomp_groups.specs.Calls.{last_open, IsLastOf, Executes, MayClose, MayCreateIn, MayComplete, rows_room};
 
 use crate::rows::{
-    GroupRow, Seat, TaskRow, add_task, open_group, put_seat, remove_task, reserve_row, seat_of,
+    GroupRow, Seat, TaskRow, add_task, has_mark, open_group, put_seat, remove_task, reserve_row,
+    seat_of,
 };
 use gomp_types::Task;
 use std::alloc::{AllocError, Global};
@@ -124,6 +127,48 @@ impl Groups {
         seat_of(&self.tasks, &self.members, task).children == 0
     }
 
+    /// The innermost of the groups whose ends wait for the task, which is one of this team: the one
+    /// among them that was opened last. It is the group that `cancel taskgroup` names in this task
+    /// (OpenMP API 5.2, section 16.1).
+    pub fn innermost_around(&self, task: Task) -> Option<u64>
+        requires seated { IsSeated self.now task }
+        ensures known { (h : List Event) × Stands self.now h }
+        ensures value { (h : List Event) → Stands self.now h →
+            result ≡ first_of (groups_over task h) }
+        ensures last { (h : List Event) → Stands self.now h →
+            IfSome result (IsLastOf (groups_over task h)) }
+        ensures opened { IfSome result (λ group. group < length self.now.groups) }
+    {
+        seat_of(&self.tasks, &self.members, task).around
+    }
+
+    /// Whether one of the groups whose ends wait for the task, which is one of this team, has its
+    /// mark. There is a mark for each group opened. It takes a step for each of those groups.
+    pub fn is_marked_around(&self, task: Task, marks: &[bool]) -> bool
+        requires seated { IsSeated self.now task }
+        requires marks { length marks.now ≡ length self.now.groups }
+        ensures known { (h : List Event) × Stands self.now h }
+        ensures value { (h : List Event) → Stands self.now h →
+            result ≡ some_marked marks.now (groups_over task h) }
+    {
+        let seat = seat_of(&self.tasks, &self.members, task);
+        has_mark(&self.groups, seat.around, marks)
+    }
+
+    /// Whether one of the groups whose ends will wait for a task that is created in this one now,
+    /// which is one of this team, has its mark. There is a mark for each group opened. It takes a
+    /// step for each of those groups.
+    pub fn is_marked_within(&self, task: Task, marks: &[bool]) -> bool
+        requires seated { IsSeated self.now task }
+        requires marks { length marks.now ≡ length self.now.groups }
+        ensures known { (h : List Event) × Stands self.now h }
+        ensures value { (h : List Event) → Stands self.now h →
+            result ≡ some_marked marks.now (groups_within task h) }
+    {
+        let seat = seat_of(&self.tasks, &self.members, task);
+        has_mark(&self.groups, seat.last, marks)
+    }
+
     /// A member opens a group in the task, which it executes. The answer is the group's number, from 0.
     pub fn open(&mut self, task: Task) -> u64
         requires room { 0 < self.old.group_room }
@@ -215,6 +260,33 @@ impl Groups {
         ensures task_room { self.new.task_room ≡ self.old.task_room }
         ensures stands { (h : List Event) (m : ℕ) → Stands self.old h →
             MayEnd (members_of self.old) task m h → Stands self.new (Done task m ∷ h) }
+    {
+        self.finish_task(task);
+    }
+
+    /// A cancellation discards the explicit task with this number, from 1, which nobody has
+    /// started: it is complete (OpenMP API 5.2, section 16.1).
+    pub fn discard(&mut self, task: u32)
+        requires may { (h : List Event) × (m : ℕ) × Stands self.old h ×
+            MayDiscard (members_of self.old) task m h }
+        ensures members { members_of self.new ≡ members_of self.old }
+        ensures group_room { self.new.group_room ≡ self.old.group_room }
+        ensures task_room { self.new.task_room ≡ self.old.task_room }
+        ensures stands { (h : List Event) (m : ℕ) → Stands self.old h →
+            MayDiscard (members_of self.old) task m h → Stands self.new (Discard task m ∷ h) }
+    {
+        self.finish_task(task);
+    }
+
+    /// The task is complete: it counts no more in its groups and for its parent.
+    fn finish_task(&mut self, task: u32)
+        requires may { (h : List Event) × (event : Event) × Stands self.old h ×
+            MayComplete (members_of self.old) task event h }
+        ensures members { members_of self.new ≡ members_of self.old }
+        ensures group_room { self.new.group_room ≡ self.old.group_room }
+        ensures task_room { self.new.task_room ≡ self.old.task_room }
+        ensures stands { (h : List Event) (event : Event) → Stands self.old h →
+            MayComplete (members_of self.old) task event h → Stands self.new (event ∷ h) }
     {
         let row = self.tasks[task as usize - 1];
         remove_task(&mut self.groups, row.seat.around);

@@ -4,7 +4,7 @@ ghost use Rattle.std.specs.Prelude.{◌≡◌, ◌<◌, ◌≤◌, ◌+◌, ◌-
 ghost use Rattle.std.specs.Vec.{vec_len, vec_capacity};
 ghost use Rattle.gomp_types.specs.declared.task.Task.{Task as AnyTask};
 ghost use Rattle.gomp_types.specs.Tasks.{same_task, contains};
-ghost use Rattle.gomp_groups.specs.Rows.{seat_at, outer_at, pending_at, IsSeatedIn, IsChain, no_task, own_group, CountsOneMore, IsNested};
+ghost use Rattle.gomp_groups.specs.Rows.{seat_at, outer_at, pending_at, IsSeatedIn, IsChain, no_task, own_group, some_marked, CountsOneMore, IsNested};
 ghost use Rattle.gomp_groups.specs.Calls.{rows_room};
 
 use gomp_types::Task;
@@ -141,4 +141,22 @@ pub(crate) fn remove_task(groups: &mut [GroupRow], first: Option<u64>)
         row.pending -= 1;
         next = row.outer;
     }
+}
+
+/// Whether this group, or one around it, has its mark.
+pub(crate) fn has_mark(groups: &[GroupRow], first: Option<u64>, marks: &[bool]) -> bool
+    requires chain { (qs : List ℕ) × IsChain groups.now first qs }
+    requires nested { IsNested groups.now }
+    requires marks { length marks.now ≡ length groups.now }
+    ensures value { (qs : List ℕ) → IsChain groups.now first qs →
+        result ≡ some_marked marks.now qs }
+{
+    let mut next = first;
+    while let Some(group) = next {
+        if marks[group as usize] {
+            return true;
+        }
+        next = groups[group as usize].outer;
+    }
+    false
 }

@@ -83,9 +83,9 @@ waiting_reply book row repeated m task serves known = record {
 }
 
 -- want of memory
-lacking_reply : (book : BookView) (row : Row) (repeated : Bool) (m : ℕ) (task : Task) → row.memory ≡ true → (repeated ≡ true → ⊥) → ((name : List ℕ) → row.holds ≡ Some (Critical name) → name_at name book ≡ None) → HeldReply book book row repeated m task (Refused NoMemory)
-lacking_reply book row repeated m task memory first new = record {
-  serves = λ p st asks free. (memory, st);
+lacking_reply : (book : BookView) (row : Row) (repeated : Bool) (m : ℕ) (task : Task) → row.memory ≡ true → ((p : Past) → row.drops m p ≡ false) → (repeated ≡ true → ⊥) → ((name : List ℕ) → row.holds ≡ Some (Critical name) → name_at name book ≡ None) → HeldReply book book row repeated m task (Refused NoMemory)
+lacking_reply book row repeated m task memory kept first new = record {
+  serves = λ p st asks free. (rw (memory, kept p) refl, st);
   refusal = λ refusal e. cc;
   once = λ again e. first again;
   memory = λ e. new;
@@ -228,7 +228,7 @@ entry_of_a_name_waits name repeated m task book may some =
 pub served_by_start : (name : List ℕ) (repeated : Bool) (m : ℕ) (task : Task) (book : BookView) (reply : Reply) → (repeated ≡ true → IsSome (name_at name book)) → AnswersOrLacks [] (EntersCritical (name_owner name book)) reply → (reply ≡ Refused NoMemory → name_at name book ≡ None) →
     HeldReply book (after_critical_start (owner_of m task) name reply book) (critical_start_row name) repeated m task reply
 served_by_start name repeated m task book (Refused NoMemory) known answer lacks =
-    lacking_reply book (critical_start_row name) repeated m task refl (λ again. let is = rw (lacks refl) at (known again) in cc) (λ other same. subst (λ (n : List ℕ). name_at n book ≡ None) (same_critical name other same) (lacks refl))
+    lacking_reply book (critical_start_row name) repeated m task refl (λ p. refl) (λ again. let is = rw (lacks refl) at (known again) in cc) (λ other same. subst (λ (n : List ℕ). name_at n book ≡ None) (same_critical name other same) (lacks refl))
 served_by_start name repeated m task book (Refused _) known answer lacks = absurd (cc)
 served_by_start name repeated m task book reply known answer lacks =
     elim (enters_only (name_owner name book) reply answer.1) [
@@ -269,7 +269,7 @@ init_serves kind repeated m task book = λ p st asks is. (as_many_locks book p s
 
 pub served_by_init : (kind : LockKind) (repeated : Bool) (m : ℕ) (task : Task) (book : BookView) (reply : Reply) → (p : Past) → IsFree repeated (init_row kind) m p → AnswersOrLacks [] (MakesLock (length book.locks)) reply → HeldReply book (after_init kind reply book) (init_row kind) repeated m task reply
 served_by_init kind repeated m task book (Refused NoMemory) p is answer =
-    lacking_reply book (init_row kind) repeated m task refl (λ again. never_repeated (init_row kind) m p (subst (λ (b : Bool). IsFree b (init_row kind) m p) again is) (λ q reply may. lock_ends (length q.locks) reply may)) (λ name same. absurd (cc))
+    lacking_reply book (init_row kind) repeated m task refl (λ p. refl) (λ again. never_repeated (init_row kind) m p (subst (λ (b : Bool). IsFree b (init_row kind) m p) again is) (λ q reply may. lock_ends (length q.locks) reply may)) (λ name same. absurd (cc))
 served_by_init kind repeated m task book (Refused _) p is answer = absurd (cc)
 served_by_init kind repeated m task book reply p is answer =
     subst (λ (r : Reply). HeldReply book (after_init kind r book) (init_row kind) repeated m task r) (sym (makes_only (length book.locks) reply answer.1))

@@ -53,15 +53,18 @@ pub fn held_refusal(
         Call::SetNest(number) | Call::TestNest(number) => book.nest_refusal(owner, *number),
         Call::UnsetNest(number) => book.unset_refusal(owner, LockKind::Nest, *number),
         Call::TaskCreate(_) | Call::Taskwait(_) | Call::GroupStart | Call::GroupEnd => None,
+        Call::Cancel { .. } | Call::Point(_) => None,
         Call::Stop | Call::Resume => None,
         Call::LoopStart(_)
         | Call::LoopNext
         | Call::LoopEnd
         | Call::LoopEndNowait
+        | Call::LoopEndCancel
         | Call::SectionsStart { .. }
         | Call::SectionsNext
         | Call::SectionsEnd
         | Call::SectionsEndNowait
+        | Call::SectionsEndCancel
         | Call::SingleStart
         | Call::SingleCopyStart
         | Call::SingleCopyEnd(_)

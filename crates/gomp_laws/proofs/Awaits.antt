@@ -214,6 +214,11 @@ creator_keeps members false m t h reply lt newest may all = rw may all
 
 -- Calls that have begun
 
+-- one that is repeated gives no events before its reply
+pub once_again : (events : List Event) → unless_repeated events true ≡ []
+once_again [] = refl
+once_again (event ∷ events) = refl
+
 -- what holds before a call and after its events holds once it has begun, repeated or not
 pub begun_holds : (P : List Event → Type 0) (repeated : Bool) (events h : List Event) → (repeated ≡ false → P (events ++ h)) → P h → P (unless_repeated events repeated ++ h)
 begun_holds P repeated [] h begun before = before

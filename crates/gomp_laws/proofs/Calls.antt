@@ -1,7 +1,7 @@
 -- Every call's row is sound: the second list of calls, in proofs alone.
 use Rattle.std.proofs.Common.{◌≡◌, ℕ, Bool, true, List, ◌++◌, refl, sym, ◌∙◌, inl}
 use Rattle.gomp_types.specs.declared.call.Call.{Call}
-use Rattle.gomp_types.specs.declared.call.Call.TheVariants.{LoopStart, LoopNext, LoopEnd, LoopEndNowait, SectionsStart, SectionsNext, SectionsEnd, SectionsEndNowait, SingleStart, SingleCopyStart, SingleCopyEnd, Resume, OrderedStart, OrderedEnd, Barrier, RegionEnd, CriticalStart, CriticalEnd, LockInit, NestInit, LockDestroy, Set, Test as TestLock, Unset, SetNest, TestNest, UnsetNest, TaskCreate, TaskEnd, Taskwait, GroupStart, GroupEnd, Stop}
+use Rattle.gomp_types.specs.declared.call.Call.TheVariants.{LoopStart, LoopNext, LoopEnd, LoopEndNowait, LoopEndCancel, SectionsStart, SectionsNext, SectionsEnd, SectionsEndNowait, SectionsEndCancel, SingleStart, SingleCopyStart, SingleCopyEnd, Resume, OrderedStart, OrderedEnd, Barrier, RegionEnd, CriticalStart, CriticalEnd, LockInit, NestInit, LockDestroy, Set, Test as TestLock, Unset, SetNest, TestNest, UnsetNest, TaskCreate, TaskEnd, Taskwait, GroupStart, GroupEnd, Cancel, Point, Stop}
 use Rattle.gomp_types.specs.declared.lock.LockKind.TheVariants.{Simple, Nest}
 use Rattle.gomp_types.specs.declared.reply.Reply.{Reply}
 use Rattle.gomp_types.specs.declared.reply.Reply.TheVariants.{Stopped}
@@ -13,10 +13,11 @@ use Rattle.gomp_model.specs.Past.{Past}
 use Rattle.gomp_model.specs.Row.{begun_past, given_after, goes_on}
 use Rattle.gomp_model.specs.Calls.{resume_row, stop_given, stop_row, row_of}
 use Rattle.gomp_laws.proofs.Sound.{AreGiven, HasCreated, Ready, IsSound, quiet}
-use Rattle.gomp_laws.proofs.Loops.{loop_start_sound, loop_next_sound, loop_end_sound, loop_end_nowait_sound}
-use Rattle.gomp_laws.proofs.Sections.{sections_start_sound, sections_next_sound, sections_end_sound, sections_end_nowait_sound}
+use Rattle.gomp_laws.proofs.Loops.{loop_start_sound, loop_next_sound, loop_end_sound, loop_end_nowait_sound, loop_end_cancel_sound}
+use Rattle.gomp_laws.proofs.Sections.{sections_start_sound, sections_next_sound, sections_end_sound, sections_end_nowait_sound, sections_end_cancel_sound}
 use Rattle.gomp_laws.proofs.Singles.{single_start_sound, single_copy_start_sound, single_copy_end_sound}
 use Rattle.gomp_laws.proofs.OrderedParts.{ordered_start_sound, ordered_end_sound}
+use Rattle.gomp_laws.proofs.Cancels.{cancel_sound, point_sound}
 use Rattle.gomp_laws.proofs.Arrivals.{barrier_sound, region_end_sound}
 use Rattle.gomp_laws.proofs.CriticalNames.{critical_start_sound, critical_end_sound}
 use Rattle.gomp_laws.proofs.Locks.{init_sound, destroy_sound, set_sound, test_sound, unset_sound, set_nest_sound, test_nest_sound, unset_nest_sound}
@@ -33,6 +34,7 @@ resume_sound = record {
   begins_keep = λ m p ready all. all;
   gives_keep = λ repeated m p reply ready may all. all;
   still = λ stays m p. absurd (cc);
+  placed = λ stays m h. refl;
   outside = λ arrives m p fail. absurd (cc);
   tells = λ arrives m p reply may. absurd (cc);
   one_pass = λ arrives m p. absurd (cc);
@@ -44,6 +46,9 @@ resume_sound = record {
   runs = λ m p task code arg own may. absurd may;
   ends = λ m p task waiting may. absurd may;
   created = λ repeated m p task ready may. absurd may;
+  cancelled = λ m p may. absurd (may);
+  dropped = λ repeated m p ready all may. absurd (may);
+  allowed = λ cancels m p. absurd (cc);
   no_memory = λ m p. (refl, refl, refl, refl, λ repeated. refl);
   words_keep = λ puts repeated m p reply ready may all. absurd (cc);
 }
@@ -67,6 +72,7 @@ stop_sound = record {
   begins_keep = λ m p ready all. all;
   gives_keep = λ repeated m p reply ready may all. stop_keeps p.terms.members m reply p.events all;
   still = λ stays m p. absurd (cc);
+  placed = λ stays m h. refl;
   outside = λ arrives m p fail. absurd (cc);
   tells = λ arrives m p reply may. absurd (cc);
   one_pass = λ arrives m p. absurd (cc);
@@ -78,6 +84,9 @@ stop_sound = record {
   runs = λ m p task code arg own may. absurd (cc);
   ends = λ m p task waiting may. absurd (cc);
   created = λ repeated m p task ready may. absurd (cc);
+  cancelled = λ m p may. absurd (cc);
+  dropped = λ repeated m p ready all may. absurd (cc);
+  allowed = λ cancels m p. absurd (cc);
   no_memory = λ m p. (refl, refl, refl, refl, λ repeated. refl);
   words_keep = λ puts repeated m p reply ready may all. absurd (cc);
 }
@@ -87,10 +96,12 @@ row_is_sound (LoopStart loop) = loop_start_sound loop
 row_is_sound LoopNext = loop_next_sound
 row_is_sound LoopEnd = loop_end_sound
 row_is_sound LoopEndNowait = loop_end_nowait_sound
+row_is_sound LoopEndCancel = loop_end_cancel_sound
 row_is_sound (SectionsStart count end_kind) = sections_start_sound count end_kind
 row_is_sound SectionsNext = sections_next_sound
 row_is_sound SectionsEnd = sections_end_sound
 row_is_sound SectionsEndNowait = sections_end_nowait_sound
+row_is_sound SectionsEndCancel = sections_end_cancel_sound
 row_is_sound SingleStart = single_start_sound
 row_is_sound SingleCopyStart = single_copy_start_sound
 row_is_sound (SingleCopyEnd payload) = single_copy_end_sound payload
@@ -114,6 +125,8 @@ row_is_sound TaskEnd = task_end_sound
 row_is_sound (Taskwait items) = taskwait_sound items
 row_is_sound GroupStart = group_start_sound
 row_is_sound GroupEnd = group_end_sound
+row_is_sound (Cancel kind clause) = cancel_sound kind clause
+row_is_sound (Point kind) = point_sound kind
 row_is_sound Stop = stop_sound
 row_is_sound Resume = resume_sound
 

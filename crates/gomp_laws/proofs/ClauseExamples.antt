@@ -12,9 +12,9 @@ use Rattle.gomp_types.specs.Pieces.{Piece}
 use Rattle.gomp_types.specs.Deals.{Queues, one_queue, schedule}
 use Rattle.gomp_types.specs.Laws.{Always, Happened}
 use Rattle.gomp_types.specs.TaskLaws.{TaskLaws, BoundIsDone}
-use Rattle.gomp_shares.specs.Laws.{IsOver, TakesNext, TakesWithin, LeavesNothing, TakenOnce, TakesItsOwn, WholeWhereOver, EntersOneByOne, EndsInside, EntersWithRoom, SameShares, OrderedLaws, ShareLaws}
-use Rattle.gomp_types.specs.Arrivals.{BarriersOneByOne, SameArrivals, PassesAfterAll, ArrivalLaws}
-use Rattle.gomp_laws.specs.Laws.{ArrivesOnce, ArrivesOutside, ClosesShares, HappensUnbroken, HappensInside, TellsShares, LeavesHandedOn, HandedOnWhereOver, PutsOnce, GetsWhatWasPut, LeavesWithWords}
+use Rattle.gomp_shares.specs.Laws.{IsOver, TakesNext, TakesWithin, LeavesNothing, TakenOnce, TakesItsOwn, WholeWhereOver, EntersOneByOne, EndsInside, EntersWithRoom, SameShares, OrderedLaws, CancelsCancellable, LeavesCancelled, ShareLaws}
+use Rattle.gomp_types.specs.Arrivals.{BarriersOneByOne, SameArrivals, PassesAfterAll, EndsAfterAll, ArrivalLaws}
+use Rattle.gomp_laws.specs.Laws.{ArrivesOnce, ArrivesOutside, ClosesShares, HappensUnbroken, HappensInside, TellsShares, LeavesHandedOn, HandedOnWhereOver, PutsOnce, GetsWhatWasPut, LeavesWithWords, CancelsNamed, SeesCancelled}
 use Rattle.gomp_types.specs.Events.{member_of}
 use Rattle.gomp_locks.specs.HoldLaws.{AtEachMoment, OneOwner, HeldOnce, FreesItsOwn, PassesFree}
 use Rattle.gomp_laws.specs.Headline.{Headline}
@@ -157,7 +157,7 @@ take_outside_all law = elim law.1 [
 
 -- a member leaves a loop with a piece for it, though another has taken one
 pub leave_early : RefusedAfter (LeavesNothing (schedule 2)) (Enter 0 0 (four false) ∷ Take 0 1 0 2 ∷ []) (End 0 0)
-leave_early law = absurd (let none = law (four false) (inr (inl refl)) in cc)
+leave_early law = absurd (let none = law (four false) (inr (inl refl)) refl in cc)
 
 -- an iteration is taken twice, since the queue has its piece twice
 pub taken_again : Refuses (TakenOnce (one_queue (λ shape. (0, 2) ∷ (0, 2) ∷ []))) (Enter 0 0 (four false) ∷ Take 0 0 0 2 ∷ Take 0 0 0 2 ∷ [])
@@ -199,11 +199,11 @@ own_no_piece law = let place = law static_four (inl refl) refl in no_halves_begi
 
 -- a loop that all have left, its last iteration not taken
 pub whole_but_one : Refuses (WholeWhereOver 1) (Enter 0 0 (four false) ∷ Take 0 0 0 3 ∷ End 0 0 ∷ [])
-whole_but_one law = absurd (let last = law 0 0 (four false) (inr (inr (inl refl))) (alone_over 0 (Take 0 0 0 3 ∷ Enter 0 0 (four false) ∷ [])) 3 (omega arith) in omega arith)
+whole_but_one law = absurd (let last = law 0 0 (four false) (inr (inr (inl refl))) (alone_over 0 (Take 0 0 0 3 ∷ Enter 0 0 (four false) ∷ [])) refl 3 (omega arith) in omega arith)
 
 -- and its first one taken twice
 pub whole_and_more : Refuses (WholeWhereOver 1) (Enter 0 0 (four false) ∷ Take 0 0 0 1 ∷ Take 0 0 0 4 ∷ End 0 0 ∷ [])
-whole_and_more law = absurd (let first = law 0 0 (four false) (inr (inr (inr (inl refl)))) (alone_over 0 (Take 0 0 0 4 ∷ Take 0 0 0 1 ∷ Enter 0 0 (four false) ∷ [])) 0 (omega arith) in omega arith)
+whole_and_more law = absurd (let first = law 0 0 (four false) (inr (inr (inr (inl refl)))) (alone_over 0 (Take 0 0 0 4 ∷ Take 0 0 0 1 ∷ Enter 0 0 (four false) ∷ [])) refl 0 (omega arith) in omega arith)
 
 -- Same shares
 
@@ -291,12 +291,12 @@ arrive_skipping laws = arrive_ahead laws.one_by_one.0
 -- two members arrive at one barrier of two kinds
 pub arrive_otherwise : Refuses SameArrivals (Arrive 0 0 (at Barrier 0) ∷ Arrive 0 1 (at RegionEnd 0) ∷ [])
 arrive_otherwise laws =
-    absurd (let same = ap (λ (tag : Tag). tag.kind) (laws.tags 0 0 1 (at Barrier 0) (at RegionEnd 0) (inr (inl refl)) (inl refl)) in cc)
+    absurd (let same = ap (λ (tag : Tag). tag.kind) (laws.tags.0 refl 0 (at Barrier 0) (inl refl)) in cc)
 
 -- or after two numbers of shares
 pub arrive_after_more : Refuses SameArrivals (Arrive 0 0 (at Barrier 0) ∷ Arrive 0 1 (at Barrier 1) ∷ [])
 arrive_after_more laws =
-    absurd (let same = ap (λ (tag : Tag). tag.shares) (laws.tags 0 0 1 (at Barrier 0) (at Barrier 1) (inr (inl refl)) (inl refl)) in omega arith)
+    absurd (let same = ap (λ (tag : Tag). tag.shares) (laws.tags.0 refl 0 (at Barrier 0) (inl refl)) in omega arith)
 
 -- one who is no member arrives
 pub arrive_stranger : RefusedAfter (ArrivesOnce 2) [] (Arrive 0 2 (at Barrier 0))
@@ -308,15 +308,15 @@ pass_stranger law = absurd (let member = law in omega arith)
 
 -- a member arrives twice, the second time with another tag
 pub arrive_twice : RefusedAfter (ArrivesOnce 2) (Arrive 0 0 (at Barrier 0) ∷ []) (Arrive 0 0 (at Barrier 1))
-arrive_twice law = law.1 (at Barrier 0) (inl refl)
+arrive_twice law = law.1 refl (at Barrier 0) (inl refl)
 
 -- a member arrives inside of a share
 pub arrive_inside : RefusedAfter ArrivesOutside (Enter 0 0 (four false) ∷ End 0 1 ∷ []) (Arrive 0 0 (at ShareEnd 1))
-arrive_inside law = elim (law 0 (four false) (inr (inl refl))) [ inl e ↦ absurd (cc) | inr (inl e) ↦ absurd (cc) | inr (inr never) ↦ never ]
+arrive_inside law = elim (law refl 0 (four false) (inr (inl refl))) [ inl e ↦ absurd (cc) | inr (inl e) ↦ absurd (cc) | inr (inr never) ↦ never ]
 
 -- a member passes a barrier while the other is in the last share before it
 pub pass_unfinished : RefusedAfter (ClosesShares 2) (End 0 0 ∷ End 0 1 ∷ End 1 0 ∷ Arrive 0 0 (at ShareEnd 2) ∷ []) (Pass 0 0)
-pass_unfinished law = elim (law (at ShareEnd 2) (inl refl) 1 (omega arith) 1 (omega arith)) [
+pass_unfinished law = elim (law refl (at ShareEnd 2) (inl refl) 1 (omega arith) 1 (omega arith)) [
   | inl e ↦ absurd (cc)
   | inr (inl e) ↦ absurd (cc)
   | inr (inr (inl e)) ↦ absurd (cc)
@@ -326,7 +326,7 @@ pass_unfinished law = elim (law (at ShareEnd 2) (inl refl) 1 (omega arith) 1 (om
 
 -- and while the other is in the first of two
 pub pass_unfinished_first : RefusedAfter (ClosesShares 2) (End 0 0 ∷ End 1 0 ∷ End 1 1 ∷ Arrive 0 0 (at ShareEnd 2) ∷ []) (Pass 0 0)
-pass_unfinished_first law = elim (law (at ShareEnd 2) (inl refl) 0 (omega arith) 1 (omega arith)) [
+pass_unfinished_first law = elim (law refl (at ShareEnd 2) (inl refl) 0 (omega arith) 1 (omega arith)) [
   | inl e ↦ absurd (cc)
   | inr (inl e) ↦ absurd (cc)
   | inr (inr (inl e)) ↦ absurd (cc)
@@ -352,11 +352,11 @@ tell_less law = absurd (let shares = law in omega arith)
 
 -- a member passes before the last one has arrived
 pub pass_alone : RefusedAfter (PassesAfterAll 2) (Arrive 0 0 (at Barrier 0) ∷ []) (Pass 0 0)
-pass_alone law = let other = law 1 (omega arith) in elim other.1 [ inl e ↦ absurd (cc) | inr never ↦ never ]
+pass_alone law = let other = law refl 1 (omega arith) in elim other.1 [ inl e ↦ absurd (cc) | inr never ↦ never ]
 
 -- and before the first one has, who arrived at another barrier
 pub pass_after_last : RefusedAfter (PassesAfterAll 2) (Arrive 1 0 (at Barrier 0) ∷ Arrive 0 1 (at Barrier 0) ∷ []) (Pass 0 1)
-pass_after_last law = let other = law 0 (omega arith) in elim other.1 [ inl e ↦ absurd (cc) | inr (inl e) ↦ absurd (cc) | inr (inr never) ↦ never ]
+pass_after_last law = let other = law refl 0 (omega arith) in elim other.1 [ inl e ↦ absurd (cc) | inr (inl e) ↦ absurd (cc) | inr (inr never) ↦ never ]
 
 -- The headline and the laws of a part of it have each of their clauses
 
@@ -365,9 +365,10 @@ pub headline_has : (members : ℕ) (h : List Event) → Headline members h →
     TakenOnce (schedule members) h × Always (TakesItsOwn members) h × WholeWhereOver members h × OrderedLaws members h
     × Always (LeavesHandedOn members) h × HandedOnWhereOver members h × Always PutsOnce h × Always GetsWhatWasPut h × Always LeavesWithWords h
     × SameShares members h × SameArrivals h × Always (ArrivesOnce members) h × Always ArrivesOutside h × Always TellsShares h
-    × Always HappensUnbroken h × Always HappensInside h × Always (PassesAfterAll members) h × Always (ClosesShares members) h
+    × Always HappensUnbroken h × Always HappensInside h × Always (PassesAfterAll members) h × Always (EndsAfterAll members) h × Always (ClosesShares members) h
     × AtEachMoment OneOwner h × AtEachMoment HeldOnce h × Always FreesItsOwn h × Always PassesFree h
     × TaskLaws h × BoundIsDone h
+    × Always (CancelsNamed members) h × Always CancelsCancellable h × Always (LeavesCancelled (schedule members)) h × Always (SeesCancelled members) h
 headline_has members h laws = (
   laws.taken_once,
   laws.owned,
@@ -386,6 +387,7 @@ headline_has members h laws = (
   laws.unbroken,
   laws.in_region,
   laws.passes,
+  laws.ends,
   laws.closes,
   laws.one_owner,
   laws.held_once,
@@ -393,12 +395,17 @@ headline_has members h laws = (
   laws.passes_free,
   laws.tasks,
   laws.bound_done,
+  laws.cancels,
+  laws.cancelled,
+  laws.left_early,
+  laws.sees,
 )
 
 -- and so have the laws of the shares
-pub share_laws_have : (queues : Queues) (members : ℕ) (h : List Event) → ShareLaws queues members h → TakenOnce queues h × WholeWhereOver members h × SameShares members h
-share_laws_have queues members h laws = (laws.taken_once, laws.whole, laws.same_shares)
+pub share_laws_have : (queues : Queues) (members : ℕ) (h : List Event) → ShareLaws queues members h →
+    TakenOnce queues h × WholeWhereOver members h × Always CancelsCancellable h × Always (LeavesCancelled queues) h × SameShares members h
+share_laws_have queues members h laws = (laws.taken_once, laws.whole, laws.cancelled, laws.left_early, laws.same_shares)
 
 -- and those of the arrivals
-pub arrival_laws_have : (members : ℕ) (h : List Event) → ArrivalLaws members h → SameArrivals h × Always (PassesAfterAll members) h
-arrival_laws_have members h laws = (laws.same_arrivals, laws.passes)
+pub arrival_laws_have : (members : ℕ) (h : List Event) → ArrivalLaws members h → SameArrivals h × Always (PassesAfterAll members) h × Always (EndsAfterAll members) h
+arrival_laws_have members h laws = (laws.same_arrivals, laws.passes, laws.ends)

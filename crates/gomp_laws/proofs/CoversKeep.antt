@@ -181,9 +181,9 @@ executed_leaves : (k n task t x : ℕ) (desc : TaskDesc) (ts : List ℕ) → con
 executed_leaves k n task t x desc [] apart = (refl, tt)
 executed_leaves k n task t x desc (u ∷ us) apart = (not_the_innermost k t (u ∷ us) apart, executed_leaves k n task t u desc us (not_later t u us apart))
 
-own_leaves : (k n task : ℕ) (parent : Task) (desc : TaskDesc) (ts : List ℕ) → Apart ts → parent ≡ innermost_task k ts → LeavesBeneath k (Create task n parent desc) ts
-own_leaves k n task parent desc [] apart current = tt
-own_leaves k n task parent desc (t ∷ ts) apart current =
+own_creation_leaves : (k n task : ℕ) (parent : Task) (desc : TaskDesc) (ts : List ℕ) → Apart ts → parent ≡ innermost_task k ts → LeavesBeneath k (Create task n parent desc) ts
+own_creation_leaves k n task parent desc [] apart current = tt
+own_creation_leaves k n task parent desc (t ∷ ts) apart current =
     subst (λ (p : Task). LeavesBeneath k (Create task n p desc) (t ∷ ts)) (sym current) (executed_leaves k n task t t desc ts apart.0)
 
 own_creation_covers : (members m task n : ℕ) (parent : Task) (desc : TaskDesc) (h : List Event) (calls : List Call) → n ≡ m → Always (TeamRule members) (Create task n parent desc ∷ h) → Covers m calls (task_stack m h) h →
@@ -191,7 +191,7 @@ own_creation_covers : (members m task n : ℕ) (parent : Task) (desc : TaskDesc)
 own_creation_covers members m task n parent desc h calls who rules covers =
     let all = task_rules members (Create task n parent desc ∷ h) rules in
     let current : parent ≡ executed_task m h = subst (λ (x : ℕ). parent ≡ executed_task x h) who all.0.current in
-    event_covers members m (Create task n parent desc) h calls (task_stack m h) all (stack_open members m h all.1) (own_leaves m n task parent desc (task_stack m h) (tasks_stacked members h all.1 m).0 current) covers
+    event_covers members m (Create task n parent desc) h calls (task_stack m h) all (stack_open members m h all.1) (own_creation_leaves m n task parent desc (task_stack m h) (tasks_stacked members h all.1 m).0 current) covers
 
 covers_while_begun : (can : Gives) (members m : ℕ) (calls : List Call) → OwnKeeps can m (CoversBy members m calls)
 covers_while_begun can members m calls (Create task n parent desc) h own kept = λ rules. own_creation_covers members m task n parent desc h calls own.0 rules (kept rules.1)

@@ -13,7 +13,7 @@ use Rattle.gomp_locks.specs.CriticalNames.{EntersCritical}
 use Rattle.gomp_locks.specs.Holders.{asker, holder, holding_owner}
 use Rattle.gomp_model.specs.CriticalNames.{is_held, is_freed, critical_start_row, critical_end_row}
 use Rattle.gomp_laws.proofs.Sound.{IsSound}
-use Rattle.gomp_laws.proofs.HeldRows.{IsBookReply, finished_is_one, asked_first, held_given, freed_given, hold_keeps, free_keeps, unheld_by_member, held_row_sound}
+use Rattle.gomp_laws.proofs.HeldRows.{IsBookReply, finished_is_one, asked_first, held_row, held_inside, held_given, freed_given, hold_keeps, free_keeps, unheld_by_member, held_row_sound}
 
 one_entry : (found : Option Owner) (a b : Reply) → EntersCritical found a → EntersCritical found b → a ≡ b
 one_entry None Finished Finished x y = refl
@@ -55,12 +55,13 @@ critical_start_sound name = held_row_sound (Critical name) (critical_start_row n
   answered = λ repeated m p ready all. some_entry (holding_owner (holder (Critical name) p.events));
   given = λ m p reply. held_given (Critical name) m reply p.events;
   keep = λ repeated m p reply ready may all.
-      hold_keeps p.terms.members m (Critical name) (is_held reply) p.events ready.member (ready.away refl) (entry_is_free (holder (Critical name) p.events) reply may) all;
+      hold_keeps p.terms.members m (Critical name) (is_held reply) p.events ready.member (ready.away refl (held_inside (held_row (Critical name) (critical_start_row name)) repeated m p (Critical name) ready refl refl)) (entry_is_free (holder (Critical name) p.events) reply may) all;
   apart = λ repeated m p ready may.
       elim (cases_Bool repeated) [
-        | inl e ↦ (ready.lasting e).1 (Critical name) refl
+        | inl e ↦ ((ready.lasting e).1 (Critical name) refl).0
         | inr e ↦ unheld_by_member (asker m p.events) (holder (Critical name) p.events) (ready.team e).1.0
       ];
+  bound = λ m p may. refl;
   waits_for = λ m p may. entry_waits (holder (Critical name) p.events) may;
   tells_count = λ repeated m count p ready may. entry_counts_none (holding_owner (holder (Critical name) p.events)) count may;
   no_memory = λ m p. (refl, refl);
@@ -81,6 +82,7 @@ critical_end_sound name = held_row_sound (Critical name) (critical_end_row name)
       let owned = not_false (owned_by (asker m p.events) (holding_owner (holder (Critical name) p.events))) (asked_first (critical_end_row name) repeated m p (λ q given may. finished_is_one given may) (λ q waits. cc) ready).1.0 in
       free_keeps p.terms.members m (Critical name) (is_freed reply) p.events (owner_holds (asker m p.events) (holder (Critical name) p.events) owned) all;
   apart = λ repeated m p ready may. absurd (cc);
+  bound = λ m p may. absurd (cc);
   waits_for = λ m p may. absurd (cc);
   tells_count = λ repeated m count p ready may. absurd (cc);
   no_memory = λ m p. (refl, refl);

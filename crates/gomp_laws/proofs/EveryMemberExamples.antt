@@ -39,7 +39,7 @@ take_of_the_first law = elim law.1 [
 
 -- it leaves such a loop with a piece for it, when the first member's are taken
 pub leave_with_own_piece : RefusedAfter (LeavesNothing (schedule 2)) (Enter 0 1 static_four ∷ Take 0 0 0 2 ∷ []) (End 0 1)
-leave_with_own_piece law = absurd (let none = law static_four (inr (inl refl)) in cc)
+leave_with_own_piece law = absurd (let none = law static_four (inr (inl refl)) refl in cc)
 
 -- it enters the share that is next for the first
 pub enter_next_of_the_first : RefusedAfter (EntersOneByOne 2) (Enter 0 0 (four false) ∷ End 0 0 ∷ []) (Enter 1 1 (four false))
@@ -75,7 +75,7 @@ take_next_of_the_first law = elim law.1 [
 
 -- a member leaves the second share with pieces for it, when the first share has none
 pub leave_second_share : RefusedAfter (LeavesNothing (schedule 1)) (Enter 0 0 (four false) ∷ Take 0 0 0 2 ∷ Take 0 0 2 4 ∷ Enter 1 0 (four false) ∷ []) (End 1 0)
-leave_second_share law = absurd (let none = law (four false) (inl refl) in cc)
+leave_second_share law = absurd (let none = law (four false) (inl refl) refl in cc)
 
 -- an iteration of the second share is taken twice
 pub taken_again_in_second : Refuses (TakenOnce (one_queue (λ shape. (0, 2) ∷ (0, 2) ∷ []))) (Enter 1 0 (four false) ∷ Take 1 0 0 2 ∷ Take 1 0 0 2 ∷ [])
@@ -84,7 +84,7 @@ taken_again_in_second laws = absurd (let most = laws.once 1 1 in omega arith)
 -- and one that all have left has one that was not taken
 pub second_but_one : Refuses (WholeWhereOver 1) (Enter 0 0 (four false) ∷ Take 0 0 0 4 ∷ End 0 0 ∷ Enter 1 0 (four false) ∷ Take 1 0 0 3 ∷ End 1 0 ∷ [])
 second_but_one law =
-    absurd (let last = law 1 0 (four false) (inr (inr (inl refl))) (alone_over 1 (Take 1 0 0 3 ∷ Enter 1 0 (four false) ∷ End 0 0 ∷ Take 0 0 0 4 ∷ Enter 0 0 (four false) ∷ [])) 3 (omega arith) in omega arith)
+    absurd (let last = law 1 0 (four false) (inr (inr (inl refl))) (alone_over 1 (Take 1 0 0 3 ∷ Enter 1 0 (four false) ∷ End 0 0 ∷ Take 0 0 0 4 ∷ Enter 0 0 (four false) ∷ [])) refl 3 (omega arith) in omega arith)
 
 -- two members enter the second share with two constructs
 pub second_otherwise : Refuses (SameShares 2) (Enter 0 0 (four false) ∷ End 0 0 ∷ Enter 0 1 (four false) ∷ End 0 1 ∷ Enter 1 0 (four false) ∷ Enter 1 1 (four true) ∷ [])
@@ -148,7 +148,10 @@ rule_end_outside_second may = in_no_share _ _ may.inside
 
 -- a static loop with a piece for it, when the first member's are taken
 pub rule_end_with_own_piece : RefusedAfter (ShareRule (schedule 2) 2) (Enter 0 1 static_four ∷ Take 0 0 0 2 ∷ []) (End 0 1)
-rule_end_with_own_piece may = let same = entered_shape _ _ _ may.inside in let none = rw (← same) at may.none in absurd (cc)
+rule_end_with_own_piece may = elim may.done [
+  | inl none ↦ let same = entered_shape _ _ _ may.inside in let nothing = rw (← same) at none in absurd (cc)
+  | inr leaving ↦ absurd (cc)
+]
 
 -- and one in whose part it is
 pub rule_end_in_own_part : RefusedAfter (ShareRule (schedule 2) 2) (Enter 0 1 (four true) ∷ Take 0 0 0 2 ∷ Take 0 1 2 4 ∷ Part 0 1 2 ∷ []) (End 0 1)
@@ -183,17 +186,20 @@ rule_take_ahead_in_second may =
 
 -- it leaves with pieces for it, when the first share has none
 pub rule_end_early_in_second : RefusedAfter (ShareRule (schedule 1) 1) (Enter 0 0 (four false) ∷ Take 0 0 0 2 ∷ Take 0 0 2 4 ∷ End 0 0 ∷ Enter 1 0 (four false) ∷ []) (End 1 0)
-rule_end_early_in_second may = let same = entered_shape _ _ _ may.inside in let none = rw (← same) at may.none in absurd (cc)
+rule_end_early_in_second may = elim may.done [
+  | inl none ↦ let same = entered_shape _ _ _ may.inside in let nothing = rw (← same) at none in absurd (cc)
+  | inr leaving ↦ absurd (cc)
+]
 
 -- The laws of a team, of the second member
 
 -- the second member arrives inside of a share
 pub arrive_inside_second : RefusedAfter ArrivesOutside (Enter 0 1 (four false) ∷ []) (Arrive 0 1 (at ShareEnd 1))
-arrive_inside_second law = elim (law 0 (four false) (inl refl)) [ inl e ↦ absurd (cc) | inr never ↦ never ]
+arrive_inside_second law = elim (law refl 0 (four false) (inl refl)) [ inl e ↦ absurd (cc) | inr never ↦ never ]
 
 -- it arrives twice
 pub arrive_twice_second : RefusedAfter (ArrivesOnce 2) (Arrive 0 1 (at Barrier 0) ∷ []) (Arrive 0 1 (at Barrier 1))
-arrive_twice_second law = law.1 (at Barrier 0) (inl refl)
+arrive_twice_second law = law.1 refl (at Barrier 0) (inl refl)
 
 -- it tells one share less than it has entered
 pub tell_less_second : RefusedAfter TellsShares (Enter 0 1 (four false) ∷ []) (Arrive 0 1 (at Barrier 0))
@@ -201,7 +207,7 @@ tell_less_second law = absurd (let shares = law in omega arith)
 
 -- it passes while the first is in the share before
 pub pass_unfinished_second : RefusedAfter (ClosesShares 2) (Arrive 0 1 (at ShareEnd 1) ∷ []) (Pass 0 1)
-pass_unfinished_second law = elim (law (at ShareEnd 1) (inl refl) 0 (omega arith) 0 (omega arith)) [ inl e ↦ absurd (cc) | inr never ↦ never ]
+pass_unfinished_second law = elim (law refl (at ShareEnd 1) (inl refl) 0 (omega arith) 0 (omega arith)) [ inl e ↦ absurd (cc) | inr never ↦ never ]
 
 -- it is told something after it has passed the region's end, and the first has not
 pub happen_after_own_end : RefusedAfter HappensInside (Arrive 0 1 (at RegionEnd 0) ∷ Pass 0 1 ∷ []) (Drained 0 1)
@@ -224,15 +230,15 @@ get_taken_second law = law.4 0 1 (inr (inl refl))
 
 -- a member arrives inside of its second share
 pub arrive_inside_second_share : RefusedAfter ArrivesOutside (End 0 0 ∷ Enter 1 0 (four false) ∷ []) (Arrive 0 0 (at ShareEnd 2))
-arrive_inside_second_share law = elim (law 1 (four false) (inl refl)) [ inl e ↦ absurd (cc) | inr (inl e) ↦ absurd (cc) | inr (inr never) ↦ never ]
+arrive_inside_second_share law = elim (law refl 1 (four false) (inl refl)) [ inl e ↦ absurd (cc) | inr (inl e) ↦ absurd (cc) | inr (inr never) ↦ never ]
 
 -- it arrives twice at the second barrier
 pub arrive_twice_at_second : RefusedAfter (ArrivesOnce 1) (Arrive 1 0 (at Barrier 0) ∷ []) (Arrive 1 0 (at Barrier 0))
-arrive_twice_at_second law = law.1 (at Barrier 0) (inl refl)
+arrive_twice_at_second law = law.1 refl (at Barrier 0) (inl refl)
 
 -- and passes it while the other is in the share before
 pub pass_unfinished_at_second : RefusedAfter (ClosesShares 2) (Arrive 1 0 (at ShareEnd 1) ∷ []) (Pass 1 0)
-pass_unfinished_at_second law = elim (law (at ShareEnd 1) (inl refl) 0 (omega arith) 1 (omega arith)) [ inl e ↦ absurd (cc) | inr never ↦ never ]
+pass_unfinished_at_second law = elim (law refl (at ShareEnd 1) (inl refl) 0 (omega arith) 1 (omega arith)) [ inl e ↦ absurd (cc) | inr never ↦ never ]
 
 -- it leaves the second share, a piece of which it has not handed on, but one of the first
 pub end_unhanded_in_second : RefusedAfter (LeavesHandedOn 1) (HandOn 0 0 0 ∷ Enter 1 0 (four true) ∷ Take 1 0 0 2 ∷ []) (End 1 0)
@@ -320,11 +326,11 @@ team_got_taken_second may = absurd (let other = may.other in cc)
 
 -- it arrives inside of a share
 pub team_arrive_inside_second : RefusedAfter (TeamRule 2) (Enter 0 1 (four false) ∷ []) (Arrive 0 1 (at Barrier 1))
-team_arrive_inside_second may = absurd (let outside = may.outside in cc)
+team_arrive_inside_second may = absurd (let outside = may.outside refl in cc)
 
 -- twice at one barrier
 pub team_arrive_twice_second : RefusedAfter (TeamRule 2) (Arrive 0 1 (at Barrier 0) ∷ []) (Arrive 0 1 (at Barrier 0))
-team_arrive_twice_second may = absurd (let once = may.once in cc)
+team_arrive_twice_second may = absurd (let once = may.once refl in cc)
 
 -- and tells one share less than it has entered
 pub team_arrive_miscounted_second : RefusedAfter (TeamRule 2) (Enter 0 1 (four false) ∷ End 0 1 ∷ []) (Arrive 0 1 (at Barrier 0))
@@ -386,7 +392,7 @@ team_end_with_words_of_the_first may =
 
 -- and it arrives twice at the second barrier
 pub team_arrive_twice_at_second : RefusedAfter (TeamRule 2) (Pass 0 0 ∷ Arrive 1 0 (at Barrier 0) ∷ []) (Arrive 1 0 (at Barrier 0))
-team_arrive_twice_at_second may = absurd (let once = may.once in cc)
+team_arrive_twice_at_second may = absurd (let once = may.once refl in cc)
 
 -- Entries, ends and turns of the event's own member and share
 
@@ -460,11 +466,11 @@ rule_pass_next_of_the_first may = absurd (let number = may.number in omega arith
 
 -- a member arrives at the second barrier with another tag than the other
 pub rule_second_barrier_otherwise : RefusedAfter (ArrivalRule 2) (Arrive 0 0 (at Barrier 0) ∷ Pass 0 0 ∷ Arrive 1 1 (at RegionEnd 0) ∷ []) (Arrive 1 0 (at Barrier 0))
-rule_second_barrier_otherwise may = absurd (let same = ap (λ (tag : Tag). tag.kind) (may.same (at RegionEnd 0) refl) in cc)
+rule_second_barrier_otherwise may = absurd (let same = ap (λ (tag : Tag). tag.kind) (may.same refl (at RegionEnd 0) refl) in cc)
 
 -- and passes it if the other has arrived at the first alone
 pub pass_second_alone : RefusedAfter (PassesAfterAll 2) (Arrive 0 0 (at Barrier 0) ∷ Arrive 0 1 (at Barrier 0) ∷ Arrive 1 0 (at Barrier 0) ∷ []) (Pass 1 0)
-pass_second_alone law = let other = law 1 (omega arith) in elim other.1 [
+pass_second_alone law = let other = law refl 1 (omega arith) in elim other.1 [
   | inl e ↦ absurd (cc)
   | inr (inl e) ↦ absurd (cc)
   | inr (inr (inl e)) ↦ absurd (cc)

@@ -6,17 +6,22 @@ use Rattle.std.proofs.lemmas.Bool.{cases_Bool, cases_lt}
 use Rattle.std.proofs.lemmas.Option.{slice_get-get_or}
 use Rattle.gomp_types.specs.declared.shape.Shape.{Shape}
 use Rattle.gomp_types.specs.declared.event.Event.{Event}
-use Rattle.gomp_types.specs.declared.event.Event.TheVariants.{Enter, Take, Drained, End, HandOn}
+use Rattle.gomp_types.specs.declared.event.Event.TheVariants.{Enter, Take, Drained, End, HandOn, Cancel}
+use Rattle.gomp_types.specs.declared.cancel.Scope.TheVariants.{OneShare}
+use Rattle.gomp_types.specs.declared.loop_desc.EndKind.TheVariants.{Cancellable}
+use Rattle.gomp_types.specs.Cancels.{share_cancelled}
+use Rattle.gomp_types.specs.Shapes.{same_end}
 use Rattle.gomp_types.specs.Pieces.{Piece, Tiles, pieces_of}
 use Rattle.gomp_types.specs.Events.{shares_entered, open_share, has_drained, last_piece, shape_at, has_ended, has_iteration, times_taken, turn, holds_piece}
-use Rattle.gomp_types.specs.Deals.{schedule}
+use Rattle.gomp_types.specs.Deals.{Queues, schedule}
 use Rattle.gomp_types.specs.Laws.{Always, Happened}
-use Rattle.gomp_shares.specs.Rules.{MayTake, MayHandOn, ShareRule}
-use Rattle.gomp_laws.specs.Rules.{MayTakeIn, HasNoneIn, MayLeave, TeamRule}
+use Rattle.gomp_shares.specs.Rules.{MayTake, MayHandOn, MayCancelShare, ShareRule}
+use Rattle.gomp_laws.specs.Rules.{MayTakeIn, HasNoneIn, MayLeaveIn, TeamRule}
 use Rattle.gomp_shares.specs.Laws.{IsOver}
 use Rattle.gomp_laws.specs.Laws.{LeavesHandedOn, HandedOnWhereOver}
 use Rattle.gomp_types.proofs.Booleans.{which_branch, is_equal, same_number, share_is, and_left, and_right, not_both}
 use Rattle.gomp_types.proofs.Tiling.{piece_some, piece_within}
+use Rattle.gomp_shares.proofs.CancelledShares.{cancel_stands}
 use Rattle.gomp_shares.proofs.SharesKeep.{member_is_inside, enter_has_its_shape, drained_none, shape_stays, not_ended, stands_ended, shares_keep}
 use Rattle.gomp_shares.proofs.OrderedKeep.{piece_before, share_is_tiled, piece_of_turn, hands_the_turn}
 use Rattle.gomp_laws.proofs.CopiesKeep.{never_took, takes_below}
@@ -138,7 +143,7 @@ handed_or_held members m i low high shape (End share member ∷ earlier) all at 
 handed_or_held members m i low high shape (event ∷ earlier) all at ordered (inr took) = handed_or_held_stays members i m shape (low, high) event earlier refl refl (handed_or_held members m i low high shape earlier all.1 at ordered took)
 
 -- so a member that leaves an ordered loop has handed on each piece that it took
-left_handed : (members share m low high : ℕ) (h : List Event) (rule : MayLeave members share m h) → Always (TeamRule members) h → rule.done.shape.ordered ≡ true → Happened (Take share m low high) h → HandedOn members share m rule.done.shape (low, high) h
+left_handed : (members share m low high : ℕ) (h : List Event) (rule : MayLeaveIn members share m h) → Always (TeamRule members) h → rule.done.shape.ordered ≡ true → Happened (Take share m low high) h → HandedOn members share m rule.done.shape (low, high) h
 left_handed members share m low high h rule all ordered took = none_held members share m rule.done.shape (low, high) h (rule.handed_on ordered) (handed_or_held members m share low high rule.done.shape h all rule.done.inside ordered took)
 
 pub leaves_handed_on : (members : ℕ) (event : Event) (earlier : List Event) → TeamRule members event earlier → Always (TeamRule members) earlier → LeavesHandedOn members event earlier
@@ -161,7 +166,7 @@ leaver_handed members share m low high [] all left took = absurd left
 leaver_handed members share m low high (End i member ∷ earlier) all (inl e) (inr took) =
     let number : i ≡ share = cc in
     let who : member ≡ m = cc in
-    let rule : MayLeave members share m earlier = rw (number, who) at all.0 in
+    let rule : MayLeaveIn members share m earlier = rw (number, who) at all.0 in
     let found = (member_is_inside (schedule members) members m share rule.done.shape earlier (share_rules members earlier all.1) rule.done.inside).0 in
     (rule.done.shape, found, λ ordered. handed_later members share m rule.done.shape (low, high) (End i member) earlier (left_handed members share m low high earlier rule all.1 ordered took))
 leaver_handed members share m low high (End i member ∷ earlier) all (inl e) (inl f) = absurd (cc)
@@ -248,9 +253,50 @@ over_handed members share number shape own h all found ordered over whole at =
     let taker = taker_of members share own.0 h shares (omega (arith, once)) in
     (taker.who, taker_handed members share number shape own h all found ordered tiles at some taker (over taker.who taker.member))
 
+-- Ordered loops are not cancelled
+
+-- a share that may be cancelled is not ordered
+cancellable_unordered : (queues : Queues) (members i : ℕ) (shape : Shape) (h : List Event) → Always (ShareRule queues members) h → shape_at i h ≡ Some shape → same_end shape.end_kind Cancellable ≡ true → shape.ordered ≡ false
+cancellable_unordered queues members i shape [] all at cancellable = absurd (cc)
+cancellable_unordered queues members i shape (Enter share member other ∷ earlier) all at cancellable =
+    elim (which_branch (share == i) (Some other) (shape_at i earlier) (Some shape) at) [
+      | inl e ↦
+          let same : other ≡ shape = let t = e.1 in cc in
+          let unordered : same_end shape.end_kind Cancellable ≡ true → shape.ordered ≡ false = rw same at all.0.unordered in
+          unordered cancellable
+      | inr e ↦ cancellable_unordered queues members i shape earlier all.1 e.1 cancellable
+    ]
+cancellable_unordered queues members i shape (_ ∷ earlier) all at cancellable = cancellable_unordered queues members i shape earlier all.1 at cancellable
+
+-- and one that was cancelled could be
+cancelled_is_cancellable : (queues : Queues) (members i n : ℕ) (h : List Event) → Always (ShareRule queues members) h → Happened (Cancel n (OneShare i)) h → (shape : Shape) × (shape_at i h ≡ Some shape) × (shape.end_kind ≡ Cancellable)
+cancelled_is_cancellable queues members i n [] all stands = absurd stands
+cancelled_is_cancellable queues members i n (Cancel member (OneShare share) ∷ earlier) all (inl e) =
+    let number : share ≡ i = cc in
+    let rule : MayCancelShare i member earlier = rw number at all.0 in
+    (rule.shape, (member_is_inside queues members member i rule.shape earlier all.1 rule.inside).0, rule.cancellable)
+cancelled_is_cancellable queues members i n (_ ∷ earlier) all (inl e) = absurd (cc)
+cancelled_is_cancellable queues members i n (event ∷ earlier) all (inr stands) =
+    let before = cancelled_is_cancellable queues members i n earlier all.1 stands in
+    (before.0, shape_stays queues members i before.0 event earlier all.0 before.1, before.2)
+
+-- so no ordered loop was
+pub ordered_not_cancelled : (queues : Queues) (members i : ℕ) (shape : Shape) (h : List Event) → Always (ShareRule queues members) h → shape_at i h ≡ Some shape → shape.ordered ≡ true → share_cancelled i h ≡ false
+ordered_not_cancelled queues members i shape h all at ordered =
+    elim (cases_Bool (share_cancelled i h)) [
+      | inl is ↦
+          let who = cancel_stands (OneShare i) h is in
+          let found = cancelled_is_cancellable queues members i who.0 h all who.1 in
+          let same : found.0 ≡ shape = let both = sym found.1 ∙ at in cc in
+          let ends : shape.end_kind ≡ Cancellable = rw same at found.2 in
+          absurd (not_both shape.ordered ordered (cancellable_unordered queues members i shape h all at (rw ends refl)))
+      | inr off ↦ off
+    ]
+
 pub all_handed_on : (members : ℕ) (h : List Event) → Always (TeamRule members) h → HandedOnWhereOver members h
 all_handed_on members h all = λ share m number shape stands ordered over below.
     let shares = share_rules members h all in
     let found = (enter_has_its_shape (schedule members) members share m shape h shares stands).1 in
+    let whole = ordered_not_cancelled (schedule members) members share shape h shares found ordered in
     over_handed members share number shape (get_or (pieces_of members shape) number (0, 0)) h all found ordered over
-    ((shares_keep (schedule members) members h shares).whole share m shape stands over) (slice_get-get_or (pieces_of members shape) number (0, 0) below)
+    ((shares_keep (schedule members) members h shares).whole share m shape stands over whole) (slice_get-get_or (pieces_of members shape) number (0, 0) below)

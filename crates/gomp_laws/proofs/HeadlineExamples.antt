@@ -2,17 +2,21 @@
 use Rattle.std.proofs.Common.{◌≡◌, ℕ, ◌%◌, true, false, List, [], ◌∷◌, Some, zero, suc, slice_get, refl, ap, arith, rules, inl, inr}
 use Rattle.gomp_types.specs.declared.shape.Shape.{Shape}
 use Rattle.gomp_types.specs.declared.refusal.Place.TheVariants.{Stopped as AtStop}
-use Rattle.gomp_types.specs.declared.event.Arrival.TheVariants.{Barrier, ShareEnd, RegionEnd}
+use Rattle.gomp_types.specs.declared.event.Arrival.TheVariants.{Barrier, ShareEnd}
 use Rattle.gomp_types.specs.declared.event.Tag.{Tag}
 use Rattle.gomp_types.specs.declared.event.Event.TheVariants.{Enter, Take, HandOn, Arrive, Create}
 use Rattle.gomp_types.specs.declared.key.Key.TheVariants.{Critical, Lock}
 use Rattle.gomp_types.specs.declared.task.Owner.{Owner}
 use Rattle.gomp_types.specs.declared.task.Task.TheVariants.{Implicit}
+use Rattle.gomp_types.specs.declared.cancel.CancelKind.{CancelKind}
+use Rattle.gomp_types.specs.declared.cancel.CancelKind.TheVariants.{Parallel, Loop, Sections, Taskgroup}
+use Rattle.gomp_types.specs.declared.cancel.Scope.TheVariants.{OneShare}
+use Rattle.gomp_types.specs.Cancels.{scope_of}
 use Rattle.gomp_types.specs.Pieces.{Piece, pieces_of}
 use Rattle.gomp_types.specs.Laws.{Happened}
 use Rattle.gomp_types.specs.EventLists.{four, static_four, even_four, at}
 use Rattle.gomp_types.specs.TaskExamples.{one_job}
-use Rattle.gomp_laws.specs.LawExamples.{NeverHappens, taken_twice, taken_ahead, taken_outside, taken_from_another, even_from_another, left_early, nested, left_unentered, ninth_open, two_shapes, part_unordered, part_ahead, part_back, handed_on_open, handed_on_ahead, left_unhanded, put_in_a_loop, given_to_the_executor, left_without_words, passed_alone, arrived_twice, two_tags, stranger, barrier_skipped, share_miscounted, passed_unfinished, arrived_inside, held_by_two, name_held_twice, freed_by_another, passed_with_name, created_twice, created_for_another, uncreated_started, started_by_both, started_beside, started_elsewhere, started_before_writer, undeferred_of_another, ended_for_another, ended_beneath, waited_too_short, group_ended_early, group_opened_twice, outer_group_ended, passed_with_open_task, created_behind, ended_with_open_task, after_a_stop, after_the_end}
+use Rattle.gomp_laws.specs.LawExamples.{NeverHappens, taken_twice, taken_ahead, taken_outside, taken_from_another, even_from_another, left_early, nested, left_unentered, ninth_open, two_shapes, part_unordered, part_ahead, part_back, handed_on_open, handed_on_ahead, left_unhanded, put_in_a_loop, given_to_the_executor, left_without_words, passed_alone, arrived_twice, two_tags, stranger, barrier_skipped, share_miscounted, passed_unfinished, arrived_inside, held_by_two, name_held_twice, freed_by_another, passed_with_name, created_twice, created_for_another, uncreated_started, started_by_both, started_beside, started_elsewhere, started_before_writer, undeferred_of_another, ended_for_another, ended_beneath, waited_too_short, group_ended_early, group_opened_twice, outer_group_ended, passed_with_open_task, created_behind, ended_with_open_task, cancellable_four, cancelled_outside, uncancellable_cancelled, seen_uncancelled, left_beside, arrived_cancelled, passed_cancelled, ended_alone, arrived_unseen, started_cancelled, created_cancelled, discarded_running, discarded_uncovered, ended_with_running_task, after_a_stop, after_the_end}
 use Rattle.gomp_locks.proofs.BookExamples.{zero_owner, other_owner}
 
 -- Shares
@@ -129,11 +133,11 @@ barrier_passed_alone_never_happens = search rules
 
 -- a member arrives twice at one barrier
 pub arrival_twice_never_happens : NeverHappens 1 arrived_twice
-arrival_twice_never_happens laws = laws.arrive_once.0.1 (at Barrier 0) (inl refl)
+arrival_twice_never_happens laws = laws.arrive_once.0.1 refl (at Barrier 0) (inl refl)
 
 -- members arrive at one barrier with two tags
 pub two_tags_of_a_barrier_never_happen : NeverHappens 2 two_tags
-two_tags_of_a_barrier_never_happen laws = absurd (let same = ap (λ (tag : Tag). tag.kind) (laws.same_arrivals.tags 0 0 1 (at Barrier 0) (at RegionEnd 0) (inr (inl refl)) (inl refl)) in cc)
+two_tags_of_a_barrier_never_happen laws = absurd (let same = ap (λ (tag : Tag). tag.kind) (laws.same_arrivals.tags.0 refl 0 (at Barrier 0) (inl refl)) in cc)
 
 -- one who is no member of the team arrives
 pub arrival_of_a_stranger_never_happens : NeverHappens 2 stranger
@@ -149,7 +153,7 @@ share_miscounted_never_happens = search rules
 
 -- a member passes a barrier while the other is still in the loop before it
 pub barrier_passed_unfinished_never_happens : NeverHappens 2 passed_unfinished
-barrier_passed_unfinished_never_happens laws = elim (laws.closes.0 (at ShareEnd 1) (inr (inl refl)) 0 (omega arith) 1 (omega arith)) [
+barrier_passed_unfinished_never_happens laws = elim (laws.closes.0 refl (at ShareEnd 1) (inr (inl refl)) 0 (omega arith) 1 (omega arith)) [
   | inl e ↦ absurd (cc)
   | inr (inl e) ↦ absurd (cc)
   | inr (inr (inl e)) ↦ absurd (cc)
@@ -162,7 +166,7 @@ barrier_passed_unfinished_never_happens laws = elim (laws.closes.0 (at ShareEnd 
 
 -- a member arrives at the end of a loop that it has not left
 pub arrival_inside_a_loop_never_happens : NeverHappens 1 arrived_inside
-arrival_inside_a_loop_never_happens laws = elim (laws.arrive_outside.0 0 (four false) (inl refl)) [ inl e ↦ absurd (cc) | inr never ↦ never ]
+arrival_inside_a_loop_never_happens laws = elim (laws.arrive_outside.0 refl 0 (four false) (inl refl)) [ inl e ↦ absurd (cc) | inr never ↦ never ]
 
 -- Critical names and locks
 
@@ -211,7 +215,14 @@ task_started_elsewhere_never_happens laws = absurd (let down = laws.tasks.descen
 
 -- a reader is started before the writer that it names is done
 pub reader_started_before_writer_never_happens : NeverHappens 1 started_before_writer
-reader_started_before_writer_never_happens laws = elim (laws.tasks.after_named.0 1 refl).1 [ inl e ↦ absurd (cc) | inr (inl e) ↦ absurd (cc) | inr (inr never) ↦ never ]
+reader_started_before_writer_never_happens laws = elim (laws.tasks.after_named.0 1 refl).1 [
+  | inl (inl e) ↦ absurd (cc)
+  | inl (inr (inl e)) ↦ absurd (cc)
+  | inl (inr (inr never)) ↦ never
+  | inr (inl e) ↦ absurd (cc)
+  | inr (inr (inl e)) ↦ absurd (cc)
+  | inr (inr (inr never)) ↦ never
+]
 
 -- a member that waits at a barrier starts an undeferred task of another's
 pub undeferred_task_of_another_never_started : NeverHappens 2 undeferred_of_another
@@ -227,17 +238,28 @@ task_ended_beneath_never_happens laws = elim (laws.tasks.ended_once.0.2 2 (inl r
 
 -- a taskwait goes on while a child of its task is open
 pub taskwait_too_short_never_happens : NeverHappens 1 waited_too_short
-taskwait_too_short_never_happens laws = elim (laws.tasks.waits.0 1 refl).1 [ inl e ↦ absurd (cc) | inr never ↦ never ]
+taskwait_too_short_never_happens laws = elim (laws.tasks.waits.0 1 refl).1 [
+  | inl (inl e) ↦ absurd (cc)
+  | inl (inr never) ↦ never
+  | inr (inl e) ↦ absurd (cc)
+  | inr (inr never) ↦ never
+]
 
 -- a group ends while a task of it is open: the child of one that is done
 pub group_ended_early_never_happens : NeverHappens 1 group_ended_early
 group_ended_early_never_happens laws = elim (laws.tasks.waits.0 2 refl).1 [
-  | inl e ↦ absurd (cc)
+  | inl (inl e) ↦ absurd (cc)
+  | inl (inr (inl e)) ↦ absurd (cc)
+  | inl (inr (inr (inl e))) ↦ absurd (cc)
+  | inl (inr (inr (inr (inl e)))) ↦ absurd (cc)
+  | inl (inr (inr (inr (inr (inl e))))) ↦ absurd (cc)
+  | inl (inr (inr (inr (inr (inr never))))) ↦ never
   | inr (inl e) ↦ absurd (cc)
   | inr (inr (inl e)) ↦ absurd (cc)
   | inr (inr (inr (inl e))) ↦ absurd (cc)
   | inr (inr (inr (inr (inl e)))) ↦ absurd (cc)
-  | inr (inr (inr (inr (inr never)))) ↦ never
+  | inr (inr (inr (inr (inr (inl e))))) ↦ absurd (cc)
+  | inr (inr (inr (inr (inr (inr never))))) ↦ never
 ]
 
 -- two groups have one number
@@ -251,9 +273,12 @@ outer_group_ended_never_happens laws = absurd (let last = laws.tasks.groups_ende
 -- a barrier is passed while a task that is bound to it is open
 pub barrier_passed_with_open_task_never_happens : NeverHappens 1 passed_with_open_task
 barrier_passed_with_open_task_never_happens laws = elim (laws.tasks.passes.0 1 (0, Implicit 0, one_job, inr (inl refl)) (omega arith)).1 [
-  | inl e ↦ absurd (cc)
+  | inl (inl e) ↦ absurd (cc)
+  | inl (inr (inl e)) ↦ absurd (cc)
+  | inl (inr (inr never)) ↦ never
   | inr (inl e) ↦ absurd (cc)
-  | inr (inr never) ↦ never
+  | inr (inr (inl e)) ↦ absurd (cc)
+  | inr (inr (inr never)) ↦ never
 ]
 
 -- a task that is bound to a barrier is created after a member passed it
@@ -264,16 +289,114 @@ task_created_behind_never_happens laws = absurd (let later = laws.tasks.later.0 
 pub task_undone_behind_never_happens : NeverHappens 2 created_behind
 task_undone_behind_never_happens laws =
     let done = laws.bound_done (Create 1 1 (Implicit 1) one_job ∷ []) (Arrive 0 1 (at Barrier 0) ∷ Arrive 0 0 (at Barrier 0) ∷ []) 0 0 refl 1 (1, Implicit 1, one_job, inl refl) (omega arith) in
-    elim done.1 [ inl e ↦ absurd (cc) | inr (inl e) ↦ absurd (cc) | inr (inr never) ↦ never ]
+    elim done.1 [
+      | inl (inl e) ↦ absurd (cc)
+      | inl (inr (inl e)) ↦ absurd (cc)
+      | inl (inr (inr never)) ↦ never
+      | inr (inl e) ↦ absurd (cc)
+      | inr (inr (inl e)) ↦ absurd (cc)
+      | inr (inr (inr never)) ↦ never
+    ]
 
 -- a member passes the region's end while a task is open
 pub region_ended_with_open_task_never_happens : NeverHappens 2 ended_with_open_task
 region_ended_with_open_task_never_happens laws = elim (laws.tasks.region.0 refl 1 (0, Implicit 0, one_job, inl refl)).1 [
+  | inl (inl e) ↦ absurd (cc)
+  | inl (inr (inl e)) ↦ absurd (cc)
+  | inl (inr (inr (inl e))) ↦ absurd (cc)
+  | inl (inr (inr (inr (inl e)))) ↦ absurd (cc)
+  | inl (inr (inr (inr (inr never)))) ↦ never
+  | inr (inl e) ↦ absurd (cc)
+  | inr (inr (inl e)) ↦ absurd (cc)
+  | inr (inr (inr (inl e))) ↦ absurd (cc)
+  | inr (inr (inr (inr (inl e)))) ↦ absurd (cc)
+  | inr (inr (inr (inr (inr never)))) ↦ never
+]
+
+-- Cancellation
+
+-- a member that is in no share names none
+names_no_share : (kind : CancelKind) → scope_of kind 0 [] ≡ Some (OneShare 0) → ⊥
+names_no_share Parallel e = absurd (cc)
+names_no_share Loop e = absurd (cc)
+names_no_share Sections e = absurd (cc)
+names_no_share Taskgroup e = absurd (cc)
+
+-- a member cancels a loop, and is in none
+pub loop_cancelled_outside_never_happens : NeverHappens 1 cancelled_outside
+loop_cancelled_outside_never_happens laws = names_no_share laws.cancels.0.1 laws.cancels.0.2
+
+-- it cancels one that may not be cancelled
+pub uncancellable_loop_never_cancelled : NeverHappens 1 uncancellable_cancelled
+uncancellable_loop_never_cancelled laws = elim laws.cancelled.0.1 [
+  | inl e ↦ absurd (let same : four false ≡ laws.cancelled.0.0 = cc in let kind = rw (← same) at laws.cancelled.0.3 in cc)
+  | inr never ↦ never
+]
+
+-- a member sees that the region is cancelled, and a loop is
+pub cancellation_seen_of_another_never_happens : NeverHappens 1 seen_uncancelled
+cancellation_seen_of_another_never_happens laws = absurd (let is = laws.sees.0.1 in cc)
+
+-- a member leaves a loop that has a piece for it, and another is cancelled
+pub loop_left_beside_the_cancelled_never_happens : NeverHappens 1 left_beside
+loop_left_beside_the_cancelled_never_happens laws = elim (laws.left_early.0 cancellable_four (inl refl) (λ none. absurd (cc))).1 [
   | inl e ↦ absurd (cc)
   | inr (inl e) ↦ absurd (cc)
   | inr (inr (inl e)) ↦ absurd (cc)
   | inr (inr (inr (inl e))) ↦ absurd (cc)
-  | inr (inr (inr (inr never))) ↦ never
+  | inr (inr (inr (inr (inl e)))) ↦ absurd (cc)
+  | inr (inr (inr (inr (inr never)))) ↦ never
+]
+
+-- a member arrives at a barrier of a cancelled region
+pub arrival_in_a_cancelled_region_never_happens : NeverHappens 2 arrived_cancelled
+arrival_in_a_cancelled_region_never_happens laws = absurd (let ends = laws.same_arrivals.ends.0 refl in cc)
+
+-- it passes one
+pub barrier_of_a_cancelled_region_never_passed : NeverHappens 2 passed_cancelled
+barrier_of_a_cancelled_region_never_passed laws = absurd (let ends = laws.same_arrivals.ends.0 refl in cc)
+
+-- it passes the end of a cancelled region before the other has arrived there
+pub cancelled_region_ended_alone_never_happens : NeverHappens 2 ended_alone
+cancelled_region_ended_alone_never_happens laws = absurd (let there = laws.ends.0 refl 1 (omega arith) in cc)
+
+-- a member arrives at the end of a cancelled region from a loop, and has not seen that it is cancelled
+pub arrival_unseen_never_happens : NeverHappens 2 arrived_unseen
+arrival_unseen_never_happens laws = elim (laws.arrive_outside.0 refl 0 (four false) (inr (inl refl))) [
+  | inl e ↦ absurd (cc)
+  | inr (inl e) ↦ absurd (cc)
+  | inr (inr never) ↦ never
+]
+
+-- a task is started after the region is cancelled
+pub task_started_after_a_cancel_never_happens : NeverHappens 2 started_cancelled
+task_started_after_a_cancel_never_happens laws = absurd (let uncovered = laws.tasks.started_uncovered.0 in cc)
+
+-- one is created after a group is cancelled whose end would wait for it
+pub task_created_after_a_cancel_never_happens : NeverHappens 1 created_cancelled
+task_created_after_a_cancel_never_happens laws = absurd (let uncovered = laws.tasks.created_uncovered.0 in cc)
+
+-- one that runs is discarded
+pub running_task_never_discarded : NeverHappens 2 discarded_running
+running_task_never_discarded laws = laws.tasks.discarded.0.2 0 (inr (inl refl))
+
+-- one is discarded that no cancellation reaches
+pub uncovered_task_never_discarded : NeverHappens 1 discarded_uncovered
+uncovered_task_never_discarded laws = absurd (let covered = laws.tasks.discarded.0.0 in cc)
+
+-- the end of a cancelled region is passed while a task runs
+pub cancelled_region_ended_early_never_happens : NeverHappens 1 ended_with_running_task
+cancelled_region_ended_early_never_happens laws = elim (laws.tasks.region.0 refl 1 (0, Implicit 0, one_job, inr (inr (inr (inl refl))))).1 [
+  | inl (inl e) ↦ absurd (cc)
+  | inl (inr (inl e)) ↦ absurd (cc)
+  | inl (inr (inr (inl e))) ↦ absurd (cc)
+  | inl (inr (inr (inr (inl e)))) ↦ absurd (cc)
+  | inl (inr (inr (inr (inr never)))) ↦ never
+  | inr (inl e) ↦ absurd (cc)
+  | inr (inr (inl e)) ↦ absurd (cc)
+  | inr (inr (inr (inl e))) ↦ absurd (cc)
+  | inr (inr (inr (inr (inl e)))) ↦ absurd (cc)
+  | inr (inr (inr (inr (inr never)))) ↦ never
 ]
 
 -- The team

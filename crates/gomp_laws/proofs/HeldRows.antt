@@ -1,6 +1,6 @@
 -- What the rows of the calls on names and locks share: who holds what, and what such a row has to show.
 use Rattle.std.proofs.Common.{◌≡◌, ℕ, ◌+◌, ◌-◌, ◌<◌, Bool, true, false, List, ◌++◌, Option, Some, None, refl, sym, subst, arith, inl, inr}
-use Rattle.std.specs.Prelude.{◌==◌, ◌&&◌, not, nat_lt, is_some, if◌then◌else◌, slice_get}
+use Rattle.std.specs.Prelude.{◌==◌, ◌&&◌, ◌||◌, not, nat_lt, is_some, if◌then◌else◌, slice_get}
 use Rattle.std.proofs.lemmas.Bool.{cases_Bool}
 use Rattle.gomp_types.specs.declared.event.Event.{Event}
 use Rattle.gomp_types.specs.declared.key.Key.{Key}
@@ -8,11 +8,12 @@ use Rattle.gomp_types.specs.declared.lock.Held.{Held}
 use Rattle.gomp_types.specs.declared.lock.LockKind.{LockKind}
 use Rattle.gomp_types.specs.declared.key.Key.TheVariants.{Critical, Lock, NestLock}
 use Rattle.gomp_types.specs.declared.reply.Reply.{Reply}
-use Rattle.gomp_types.specs.declared.reply.Reply.TheVariants.{Chunk, Finished, Wait, Created, Run, TaskDone, Got, Count, Refused}
+use Rattle.gomp_types.specs.declared.reply.Reply.TheVariants.{Chunk, Finished, Wait, Cancelled, Created, Run, TaskDone, Dropped, Got, Count, Refused}
 use Rattle.gomp_types.specs.declared.task.Owner.{Owner}
 use Rattle.gomp_types.specs.Events.{at_barrier}
 use Rattle.gomp_types.specs.Laws.{Always}
 use Rattle.gomp_types.specs.Tasks.{in_task}
+use Rattle.gomp_types.specs.Cancels.{leaves_region, leaves_share, leaves_task}
 use Rattle.gomp_types.specs.Owners.{same_owner}
 use Rattle.gomp_types.proofs.Booleans.{is_equal, same_number}
 use Rattle.gomp_types.proofs.LeastTests.{AllFail}
@@ -164,6 +165,7 @@ abbrev pub held_row : Key → Row → Row
 held_row key row = record plain_row {
   by_team = row.by_team;
   missing = row.missing;
+  lets_leave = row.lets_leave;
   memory = row.memory;
   asks_book = true;
   holds = Some key;
@@ -172,12 +174,14 @@ held_row key row = record plain_row {
   locks = row.locks;
 }
 
--- what the book answers is neither a chunk nor a refusal, and nothing on tasks
+-- what the book answers is neither a chunk nor a refusal, and nothing on tasks or a cancelled region
 abbrev pub IsBookReply : Reply → Type 0
 IsBookReply (Chunk first count) = ⊥
 IsBookReply (Created task) = ⊥
 IsBookReply (Run task code arg own) = ⊥
 IsBookReply (TaskDone task waiting) = ⊥
+IsBookReply Cancelled = ⊥
+IsBookReply Dropped = ⊥
 IsBookReply (Refused refusal) = ⊥
 IsBookReply _ = Unit {0}
 
@@ -198,6 +202,16 @@ asked_first row repeated m p by_book never ready =
       | inr e ↦ ready.team e
     ]
 
+-- a member that makes or repeats a call which lets no member that leaves make it does not leave the region
+pub leaves_none : (region share task lets : Bool) → (((region || share) || task) && not lets) ≡ false → lets ≡ false → region ≡ false
+leaves_none true share task true e bound = absurd (cc)
+leaves_none true share task false e bound = absurd (cc)
+leaves_none false share task lets e bound = refl
+
+pub held_inside : (row : Row) (repeated : Bool) (m : ℕ) (p : Past) (key : Key) → Ready row repeated m p → row.holds ≡ Some key → row.lets_leave m p.events ≡ false → leaves_region m p.events ≡ false
+held_inside row true m p key ready holds bound = ((ready.lasting refl).1 key holds).1
+held_inside row false m p key ready holds bound = leaves_none (leaves_region m p.events) (leaves_share m p.events) (leaves_task m p.events) (row.lets_leave m p.events) (ready.leaving refl).0 bound
+
 -- what is to be shown of such a row
 pub record IsHeldRow (key : Key) (row : Row) : Type 0 where
   pub decided : (m : ℕ) (p : Past) (a b : Reply) → row.may_reply m p a → row.may_reply m p b → a ≡ b
@@ -207,6 +221,8 @@ pub record IsHeldRow (key : Key) (row : Row) : Type 0 where
   pub keep : (repeated : Bool) (m : ℕ) (p : Past) (reply : Reply) → Ready (held_row key row) repeated m p → row.may_reply m p reply → Always (TeamRule p.terms.members) p.events → Always (TeamRule p.terms.members) (row.gives m p reply ++ p.events)
   -- the task waits for what it does not hold
   pub apart : (repeated : Bool) (m : ℕ) (p : Past) → Ready (held_row key row) repeated m p → row.may_reply m p Wait → held_by (asker m p.events) (holder key p.events) ≡ false
+  -- and its member does not leave the region
+  pub bound : (m : ℕ) (p : Past) → row.may_reply m p Wait → row.lets_leave m p.events ≡ false
   pub waits_for : (m : ℕ) (p : Past) → row.may_reply m p Wait → (held : Held) × (holder key p.events ≡ Some held)
   pub tells_count : (repeated : Bool) (m count : ℕ) (p : Past) → Ready (held_row key row) repeated m p → row.may_reply m p (Count count) → count ≡ count_for (asker m p.events) (holder key (row.gives m p (Count count) ++ p.events))
   pub no_memory : (m : ℕ) (p : Past) → (memoryless (row.by_team m p) ≡ true) × (memoryless (row.missing m p) ≡ true)
@@ -225,6 +241,7 @@ held_row_sound key row is = record {
   begins_keep = λ m p ready all. all;
   gives_keep = λ repeated m p reply ready may all. is.keep repeated m p reply ready may all;
   still = λ stays m p. absurd (cc);
+  placed = λ stays m h. refl;
   outside = λ arrives m p fail. absurd (cc);
   tells = λ arrives m p reply may. absurd (cc);
   one_pass = λ arrives m p. absurd (cc);
@@ -232,7 +249,10 @@ held_row_sound key row is = record {
   waits_quietly = λ arrives m p. absurd (cc);
   lasts = λ repeated m p ready all may. (
     λ asks. absurd (cc),
-    λ other same. subst (λ (k : Key). held_by (asker m p.events) (holder k p.events) ≡ false) (same_some key other same) (is.apart repeated m p ready may),
+    λ other same. (
+      subst (λ (k : Key). held_by (asker m p.events) (holder k p.events) ≡ false) (same_some key other same) (is.apart repeated m p ready may),
+      held_inside (held_row key row) repeated m p key ready refl (is.bound m p may),
+    ),
     (p, Wait, refl, may),
   );
   waits_for = λ other m p at may. subst (λ (k : Key). (held : Held) × (holder k p.events ≡ Some held)) (same_some key other at) (is.waits_for m p may);
@@ -241,6 +261,9 @@ held_row_sound key row is = record {
   runs = λ m p task code arg own may. absurd (is.by_book m p (Run task code arg own) may);
   ends = λ m p task waiting may. absurd (is.by_book m p (TaskDone task waiting) may);
   created = λ repeated m p task ready may. absurd (is.by_book m p (Created task) may);
+  cancelled = λ m p may. absurd (is.by_book m p Cancelled may);
+  dropped = λ repeated m p ready all may. absurd (is.by_book m p Dropped may);
+  allowed = λ cancels m p. absurd (cc);
   no_memory = λ m p. let none = is.no_memory m p in (refl, refl, none.0, none.1, λ repeated. refl);
   words_keep = λ puts repeated m p reply ready may all. absurd (cc);
 }

@@ -46,7 +46,7 @@ waits_for_another p step Wait may known = λ key is.
     let found = sound.waits_for key step.member (begun_past repeated row step.member p) is may.1 in
     let before = since_keeps row sound repeated step.member p (λ now. holder key now ≡ holder key p.events) (holder_stays (gives_of row) step.member key p.events) refl in
     let held : holder key p.events ≡ Some found.0 = sym before ∙ found.1 in
-    let apart = (sound.lasts repeated step.member p (unrefused_step_is_ready p step may.0 known) known.rule may.1).1 key is in (
+    let apart = ((sound.lasts repeated step.member p (unrefused_step_is_ready p step may.0 known) known.rule may.1).1 key is).0 in (
       found.0.owner,
       holds_left_of_holder key found.0 p.events (hold_rules p.terms.members p.events known.rule) held,
       ap (held_by (asker step.member p.events)) (sym held) ∙ apart,

@@ -1,20 +1,18 @@
--- Nothing happens in a team that is broken, nor does a member do anything once it has passed the region's end.
+-- If each reply has its cause, nothing happens in a team that is broken, nor does a member do anything once it has passed the region's end.
 use Rattle.std.proofs.Common.{◌≡◌, ℕ, ◌<◌, ◌≤◌, arith, Bool, true, false, List, [], ◌∷◌, ◌++◌, Option, Some, None, refl, inl, inr}
 use Rattle.std.specs.Prelude.{nat_le, ◌⊎◌}
 use Rattle.gomp_types.specs.declared.call.Step.{Step}
 use Rattle.gomp_types.specs.declared.refusal.Clash.{Clash}
-use Rattle.gomp_types.specs.declared.refusal.Place.{Place}
 use Rattle.gomp_types.specs.declared.refusal.Refusal.TheVariants.{BadMember, Ended, Broken, Mismatch}
 use Rattle.gomp_types.specs.declared.refusal.Refusal.{Refusal}
 use Rattle.gomp_types.specs.RefusalTexts.{number_of}
 use Rattle.gomp_types.specs.declared.reply.Reply.{Reply}
 use Rattle.gomp_types.specs.declared.reply.Reply.TheVariants.{Refused}
 use Rattle.gomp_types.specs.declared.event.Event.{Event}
-use Rattle.gomp_types.specs.declared.event.Event.TheVariants.{Arrive, Put, Pass, Create, Hold, Free, Start, Done, Break}
+use Rattle.gomp_types.specs.declared.event.Event.TheVariants.{Arrive, Put, Pass, Create, Hold, Free, Start, Done, Cancel, Discard, See, Break}
 use Rattle.gomp_types.specs.Tests.{Test}
-use Rattle.gomp_types.specs.Events.{member_of, has_left_region, clash_of}
-use Rattle.gomp_types.specs.Laws.{Always, Happened}
-use Rattle.gomp_laws.specs.Laws.{HappensUnbroken, HappensInside}
+use Rattle.gomp_types.specs.Events.{has_left_region, clash_of}
+use Rattle.gomp_types.specs.Laws.{Always}
 use Rattle.gomp_types.specs.Least.{lesser, least}
 use Rattle.gomp_model.specs.Past.{Terms, Past}
 use Rattle.gomp_model.specs.Row.{begun_past, row_tests}
@@ -23,10 +21,7 @@ use Rattle.gomp_laws.proofs.Sound.{IsLast, AreGiven, gives_of, Gives}
 use Rattle.gomp_laws.proofs.CallsKeep.{OwnKeeps, own_keeps, since_keeps}
 use Rattle.gomp_types.proofs.LeastTests.{some_stays, lesser_low}
 use Rattle.gomp_laws.proofs.Calls.{row_is_sound}
-
--- an event in a team that is not broken, of a member that is in the region
-abbrev pub InTime : Event → List Event → Type 0
-InTime event earlier = (clash_of earlier ≡ None) × (has_left_region (member_of event) earlier ≡ false)
+use Rattle.gomp_laws.proofs.Unbroken.{InTime}
 
 -- the events of a call, so far
 abbrev SoFar : ℕ → List Event → Type 0
@@ -42,6 +37,9 @@ stays_so_far can m (Break n place) h own so = absurd own
 stays_so_far can m (Arrive barrier n tag) h own so = (so.0, so.1, ((so.0, rw own.0 so.1), so.2))
 stays_so_far can m (Create task n parent desc) h own so = (so.0, so.1, ((so.0, rw own.0 so.1), so.2))
 stays_so_far can m (Put share n payload) h own so = (so.0, so.1, ((so.0, rw own.0 so.1), so.2))
+stays_so_far can m (Cancel n scope) h own so = (so.0, so.1, ((so.0, rw own.0 so.1), so.2))
+stays_so_far can m (Discard task n) h own so = (so.0, so.1, ((so.0, rw own.0 so.1), so.2))
+stays_so_far can m (See n kind) h own so = (so.0, so.1, ((so.0, rw own.0 so.1), so.2))
 stays_so_far can m _ h own so = (so.0, so.1, ((so.0, rw own so.1), so.2))
 
 last_in_time : (can : Gives) (m : ℕ) (reply : Reply) (event : Event) (h : List Event) → IsLast can m reply event → SoFar m h → InTime event h
@@ -54,6 +52,9 @@ last_in_time can m reply (Break n place) h own so = (so.0, rw own.0 so.1)
 last_in_time can m reply (Arrive barrier n tag) h own so = (so.0, rw own.0 so.1)
 last_in_time can m reply (Create task n parent desc) h own so = (so.0, rw own.0 so.1)
 last_in_time can m reply (Put share n payload) h own so = (so.0, rw own.0 so.1)
+last_in_time can m reply (Cancel n scope) h own so = (so.0, rw own.0 so.1)
+last_in_time can m reply (Discard task n) h own so = (so.0, rw own.0 so.1)
+last_in_time can m reply (See n kind) h own so = (so.0, rw own.0 so.1)
 last_in_time can m reply _ h own so = (so.0, rw own so.1)
 
 given_in_time : (can : Gives) (m : ℕ) (reply : Reply) (events h : List Event) → AreGiven can m reply events → SoFar m h → Always InTime (events ++ h)
@@ -98,16 +99,3 @@ answer_in_time p step reply may all =
 pub in_time_holds : (terms : Terms) (run : Record) → Caused terms run → Always InTime (events terms run)
 in_time_holds terms [] caused = tt
 in_time_holds terms (pair ∷ earlier) caused = answer_in_time (past_of terms earlier) pair.0 pair.1 caused.0 (in_time_holds terms earlier caused.1)
-
--- So nothing happens after a break, nor does a member do anything after the region's end
-never_broken : (m : ℕ) (place : Place) (h : List Event) → clash_of h ≡ None → Happened (Break m place) h → ⊥
-never_broken m place [] none broke = broke
-never_broken m place (Break n other ∷ earlier) none broke = absurd (cc)
-never_broken m place (_ ∷ earlier) none (inl e) = absurd (cc)
-never_broken m place (_ ∷ earlier) none (inr broke) = never_broken m place earlier none broke
-
-pub unbroken_holds : (event : Event) (earlier : List Event) → InTime event earlier → Always InTime earlier → HappensUnbroken event earlier
-unbroken_holds event earlier rule all = λ m place broke. never_broken m place earlier rule.0 broke
-
-pub inside_holds : (event : Event) (earlier : List Event) → InTime event earlier → Always InTime earlier → HappensInside event earlier
-inside_holds event earlier rule all = rule.1

@@ -10,7 +10,7 @@ use Rattle.gomp_types.specs.declared.limits.Limits.{Limits}
 use Rattle.gomp_types.specs.declared.refusal.Clash.{Clash}
 use Rattle.gomp_types.specs.declared.refusal.Refusal.TheVariants.{Mismatch}
 use Rattle.gomp_types.specs.declared.reply.Reply.{Reply}
-use Rattle.gomp_types.specs.declared.reply.Reply.TheVariants.{Passed, Wait, Run, TaskDone, Refused}
+use Rattle.gomp_types.specs.declared.reply.Reply.TheVariants.{Passed, Cancelled, Wait, Run, TaskDone, Refused}
 use Rattle.gomp_types.specs.declared.event.Event.{Event}
 use Rattle.gomp_types.specs.declared.event.Event.TheVariants.{Arrive, Put, Pass, Start, Done, Break}
 use Rattle.gomp_types.specs.declared.task.Task.TheVariants.{Explicit}
@@ -19,20 +19,23 @@ use Rattle.gomp_types.specs.Laws.{Always}
 use Rattle.gomp_types.specs.Tasks.{innermost_task, task_stack, executed_task, in_task, after_first, is_undeferred}
 use Rattle.gomp_laws.specs.Rules.{TeamRule}
 use Rattle.gomp_types.specs.Seen.{seen_of}
-use Rattle.gomp_types.proofs.Booleans.{is_equal, same_number, and_left, and_right, false_of_not}
+use Rattle.gomp_types.specs.Cancels.{leaves_region}
+use Rattle.gomp_types.specs.Tests.{Test}
+use Rattle.gomp_types.proofs.Booleans.{is_equal, same_number, and_left, and_right, false_of_not, not_both}
 use Rattle.gomp_types.proofs.LeastTests.{AllFail, all_fail, fail_first, fail_later}
 use Rattle.gomp_laws.proofs.WordsToCome.{WordsToCome, PutsNone, still_to_come}
 use Rattle.gomp_locks.proofs.NamesKeep.{no_task_outside}
 use Rattle.gomp_model.specs.Past.{Terms, Past}
-use Rattle.gomp_model.specs.Row.{Row, unless_repeated, begun_past, place_tests, board_tests, book_tests, row_tests, events_after, goes_on}
-use Rattle.gomp_types.specs.TaskCalls.{room_tests}
+use Rattle.gomp_model.specs.Row.{Row, unless_repeated, begun_past, drain_tests, place_tests, asked_tests, board_tests, book_tests, leaving_tests, row_tests, events_after, goes_on}
+use Rattle.gomp_types.specs.TaskCalls.{unless_given_up}
 use Rattle.gomp_model.specs.Calls.{stop_row, row_of}
 use Rattle.gomp_model.specs.Team.{Record, call_meant, is_resume, row_at, broken_tests, member_tests, wait_tests, refusal_of, MayAnswer, waits_after, past_after, before_all, past_of, events, Caused}
 use Rattle.gomp_laws.proofs.Sound.{is_run, is_end, shows, Lasts, HasCreated, acts_away, Ready, outside_of_tasks, IsSound, Gives, gives_of, IsLast}
 use Rattle.gomp_laws.proofs.CallsKeep.{step_keeps}
+use Rattle.gomp_laws.proofs.Awaits.{once_again}
 use Rattle.gomp_laws.proofs.Calls.{row_is_sound, call_has_created}
 use Rattle.gomp_laws.proofs.CoversKeep.{covers_other, created_other, covers_begun, covers_own, quiet_covers, covers_started, covers_ended}
-use Rattle.gomp_laws.proofs.Places.{seen_other, SameBarriers, barriers_other, barriers_own, was_whole, stack_own, stack_begun, lasts_other, lasts_own}
+use Rattle.gomp_laws.proofs.Places.{seen_other, SameBarriers, barriers_other, barriers_own, was_whole, leaves_other, was_staying, stack_own, stack_begun, lasts_other, lasts_own}
 use Rattle.gomp_laws.proofs.Waiting.{Pending, WaitLasts, WaitCreated, IsMadeIn, Covers, has_arrived, some_arrived, IsAway, Fresh, WaitKnown, neither_holds, covers_none, none_arrived, pending_same, lasts_at_break, created_at_break, started_stack, ended_stack, wait_opens_again, ended_undeferred_covers}
 
 -- the rule holds, what the calls that wait rely on does, and words are still to come
@@ -78,7 +81,7 @@ away_meant _ None fail acts = refl
 away_meant _ (Some other) fail acts = absurd (let shut = fail.0 in cc)
 
 -- a call that is answered while a wait is open repeats it, or stops the team
-repeats_or_stops : (call : Call) (waiting : Option Call) → AllFail (wait_tests call waiting) → is_some (row_of (call_meant call waiting)).arrives ≡ false → (call ≡ Stop) ⊎ (has_arrived waiting ≡ false)
+pub repeats_or_stops : (call : Call) (waiting : Option Call) → AllFail (wait_tests call waiting) → is_some (row_of (call_meant call waiting)).arrives ≡ false → (call ≡ Stop) ⊎ (has_arrived waiting ≡ false)
 repeats_or_stops Stop waiting fail silent = inl refl
 repeats_or_stops Resume None fail silent = inr refl
 repeats_or_stops Resume (Some call) fail silent = inr silent
@@ -91,22 +94,33 @@ stays_shown false e = absurd (cc)
 
 -- the parts of the tests of a call that is made
 record MadePasses (row : Row) (m : ℕ) (p : Past) : Type 0 where
-  place : AllFail (row.by_place p.terms.limits (seen_of m p.events))
+  leaving : AllFail (leaving_tests false row m p)
+  place : row.gives_up m p.events ≡ false → AllFail (row.by_place p.terms.limits (seen_of m p.events))
+  drained : AllFail (drain_tests row.drains m p.events)
   compared : AllFail (row.compared false m p)
   task : AllFail (row.by_task m p)
   team : AllFail (row.by_team m p)
   missing : AllFail (row.missing m p)
 
+unless_given : (gives_up : Bool) (tests : List Test) → AllFail (unless_given_up gives_up tests) → gives_up ≡ false → AllFail tests
+unless_given true tests fail stays = absurd (cc)
+unless_given false tests fail stays = fail
+
 made_passes : (row : Row) (m : ℕ) (p : Past) → AllFail (row_tests false row m p) → MadePasses row m p
 made_passes row m p fail =
-    let place = row.by_place p.terms.limits (seen_of m p.events) in
-    let room = room_tests p.terms.limits p.room row.room in
-    let there = fail_first (place_tests false row m p) (board_tests false row m p ++ book_tests false row m p) fail in
-    let rest = fail_later (place_tests false row m p) (board_tests false row m p ++ book_tests false row m p) fail in
+    let by_place = row.by_place p.terms.limits (seen_of m p.events) in
+    let place = unless_given_up (row.gives_up m p.events) by_place in
+    let drained = drain_tests row.drains m p.events in
+    let asked = asked_tests (row.drops m p) row p in
+    let there = fail_first (place_tests false row m p) (board_tests false row m p ++ book_tests false row m p) fail.1 in
+    let rest = fail_later (place_tests false row m p) (board_tests false row m p ++ book_tests false row m p) fail.1 in
+    let behind = fail_later place (drained ++ row.compared false m p) there in
     let book = fail_later (board_tests false row m p) (book_tests false row m p) rest in record {
-      place = fail_first place (row.compared false m p) there;
-      compared = fail_later place (row.compared false m p) there;
-      task = fail_first (row.by_task m p) room (fail_first (board_tests false row m p) (book_tests false row m p) rest);
+      leaving = (fail.0, tt);
+      place = unless_given (row.gives_up m p.events) by_place (fail_first place (drained ++ row.compared false m p) there);
+      drained = fail_first drained (row.compared false m p) behind;
+      compared = fail_later drained (row.compared false m p) behind;
+      task = fail_first (row.by_task m p) asked (fail_first (board_tests false row m p) (book_tests false row m p) rest);
       team = fail_first (row.by_team m p) (row.missing m p) book;
       missing = fail_later (row.by_team m p) (row.missing m p) book;
     }
@@ -116,13 +130,15 @@ record WaitShows (row : Row) (repeated : Bool) (m : ℕ) (p : Past) : Type 0 whe
   pending : repeated ≡ true → row.stays ≡ true → AllFail (row.by_place p.terms.limits (seen_of m p.events))
   lasting : repeated ≡ true → Lasts row m p.events
   made : repeated ≡ true → HasCreated row (executed_task m p.events) p.events
-  first : repeated ≡ false → is_some row.arrives ≡ true → in_task m p.events ≡ false → arrival (barriers_passed m p.events) m p.events ≡ None
-  away : acts_away row ≡ true → in_task m p.events ≡ false → at_barrier m p.events ≡ false
+  first : repeated ≡ false → is_some row.arrives ≡ true → leaves_region m p.events ≡ false → in_task m p.events ≡ false → arrival (barriers_passed m p.events) m p.events ≡ None
+  away : acts_away row ≡ true → leaves_region m p.events ≡ false → in_task m p.events ≡ false → at_barrier m p.events ≡ false
 
 ready_by : (row : Row) → IsSound row → (repeated : Bool) (m : ℕ) (p : Past) → m < p.terms.members → AllFail (row_tests repeated row m p) → WaitShows row repeated m p → WordsToCome p.events → Ready row repeated m p
 ready_by row sound true m p lt fail waits words = record {
   member = lt;
-  place = λ shown. waits.pending refl (stays_shown row.stays shown);
+  leaving = λ e. absurd (cc);
+  place = λ shown given. waits.pending refl (stays_shown row.stays shown);
+  drained = λ e. absurd (cc);
   task = λ e. absurd (cc);
   team = λ e. absurd (cc);
   missing = fail_later (row.compared true m p) (row.missing m p) fail;
@@ -136,14 +152,16 @@ ready_by row sound true m p lt fail waits words = record {
 ready_by row sound false m p lt fail waits words =
     let made = made_passes row m p fail in record {
       member = lt;
+      leaving = λ e. made.leaving;
       place = λ shown. made.place;
+      drained = λ e. made.drained;
       task = λ e. made.task;
       team = λ e. made.team;
       missing = made.missing;
       lasting = λ e. absurd (cc);
       made = λ e. absurd (cc);
       compared = made.compared;
-      first = λ e arrives. waits.first refl arrives (sound.outside arrives m p made.task);
+      first = λ e arrives stays. waits.first refl arrives stays (sound.outside arrives m p made.task);
       away = waits.away;
       words = words;
     }
@@ -170,9 +188,9 @@ unrefused_step_passes p step fine =
     let later = fail_later first (wait ++ row) all in
     record { member = fail_first first (wait ++ row) all; wait = fail_first wait row later; row = fail_later wait row later }
 
--- a member in its implicit task none of whose calls has arrived waits at no barrier
-away_outside : (m : ℕ) (p : Past) → clash_of p.events ≡ None → Known p → has_arrived (p.waits m).open_call ≡ false → in_task m p.events ≡ false → IsAway m p.events
-away_outside m p whole known quiet outside = (known.each m).fresh whole quiet (none_arrived (p.waits m).beneath (none_beneath m p known outside))
+-- a member in its implicit task none of whose calls has arrived waits at no barrier, unless it leaves the region
+away_outside : (m : ℕ) (p : Past) → clash_of p.events ≡ None → Known p → leaves_region m p.events ≡ false → has_arrived (p.waits m).open_call ≡ false → in_task m p.events ≡ false → IsAway m p.events
+away_outside m p whole known stays quiet outside = (known.each m).fresh whole stays quiet (none_arrived (p.waits m).beneath (none_beneath m p known outside))
 
 -- so the call is ready
 pub unrefused_step_is_ready : (p : Past) (step : Step) → refusal_of p step ≡ None → Known p → Ready (row_at p step) (is_resume step.call) step.member p
@@ -186,16 +204,12 @@ unrefused_step_is_ready p step fine known =
       pending = λ repeated. pending_meant p.terms.limits step.member step.call waiting p.events repeated old.pending;
       lasting = λ repeated. lasting_meant step.member step.call waiting p repeated all.row old.lasting;
       made = λ repeated. made_meant step.member step.call waiting p repeated old.created;
-      first = λ once arrives outside. (away_outside step.member p whole known (first_meant step.call waiting once all.wait arrives) outside).0;
-      away = λ acts outside. (away_outside step.member p whole known (away_meant step.call waiting all.wait acts) outside).1;
+      first = λ once arrives stays outside. (away_outside step.member p whole known stays (first_meant step.call waiting once all.wait arrives) outside).0;
+      away = λ acts stays outside. (away_outside step.member p whole known stays (away_meant step.call waiting all.wait acts) outside).1;
     })
     known.words
 
 -- The rule
-
-once_again : (events : List Event) → unless_repeated events true ≡ []
-once_again [] = refl
-once_again (event ∷ events) = refl
 
 once_first : (events : List Event) → unless_repeated events false ≡ events
 once_first [] = refl
@@ -226,7 +240,7 @@ shown_first row repeated e = rw e refl
 -- of a call that is to wait
 pending_waiting : (row : Row) → IsSound row → (repeated : Bool) (m : ℕ) (p : Past) → Ready row repeated m p → row.stays ≡ true → AllFail (row.by_place p.terms.limits (seen_of m (events_after repeated row m p Wait)))
 pending_waiting row sound repeated m p ready stays =
-    subst (λ (h : List Event). AllFail (row.by_place p.terms.limits (seen_of m h))) (sym (still_there row sound stays repeated m p)) (ready.place (shown_first row repeated stays))
+    subst (λ (h : List Event). AllFail (row.by_place p.terms.limits (seen_of m h))) (sym (still_there row sound stays repeated m p)) (ready.place (shown_first row repeated stays) (sound.placed stays m p.events))
 
 wait_lasts_other : (row : Row) → IsSound row → (repeated : Bool) (members k m : ℕ) (p : Past) (reply : Reply) (waiting : Option Call) → (m == k) ≡ false → Always (TeamRule members) (events_after repeated row m p reply) → WaitLasts k waiting p.events →
     WaitLasts k waiting (events_after repeated row m p reply)
@@ -261,7 +275,7 @@ stays_away m h now same away = (rw same.number (same.arrivals (barriers_passed m
 stop_breaks : (repeated : Bool) (m : ℕ) (p : Past) (reply : Reply) → stop_row.may_reply m (begun_past repeated stop_row m p) reply → clash_of (events_after repeated stop_row m p reply) ≡ None → ⊥
 stop_breaks repeated m p reply may whole = let broken = (rw may at whole) in cc
 
-never_stopped : (p : Past) (call : Call) (waiting : Option Call) (m : ℕ) (reply : Reply) → call ≡ Stop → (row_of (call_meant call waiting)).may_reply m (begun_past (is_resume call) (row_of (call_meant call waiting)) m p) reply →
+pub never_stopped : (p : Past) (call : Call) (waiting : Option Call) (m : ℕ) (reply : Reply) → call ≡ Stop → (row_of (call_meant call waiting)).may_reply m (begun_past (is_resume call) (row_of (call_meant call waiting)) m p) reply →
     clash_of (events_after (is_resume call) (row_of (call_meant call waiting)) m p reply) ≡ None → ⊥
 never_stopped p call waiting m reply stop =
     subst (λ (c : Call). (row_of (call_meant c waiting)).may_reply m (begun_past (is_resume c) (row_of (call_meant c waiting)) m p) reply → clash_of (events_after (is_resume c) (row_of (call_meant c waiting)) m p reply) ≡ None → ⊥)
@@ -269,15 +283,15 @@ never_stopped p call waiting m reply stop =
 
 -- a member that waited at no barrier does so after a call that does not arrive
 not_there : (p : Past) (step : Step) (reply : Reply) → refusal_of p step ≡ None → (row_at p step).may_reply step.member (begun_past (is_resume step.call) (row_at p step) step.member p) reply → Known p → is_some (row_at p step).arrives ≡ false →
-    some_arrived (p.waits step.member).beneath ≡ false → clash_of (past_after p step reply).events ≡ None → IsAway step.member (past_after p step reply).events
-not_there p step reply fine may known silent under whole =
+    some_arrived (p.waits step.member).beneath ≡ false → clash_of (past_after p step reply).events ≡ None → leaves_region step.member (past_after p step reply).events ≡ false → IsAway step.member (past_after p step reply).events
+not_there p step reply fine may known silent under whole stays =
     let row = row_at p step in
     let waiting = (p.waits step.member).open_call in
     let s = row_is_sound (call_meant step.call waiting) in
     elim (repeats_or_stops step.call waiting (unrefused_step_passes p step fine).wait silent) [
       | inl stop ↦ absurd (never_stopped p step.call waiting step.member reply stop may whole)
       | inr quiet ↦ stays_away step.member p.events (past_after p step reply).events (barriers_own row s (is_resume step.call) step.member p reply silent)
-          ((known.each step.member).fresh (was_whole row s (is_resume step.call) step.member p reply whole) quiet under)
+          ((known.each step.member).fresh (was_whole row s (is_resume step.call) step.member p reply whole) (was_staying row s (is_resume step.call) step.member p reply stays) quiet under)
     ]
 
 passes_one : (same : Bool) → same ≡ true → (n : ℕ) → (if same then n + 1 else n) ≡ n + 1
@@ -295,13 +309,24 @@ passed_there p step fine known arrives =
     let one = (row_is_sound (call_meant step.call (p.waits step.member).open_call)).one_pass arrives step.member q in
     rw one (pass_moves_on p.terms.members step.member q.events (begun_rule p step fine known))
 
--- a call that arrives is answered by no other reply
+-- a member that is told that the region is cancelled leaves it
+cut_leaves : (p : Past) (step : Step) → (row_at p step).may_reply step.member (begun_past (is_resume step.call) (row_at p step) step.member p) Cancelled → leaves_region step.member (past_after p step Cancelled).events ≡ true
+cut_leaves p step may =
+    let q = begun_past (is_resume step.call) (row_at p step) step.member p in
+    rw ((row_is_sound (call_meant step.call (p.waits step.member).open_call)).cancelled step.member q may).1 (rw (same_number step.member) refl)
+
+-- a call that arrives is answered by no other reply, if its member does not leave the region then
 never_so : (p : Past) (step : Step) (reply : Reply) {P : Type 0} → is_some (row_at p step).arrives ≡ true → (row_at p step).may_reply step.member (begun_past (is_resume step.call) (row_at p step) step.member p) reply →
-    (reply ≡ Passed → ⊥) → goes_on reply ≡ false → P
-never_so p step reply arrives may passes waits =
-    elim ((row_is_sound (call_meant step.call (p.waits step.member).open_call)).tells arrives step.member (begun_past (is_resume step.call) (row_at p step) step.member p) reply may) [
+    leaves_region step.member (past_after p step reply).events ≡ false → (reply ≡ Passed → ⊥) → goes_on reply ≡ false → P
+never_so p step reply arrives may stays passes waits =
+    let q = begun_past (is_resume step.call) (row_at p step) step.member p in
+    elim ((row_is_sound (call_meant step.call (p.waits step.member).open_call)).tells arrives step.member q reply may) [
       | inl e ↦ absurd (passes e)
-      | inr e ↦ absurd (let both = sym e ∙ waits in cc)
+      | inr (inl e) ↦ absurd (let both = sym e ∙ waits in cc)
+      | inr (inr e) ↦
+          let cut = cut_leaves p step (subst (λ (r : Reply). (row_at p step).may_reply step.member q r) e may) in
+          let off : leaves_region step.member (past_after p step Cancelled).events ≡ false = subst (λ (r : Reply). leaves_region step.member (past_after p step r).events ≡ false) e stays in
+          absurd (not_both (leaves_region step.member (past_after p step Cancelled).events) cut off)
     ]
 
 -- Tasks
@@ -381,7 +406,7 @@ known_at_wait p step may known rule =
       created = subst (λ (tasks : List ℕ). HasCreated row (innermost_task m tasks) now) (sym (stack_own row s repeated m p Wait refl refl)) (call_has_created call repeated m p Wait ready may.1 refl);
       covers = covers_own row s repeated p.terms.members m p Wait (p.waits m).beneath refl refl rule (known.each m).covers;
       beneath = (known.each m).beneath;
-      fresh = λ whole quiet under. not_there p step Wait may.0 may.1 known quiet under whole;
+      fresh = λ whole stays quiet under. not_there p step Wait may.0 may.1 known quiet under whole stays;
     }
 
 -- if it executes a task
@@ -420,9 +445,9 @@ known_at_run p step task code arg may known rule =
         },
         (known.each m).beneath,
       );
-      fresh = λ whole quiet under.
+      fresh = λ whole stays quiet under.
           let none = neither_holds (is_some row.arrives) (some_arrived (p.waits m).beneath) under in
-          not_there p step (Run task code arg false) may.0 may.1 known none.0 none.1 whole;
+          not_there p step (Run task code arg false) may.0 may.1 known none.0 none.1 whole stays;
     }
 
 -- if that is the call's own, its wait is closed, and nothing lies beneath the task
@@ -444,7 +469,7 @@ known_at_own p step task code arg may known rule =
       created = tt;
       covers = subst (λ (h : List Event). Covers m (p.waits m).beneath (task_stack m h) h) (sym given) (covers_without p.terms.members m task q.events (p.waits m).beneath rules run.2 old);
       beneath = (known.each m).beneath;
-      fresh = λ whole quiet under. not_there p step (Run task code arg true) may.0 may.1 known (run.6 refl).0 under whole;
+      fresh = λ whole stays quiet under. not_there p step (Run task code arg true) may.0 may.1 known (run.6 refl).0 under whole stays;
     }
 
 -- if it has ended one
@@ -490,7 +515,7 @@ known_at_end p step task may known rule =
     let now = (past_after p step (TaskDone task true)).events in
     wait_opens_again p.terms.limits m task now (p.waits m).beneath (task_stack m p.events) (ended_task row s repeated m p task true may.1)
     (not_undeferred (is_undeferred task now) (told_at_end p step task true may)) (covered_at_end p step task true may known rule) (known.each m).beneath (end_stack row s repeated m p task true may.1)
-    (λ whole under. not_there p step (TaskDone task true) may.0 may.1 known (s.ends m (begun_past repeated row m p) task true may.1).0 under whole)
+    (λ whole stays under. not_there p step (TaskDone task true) may.0 may.1 known (s.ends m (begun_past repeated row m p) task true may.1).0 under whole stays)
 
 -- and if that was undeferred, no wait opens again
 known_at_own_end : (p : Past) (step : Step) (task : ℕ) → MayAnswer p step (TaskDone task false) → Known p → Always (TeamRule p.terms.members) (past_after p step (TaskDone task false)).events →
@@ -508,7 +533,7 @@ known_at_own_end p step task may known rule =
       covers = subst (λ (tasks : List ℕ). Covers m calls tasks now) (sym (end_stack row s repeated m p task false may.1))
           (ended_undeferred_covers m task now calls (task_stack m p.events) (ended_task row s repeated m p task false may.1) (is_held (is_undeferred task now) (told_at_end p step task false may)) (covered_at_end p step task false may known rule));
       beneath = (known.each m).beneath;
-      fresh = λ whole quiet under. not_there p step (TaskDone task false) may.0 may.1 known (s.ends m (begun_past repeated row m p) task false may.1).0 under whole;
+      fresh = λ whole stays quiet under. not_there p step (TaskDone task false) may.0 may.1 known (s.ends m (begun_past repeated row m p) task false may.1).0 under whole stays;
     }
 
 answer_known : (p : Past) (step : Step) (reply : Reply) → MayAnswer p step reply → Known p → Always (TeamRule p.terms.members) (past_after p step reply).events →
@@ -521,7 +546,7 @@ answer_known p step (Refused Mismatch) may known rule =
       created = created_at_break step.member step.member place (p.waits step.member).open_call p.events old.created;
       covers = quiet_covers p.terms.members step.member (Break step.member place) p.events (p.waits step.member).beneath rule (λ task. tt) old.covers;
       beneath = old.beneath;
-      fresh = λ whole quiet under. absurd (cc);
+      fresh = λ whole stays quiet under. absurd (cc);
     }
 answer_known p step (Refused _) may known rule = known.each step.member
 answer_known p step Wait may known rule = known_at_wait p step may known rule
@@ -530,16 +555,16 @@ answer_known p step (Run task code arg true) may known rule = known_at_own p ste
 answer_known p step (TaskDone task true) may known rule = known_at_end p step task may known rule
 answer_known p step (TaskDone task false) may known rule = known_at_own_end p step task may known rule
 answer_known p step Passed may known rule =
-    known_when_closed p step Passed refl refl known rule (λ whole quiet under.
+    known_when_closed p step Passed refl refl known rule (λ whole stays quiet under.
     elim (cases_Bool (is_some (row_at p step).arrives)) [
       | inl arrives ↦ passed_there p step may.0 known arrives
-      | inr silent ↦ not_there p step Passed may.0 may.1 known silent under whole
+      | inr silent ↦ not_there p step Passed may.0 may.1 known silent under whole stays
     ])
 answer_known p step reply may known rule =
-    known_when_closed p step reply refl refl known rule (λ whole quiet under.
+    known_when_closed p step reply refl refl known rule (λ whole stays quiet under.
     elim (cases_Bool (is_some (row_at p step).arrives)) [
-      | inl arrives ↦ never_so p step reply arrives may.1 (λ e. cc) refl
-      | inr silent ↦ not_there p step reply may.0 may.1 known silent under whole
+      | inl arrives ↦ never_so p step reply arrives may.1 stays (λ e. cc) refl
+      | inr silent ↦ not_there p step reply may.0 may.1 known silent under whole stays
     ])
 
 -- of another member
@@ -555,7 +580,7 @@ other_known p step reply k e rule known =
       created = created_other row s repeated p.terms.members k step.member p reply (p.waits k).open_call e rule old.created;
       covers = covers_other row s repeated p.terms.members k step.member p reply (p.waits k).beneath e rule old.covers;
       beneath = old.beneath;
-      fresh = λ whole quiet under. stays_away k p.events now (barriers_other row s repeated k step.member p reply e) (old.fresh (was_whole row s repeated step.member p reply whole) quiet under);
+      fresh = λ whole stays quiet under. stays_away k p.events now (barriers_other row s repeated k step.member p reply e) (old.fresh (was_whole row s repeated step.member p reply whole) (sym (leaves_other row s repeated k step.member p reply e) ∙ stays) quiet under);
     }
 
 -- of each
@@ -598,7 +623,7 @@ known_after p step reply may known =
 pub known_first : (terms : Terms) → Known (before_all terms)
 known_first terms = record {
   rule = tt;
-  each = λ k. record { pending = tt; lasting = tt; created = tt; covers = refl; beneath = tt; fresh = λ whole quiet under. (refl, refl) };
+  each = λ k. record { pending = tt; lasting = tt; created = tt; covers = refl; beneath = tt; fresh = λ whole stays quiet under. (refl, refl) };
   words = λ k i shape at single piece. absurd (cc);
 }
 

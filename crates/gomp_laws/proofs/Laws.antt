@@ -12,9 +12,10 @@ use Rattle.gomp_types.specs.declared.refusal.Refusal.{Refusal}
 use Rattle.gomp_types.specs.declared.reply.Reply.{Reply}
 use Rattle.gomp_types.specs.declared.reply.Reply.TheVariants.{Chunk, Refused}
 use Rattle.gomp_laws.specs.Headline.{Headline}
-use Rattle.gomp_laws.specs.Replies.{HoldReplies, TaskReplies}
+use Rattle.gomp_laws.specs.Replies.{HoldReplies, TaskReplies, CancelReplies}
 use Rattle.gomp_model.specs.Past.{Terms, Past}
 use Rattle.gomp_model.specs.Team.{Record, refusal_of, MayAnswer, past_of, events, Caused, OneReply, SomeReply}
+use Rattle.gomp_laws.proofs.CancelReplies.{cancel_replies}
 use Rattle.gomp_laws.proofs.ChunksCount.{chunks_have}
 use Rattle.gomp_laws.proofs.Headline.{headline_of}
 use Rattle.gomp_laws.proofs.HoldReplies.{hold_replies}
@@ -35,7 +36,10 @@ use Rattle.gomp_laws.proofs.TaskReplies.{task_replies}
 -- by its creator alone; a member that waits starts only a descendant of all tasks that it has started and not ended; a
 -- taskwait goes on when the children of its task are done, the end of a group when the tasks of the group are,
 -- and a barrier is passed when the tasks that are bound to it are done, the region's end when all are; after a
--- member passed a barrier no task is created that is bound to it.
+-- member passed a barrier no task is created that is bound to it. A share that some member cancelled may be left
+-- with iterations that nobody took; once the region is cancelled its members go to its end alone, from wherever they
+-- are, and pass it when all are there; a task that a cancellation reaches is neither created nor started after it, and
+-- if nobody has started it it may be discarded, and counts as done. A member cancels only what its construct names.
 pub headline_holds : (terms : Terms) → (run : Record) → Caused terms run → Headline terms.members (events terms run)
 headline_holds = headline_of
 
@@ -64,6 +68,11 @@ replies_on_names_and_locks = hold_replies
 -- executed, and the call at which it was started waits again, unless the task is undeferred.
 pub replies_on_tasks : (terms : Terms) → (run : Record) → Caused terms run → TaskReplies terms run
 replies_on_tasks = task_replies
+
+-- A member is answered that the region is cancelled only if it is, and that its task is dropped only if a
+-- cancellation would reach that task; if the control variable allows none, nothing is ever cancelled.
+pub replies_on_cancellation : (terms : Terms) → (run : Record) → Caused terms run → CancelReplies terms run
+replies_on_cancellation = cancel_replies
 
 -- A chunk that is answered has an iteration, at least one.
 pub chunk_has_an_iteration :

@@ -3,6 +3,11 @@ pub mod AtOnce
 pub mod Awaits
 pub mod Calls
 pub mod CallsKeep
+pub mod CancelClauseExamples
+pub mod CancelReplies
+pub mod CancelReplyExamples
+pub mod CancelledEnds
+pub mod Cancels
 pub mod ChunksCount
 pub mod ClauseExamples
 pub mod CopiesKeep
@@ -19,6 +24,7 @@ pub mod InTime
 pub mod Known
 pub mod Laws
 pub mod Layers
+pub mod Leaving
 pub mod Locks
 pub mod Loops
 pub mod NewestChild
@@ -38,5 +44,6 @@ pub mod TaskReplyExamples
 pub mod Tasks
 pub mod TeamKeeps
 pub mod TeamShares
+pub mod Unbroken
 pub mod Waiting
 pub mod WordsToCome

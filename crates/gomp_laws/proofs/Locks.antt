@@ -24,7 +24,7 @@ use Rattle.gomp_model.specs.CriticalNames.{is_held, is_freed, held_once}
 use Rattle.gomp_model.specs.Locks.{init_row, destroy_row, set_row, test_row, unset_row, set_nest_row, test_nest_row, unset_nest_row}
 use Rattle.gomp_locks.proofs.HoldsKeep.{held_at_least_once}
 use Rattle.gomp_laws.proofs.Sound.{IsSound}
-use Rattle.gomp_laws.proofs.HeldRows.{IsBookReply, finished_is_one, asked_first, held_given, freed_given, hold_keeps, free_keeps, unheld_counts_none, another_counts_none, found_as_held, lock_is_found, held_counts_more, unheld_counts_same, freed_counts_less, held_row_sound}
+use Rattle.gomp_laws.proofs.HeldRows.{IsBookReply, finished_is_one, asked_first, held_row, held_inside, held_given, freed_given, hold_keeps, free_keeps, unheld_counts_none, another_counts_none, found_as_held, lock_is_found, held_counts_more, unheld_counts_same, freed_counts_less, held_row_sound}
 
 -- Making and destroying
 
@@ -44,6 +44,7 @@ init_sound kind = record {
   begins_keep = λ m p ready all. all;
   gives_keep = λ repeated m p reply ready may all. all;
   still = λ stays m p. absurd (cc);
+  placed = λ stays m h. refl;
   outside = λ arrives m p fail. absurd (cc);
   tells = λ arrives m p reply may. absurd (cc);
   one_pass = λ arrives m p. absurd (cc);
@@ -55,6 +56,9 @@ init_sound kind = record {
   runs = λ m p task code arg own may. absurd may;
   ends = λ m p task waiting may. absurd may;
   created = λ repeated m p task ready may. absurd may;
+  cancelled = λ m p may. absurd (may);
+  dropped = λ repeated m p ready all may. absurd (may);
+  allowed = λ cancels m p. absurd (cc);
   no_memory = λ m p. (refl, refl, refl, refl, λ repeated. refl);
   words_keep = λ puts repeated m p reply ready may all. absurd (cc);
 }
@@ -70,6 +74,7 @@ destroy_sound number = record {
   begins_keep = λ m p ready all. all;
   gives_keep = λ repeated m p reply ready may all. all;
   still = λ stays m p. absurd (cc);
+  placed = λ stays m h. refl;
   outside = λ arrives m p fail. absurd (cc);
   tells = λ arrives m p reply may. absurd (cc);
   one_pass = λ arrives m p. absurd (cc);
@@ -81,6 +86,9 @@ destroy_sound number = record {
   runs = λ m p task code arg own may. absurd (cc);
   ends = λ m p task waiting may. absurd (cc);
   created = λ repeated m p task ready may. absurd (cc);
+  cancelled = λ m p may. absurd (cc);
+  dropped = λ repeated m p ready all may. absurd (cc);
+  allowed = λ cancels m p. absurd (cc);
   no_memory = λ m p. (refl, refl, refl, refl, λ repeated. refl);
   words_keep = λ puts repeated m p reply ready may all. absurd (cc);
 }
@@ -135,13 +143,14 @@ set_sound number = held_row_sound (Lock number) (set_row number) (record {
   keep = λ repeated m p reply ready may all.
       let found = lock_is_found Simple number p ready.missing in
       let sets = subst (λ (f : Option (Option Held)). SetsLock f reply) found may in
-      hold_keeps p.terms.members m (Lock number) (is_held reply) p.events ready.member (ready.away refl) (set_is_free (holder (Lock number) p.events) reply sets) all;
+      hold_keeps p.terms.members m (Lock number) (is_held reply) p.events ready.member (ready.away refl (held_inside (held_row (Lock number) (set_row number)) repeated m p (Lock number) ready refl refl)) (set_is_free (holder (Lock number) p.events) reply sets) all;
   apart = λ repeated m p ready may.
       let found = lock_is_found Simple number p ready.missing in
       elim (cases_Bool repeated) [
-        | inl e ↦ (ready.lasting e).1 (Lock number) refl
+        | inl e ↦ ((ready.lasting e).1 (Lock number) refl).0
         | inr e ↦ ap (λ (f : Option (Option Held)). held_by (asker m p.events) (option_flatten f)) (sym found) ∙ (ready.team e).0
       ];
+  bound = λ m p may. refl;
   waits_for = λ m p may.
       let waits = set_waits (found_lock Simple number p.locks p.events) may in
       (waits.0, found_as_held Simple (slice_get p.locks number) (holder (Lock number) p.events) (Some waits.0) waits.1);
@@ -185,8 +194,9 @@ test_sound number = held_row_sound (Lock number) (test_row number) (record {
   keep = λ repeated m p reply ready may all.
       let found = lock_is_found Simple number p ready.missing in
       let tests = subst (λ (f : Option (Option Held)). TestsLock f reply) found may in
-      hold_keeps p.terms.members m (Lock number) (is_held reply) p.events ready.member (ready.away refl) (test_is_free (holder (Lock number) p.events) reply tests) all;
+      hold_keeps p.terms.members m (Lock number) (is_held reply) p.events ready.member (ready.away refl (held_inside (held_row (Lock number) (test_row number)) repeated m p (Lock number) ready refl refl)) (test_is_free (holder (Lock number) p.events) reply tests) all;
   apart = λ repeated m p ready may. test_waits (found_lock Simple number p.locks p.events) may;
+  bound = λ m p may. refl;
   waits_for = λ m p may. test_waits (found_lock Simple number p.locks p.events) may;
   tells_count = λ repeated m count p ready may. test_counts_none (found_lock Simple number p.locks p.events) count may;
   no_memory = λ m p. (refl, refl);
@@ -207,6 +217,7 @@ unset_sound number = held_row_sound (Lock number) (unset_row number) (record {
       let fail = asked_first (unset_row number) repeated m p (λ q given may. finished_is_one given may) (λ q waits. cc) ready in
       free_keeps p.terms.members m (Lock number) (is_freed reply) p.events (unset_by_holder (asker m p.events) (holder (Lock number) p.events) (found_lock Simple number p.locks p.events) found fail) all;
   apart = λ repeated m p ready may. absurd (cc);
+  bound = λ m p may. absurd (cc);
   waits_for = λ m p may. absurd (cc);
   tells_count = λ repeated m count p ready may. absurd (cc);
   no_memory = λ m p. (refl, refl);
@@ -285,13 +296,14 @@ set_nest_sound number = held_row_sound (NestLock number) (set_nest_row number) (
       let sets = subst (λ (f : Option (Option Held)). SetsNest (asker m p.events) f reply) found may in
       let below : nat_le MAX_COUNT (count_for (asker m p.events) (holder (NestLock number) p.events)) ≡ false =
       elim (cases_Bool repeated) [
-        | inl e ↦ rw (unheld_counts_none (asker m p.events) (holder (NestLock number) p.events) ((ready.lasting e).1 (NestLock number) refl)) refl
+        | inl e ↦ rw (unheld_counts_none (asker m p.events) (holder (NestLock number) p.events) (((ready.lasting e).1 (NestLock number) refl).0)) refl
         | inr e ↦ count_is_below (asker m p.events) (holder (NestLock number) p.events) (found_lock Nest number p.locks p.events) found (ready.team e)
       ] in
-      hold_keeps p.terms.members m (NestLock number) (is_held reply) p.events ready.member (ready.away refl) (nest_set_may number (asker m p.events) (holder (NestLock number) p.events) reply below sets) all;
+      hold_keeps p.terms.members m (NestLock number) (is_held reply) p.events ready.member (ready.away refl (held_inside (held_row (NestLock number) (set_nest_row number)) repeated m p (NestLock number) ready refl refl)) (nest_set_may number (asker m p.events) (holder (NestLock number) p.events) reply below sets) all;
   apart = λ repeated m p ready may.
       let differ = subst (λ (f : Option (Option Held)). SetsNest (asker m p.events) f Wait) (lock_is_found Nest number p ready.missing) may in
       another_holds_it (asker m p.events) (holder (NestLock number) p.events) differ;
+  bound = λ m p may. refl;
   waits_for = λ m p may.
       let waits = nest_set_waits (asker m p.events) (found_lock Nest number p.locks p.events) may in
       (waits.0, found_as_held Nest (slice_get p.locks number) (holder (NestLock number) p.events) (Some waits.0) waits.1);
@@ -347,8 +359,9 @@ test_nest_sound number = held_row_sound (NestLock number) (test_nest_row number)
       let tests = subst (λ (f : Option (Option Held)). TestsNest (asker m p.events) f reply) found may in
       let fail = asked_first (test_nest_row number) repeated m p (λ q given may. nest_test_by_book (asker m q.events) (found_lock Nest number q.locks q.events) given may) (λ q waits. nest_test_waits (asker m q.events) (found_lock Nest number q.locks q.events) waits) ready in
       let below = count_is_below (asker m p.events) (holder (NestLock number) p.events) (found_lock Nest number p.locks p.events) found fail in
-      hold_keeps p.terms.members m (NestLock number) (is_held reply) p.events ready.member (ready.away refl) (nest_test_may number (asker m p.events) (holder (NestLock number) p.events) reply below tests) all;
+      hold_keeps p.terms.members m (NestLock number) (is_held reply) p.events ready.member (ready.away refl (held_inside (held_row (NestLock number) (test_nest_row number)) repeated m p (NestLock number) ready refl refl)) (nest_test_may number (asker m p.events) (holder (NestLock number) p.events) reply below tests) all;
   apart = λ repeated m p ready may. nest_test_waits (asker m p.events) (found_lock Nest number p.locks p.events) may;
+  bound = λ m p may. refl;
   waits_for = λ m p may. nest_test_waits (asker m p.events) (found_lock Nest number p.locks p.events) may;
   tells_count = λ repeated m count p ready may.
       nest_test_counts number m count p.events (subst (λ (f : Option (Option Held)). TestsNest (asker m p.events) f (Count count)) (lock_is_found Nest number p ready.missing) may);
@@ -390,6 +403,7 @@ unset_nest_sound number = held_row_sound (NestLock number) (unset_nest_row numbe
       let fail = asked_first (unset_nest_row number) repeated m p (λ q given may. nest_unset_by_book (asker m q.events) (found_lock Nest number q.locks q.events) given may) (λ q waits. nest_unset_waits (asker m q.events) (found_lock Nest number q.locks q.events) waits) ready in
       free_keeps p.terms.members m (NestLock number) (is_freed reply) p.events (unset_by_holder (asker m p.events) (holder (NestLock number) p.events) (found_lock Nest number p.locks p.events) found fail) all;
   apart = λ repeated m p ready may. nest_unset_waits (asker m p.events) (found_lock Nest number p.locks p.events) may;
+  bound = λ m p may. nest_unset_waits (asker m p.events) (found_lock Nest number p.locks p.events) may;
   waits_for = λ m p may. nest_unset_waits (asker m p.events) (found_lock Nest number p.locks p.events) may;
   tells_count = λ repeated m count p ready may.
       freed_counts_less m (NestLock number) count p.events (subst (λ (f : Option (Option Held)). UnsetsNest (asker m p.events) f (Count count)) (lock_is_found Nest number p ready.missing) may);

@@ -7,34 +7,38 @@ use Rattle.std.proofs.lemmas.Bool.Decides.{nat_tests}
 use Rattle.std.proofs.lemmas.Bool.{cases_Bool}
 use Rattle.gomp_types.specs.declared.loop_desc.LoopDesc.{LoopDesc}
 use Rattle.gomp_types.specs.declared.loop_desc.EndKind.{EndKind}
-use Rattle.gomp_types.specs.declared.loop_desc.EndKind.TheVariants.{Wait as WaitEnd, Nowait}
+use Rattle.gomp_types.specs.declared.loop_desc.EndKind.TheVariants.{Wait as WaitEnd, Nowait, Cancellable}
 use Rattle.gomp_types.specs.declared.reply.Reply.{Reply}
-use Rattle.gomp_types.specs.declared.reply.Reply.TheVariants.{Chunk, NoChunk, Wait, Created, Run, TaskDone, Refused}
+use Rattle.gomp_types.specs.declared.reply.Reply.TheVariants.{Chunk, NoChunk, Wait, Cancelled, Created, Run, TaskDone, Dropped, Refused}
 use Rattle.gomp_types.specs.declared.shape.Shape.{Shape}
 use Rattle.gomp_types.specs.declared.shape.ShareKind.{ShareKind}
 use Rattle.gomp_types.specs.declared.shape.ShareKind.TheVariants as kinds
 use Rattle.gomp_types.specs.declared.event.Arrival.TheVariants.{ShareEnd}
 use Rattle.gomp_types.specs.declared.event.Event.{Event}
 use Rattle.gomp_types.specs.declared.event.Event.TheVariants.{Enter, HandOn}
-use Rattle.gomp_types.specs.Iterations.{loop_tests}
+use Rattle.gomp_types.specs.Iterations.{may_lose_order, trip_tests, loop_tests}
+use Rattle.gomp_types.specs.declared.refusal.Refusal.TheVariants.{OrderedLoop}
 use Rattle.gomp_types.specs.Values.{value_at, iteration_at}
 use Rattle.gomp_types.specs.Pieces.{Piece, shape_of}
-use Rattle.gomp_types.specs.Shapes.{is_loop, is_copy}
+use Rattle.gomp_types.specs.Shapes.{is_loop, is_sections, is_copy, same_end}
 use Rattle.gomp_types.specs.Deals.{IsDealt, schedule, next_for, taken_in}
-use Rattle.gomp_types.specs.Events.{open_share, share_number, in_kind, has_drained, in_part, holds_piece}
+use Rattle.gomp_types.specs.Events.{open_share, in_kind, in_part, holds_piece}
 use Rattle.gomp_types.specs.Ordered.{has_turn, last_number, must_wait}
 use Rattle.gomp_types.specs.Laws.{Always}
-use Rattle.gomp_laws.specs.Rules.{TeamRule, MayLeave}
+use Rattle.gomp_laws.specs.Rules.{TeamRule}
 use Rattle.gomp_shares.specs.Rules.{MayHandOn}
 use Rattle.gomp_types.proofs.IterationValues.{iteration_at-value_at, chunk_some}
-use Rattle.gomp_types.proofs.Booleans.{not_both, not_false, same_number}
+use Rattle.gomp_types.proofs.Booleans.{or_left, not_both, not_false, same_number}
+use Rattle.gomp_types.proofs.LeastTests.{fail_later}
 use Rattle.gomp_types.proofs.Dealing.{schedule_deals}
-use Rattle.gomp_shares.proofs.SharesKeep.{member_is_inside, share_is_dealt, drained_none}
+use Rattle.gomp_shares.proofs.SharesKeep.{member_is_inside, share_is_dealt}
 use Rattle.gomp_shares.proofs.PartsKeep.{loop_is_loop}
-use Rattle.gomp_laws.proofs.HandedOn.{told_holds_none}
+use Rattle.gomp_laws.proofs.Cancels.{waits_uncancelled_sound}
+use Rattle.gomp_laws.proofs.CancelledEnds.{MayEndShare}
 use Rattle.gomp_laws.proofs.TeamShares.{share_rules}
-use Rattle.gomp_shares.specs.Loops.{IsChunk, end_tests, DealsOut, DealsNext, piece_given, handed_on, next_given}
-use Rattle.gomp_model.specs.Loops.{loop_start_row, loop_next_row, loop_end_row, loop_end_nowait_row}
+use Rattle.gomp_shares.specs.Loops.{IsChunk, next_tests, end_tests, DealsOut, DealsNext, piece_given, handed_on, next_given}
+use Rattle.gomp_model.specs.Row.{Row, outside_row}
+use Rattle.gomp_model.specs.Loops.{loop_start_row, loop_next_row, loop_end_row, loop_end_cancel_row, loop_end_nowait_row}
 use Rattle.gomp_laws.proofs.Sound.{AreOwn, own_append, own_given, is_wait, IsSound, quiet, outside_lasts}
 use Rattle.gomp_laws.proofs.CallsKeep.{regroup_rules}
 use Rattle.gomp_laws.proofs.Starts.{IsShareReply, IsDeal, start_sound}
@@ -210,19 +214,20 @@ loop_wordless : (kind : ShareKind) → is_loop kind ≡ true → is_copy kind �
 loop_wordless kinds.SingleCopy e = absurd (cc)
 loop_wordless _ e = refl
 
-loop_leaves : (members m : ℕ) (h : List Event) (own : Option (ℕ × Shape)) → open_share m h ≡ own → not (in_kind is_loop own) ≡ false → in_part m h ≡ false → not (has_drained m h) ≡ false → Always (TeamRule members) h → MayLeave members (share_number own) m h
-loop_leaves members m h None at within apart drained all = absurd (cc)
-loop_leaves members m h (Some share) at within apart drained all =
-    let told = not_false (has_drained m h) drained in record {
-      done = record { shape = share.1; inside = at; none = drained_none (schedule members) members m share.0 share.1 h (share_rules members h all) at told; apart = apart };
-      words = λ copies. absurd (not_both (is_copy share.1.kind) copies (loop_wordless share.1.kind (not_false (is_loop share.1.kind) within)));
-      handed_on = λ ordered. told_holds_none members m share.0 share.1 h all at ordered told;
-    }
+loop_may_end : (m : ℕ) (h : List Event) (own : Option (ℕ × Shape)) → open_share m h ≡ own → not (in_kind is_loop own) ≡ false → in_part m h ≡ false → MayEndShare m h
+loop_may_end m h None at within apart = absurd (cc)
+loop_may_end m h (Some share) at within apart =
+    let loop = not_false (is_loop share.1.kind) within in
+    record { share = share; inside = at; construct = or_left (is_loop share.1.kind) (is_sections share.1.kind) loop; wordless = loop_wordless share.1.kind loop; apart = apart }
 
 -- The rows
 
 incr_nonzero : (incr : ℤ) → ◌≡◌ {A = Bool} (int_eq incr (pos 0)) false → incr ≢ pos 0
 incr_nonzero incr fine = λ zero. grind (arith, ints, nat_tests, fine, zero)
+
+cancellable_keeps_order : (ordered may : Bool) → (ordered && may) ≡ false → may ≡ true → ordered ≡ false
+cancellable_keeps_order true may e is = absurd (let both = rw is at e in cc)
+cancellable_keeps_order false may e is = refl
 
 loop_deal : (loop : LoopDesc) → IsDeal (loop_tests loop) (shape_of loop) DealsOut piece_given
 loop_deal loop = record {
@@ -235,6 +240,7 @@ loop_deal loop = record {
   moves = λ fail. incr_nonzero loop.incr fail.0;
   chunked = chunk_some loop.chunk;
   ordered = λ e. loop_is_loop loop.sched loop.chunk;
+  unordered = λ fail may. cancellable_keeps_order loop.ordered (same_end loop.end_kind Cancellable) (fail_later (trip_tests loop) ((may_lose_order loop, OrderedLoop) ∷ []) fail).0 may;
   keeps = λ members m share reply h fail may at apart held all. piece_keeps members m share (shape_of loop) reply h (Enter share m (shape_of loop) ∷ h) refl at apart (λ ordered. held) (incr_nonzero loop.incr fail.0) may all;
   no_memory = refl;
 }
@@ -242,17 +248,27 @@ loop_deal loop = record {
 pub loop_start_sound : (loop : LoopDesc) → IsSound (loop_start_row loop)
 loop_start_sound loop = start_sound true (loop_tests loop) (shape_of loop) DealsOut piece_given (loop_deal loop)
 
-pub loop_next_sound : IsSound loop_next_row
-loop_next_sound = record {
+-- the row of the next piece without what a cancelled region changes
+abbrev plain_next_row : Row
+plain_next_row = record outside_row {
+  by_place = λ limits seen. next_tests seen;
+  stays = true;
+  may_reply = λ m p reply. DealsNext p.terms.members m (open_share m p.events) reply p.events;
+  gives = λ m p reply. next_given p.terms.members (open_share m p.events) m p.events reply;
+}
+
+plain_next_sound : IsSound plain_next_row
+plain_next_sound = record {
   decided = λ m p a b x y. inl (one_next p.terms.members m (open_share m p.events) a b p.events x y);
   accepts = λ m p refusal x. next_by_share p.terms.members m (open_share m p.events) (Refused refusal) p.events x;
-  answered = λ repeated m p ready all. next_some p.terms.members m p.events (open_share m p.events) refl (ready.place refl).0 all;
+  answered = λ repeated m p ready all. next_some p.terms.members m p.events (open_share m p.events) refl (ready.place refl refl).0 all;
   counts = λ repeated m p first count ready all may. next_counts p.terms.members m p.events (open_share m p.events) first count refl all may;
   begins_own = λ m p. tt;
   gives_own = λ m p reply. own_given quiet m reply (next_given p.terms.members (open_share m p.events) m p.events reply) (next_events_own p.terms.members (open_share m p.events) m p.events reply);
   begins_keep = λ m p ready all. all;
-  gives_keep = λ repeated m p reply ready may all. next_keeps p.terms.members m reply p.events (open_share m p.events) refl (ready.place refl).1.0 may all;
+  gives_keep = λ repeated m p reply ready may all. next_keeps p.terms.members m reply p.events (open_share m p.events) refl (ready.place refl refl).1.0 may all;
   still = λ stays m p. (refl, next_still p.terms.members (open_share m p.events) m p.events);
+  placed = λ stays m h. refl;
   outside = λ arrives m p fail. absurd (cc);
   tells = λ arrives m p reply may. absurd (cc);
   one_pass = λ arrives m p. absurd (cc);
@@ -264,15 +280,30 @@ loop_next_sound = record {
   runs = λ m p task code arg own may. absurd (next_by_share p.terms.members m (open_share m p.events) (Run task code arg own) p.events may);
   ends = λ m p task waiting may. absurd (next_by_share p.terms.members m (open_share m p.events) (TaskDone task waiting) p.events may);
   created = λ repeated m p task ready may. absurd (next_by_share p.terms.members m (open_share m p.events) (Created task) p.events may);
+  cancelled = λ m p may. absurd (next_by_share p.terms.members m (open_share m p.events) Cancelled p.events may);
+  dropped = λ repeated m p ready all may. absurd (next_by_share p.terms.members m (open_share m p.events) Dropped p.events may);
+  allowed = λ cancels m p. absurd (cc);
   no_memory = λ m p. (refl, refl, refl, refl, λ repeated. refl);
   words_keep = λ puts repeated m p reply ready may all. absurd (cc);
 }
 
+pub loop_next_sound : IsSound loop_next_row
+loop_next_sound = waits_uncancelled_sound plain_next_row plain_next_sound (record {
+  silent = refl;
+  holds = refl;
+  harmless = refl;
+  wordless = refl;
+  never = λ m p may. next_by_share p.terms.members m (open_share m p.events) Cancelled p.events may;
+})
+
 loop_ends : (kind : EndKind) → IsEnd (end_tests kind)
-loop_ends kind = record { leaves = λ members m h fail all. loop_leaves members m h (open_share m h) refl fail.0 fail.1.0 fail.1.1.1.0 all; no_memory = λ seen. refl }
+loop_ends kind = record { inside = λ members m h fail all. loop_may_end m h (open_share m h) refl fail.0 fail.1.0; no_memory = λ seen. refl }
 
 pub loop_end_sound : IsSound loop_end_row
 loop_end_sound = end_arrival_sound (end_tests WaitEnd) ShareEnd (loop_ends WaitEnd)
 
 pub loop_end_nowait_sound : IsSound loop_end_nowait_row
 loop_end_nowait_sound = end_sound (end_tests Nowait) (loop_ends Nowait)
+
+pub loop_end_cancel_sound : IsSound loop_end_cancel_row
+loop_end_cancel_sound = end_arrival_sound (end_tests Cancellable) ShareEnd (loop_ends Cancellable)

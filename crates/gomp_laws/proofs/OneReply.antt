@@ -7,7 +7,7 @@ use Rattle.gomp_types.specs.declared.refusal.Refusal.TheVariants.{NoMemory}
 use Rattle.gomp_types.specs.declared.reply.Reply.{Reply}
 use Rattle.gomp_types.specs.declared.reply.Reply.TheVariants.{Refused}
 use Rattle.gomp_model.specs.Past.{Past}
-use Rattle.gomp_model.specs.Row.{begun_past}
+use Rattle.gomp_model.specs.Row.{begun_past, asks_memory}
 use Rattle.gomp_model.specs.Calls.{row_of}
 use Rattle.gomp_model.specs.Team.{call_meant, is_resume, row_at, refusal_of, MayRefuse, MayAnswer, OneReply}
 use Rattle.gomp_laws.proofs.Sound.{Same}
@@ -38,8 +38,8 @@ one_of_same a b (inl e) = inl e
 one_of_same a b (inr run) = inr (inl run)
 
 pub one_answer : (p : Past) (step : Step) (a b : Reply) → MayAnswer p step a → MayAnswer p step b → OneReply a b
-one_answer p step (Refused x) (Refused y) may other = one_refusal (refusal_of p step) x y (row_of step.call).memory may other
-one_answer p step (Refused x) b may other = inr (inr (inl (ap Refused (only_memory (refusal_of p step) x (row_of step.call).memory may other.0))))
-one_answer p step a (Refused y) may other = inr (inr (inr (ap Refused (only_memory (refusal_of p step) y (row_of step.call).memory other may.0))))
+one_answer p step (Refused x) (Refused y) may other = one_refusal (refusal_of p step) x y (asks_memory (row_of step.call) step.member p) may other
+one_answer p step (Refused x) b may other = inr (inr (inl (ap Refused (only_memory (refusal_of p step) x (asks_memory (row_of step.call) step.member p) may other.0))))
+one_answer p step a (Refused y) may other = inr (inr (inr (ap Refused (only_memory (refusal_of p step) y (asks_memory (row_of step.call) step.member p) other may.0))))
 one_answer p step a b may other =
     one_of_same a b ((row_is_sound (call_meant step.call (p.waits step.member).open_call)).decided step.member (begun_past (is_resume step.call) (row_at p step) step.member p) a b may.1 other.1)

@@ -3,7 +3,7 @@ use Rattle.std.proofs.Common.{◌≡◌, ℕ, ◌<◌, true, false, List, [], �
 use Rattle.std.specs.Prelude.{ℤ, not}
 use Rattle.std.proofs.lemmas.Bool.{cases_Bool}
 use Rattle.gomp_types.specs.declared.reply.Reply.{Reply}
-use Rattle.gomp_types.specs.declared.reply.Reply.TheVariants.{Chunk, Finished, Wait, Created, Run, TaskDone, Refused}
+use Rattle.gomp_types.specs.declared.reply.Reply.TheVariants.{Chunk, Finished, Wait, Cancelled, Created, Run, TaskDone, Dropped, Refused}
 use Rattle.gomp_types.specs.declared.shape.Shape.{Shape}
 use Rattle.gomp_types.specs.declared.event.Event.{Event}
 use Rattle.gomp_types.specs.Events.{in_kind, share_number, open_share, last_piece, next_part, in_part}
@@ -16,9 +16,11 @@ use Rattle.gomp_types.specs.Deals.{schedule}
 use Rattle.gomp_types.proofs.Booleans.{not_both, not_false}
 use Rattle.gomp_shares.proofs.PartsKeep.{value_in_rest, parts_in_loop}
 use Rattle.gomp_laws.proofs.TeamShares.{share_rules}
-use Rattle.gomp_shares.specs.OrderedParts.{BeginsPart, part_given, part_end_tests, part_end_events}
+use Rattle.gomp_shares.specs.OrderedParts.{BeginsPart, part_given, part_tests, part_end_tests, part_end_events}
+use Rattle.gomp_model.specs.Row.{Row, outside_row}
 use Rattle.gomp_model.specs.OrderedParts.{ordered_start_row, ordered_end_row}
 use Rattle.gomp_laws.proofs.AtOnce.{at_once_sound}
+use Rattle.gomp_laws.proofs.Cancels.{waits_uncancelled_sound}
 use Rattle.gomp_laws.proofs.Starts.{IsShareReply}
 use Rattle.gomp_laws.proofs.Sound.{AreGiven, IsSound, quiet, outside_lasts}
 
@@ -78,18 +80,28 @@ part_still : (own : Option (ℕ × Shape)) (m : ℕ) (value : ℤ) → part_give
 part_still None m value = refl
 part_still (Some share) m value = refl
 
-pub ordered_start_sound : (value : ℤ) → IsSound (ordered_start_row value)
-ordered_start_sound value = record {
+-- the row without what a cancelled region changes
+abbrev plain_part_row : ℤ → Row
+plain_part_row value = record outside_row {
+  by_place = λ limits seen. part_tests value seen;
+  stays = true;
+  may_reply = λ m p reply. BeginsPart p.terms.members m (open_share m p.events) reply p.events;
+  gives = λ m p reply. part_given (open_share m p.events) m value reply;
+}
+
+plain_part_sound : (value : ℤ) → IsSound (plain_part_row value)
+plain_part_sound value = record {
   decided = λ m p a b x y. inl (one_part p.terms.members m (open_share m p.events) a b p.events x y);
   accepts = λ m p refusal x. part_by_share p.terms.members m (open_share m p.events) (Refused refusal) p.events x;
-  answered = λ repeated m p ready all. part_some p.terms.members m p.events (open_share m p.events) (ready.place refl).1.1.0;
+  answered = λ repeated m p ready all. part_some p.terms.members m p.events (open_share m p.events) (ready.place refl refl).1.1.0;
   counts = λ repeated m p first count ready all may. part_counts p.terms.members m (open_share m p.events) first count p.events may;
   begins_own = λ m p. tt;
   gives_own = λ m p reply. part_own (open_share m p.events) m value reply;
   begins_keep = λ m p ready all. all;
   gives_keep = λ repeated m p reply ready may all.
-      let fail = ready.place refl in part_keeps p.terms.members m value reply p.events (open_share m p.events) refl fail.1.0 fail.1.1.0 fail.1.1.1.0 may all;
+      let fail = ready.place refl refl in part_keeps p.terms.members m value reply p.events (open_share m p.events) refl fail.1.0 fail.1.1.0 fail.1.1.1.0 may all;
   still = λ stays m p. (refl, part_still (open_share m p.events) m value);
+  placed = λ stays m h. refl;
   outside = λ arrives m p fail. absurd (cc);
   tells = λ arrives m p reply may. absurd (cc);
   one_pass = λ arrives m p. absurd (cc);
@@ -101,9 +113,21 @@ ordered_start_sound value = record {
   runs = λ m p task code arg own may. absurd (part_by_share p.terms.members m (open_share m p.events) (Run task code arg own) p.events may);
   ends = λ m p task waiting may. absurd (part_by_share p.terms.members m (open_share m p.events) (TaskDone task waiting) p.events may);
   created = λ repeated m p task ready may. absurd (part_by_share p.terms.members m (open_share m p.events) (Created task) p.events may);
+  cancelled = λ m p may. absurd (part_by_share p.terms.members m (open_share m p.events) Cancelled p.events may);
+  dropped = λ repeated m p ready all may. absurd (part_by_share p.terms.members m (open_share m p.events) Dropped p.events may);
+  allowed = λ cancels m p. absurd (cc);
   no_memory = λ m p. (refl, refl, refl, refl, λ repeated. refl);
   words_keep = λ puts repeated m p reply ready may all. absurd (cc);
 }
+
+pub ordered_start_sound : (value : ℤ) → IsSound (ordered_start_row value)
+ordered_start_sound value = waits_uncancelled_sound (plain_part_row value) (plain_part_sound value) (record {
+  silent = refl;
+  holds = refl;
+  harmless = refl;
+  wordless = refl;
+  never = λ m p may. part_by_share p.terms.members m (open_share m p.events) Cancelled p.events may;
+})
 
 -- a part that is open may end
 open_part_may_end : (m : ℕ) (h : List Event) (own : Option (ℕ × Shape)) → open_share m h ≡ own → in_kind is_loop own ≡ true → in_part m h ≡ true → MayEndPart (share_number own) m h
@@ -111,10 +135,10 @@ open_part_may_end m h None at there within = absurd (cc)
 open_part_may_end m h (Some share) at there within = record { shape = share.1; inside = at; within = within }
 
 pub ordered_end_sound : IsSound ordered_end_row
-ordered_end_sound = at_once_sound part_end_tests part_end_events (record {
+ordered_end_sound = at_once_sound false part_end_tests part_end_events (record {
   own = λ m h. (refl, tt);
   keep = λ m p ready all.
-      let within = not_false (in_part m p.events) (ready.place refl).0 in
+      let within = not_false (in_part m p.events) (ready.place refl refl).0 in
       (open_part_may_end m p.events (open_share m p.events) refl (parts_in_loop (schedule p.terms.members) p.terms.members m p.events (share_rules p.terms.members p.events all) within) within, all);
   no_memory = λ seen. refl;
 })

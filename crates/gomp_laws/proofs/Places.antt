@@ -1,11 +1,13 @@
 -- A member's place among the shares and at the barriers, and its tasks, are left as they are by another member's call, whatever that is.
-use Rattle.std.proofs.Common.{◌≡◌, ℕ, Bool, false, List, None, refl, ◌∙◌}
-use Rattle.std.specs.Prelude.{◌==◌, is_some}
+use Rattle.std.proofs.Common.{◌≡◌, ℕ, Bool, true, false, List, None, refl, ◌∙◌}
+use Rattle.std.specs.Prelude.{◌==◌, ◌&&◌, ◌||◌, is_some}
 use Rattle.gomp_types.specs.declared.reply.Reply.{Reply}
 use Rattle.gomp_types.specs.declared.reply.Reply.TheVariants.{Wait}
 use Rattle.gomp_types.specs.declared.event.Event.{Event}
-use Rattle.gomp_types.specs.declared.event.Event.TheVariants.{Enter, Take, Drained, End, Part, PartEnd, Arrive, Pass, Hold, Free, Start, Done, Break}
+use Rattle.gomp_types.specs.declared.event.Event.TheVariants.{Enter, Take, Drained, End, Part, PartEnd, Arrive, Pass, Hold, Free, Start, Done, See, Break}
 use Rattle.gomp_types.specs.Events.{shares_entered, open_share, has_drained, last_piece, next_part, in_part, barriers_passed, arrival, at_barrier, clash_of}
+use Rattle.gomp_types.specs.Cancels.{same_cancel, leaves_region, leaves_share}
+use Rattle.gomp_types.specs.declared.cancel.CancelKind.TheVariants.{Parallel}
 use Rattle.gomp_types.specs.Laws.{Always}
 use Rattle.gomp_types.specs.Tasks.{task_stack, executed_task}
 use Rattle.gomp_types.proofs.Booleans.{and_false}
@@ -18,6 +20,10 @@ use Rattle.gomp_model.specs.Row.{Row, begun_past, events_after}
 use Rattle.gomp_laws.proofs.Sound.{is_run, is_end, Lasts, IsSound, gives_of, Gives}
 use Rattle.gomp_laws.proofs.CallsKeep.{OwnKeeps, LastKeeps, since_keeps, step_keeps}
 
+neither_right : (a b : Bool) → (a || b) ≡ false → b ≡ false
+neither_right true b e = absurd (cc)
+neither_right false b e = e
+
 record SamePlace (k : ℕ) (h after : List Event) : Type 0 where
   number : shares_entered k after ≡ shares_entered k h
   share : open_share k after ≡ open_share k h
@@ -25,25 +31,28 @@ record SamePlace (k : ℕ) (h after : List Event) : Type 0 where
   piece : last_piece k after ≡ last_piece k h
   begun : next_part k after ≡ next_part k h
   within : in_part k after ≡ in_part k h
+  leaving : leaves_share k after ≡ leaves_share k h
 
 same_place : (k : ℕ) (h : List Event) → SamePlace k h h
-same_place k h = record { number = refl; share = refl; drained = refl; piece = refl; begun = refl; within = refl }
+same_place k h = record { number = refl; share = refl; drained = refl; piece = refl; begun = refl; within = refl; leaving = refl }
 
 -- an event of another member
 place_stays : (can : Gives) (reply : Reply) (k m : ℕ) (h : List Event) → (m == k) ≡ false → LastKeeps can m reply (SamePlace k h)
 place_stays can reply k m h e (Enter share n shape) after by same =
-    rw by (record { number = rw e same.number; share = rw e same.share; drained = rw e same.drained; piece = rw e same.piece; begun = rw e same.begun; within = rw e same.within })
-place_stays can reply k m h e (Take share n low high) after by same = rw by (record { number = same.number; share = same.share; drained = same.drained; piece = rw e same.piece; begun = same.begun; within = same.within })
-place_stays can reply k m h e (Drained share n) after by same = rw by (record { number = same.number; share = same.share; drained = rw e same.drained; piece = rw e same.piece; begun = same.begun; within = same.within })
-place_stays can reply k m h e (End share n) after by same = rw by (record { number = same.number; share = rw e same.share; drained = same.drained; piece = same.piece; begun = same.begun; within = same.within })
-place_stays can reply k m h e (Part share n iteration) after by same = rw by (record { number = same.number; share = same.share; drained = same.drained; piece = same.piece; begun = rw e same.begun; within = rw e same.within })
-place_stays can reply k m h e (PartEnd share n) after by same = rw by (record { number = same.number; share = same.share; drained = same.drained; piece = same.piece; begun = same.begun; within = rw e same.within })
-place_stays can reply k m h e _ after by same = record { number = same.number; share = same.share; drained = same.drained; piece = same.piece; begun = same.begun; within = same.within }
+    rw by (record { number = rw e same.number; share = rw e same.share; drained = rw e same.drained; piece = rw e same.piece; begun = rw e same.begun; within = rw e same.within; leaving = rw e same.leaving })
+place_stays can reply k m h e (Take share n low high) after by same = rw by (record { number = same.number; share = same.share; drained = same.drained; piece = rw e same.piece; begun = same.begun; within = same.within; leaving = same.leaving })
+place_stays can reply k m h e (Drained share n) after by same = rw by (record { number = same.number; share = same.share; drained = rw e same.drained; piece = rw e same.piece; begun = same.begun; within = same.within; leaving = same.leaving })
+place_stays can reply k m h e (End share n) after by same = rw by (record { number = same.number; share = rw e same.share; drained = same.drained; piece = same.piece; begun = same.begun; within = same.within; leaving = rw e same.leaving })
+place_stays can reply k m h e (Part share n iteration) after by same = rw by (record { number = same.number; share = same.share; drained = same.drained; piece = same.piece; begun = rw e same.begun; within = rw e same.within; leaving = same.leaving })
+place_stays can reply k m h e (PartEnd share n) after by same = rw by (record { number = same.number; share = same.share; drained = same.drained; piece = same.piece; begun = same.begun; within = rw e same.within; leaving = same.leaving })
+place_stays can reply k m h e (See n kind) after by same =
+    rw by.0 (record { number = same.number; share = same.share; drained = same.drained; piece = same.piece; begun = same.begun; within = same.within; leaving = rw e same.leaving })
+place_stays can reply k m h e _ after by same = record { number = same.number; share = same.share; drained = same.drained; piece = same.piece; begun = same.begun; within = same.within; leaving = same.leaving }
 
 pub seen_other : (row : Row) → IsSound row → (repeated : Bool) (k m : ℕ) (p : Past) (reply : Reply) → (m == k) ≡ false → seen_of k (events_after repeated row m p reply) ≡ seen_of k p.events
 seen_other row sound repeated k m p reply e =
     let same = step_keeps row sound repeated m p reply (SamePlace k p.events) (place_stays (gives_of row) reply k m p.events e) (same_place k p.events) in
-    λ i. record { entered = same.number i; current = same.share i; drained = same.drained i; piece = same.piece i; next_part = same.begun i; in_part = same.within i }
+    λ i. record { entered = same.number i; current = same.share i; drained = same.drained i; piece = same.piece i; next_part = same.begun i; in_part = same.within i; leaving = same.leaving i }
 
 pub record SameBarriers (k : ℕ) (h after : List Event) : Type 0 where
   pub number : barriers_passed k after ≡ barriers_passed k h
@@ -78,6 +87,24 @@ unbroken_before can reply m h _ after by before = before
 -- a team that is not broken was not
 pub was_whole : (row : Row) → IsSound row → (repeated : Bool) (m : ℕ) (p : Past) (reply : Reply) → clash_of (events_after repeated row m p reply) ≡ None → clash_of p.events ≡ None
 was_whole row sound repeated m p reply = step_keeps row sound repeated m p reply (λ after. clash_of after ≡ None → clash_of p.events ≡ None) (unbroken_before (gives_of row) reply m p.events) (λ none. none)
+
+-- Members that leave the region
+
+-- whether a member does is left as it is by another's call
+leaves_stays : (can : Gives) (reply : Reply) (k m : ℕ) (h : List Event) → (m == k) ≡ false → LastKeeps can m reply (λ after. leaves_region k after ≡ leaves_region k h)
+leaves_stays can reply k m h e (See n kind) after by same = rw by.0 (rw e same)
+leaves_stays can reply k m h e _ after by same = same
+
+pub leaves_other : (row : Row) → IsSound row → (repeated : Bool) (k m : ℕ) (p : Past) (reply : Reply) → (m == k) ≡ false → leaves_region k (events_after repeated row m p reply) ≡ leaves_region k p.events
+leaves_other row sound repeated k m p reply e = step_keeps row sound repeated m p reply (λ after. leaves_region k after ≡ leaves_region k p.events) (leaves_stays (gives_of row) reply k m p.events e) refl
+
+-- one that does not after a call did not before it
+stayed_before : (can : Gives) (reply : Reply) (m : ℕ) (h : List Event) → LastKeeps can m reply (λ after. leaves_region m after ≡ false → leaves_region m h ≡ false)
+stayed_before can reply m h (See n kind) after by before = λ stays. before (neither_right (n == m && same_cancel kind Parallel) (leaves_region m after) stays)
+stayed_before can reply m h _ after by before = before
+
+pub was_staying : (row : Row) → IsSound row → (repeated : Bool) (m : ℕ) (p : Past) (reply : Reply) → leaves_region m (events_after repeated row m p reply) ≡ false → leaves_region m p.events ≡ false
+was_staying row sound repeated m p reply = step_keeps row sound repeated m p reply (λ after. leaves_region m after ≡ false → leaves_region m p.events ≡ false) (stayed_before (gives_of row) reply m p.events) (λ stays. stays)
 
 -- Tasks
 
@@ -116,14 +143,14 @@ lasts_by_another can reply members k m row e (Hold key n task) h by kept = λ ru
     let other : (n == k) ≡ false = rw by.0 e in
     let before = kept rules.1 in (
       before.0,
-      (λ x is. held_by_another_stays_held key x (asker k h) n task h (owner_of_another_member n k task (executed_task k h) other) ∙ before.1 x is),
+      (λ x is. (held_by_another_stays_held key x (asker k h) n task h (owner_of_another_member n k task (executed_task k h) other) ∙ (before.1 x is).0, (before.1 x is).1)),
       before.2,
     )
 lasts_by_another can reply members k m row e (Free key n task) h by kept = λ rules.
     let other : (n == k) ≡ false = rw by.0 e in
     let before = kept rules.1 in (
       before.0,
-      (λ x is. held_by_another_stays_freed key x (asker k h) n task h rules.0 (owner_of_another_member n k task (executed_task k h) other) ∙ before.1 x is),
+      (λ x is. (held_by_another_stays_freed key x (asker k h) n task h rules.0 (owner_of_another_member n k task (executed_task k h) other) ∙ (before.1 x is).0, (before.1 x is).1)),
       before.2,
     )
 lasts_by_another can reply members k m row e (Start task n) h by kept = λ rules.
@@ -132,6 +159,9 @@ lasts_by_another can reply members k m row e (Start task n) h by kept = λ rules
 lasts_by_another can reply members k m row e (Done task n) h by kept = λ rules.
     let other : (n == k) ≡ false = rw by.0 e in
     let before = kept rules.1 in ((λ arrives. rw other (before.0 arrives)), (λ x is. rw other (before.1 x is)), before.2)
+lasts_by_another can reply members k m row e (See n kind) h by kept = λ rules.
+    let other : (n == k) ≡ false = rw by.0 e in
+    let before = kept rules.1 in (before.0, (λ x is. ((before.1 x is).0, rw other (before.1 x is).1)), before.2)
 lasts_by_another can reply members k m row e _ h by kept = λ rules. kept rules.1
 
 pub lasts_other : (row : Row) → IsSound row → (repeated : Bool) (members k m : ℕ) (p : Past) (reply : Reply) (waiting : Row) → (m == k) ≡ false → Always (TeamRule members) (events_after repeated row m p reply) → Lasts waiting k p.events →
@@ -139,12 +169,18 @@ pub lasts_other : (row : Row) → IsSound row → (repeated : Bool) (members k m
 lasts_other row sound repeated members k m p reply waiting e rules lasts =
     step_keeps row sound repeated m p reply (λ now. Always (TeamRule members) now → Lasts waiting k now) (lasts_by_another (gives_of row) reply members k m waiting e) (λ before. lasts) rules
 
+-- nor does one that is to wait see that the region is cancelled
+sees_no_region : (n m : ℕ) (region leaves : Bool) → (region ≡ true → false ≡ true) → leaves ≡ false → (n == m && region || leaves) ≡ false
+sees_no_region n m true leaves waits stays = absurd (let told = waits refl in cc)
+sees_no_region n m false leaves waits stays = rw (and_false (n == m) false refl) stays
+
 -- a call that is to wait holds and frees nothing, and starts and ends no task
 lasts_while_waiting : (can : Gives) (m : ℕ) (row : Row) → LastKeeps can m Wait (Lasts row m)
 lasts_while_waiting can m row (Hold key n task) h by lasts = absurd (let wait = by.2 in cc)
 lasts_while_waiting can m row (Free key n task) h by lasts = absurd (let wait = by.2 in cc)
 lasts_while_waiting can m row (Start task n) h by lasts = absurd (let wait = by.1 in cc)
 lasts_while_waiting can m row (Done task n) h by lasts = absurd (let wait = by.1 in cc)
+lasts_while_waiting can m row (See n kind) h by lasts = (lasts.0, (λ x is. ((lasts.1 x is).0, sees_no_region n m (same_cancel kind Parallel) (leaves_region m h) by.1 (lasts.1 x is).1)), lasts.2)
 lasts_while_waiting can m row _ h by lasts = lasts
 
 pub lasts_own : (row : Row) → IsSound row → (repeated : Bool) (m : ℕ) (p : Past) → Lasts row m p.events → Lasts row m (events_after repeated row m p Wait)

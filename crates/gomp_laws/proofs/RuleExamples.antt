@@ -1,6 +1,6 @@
 -- Each field of each rule by itself refuses an event after some others.
 -- Only that field refuses it, so the example fails with the field; and it is computed, with none of the lemmas about the rules.
-use Rattle.std.proofs.Common.{◌≡◌, ℕ, true, false, [], ◌∷◌, Option, Some, None, zero, suc, refl, ap, arith}
+use Rattle.std.proofs.Common.{◌≡◌, ℕ, true, false, [], ◌∷◌, Option, Some, None, zero, suc, refl, ap, arith, inl, inr}
 use Rattle.std.specs.Prelude.{pos}
 use Rattle.gomp_types.specs.declared.loop_desc.EndKind.TheVariants.{Nowait}
 use Rattle.gomp_types.specs.declared.shape.Shape.{Shape}
@@ -161,7 +161,10 @@ rule_end_outside may = no_share _ _ may.inside
 
 -- one with a piece for it
 pub rule_end_early : RefusedAfter (ShareRule (schedule 1) 1) (Enter 0 0 (four false) ∷ Take 0 0 0 2 ∷ []) (End 0 0)
-rule_end_early may = let same = is_shape _ _ _ may.inside in let none = rw (← same) at may.none in absurd (cc)
+rule_end_early may = elim may.done [
+  | inl none ↦ let same = is_shape _ _ _ may.inside in let nothing = rw (← same) at none in absurd (cc)
+  | inr leaving ↦ absurd (cc)
+]
 
 -- while it is in an ordered part
 pub rule_end_in_part : RefusedAfter (ShareRule (schedule 1) 1) (Enter 0 0 (four true) ∷ Take 0 0 0 2 ∷ Take 0 0 2 4 ∷ Part 0 0 2 ∷ []) (End 0 0)
@@ -239,7 +242,7 @@ rule_arrive_ahead may = absurd (let number = may.number in omega arith)
 
 -- and with another tag than the other member
 pub rule_arrive_otherwise : RefusedAfter (ArrivalRule 2) (Arrive 0 1 (at RegionEnd 0) ∷ []) (Arrive 0 0 (at Barrier 0))
-rule_arrive_otherwise may = absurd (let same = ap (λ (tag : Tag). tag.kind) (may.same (at RegionEnd 0) refl) in cc)
+rule_arrive_otherwise may = absurd (let same = ap (λ (tag : Tag). tag.kind) (may.same refl (at RegionEnd 0) refl) in cc)
 
 -- it passes its second barrier first, though all are there
 pub rule_pass_ahead : RefusedAfter (ArrivalRule 1) (Arrive 0 0 (at Barrier 0) ∷ Arrive 1 0 (at Barrier 0) ∷ []) (Pass 1 0)
@@ -343,11 +346,11 @@ team_arrive_stranger may = absurd (let member = may.member in omega arith)
 
 -- a member arrives inside of a share
 pub team_arrive_inside : RefusedAfter (TeamRule 1) (Enter 0 0 (four false) ∷ []) (Arrive 0 0 (at Barrier 1))
-team_arrive_inside may = absurd (let outside = may.outside in cc)
+team_arrive_inside may = absurd (let outside = may.outside refl in cc)
 
 -- a member arrives twice at one barrier
 pub team_arrive_twice : RefusedAfter (TeamRule 2) (Arrive 0 0 (at Barrier 0) ∷ []) (Arrive 0 0 (at Barrier 0))
-team_arrive_twice may = absurd (let once = may.once in cc)
+team_arrive_twice may = absurd (let once = may.once refl in cc)
 
 -- a member tells a share that it has not entered
 pub team_arrive_miscounted : RefusedAfter (TeamRule 1) [] (Arrive 0 0 (at Barrier 1))

@@ -4,9 +4,9 @@ use Rattle.std.specs.Prelude.{ℤ, not, map, min}
 use Rattle.std.specs.Int.{div_ceil}
 use Rattle.std.specs.List.{range_with_len}
 use Rattle.gomp_types.specs.declared.loop_desc.EndKind.{EndKind}
-use Rattle.gomp_types.specs.declared.loop_desc.EndKind.TheVariants.{Wait as WaitEnd, Nowait}
+use Rattle.gomp_types.specs.declared.loop_desc.EndKind.TheVariants.{Wait as WaitEnd, Nowait, Cancellable}
 use Rattle.gomp_types.specs.declared.reply.Reply.{Reply}
-use Rattle.gomp_types.specs.declared.reply.Reply.TheVariants.{Chunk, Section, Wait, Created, Run, TaskDone, Refused}
+use Rattle.gomp_types.specs.declared.reply.Reply.TheVariants.{Chunk, Section, Wait, Cancelled, Created, Run, TaskDone, Dropped, Refused}
 use Rattle.gomp_types.specs.declared.shape.Shape.{Shape}
 use Rattle.gomp_types.specs.declared.shape.ShareKind.{ShareKind}
 use Rattle.gomp_types.specs.declared.shape.ShareKind.TheVariants as kinds
@@ -17,17 +17,16 @@ use Rattle.gomp_types.specs.Pieces.{Piece, dynamic_piece}
 use Rattle.gomp_types.specs.Sections.{sections_shape, sections_tests}
 use Rattle.gomp_types.specs.Shapes.{is_loop, is_sections, is_copy}
 use Rattle.gomp_types.specs.Deals.{schedule, next_for}
-use Rattle.gomp_types.specs.Events.{open_share, share_number, in_kind, has_drained, in_part, holds_piece}
+use Rattle.gomp_types.specs.Events.{open_share, in_kind, in_part, holds_piece}
 use Rattle.gomp_types.specs.Laws.{Always}
-use Rattle.gomp_laws.specs.Rules.{TeamRule, MayLeave}
+use Rattle.gomp_laws.specs.Rules.{TeamRule}
 use Rattle.gomp_types.proofs.IterationValues.{step_starts_below}
-use Rattle.gomp_types.proofs.Booleans.{not_both, not_false}
-use Rattle.gomp_shares.proofs.SharesKeep.{drained_none}
+use Rattle.gomp_types.proofs.Booleans.{or_right, not_both, not_false}
 use Rattle.gomp_shares.proofs.PartsKeep.{apart_by, ordered_loop, sections_away}
-use Rattle.gomp_laws.proofs.HandedOn.{told_holds_none}
+use Rattle.gomp_laws.proofs.CancelledEnds.{MayEndShare}
 use Rattle.gomp_laws.proofs.TeamShares.{share_rules}
 use Rattle.gomp_shares.specs.Sections.{DealsSections, section_given, section_next_given, sections_end_tests}
-use Rattle.gomp_model.specs.Sections.{sections_start_row, sections_next_row, sections_end_row, sections_end_nowait_row}
+use Rattle.gomp_model.specs.Sections.{sections_start_row, sections_next_row, sections_end_row, sections_end_cancel_row, sections_end_nowait_row}
 use Rattle.gomp_laws.proofs.Sound.{AreOwn, own_given, IsSound, quiet, outside_lasts}
 use Rattle.gomp_laws.proofs.Starts.{IsShareReply, IsDeal, start_sound}
 use Rattle.gomp_laws.proofs.Arrivals.{IsEnd, end_sound, end_arrival_sound}
@@ -121,20 +120,15 @@ sections_wordless : (kind : ShareKind) → is_sections kind ≡ true → is_copy
 sections_wordless kinds.Sections e = refl
 sections_wordless _ e = absurd (cc)
 
-sections_leave : (members m : ℕ) (h : List Event) (own : Option (ℕ × Shape)) → open_share m h ≡ own → not (in_kind is_sections own) ≡ false → not (has_drained m h) ≡ false → Always (TeamRule members) h → MayLeave members (share_number own) m h
-sections_leave members m h None at within drained all = absurd (cc)
-sections_leave members m h (Some share) at within drained all =
-    let told = not_false (has_drained m h) drained in
-    let sections = not_false (is_sections share.1.kind) within in
-    let rules = share_rules members h all in record {
-      done = record {
-        shape = share.1;
-        inside = at;
-        none = drained_none (schedule members) members m share.0 share.1 h rules at told;
-        apart = apart_by (schedule members) members m h rules (rw at (sections_away (Some share) sections));
-      };
-      words = λ copies. absurd (not_both (is_copy share.1.kind) copies (sections_wordless share.1.kind sections));
-      handed_on = λ ordered. told_holds_none members m share.0 share.1 h all at ordered told;
+sections_may_end : (members m : ℕ) (h : List Event) (own : Option (ℕ × Shape)) → open_share m h ≡ own → not (in_kind is_sections own) ≡ false → Always (TeamRule members) h → MayEndShare m h
+sections_may_end members m h None at within all = absurd (cc)
+sections_may_end members m h (Some share) at within all =
+    let sections = not_false (is_sections share.1.kind) within in record {
+      share = share;
+      inside = at;
+      construct = or_right (is_loop share.1.kind) (is_sections share.1.kind) sections;
+      wordless = sections_wordless share.1.kind sections;
+      apart = apart_by (schedule members) members m h (share_rules members h all) (rw at (sections_away (Some share) sections));
     }
 
 sections_deal : (count : ℕ) (end_kind : EndKind) → IsDeal (sections_tests count) (sections_shape count end_kind) DealsSections section_given
@@ -151,6 +145,7 @@ sections_deal count end_kind =
       moves = λ fail. λ e. cc;
       chunked = omega arith;
       ordered = λ e. absurd (cc);
+      unordered = λ fail may. refl;
       keeps = λ members m share reply h fail may at apart held all. section_keeps members m share shape reply h (Enter share m shape ∷ h) refl at apart (λ ordered. held) may all;
       no_memory = refl;
     }
@@ -166,13 +161,14 @@ pub sections_next_sound : IsSound sections_next_row
 sections_next_sound = record {
   decided = λ m p a b x y. inl (one_section p.terms.members m (open_share m p.events) a b p.events x y);
   accepts = λ m p refusal x. section_by_share p.terms.members m (open_share m p.events) (Refused refusal) p.events x;
-  answered = λ repeated m p ready all. section_some p.terms.members m p.events (open_share m p.events) (ready.place refl).0;
+  answered = λ repeated m p ready all. section_some p.terms.members m p.events (open_share m p.events) (ready.place refl refl).0;
   counts = λ repeated m p first count ready all may. section_counts p.terms.members m (open_share m p.events) first count p.events may;
   begins_own = λ m p. tt;
   gives_own = λ m p reply. own_given quiet m reply (section_next_given (open_share m p.events) m reply) (section_next_own (open_share m p.events) m reply);
   begins_keep = λ m p ready all. all;
-  gives_keep = λ repeated m p reply ready may all. section_next_keeps p.terms.members m reply p.events (open_share m p.events) refl (ready.place refl).0 may all;
+  gives_keep = λ repeated m p reply ready may all. section_next_keeps p.terms.members m reply p.events (open_share m p.events) refl (ready.place refl refl).0 may all;
   still = λ stays m p. (refl, section_next_still (open_share m p.events) m);
+  placed = λ stays m h. refl;
   outside = λ arrives m p fail. absurd (cc);
   tells = λ arrives m p reply may. absurd (cc);
   one_pass = λ arrives m p. absurd (cc);
@@ -184,15 +180,21 @@ sections_next_sound = record {
   runs = λ m p task code arg own may. absurd (section_by_share p.terms.members m (open_share m p.events) (Run task code arg own) p.events may);
   ends = λ m p task waiting may. absurd (section_by_share p.terms.members m (open_share m p.events) (TaskDone task waiting) p.events may);
   created = λ repeated m p task ready may. absurd (section_by_share p.terms.members m (open_share m p.events) (Created task) p.events may);
+  cancelled = λ m p may. absurd (section_by_share p.terms.members m (open_share m p.events) Cancelled p.events may);
+  dropped = λ repeated m p ready all may. absurd (section_by_share p.terms.members m (open_share m p.events) Dropped p.events may);
+  allowed = λ cancels m p. absurd (cc);
   no_memory = λ m p. (refl, refl, refl, refl, λ repeated. refl);
   words_keep = λ puts repeated m p reply ready may all. absurd (cc);
 }
 
 sections_ends : (kind : EndKind) → IsEnd (sections_end_tests kind)
-sections_ends kind = record { leaves = λ members m h fail all. sections_leave members m h (open_share m h) refl fail.0 fail.1.1.0 all; no_memory = λ seen. refl }
+sections_ends kind = record { inside = λ members m h fail all. sections_may_end members m h (open_share m h) refl fail.0 all; no_memory = λ seen. refl }
 
 pub sections_end_sound : IsSound sections_end_row
 sections_end_sound = end_arrival_sound (sections_end_tests WaitEnd) ShareEnd (sections_ends WaitEnd)
 
 pub sections_end_nowait_sound : IsSound sections_end_nowait_row
 sections_end_nowait_sound = end_sound (sections_end_tests Nowait) (sections_ends Nowait)
+
+pub sections_end_cancel_sound : IsSound sections_end_cancel_row
+sections_end_cancel_sound = end_arrival_sound (sections_end_tests Cancellable) ShareEnd (sections_ends Cancellable)

@@ -15,7 +15,7 @@ use Rattle.gomp_types.specs.Deals.{schedule, next_for, taken_in}
 use Rattle.gomp_types.specs.Events.{open_share, share_number, in_kind, last_piece, in_part, holds_piece, has_piece, payload_at}
 use Rattle.gomp_types.specs.Laws.{Always}
 use Rattle.gomp_laws.specs.Rules.{TeamRule, MayPut}
-use Rattle.gomp_shares.specs.Rules.{HasNone}
+use Rattle.gomp_shares.specs.Rules.{HasNone, MayLeave}
 use Rattle.gomp_types.specs.Seen.{seen_of}
 use Rattle.gomp_types.proofs.Booleans.{and_left, and_right, not_both, not_false, same_number}
 use Rattle.gomp_shares.proofs.SinglesKeep.{single_is_done}
@@ -111,15 +111,15 @@ single_keeps members m share (Executor true) h may at apart held all =
     let shape = single_shape false in
     let now : List Event = Take share m 0 1 ∷ Enter share m shape ∷ h in
     let rules : Always (TeamRule members) now = (record { takes = record { shape = shape; inside = at; next = may; apart = apart }; handed_on = λ ordered. held }, all) in
-    let done : HasNone (schedule members) share m now = record {
+    let done : MayLeave (schedule members) share m now = record {
       shape = shape;
       inside = at;
-      none = single_is_done members m share shape now (share_rules members now rules) at refl (rw (same_number m) refl);
+      done = inl (single_is_done members m share shape now (share_rules members now rules) at refl (rw (same_number m) refl));
       apart = apart;
     } in (record { done = done; words = λ copies. absurd (cc); handed_on = λ ordered. absurd (cc) }, rules)
 single_keeps members m share (Executor false) h may at apart held all =
     let shape = single_shape false in
-    let done : HasNone (schedule members) share m (Drained share m ∷ Enter share m shape ∷ h) = record { shape = shape; inside = at; none = may; apart = apart } in (
+    let done : MayLeave (schedule members) share m (Drained share m ∷ Enter share m shape ∷ h) = record { shape = shape; inside = at; done = inl may; apart = apart } in (
       record { done = done; words = λ copies. absurd (cc); handed_on = λ ordered. absurd (cc) },
       (record { done = record { shape = shape; inside = at; none = may; apart = apart }; handed_on = λ ordered. held }, all),
     )
@@ -134,7 +134,7 @@ copy_keeps members m share Wait h may at apart held all = all
 copy_keeps members m share (Copied payload) h may at apart held all =
     let shape = single_shape true in
     let told : HasNone (schedule members) share m (Enter share m shape ∷ h) = record { shape = shape; inside = at; none = may.0; apart = apart } in
-    let done : HasNone (schedule members) share m (Got share m payload ∷ Drained share m ∷ Enter share m shape ∷ h) = record { shape = shape; inside = at; none = may.0; apart = apart } in
+    let done : MayLeave (schedule members) share m (Got share m payload ∷ Drained share m ∷ Enter share m shape ∷ h) = record { shape = shape; inside = at; done = inl may.0; apart = apart } in
     let below : has_piece share m h ≡ false = subst (λ (i : ℕ). has_piece i m h ≡ false) (sym all.0.number) (takes_below (schedule members) members m h (share_rules members h all.1)) in (
       record { done = done; words = λ copies. rw (same_number share, same_number m) refl; handed_on = λ ordered. absurd (cc) },
       (record { shape = shape; inside = at; other = below; words = may.1 }, (record { done = told; handed_on = λ ordered. held }, all)),
@@ -152,6 +152,7 @@ single_deal = record {
   moves = λ fail. λ e. cc;
   chunked = omega arith;
   ordered = λ e. absurd (cc);
+  unordered = λ fail may. refl;
   keeps = λ members m share reply h fail may at apart held all. single_keeps members m share reply h may at apart held all;
   no_memory = refl;
 }
@@ -167,6 +168,7 @@ copy_deal = record {
   moves = λ fail. λ e. cc;
   chunked = omega arith;
   ordered = λ e. absurd (cc);
+  unordered = λ fail may. refl;
   keeps = λ members m share reply h fail may at apart held all. copy_keeps members m share reply h may at apart held all;
   no_memory = refl;
 }
@@ -195,10 +197,10 @@ put_keeps members m payload h (Some share) at copies piece words all =
     let single = copy_is_single share.1.kind copies in
     let put : MayPut share.0 m h = record { shape = share.1; inside = at; copies = copies; executor = piece; once = words_to_come m h (Some share) at copies piece words } in
     let now : List Event = Put share.0 m payload ∷ h in
-    let done : HasNone (schedule members) share.0 m now = record {
+    let done : MayLeave (schedule members) share.0 m now = record {
       shape = share.1;
       inside = at;
-      none = single_is_done members m share.0 share.1 h rules at single piece;
+      done = inl (single_is_done members m share.0 share.1 h rules at single piece);
       apart = apart_by (schedule members) members m h rules (rw at (copy_away (Some share) copies));
     } in (
       record {
@@ -222,7 +224,7 @@ is_its_executor m h e =
 end_words : (payload : List ℕ) (repeated : Bool) (m : ℕ) (p : Past) → Ready (single_copy_end_row payload) repeated m p → Always (TeamRule p.terms.members) p.events → WordsToCome p.events → WordsToCome (unless_repeated (words_put payload m p.events) repeated ++ p.events)
 end_words payload true m p ready all words = words
 end_words payload false m p ready all words =
-    let is = is_its_executor m p.events (ready.place refl).0 in put_words p.terms.members m payload p.events (open_share m p.events) refl is.0 is.1 all words
+    let is = is_its_executor m p.events (ready.place refl refl).0 in put_words p.terms.members m payload p.events (open_share m p.events) refl is.0 is.1 all words
 
 pub single_copy_end_sound : (payload : List ℕ) → IsSound (single_copy_end_row payload)
 single_copy_end_sound payload = record {
@@ -233,9 +235,10 @@ single_copy_end_sound payload = record {
   begins_own = λ m p. (refl, ((refl, refl), tt));
   gives_own = λ m p reply. tt;
   begins_keep = λ m p ready all.
-      let is = is_its_executor m p.events (ready.place refl).0 in put_keeps p.terms.members m payload p.events (open_share m p.events) refl is.0 is.1 ready.words all;
+      let is = is_its_executor m p.events (ready.place refl refl).0 in put_keeps p.terms.members m payload p.events (open_share m p.events) refl is.0 is.1 ready.words all;
   gives_keep = λ repeated m p reply ready may all. all;
   still = λ stays m p. absurd (cc);
+  placed = λ stays m h. refl;
   outside = λ arrives m p fail. absurd (cc);
   tells = λ arrives m p reply may. absurd (cc);
   one_pass = λ arrives m p. absurd (cc);
@@ -247,6 +250,9 @@ single_copy_end_sound payload = record {
   runs = λ m p task code arg own may. absurd (cc);
   ends = λ m p task waiting may. absurd (cc);
   created = λ repeated m p task ready may. absurd (cc);
+  cancelled = λ m p may. absurd (cc);
+  dropped = λ repeated m p ready all may. absurd (cc);
+  allowed = λ cancels m p. absurd (cc);
   no_memory = λ m p. (refl, refl, refl, refl, λ repeated. refl);
   words_keep = λ puts repeated m p reply ready may all. end_words payload repeated m p ready all ready.words;
 }

@@ -11,14 +11,15 @@ use Rattle.gomp_types.specs.declared.reply.Reply.{Reply}
 use Rattle.gomp_types.specs.declared.reply.Reply.TheVariants.{Refused}
 use Rattle.gomp_types.specs.RefusalTexts.{number_of}
 use Rattle.gomp_types.specs.Events.{clash_of}
-use Rattle.gomp_types.specs.TaskCalls.{room_tests}
+use Rattle.gomp_types.specs.TaskCalls.{unless_given_up}
+use Rattle.gomp_types.specs.declared.event.Event.{Event}
 use Rattle.gomp_types.specs.Tests.{Test}
 use Rattle.gomp_types.proofs.Booleans.{and_left, and_right}
 use Rattle.std.proofs.lemmas.Bool.{cases_Bool}
 use Rattle.gomp_types.specs.Least.{lesser, least}
 use Rattle.gomp_types.specs.Seen.{seen_of}
 use Rattle.gomp_model.specs.Past.{Terms, Past}
-use Rattle.gomp_model.specs.Row.{Row, begun_past, place_tests, board_tests, book_tests, row_tests}
+use Rattle.gomp_model.specs.Row.{Row, begun_past, asks_memory, drain_tests, place_tests, asked_tests, board_tests, book_tests, row_tests}
 use Rattle.gomp_model.specs.Calls.{row_of}
 use Rattle.gomp_model.specs.Team.{Record, call_meant, is_resume, row_at, broken_tests, member_tests, wait_tests, tests_of, refusal_of, MayRefuse, MayAnswer, past_of, Caused, SomeReply}
 use Rattle.gomp_laws.proofs.Sound.{is_memory, memoryless, clean_append, IsSound}
@@ -59,15 +60,29 @@ wait_clean Resume waiting = refl
 wait_clean Stop waiting = refl
 wait_clean _ waiting = refl
 
+given_clean : (gives_up : Bool) (tests : List Test) → memoryless tests ≡ true → memoryless (unless_given_up gives_up tests) ≡ true
+given_clean true tests clean = refl
+given_clean false tests clean = clean
+
+drain_clean : (drains : Bool) (m : ℕ) (h : List Event) → memoryless (drain_tests drains m h) ≡ true
+drain_clean true m h = refl
+drain_clean false m h = refl
+
+asked_clean : (drops : Bool) (row : Row) (p : Past) → memoryless (asked_tests drops row p) ≡ true
+asked_clean true row p = refl
+asked_clean false row p = refl
+
 row_clean : (row : Row) → IsSound row → (repeated : Bool) (m : ℕ) (p : Past) → memoryless (row_tests repeated row m p) ≡ true
 row_clean row sound true m p =
     let clean = sound.no_memory m p in clean_append (row.compared true m p) (row.missing m p) (clean.4 true) clean.3
 row_clean row sound false m p =
     let clean = sound.no_memory m p in
     let by_place = row.by_place p.terms.limits (seen_of m p.events) in
-    let room = room_tests p.terms.limits p.room row.room in
-    let place = clean_append by_place (row.compared false m p) clean.0 (clean.4 false) in
-    let board = clean_append (row.by_task m p) room clean.1 refl in
+    let given = unless_given_up (row.gives_up m p.events) by_place in
+    let drained = drain_tests row.drains m p.events in
+    let asked = asked_tests (row.drops m p) row p in
+    let place = clean_append given (drained ++ row.compared false m p) (given_clean (row.gives_up m p.events) by_place clean.0) (clean_append drained (row.compared false m p) (drain_clean row.drains m p.events) (clean.4 false)) in
+    let board = clean_append (row.by_task m p) asked clean.1 (asked_clean (row.drops m p) row p) in
     let book = clean_append (row.by_team m p) (row.missing m p) clean.2 clean.3 in
     clean_append (place_tests false row m p) (board_tests false row m p ++ book_tests false row m p) place (clean_append (board_tests false row m p) (book_tests false row m p) board book)
 
@@ -89,7 +104,7 @@ unrefused_step_may_answer p step _ none may = (none, may)
 by_first : (p : Past) (step : Step) (first : Option Refusal) → refusal_of p step ≡ first → Known p → SomeReply p step
 by_first p step (Some refusal) e known =
     let other = not_memory (tests_of p step) refusal (step_clean p step) e in
-    (Refused refusal, (λ same. let is : refusal ≡ NoMemory = cc in absurd (let bad : is_memory NoMemory ≡ false = rw is at other in cc)), may_refuse (refusal_of p step) refusal (row_of step.call).memory e other)
+    (Refused refusal, (λ same. let is : refusal ≡ NoMemory = cc in absurd (let bad : is_memory NoMemory ≡ false = rw is at other in cc)), may_refuse (refusal_of p step) refusal (asks_memory (row_of step.call) step.member p) e other)
 by_first p step None e known =
     let s = row_is_sound (call_meant step.call (p.waits step.member).open_call) in
     let found = s.answered (is_resume step.call) step.member p (unrefused_step_is_ready p step e known) known.rule in (
@@ -104,4 +119,4 @@ some_reply_of terms run step caused = by_first (past_of terms run) step (refusal
 
 -- The first test that holds is an answer
 pub refused_so : (p : Past) (step : Step) (refusal : Refusal) → refusal_of p step ≡ Some refusal → MayAnswer p step (Refused refusal)
-refused_so p step refusal e = may_refuse (refusal_of p step) refusal (row_of step.call).memory e (not_memory (tests_of p step) refusal (step_clean p step) e)
+refused_so p step refusal e = may_refuse (refusal_of p step) refusal (asks_memory (row_of step.call) step.member p) e (not_memory (tests_of p step) refusal (step_clean p step) e)

@@ -5,9 +5,9 @@ use Rattle.std.specs.Prelude.{ℤ, ◌⊎◌, ◌<◌, ◌&&◌, ◌||◌, not, 
 use Rattle.gomp_types.specs.declared.refusal.Refusal.{Refusal}
 use Rattle.gomp_types.specs.declared.refusal.Refusal.TheVariants.{Mismatch, NoMemory}
 use Rattle.gomp_types.specs.declared.reply.Reply.{Reply}
-use Rattle.gomp_types.specs.declared.reply.Reply.TheVariants.{Chunk, Passed, Wait, Created, Run, TaskDone, Count, Stopped, Refused}
+use Rattle.gomp_types.specs.declared.reply.Reply.TheVariants.{Chunk, Passed, Cancelled, Wait, Created, Run, TaskDone, Dropped, Count, Cancelling, Stopped, Refused}
 use Rattle.gomp_types.specs.declared.event.Event.{Event}
-use Rattle.gomp_types.specs.declared.event.Event.TheVariants.{Arrive, Put, Pass, Hold, Free, Create, Start, Done, Break}
+use Rattle.gomp_types.specs.declared.event.Event.TheVariants.{Arrive, Put, Pass, Hold, Free, Create, Start, Done, Cancel, Discard, See, Break}
 use Rattle.gomp_types.specs.Tests.{Test}
 use Rattle.gomp_types.specs.declared.task.Task.TheVariants.{Explicit}
 use Rattle.gomp_types.specs.declared.task.TaskDesc.{TaskDesc}
@@ -17,9 +17,11 @@ use Rattle.gomp_types.specs.declared.task.Task.{Task}
 use Rattle.gomp_types.specs.Tasks.{executed_task, in_task, task_desc, newest_child, is_undeferred}
 use Rattle.gomp_types.specs.Goals.{may_start}
 use Rattle.gomp_types.specs.TaskCalls.{HasJob}
+use Rattle.gomp_types.specs.declared.cancel.CancelKind.TheVariants.{Parallel, Taskgroup}
+use Rattle.gomp_types.specs.Cancels.{same_cancel, is_cancelled, would_be_covered, leaves_region}
 use Rattle.gomp_laws.specs.Rules.{TeamRule}
 use Rattle.gomp_types.specs.Seen.{seen_of}
-use Rattle.gomp_types.proofs.Booleans.{and_left, and_right}
+use Rattle.gomp_types.proofs.Booleans.{and_left, and_right, not_both}
 use Rattle.gomp_types.proofs.LeastTests.{AllFail}
 use Rattle.gomp_laws.proofs.WordsToCome.{WordsToCome}
 use Rattle.gomp_types.specs.declared.lock.Held.{Held}
@@ -27,7 +29,7 @@ use Rattle.gomp_locks.specs.Book.{held_by}
 use Rattle.gomp_locks.specs.Locks.{count_for}
 use Rattle.gomp_locks.specs.Holders.{asker, holder}
 use Rattle.gomp_model.specs.Past.{Past}
-use Rattle.gomp_model.specs.Row.{Row, begun_past, given_after, goes_on, MayGoOn}
+use Rattle.gomp_model.specs.Row.{Row, begun_past, given_after, drain_tests, leaving_tests, goes_on, MayGoOn}
 use Rattle.gomp_model.specs.Team.{both_run}
 
 -- whether a refusal is want of memory
@@ -59,6 +61,17 @@ is_end _ = false
 abbrev pub Same : Reply → Reply → Type 0
 Same a b = (a ≡ b) ⊎ (both_run a b ≡ true)
 
+-- whether it is that the region is cancelled
+abbrev pub is_cut : Reply → Bool
+is_cut Cancelled = true
+is_cut _ = false
+
+-- whether it tells that something is cancelled
+abbrev pub tells_of_cancellation : Reply → Bool
+tells_of_cancellation Cancelled = true
+tells_of_cancellation (Cancelling is) = is
+tells_of_cancellation _ = false
+
 -- whether the team is broken with it
 abbrev pub breaks : Reply → Bool
 breaks Stopped = true
@@ -73,28 +86,34 @@ pub record Gives : Type 0 where
   pub creates : Bool
   pub puts : Bool
   pub holds : Option Key
+  pub cancels : Bool
 
 -- none of them
 abbrev pub quiet : Gives
-quiet = record { arrives = false; creates = false; puts = false; holds = None }
+quiet = record { arrives = false; creates = false; puts = false; holds = None; cancels = false }
 
 -- an arrival alone
 abbrev pub only_arrives : Gives
-only_arrives = record { arrives = true; creates = false; puts = false; holds = None }
+only_arrives = record { arrives = true; creates = false; puts = false; holds = None; cancels = false }
 
 -- that a task is created, alone
 abbrev pub only_creates : Gives
-only_creates = record { arrives = false; creates = true; puts = false; holds = None }
+only_creates = record { arrives = false; creates = true; puts = false; holds = None; cancels = false }
 
 -- that this key is held or freed, alone
 abbrev pub only_holds : Key → Gives
-only_holds key = record { arrives = false; creates = false; puts = false; holds = Some key }
+only_holds key = record { arrives = false; creates = false; puts = false; holds = Some key; cancels = false }
+
+-- that something is cancelled, alone
+abbrev pub only_cancels : Gives
+only_cancels = record { arrives = false; creates = false; puts = false; holds = None; cancels = true }
 
 -- what a row allows
 abbrev pub gives_of : Row → Gives
-gives_of row = record { arrives = is_some row.arrives; creates = is_some row.creates; puts = row.puts; holds = row.holds }
+gives_of row = record { arrives = is_some row.arrives; creates = is_some row.creates; puts = row.puts; holds = row.holds; cancels = is_some row.cancels }
 
--- an event of the member that neither passes a barrier, nor holds or frees anything, nor starts or ends a task, nor breaks the team; it arrives, creates a task or puts words only if its call does
+-- an event of the member that neither passes a barrier, nor holds or frees anything, nor starts or ends a task, nor sees that the region or its task is cancelled, nor breaks the team;
+-- it arrives, creates a task, puts words or cancels something only if its call does
 abbrev pub IsOwn : Gives → ℕ → Event → Type 0
 IsOwn can m (Arrive barrier n tag) = (n ≡ m) × (can.arrives ≡ true)
 IsOwn can m (Create task n parent desc) = (n ≡ m) × (can.creates ≡ true)
@@ -104,6 +123,9 @@ IsOwn can m (Hold key n task) = ⊥
 IsOwn can m (Free key n task) = ⊥
 IsOwn can m (Start task n) = ⊥
 IsOwn can m (Done task n) = ⊥
+IsOwn can m (Cancel n scope) = (n ≡ m) × (can.cancels ≡ true)
+IsOwn can m (Discard task n) = (n ≡ m) × (can.cancels ≡ true)
+IsOwn can m (See n kind) = (n ≡ m) × (same_cancel kind Parallel ≡ false) × (same_cancel kind Taskgroup ≡ false)
 IsOwn can m (Break n place) = ⊥
 IsOwn can m event = member_of event ≡ m
 
@@ -112,13 +134,14 @@ abbrev pub AreOwn : Gives → ℕ → List Event → Type 0
 AreOwn can m [] = Unit {0}
 AreOwn can m (event ∷ events) = IsOwn can m event × AreOwn can m events
 
--- the newest event of a reply may pass a barrier, hold or free what the call is about, start or end a task, or break the team, if the reply says so
+-- the newest event of a reply may pass a barrier, hold or free what the call is about, start or end a task, see that the region or the task is cancelled, or break the team, if the reply says so
 abbrev pub IsLast : Gives → ℕ → Reply → Event → Type 0
 IsLast can m reply (Pass barrier n) = (n ≡ m) × (can.arrives ≡ true) × (is_pass reply ≡ true)
 IsLast can m reply (Hold key n task) = (n ≡ m) × (can.holds ≡ Some key) × (is_wait reply ≡ false)
 IsLast can m reply (Free key n task) = (n ≡ m) × (can.holds ≡ Some key) × (is_wait reply ≡ false)
 IsLast can m reply (Start task n) = (n ≡ m) × (is_run reply ≡ true)
 IsLast can m reply (Done task n) = (n ≡ m) × (is_end reply ≡ true)
+IsLast can m reply (See n kind) = (n ≡ m) × (same_cancel kind Parallel ≡ true → tells_of_cancellation reply ≡ true) × (same_cancel kind Taskgroup ≡ true → tells_of_cancellation reply ≡ true)
 IsLast can m reply (Break n place) = (n ≡ m) × (breaks reply ≡ true)
 IsLast can m reply event = IsOwn can m event
 
@@ -133,6 +156,7 @@ own_last can m reply (Hold key n task) own = absurd own
 own_last can m reply (Free key n task) own = absurd own
 own_last can m reply (Start task n) own = absurd own
 own_last can m reply (Done task n) own = absurd own
+own_last can m reply (See n kind) own = (own.0, (λ region. absurd (not_both (same_cancel kind Parallel) region own.1)), (λ group. absurd (not_both (same_cancel kind Taskgroup) group own.2)))
 own_last can m reply (Break n place) own = absurd own
 own_last can m reply _ own = own
 
@@ -163,10 +187,13 @@ abbrev pub shows : Bool → Bool → Bool
 shows true repeated = true
 shows false repeated = not repeated
 
--- what holds on of a call while it waits: a member that arrived is in no task; the task that waits for a name or a lock does not hold it;
+-- what holds on of a call while it waits: a member that arrived is in no task; the task that waits for a name or a lock does not hold it, and its member does not leave the region;
 -- and it is a call that may go on
 abbrev pub Lasts : Row → ℕ → List Event → Type 0
-Lasts row m h = (is_some row.arrives ≡ true → in_task m h ≡ false) × ((key : Key) → row.holds ≡ Some key → held_by (asker m h) (holder key h) ≡ false) × MayGoOn row m
+Lasts row m h =
+    (is_some row.arrives ≡ true → in_task m h ≡ false)
+    × ((key : Key) → row.holds ≡ Some key → (held_by (asker m h) (holder key h) ≡ false) × (leaves_region m h ≡ false))
+    × MayGoOn row m
 
 -- what a creation that is not answered whole has created in this task: the newest task in it is undeferred, and was asked for so
 abbrev pub HasCreated : Row → Task → List Event → Type 0
@@ -179,18 +206,21 @@ acts_away row = not (is_some row.arrives) && (is_some row.creates || is_some row
 -- what the tests of a call have shown, if none of them holds
 pub record Ready (row : Row) (repeated : Bool) (m : ℕ) (p : Past) : Type 0 where
   pub member : m < p.terms.members
+  -- a member that leaves something makes no call but those that let it
+  pub leaving : repeated ≡ false → AllFail (leaving_tests false row m p)
   -- a call that is repeated is tested by comparison alone, but what its place has shown holds on where it stays
-  pub place : shows row.stays repeated ≡ true → AllFail (row.by_place p.terms.limits (seen_of m p.events))
+  pub place : shows row.stays repeated ≡ true → row.gives_up m p.events ≡ false → AllFail (row.by_place p.terms.limits (seen_of m p.events))
+  pub drained : repeated ≡ false → AllFail (drain_tests row.drains m p.events)
   pub task : repeated ≡ false → AllFail (row.by_task m p)
   pub team : repeated ≡ false → AllFail (row.by_team m p)
   pub missing : AllFail (row.missing m p)
   pub lasting : repeated ≡ true → Lasts row m p.events
   pub made : repeated ≡ true → HasCreated row (executed_task m p.events) p.events
   pub compared : AllFail (row.compared repeated m p)
-  -- a call that arrives has not arrived there before
-  pub first : repeated ≡ false → is_some row.arrives ≡ true → arrival (barriers_passed m p.events) m p.events ≡ None
-  -- and one that creates a task, or holds or frees something, is made by a member that waits at no barrier, or by a task that it executes
-  pub away : acts_away row ≡ true → in_task m p.events ≡ false → at_barrier m p.events ≡ false
+  -- a call that arrives has not arrived there before, unless its member leaves the region
+  pub first : repeated ≡ false → is_some row.arrives ≡ true → leaves_region m p.events ≡ false → arrival (barriers_passed m p.events) m p.events ≡ None
+  -- and one that creates a task, or holds or frees something, is made by a member that waits at no barrier or leaves the region, or by a task that it executes
+  pub away : acts_away row ≡ true → leaves_region m p.events ≡ false → in_task m p.events ≡ false → at_barrier m p.events ≡ false
   -- the words of a single are still to be put while its executor is in it
   pub words : WordsToCome p.events
 
@@ -227,13 +257,15 @@ pub record IsSound (row : Row) : Type 0 where
       Always (TeamRule p.terms.members) (row.gives m (begun_past repeated row m p) reply ++ (begun_past repeated row m p).events)
   -- a call that stays in its place changes nothing while it waits
   pub still : row.stays ≡ true → (m : ℕ) (p : Past) → (row.begins m p ≡ []) × (row.gives m p Wait ≡ [])
+  -- nor does its member give up its share
+  pub placed : row.stays ≡ true → (m : ℕ) (h : List Event) → row.gives_up m h ≡ false
   -- no explicit task makes a call that arrives
   pub outside : is_some row.arrives ≡ true → (m : ℕ) (p : Past) → AllFail (row.by_task m p) → in_task m p.events ≡ false
-  -- a call that arrives passes the barrier, waits, or runs a task
-  pub tells : is_some row.arrives ≡ true → (m : ℕ) (p : Past) (reply : Reply) → row.may_reply m p reply → (reply ≡ Passed) ⊎ (goes_on reply ≡ true)
+  -- a call that arrives passes the barrier, waits, or runs a task, or the region is cancelled
+  pub tells : is_some row.arrives ≡ true → (m : ℕ) (p : Past) (reply : Reply) → row.may_reply m p reply → (reply ≡ Passed) ⊎ (goes_on reply ≡ true) ⊎ (reply ≡ Cancelled)
   pub one_pass : is_some row.arrives ≡ true → (m : ℕ) (p : Past) → row.gives m p Passed ≡ Pass (barriers_passed m p.events) m ∷ []
-  -- a call that arrives waits at its barrier once it has begun
-  pub arrives_there : is_some row.arrives ≡ true → (m : ℕ) (p : Past) → at_barrier m (row.begins m p ++ p.events) ≡ true
+  -- a call that arrives waits at its barrier once it has begun, if it goes on
+  pub arrives_there : is_some row.arrives ≡ true → (m : ℕ) (p : Past) (reply : Reply) → row.may_reply m (begun_past false row m p) reply → goes_on reply ≡ true → at_barrier m (begun_past false row m p).events ≡ true
   -- and gives nothing while it waits
   pub waits_quietly : is_some row.arrives ≡ true → (m : ℕ) (p : Past) → row.gives m p Wait ≡ []
   -- what holds on while it waits
@@ -255,6 +287,12 @@ pub record IsSound (row : Row) : Type 0 where
   -- a task that is told of was created by the call
   pub created : (repeated : Bool) (m : ℕ) (p : Past) (task : ℕ) → Ready row repeated m p → row.may_reply m (begun_past repeated row m p) (Created task) →
       (desc : TaskDesc) × (row.creates ≡ Some desc) × Happened (Create task m (executed_task m p.events) desc) (given_after row repeated m p (Created task))
+  -- a member is told that the region is cancelled only if it is, and sees that, alone
+  pub cancelled : (m : ℕ) (p : Past) → row.may_reply m p Cancelled → (is_cancelled p.events ≡ true) × (row.gives m p Cancelled ≡ See m Parallel ∷ [])
+  -- a task is dropped only if a cancellation reaches it
+  pub dropped : (repeated : Bool) (m : ℕ) (p : Past) → Ready row repeated m p → Always (TeamRule p.terms.members) p.events → row.may_reply m (begun_past repeated row m p) Dropped → would_be_covered (executed_task m p.events) p.events ≡ true
+  -- a call that may cancel something does so by its reply alone, and only in a team that allows that
+  pub allowed : is_some row.cancels ≡ true → (m : ℕ) (p : Past) → (row.begins m p ≡ []) × ((reply : Reply) → row.may_reply m p reply → p.terms.cancellation ≡ false → row.gives m p reply ≡ [])
   -- no test is for want of memory
   pub no_memory : (m : ℕ) (p : Past) →
       (memoryless (row.by_place p.terms.limits (seen_of m p.events)) ≡ true) × (memoryless (row.by_task m p) ≡ true) × (memoryless (row.by_team m p) ≡ true) × (memoryless (row.missing m p) ≡ true) × ((repeated : Bool) → memoryless (row.compared repeated m p) ≡ true)

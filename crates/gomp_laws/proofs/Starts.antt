@@ -4,12 +4,13 @@ use Rattle.std.specs.Prelude.{ℤ, ◌⊎◌, ◌≢◌, pos, nat_le}
 use Rattle.std.proofs.lemmas.Bool.{cases_Bool}
 use Rattle.gomp_types.specs.declared.refusal.Refusal.TheVariants.{TooManyShares}
 use Rattle.gomp_types.specs.declared.reply.Reply.{Reply}
-use Rattle.gomp_types.specs.declared.reply.Reply.TheVariants.{Chunk, Wait, Created, Run, TaskDone, Refused}
+use Rattle.gomp_types.specs.declared.reply.Reply.TheVariants.{Chunk, Wait, Cancelled, Created, Run, TaskDone, Dropped, Refused}
 use Rattle.gomp_types.specs.declared.shape.Shape.{Shape}
 use Rattle.gomp_types.specs.declared.event.Event.{Event}
 use Rattle.gomp_types.specs.declared.event.Event.TheVariants.{Enter}
 use Rattle.gomp_types.specs.Tests.{Test}
-use Rattle.gomp_types.specs.Shapes.{is_loop}
+use Rattle.gomp_types.specs.Shapes.{is_loop, same_end}
+use Rattle.gomp_types.specs.declared.loop_desc.EndKind.TheVariants.{Cancellable}
 use Rattle.gomp_types.specs.Deals.{schedule}
 use Rattle.gomp_types.specs.Laws.{Always}
 use Rattle.gomp_laws.specs.Rules.{TeamRule}
@@ -19,10 +20,14 @@ use Rattle.gomp_types.proofs.Booleans.{not_both, none_of, same_number}
 use Rattle.gomp_types.proofs.Compared.{same_shapes}
 use Rattle.gomp_types.proofs.Dealing.{schedule_deals, shape_tiles}
 use Rattle.gomp_types.proofs.LeastTests.{AllFail, fail_first}
-use Rattle.gomp_shares.specs.Starts.{Deals, Starts, behind, entry_and}
+use Rattle.gomp_shares.specs.Starts.{Deals, Starts, start_tests, compared_share, behind, entry_and}
 use Rattle.gomp_model.specs.Past.{Past}
-use Rattle.gomp_model.specs.Starts.{start_row}
+use Rattle.gomp_model.specs.Row.{Row, outside_row}
+use Rattle.gomp_model.specs.Starts.{share_room, start_row}
+use Rattle.gomp_types.specs.declared.refusal.Place.TheVariants.{Share}
+use Rattle.gomp_types.specs.Limits.{shown_number}
 use Rattle.gomp_laws.proofs.Sound.{AreOwn, own_append, own_given, memoryless, clean_append, Ready, IsSound, quiet, outside_lasts}
+use Rattle.gomp_laws.proofs.Cancels.{waits_uncancelled_sound}
 use Rattle.gomp_laws.proofs.CallsKeep.{regroup_rules}
 
 -- a start that waits found no room, and every other one found some
@@ -46,12 +51,14 @@ one_start deals members m shape a b h one x y =
       ]
     ]
 
--- what a share answers is no refusal, and nothing on tasks
+-- what a share answers is no refusal, and nothing on tasks or a cancelled region
 abbrev pub IsShareReply : Reply → Type 0
 IsShareReply (Refused refusal) = ⊥
 IsShareReply (Created task) = ⊥
 IsShareReply (Run task code arg own) = ⊥
 IsShareReply (TaskDone task waiting) = ⊥
+IsShareReply Cancelled = ⊥
+IsShareReply Dropped = ⊥
 IsShareReply _ = Unit {0}
 
 -- what a construct that is a share tells of its start: its shape, its own tests, its answers, and what these give
@@ -66,6 +73,7 @@ pub record IsDeal (own : List Test) (shape : Shape) (deals : Deals) (Given : ℕ
   pub moves : AllFail own → shape.incr ≢ pos 0
   pub chunked : 0 < shape.chunk
   pub ordered : shape.ordered ≡ true → is_loop shape.kind ≡ true
+  pub unordered : AllFail own → same_end shape.end_kind Cancellable ≡ true → shape.ordered ≡ false
   -- the member has entered the share
   pub keeps : (members m share : ℕ) (reply : Reply) (h : List Event) → AllFail own → deals members m (Some (share, shape)) reply h →
       open_share m (Enter share m shape ∷ h) ≡ Some (share, shape) → in_part m (Enter share m shape ∷ h) ≡ false → holds_piece m (Enter share m shape ∷ h) ≡ false →
@@ -95,11 +103,25 @@ start_some own shape deals Given is members m h lt fail =
       | inr full ↦ (Wait, inl full)
     ]
 
-enter_keeps : (memory : Bool) (own : List Test) (shape : Shape) (deals : Deals) (Given : ℕ → Shape → ℕ → Reply → List Event) → IsDeal own shape deals Given → (repeated : Bool) (m : ℕ) (p : Past) → Ready (start_row memory own shape deals Given) repeated m p →
+-- the row without what a cancelled region changes
+abbrev plain_start_row : Bool → List Test → Shape → Deals → (ℕ → Shape → ℕ → Reply → List Event) → Row
+plain_start_row memory own shape deals Given = record outside_row {
+  by_place = start_tests own;
+  compared = λ repeated m p. compared_share shape m p.events;
+  room = share_room shape;
+  memory = memory;
+  starts = Some shape;
+  stays = true;
+  may_reply = λ m p reply. Starts deals p.terms.members m shape reply p.events;
+  gives = λ m p reply. entry_and Given shape m p.events reply;
+  place = λ m h. Share (shown_number (shares_entered m h));
+}
+
+enter_keeps : (memory : Bool) (own : List Test) (shape : Shape) (deals : Deals) (Given : ℕ → Shape → ℕ → Reply → List Event) → IsDeal own shape deals Given → (repeated : Bool) (m : ℕ) (p : Past) → Ready (plain_start_row memory own shape deals Given) repeated m p →
     has_room p.terms.members (shares_entered m p.events) p.events ≡ true → MayEnter (schedule p.terms.members) p.terms.members (shares_entered m p.events) m shape p.events
 enter_keeps memory own shape deals Given is repeated m p ready room =
     let member = ready.member in
-    let fail = ready.place refl in record {
+    let fail = ready.place refl refl in record {
       member = member;
       number = refl;
       outside = none_of (open_share m p.events) fail.0;
@@ -107,11 +129,12 @@ enter_keeps memory own shape deals Given is repeated m p ready room =
       tiles = shape_tiles p.terms.members shape (omega arith) is.chunked;
       moves = is.moves (fail_first own ((nat_le p.terms.limits.shares (shares_entered m p.events), TooManyShares) ∷ []) fail.1);
       ordered = is.ordered;
+      unordered = is.unordered (fail_first own ((nat_le p.terms.limits.shares (shares_entered m p.events), TooManyShares) ∷ []) fail.1);
       same = same_shapes shape (shape_at (shares_entered m p.events) p.events) ready.compared.0;
       room = room;
     }
 
-start_keeps : (memory : Bool) (own : List Test) (shape : Shape) (deals : Deals) (Given : ℕ → Shape → ℕ → Reply → List Event) → IsDeal own shape deals Given → (repeated : Bool) (m : ℕ) (p : Past) (reply : Reply) → Ready (start_row memory own shape deals Given) repeated m p →
+start_keeps : (memory : Bool) (own : List Test) (shape : Shape) (deals : Deals) (Given : ℕ → Shape → ℕ → Reply → List Event) → IsDeal own shape deals Given → (repeated : Bool) (m : ℕ) (p : Past) (reply : Reply) → Ready (plain_start_row memory own shape deals Given) repeated m p →
     Starts deals p.terms.members m shape reply p.events → Always (TeamRule p.terms.members) p.events → Always (TeamRule p.terms.members) (entry_and Given shape m p.events reply ++ p.events)
 start_keeps memory own shape deals Given is repeated m p reply ready may all =
     elim (waits_or_not deals p.terms.members m shape reply p.events may) [
@@ -119,22 +142,23 @@ start_keeps memory own shape deals Given is repeated m p reply ready may all =
           (sym (ap (Given (shares_entered m p.events) shape m) wait.0 ∙ is.still (shares_entered m p.events) m)) all
       | inr may ↦
           let h = p.events in
-          let fail = fail_first own ((nat_le p.terms.limits.shares (shares_entered m h), TooManyShares) ∷ []) (ready.place refl).1 in
+          let fail = fail_first own ((nat_le p.terms.limits.shares (shares_entered m h), TooManyShares) ∷ []) (ready.place refl refl).1 in
           behind_keeps p.terms.members (Enter (shares_entered m h) m shape) (Given (shares_entered m h) shape m reply) h all
           (is.keeps p.terms.members m (shares_entered m h) reply h fail may.1 (rw (same_number m) refl) (rw (same_number m) refl) (rw (same_number m) refl) (enter_keeps memory own shape deals Given is repeated m p ready may.0, all))
     ]
 
-pub start_sound : (memory : Bool) (own : List Test) (shape : Shape) (deals : Deals) (Given : ℕ → Shape → ℕ → Reply → List Event) → IsDeal own shape deals Given → IsSound (start_row memory own shape deals Given)
-start_sound memory own shape deals Given is = record {
+plain_start_sound : (memory : Bool) (own : List Test) (shape : Shape) (deals : Deals) (Given : ℕ → Shape → ℕ → Reply → List Event) → IsDeal own shape deals Given → IsSound (plain_start_row memory own shape deals Given)
+plain_start_sound memory own shape deals Given is = record {
   decided = λ m p a b x y. inl (one_start deals p.terms.members m shape a b p.events (is.one p.terms.members m (Some (shares_entered m p.events, shape)) a b p.events) x y);
   accepts = λ m p refusal x. is.by_share p.terms.members m (Some (shares_entered m p.events, shape)) (Refused refusal) p.events x.1;
-  answered = λ repeated m p ready all. start_some own shape deals Given is p.terms.members m p.events ready.member (fail_first own ((nat_le p.terms.limits.shares (shares_entered m p.events), TooManyShares) ∷ []) (ready.place refl).1);
+  answered = λ repeated m p ready all. start_some own shape deals Given is p.terms.members m p.events ready.member (fail_first own ((nat_le p.terms.limits.shares (shares_entered m p.events), TooManyShares) ∷ []) (ready.place refl refl).1);
   counts = λ repeated m p first count ready all may. is.counts p.terms.members m (shares_entered m p.events) first count p.events ready.member may.1;
   begins_own = λ m p. tt;
   gives_own = λ m p reply. own_given quiet m reply (entry_and Given shape m p.events reply) (entry_own Given shape m p.events reply (is.given_own (shares_entered m p.events) m reply));
   begins_keep = λ m p ready all. all;
   gives_keep = λ repeated m p reply ready may all. start_keeps memory own shape deals Given is repeated m p reply ready may all;
   still = λ stays m p. (refl, ap (behind (Enter (shares_entered m p.events) m shape)) (is.still (shares_entered m p.events) m));
+  placed = λ stays m h. refl;
   outside = λ arrives m p fail. absurd (cc);
   tells = λ arrives m p reply may. absurd (cc);
   one_pass = λ arrives m p. absurd (cc);
@@ -146,6 +170,19 @@ start_sound memory own shape deals Given is = record {
   runs = λ m p task code arg own may. absurd (is.by_share p.terms.members m (Some (shares_entered m p.events, shape)) (Run task code arg own) p.events may.1);
   ends = λ m p task waiting may. absurd (is.by_share p.terms.members m (Some (shares_entered m p.events, shape)) (TaskDone task waiting) p.events may.1);
   created = λ repeated m p task ready may. absurd (is.by_share p.terms.members m (Some (shares_entered m p.events, shape)) (Created task) p.events may.1);
+  cancelled = λ m p may. absurd (is.by_share p.terms.members m (Some (shares_entered m p.events, shape)) Cancelled p.events may.1);
+  dropped = λ repeated m p ready all may. absurd (is.by_share p.terms.members m (Some (shares_entered m p.events, shape)) Dropped p.events may.1);
+  allowed = λ cancels m p. absurd (cc);
   no_memory = λ m p. (clean_append own ((nat_le p.terms.limits.shares (shares_entered m p.events), TooManyShares) ∷ []) is.no_memory refl, refl, refl, refl, λ repeated. refl);
   words_keep = λ puts repeated m p reply ready may all. absurd (cc);
 }
+
+pub start_sound : (memory : Bool) (own : List Test) (shape : Shape) (deals : Deals) (Given : ℕ → Shape → ℕ → Reply → List Event) → IsDeal own shape deals Given → IsSound (start_row memory own shape deals Given)
+start_sound memory own shape deals Given is =
+    waits_uncancelled_sound (plain_start_row memory own shape deals Given) (plain_start_sound memory own shape deals Given is) (record {
+      silent = refl;
+      holds = refl;
+      harmless = refl;
+      wordless = refl;
+      never = λ m p may. is.by_share p.terms.members m (Some (shares_entered m p.events, shape)) Cancelled p.events may.1;
+    })

@@ -18,7 +18,7 @@ use Rattle.gomp_laws.specs.Replies.{EachReply, TellsItsNumber, RunsAsAsked, Runs
 use Rattle.gomp_laws.proofs.HoldReplyExamples.{RefusesReply}
 
 -- in a team of two a law refuses this reply to a step after these events, with no call open
-abbrev RefusesReplyAfter : (Past → Step → Reply → Type 0) → List Event → Step → Reply → Type 0
+abbrev pub RefusesReplyAfter : (Past → Step → Reply → Type 0) → List Event → Step → Reply → Type 0
 RefusesReplyAfter Law events step reply = Law (past_with 2 events) step reply → ⊥
 
 -- what was asked for when the task was created, if the event is a creation

@@ -1,13 +1,14 @@
 -- Events that keep the rule of a team keep the headline.
-use Rattle.std.proofs.Common.{◌≡◌, ℕ, ◌+◌, ◌<◌, ◌≤◌, true, List, [], ◌∷◌, Some, None, refl, sym, ◌∙◌, arith, inl, inr}
-use Rattle.std.specs.Prelude.{◌&&◌, ◌==◌, is_some}
+use Rattle.std.proofs.Common.{◌≡◌, ℕ, ◌+◌, ◌<◌, ◌≤◌, Bool, true, false, List, [], ◌∷◌, Option, Some, None, refl, ap, sym, subst, ◌∙◌, arith, inl, inr}
+use Rattle.std.specs.Prelude.{◌&&◌, ◌||◌, ◌==◌, is_some}
 use Rattle.std.proofs.lemmas.Bool.{cases_Bool, cases_lt}
 use Rattle.gomp_types.specs.declared.shape.Shape.{Shape}
 use Rattle.gomp_types.specs.declared.event.Tag.{Tag}
 use Rattle.gomp_types.specs.declared.event.Event.{Event}
-use Rattle.gomp_types.specs.declared.event.Event.TheVariants.{Enter, End, Arrive, Pass}
-use Rattle.gomp_types.specs.Events.{shares_entered, barriers_passed, arrival, all_arrived, at_barrier}
-use Rattle.gomp_types.specs.Goals.{bound_complete}
+use Rattle.gomp_types.specs.declared.event.Event.TheVariants.{Enter, End, Arrive, Pass, Cancel, See}
+use Rattle.gomp_types.specs.Cancels.{is_cancelled, leaves_region}
+use Rattle.gomp_types.specs.Events.{shares_entered, barriers_passed, arrival, all_arrived, at_barrier, is_region_end, was_region_end, at_region_end, has_left_region}
+use Rattle.gomp_types.specs.Goals.{bound_complete, region_met}
 use Rattle.gomp_types.specs.Deals.{schedule}
 use Rattle.gomp_types.specs.Laws.{Always, Happened}
 use Rattle.gomp_shares.specs.Rules.{ShareRule}
@@ -16,20 +17,20 @@ use Rattle.gomp_locks.specs.HoldRules.{HoldRule}
 use Rattle.gomp_locks.specs.HoldLaws.{FreesItsOwn, PassesFree}
 use Rattle.gomp_laws.specs.Rules.{TeamRule}
 use Rattle.gomp_shares.specs.Laws.{TakesItsOwn}
-use Rattle.gomp_laws.specs.Laws.{LeavesHandedOn, PutsOnce, GetsWhatWasPut, LeavesWithWords, ArrivesOutside, ClosesShares, HappensUnbroken, HappensInside, ArrivesOnce, TellsShares}
+use Rattle.gomp_laws.specs.Laws.{LeavesHandedOn, PutsOnce, GetsWhatWasPut, LeavesWithWords, ArrivesOutside, ClosesShares, HappensUnbroken, HappensInside, ArrivesOnce, TellsShares, CancelsNamed, SeesCancelled}
 use Rattle.gomp_laws.specs.Headline.{Headline}
-use Rattle.gomp_types.proofs.Booleans.{which_branch, is_equal, same_number, and_left, and_false, every_tells}
+use Rattle.gomp_types.proofs.Booleans.{which_branch, is_equal, same_number, and_left, and_right, and_false, or_tells, every_tells}
 use Rattle.gomp_types.proofs.Always.{always_so}
 use Rattle.gomp_shares.proofs.SharesKeep.{shares_keep, left_before}
 use Rattle.gomp_locks.proofs.HoldsKeep.{one_owner_holds, held_once_holds, frees_its_own}
 use Rattle.gomp_locks.proofs.NamesKeep.{passes_free_holds}
-use Rattle.gomp_laws.proofs.TeamShares.{share_rules, arrival_rules, task_rules, hold_rules, name_rules}
+use Rattle.gomp_laws.proofs.TeamShares.{share_rules, arrival_rules, task_rules, hold_rules, name_rules, leaver_is_cancelled, none_leaves}
 use Rattle.gomp_laws.proofs.HandedOn.{leaves_handed_on, all_handed_on}
 use Rattle.gomp_shares.proofs.Assigned.{takes_its_own}
 use Rattle.gomp_shares.proofs.OrderedKeep.{ordered_keep}
 use Rattle.gomp_laws.proofs.CopiesKeep.{puts_once, gets_what_was_put, leaves_with_words}
-use Rattle.gomp_laws.proofs.InTime.{InTime, unbroken_holds, inside_holds}
-use Rattle.gomp_types.proofs.ArrivalsKeep.{arrivals_keep, same_arrivals, passed_met, passes_after_all}
+use Rattle.gomp_laws.proofs.Unbroken.{InTime, unbroken_holds, inside_holds}
+use Rattle.gomp_types.proofs.ArrivalsKeep.{uncancelled_before, arrivals_keep, tags_agree, passed_met, passed_cancelled, passes_after_all}
 use Rattle.gomp_types.proofs.Laws.{task_rule_keeps_laws, bound_tasks_are_done}
 
 -- Payloads
@@ -69,12 +70,12 @@ never_arrived g m tag (_ ∷ earlier) none (inl e) = absurd (cc)
 never_arrived g m tag (_ ∷ earlier) none (inr stands) = never_arrived g m tag earlier none stands
 
 arrives_once : (members : ℕ) (event : Event) (earlier : List Event) → TeamRule members event earlier → Always (TeamRule members) earlier → ArrivesOnce members event earlier
-arrives_once members (Arrive barrier m tag) earlier rule all = (rule.member, λ other stands. never_arrived barrier m other earlier rule.once stands)
+arrives_once members (Arrive barrier m tag) earlier rule all = (rule.member, λ stays other stands. never_arrived barrier m other earlier (rule.once stays) stands)
 arrives_once members (Pass barrier m) earlier rule all = rule.member
 arrives_once members _ earlier rule all = tt
 
 arrives_outside : (members : ℕ) (event : Event) (earlier : List Event) → TeamRule members event earlier → Always (TeamRule members) earlier → ArrivesOutside event earlier
-arrives_outside members (Arrive barrier m tag) earlier rule all = λ share shape stands. left_before (schedule members) members m earlier (share_rules members earlier all) rule.outside share shape stands
+arrives_outside members (Arrive barrier m tag) earlier rule all = λ stays share shape stands. left_before (schedule members) members m earlier (share_rules members earlier all) (rule.outside stays) share shape stands
 arrives_outside members _ earlier rule all = tt
 
 -- a member has entered each share whose number is below its count
@@ -94,25 +95,37 @@ was_entered members share m (Enter i member shape ∷ earlier) all lt =
     ]
 was_entered members share m (_ ∷ earlier) all lt = let before = was_entered members share m earlier all.1 lt in (before.0, inr before.1)
 
--- who arrived has left the shares that its tag counts
-arrived_left : (members barrier m : ℕ) (tag : Tag) (h : List Event) → Always (TeamRule members) h → Happened (Arrive barrier m tag) h → (share : ℕ) → share < tag.shares → Happened (End share m) h
-arrived_left members barrier m tag [] all stands share lt = absurd stands
-arrived_left members barrier m tag (Arrive g member other ∷ earlier) all (inl e) share lt =
+-- in a region that is not cancelled who arrived has left the shares that its tag counts
+arrived_left : (members barrier m : ℕ) (tag : Tag) (h : List Event) → Always (TeamRule members) h → is_cancelled h ≡ false → Happened (Arrive barrier m tag) h → (share : ℕ) → share < tag.shares → Happened (End share m) h
+arrived_left members barrier m tag [] all whole stands share lt = absurd stands
+arrived_left members barrier m tag (Arrive g member other ∷ earlier) all whole (inl e) share lt =
     let who : member ≡ m = cc in
     let what : other ≡ tag = cc in
     let count : tag.shares ≡ shares_entered m earlier = rw (← who, ← what) all.0.shares in
     let own = was_entered members share m earlier all.1 (omega (arith, count)) in
-    inr (left_before (schedule members) members m earlier (share_rules members earlier all.1) (rw (← who) all.0.outside) share own.0 own.1)
-arrived_left members barrier m tag (_ ∷ earlier) all (inl e) share lt = absurd (cc)
-arrived_left members barrier m tag (event ∷ earlier) all (inr stands) share lt = inr (arrived_left members barrier m tag earlier all.1 stands share lt)
+    let stays = none_leaves members m earlier all.1 whole in
+    let outside = all.0.outside (rw who stays) in
+    inr (left_before (schedule members) members m earlier (share_rules members earlier all.1) (rw (← who) outside) share own.0 own.1)
+arrived_left members barrier m tag (_ ∷ earlier) all whole (inl e) share lt = absurd (cc)
+arrived_left members barrier m tag (event ∷ earlier) all whole (inr stands) share lt = inr (arrived_left members barrier m tag earlier all.1 (uncancelled_before event earlier whole) stands share lt)
 
 closes_shares : (members : ℕ) (event : Event) (earlier : List Event) → TeamRule members event earlier → Always (TeamRule members) earlier → ClosesShares members event earlier
-closes_shares members (Pass barrier m) earlier rule all = λ tag stands share lt x below.
+closes_shares members (Pass barrier m) earlier rule all = λ whole tag stands share lt x below.
     let arrivals = arrival_rules members earlier all in
-    let own = passes_after_all members (Pass barrier m) earlier rule.passes arrivals x below in
-    let same : own.0 ≡ tag = (same_arrivals members earlier arrivals).tags barrier x m own.0 tag own.1 stands in
-    arrived_left members barrier x own.0 earlier all own.1 share (rw same lt)
+    let own = passes_after_all members (Pass barrier m) earlier rule.passes arrivals whole x below in
+    let same : own.0 ≡ tag = tags_agree members barrier x m own.0 tag earlier whole arrivals own.1 stands in
+    arrived_left members barrier x own.0 earlier all whole own.1 share (rw same lt)
 closes_shares members _ earlier rule all = tt
+
+-- Cancellation
+
+cancels_named : (members : ℕ) (event : Event) (earlier : List Event) → TeamRule members event earlier → Always (TeamRule members) earlier → CancelsNamed members event earlier
+cancels_named members (Cancel m scope) earlier rule all = (rule.cancels.member, rule.cancels.kind, rule.cancels.named)
+cancels_named members _ earlier rule all = tt
+
+sees_cancelled_alone : (members : ℕ) (event : Event) (earlier : List Event) → TeamRule members event earlier → Always (TeamRule members) earlier → SeesCancelled members event earlier
+sees_cancelled_alone members (See m kind) earlier rule all = (rule.sees.member, rule.sees.cancelled)
+sees_cancelled_alone members _ earlier rule all = tt
 
 -- Names and locks
 
@@ -141,17 +154,79 @@ next_arrival_waits members m g (Pass barrier member ∷ earlier) all here le =
     ]
 next_arrival_waits members m g (_ ∷ earlier) all here le = next_arrival_waits members m g earlier all.1 here le
 
--- so a member of the team that passes a barrier waits there
-passer_waits : (members barrier m : ℕ) (h : List Event) → Always (ArrivalRule members) h → MayPass members barrier m h → m < members → at_barrier m h ≡ true
-passer_waits members barrier m h all rule member =
-    let met = and_left (all_arrived members barrier h) (bound_complete barrier h) (passed_met members barrier m h rule) in
-    (next_arrival_waits members m barrier h all (every_tells members (λ x. is_some (arrival barrier x h)) m met member) (let next = rule.number in omega (arith, next))).0
+or_second : (a b : Bool) → (a || b) ≡ false → b ≡ false
+or_second true b e = absurd (cc)
+or_second false b e = e
 
-passes_free : (members : ℕ) (event : Event) (earlier : List Event) → TeamRule members event earlier → Always (TeamRule members) earlier → PassesFree event earlier
-passes_free members (Pass barrier m) earlier rule all =
-    passes_free_holds barrier m earlier rule.outside (passer_waits members barrier m earlier (arrival_rules members earlier all) rule.passes rule.member)
+-- who has arrived at a barrier with the tag of the region's end has arrived there
+some_arrival : (arrived : Option Tag) → was_region_end arrived ≡ true → arrived ≡ None → ⊥
+some_arrival None ends none = absurd (cc)
+some_arrival (Some tag) ends none = absurd (cc)
+
+-- a member that has arrived at the region's end, and not passed it, waits there
+abbrev pub WaitsAtEnd : ℕ → List Event → Type 0
+WaitsAtEnd m h = (at_barrier m h ≡ true) × (was_region_end (arrival (barriers_passed m h) m h) ≡ true)
+
+-- a member that arrives again leaves a cancelled region, and arrives at its end
+arrives_at_end : (members barrier m : ℕ) (tag : Tag) (h : List Event) → Always (TeamRule members) h → TeamRule members (Arrive barrier m tag) h → was_region_end (arrival (barriers_passed m h) m h) ≡ true → is_region_end tag.kind ≡ true
+arrives_at_end members barrier m tag h all rule before =
+    elim (cases_Bool (leaves_region m h)) [
+      | inl leaves ↦ ap is_region_end (rule.arrives.ends (leaver_is_cancelled members m h all leaves))
+      | inr stays ↦ absurd (some_arrival (arrival (barriers_passed m h) m h) before (rw rule.arrives.number at rule.once stays))
+    ]
+
+-- another's pass is none of the member's
+count_of_another : (barrier member m : ℕ) (h : List Event) → (member == m) ≡ false → barriers_passed m (Pass barrier member ∷ h) ≡ barriers_passed m h
+count_of_another barrier member m h other = rw other refl
+
+-- so who has arrived at the region's end, and has not left the region, waits there
+pub ender_waits : (members m : ℕ) (h : List Event) → Always (TeamRule members) h → has_left_region m h ≡ false → at_region_end m h ≡ true → WaitsAtEnd m h
+ender_waits members m [] all inside ends = absurd (cc)
+ender_waits members m (Arrive barrier member tag ∷ earlier) all inside ends =
+    elim (cases_Bool (member == m)) [
+      | inl who ↦
+          let own : TeamRule members (Arrive barrier m tag) earlier = rw (is_equal member m who) at all.0 in
+          let number : barrier ≡ barriers_passed m earlier = own.arrives.number in
+          let at_end : is_region_end tag.kind ≡ true = elim (or_tells (member == m && is_region_end tag.kind) (at_region_end m earlier) ends) [
+            | inl now ↦ and_right (member == m) (is_region_end tag.kind) now
+            | inr before ↦ arrives_at_end members barrier m tag earlier all.1 own (ender_waits members m earlier all.1 inside before).1
+          ] in
+          (rw who refl, rw (who, number, same_number (barriers_passed m earlier)) at_end)
+      | inr other ↦
+          let before = ender_waits members m earlier all.1 inside (rw other at ends) in
+          (rw other before.0, rw (and_false (barrier == barriers_passed m earlier) (member == m) other) before.1)
+    ]
+ender_waits members m (Pass barrier member ∷ earlier) all inside ends =
+    elim (cases_Bool (member == m)) [
+      | inl who ↦
+          let number : barrier ≡ barriers_passed m earlier = rw (← is_equal member m who) all.0.passes.number in
+          let before = (ender_waits members m earlier all.1 (or_second (member == m && was_region_end (arrival barrier m earlier)) (has_left_region m earlier) inside) ends).1 in
+          absurd (let left = rw (who, number, before) at inside in cc)
+      | inr other ↦
+          let before = ender_waits members m earlier all.1 (or_second (member == m && was_region_end (arrival barrier m earlier)) (has_left_region m earlier) inside) ends in
+          (rw other before.0, subst (λ (n : ℕ). was_region_end (arrival n m earlier) ≡ true) (sym (count_of_another barrier member m earlier other)) before.1)
+    ]
+ender_waits members m (_ ∷ earlier) all inside ends = ender_waits members m earlier all.1 inside ends
+
+-- so a member of the team that passes a barrier waits there
+passer_waits : (members barrier m : ℕ) (h : List Event) → Always (TeamRule members) h → has_left_region m h ≡ false → MayPass members barrier m h → m < members → at_barrier m h ≡ true
+passer_waits members barrier m h all inside rule member =
+    elim (cases_Bool (is_cancelled h)) [
+      | inl cancelled ↦ (ender_waits members m h all inside (and_left (at_region_end m h) (region_met members h) (passed_cancelled members barrier m h rule cancelled))).0
+      | inr whole ↦
+          let met = and_left (all_arrived members barrier h) (bound_complete barrier h) (passed_met members barrier m h whole rule) in
+          (next_arrival_waits members m barrier h (arrival_rules members h all) (every_tells members (λ x. is_some (arrival barrier x h)) m met member) (let next = rule.number in omega (arith, next))).0
+    ]
+
+passes_free : (members : ℕ) (event : Event) (earlier : List Event) → TeamRule members event earlier → Always (TeamRule members) earlier → InTime event earlier → PassesFree event earlier
+passes_free members (Pass barrier m) earlier rule all in_time =
+    passes_free_holds barrier m earlier rule.outside (passer_waits members barrier m earlier all in_time.1 rule.passes rule.member)
     (hold_rules members earlier all) (name_rules members earlier all)
-passes_free members _ earlier rule all = tt
+passes_free members _ earlier rule all in_time = tt
+
+all_pass_free : (members : ℕ) (h : List Event) → Always (TeamRule members) h → Always InTime h → Always PassesFree h
+all_pass_free members [] all in_time = tt
+all_pass_free members (event ∷ earlier) all in_time = (passes_free members event earlier all.0 all.1 in_time.0, all_pass_free members earlier all.1 in_time.1)
 
 -- the headline, from the rule of the team, if nothing follows a break or the region's end
 pub team_keeps : (members : ℕ) (h : List Event) → Always (TeamRule members) h → Always InTime h → Headline members h
@@ -178,11 +253,16 @@ team_keeps members h all in_time =
       unbroken = always_so InTime HappensUnbroken unbroken_holds h in_time;
       in_region = always_so InTime HappensInside inside_holds h in_time;
       passes = arrivals.passes;
+      ends = arrivals.ends;
       closes = always_so (TeamRule members) (ClosesShares members) (closes_shares members) h all;
       one_owner = one_owner_holds h holds;
       held_once = held_once_holds h holds;
       frees = always_so HoldRule FreesItsOwn frees_its_own h holds;
-      passes_free = always_so (TeamRule members) PassesFree (passes_free members) h all;
+      passes_free = all_pass_free members h all in_time;
       tasks = tasks;
       bound_done = bound_tasks_are_done h tasks;
+      cancels = always_so (TeamRule members) (CancelsNamed members) (cancels_named members) h all;
+      cancelled = shares.cancelled;
+      left_early = shares.left_early;
+      sees = always_so (TeamRule members) (SeesCancelled members) (sees_cancelled_alone members) h all;
     }

@@ -1,9 +1,13 @@
--- Events that keep the rule of a team keep that of the work-shares, of arrivals, of tasks, and of names and locks.
-use Rattle.std.proofs.Common.{◌≡◌, ℕ, ◌<◌, true, List, arith}
-use Rattle.std.specs.Prelude.{nat_lt, nat_le}
+-- Events that keep the rule of a team keep that of the work-shares, of arrivals, of tasks, and of names and locks; and members leave only a cancelled region.
+use Rattle.std.proofs.Common.{◌≡◌, ℕ, ◌<◌, true, false, List, [], ◌∷◌, arith, inl, inr}
+use Rattle.std.specs.Prelude.{◌==◌, ◌&&◌, nat_lt, nat_le}
+use Rattle.std.proofs.lemmas.Bool.{cases_Bool}
 use Rattle.std.proofs.lemmas.Bool.Decides.{nat_tests}
+use Rattle.gomp_types.specs.declared.cancel.CancelKind.TheVariants.{Parallel}
+use Rattle.gomp_types.specs.declared.cancel.Scope.TheVariants.{Region}
 use Rattle.gomp_types.specs.declared.event.Event.{Event}
-use Rattle.gomp_types.specs.declared.event.Event.TheVariants.{Enter, Take, Drained, End, HandOn, Part, PartEnd, Arrive, Pass, Create, Start, Done, Group, GroupEnd, Waited, Hold, Free}
+use Rattle.gomp_types.specs.declared.event.Event.TheVariants.{Enter, Take, Drained, End, HandOn, Part, PartEnd, Arrive, Pass, Create, Start, Done, Group, GroupEnd, Waited, Hold, Free, Cancel, Discard, See}
+use Rattle.gomp_types.specs.Cancels.{same_scope, is_cancelled, leaves_region}
 use Rattle.gomp_types.specs.Tasks.{tasks_created}
 use Rattle.gomp_types.specs.Goals.{may_start}
 use Rattle.gomp_types.specs.Deals.{schedule}
@@ -15,7 +19,7 @@ use Rattle.gomp_locks.specs.HoldRules.{HoldRule}
 use Rattle.gomp_locks.specs.NameRules.{NameRule}
 use Rattle.gomp_laws.specs.Rules.{TeamRule}
 use Rattle.gomp_types.proofs.Always.{always_so}
-use Rattle.gomp_types.proofs.Booleans.{and_left}
+use Rattle.gomp_types.proofs.Booleans.{and_left, and_right, or_tells, or_right, not_both}
 use Rattle.gomp_types.proofs.Suspended.{startable_is_fresh}
 
 -- the rule of the team has that of the shares
@@ -27,6 +31,8 @@ share_rule members (End share m) earlier rule all = rule.done
 share_rule members (HandOn share m piece) earlier rule all = rule
 share_rule members (Part share m iteration) earlier rule all = rule
 share_rule members (PartEnd share m) earlier rule all = rule
+share_rule members (Cancel m scope) earlier rule all = rule.share
+share_rule members (See m kind) earlier rule all = rule.share
 share_rule members _ earlier rule all = tt
 
 pub share_rules : (members : ℕ) (h : List Event) → Always (TeamRule members) h → Always (ShareRule (schedule members) members) h
@@ -46,6 +52,7 @@ task_rule : (members : ℕ) (event : Event) (earlier : List Event) → TeamRule 
 task_rule members (Create t m parent desc) earlier rule all = rule
 task_rule members (Start t m) earlier rule all = rule
 task_rule members (Done t m) earlier rule all = rule.ends
+task_rule members (Discard t m) earlier rule all = rule
 task_rule members (Group q m) earlier rule all = rule
 task_rule members (GroupEnd q m) earlier rule all = rule
 task_rule members (Waited m items) earlier rule all = rule
@@ -77,3 +84,25 @@ name_rule members _ earlier rule all = tt
 
 pub name_rules : (members : ℕ) (h : List Event) → Always (TeamRule members) h → Always NameRule h
 name_rules members h all = always_so (TeamRule members) NameRule (name_rule members) h all
+
+-- Members that leave the region
+
+-- a member that leaves it has seen that it is cancelled, so it is
+pub leaver_is_cancelled : (members m : ℕ) (h : List Event) → Always (TeamRule members) h → leaves_region m h ≡ true → is_cancelled h ≡ true
+leaver_is_cancelled members m [] all e = absurd (cc)
+leaver_is_cancelled members m (See n Parallel ∷ earlier) all e = all.0.sees.cancelled
+leaver_is_cancelled members m (See n kind ∷ earlier) all e =
+    elim (or_tells (n == m && false) (leaves_region m earlier) e) [
+      | inl top ↦ absurd (let no = and_right (n == m) false top in cc)
+      | inr below ↦ leaver_is_cancelled members m earlier all.1 below
+    ]
+leaver_is_cancelled members m (Cancel n scope ∷ earlier) all e = or_right (same_scope scope Region) (is_cancelled earlier) (leaver_is_cancelled members m earlier all.1 e)
+leaver_is_cancelled members m (_ ∷ earlier) all e = leaver_is_cancelled members m earlier all.1 e
+
+-- so nobody leaves one that is not
+pub none_leaves : (members m : ℕ) (h : List Event) → Always (TeamRule members) h → is_cancelled h ≡ false → leaves_region m h ≡ false
+none_leaves members m h all whole =
+    elim (cases_Bool (leaves_region m h)) [
+      | inl leaves ↦ absurd (not_both (is_cancelled h) (leaver_is_cancelled members m h all leaves) whole)
+      | inr stays ↦ stays
+    ]

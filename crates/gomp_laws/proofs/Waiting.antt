@@ -9,6 +9,7 @@ use Rattle.gomp_types.specs.declared.event.Event.TheVariants.{Start, Done, Break
 use Rattle.gomp_types.specs.declared.task.Task.TheVariants.{Explicit}
 use Rattle.gomp_types.specs.Events.{barriers_passed, arrival, at_barrier, clash_of}
 use Rattle.gomp_types.specs.Tasks.{innermost_task, task_stack, executed_task, in_task, after_first, is_undeferred}
+use Rattle.gomp_types.specs.Cancels.{leaves_region}
 use Rattle.gomp_types.specs.Seen.{seen_of}
 use Rattle.gomp_types.proofs.Booleans.{same_number, not_both}
 use Rattle.gomp_types.proofs.LeastTests.{AllFail}
@@ -79,9 +80,9 @@ some_arrived (call ∷ calls) = is_some (row_of call).arrives || some_arrived ca
 abbrev pub IsAway : ℕ → List Event → Type 0
 IsAway k h = (arrival (barriers_passed k h) k h ≡ None) × (at_barrier k h ≡ false)
 
--- so is one of whose calls none has arrived, in a team that is not broken
+-- so is one of whose calls none has arrived, in a team that is not broken, unless it leaves the region
 abbrev pub Fresh : ℕ → Waits → List Event → Type 0
-Fresh k waits h = clash_of h ≡ None → has_arrived waits.open_call ≡ false → some_arrived waits.beneath ≡ false → IsAway k h
+Fresh k waits h = clash_of h ≡ None → leaves_region k h ≡ false → has_arrived waits.open_call ≡ false → some_arrived waits.beneath ≡ false → IsAway k h
 
 -- what is known of a member's calls that are not answered whole
 pub record WaitKnown (limits : Limits) (k : ℕ) (waits : Waits) (h : List Event) : Type 0 where
@@ -131,7 +132,7 @@ ended_stack m task h = rw (same_number m) refl
 
 -- the call at which a member started the task that it has ended waits again
 call_opens_again : (limits : Limits) (k : ℕ) (now : List Event) (calls : List Call) (tasks : List ℕ) → CoversOne k calls tasks now (λ under. Covers k under tasks now) → AreBeneath k calls → task_stack k now ≡ tasks →
-    (clash_of now ≡ None → some_arrived calls ≡ false → IsAway k now) → WaitKnown limits k (open_first calls) now
+    (clash_of now ≡ None → leaves_region k now ≡ false → some_arrived calls ≡ false → IsAway k now) → WaitKnown limits k (open_first calls) now
 call_opens_again limits k now [] tasks covers beneath stack fresh = absurd covers
 call_opens_again limits k now (call ∷ calls) tasks covers beneath stack fresh = record {
   pending = λ stays. absurd (let both = sym stays ∙ beneath.0.moves in cc);
@@ -143,11 +144,11 @@ call_opens_again limits k now (call ∷ calls) tasks covers beneath stack fresh 
   created = subst (λ (ts : List ℕ). HasCreated (row_of call) (innermost_task k ts) now) (sym stack) covers.0.created;
   covers = subst (λ (ts : List ℕ). Covers k calls ts now) (sym stack) covers.1;
   beneath = beneath.1;
-  fresh = λ whole quiet under. fresh whole (rw quiet under);
+  fresh = λ whole stays quiet under. fresh whole stays (rw quiet under);
 }
 
 pub wait_opens_again : (limits : Limits) (k task : ℕ) (now : List Event) (calls : List Call) (tasks : List ℕ) → innermost_task k tasks ≡ Explicit task → is_undeferred task now ≡ false → Covers k calls tasks now → AreBeneath k calls →
-    task_stack k now ≡ after_first tasks → (clash_of now ≡ None → some_arrived calls ≡ false → IsAway k now) → WaitKnown limits k (open_first calls) now
+    task_stack k now ≡ after_first tasks → (clash_of now ≡ None → leaves_region k now ≡ false → some_arrived calls ≡ false → IsAway k now) → WaitKnown limits k (open_first calls) now
 wait_opens_again limits k task now calls [] executed deferred covers beneath stack fresh = absurd (cc)
 wait_opens_again limits k task now calls (t ∷ ts) executed deferred (inl held) beneath stack fresh =
     absurd (let same : t ≡ task = cc in let held_too : is_undeferred task now ≡ true = rw same at held.0 in not_both (is_undeferred task now) held_too deferred)

@@ -1,9 +1,13 @@
 -- Events that never happen in a team, since the laws refuse them: each list has the oldest event first. (own)
-use Rattle.std.specs.Prelude.{ℕ, List, [], ◌∷◌, true, false}
+use Rattle.std.specs.Prelude.{ℕ, List, [], ◌∷◌, ◌++◌, true, false}
 use Rattle.gomp_types.specs.declared.refusal.Place.TheVariants.{Stopped as AtStop}
 use Rattle.gomp_types.specs.declared.event.Arrival.TheVariants.{Barrier, ShareEnd, RegionEnd}
 use Rattle.gomp_types.specs.declared.event.Event.{Event}
-use Rattle.gomp_types.specs.declared.event.Event.TheVariants.{Enter, Take, Drained, End, HandOn, Part, PartEnd, Put, Got, Arrive, Pass, Create, Start, Done, Group, GroupEnd, Waited, Hold, Free, Break}
+use Rattle.gomp_types.specs.declared.event.Event.TheVariants.{Enter, Take, Drained, End, HandOn, Part, PartEnd, Put, Got, Arrive, Pass, Create, Start, Done, Group, GroupEnd, Waited, Hold, Free, Cancel, Discard, See, Break}
+use Rattle.gomp_types.specs.declared.cancel.CancelKind.TheVariants.{Parallel, Loop, Taskgroup}
+use Rattle.gomp_types.specs.declared.cancel.Scope.TheVariants.{Region, OneShare, OneGroup}
+use Rattle.gomp_types.specs.declared.loop_desc.EndKind.TheVariants.{Cancellable}
+use Rattle.gomp_types.specs.declared.shape.Shape.{Shape}
 use Rattle.gomp_types.specs.declared.key.Key.TheVariants.{Critical, Lock}
 use Rattle.gomp_types.specs.declared.task.Task.TheVariants.{Implicit, Explicit}
 use Rattle.gomp_types.specs.Singles.{single_shape}
@@ -238,6 +242,103 @@ region_with_tasks =
     ∷ Group 0 0 ∷ Create 2 0 (Implicit 0) other_job ∷ Start 2 0 ∷ Done 2 0 ∷ GroupEnd 0 0
     ∷ Create 3 0 (Implicit 0) one_job ∷ Start 3 0 ∷ Done 3 0 ∷ Waited 0 []
     ∷ Arrive 0 0 (at Barrier 0) ∷ Pass 0 0 ∷ Pass 0 1 ∷ Arrive 1 0 (at RegionEnd 0) ∷ Arrive 1 1 (at RegionEnd 0) ∷ Pass 1 0 ∷ Pass 1 1 ∷ []
+
+-- Cancellation
+
+-- a loop of four iterations in chunks of two that may be cancelled
+abbrev pub cancellable_four : Shape
+cancellable_four = record (four false) { end_kind = Cancellable }
+
+-- a member cancels a loop, and is in none
+abbrev pub cancelled_outside : List Event
+cancelled_outside = Cancel 0 (OneShare 0) ∷ []
+
+-- it cancels one that may not be cancelled
+abbrev pub uncancellable_cancelled : List Event
+uncancellable_cancelled = Enter 0 0 (four false) ∷ Cancel 0 (OneShare 0) ∷ []
+
+-- a member sees that the region is cancelled, and a loop is
+abbrev pub seen_uncancelled : List Event
+seen_uncancelled = Enter 0 0 cancellable_four ∷ Cancel 0 (OneShare 0) ∷ See 0 Parallel ∷ []
+
+-- a member leaves a loop that has a piece for it, and another is cancelled
+abbrev pub left_beside : List Event
+left_beside =
+    Enter 0 0 cancellable_four ∷ Cancel 0 (OneShare 0) ∷ See 0 Loop ∷ End 0 0 ∷ Enter 1 0 cancellable_four ∷ End 1 0 ∷ []
+
+-- a member arrives at a barrier of a cancelled region
+abbrev pub arrived_cancelled : List Event
+arrived_cancelled = Cancel 1 Region ∷ Arrive 0 0 (at Barrier 0) ∷ []
+
+-- it passes one
+abbrev pub passed_cancelled : List Event
+passed_cancelled = Arrive 0 0 (at Barrier 0) ∷ Arrive 0 1 (at Barrier 0) ∷ Cancel 1 Region ∷ Pass 0 0 ∷ []
+
+-- it passes the end of a cancelled region before the other has arrived there
+abbrev pub ended_alone : List Event
+ended_alone = Cancel 0 Region ∷ See 0 Parallel ∷ Arrive 0 0 (at RegionEnd 0) ∷ Pass 0 0 ∷ []
+
+-- a member arrives at the end of a cancelled region from a loop, and has not seen that it is cancelled
+abbrev pub arrived_unseen : List Event
+arrived_unseen = Enter 0 0 (four false) ∷ Cancel 1 Region ∷ Arrive 0 0 (at RegionEnd 1) ∷ []
+
+-- a task is started after the region is cancelled
+abbrev pub started_cancelled : List Event
+started_cancelled = Create 1 0 (Implicit 0) one_job ∷ Cancel 1 Region ∷ Start 1 0 ∷ []
+
+-- one is created after a group is cancelled whose end would wait for it
+abbrev pub created_cancelled : List Event
+created_cancelled = Group 0 0 ∷ Create 1 0 (Implicit 0) one_job ∷ Start 1 0 ∷ Cancel 0 (OneGroup 0) ∷ Create 2 0 (Explicit 1) one_job ∷ []
+
+-- one that runs is discarded
+abbrev pub discarded_running : List Event
+discarded_running = Create 1 0 (Implicit 0) one_job ∷ Start 1 0 ∷ Cancel 1 Region ∷ Discard 1 1 ∷ []
+
+-- one is discarded that no cancellation reaches
+abbrev pub discarded_uncovered : List Event
+discarded_uncovered = Create 1 0 (Implicit 0) one_job ∷ Discard 1 0 ∷ []
+
+-- the end of a cancelled region is passed while a task runs
+abbrev pub ended_with_running_task : List Event
+ended_with_running_task = Create 1 0 (Implicit 0) one_job ∷ Start 1 0 ∷ Cancel 0 Region ∷ Arrive 0 0 (at RegionEnd 0) ∷ Pass 0 0 ∷ []
+
+-- A cancelled region that keeps all laws
+
+-- a member of two cancels the loop in which both are, and sees that
+abbrev pub loop_cancelled : List Event
+loop_cancelled = Enter 0 0 cancellable_four ∷ Take 0 0 0 2 ∷ Enter 0 1 cancellable_four ∷ Cancel 0 (OneShare 0) ∷ See 0 Loop ∷ []
+
+-- it leaves, and the other sees it
+abbrev pub loop_cancelled_for_both : List Event
+loop_cancelled_for_both = loop_cancelled ++ End 0 0 ∷ See 1 Loop ∷ []
+
+-- which then leaves too, and the first has a group of two tasks
+abbrev pub tasks_in_group : List Event
+tasks_in_group = loop_cancelled_for_both ++ End 0 1 ∷ Group 0 0 ∷ Create 1 0 (Implicit 0) one_job ∷ Create 2 0 (Implicit 0) one_job ∷ []
+
+-- the second waits at a barrier, and executes one of them there
+abbrev pub task_in_group : List Event
+task_in_group = tasks_in_group ++ Arrive 0 1 (at Barrier 1) ∷ Start 1 1 ∷ []
+
+-- it cancels the group, of which the other task is discarded, and ends its task
+abbrev pub group_cancelled : List Event
+group_cancelled = task_in_group ++ Cancel 1 (OneGroup 0) ∷ Discard 2 1 ∷ See 1 Taskgroup ∷ Done 1 1 ∷ []
+
+-- the first ends the group, and creates a task
+abbrev pub group_left : List Event
+group_left = group_cancelled ++ GroupEnd 0 0 ∷ Create 3 0 (Implicit 0) other_job ∷ []
+
+-- and cancels the region: the task is discarded
+abbrev pub all_cancelled : List Event
+all_cancelled = group_left ++ Cancel 0 Region ∷ Discard 3 0 ∷ See 0 Parallel ∷ []
+
+-- it arrives at the region's end, and the other sees that the region is cancelled
+abbrev pub first_at_end : List Event
+first_at_end = all_cancelled ++ Arrive 0 0 (at RegionEnd 1) ∷ See 1 Parallel ∷ []
+
+-- and leaves the barrier for the region's end: both pass
+abbrev pub region_with_cancels : List Event
+region_with_cancels = first_at_end ++ Arrive 0 1 (at RegionEnd 1) ∷ Pass 0 0 ∷ Pass 0 1 ∷ []
 
 -- The team
 

@@ -4,28 +4,30 @@ use Rattle.gomp_types.specs.declared.shape.Shape.{Shape}
 use Rattle.gomp_types.specs.declared.refusal.Place.{Place}
 use Rattle.gomp_types.specs.declared.event.Tag.{Tag}
 use Rattle.gomp_types.specs.declared.event.Event.{Event}
-use Rattle.gomp_types.specs.declared.event.Event.TheVariants.{Enter, Take, End, HandOn, Put, Got, Arrive, Pass, Break}
+use Rattle.gomp_types.specs.declared.event.Event.TheVariants.{Enter, Take, End, HandOn, Put, Got, Arrive, Pass, Break, Cancel, See}
+use Rattle.gomp_types.specs.declared.cancel.CancelKind.{CancelKind}
+use Rattle.gomp_types.specs.Cancels.{is_cancelled, scope_of, names_cancelled, leaves_region}
 use Rattle.gomp_types.specs.Shapes.{is_copy}
 use Rattle.gomp_types.specs.Pieces.{pieces_of}
 use Rattle.gomp_types.specs.Events.{member_of, shares_entered, has_left_region}
 use Rattle.gomp_types.specs.Laws.{Happened}
 use Rattle.gomp_shares.specs.Laws.{IsOver}
 
--- a member of the team arrives at a barrier once, and no one else arrives or passes
+-- a member of the team arrives at a barrier once, unless it leaves a cancelled region, and no one else arrives or passes
 abbrev pub ArrivesOnce : ℕ → Event → List Event → Type 0
-ArrivesOnce members (Arrive barrier m tag) earlier = (m < members) × ((other : Tag) → Happened (Arrive barrier m other) earlier → ⊥)
+ArrivesOnce members (Arrive barrier m tag) earlier = (m < members) × (leaves_region m earlier ≡ false → (other : Tag) → Happened (Arrive barrier m other) earlier → ⊥)
 ArrivesOnce members (Pass barrier m) earlier = m < members
 ArrivesOnce members _ earlier = Unit {0}
 
--- a member arrives outside of every share: it has left each that it entered
+-- a member arrives outside of every share: it has left each that it entered, unless it leaves a cancelled region
 abbrev pub ArrivesOutside : Event → List Event → Type 0
-ArrivesOutside (Arrive barrier m tag) earlier = (share : ℕ) (shape : Shape) → Happened (Enter share m shape) earlier → Happened (End share m) earlier
+ArrivesOutside (Arrive barrier m tag) earlier = leaves_region m earlier ≡ false → (share : ℕ) (shape : Shape) → Happened (Enter share m shape) earlier → Happened (End share m) earlier
 ArrivesOutside _ earlier = Unit {0}
 
--- Closed: if a member passes a barrier, every share that it entered before it arrived there is over; so, since an over share is whole, all of it was taken.
+-- Closed: if a member passes a barrier, every share that it entered before it arrived there is over, unless the region is cancelled; so, since an over share is whole unless it was cancelled, all of it was taken.
 abbrev pub ClosesShares : ℕ → Event → List Event → Type 0
 ClosesShares members (Pass barrier m) earlier =
-    (tag : Tag) → Happened (Arrive barrier m tag) earlier → (share : ℕ) → share < tag.shares → IsOver members share earlier
+    is_cancelled earlier ≡ false → (tag : Tag) → Happened (Arrive barrier m tag) earlier → (share : ℕ) → share < tag.shares → IsOver members share earlier
 ClosesShares members _ earlier = Unit {0}
 
 -- nothing happens in a team that is broken
@@ -79,3 +81,13 @@ abbrev pub LeavesWithWords : Event → List Event → Type 0
 LeavesWithWords (End share m) earlier =
     (shape : Shape) → Happened (Enter share m shape) earlier → is_copy shape.kind ≡ true → (payload : List ℕ) × (Happened (Put share m payload) earlier ⊎ Happened (Got share m payload) earlier)
 LeavesWithWords _ earlier = Unit {0}
+
+-- Cancellation (OpenMP API 5.2, chapter 16): a member of the team cancels what one of its constructs names there: the region, the share that it is in, or of the groups whose ends wait for its task the one that was opened last.
+abbrev pub CancelsNamed : ℕ → Event → List Event → Type 0
+CancelsNamed members (Cancel m scope) earlier = (m < members) × (kind : CancelKind) × (scope_of kind m earlier ≡ Some scope)
+CancelsNamed members _ earlier = Unit {0}
+
+-- and it sees that something is cancelled only if that was cancelled before
+abbrev pub SeesCancelled : ℕ → Event → List Event → Type 0
+SeesCancelled members (See m kind) earlier = (m < members) × (names_cancelled kind m earlier ≡ true)
+SeesCancelled members _ earlier = Unit {0}

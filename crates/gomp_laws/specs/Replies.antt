@@ -1,11 +1,13 @@
--- What holds of the replies to calls on names and locks, and on tasks, beside the laws of the events. OpenMP API 5.2, chapter 12 and sections 15.2 and 18.9.
+-- What holds of the replies to calls on names and locks, on tasks, and in a cancelled region, beside the laws of the events. OpenMP API 5.2, chapters 12 and 16 and sections 15.2 and 18.9.
 use Rattle.std.specs.Prelude.{ℕ, ◌<◌, ◌≡◌, is_some, not, Bool, true, false, List, [], ◌∷◌, Some}
 use Rattle.gomp_types.specs.declared.call.Step.{Step}
 use Rattle.gomp_types.specs.declared.event.Event.{Event}
-use Rattle.gomp_types.specs.declared.event.Event.TheVariants.{Create, Start, Done}
+use Rattle.gomp_types.specs.declared.event.Event.TheVariants.{Create, Start, Done, Cancel}
+use Rattle.gomp_types.specs.declared.cancel.Scope.{Scope}
 use Rattle.gomp_types.specs.declared.key.Key.{Key}
+use Rattle.gomp_types.specs.Cancels.{is_cancelled, would_be_covered}
 use Rattle.gomp_types.specs.declared.reply.Reply.{Reply}
-use Rattle.gomp_types.specs.declared.reply.Reply.TheVariants.{Wait, Count, Created, Run, TaskDone}
+use Rattle.gomp_types.specs.declared.reply.Reply.TheVariants.{Wait, Count, Created, Run, TaskDone, Cancelled, Dropped}
 use Rattle.gomp_types.specs.declared.task.Owner.{Owner}
 use Rattle.gomp_types.specs.declared.task.Task.{Task}
 use Rattle.gomp_types.specs.declared.task.Task.TheVariants.{Explicit}
@@ -16,7 +18,7 @@ use Rattle.gomp_types.specs.Owners.{same_owner}
 use Rattle.gomp_locks.specs.Holders.{asker}
 use Rattle.gomp_locks.specs.HoldLaws.{holds_left}
 use Rattle.gomp_model.specs.Past.{Terms, Past}
-use Rattle.gomp_model.specs.Team.{Record, row_at, past_after, past_of}
+use Rattle.gomp_model.specs.Team.{Record, row_at, past_after, past_of, events}
 
 -- this holds of each reply of a record, given what was before its step
 abbrev pub EachReply : Terms → (Past → Step → Reply → Type 0) → Record → Type 0
@@ -85,3 +87,23 @@ pub record TaskReplies (terms : Terms) (run : Record) : Type 0 where
   pub runs : EachReply terms RunsAsAsked run
   pub own : EachReply terms RunsItsOwn run
   pub returns : EachReply terms ReturnsToItsWait run
+
+-- Cancelled (OpenMP API 5.2, section 16.1): a member is answered so only if the region is cancelled.
+abbrev pub TellsCancelledRegion : Past → Step → Reply → Type 0
+TellsCancelledRegion p step Cancelled = is_cancelled p.events ≡ true
+TellsCancelledRegion p step _ = Unit {0}
+
+-- Dropped: a creator is answered so only if a cancellation reaches the task, or would.
+abbrev pub DropsCovered : Past → Step → Reply → Type 0
+DropsCovered p step Dropped = would_be_covered (executed_task step.member p.events) p.events ≡ true
+DropsCovered p step _ = Unit {0}
+
+-- if the control variable allows no cancellation (section 2.1), nothing is ever cancelled
+abbrev pub NothingCancelled : Terms → Record → Type 0
+NothingCancelled terms run = terms.cancellation ≡ false → (m : ℕ) (scope : Scope) → Happened (Cancel m scope) (events terms run) → ⊥
+
+-- the replies in a team of which something is cancelled
+pub record CancelReplies (terms : Terms) (run : Record) : Type 0 where
+  pub cancelled : EachReply terms TellsCancelledRegion run
+  pub dropped : EachReply terms DropsCovered run
+  pub allowed : NothingCancelled terms run

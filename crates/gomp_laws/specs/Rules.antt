@@ -3,16 +3,20 @@ use Rattle.std.specs.Prelude.{ℕ, ◌<◌, ◌≡◌, true, false, is_some, Lis
 use Rattle.gomp_types.specs.declared.shape.Shape.{Shape}
 use Rattle.gomp_types.specs.declared.event.Tag.{Tag}
 use Rattle.gomp_types.specs.declared.event.Event.{Event}
-use Rattle.gomp_types.specs.declared.event.Event.TheVariants.{Take, Drained, End, Put, Got, Arrive, Pass, Create, Start, Done, Group, GroupEnd, Waited, Hold, Free}
+use Rattle.gomp_types.specs.declared.event.Event.TheVariants.{Take, Drained, End, Put, Got, Arrive, Pass, Create, Start, Done, Group, GroupEnd, Waited, Hold, Free, Cancel, Discard, See}
 use Rattle.gomp_types.specs.Shapes.{is_copy}
 use Rattle.gomp_types.specs.Events.{shares_entered, open_share, last_piece, holds_piece, payload_at, has_piece, has_words, arrival}
 use Rattle.gomp_types.specs.Deals.{schedule}
 use Rattle.gomp_types.specs.Arrivals.{MayArrive, MayPass}
 use Rattle.gomp_types.specs.Tasks.{in_task}
-use Rattle.gomp_types.specs.TaskRules.{MayCreate, MayStart, MayEnd, MayOpen, MayEndGroup, MayGoOn}
+use Rattle.gomp_types.specs.TaskRules.{MayCreate, MayStart, MayEnd, MayDiscard, MayOpen, MayEndGroup, MayGoOn}
+use Rattle.gomp_types.specs.declared.cancel.CancelKind.{CancelKind}
+use Rattle.gomp_types.specs.declared.cancel.Scope.{Scope}
+use Rattle.gomp_types.specs.Cancels.{leaves_region}
+use Rattle.gomp_types.specs.CancelRules.{MayCancel, MaySee}
 use Rattle.gomp_types.specs.declared.key.Key.{Key}
 use Rattle.gomp_types.specs.declared.task.Task.{Task}
-use Rattle.gomp_shares.specs.Rules.{HasNone, MayTake, ShareRule}
+use Rattle.gomp_shares.specs.Rules.{HasNone, MayTake, MayLeave, ShareRule}
 use Rattle.gomp_locks.specs.HoldRules.{MayHold, MayFree}
 use Rattle.gomp_locks.specs.NameRules.{NameRule}
 
@@ -41,18 +45,18 @@ pub record HasNoneIn (members share m : ℕ) (earlier : List Event) : Type 0 whe
   pub done : HasNone (schedule members) share m earlier
   pub handed_on : done.shape.ordered ≡ true → holds_piece m earlier ≡ false
 
--- it leaves a share if nothing is left for it, a single with words only if it has them, and an ordered loop only if it has handed its last piece on
-pub record MayLeave (members share m : ℕ) (earlier : List Event) : Type 0 where
-  pub done : HasNone (schedule members) share m earlier
+-- it leaves a share if nothing is left for it, or if it has seen that the share is cancelled, a single with words only if it has them, and an ordered loop only if it has handed its last piece on
+pub record MayLeaveIn (members share m : ℕ) (earlier : List Event) : Type 0 where
+  pub done : MayLeave (schedule members) share m earlier
   pub words : is_copy done.shape.kind ≡ true → has_words share m earlier ≡ true
   pub handed_on : done.shape.ordered ≡ true → holds_piece m earlier ≡ false
 
--- in a team a member of it arrives, outside of every share, task and critical name and once at each barrier, and tells how many shares it has entered
+-- in a team a member of it arrives, outside of every share, task and critical name and once at each barrier, and tells how many shares it has entered; one that leaves a cancelled region arrives at its end from wherever it is among shares and barriers
 pub record MayArriveIn (members barrier m : ℕ) (tag : Tag) (earlier : List Event) : Type 0 where
   pub arrives : MayArrive barrier m tag earlier
   pub member : m < members
-  pub outside : open_share m earlier ≡ None
-  pub once : arrival barrier m earlier ≡ None
+  pub outside : leaves_region m earlier ≡ false → open_share m earlier ≡ None
+  pub once : leaves_region m earlier ≡ false → arrival barrier m earlier ≡ None
   pub shares : tag.shares ≡ shares_entered m earlier
   pub names : NameRule (Arrive barrier m tag) earlier
 
@@ -73,11 +77,21 @@ pub record MayEndIn (members t m : ℕ) (earlier : List Event) : Type 0 where
   pub ends : MayEnd members t m earlier
   pub names : NameRule (Done t m) earlier
 
+-- a member of it cancels what a construct names there, a share only as the shares let it
+pub record MayCancelIn (members m : ℕ) (scope : Scope) (earlier : List Event) : Type 0 where
+  pub cancels : MayCancel members m scope earlier
+  pub share : ShareRule (schedule members) members (Cancel m scope) earlier
+
+-- and sees that what it names is cancelled
+pub record MaySeeIn (members m : ℕ) (kind : CancelKind) (earlier : List Event) : Type 0 where
+  pub sees : MaySee members m kind earlier
+  pub share : ShareRule (schedule members) members (See m kind) earlier
+
 -- the rule of a team
 abbrev pub TeamRule : ℕ → Event → List Event → Type 0
 TeamRule members (Take share m low high) earlier = MayTakeIn members share m low high earlier
 TeamRule members (Drained share m) earlier = HasNoneIn members share m earlier
-TeamRule members (End share m) earlier = MayLeave members share m earlier
+TeamRule members (End share m) earlier = MayLeaveIn members share m earlier
 TeamRule members (Arrive barrier m tag) earlier = MayArriveIn members barrier m tag earlier
 TeamRule members (Pass barrier m) earlier = MayPassIn members barrier m earlier
 TeamRule members (Hold key m task) earlier = MayHoldIn members key m task earlier
@@ -85,6 +99,9 @@ TeamRule members (Free key m task) earlier = MayFree key m task earlier
 TeamRule members (Create t m parent desc) earlier = MayCreate members t m parent earlier
 TeamRule members (Start t m) earlier = MayStart members t m earlier
 TeamRule members (Done t m) earlier = MayEndIn members t m earlier
+TeamRule members (Discard t m) earlier = MayDiscard members t m earlier
+TeamRule members (Cancel m scope) earlier = MayCancelIn members m scope earlier
+TeamRule members (See m kind) earlier = MaySeeIn members m kind earlier
 TeamRule members (Group q m) earlier = MayOpen members q m earlier
 TeamRule members (GroupEnd q m) earlier = MayEndGroup members q m earlier
 TeamRule members (Waited m items) earlier = MayGoOn members m items earlier

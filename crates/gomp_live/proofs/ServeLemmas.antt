@@ -4,12 +4,15 @@ use Rattle.std.specs.Prelude.{IfSome, OnOk}
 use Rattle.std.specs.Result.{is_err}
 use Rattle.std.specs.Io.BufRead.{take_through, DropsThrough}
 use Rattle.std.specs.Io.KnownBytes.{Appends, IsAtEnd}
+use Rattle.std.specs.declared.io.ErrorKind.{ErrorKind}
+use Rattle.std.specs.declared.io.ErrorKind.TheVariants.{OutOfMemory}
 use Rattle.gomp_types.specs.declared.event.Event.{Event}
 use Rattle.gomp_icv.specs.Variables.{Variables}
 use Rattle.gomp_text.specs.Words.{cut_at}
+use Rattle.gomp_steps.specs.Serving.{unread_as}
 use Rattle.gomp_live.specs.Talk.{Talked}
 use Rattle.gomp_live.specs.Stands.{TalkView, TalkStands}
-use Rattle.gomp_live.specs.Serving.{LinesAnswered, SomeAnswered}
+use Rattle.gomp_live.specs.Serving.{LinesAnswered, SomeAnswered, ServesLive}
 use Rattle.gomp_live.proofs.InputLemmas.{InputLeft, input_begins, input_ended, input_stays, input_goes_on, appends_nothing, appends_more}
 
 -- a result that is no error leads to what it should
@@ -87,3 +90,8 @@ line_served {input = input} {left = left} {next = next} {before = before} {betwe
   read = input_goes_on input left next now.lines text some now.read taken drops;
   written = appends_more before between after now.said answer now.written more;
 }
+
+-- a read that fails ends it there
+pub talk_unread : (icv : Variables) (remaining before after : Option (List ℕ)) (fault : ErrorKind) → SomeAnswered icv remaining before after → ServesLive icv remaining before after (unread_as fault)
+talk_unread icv remaining before after OutOfMemory broken = broken
+talk_unread icv remaining before after _ broken = broken

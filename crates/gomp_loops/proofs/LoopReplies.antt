@@ -1,9 +1,15 @@
 -- What a member sees, and the piece that it was given, in the words of the events.
 use Rattle.std.proofs.Common.{◌≡◌, ℕ, ◌+◌, ◌-◌, ◌<◌, ◌≤◌, Bool, true, false, List, [], ◌∷◌, ◌++◌, Option, Some, None, refl, ap, ◌∙◌, sym, subst, arith}
-use Rattle.std.specs.Prelude.{pos, not, ◌≢◌, ◌&&◌, if◌then◌else◌, nat_le, is_some}
+use Rattle.std.proofs.Common.{inl, inr}
+use Rattle.std.proofs.lemmas.Bool.{cases_Bool}
+use Rattle.std.specs.Ordering.{int_eq}
+use Rattle.std.specs.Prelude.{ℤ, pos, not, ◌≢◌, ◌&&◌, if◌then◌else◌, nat_le, is_some}
 use Rattle.gomp_types.specs.declared.reply.Reply.{Reply}
 use Rattle.gomp_types.specs.declared.reply.Reply.TheVariants.{Wait, Refused}
 use Rattle.gomp_types.specs.declared.loop_desc.LoopDesc.{LoopDesc}
+use Rattle.gomp_types.specs.declared.loop_desc.Sched.{Sched}
+use Rattle.gomp_types.specs.declared.loop_desc.Sched.TheVariants.{Static, Dynamic, Guided, Runtime}
+use Rattle.gomp_types.specs.Shapes.{is_loop}
 use Rattle.gomp_types.specs.declared.limits.Limits.{Limits}
 use Rattle.gomp_types.specs.declared.refusal.Refusal.{Refusal}
 use Rattle.gomp_types.specs.declared.refusal.Refusal.TheVariants.{TooManyShares}
@@ -15,14 +21,14 @@ use Rattle.gomp_types.specs.Tests.{first_refusal}
 use Rattle.gomp_types.specs.Least.{least}
 use Rattle.gomp_types.specs.Seen.{seen_of}
 use Rattle.gomp_types.specs.Iterations.{loop_tests}
-use Rattle.gomp_types.specs.Pieces.{Piece, shape_of}
+use Rattle.gomp_types.specs.Pieces.{Piece, kind_of, shape_of}
 use Rattle.gomp_types.specs.Values.{IsShape, value_at, iteration_at}
 use Rattle.gomp_types.specs.Events.{shares_entered, open_share, open_number, share_number, turn, has_room}
 use Rattle.gomp_types.specs.Ordered.{has_turn, last_number, must_wait}
 use Rattle.gomp_types.proofs.Booleans.{same_number}
 use Rattle.gomp_types.proofs.LeastTests.{all_fail, first_is_least}
-use Rattle.gomp_types.proofs.TestRows.{front_holds}
-use Rattle.gomp_shares.specs.Calls.{CanClaim, MayOpen, Claims, events_claimed, own_turn, piece_handed}
+use Rattle.gomp_types.proofs.TestRows.{front_holds, front_fails}
+use Rattle.gomp_shares.specs.Calls.{most_shares, MayOpenAs, CanClaim, MayOpen, Claims, events_claimed, own_turn, piece_handed}
 use Rattle.gomp_shares.specs.declared.Opening.TheVariants.{Entered}
 use Rattle.gomp_shares.proofs.Admitted.{begin_compared, answers_let}
 use Rattle.gomp_shares.specs.Starts.{start_tests, share_tests, compared_share, AnswersBegin}
@@ -48,6 +54,22 @@ start_refused limits m loop seen h refusal e is =
 pub start_fine : (limits : Limits) (m : ℕ) (loop : LoopDesc) (seen : Seen) (h : List Event) → seen ≡ seen_of m h → None ≡ first_refusal (start_tests (loop_tests loop) limits seen) →
     least (start_tests (loop_tests loop) limits (seen_of m h)) ≡ None
 start_fine limits m loop seen h e is = sym (first_is_least 0 (start_tests (loop_tests loop) limits (seen_of m h)) refl) ∙ row_is (start_tests (loop_tests loop) limits) seen (seen_of m h) None e is
+
+-- behind a loop's own tests, none of which holds, comes that of the limit
+pub start_at_limit : (limits : Limits) (seen : Seen) (loop : LoopDesc) → is_some seen.current ≡ false → first_refusal (loop_tests loop) ≡ None → first_refusal (start_tests (loop_tests loop) limits seen) ≡ first_refusal ((nat_le limits.shares seen.entered, TooManyShares) ∷ [])
+start_at_limit limits seen loop out e = rw out (front_fails (loop_tests loop) ((nat_le limits.shares seen.entered, TooManyShares) ∷ []) e)
+
+-- the share of a loop is a loop
+chunked_is_loop : (sched : Sched) (chunk : ℤ) → is_loop (kind_of sched chunk) ≡ true
+chunked_is_loop Static chunk = elim (cases_Bool (int_eq chunk (pos 0))) [ inl none ↦ rw none refl | inr some ↦ rw some refl ]
+chunked_is_loop Dynamic chunk = refl
+chunked_is_loop Guided chunk = refl
+chunked_is_loop Runtime chunk = refl
+
+-- and one that is not refused may be opened
+pub loop_may_open : (loop : LoopDesc) (seen : Seen) (shape : Shape) → shape ≡ shape_of loop → IsShape (shape_of loop) → is_some seen.current ≡ false → seen.entered < most_shares → MayOpenAs seen shape
+loop_may_open loop seen shape is valid outside few =
+    λ members m lt. record { member = lt; valid = rw is valid; ordered = λ e. rw is (chunked_is_loop loop.sched loop.chunk); outside = outside; few = few }
 
 -- a member outside of every share is refused as its loop is
 pub start_own : (limits : Limits) (seen : Seen) (loop : LoopDesc) (refusal : Refusal) → is_some seen.current ≡ false → first_refusal (loop_tests loop) ≡ Some refusal → first_refusal (start_tests (loop_tests loop) limits seen) ≡ Some refusal

@@ -1,12 +1,14 @@
 //! The calls of libgomp's loops, over any body of the shares.
 
 ghost use Rattle.std.specs.Prelude.{◌≡◌, ◌<◌, None};
-ghost use Rattle.gomp_types.specs.declared.loop_desc.EndKind.TheVariants.{Wait as WaitEnd, Nowait};
+ghost use Rattle.gomp_types.specs.declared.loop_desc.EndKind.TheVariants.{Wait as WaitEnd, Nowait, Cancellable};
 ghost use Rattle.gomp_types.specs.Least.{least};
+ghost use Rattle.gomp_shares.specs.declared.admission.Construct.TheVariants.{Loop as AnyLoop};
+ghost use Rattle.gomp_shares.specs.Admission.{all_end_tests};
 ghost use Rattle.gomp_shares.specs.Calls.{CanOpen};
-ghost use Rattle.gomp_shares.specs.Serves.{Leaves, Serves};
+ghost use Rattle.gomp_shares.specs.Serves.{Ends, Serves};
 ghost use Rattle.gomp_shares.specs.Starts.{AnswersBegin, left_at_once};
-ghost use Rattle.gomp_shares.specs.Loops.{AnswersLoopStart, DealsOut, AnswersTake, loop_begun, loop_started, AnswersLoopNext, loop_next_taken, AnswersLoopEnd, end_tests, next_tests};
+ghost use Rattle.gomp_shares.specs.Loops.{AnswersLoopStart, DealsOut, AnswersTake, loop_begun, loop_started, AnswersLoopNext, loop_next_taken, AnswersLoopEnd, next_tests};
 
 use crate::admission::{admit_start, piece_reply};
 use gomp_shares::admission::next_refusal;
@@ -107,9 +109,24 @@ pub fn take_next<S: Shares>(shares: &mut S, member: u16) -> Reply
 pub fn loop_end<S: Shares>(shares: &mut S, member: u16) -> Result<(), Refusal>
     requires member { member < S.members shares.old }
     ensures members { S.members shares.new ≡ S.members shares.old }
-    ensures leaves { Leaves S.stands shares.old shares.new result (end_tests WaitEnd) member }
+    ensures ends { Ends S.stands shares.old shares.new result
+        (all_end_tests AnyLoop WaitEnd) member }
 {
     end_construct(shares, member, Construct::Loop, EndKind::Wait)
+}
+
+/// Leaves the member's loop, which may be cancelled, and at the end of which a barrier stands, as
+/// [`loop_end`] does (OpenMP API 5.2, section 16.1; libgomp's `GOMP_loop_end_cancel`).
+///
+/// Refused as [`loop_end`] is, but that `NotDrained` does not come if the loop is cancelled: then the
+/// member sees that.
+pub fn loop_end_cancel<S: Shares>(shares: &mut S, member: u16) -> Result<(), Refusal>
+    requires member { member < S.members shares.old }
+    ensures members { S.members shares.new ≡ S.members shares.old }
+    ensures ends { Ends S.stands shares.old shares.new result
+        (all_end_tests AnyLoop Cancellable) member }
+{
+    end_construct(shares, member, Construct::Loop, EndKind::Cancellable)
 }
 
 /// Leaves the member's loop, which has no barrier at its end.

@@ -17,10 +17,12 @@
 //! sections have in common; a call here on a member in sections finds it outside of every loop.
 //!
 //! OpenMP API 5.2, section 11.5. The calls have the form of libgomp's `GOMP_loop_*_start`, `_next`,
-//! `GOMP_loop_end` and `GOMP_loop_end_nowait` (libgomp manual, the ABI chapter).
+//! `GOMP_loop_end`, `GOMP_loop_end_cancel` and `GOMP_loop_end_nowait` (libgomp manual, the ABI chapter).
 #![tactic(auto)]
 
 pub mod admission;
 pub mod calls;
 
-pub use calls::{begin_loop, loop_end, loop_end_nowait, loop_next, loop_start, take_next};
+pub use calls::{
+    begin_loop, loop_end, loop_end_cancel, loop_end_nowait, loop_next, loop_start, take_next,
+};

@@ -9,6 +9,7 @@ use Rattle.gomp_types.specs.Singles.{single_shape}
 use Rattle.gomp_types.specs.Events.{shares_entered, open_share, shape_at, has_left_region, clash_of}
 use Rattle.gomp_types.specs.Compare.{shape_differs}
 use Rattle.gomp_types.specs.Tasks.{in_task}
+use Rattle.gomp_types.specs.Cancels.{is_leaving}
 use Rattle.gomp_types.specs.EventLists.{eight_entered, four}
 use Rattle.gomp_shares.specs.Loops.{DealsOut}
 use Rattle.gomp_locks.specs.Holders.{asker, holds_critical}
@@ -737,10 +738,10 @@ some_reply_tells p step some = (some.1, some.2)
 
 -- a limit above the standard one refuses no share later than that does
 pub limit_is_capped :
-    (h : List Event) → has_left_region 0 h ≡ false → clash_of h ≡ None → open_share 0 h ≡ None → in_task 0 h ≡ false → holds_critical (asker 0 h) h ≡ false → shares_entered 0 h ≡ 131064 →
+    (h : List Event) → has_left_region 0 h ≡ false → clash_of h ≡ None → is_leaving 0 h ≡ false → open_share 0 h ≡ None → in_task 0 h ≡ false → holds_critical (asker 0 h) h ≡ false → shares_entered 0 h ≡ 131064 →
     refusal_of (record (before_all (record { members = 1; limits = record { shares = 131065; tasks = 0; events = 0 }; cancellation = false })) { events = h }) (asks 0 SingleStart) ≡ Some TooManyShares
-limit_is_capped h stays whole outside in_none free many =
+limit_is_capped h stays whole goes outside in_none free many =
     elim (cases_Bool (shape_differs (single_shape false) (shape_at 131064 h))) [
-      | inl differs ↦ rw (stays, whole, outside, in_none, free, many, differs) refl
-      | inr same ↦ rw (stays, whole, outside, in_none, free, many, same) refl
+      | inl differs ↦ rw (stays, whole, goes, outside, in_none, free, many, differs) refl
+      | inr same ↦ rw (stays, whole, goes, outside, in_none, free, many, same) refl
     ]

@@ -1,5 +1,6 @@
 -- The test on the number of items, at a creation and at a taskwait: the last number that is let in and the first that is refused, and which refusal comes first.
-use Rattle.std.proofs.Common.{◌≡◌, ℕ, true, false, List, [], ◌∷◌, Some, None, refl, rules}
+use Rattle.std.proofs.Common.{◌≡◌, ℕ, true, false, List, [], ◌∷◌, Some, None, refl, inl, inr}
+use Rattle.std.proofs.lemmas.Bool.{cases_Bool}
 use Rattle.std.specs.Prelude.{Option, take, map, length}
 use Rattle.gomp_types.specs.declared.call.Call.{Call}
 use Rattle.gomp_types.specs.declared.call.Call.TheVariants.{Barrier, RegionEnd, TaskEnd, Taskwait, Resume, Stop}
@@ -11,6 +12,8 @@ use Rattle.gomp_types.specs.declared.refusal.Refusal.TheVariants.{BadMember, End
 use Rattle.gomp_types.specs.declared.reply.Reply.TheVariants.{Passed, Run as RunTask, TaskDone, Stopped, Refused}
 use Rattle.gomp_types.specs.Events.{has_left_region, clash_of}
 use Rattle.gomp_types.specs.Tasks.{tasks_created, executed_task, depth_of}
+use Rattle.gomp_types.specs.Cancels.{is_leaving}
+use Rattle.gomp_types.specs.CancelCalls.{creates_covered}
 use Rattle.gomp_model.specs.Past.{Past}
 use Rattle.gomp_model.specs.Row.{board_tests}
 use Rattle.gomp_model.specs.Calls.{row_of}
@@ -59,7 +62,7 @@ tests_of_repeated_items = (refl, refl)
 
 -- a member in a task at this depth, in a team that has created so many tasks
 abbrev refusal_at : ℕ → ℕ → List Event → Type 0
-refusal_at depth created h = (has_left_region 0 h ≡ false) × (clash_of h ≡ None) × (depth_of (executed_task 0 h) h ≡ depth) × (tasks_created h ≡ created)
+refusal_at depth created h = (has_left_region 0 h ≡ false) × (clash_of h ≡ None) × (is_leaving 0 h ≡ false) × (depth_of (executed_task 0 h) h ≡ depth) × (tasks_created h ≡ created)
 
 -- the past of a member alone after these events, whose room is used up
 abbrev used_up_after : List Event → Past
@@ -68,22 +71,34 @@ used_up_after h = record (before_all (team_of 1)) { events = h; room = 16777216 
 -- too deep, too many tasks, too many items and no room: the refusal for the depth comes first
 pub depth_before_items :
     (h : List Event) → refusal_at 64 1048576 h → refusal_of (used_up_after h) (asks 0 (creates_with 1 (reads 17))) ≡ Some TooDeep
-depth_before_items h before = rw (before.0, before.1, before.2, before.3) refl
+depth_before_items h before =
+    elim (cases_Bool (creates_covered 0 h)) [
+      | inl covered ↦ rw (before.0, before.1, before.2, before.3, before.4, covered) refl
+      | inr free ↦ rw (before.0, before.1, before.2, before.3, before.4, free) refl
+    ]
 
 -- then that for the number of tasks
 pub tasks_before_items :
     (h : List Event) → refusal_at 63 1048576 h → refusal_of (used_up_after h) (asks 0 (creates_with 1 (reads 17))) ≡ Some TooManyTasks
-tasks_before_items h before = rw (before.0, before.1, before.2, before.3) refl
+tasks_before_items h before =
+    elim (cases_Bool (creates_covered 0 h)) [
+      | inl covered ↦ rw (before.0, before.1, before.2, before.3, before.4, covered) refl
+      | inr free ↦ rw (before.0, before.1, before.2, before.3, before.4, free) refl
+    ]
 
 -- then that for the items
 pub items_before_room :
     (h : List Event) → refusal_at 63 1048575 h → refusal_of (used_up_after h) (asks 0 (creates_with 1 (reads 17))) ≡ Some TooManyDepends
-items_before_room h before = rw (before.0, before.1, before.2, before.3) refl
+items_before_room h before =
+    elim (cases_Bool (creates_covered 0 h)) [
+      | inl covered ↦ rw (before.0, before.1, before.2, before.3, before.4, covered) refl
+      | inr free ↦ rw (before.0, before.1, before.2, before.3, before.4, free) refl
+    ]
 
--- and last that for the room
+-- and last that for the room, of a task that is not dropped
 pub room_after_items :
-    (h : List Event) → refusal_at 63 1048575 h → refusal_of (used_up_after h) (asks 0 (creates_with 1 (reads 16))) ≡ Some TraceFull
-room_after_items h before = rw (before.0, before.1, before.2, before.3) refl
+    (h : List Event) → refusal_at 63 1048575 h → creates_covered 0 h ≡ false → refusal_of (used_up_after h) (asks 0 (creates_with 1 (reads 16))) ≡ Some TraceFull
+room_after_items h before free = rw (before.0, before.1, before.2, before.3, before.4, free) refl
 
 -- the same in teams with small limits
 pub refused_in_order :
@@ -122,7 +137,7 @@ deepest_undeferred_tasks = (refl, refl)
 pub answers_of_the_deepest :
     MayAnswer (past_after_run 1 (down_at_once 63)) (asks 0 (creates_at_once 1 [])) (RunTask 64 1 0 true) × MayAnswer (past_after_run 1 (down_at_once 64)) (asks 0 (creates_at_once 1 [])) (Refused TooDeep)
     × MayAnswer (past_after_run 1 (down_at_once 64)) (asks 0 TaskEnd) (TaskDone 64 false) × MayAnswer (past_after_run 1 (take 127 (nested_at_once 64))) (asks 0 TaskEnd) (TaskDone 1 false)
-answers_of_the_deepest = search rules
+answers_of_the_deepest = ((refl, (refl, refl, (refl, refl))), refl, (refl, refl), (refl, refl))
 
 -- once they have ended another may be created
 pub undeferred_after_all : refusals_after (nested_at_once 64) (creates_at_once 1 [] ∷ Barrier ∷ []) ≡ None ∷ None ∷ []

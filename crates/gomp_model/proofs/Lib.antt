@@ -1,3 +1,7 @@
+pub mod CancelCauseExamples
+pub mod CancelRowExamples
+pub mod CancelRunsWithCauses
+pub mod CancelTestExamples
 pub mod CauseExamples
 pub mod DependCauseExamples
 pub mod DependRecordExamples
@@ -15,6 +19,7 @@ pub mod TaskTestExamples
 pub mod TestExamples
 pub mod RunsWithCauses
 pub mod WrongAnswers
+pub mod WrongCancelAnswers
 pub mod WrongDependAnswers
 pub mod WrongHoldAnswers
 pub mod WrongShareAnswers

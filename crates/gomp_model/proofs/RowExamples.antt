@@ -11,7 +11,7 @@ use Rattle.gomp_types.specs.declared.task.Task.TheVariants.{Implicit}
 use Rattle.gomp_types.specs.declared.loop_desc.EndKind.TheVariants.{Wait as WaitEnd}
 use Rattle.gomp_types.specs.declared.refusal.Place.TheVariants.{Share, Barrier as AtBarrier, Stopped as AtStop}
 use Rattle.gomp_types.specs.declared.refusal.Refusal.{Refusal}
-use Rattle.gomp_types.specs.declared.refusal.Refusal.TheVariants.{Ended, Waiting, InsideTask, InsideShare, HoldsCritical, NotDrained, NotInside, NoGroup, NameTooLong, AlreadyHeld, NotHolder, NoLock, TooManyShares, Mismatch, TraceFull, NoMemory}
+use Rattle.gomp_types.specs.declared.refusal.Refusal.TheVariants.{Ended, Waiting, Leaving, InsideTask, InsideShare, HoldsCritical, NotDrained, NotInside, NoGroup, NameTooLong, AlreadyHeld, NotHolder, NoLock, TooManyShares, Mismatch, TraceFull, NoMemory}
 use Rattle.gomp_types.specs.declared.reply.Reply.{Reply}
 use Rattle.gomp_types.specs.declared.reply.Reply.TheVariants.{Chunk, NoChunk, Section, Executor, Copied, Finished, Passed, Wait, Created, Run as RunTask, TaskDone, Lock as LockMade, Got as GotLock, Count, Stopped, Refused}
 use Rattle.gomp_types.specs.declared.shape.Shape.{Shape}
@@ -478,10 +478,10 @@ tested = record plain_row {
   room = 16777214;
 }
 
--- a call makes them all, first those on its place
+-- a call makes them all, first that on a member that leaves, then those on its place
 pub tests_of_a_call :
     row_tests false tested 0 (past_with 1 [])
-    ≡ (true, NotDrained) ∷ (false, TooManyShares) ∷ (true, Mismatch) ∷ (true, NoGroup) ∷ (true, TraceFull) ∷ (true, Waiting) ∷ (true, NoLock) ∷ []
+    ≡ (false, Leaving) ∷ (true, NotDrained) ∷ (false, TooManyShares) ∷ (true, Mismatch) ∷ (true, NoGroup) ∷ (true, TraceFull) ∷ (true, Waiting) ∷ (true, NoLock) ∷ []
 tests_of_a_call = refl
 
 -- and is refused by the least
@@ -506,8 +506,8 @@ tested_place = record plain_row { by_place = λ limits seen. (limits.shares == 1
 
 -- the tests on the place are by the team's limits, and by what the events say of the member that asks
 pub tests_by_place :
-    (row_tests false tested_place 1 (past_with 2 (Enter 0 1 (four false) ∷ [])) ≡ (true, InsideShare) ∷ (false, TraceFull) ∷ [])
-    × (row_tests false tested_place 0 (past_with 2 (Enter 0 1 (four false) ∷ [])) ≡ (false, InsideShare) ∷ (false, TraceFull) ∷ [])
+    (row_tests false tested_place 1 (past_with 2 (Enter 0 1 (four false) ∷ [])) ≡ (false, Leaving) ∷ (true, InsideShare) ∷ (false, TraceFull) ∷ [])
+    × (row_tests false tested_place 0 (past_with 2 (Enter 0 1 (four false) ∷ [])) ≡ (false, Leaving) ∷ (false, InsideShare) ∷ (false, TraceFull) ∷ [])
 tests_by_place = (refl, refl)
 
 -- Tests that names and locks decide
@@ -699,11 +699,13 @@ no_share_by_book = refl
 
 -- what a row leaves as it is: no test that holds, no event, and done at once
 pub plain_says_nothing :
-    (row_tests false plain_row 0 (past_with 1 []) ≡ (false, TraceFull) ∷ []) × (row_tests true plain_row 0 (past_with 1 []) ≡ []) × (plain_row.memory ≡ false) × (plain_row.stays ≡ false)
+    (row_tests false plain_row 0 (past_with 1 []) ≡ (false, Leaving) ∷ (false, TraceFull) ∷ []) × (row_tests true plain_row 0 (past_with 1 []) ≡ []) × (plain_row.memory ≡ false) × (plain_row.stays ≡ false)
     × (plain_row.arrives ≡ None) × (plain_row.puts ≡ false) × (plain_row.begins 0 (past_with 1 []) ≡ []) × (plain_row.gives 0 (past_with 1 []) Finished ≡ [])
     × (plain_row.asks_book ≡ false) × (plain_row.holds ≡ None) × (plain_row.locks Finished three_locks ≡ three_locks)
     × (plain_row.room ≡ 0) × (plain_row.creates ≡ None) × (plain_row.by_task 0 (past_with 1 []) ≡ [])
-plain_says_nothing = (refl, refl, refl, refl, refl, refl, refl, refl, refl, refl, refl, refl, refl, refl)
+    × (plain_row.gives_up 0 [] ≡ false) × (plain_row.drains ≡ false) × (plain_row.lets_leave 0 [] ≡ false) × (plain_row.keeps_room Wait ≡ true)
+    × (plain_row.drops 0 (past_with 1 []) ≡ false) × (plain_row.cancels ≡ None)
+plain_says_nothing = (refl, refl, refl, refl, refl, refl, refl, refl, refl, refl, refl, refl, refl, refl, refl, refl, refl, refl, refl, refl)
 
 -- and nothing but done
 pub plain_is_done : (plain_row.may_reply 0 (past_with 1 []) Finished) × (plain_row.may_reply 0 (past_with 1 []) Wait → ⊥) × (plain_row.may_reply 0 (past_with 1 []) (Refused NoMemory) → ⊥)
@@ -711,7 +713,7 @@ plain_is_done = (refl, (λ e. absurd (cc)), (λ e. absurd (cc)))
 
 -- a call that is done at once has its tests, gives its events, and is done
 pub done_at_once :
-    (row_tests false (at_once (λ seen. (seen.in_part, NotDrained) ∷ []) (λ m h. End 0 m ∷ h)) 0 (past_with 1 []) ≡ (false, NotDrained) ∷ (false, InsideTask) ∷ (false, TraceFull) ∷ (false, HoldsCritical) ∷ [])
+    (row_tests false (at_once (λ seen. (seen.in_part, NotDrained) ∷ []) (λ m h. End 0 m ∷ h)) 0 (past_with 1 []) ≡ (false, Leaving) ∷ (false, NotDrained) ∷ (false, InsideTask) ∷ (false, TraceFull) ∷ (false, HoldsCritical) ∷ [])
     × ((at_once (λ seen. []) (λ m h. End 0 m ∷ h)).begins 3 (past_with 1 (Pass 0 0 ∷ [])) ≡ End 0 3 ∷ Pass 0 0 ∷ [])
     × ((at_once (λ seen. []) (λ m h. [])).may_reply 0 (past_with 1 []) Finished)
 done_at_once = (refl, refl, refl)

@@ -1,14 +1,15 @@
 -- Worked runs of a team: each reply of these runs has its cause.
-use Rattle.std.proofs.Common.{rules}
+use Rattle.std.proofs.Common.{rules, refl, inl}
 use Rattle.gomp_types.specs.declared.call.Call.TheVariants.{SectionsStart, SingleCopyStart}
 use Rattle.gomp_types.specs.declared.loop_desc.Sched.TheVariants.{Static, Dynamic, Guided}
 use Rattle.gomp_types.specs.declared.loop_desc.EndKind.TheVariants.{Nowait}
 use Rattle.gomp_types.specs.declared.depend.DepKind.TheVariants.{DepIn, DepOut, DepInout, DepInoutset, DepMutex}
+use Rattle.std.specs.Prelude.{take}
 use Rattle.gomp_model.specs.Examples.{owned_pieces, even_pieces_of_four, shrinking_pieces, runtime_pieces, differing_schedule, IsRunOf, one_share, second_share, whole_region, IsRun, one_nowait, loop_of_two, empty_loops, refused_ends, ninth_share, differing_loop, other_end_values, differing_barrier, stopped_team, stopped_waiting, stopped_inside}
 use Rattle.gomp_model.specs.ShareExamples.{sections_of_two, no_sections, single_of_two, copy_of_three, misplaced_calls, differing_single, differing_copy, differing_sections, ordered_of_two, handed_of_two, ordered_alone, ordered_downwards, unordered_parts, differing_ordered}
 use Rattle.gomp_model.specs.HoldExamples.{names_and_locks, names_to_the_end, destroyed_while_waiting, nest_of_two, names_in_a_loop}
 use Rattle.gomp_model.specs.TaskRuns.{tasks_at_barriers, task_at_a_resume, task_at_a_loop_end, children_of_two, wait_for_children, wait_for_a_running_child, nested_waits, group_of_one, group_with_a_grandchild, group_in_a_group, refused_in_tasks, refused_ends_of_tasks, locks_of_tasks, lock_of_an_ended_task, with_events, one_task, room_for_one_task, room_for_none, no_room_for_another}
-use Rattle.gomp_model.specs.DependRuns.{undeferred_alone, child_of_an_undeferred_task, wait_in_an_undeferred_task, nested_at_once, writer_before_its_own, waits_for_its_own, another_before_its_own, both_before_its_own, task_in_a_final_task, children_of_a_final_task, reader_at_a_barrier, readers_between_writers, sets_together, mutexes_in_order, held_pair, pair_together, items_of_others, waits_for_one_item, passes_beside_another, runs_the_unnamed, waits_for_the_held, as_many_items, refused_in_an_undeferred_task, names_of_an_undeferred_task, memory_at_creation, waits_on, passes_on}
+use Rattle.gomp_model.specs.DependRuns.{undeferred_alone, child_of_an_undeferred_task, wait_in_an_undeferred_task, down_at_once, nested_at_once, writer_before_its_own, waits_for_its_own, another_before_its_own, both_before_its_own, task_in_a_final_task, children_of_a_final_task, reader_at_a_barrier, readers_between_writers, sets_together, mutexes_in_order, held_pair, pair_together, items_of_others, waits_for_one_item, passes_beside_another, runs_the_unnamed, waits_for_the_held, as_many_items, refused_in_an_undeferred_task, names_of_an_undeferred_task, memory_at_creation, waits_on, passes_on}
 use Rattle.gomp_model.specs.RegionExamples.{region_of_two, later_barrier, later_share, differing_at_resume, differing_ninth, ninth_and_tenth, copied_at_once, parts_of_a_piece, early_arrivals, early_sections_end, early_starts, ends_in_order, outside_calls, second_of_each, stopped_at_the_end, named_in_a_part}
 
 -- Loops, barriers and stops
@@ -181,9 +182,17 @@ sections_at_resume_have_causes = search rules
 pub copy_at_resume_has_causes : IsRun 2 (differing_ninth SingleCopyStart)
 copy_at_resume_has_causes = search rules
 
--- sections and a single with words wait for room
+-- sections wait for room
+pub ninth_has_causes : IsRun 2 (take 30 ninth_and_tenth)
+ninth_has_causes = search rules
+
+-- and a single with words does after them
+pub tenth_has_causes : IsRun 2 (take 33 ninth_and_tenth)
+tenth_has_causes = ((refl, inl refl), ((refl, (refl, refl)), ((refl, inl refl), ninth_has_causes)))
+
+-- until the other member has left its share
 pub ninth_and_tenth_have_causes : IsRun 2 ninth_and_tenth
-ninth_and_tenth_have_causes = search rules
+ninth_and_tenth_have_causes = ((refl, (refl, refl)), ((refl, refl), tenth_has_causes))
 
 -- words that are there before they are asked for
 pub copied_at_once_has_causes : IsRun 2 copied_at_once
@@ -331,9 +340,21 @@ child_of_an_undeferred_task_has_causes = search rules
 pub wait_in_an_undeferred_task_has_causes : IsRun 1 wait_in_an_undeferred_task
 wait_in_an_undeferred_task_has_causes = search rules
 
--- twenty, each in the one before
+-- ten, each in the one before
+pub ten_at_once_have_causes : IsRun 1 (down_at_once 10)
+ten_at_once_have_causes = ((refl, (refl, refl, (refl, refl))), ((refl, (refl, refl, (refl, refl))), ((refl, (refl, refl, (refl, refl))), ((refl, (refl, refl, (refl, refl))), ((refl, (refl, refl, (refl, refl))), ((refl, (refl, refl, (refl, refl))), ((refl, (refl, refl, (refl, refl))), ((refl, (refl, refl, (refl, refl))), ((refl, (refl, refl, (refl, refl))), ((refl, (refl, refl, (refl, refl))), tt))))))))))
+
+-- twenty
+pub down_at_once_have_causes : IsRun 1 (down_at_once 20)
+down_at_once_have_causes = ((refl, (refl, refl, (refl, refl))), ((refl, (refl, refl, (refl, refl))), ((refl, (refl, refl, (refl, refl))), ((refl, (refl, refl, (refl, refl))), ((refl, (refl, refl, (refl, refl))), ((refl, (refl, refl, (refl, refl))), ((refl, (refl, refl, (refl, refl))), ((refl, (refl, refl, (refl, refl))), ((refl, (refl, refl, (refl, refl))), ((refl, (refl, refl, (refl, refl))), ten_at_once_have_causes))))))))))
+
+-- ten of these end
+pub ten_ended_have_causes : IsRun 1 (take 30 (nested_at_once 20))
+ten_ended_have_causes = ((refl, refl), ((refl, refl), ((refl, refl), ((refl, refl), ((refl, refl), ((refl, refl), ((refl, refl), ((refl, refl), ((refl, refl), ((refl, refl), down_at_once_have_causes))))))))))
+
+-- and all
 pub nested_at_once_have_causes : IsRun 1 (nested_at_once 20)
-nested_at_once_have_causes = search rules
+nested_at_once_have_causes = ((refl, refl), ((refl, refl), ((refl, refl), ((refl, refl), ((refl, refl), ((refl, refl), ((refl, refl), ((refl, refl), ((refl, refl), ((refl, refl), ten_ended_have_causes))))))))))
 
 -- one that waits for a writer, which its creator runs
 pub writer_before_its_own_has_causes : IsRun 1 writer_before_its_own
@@ -365,9 +386,13 @@ children_of_a_final_task_have_causes = search rules
 pub reader_at_a_barrier_has_causes : IsRun 2 reader_at_a_barrier
 reader_at_a_barrier_has_causes = search rules
 
--- two readers between two writers
+-- two readers between two writers, until the first of them runs
+pub readers_after_a_writer_have_causes : IsRun 2 (take 8 readers_between_writers)
+readers_after_a_writer_have_causes = search rules
+
+-- and the second writer after both
 pub readers_between_writers_have_causes : IsRun 2 readers_between_writers
-readers_between_writers_have_causes = search rules
+readers_between_writers_have_causes = (search rules, (search rules, (search rules, (search rules, (search rules, (search rules, (search rules, (search rules, (search rules, readers_after_a_writer_have_causes)))))))))
 
 -- two tasks of a set
 pub sets_together_have_causes : IsRun 2 sets_together

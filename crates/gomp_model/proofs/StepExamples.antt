@@ -6,7 +6,7 @@ use Rattle.gomp_types.specs.declared.call.Call.TheVariants.{LoopNext, LoopEnd, S
 use Rattle.gomp_types.specs.declared.lock.LockKind.TheVariants.{Simple, Nest}
 use Rattle.gomp_types.specs.declared.loop_desc.EndKind.TheVariants.{Nowait}
 use Rattle.gomp_types.specs.declared.refusal.Place.TheVariants.{Stopped as AtStop}
-use Rattle.gomp_types.specs.declared.refusal.Refusal.TheVariants.{BadMember, Ended, Broken, Waiting, InsideTask, InsideShare, HoldsCritical, ZeroStep, BadSections, TooManyShares, NotInside, NoLock, NoMemory, TraceFull, Mismatch}
+use Rattle.gomp_types.specs.declared.refusal.Refusal.TheVariants.{BadMember, Ended, Broken, Waiting, Leaving, InsideTask, InsideShare, HoldsCritical, ZeroStep, BadSections, TooManyShares, NotInside, NoLock, NoMemory, TraceFull, Mismatch}
 use Rattle.gomp_types.specs.declared.reply.Reply.TheVariants.{Chunk, NoChunk, Section, Executor, Finished, Passed, Wait, Created, Run as RunTask, TaskDone, Lock, Stopped, Refused}
 use Rattle.gomp_types.specs.declared.event.Arrival.TheVariants.{Barrier as BarrierArrival, ShareEnd, RegionEnd as RegionEndArrival}
 use Rattle.gomp_types.specs.declared.event.Event.TheVariants.{Enter, End, Arrive, Pass, Break}
@@ -47,7 +47,7 @@ tests_of_waits = (refl, refl)
 -- a step's tests: those of every step, of the open wait, of its call
 pub tests_of_a_step :
     tests_of (past_with 2 (Enter 0 0 (four false) ∷ [])) (asks 0 Barrier)
-    ≡ (false, BadMember) ∷ (false, Ended) ∷ (false, Waiting) ∷ (true, InsideShare) ∷ (false, Mismatch) ∷ (false, InsideTask) ∷ (false, TraceFull) ∷ (false, HoldsCritical) ∷ []
+    ≡ (false, BadMember) ∷ (false, Ended) ∷ (false, Waiting) ∷ (false, Leaving) ∷ (true, InsideShare) ∷ (false, Mismatch) ∷ (false, InsideTask) ∷ (false, TraceFull) ∷ (false, HoldsCritical) ∷ []
 tests_of_a_step = refl
 
 -- a resume's: those of every step, and those that its call makes again
@@ -56,8 +56,8 @@ pub tests_of_resumes :
     × (tests_of (past_after_run 2 (take 7 loop_of_two)) (asks 1 Resume) ≡ (false, BadMember) ∷ (false, Ended) ∷ (true, NotInside) ∷ [])
 tests_of_resumes = (refl, refl)
 
--- a stop's: those of every step, and one on room, of which it asks for none
-pub tests_of_a_stop : tests_of (past_after_run 2 (take 7 loop_of_two)) (asks 0 Stop) ≡ (false, BadMember) ∷ (false, Ended) ∷ (false, TraceFull) ∷ []
+-- a stop's: those of every step, one on members that leave, which may make it, and one on room, of which it asks for none
+pub tests_of_a_stop : tests_of (past_after_run 2 (take 7 loop_of_two)) (asks 0 Stop) ≡ (false, BadMember) ∷ (false, Ended) ∷ (false, Leaving) ∷ (false, TraceFull) ∷ []
 tests_of_a_stop = refl
 
 -- Which refusal

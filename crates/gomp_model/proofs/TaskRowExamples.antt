@@ -46,7 +46,7 @@ pub flags_of_tasks :
 flags_of_tasks = (refl, refl, refl, refl, refl, refl)
 
 -- which task these calls create
-abbrev creations : List Call → List (Option TaskDesc)
+abbrev pub creations : List Call → List (Option TaskDesc)
 creations calls = map (λ call. (row_of call).creates) calls
 
 -- the creation names the task that was asked for, and no other call creates one
@@ -58,7 +58,7 @@ creations_of_tasks = (refl, refl, refl)
 -- Room
 
 -- for how many events these calls ask room
-abbrev rooms : List Call → List ℕ
+abbrev pub rooms : List Call → List ℕ
 rooms calls = map (λ call. (row_of call).room) calls
 
 -- a start asks for the arrival and the pass at its share's end, if that has a barrier, and for the words that its member puts or is given

@@ -1,5 +1,6 @@
 -- To each test on tasks, groups and room, the answer that would be given without it: it has no cause. And how much room is asked for.
-use Rattle.std.proofs.Common.{◌≡◌, ℕ, true, false, List, [], ◌∷◌, Some, None, refl, rules}
+use Rattle.std.proofs.Common.{◌≡◌, ℕ, true, false, List, [], ◌∷◌, Some, None, refl, rules, inl, inr}
+use Rattle.std.proofs.lemmas.Bool.{cases_Bool}
 use Rattle.std.specs.Prelude.{Option, pos, take, map, ◌++◌}
 use Rattle.gomp_types.specs.declared.call.Call.{Call}
 use Rattle.gomp_types.specs.declared.call.Call.TheVariants.{LoopNext, LoopEnd, LoopEndNowait, SectionsStart, SectionsNext, SectionsEnd, SectionsEndNowait, SingleStart, SingleCopyStart, SingleCopyEnd, OrderedStart, Barrier, RegionEnd, CriticalStart, LockInit, NestInit, TaskCreate, TaskEnd, Taskwait, GroupStart, GroupEnd, Resume, Stop}
@@ -11,6 +12,8 @@ use Rattle.gomp_types.specs.declared.reply.Reply.{Reply}
 use Rattle.gomp_types.specs.declared.reply.Reply.TheVariants.{Chunk, NoChunk, Section, Executor, Finished, Passed, Wait, Created, Run as RunTask, TaskDone, Lock, Stopped, Refused}
 use Rattle.gomp_types.specs.Events.{has_left_region, clash_of}
 use Rattle.gomp_types.specs.Tasks.{tasks_created, executed_task, depth_of}
+use Rattle.gomp_types.specs.Cancels.{is_leaving}
+use Rattle.gomp_types.specs.CancelCalls.{creates_covered}
 use Rattle.gomp_types.specs.TaskCalls.{first_room}
 use Rattle.gomp_types.specs.TaskExamples.{one_job}
 use Rattle.gomp_model.specs.Past.{Past}
@@ -140,7 +143,7 @@ no_mismatch_with_a_group = refl
 
 -- a member in a task at this depth, in a team that has created so many, creates another
 abbrev refusal_at : ℕ → ℕ → List Event → Type 0
-refusal_at depth created h = (has_left_region 0 h ≡ false) × (clash_of h ≡ None) × (depth_of (executed_task 0 h) h ≡ depth) × (tasks_created h ≡ created)
+refusal_at depth created h = (has_left_region 0 h ≡ false) × (clash_of h ≡ None) × (is_leaving 0 h ≡ false) × (depth_of (executed_task 0 h) h ≡ depth) × (tasks_created h ≡ created)
 
 -- the past of a member alone after these events
 abbrev after_events : List Event → Past
@@ -148,29 +151,53 @@ after_events h = record (before_all (team_of 1)) { events = h }
 
 -- the deepest task lies at depth 64
 pub deepest_task_created : (h : List Event) → refusal_at 63 70 h → refusal_of (after_events h) (asks 0 (TaskCreate one_job)) ≡ None
-deepest_task_created h before = rw (before.0, before.1, before.2, before.3) refl
+deepest_task_created h before =
+    elim (cases_Bool (creates_covered 0 h)) [
+      | inl covered ↦ rw (before.0, before.1, before.2, before.3, before.4, covered) refl
+      | inr free ↦ rw (before.0, before.1, before.2, before.3, before.4, free) refl
+    ]
 
 pub task_too_deep : (h : List Event) → refusal_at 64 70 h → refusal_of (after_events h) (asks 0 (TaskCreate one_job)) ≡ Some TooDeep
-task_too_deep h before = rw (before.0, before.1, before.2, before.3) refl
+task_too_deep h before =
+    elim (cases_Bool (creates_covered 0 h)) [
+      | inl covered ↦ rw (before.0, before.1, before.2, before.3, before.4, covered) refl
+      | inr free ↦ rw (before.0, before.1, before.2, before.3, before.4, free) refl
+    ]
 
 -- a team creates 1,048,576 tasks
 pub last_task_created : (h : List Event) → refusal_at 0 1048575 h → refusal_of (after_events h) (asks 0 (TaskCreate one_job)) ≡ None
-last_task_created h before = rw (before.0, before.1, before.2, before.3) refl
+last_task_created h before =
+    elim (cases_Bool (creates_covered 0 h)) [
+      | inl covered ↦ rw (before.0, before.1, before.2, before.3, before.4, covered) refl
+      | inr free ↦ rw (before.0, before.1, before.2, before.3, before.4, free) refl
+    ]
 
 -- and no task more; one that is too deep besides is refused for that
 pub one_task_too_many :
     (h : List Event) → refusal_at 0 1048576 h → refusal_of (after_events h) (asks 0 (TaskCreate one_job)) ≡ Some TooManyTasks
-one_task_too_many h before = rw (before.0, before.1, before.2, before.3) refl
+one_task_too_many h before =
+    elim (cases_Bool (creates_covered 0 h)) [
+      | inl covered ↦ rw (before.0, before.1, before.2, before.3, before.4, covered) refl
+      | inr free ↦ rw (before.0, before.1, before.2, before.3, before.4, free) refl
+    ]
 
 pub too_deep_and_too_many :
     (h : List Event) → refusal_at 64 1048576 h → refusal_of (after_events h) (asks 0 (TaskCreate one_job)) ≡ Some TooDeep
-too_deep_and_too_many h before = rw (before.0, before.1, before.2, before.3) refl
+too_deep_and_too_many h before =
+    elim (cases_Bool (creates_covered 0 h)) [
+      | inl covered ↦ rw (before.0, before.1, before.2, before.3, before.4, covered) refl
+      | inr free ↦ rw (before.0, before.1, before.2, before.3, before.4, free) refl
+    ]
 
 -- a limit above the standard one lets no more be created
 pub limit_of_tasks_is_capped :
     (h : List Event) → refusal_at 0 1048576 h →
     refusal_of (record (before_all (record { members = 1; limits = record { shares = 1; tasks = 1048577; events = 9 }; cancellation = false })) { events = h }) (asks 0 (TaskCreate one_job)) ≡ Some TooManyTasks
-limit_of_tasks_is_capped h before = rw (before.0, before.1, before.2, before.3) refl
+limit_of_tasks_is_capped h before =
+    elim (cases_Bool (creates_covered 0 h)) [
+      | inl covered ↦ rw (before.0, before.1, before.2, before.3, before.4, covered) refl
+      | inr free ↦ rw (before.0, before.1, before.2, before.3, before.4, free) refl
+    ]
 
 -- sixty-four tasks, each created in the one before, and no more
 pub deepest_tasks :

@@ -10,6 +10,7 @@ use Rattle.gomp_types.specs.declared.event.Event.{Event}
 use Rattle.gomp_types.specs.declared.refusal.Refusal.{Refusal}
 use Rattle.gomp_types.specs.Events.{has_left_region, clash_of}
 use Rattle.gomp_types.specs.Tasks.{executed_task}
+use Rattle.gomp_types.specs.Cancels.{is_leaving}
 use Rattle.gomp_types.specs.declared.task.Task.TheVariants.{Implicit}
 use Rattle.gomp_locks.specs.Holders.{owner_of, holder}
 use Rattle.gomp_types.specs.declared.loop_desc.EndKind.TheVariants.{Wait as WaitEnd, Nowait}
@@ -426,11 +427,11 @@ abbrev set_so_often : ℕ → List Event → Type 0
 set_so_often count h = holder (NestLock 0) h ≡ Some (record { owner = owner_of 0 (Implicit 0); count = count })
 
 -- a nestable lock is set 65,535 times
-pub last_count_given : (h : List Event) → has_left_region 0 h ≡ false → clash_of h ≡ None → executed_task 0 h ≡ Implicit 0 → set_so_often 65534 h →
+pub last_count_given : (h : List Event) → has_left_region 0 h ≡ false → clash_of h ≡ None → is_leaving 0 h ≡ false → executed_task 0 h ≡ Implicit 0 → set_so_often 65534 h →
     MayAnswer (locks_and_events (Some Nest ∷ []) h) (asks 0 (SetNest 0)) (Count 65535) × MayAnswer (locks_and_events (Some Nest ∷ []) h) (asks 0 (TestNest 0)) (Count 65535)
-last_count_given h stays whole own often = rw (stays, whole, own, often) ((refl, (refl, refl)), (refl, refl))
+last_count_given h stays whole goes own often = rw (stays, whole, goes, own, often) ((refl, (refl, refl)), (refl, refl))
 
 -- and not once more
-pub one_count_too_many : (h : List Event) → has_left_region 0 h ≡ false → clash_of h ≡ None → executed_task 0 h ≡ Implicit 0 → set_so_often 65535 h →
+pub one_count_too_many : (h : List Event) → has_left_region 0 h ≡ false → clash_of h ≡ None → is_leaving 0 h ≡ false → executed_task 0 h ≡ Implicit 0 → set_so_often 65535 h →
     map (λ call. refusal_of (locks_and_events (Some Nest ∷ []) h) (asks 0 call)) (SetNest 0 ∷ TestNest 0 ∷ UnsetNest 0 ∷ []) ≡ Some CountTooLarge ∷ Some CountTooLarge ∷ None ∷ []
-one_count_too_many h stays whole own often = rw (stays, whole, own, often) refl
+one_count_too_many h stays whole goes own often = rw (stays, whole, goes, own, often) refl

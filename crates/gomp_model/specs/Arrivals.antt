@@ -1,5 +1,5 @@
 -- The rows of calls that arrive at a barrier, and of the ends of shares. OpenMP API 5.2, section 15.3.
-use Rattle.std.specs.Prelude.{ℕ, is_some, Bool, true, false, List, [], ◌∷◌, ◌++◌, Some}
+use Rattle.std.specs.Prelude.{ℕ, is_some, is_none, ◌&&◌, ◌||◌, not, Bool, true, false, List, [], ◌∷◌, ◌++◌, Some}
 use Rattle.gomp_types.specs.declared.refusal.Refusal.TheVariants.{InsideShare, Mismatch}
 use Rattle.gomp_types.specs.declared.seen.Seen.{Seen}
 use Rattle.gomp_types.specs.declared.reply.Reply.{Reply}
@@ -12,14 +12,18 @@ use Rattle.gomp_types.specs.Tests.{Test}
 use Rattle.gomp_types.specs.Compare.{tag_differs, tag_with}
 use Rattle.gomp_types.specs.Events.{shares_entered, barriers_passed, tag_at}
 use Rattle.gomp_types.specs.Goals.{may_pass}
-use Rattle.gomp_types.specs.TaskCalls.{outside_tasks_tests, group_open_tests, arrival_room, AwaitsTasks, starts_task}
+use Rattle.gomp_types.specs.TaskCalls.{end_region_tests, arrival_room, AwaitsTasks, starts_task}
+use Rattle.gomp_types.specs.Least.{least}
+use Rattle.gomp_types.specs.Seen.{seen_of}
+use Rattle.gomp_types.specs.Cancels.{is_cancelled, leaves_region, leaves_share, leaves_task}
+use Rattle.gomp_types.specs.CancelCalls.{unless_cancelled, OrIsCancelled, sees_cancelled}
 use Rattle.gomp_shares.specs.Starts.{leaves}
 use Rattle.gomp_model.specs.Row.{Row, outside_row}
 
--- an arrival is compared once with those of the other members at the same barrier
+-- an arrival is compared once with those of the other members at the same barrier; not in a cancelled region, whose members go to its end from wherever they are
 abbrev pub compared_arrival : Arrival → Bool → ℕ → List Event → List Test
 compared_arrival kind true m h = []
-compared_arrival kind false m h = (tag_differs (tag_with kind (shares_entered m h)) (tag_at (barriers_passed m h) h), Mismatch) ∷ []
+compared_arrival kind false m h = (not (is_cancelled h) && tag_differs (tag_with kind (shares_entered m h)) (tag_at (barriers_passed m h) h), Mismatch) ∷ []
 
 -- the member's next barrier is passed, or a task is started there
 abbrev pub passes : ℕ → List Event → Reply → List Event
@@ -36,10 +40,24 @@ arrival_row kind = record outside_row {
   gives = λ m p reply. passes m p.events reply;
 }
 
+-- one that a cancelled region has nobody arrive at: its member is answered that the region is cancelled, and sees that (OpenMP API 5.2, section 16.1)
+abbrev pub is_cut_short : Row → Row
+is_cut_short row = record row {
+  begins = λ m p. unless_cancelled (is_cancelled p.events) (row.begins m p);
+  may_reply = λ m p reply. OrIsCancelled (is_cancelled p.events) (row.may_reply m p) reply;
+  gives = λ m p reply. sees_cancelled m reply (row.gives m p reply);
+}
+
+-- whether a member leaves its share, and that alone, and these tests of its place let it end that
+abbrev pub ends_its_own : (Seen → List Test) → ℕ → List Event → Bool
+ends_its_own tests m h = leaves_share m h && not (leaves_region m h || leaves_task m h) && is_none (least (tests (seen_of m h)))
+
 -- a call that leaves its share, by these tests, before it does what it does else
 abbrev pub ending : (Seen → List Test) → Row → Row
 ending tests row = record row {
   by_place = λ limits seen. tests seen;
+  drains = true;
+  lets_leave = ends_its_own tests;
   begins = λ m p. row.begins m p ++ leaves m p.events;
 }
 
@@ -49,11 +67,13 @@ outside_tests seen = (is_some seen.current, InsideShare) ∷ []
 
 -- a barrier; it asks for room, and may find no memory
 abbrev pub barrier_row : Row
-barrier_row = record (arrival_row BarrierArrival) { by_place = λ limits seen. outside_tests seen; room = arrival_room; memory = true }
+barrier_row = record (is_cut_short (arrival_row BarrierArrival)) { by_place = λ limits seen. outside_tests seen; room = arrival_room; memory = true }
 
--- the region's end, which leaves no group open
+-- the region's end, which leaves no group open; a member that leaves a cancelled region gives up its share and its groups
 abbrev pub region_end_row : Row
 region_end_row = record (arrival_row RegionEndArrival) {
   by_place = λ limits seen. outside_tests seen;
-  by_task = λ m p. outside_tasks_tests m p.events ++ group_open_tests m p.events;
+  gives_up = leaves_region;
+  by_task = λ m p. end_region_tests (leaves_region m p.events) m p.events;
+  lets_leave = leaves_region;
 }

@@ -46,10 +46,11 @@ critical_start_row name = record plain_row {
   gives = λ m p reply. held_once (is_held reply) (Critical name) m p.events;
 }
 
--- its end
+-- its end, which a member that leaves may call
 abbrev pub critical_end_row : List ℕ → Row
 critical_end_row name = record plain_row {
   by_team = λ m p. critical_end_tests (asker m p.events) name (holding_owner (holder (Critical name) p.events));
+  lets_leave = λ m h. true;
   asks_book = true;
   holds = Some (Critical name);
   gives = λ m p reply. freed_once (is_freed reply) (Critical name) m p.events;

@@ -10,9 +10,9 @@ use Rattle.gomp_types.specs.declared.loop_desc.EndKind.{EndKind}
 use Rattle.gomp_types.specs.declared.loop_desc.EndKind.TheVariants.{Wait as WaitEnd, Nowait}
 use Rattle.gomp_types.specs.declared.refusal.Place.TheVariants.{Share, Barrier as AtBarrier, Stopped as AtStop}
 use Rattle.gomp_types.specs.declared.refusal.Refusal.{Refusal}
-use Rattle.gomp_types.specs.declared.refusal.Refusal.TheVariants.{BadMember, Ended, Broken, Waiting, InsideTask, NotInTask, InsideShare, OutsideShare, InOrdered, HoldsCritical, ZeroStep, BadChunk, LoopTooLong, BadSections, EndDiffers, NotDrained, Drained, NotOrdered, OrderedBackwards, NotInside, NoGroup, GroupOpen, TooDeep, TooManyTasks, NameTooLong, AlreadyHeld, NotHolder, NoLock, CountTooLarge, TooManyDepends, TooManyShares, Mismatch, TraceFull, NoMemory, BadTeam}
+use Rattle.gomp_types.specs.declared.refusal.Refusal.TheVariants.{BadMember, Ended, Broken, Waiting, Leaving, InsideTask, NotInTask, InsideShare, OutsideShare, InOrdered, HoldsCritical, ZeroStep, BadChunk, LoopTooLong, BadSections, OrderedLoop, EndDiffers, NotDrained, Drained, NotOrdered, OrderedBackwards, NotInside, NotCancellable, NoGroup, GroupOpen, TooDeep, TooManyTasks, NameTooLong, AlreadyHeld, NotHolder, NoLock, CountTooLarge, TooManyDepends, TooManyShares, Mismatch, TraceFull, NoMemory, BadTeam}
 use Rattle.gomp_types.specs.declared.reply.Reply.{Reply}
-use Rattle.gomp_types.specs.declared.reply.Reply.TheVariants.{Chunk, NoChunk, Section, Executor, Copied, Finished, Passed, Wait, Created, Run as RunTask, TaskDone, Lock, Got, Count, Stopped, Refused}
+use Rattle.gomp_types.specs.declared.reply.Reply.TheVariants.{Chunk, NoChunk, Section, Executor, Copied, Finished, Passed, Cancelled, Wait, Created, Run as RunTask, TaskDone, Dropped, Cancelling, Lock, Got, Count, Stopped, Refused}
 use Rattle.gomp_types.specs.Limits.{standard}
 use Rattle.gomp_types.specs.Tests.{first_refusal, outcome}
 use Rattle.gomp_types.specs.Iterations.{trip_count, loop_tests}
@@ -66,6 +66,15 @@ abbrev pub AreWrong : ℕ → Run → Step → List Reply → Type 0
 AreWrong members run step [] = Unit {0}
 AreWrong members run step (reply ∷ replies) = IsWrong members run step reply × AreWrong members run step replies
 
+-- this answer has no cause after the run, in a team with these terms
+abbrev pub IsWrongOf : Terms → Run → Step → Reply → Type 0
+IsWrongOf terms run step reply = MayAnswer (past_of terms (run_recorded run [])) step reply → ⊥
+
+-- none of these answers has
+abbrev pub AreWrongOf : Terms → Run → Step → List Reply → Type 0
+AreWrongOf terms run step [] = Unit {0}
+AreWrongOf terms run step (reply ∷ replies) = IsWrongOf terms run step reply × AreWrongOf terms run step replies
+
 -- answers to a call on a task
 abbrev pub task_answers : List Reply
 task_answers = Created 0 ∷ Created 1 ∷ RunTask 1 7 70 false ∷ RunTask 1 7 70 true ∷ TaskDone 1 true ∷ TaskDone 1 false ∷ []
@@ -78,6 +87,10 @@ lock_answers = Lock 0 ∷ Lock 1 ∷ Got true ∷ Got false ∷ Count 0 ∷ Coun
 abbrev pub later_answers : List Reply
 later_answers = task_answers ++ lock_answers
 
+-- answers to a call of cancellation, and to one that a cancellation cuts short
+abbrev pub cancel_answers : List Reply
+cancel_answers = Cancelled ∷ Dropped ∷ Cancelling true ∷ Cancelling false ∷ []
+
 -- answers to a call on a share, and of a barrier and a stop
 abbrev pub share_answers : List Reply
 share_answers = Chunk (pos 0) 1 ∷ NoChunk ∷ Section 0 ∷ Section 1 ∷ Executor true ∷ Executor false ∷ Copied [] ∷ Passed ∷ Stopped ∷ []
@@ -86,8 +99,8 @@ share_answers = Chunk (pos 0) 1 ∷ NoChunk ∷ Section 0 ∷ Section 1 ∷ Exec
 abbrev pub all_refusals : List Reply
 all_refusals =
     map Refused
-    (BadMember ∷ Ended ∷ Waiting ∷ InsideTask ∷ NotInTask ∷ InsideShare ∷ OutsideShare ∷ InOrdered ∷ HoldsCritical ∷ ZeroStep ∷ BadChunk
-    ∷ LoopTooLong ∷ BadSections ∷ EndDiffers ∷ NotDrained ∷ Drained ∷ NotOrdered ∷ OrderedBackwards ∷ NotInside ∷ NoGroup ∷ GroupOpen
+    (BadMember ∷ Ended ∷ Waiting ∷ Leaving ∷ InsideTask ∷ NotInTask ∷ InsideShare ∷ OutsideShare ∷ InOrdered ∷ HoldsCritical ∷ ZeroStep ∷ BadChunk
+    ∷ LoopTooLong ∷ BadSections ∷ OrderedLoop ∷ EndDiffers ∷ NotDrained ∷ Drained ∷ NotOrdered ∷ OrderedBackwards ∷ NotInside ∷ NotCancellable ∷ NoGroup ∷ GroupOpen
     ∷ TooDeep ∷ TooManyTasks ∷ NameTooLong ∷ AlreadyHeld ∷ NotHolder ∷ NoLock ∷ CountTooLarge ∷ TooManyDepends ∷ TooManyShares ∷ Mismatch ∷ TraceFull ∷ BadTeam ∷ [])
 
 -- this run has an answer without a cause

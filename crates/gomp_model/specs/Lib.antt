@@ -1,5 +1,7 @@
 pub mod Arrivals
 pub mod Calls
+pub mod CancelRuns
+pub mod Cancels
 pub mod CriticalNames
 pub mod DependRuns
 pub mod Examples

@@ -66,6 +66,7 @@ abbrev pub unset_row : ℕ → Row
 unset_row number = record plain_row {
   by_team = λ m p. set_by_other_tests (asker m p.events) (found_lock Simple number p.locks p.events);
   missing = λ m p. gone_tests (found_lock Simple number p.locks p.events);
+  lets_leave = λ m h. true;
   asks_book = true;
   holds = Some (Lock number);
   gives = λ m p reply. freed_once (is_freed reply) (Lock number) m p.events;
@@ -97,6 +98,7 @@ abbrev pub unset_nest_row : ℕ → Row
 unset_nest_row number = record plain_row {
   by_team = λ m p. set_by_other_tests (asker m p.events) (found_lock Nest number p.locks p.events);
   missing = λ m p. gone_tests (found_lock Nest number p.locks p.events);
+  lets_leave = λ m h. true;
   asks_book = true;
   holds = Some (NestLock number);
   may_reply = λ m p reply. UnsetsNest (asker m p.events) (found_lock Nest number p.locks p.events) reply;

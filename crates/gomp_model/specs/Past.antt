@@ -5,7 +5,7 @@ use Rattle.gomp_types.specs.declared.limits.Limits.{Limits}
 use Rattle.gomp_types.specs.declared.lock.LockKind.{LockKind}
 use Rattle.gomp_types.specs.declared.event.Event.{Event}
 
--- what a team is made with; a limit above the standard one counts as that, and no definition reads yet whether there is cancellation
+-- what a team is made with; a limit above the standard one counts as that; whether the control variable `cancel-var` allows cancellation (OpenMP API 5.2, section 2.1)
 pub record Terms : Type 0 where
   pub members : ℕ
   pub limits : Limits

@@ -1,5 +1,6 @@
 -- All that there is to say of one call, and what each of its fields means to a step. (own)
-use Rattle.std.specs.Prelude.{ℕ, ◌+◌, ◌≡◌, Bool, true, false, List, [], ◌∷◌, ◌++◌, Option, None}
+use Rattle.std.specs.Prelude.{ℕ, ◌+◌, ◌≡◌, ◌&&◌, not, if◌then◌else◌, Bool, true, false, List, [], ◌∷◌, ◌++◌, Option, None}
+use Rattle.gomp_types.specs.declared.cancel.CancelKind.{CancelKind}
 use Rattle.gomp_types.specs.declared.key.Key.{Key}
 use Rattle.gomp_types.specs.declared.limits.Limits.{Limits}
 use Rattle.gomp_types.specs.declared.lock.LockKind.{LockKind}
@@ -8,7 +9,7 @@ use Rattle.gomp_types.specs.declared.shape.Shape.{Shape}
 use Rattle.gomp_types.specs.declared.refusal.Place.{Place}
 use Rattle.gomp_types.specs.declared.refusal.Place.TheVariants.{Barrier as AtBarrier}
 use Rattle.gomp_types.specs.declared.refusal.Refusal.{Refusal}
-use Rattle.gomp_types.specs.declared.refusal.Refusal.TheVariants.{Mismatch, NoMemory}
+use Rattle.gomp_types.specs.declared.refusal.Refusal.TheVariants.{Leaving, Mismatch, NoMemory}
 use Rattle.gomp_types.specs.declared.reply.Reply.{Reply}
 use Rattle.gomp_types.specs.declared.reply.Reply.TheVariants.{Finished, Wait, Run, Refused}
 use Rattle.gomp_types.specs.declared.event.Arrival.{Arrival}
@@ -19,7 +20,10 @@ use Rattle.gomp_types.specs.Tests.{Test}
 use Rattle.gomp_types.specs.Limits.{shown_number}
 use Rattle.gomp_types.specs.Events.{barriers_passed}
 use Rattle.gomp_types.specs.Seen.{seen_of}
-use Rattle.gomp_types.specs.TaskCalls.{outside_tasks_tests, room_tests}
+use Rattle.gomp_types.specs.TaskCalls.{outside_tasks_tests, unless_given_up, room_tests}
+use Rattle.gomp_types.specs.Cancels.{is_cancelled, is_leaving}
+use Rattle.gomp_types.specs.CancelCalls.{OrWaitsCancelled, sees_cancelled}
+use Rattle.gomp_shares.specs.Starts.{drained_tests}
 use Rattle.gomp_locks.specs.CriticalNames.{critical_tests}
 use Rattle.gomp_locks.specs.Holders.{asker, holds_critical}
 use Rattle.gomp_model.specs.Past.{Past}
@@ -28,7 +32,11 @@ use Rattle.gomp_model.specs.Past.{Past}
 pub record Row : Type 1 where
   -- its tests that the member's place among the shares decides
   pub by_place : Limits → Seen → List Test
-  -- those that tasks and groups decide
+  -- whether its member gives up the share that it is in, so that these are not made
+  pub gives_up : ℕ → List Event → Bool
+  -- whether its member has to be answered first that nothing is left of its share, unless the share is cancelled
+  pub drains : Bool
+  -- those that tasks, groups and cancellation decide
   pub by_task : ℕ → Past → List Test
   -- those that names and locks decide
   pub by_team : ℕ → Past → List Test
@@ -36,8 +44,14 @@ pub record Row : Type 1 where
   pub missing : ℕ → Past → List Test
   -- those that compare its construct with other members'; the flag says that a resume repeats the call
   pub compared : Bool → ℕ → Past → List Test
+  -- whether a member that leaves a region, a share or a task may make it
+  pub lets_leave : ℕ → List Event → Bool
   -- for how many events it asks room
   pub room : ℕ
+  -- whether its reply has it keep the room that it asked for
+  pub keeps_room : Reply → Bool
+  -- whether it is dropped, whatever room and memory there are
+  pub drops : ℕ → Past → Bool
   -- whether it may find no memory
   pub memory : Bool
   -- the share that it starts, by what the team compares of it
@@ -48,6 +62,8 @@ pub record Row : Type 1 where
   pub arrives : Option Arrival
   -- which task it creates, by what is asked for, if one
   pub creates : Option TaskDesc
+  -- what it may cancel, if something
+  pub cancels : Option CancelKind
   -- whether it puts words for the other members
   pub puts : Bool
   -- whether the book of names and locks answers it, and not the shares and the board
@@ -69,16 +85,22 @@ pub record Row : Type 1 where
 abbrev pub plain_row : Row
 plain_row = record {
   by_place = λ limits seen. [];
+  gives_up = λ m h. false;
+  drains = false;
   by_task = λ m p. [];
   by_team = λ m p. [];
   missing = λ m p. [];
   compared = λ repeated m p. [];
+  lets_leave = λ m h. false;
   room = 0;
+  keeps_room = λ reply. true;
+  drops = λ m p. false;
   memory = false;
   starts = None;
   stays = false;
   arrives = None;
   creates = None;
+  cancels = None;
   puts = false;
   asks_book = false;
   holds = None;
@@ -100,6 +122,13 @@ outside_row = record plain_row {
 abbrev pub at_once : (Seen → List Test) → (ℕ → List Event → List Event) → Row
 at_once tests events = record outside_row { by_place = λ limits seen. tests seen; begins = λ m p. events m p.events }
 
+-- one that waits in its place in a region that is not cancelled: in one that is, its member is answered so instead of to wait, and sees that (OpenMP API 5.2, section 16.1)
+abbrev pub waits_uncancelled : Row → Row
+waits_uncancelled row = record row {
+  may_reply = λ m p reply. OrWaitsCancelled (is_cancelled p.events) (row.may_reply m p) reply;
+  gives = λ m p reply. sees_cancelled m reply (row.gives m p reply);
+}
+
 -- these events, unless the call is repeated
 abbrev pub unless_repeated : List Event → Bool → List Event
 unless_repeated [] repeated = []
@@ -110,24 +139,44 @@ unless_repeated (event ∷ events) false = event ∷ events
 abbrev pub begun_past : Bool → Row → ℕ → Past → Past
 begun_past repeated row m p = record p { events = unless_repeated (row.begins m p) repeated ++ p.events }
 
+-- a call by which a share is ended: its member was answered that nothing is left, or the share is cancelled
+abbrev pub drain_tests : Bool → ℕ → List Event → List Test
+drain_tests false m h = []
+drain_tests true m h = drained_tests m h
+
 -- the tests of a call that its member's place decides, and the comparison with other members'; one that is repeated was tested by its place when it was made
 abbrev pub place_tests : Bool → Row → ℕ → Past → List Test
 place_tests true row m p = row.compared true m p
-place_tests false row m p = row.by_place p.terms.limits (seen_of m p.events) ++ row.compared false m p
+place_tests false row m p =
+    unless_given_up (row.gives_up m p.events) (row.by_place p.terms.limits (seen_of m p.events)) ++ (drain_tests row.drains m p.events ++ row.compared false m p)
 
--- those that tasks and groups decide, and whether there is room for the events that it asks for; one that is repeated has its room
+-- whether there is room for the events that a call asks for; one that is dropped asks for none
+abbrev pub asked_tests : Bool → Row → Past → List Test
+asked_tests true row p = []
+asked_tests false row p = room_tests p.terms.limits p.room row.room
+
+-- those that tasks, groups and cancellation decide, and whether there is room; a call that is repeated has its room
 abbrev pub board_tests : Bool → Row → ℕ → Past → List Test
 board_tests true row m p = []
-board_tests false row m p = row.by_task m p ++ room_tests p.terms.limits p.room row.room
+board_tests false row m p = row.by_task m p ++ asked_tests (row.drops m p) row p
+
+-- whether the call may find no memory
+abbrev pub asks_memory : Row → ℕ → Past → Bool
+asks_memory row m p = row.memory && not (row.drops m p)
 
 -- those that names and locks decide; of one that is repeated only whether its lock is there
 abbrev pub book_tests : Bool → Row → ℕ → Past → List Test
 book_tests true row m p = row.missing m p
 book_tests false row m p = row.by_team m p ++ row.missing m p
 
+-- a member that leaves a region, a share or a task may make but few calls; one that waits was let make its own
+abbrev pub leaving_tests : Bool → Row → ℕ → Past → List Test
+leaving_tests true row m p = []
+leaving_tests false row m p = (is_leaving m p.events && not (row.lets_leave m p.events), Leaving) ∷ []
+
 -- the tests of a call
 abbrev pub row_tests : Bool → Row → ℕ → Past → List Test
-row_tests repeated row m p = place_tests repeated row m p ++ (board_tests repeated row m p ++ book_tests repeated row m p)
+row_tests repeated row m p = leaving_tests repeated row m p ++ (place_tests repeated row m p ++ (board_tests repeated row m p ++ book_tests repeated row m p))
 
 -- what a reply that is no refusal may be
 abbrev pub MayReply : Row → Bool → ℕ → Past → Reply → Type 0
@@ -147,11 +196,11 @@ abbrev pub events_after : Bool → Row → ℕ → Past → Reply → List Event
 events_after repeated row m p (Refused refusal) = refusal_gives refusal m (row.place m p.events) ++ p.events
 events_after repeated row m p reply = given_after row repeated m p reply
 
--- the room that was asked for then: a refused call asks for none, and one that is repeated for no more
+-- the room that was asked for then: a refused call asks for none, one that is repeated for no more, and not every reply has the call keep it
 abbrev pub room_after : Bool → Row → Reply → ℕ → ℕ
 room_after repeated row (Refused refusal) room = room
 room_after true row reply room = room
-room_after false row reply room = room + row.room
+room_after false row reply room = if row.keeps_room reply then room + row.room else room
 
 -- which locks there are then; a refusal changes none
 abbrev pub locks_after : Row → Reply → List (Option LockKind) → List (Option LockKind)
@@ -179,5 +228,5 @@ MayGoOn row m = (q : Past) × (reply : Reply) × (goes_on reply ≡ true) × row
 
 -- a reply is want of memory, of a call that may find none; or it is one that the row has
 abbrev pub MayGive : Row → Bool → ℕ → Past → Reply → Type 0
-MayGive row repeated m p (Refused NoMemory) = row.memory ≡ true
+MayGive row repeated m p (Refused NoMemory) = asks_memory row m p ≡ true
 MayGive row repeated m p reply = MayReply row repeated m p reply

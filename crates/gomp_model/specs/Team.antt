@@ -15,7 +15,7 @@ use Rattle.gomp_types.specs.Least.{least}
 use Rattle.gomp_types.specs.Events.{has_left_region, clash_of}
 use Rattle.gomp_types.specs.TaskCalls.{first_room}
 use Rattle.gomp_model.specs.Past.{Terms, Waits, no_waits, Past}
-use Rattle.gomp_model.specs.Row.{Row, begun_past, row_tests, events_after, room_after, locks_after}
+use Rattle.gomp_model.specs.Row.{Row, begun_past, row_tests, asks_memory, events_after, room_after, locks_after}
 use Rattle.gomp_model.specs.Calls.{row_of}
 
 -- what was asked and answered, the newest pair first
@@ -78,7 +78,7 @@ MayRefuse first refusal asks = first ≡ Some refusal
 
 -- a step may be answered so
 abbrev pub MayAnswer : Past → Step → Reply → Type 0
-MayAnswer p step (Refused refusal) = MayRefuse (refusal_of p step) refusal (row_of step.call).memory
+MayAnswer p step (Refused refusal) = MayRefuse (refusal_of p step) refusal (asks_memory (row_of step.call) step.member p)
 MayAnswer p step reply =
     (refusal_of p step ≡ None)
     × (row_at p step).may_reply step.member (begun_past (is_resume step.call) (row_at p step) step.member p) reply

@@ -17,7 +17,7 @@ no_pieces = record by_four { chunk = 0 }
 
 -- what a member sees in a share
 abbrev sees_in : Option (ℕ × Shape) → Seen
-sees_in current = record { entered = 1; current = current; drained = false; piece = Some (0, 3); next_part = 0; in_part = false }
+sees_in current = record { entered = 1; current = current; drained = false; piece = Some (0, 3); next_part = 0; in_part = false; leaving = false }
 
 -- the value of the last iteration
 pub iteration_of_the_last : seen_iteration (Some (7, by_four)) (pos 18) ≡ Some 2

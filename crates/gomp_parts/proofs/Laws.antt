@@ -2,7 +2,7 @@
 use Rattle.std.proofs.Common.{◌≡◌, ◌≤◌, ℕ, List, [], ◌∷◌, sym, subst, ◌∙◌}
 use Rattle.std.specs.Prelude.{slice_index_or}
 use Rattle.gomp_types.specs.declared.event.Event.{Event}
-use Rattle.gomp_types.specs.declared.event.Event.TheVariants.{Put, Break as BreakEvent}
+use Rattle.gomp_types.specs.declared.event.Event.TheVariants.{Break as BreakEvent}
 use Rattle.gomp_types.specs.declared.refusal.Place.{Place}
 use Rattle.gomp_types.specs.declared.refusal.Refusal.TheVariants.{Mismatch}
 use Rattle.gomp_types.specs.declared.reply.Reply.TheVariants.{Refused}
@@ -14,12 +14,8 @@ use Rattle.gomp_board.specs.Stored.{IsAside as BoardAside}
 use Rattle.gomp_board.specs.Boards.{BoardView, Performs, kept_by}
 use Rattle.gomp_board.proofs.Laws.{event_aside_keeps_board}
 use Rattle.gomp_parts.specs.Answers.{room_left, PartsStand}
-use Rattle.gomp_parts.proofs.BoardEvents.{IsBoardEvent, AreBoardEvents, shares_stay, puts_stay_with_board}
+use Rattle.gomp_parts.proofs.BoardEvents.{AreBoardEvents, aside_of_both, shares_stay, puts_stay_with_board}
 use Rattle.gomp_parts.proofs.OpAnswers.{parts_at}
-
-aside_of_both : (event : Event) → SharesAside event → BoardAside event → IsBoardEvent event
-aside_of_both (Put share m words) shares board = absurd board
-aside_of_both _ shares board = shares
 
 -- an event of names and locks changes nothing for the parts: for a past with it they stand as before
 pub parts_stand_beside : {S : Type 0} (stands : S → List Event → Type 0) (shares : S) → ((h : List Event) (event : Event) → SharesAside event → stands shares h → stands shares (event ∷ h)) →

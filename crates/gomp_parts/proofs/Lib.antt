@@ -1,4 +1,5 @@
 pub mod Refused
+pub mod LeavingTests
 pub mod ShareEvents
 pub mod BoardEvents
 pub mod OpAnswers
@@ -6,6 +7,7 @@ pub mod CallOps
 pub mod Words
 pub mod ShareRows
 pub mod Reserved
-pub mod Answered
 pub mod Laws
+pub mod Answered
+pub mod LeavesAfter
 pub mod PartExamples

@@ -1,7 +1,8 @@
 -- What the board answers an operation that no test refuses, and for what the shares and the board stand then.
 use Rattle.std.proofs.Common.{◌≡◌, ◌≢◌, ◌<◌, ◌≤◌, ℕ, ◌+◌, Bool, true, false, List, [], ◌∷◌, ◌++◌, Option, Some, None, refl, ap, sym, subst, ◌∙◌, arith, inl, inr}
-use Rattle.std.specs.Prelude.{slice_index_or, slice_set, IfSome}
-use Rattle.std.proofs.lemmas.Bool.{cases_eq, ltb-true}
+use Rattle.std.specs.Prelude.{slice_index_or, slice_set, IfSome, if◌then◌else◌, nat_lt}
+use Rattle.std.proofs.lemmas.Bool.{cases_eq}
+use Rattle.std.proofs.lemmas.Bool.Decides.{nat_tests}
 use Rattle.std.proofs.lemmas.List.{get_or-set_same, get_or-set_other}
 use Rattle.gomp_types.specs.declared.limits.Limits.{Limits}
 use Rattle.gomp_types.specs.declared.refusal.Clash.{Clash}
@@ -14,18 +15,22 @@ use Rattle.gomp_types.specs.declared.event.Event.{Event}
 use Rattle.gomp_types.specs.Events.{open_share, has_left_region, clash_of}
 use Rattle.gomp_types.specs.Laws.{Always}
 use Rattle.gomp_types.specs.Tests.{Test}
+use Rattle.gomp_types.proofs.Booleans.{and_left}
 use Rattle.gomp_types.proofs.LeastTests.{AllFail, none_holds}
 use Rattle.gomp_shares.specs.Calls.{IsAside as SharesAside}
 use Rattle.gomp_model.specs.Past.{Terms, Past}
-use Rattle.gomp_model.specs.Row.{Row, unless_repeated, begun_past, MayGive, given_after, past_given}
+use Rattle.gomp_model.specs.Row.{Row, unless_repeated, begun_past, MayGive, given_after, past_given, asks_memory, room_after}
 use Rattle.gomp_model.specs.Starts.{share_room}
 use Rattle.gomp_board.specs.declared.op.Op.{Op}
-use Rattle.gomp_board.specs.Ops.{op_asks, op_keeps, op_begins, op_gives, op_tests, op_refusal, op_after, begun, broken_tests, member_tests, goes_on_waiting, OpReply, OpAnswer}
+use Rattle.gomp_board.specs.Ops.{op_asks, op_keeps, op_begins, op_gives, op_tests, op_refusal, op_after, begun, broken_tests, member_tests, goes_on_waiting, keeps_room, asks_memory as op_asks_memory, OpReply, OpAnswer}
 use Rattle.gomp_board.specs.Boards.{BoardView, Stands as BoardStands, Performs, members_of, kept_by, kept_after, room_after as board_room_after}
+use Rattle.gomp_board.proofs.Laws.{events_aside_keep_board}
 use Rattle.gomp_board.proofs.Waiting.{IsReply, after_reply}
+use Rattle.gomp_parts.specs.declared.leaving.Manner.{Manner}
+use Rattle.gomp_parts.specs.Leaves.{IsMadeSo}
 use Rattle.gomp_parts.specs.Answers.{room_left, PutsInside, PartsStand, ArePartsKept, IsReady, SomeReady, LeavesBoard, AnswersCall}
 use Rattle.gomp_parts.specs.Serves.{asked_once}
-use Rattle.gomp_parts.proofs.BoardEvents.{shares_stand_beside, shares_stay, puts_stay_with_board, puts_no_words, begins_on_board, gives_on_board}
+use Rattle.gomp_parts.proofs.BoardEvents.{AreBesideBoth, beside_both, beside_board, shares_stand_beside, shares_stay, puts_stay_with_board, puts_no_words, begins_on_board, gives_on_board}
 
 -- Tests
 
@@ -49,8 +54,15 @@ pub refused_for_memory : (limits : Limits) (room kept members m : ℕ) (op : Op)
 refused_for_memory limits room kept members m op h NoMemory fine answer = refl
 refused_for_memory limits room kept members m op h _ fine answer = absurd (let both = sym fine ∙ answer in cc)
 
-pub memory_was_asked : (limits : Limits) (room kept members m : ℕ) (op : Op) (h : List Event) → OpAnswer limits room kept members m op h (Refused NoMemory) → 0 < op_asks op kept
-memory_was_asked limits room kept members m op h answer = ltb-true 0 (op_asks op kept) answer.1
+pub memory_was_asked : (limits : Limits) (room kept members m : ℕ) (op : Op) (h : List Event) → OpAnswer limits room kept members m op h (Refused NoMemory) → op_asks_memory op kept m h ≡ true
+memory_was_asked limits room kept members m op h answer = answer.1
+
+some_asked : (n : ℕ) → nat_lt 0 n ≡ true → 0 < n
+some_asked n e = grind (arith, nat_tests)
+
+-- which asks for room
+pub room_was_asked : (op : Op) (kept m : ℕ) (h : List Event) → op_asks_memory op kept m h ≡ true → 0 < op_asks op kept
+room_was_asked op kept m h asks = some_asked (op_asks op kept) (and_left (nat_lt 0 (op_asks op kept)) _ asks)
 
 pub op_reply_given : (limits : Limits) (room kept members m : ℕ) (op : Op) (h : List Event) (reply : Reply) → IsReply reply → OpAnswer limits room kept members m op h reply → OpReply members m op (begun m op h) reply
 op_reply_given limits room kept members m op h (Refused refusal) is answer = absurd is
@@ -76,12 +88,12 @@ others_kept op m k board after reply performs other = ap (λ (kept : List ℕ). 
 pub op_leaves_board : (op : Op) (m : ℕ) (board after : BoardView) (reply : Reply) → Performs op m board after reply → LeavesBoard m board after
 op_leaves_board op m board after reply performs = record { members = performs.members; limits = performs.limits; others = λ k other. others_kept op m k board after reply performs other }
 
-room_list : (op : Op) (kept room : ℕ) (reply : Reply) → IsReply reply → board_room_after op kept reply room ≡ room + op_asks op kept
-room_list op kept room (Refused refusal) is = absurd is
-room_list op kept room _ is = refl
+pub room_list : (op : Op) (kept room : ℕ) (reply : Reply) → IsReply reply → keeps_room op reply ≡ true → board_room_after op kept reply room ≡ room + op_asks op kept
+room_list op kept room (Refused refusal) is keeps = absurd is
+room_list op kept room _ is keeps = rw keeps refl
 
-pub room_made : (op : Op) (m : ℕ) (board after : BoardView) (reply : Reply) → Performs op m board after reply → IsReply reply → after.room ≡ board.room + op_asks op (kept_by m board)
-room_made op m board after reply performs is = performs.room ∙ room_list op (kept_by m board) board.room reply is
+pub room_made : (op : Op) (m : ℕ) (board after : BoardView) (reply : Reply) → Performs op m board after reply → IsReply reply → keeps_room op reply ≡ true → after.room ≡ board.room + op_asks op (kept_by m board)
+room_made op m board after reply performs is keeps = performs.room ∙ room_list op (kept_by m board) board.room reply is keeps
 
 -- The past after a reply
 
@@ -93,10 +105,26 @@ pub given_terms : (row : Row) (repeated : Bool) (m : ℕ) (p : Past) (reply : Re
 given_terms row repeated m p (Refused refusal) = refl
 given_terms row repeated m p _ = refl
 
-pub given_room : (row : Row) (repeated : Bool) (m : ℕ) (p : Past) (reply : Reply) → IsReply reply → (past_given row repeated m p reply).room ≡ p.room + asked_once repeated row.room
+pub given_room : (row : Row) (repeated : Bool) (m : ℕ) (p : Past) (reply : Reply) → IsReply reply → (past_given row repeated m p reply).room ≡ room_after repeated row reply p.room
 given_room row repeated m p (Refused refusal) is = absurd is
-given_room row true m p _ is = omega arith
-given_room row false m p _ is = refl
+given_room row repeated m p _ is = refl
+
+-- a row of which each reply keeps the room, or that asks for none
+abbrev pub KeepsAll : Row → Type 0
+KeepsAll row = (reply : Reply) → row.keeps_room reply ≡ false → row.room ≡ 0
+
+all_kept : (room asked : ℕ) (keeps : Bool) → (keeps ≡ false → asked ≡ 0) → (if keeps then room + asked else room) ≡ room + asked
+all_kept room asked true all = refl
+all_kept room asked false all = let none = all refl in omega (arith, none)
+
+pub room_asked_for : (row : Row) (repeated : Bool) (reply : Reply) (room : ℕ) → KeepsAll row → IsReply reply → room_after repeated row reply room ≡ room + asked_once repeated row.room
+room_asked_for row repeated (Refused refusal) room all is = absurd is
+room_asked_for row true _ room all is = omega arith
+room_asked_for row false reply room all is = kept_so row reply room all is
+  where
+    kept_so : (row : Row) (reply : Reply) (room : ℕ) → KeepsAll row → IsReply reply → room_after false row reply room ≡ room + row.room
+    kept_so row (Refused refusal) room all is = absurd is
+    kept_so row reply room all is = all_kept room row.room (row.keeps_room reply) (all reply)
 
 -- the parts stand for a past by its terms, its events and its room
 pub parts_at : {S : Type 0} (stands : S → List Event → Type 0) (shares : S) (board : BoardView) (q : Past) (terms : Terms) (h : List Event) (room : ℕ) → q.terms ≡ terms → q.events ≡ h → q.room ≡ room →
@@ -113,45 +141,59 @@ parts_at stands shares board q terms h room terms_are events_are room_is st boar
 
 -- A call that the board answers by one operation
 
--- in this past the operation is the call's
+-- in this past the operation is the call's, save for what the member sees beside
 pub record IsCallOp (op : Op) (row : Row) (repeated : Bool) (m : ℕ) (board : BoardView) (p : Past) : Type 0 where
   pub fine : op_refusal board.limits board.room (kept_by m board) m op p.events ≡ None
-  pub asks : op_asks op (kept_by m board) ≡ asked_once repeated row.room
-  pub memory : 0 < row.room → row.memory ≡ true
+  -- want of memory is the call's too
+  pub memory : op_asks_memory op (kept_by m board) m p.events ≡ true → (repeated ≡ false) × (0 < row.room) × (asks_memory row m p ≡ true)
   pub begins : op_begins m op p.events ≡ unless_repeated (row.begins m p) repeated
   pub may : (reply : Reply) → OpReply (members_of board) m op (begun m op p.events) reply → row.may_reply m (begun_past repeated row m p) reply
-  pub gives : (reply : Reply) → OpReply (members_of board) m op (begun m op p.events) reply → op_gives m op (begun m op p.events) reply ≡ row.gives m (begun_past repeated row m p) reply
+  -- what the member sees by the reply
+  pub sees : Reply → List Event
+  pub beside : (reply : Reply) → AreBesideBoth (sees reply)
+  pub gives : (reply : Reply) → OpReply (members_of board) m op (begun m op p.events) reply → row.gives m (begun_past repeated row m p) reply ≡ sees reply ++ op_gives m op (begun m op p.events) reply
+  -- the room that was asked for then
+  pub room : (reply : Reply) (n : ℕ) → IsReply reply → board_room_after op (kept_by m board) reply n ≡ room_after repeated row reply n
   pub own : room_left (open_share m p.events) ≤ op_keeps op (kept_by m board)
   pub no_words : puts_no_words op ≡ true
+
+-- no events: what a member sees by the reply to most calls
+pub sees_nothing : (reply : Reply) → AreBesideBoth []
+sees_nothing reply = tt
 
 pub positive_once : (repeated : Bool) (room : ℕ) → 0 < asked_once repeated room → (repeated ≡ false) × (0 < room)
 positive_once true room much = absurd (omega (arith, much))
 positive_once false room much = (refl, much)
 
+pub append_nested : (xs ys zs : List Event) → (xs ++ ys) ++ zs ≡ xs ++ (ys ++ zs)
+append_nested [] ys zs = refl
+append_nested (x ∷ xs) ys zs = ap (λ (es : List Event). x ∷ es) (append_nested xs ys zs)
+
 module _ {S : Type 0} (stands : S → List Event → Type 0) (shares : S) (aside : (h : List Event) (event : Event) → SharesAside event → stands shares h → stands shares (event ∷ h)) (op : Op) (row : Row) (repeated : Bool) (m : ℕ) (board after : BoardView) (p : Past)
     (low : m < members_of board) (parts : PartsStand stands shares board p) (is_op : IsCallOp op row repeated m board p) where
   -- for want of memory it is refused once
+  op_asked : Performs op m board after (Refused NoMemory) → (repeated ≡ false) × (0 < row.room) × (asks_memory row m p ≡ true)
+  op_asked performs = is_op.memory (memory_was_asked board.limits board.room (kept_by m board) (members_of board) m op p.events (performs.answer p.events parts.board_is))
+
   pub op_lacks : Performs op m board after (Refused NoMemory) → ArePartsKept shares board shares after × (repeated ≡ false) × (0 < row.room)
-  op_lacks performs =
-      let asked = memory_was_asked board.limits board.room (kept_by m board) (members_of board) m op p.events (performs.answer p.events parts.board_is) in
-      let once = positive_once repeated row.room (subst (λ (n : ℕ). 0 < n) is_op.asks asked) in
-      ((refl, performs.same NoMemory refl (λ e. cc)), once.0, once.1)
+  op_lacks performs = let asked = op_asked performs in ((refl, performs.same NoMemory refl (λ e. cc)), asked.0, asked.1)
 
   pub op_refuses : (refusal : Refusal) → Performs op m board after (Refused refusal) → refusal ≡ NoMemory
   op_refuses refusal performs = refused_for_memory board.limits board.room (kept_by m board) (members_of board) m op p.events refusal is_op.fine (performs.answer p.events parts.board_is)
 
   pub op_gives_reply : (reply : Reply) → Performs op m board after reply → MayGive row repeated m p reply
-  op_gives_reply (Refused NoMemory) performs = is_op.memory (op_lacks performs).2
+  op_gives_reply (Refused NoMemory) performs = (op_asked performs).2
   op_gives_reply (Refused _) performs = absurd (let e = op_refuses _ performs in cc)
   op_gives_reply _ performs = is_op.may _ (op_reply_given board.limits board.room (kept_by m board) (members_of board) m op p.events _ tt (performs.answer p.events parts.board_is))
 
   -- the events after its reply are the row's
-  op_events : (reply : Reply) → IsReply reply → Performs op m board after reply → op_after m op reply p.events ≡ given_after row repeated m p reply
+  op_events : (reply : Reply) → IsReply reply → Performs op m board after reply → given_after row repeated m p reply ≡ is_op.sees reply ++ op_after m op reply p.events
   op_events reply is performs =
       let answer = op_reply_given board.limits board.room (kept_by m board) (members_of board) m op p.events reply is (performs.answer p.events parts.board_is) in
-      after_reply m op reply p.events is
-      ∙ ap (λ (es : List Event). es ++ begun m op p.events) (is_op.gives reply answer)
-      ∙ ap (λ (es : List Event). row.gives m (begun_past repeated row m p) reply ++ (es ++ p.events)) is_op.begins
+      ap (λ (es : List Event). es ++ (unless_repeated (row.begins m p) repeated ++ p.events)) (is_op.gives reply answer)
+      ∙ append_nested (is_op.sees reply) (op_gives m op (begun m op p.events) reply) (unless_repeated (row.begins m p) repeated ++ p.events)
+      ∙ ap (λ (es : List Event). is_op.sees reply ++ (op_gives m op (begun m op p.events) reply ++ (es ++ p.events))) (sym is_op.begins)
+      ∙ ap (λ (es : List Event). is_op.sees reply ++ es) (sym (after_reply m op reply p.events is))
 
   op_kept : (reply : Reply) → IsReply reply → Performs op m board after reply → (k : ℕ) → room_left (open_share k p.events) ≤ kept_by k after
   op_kept reply is performs k = elim (cases_eq k m) [
@@ -161,19 +203,23 @@ module _ {S : Type 0} (stands : S → List Event → Type 0) (shares : S) (aside
 
   op_stands_after : (reply : Reply) → IsReply reply → Performs op m board after reply → PartsStand stands shares after (past_given row repeated m p reply)
   op_stands_after reply is performs =
-      let all = op_gives m op (begun m op p.events) reply ++ begun m op p.events in
-      let gives = gives_on_board m op (begun m op p.events) reply in
-      let begins = begins_on_board m op p.events is_op.no_words in
-      let same : op_after m op reply p.events ≡ all = after_reply m op reply p.events is in
-      let events : (past_given row repeated m p reply).events ≡ all = given_events row repeated m p reply is ∙ sym (op_events reply is performs) ∙ same in
-      parts_at stands shares after (past_given row repeated m p reply) p.terms all (p.room + asked_once repeated row.room) (given_terms row repeated m p reply) events (given_room row repeated m p reply is)
-      (shares_stand_beside stands shares aside (op_gives m op (begun m op p.events) reply) (begun m op p.events) gives (shares_stand_beside stands shares aside (op_begins m op p.events) p.events begins parts.shares_are))
-      (subst (λ (es : List Event). BoardStands after es) same (performs.stands p.events parts.board_is))
+      let sees = is_op.sees reply in
+      let given = op_gives m op (begun m op p.events) reply in
+      let begins = op_begins m op p.events in
+      let all = sees ++ (given ++ (begins ++ p.events)) in
+      let are_seen = beside_both sees (is_op.beside reply) in
+      let are_given = gives_on_board m op (begun m op p.events) reply in
+      let are_begun = begins_on_board m op p.events is_op.no_words in
+      let same : op_after m op reply p.events ≡ given ++ (begins ++ p.events) = after_reply m op reply p.events is in
+      let events : (past_given row repeated m p reply).events ≡ all = given_events row repeated m p reply is ∙ op_events reply is performs ∙ ap (λ (es : List Event). sees ++ es) same in
+      parts_at stands shares after (past_given row repeated m p reply) p.terms all (room_after repeated row reply p.room) (given_terms row repeated m p reply) events (given_room row repeated m p reply is)
+      (shares_stand_beside stands shares aside sees (given ++ (begins ++ p.events)) are_seen (shares_stand_beside stands shares aside given (begins ++ p.events) are_given (shares_stand_beside stands shares aside begins p.events are_begun parts.shares_are)))
+      (events_aside_keep_board after (given ++ (begins ++ p.events)) sees (beside_board sees (is_op.beside reply)) (subst (λ (es : List Event). BoardStands after es) same (performs.stands p.events parts.board_is)))
       (parts.members ∙ sym performs.members) (parts.limits ∙ sym performs.limits)
-      (ap (λ (n : ℕ). n + asked_once repeated row.room) parts.room ∙ ap (λ (n : ℕ). board.room + n) (sym is_op.asks) ∙ sym (room_made op m board after reply performs is))
+      (ap (λ (n : ℕ). room_after repeated row reply n) parts.room ∙ sym (is_op.room reply board.room is) ∙ sym performs.room)
       (λ k. subst (λ (o : Option (ℕ × Shape)). room_left o ≤ kept_by k after)
-      (sym (shares_stay k (op_gives m op (begun m op p.events) reply) (begun m op p.events) gives ∙ shares_stay k (op_begins m op p.events) p.events begins)) (op_kept reply is performs k))
-      (puts_stay_with_board (op_gives m op (begun m op p.events) reply) (begun m op p.events) gives (puts_stay_with_board (op_begins m op p.events) p.events begins parts.puts))
+      (sym (shares_stay k sees (given ++ (begins ++ p.events)) are_seen ∙ shares_stay k given (begins ++ p.events) are_given ∙ shares_stay k begins p.events are_begun)) (op_kept reply is performs k))
+      (puts_stay_with_board sees (given ++ (begins ++ p.events)) are_seen (puts_stay_with_board given (begins ++ p.events) are_given (puts_stay_with_board begins p.events are_begun parts.puts)))
 
   op_lacks_stands : Performs op m board after (Refused NoMemory) → PartsStand stands shares after p
   op_lacks_stands performs =
@@ -188,18 +234,19 @@ module _ {S : Type 0} (stands : S → List Event → Type 0) (shares : S) (aside
 
 -- so the board answers a call whose operation it is in each past
 pub op_answers : {S : Type 0} (stands : S → List Event → Type 0) (shares : S) → ((h : List Event) (event : Event) → SharesAside event → stands shares h → stands shares (event ∷ h)) →
-    (op : List Event → Op) (row : Row) (repeated : Bool) (m : ℕ) (board after : BoardView) (reply : Reply) → m < members_of board → SomeReady stands shares board row repeated m →
-    ((h : List Event) → stands shares h → Performs (op h) m board after reply) → ((p : Past) → PartsStand stands shares board p → IsReady row repeated m board p → IsCallOp (op p.events) row repeated m board p) → row.starts ≡ None →
-    ((h : List Event) → repeated ≡ true → goes_on_waiting (op h) ≡ true) → AnswersCall stands shares shares board after row repeated m reply
-op_answers stands shares aside op row repeated m board after reply low (p0, parts0, ready0) performs ops_are none onward =
+    (op : List Event → Op) (row : Row) (manner : Manner) (m : ℕ) (board after : BoardView) (reply : Reply) → m < members_of board → SomeReady stands shares board row manner m → ((h : List Event) → stands shares h → Performs (op h) m board after reply) →
+    ((p : Past) → PartsStand stands shares board p → IsReady row manner.repeated m board p → IsMadeSo manner m p → IsCallOp (op p.events) row manner.repeated m board p) → row.starts ≡ None →
+    ((h : List Event) → manner.repeated ≡ true → goes_on_waiting (op h) ≡ true) → AnswersCall stands shares shares board after row manner m reply
+op_answers stands shares aside op row manner m board after reply low (p0, parts0, ready0, made0) performs ops_are none onward =
+    let repeated = manner.repeated in
     let there = performs p0.events parts0.shares_are in
-    let op0 = ops_are p0 parts0 ready0 in
+    let op0 = ops_are p0 parts0 ready0 made0 in
     record {
       leaves = op_leaves_board (op p0.events) m board after reply there;
       waits = λ again wait. (refl, there.waits wait (onward p0.events again));
       lacks = λ lack. op_lacks stands shares aside (op p0.events) row repeated m board after p0 low parts0 op0 (subst (λ (r : Reply). Performs (op p0.events) m board after r) lack there);
       refuses = λ refusal is. op_refuses stands shares aside (op p0.events) row repeated m board after p0 low parts0 op0 refusal (subst (λ (r : Reply). Performs (op p0.events) m board after r) is there);
-      answer = λ p parts ready. op_gives_reply stands shares aside (op p.events) row repeated m board after p low parts (ops_are p parts ready) reply (performs p.events parts.shares_are);
-      stands_for = λ p parts ready. op_stands stands shares aside (op p.events) row repeated m board after p low parts (ops_are p parts ready) reply (performs p.events parts.shares_are);
+      answer = λ p parts ready made. op_gives_reply stands shares aside (op p.events) row repeated m board after p low parts (ops_are p parts ready made) reply (performs p.events parts.shares_are);
+      stands_for = λ p parts ready made. op_stands stands shares aside (op p.events) row repeated m board after p low parts (ops_are p parts ready made) reply (performs p.events parts.shares_are);
       keeps = λ wait. subst (λ (o : Option Shape). IfSome o (λ (shape : Shape). share_room shape ≤ kept_by m after)) (sym none) tt;
     }

@@ -5,13 +5,15 @@ use Rattle.gomp_types.specs.declared.call.Call.TheVariants as calls
 use Rattle.gomp_types.specs.TaskExamples.{item}
 use Rattle.gomp_types.specs.declared.depend.Dep.{Dep}
 use Rattle.gomp_types.specs.declared.depend.DepKind.TheVariants.{DepIn}
-use Rattle.gomp_types.specs.declared.event.Arrival.TheVariants.{Barrier}
+use Rattle.gomp_types.specs.declared.event.Arrival.TheVariants.{Barrier, RegionEnd}
 use Rattle.gomp_types.specs.declared.event.Event.{Event}
-use Rattle.gomp_types.specs.declared.event.Event.TheVariants.{Enter, End, Put, Pass, Got, Take}
+use Rattle.gomp_types.specs.declared.event.Event.TheVariants.{Enter, End, Put, Pass, Got, Take, Arrive, Cancel, See}
+use Rattle.gomp_types.specs.declared.cancel.CancelKind.TheVariants as kinds
+use Rattle.gomp_types.specs.declared.cancel.Scope.TheVariants.{Region}
 use Rattle.gomp_types.specs.declared.loop_desc.EndKind.TheVariants as ends
 use Rattle.gomp_types.specs.declared.refusal.Place.TheVariants.{Stopped as AtStop}
 use Rattle.gomp_types.specs.declared.refusal.Refusal.TheVariants.{InsideShare, EndDiffers, NoMemory, Mismatch}
-use Rattle.gomp_types.specs.declared.reply.Reply.TheVariants.{Passed, Finished, Wait, Refused}
+use Rattle.gomp_types.specs.declared.reply.Reply.TheVariants.{Passed, Finished, Wait, Cancelled, Cancelling, Run, TaskDone, NoChunk, Refused}
 use Rattle.gomp_types.specs.Compare.{tag_with}
 use Rattle.gomp_types.specs.declared.shape.Shape.{Shape}
 use Rattle.gomp_types.specs.Events.{share_number}
@@ -29,10 +31,14 @@ use Rattle.gomp_model.specs.Tasks.{task_end_row, taskwait_row}
 use Rattle.gomp_model.specs.Calls.{resume_row, stop_row}
 use Rattle.gomp_model.specs.Team.{before_all}
 use Rattle.gomp_board.specs.declared.op.Op.TheVariants as ops
+use Rattle.gomp_board.specs.declared.op.TeamCancel.TheVariants as named
 use Rattle.gomp_board.specs.Boards.{BoardView, kept_by, members_of}
 use Rattle.gomp_board.specs.Examples.{seven, words, first_waits, first_left, stopped}
-use Rattle.gomp_parts.specs.Answers.{ComesFirst, in_place, room_left, PutsInside, PartsStand, KeepsStart, IsReady, LeavesBoard, AnswersCall}
-use Rattle.gomp_parts.specs.Serves.{asked_once, is_finished, KeepsMore, arrival_op, create_op, group_op, board_op, NotesWords, of_shares, IsShareEvent, left_once}
+use Rattle.gomp_parts.specs.declared.leaving.Leaving.{Leaving}
+use Rattle.gomp_parts.specs.declared.leaving.Manner.{Manner}
+use Rattle.gomp_parts.specs.Leaves.{LeavesAs, IsMadeSo, leaving_after}
+use Rattle.gomp_parts.specs.Answers.{ComesFirst, in_place, room_left, PutsInside, PartsStand, KeepsStart, waits_there, IsReady, LeavesBoard, AnswersCall}
+use Rattle.gomp_parts.specs.Serves.{asked_once, is_finished, KeepsMore, arrival_op, create_op, group_op, board_op, NotesWords, of_shares, IsShareEvent, cut_reply, left_once}
 
 -- what two members are made with
 abbrev two_members : Terms
@@ -41,6 +47,17 @@ two_members = record { members = 2; limits = standard; cancellation = false }
 -- two members, after these events
 abbrev two_after : List Event → Past
 two_after h = record (before_all two_members) { events = h }
+
+-- a member that leaves nothing
+abbrev stays : Leaving
+stays = record { region = false; task = false }
+
+-- a call that is made first, and one that is repeated, by a member that leaves nothing, in a team that allows no cancellation
+abbrev made_once : Manner
+made_once = record { repeated = false; leaving = stays; allowed = false }
+
+abbrev made_again : Manner
+made_again = record { repeated = true; leaving = stays; allowed = false }
 
 -- Tests
 
@@ -61,8 +78,8 @@ shown_in_place = (refl, refl, refl, refl)
 -- at first a barrier is, and a member that waits there may stop the team
 pub ready_calls : (board : BoardView) → IsReady barrier_row false 0 board (two_after []) × IsReady stop_row false 0 board (two_after first_waits)
 ready_calls board = (
-  record { place = λ shown. refl; compared = refl; tasks = refl; waits = λ again. absurd (cc); inside = refl; whole = refl; barrier = λ never. refl; kept = λ again. absurd (cc) },
-  record { place = λ shown. refl; compared = refl; tasks = refl; waits = λ again. absurd (cc); inside = refl; whole = refl; barrier = λ never. absurd (never (two_after []) refl); kept = λ again. absurd (cc) },
+  record { place = λ shown stays. refl; compared = refl; tasks = refl; waits = λ again. absurd (cc); inside = refl; whole = refl; arrived = λ again. absurd (cc); away = λ never first. refl; ends = refl; kept = λ again. absurd (cc) },
+  record { place = λ shown stays. refl; compared = refl; tasks = refl; waits = λ again. absurd (cc); inside = refl; whole = refl; arrived = λ again. absurd (cc); away = λ never first. absurd (never (two_after []) refl); ends = tt; kept = λ again. absurd (cc) },
 )
 
 -- not a barrier inside a share, a resume that repeats nothing, the end of no task, a repeated call that never waits
@@ -70,7 +87,7 @@ pub calls_not_ready :
     (board : BoardView) → (IsReady barrier_row false 0 board (two_after (Enter 0 0 (single_shape true) ∷ [])) → ⊥) × (IsReady resume_row false 0 board (two_after []) → ⊥) × (IsReady task_end_row false 0 board (two_after []) → ⊥)
     × (IsReady loop_end_nowait_row true 0 board (two_after []) → ⊥)
 calls_not_ready board = (
-  λ ready. absurd (let place = ready.place refl in cc),
+  λ ready. absurd (let place = ready.place refl refl in cc),
   λ ready. absurd (let compared = ready.compared in cc),
   λ ready. absurd (let tasks = ready.tasks in cc),
   λ ready. let (q, reply, goes, may) = ready.waits refl in absurd (let done : goes_on reply ≡ false = rw may refl in let both = sym goes ∙ done in cc),
@@ -83,7 +100,7 @@ pub members_not_ready :
 members_not_ready board = (
   λ ready. absurd (let inside = ready.inside in cc),
   λ ready. absurd (let whole = ready.whole in cc),
-  λ ready. absurd (let waits = ready.barrier (λ q may. may) in cc),
+  λ ready. absurd (let waits = ready.away (λ q may. may) refl in cc),
   λ none ready. let kept = ready.kept refl in omega (arith, none, kept),
 )
 
@@ -151,9 +168,9 @@ others_keep_theirs board after two none leaves = let same = leaves.others 1 (λ 
 
 -- no refusal but want of memory, and that neither of a call that asks for no room nor of one that is repeated
 pub refusals_that_are_no_answers :
-    {S : Type 0} (stands : S → List Event → Type 0) (shares after : S) (board board_after : BoardView) → (AnswersCall stands shares after board board_after barrier_row false 0 (Refused Mismatch) → ⊥)
-    × (AnswersCall stands shares after board board_after loop_next_row false 0 (Refused NoMemory) → ⊥) × (AnswersCall stands shares after board board_after barrier_row true 0 (Refused NoMemory) → ⊥)
-    × ((after ≡ shares → ⊥) → AnswersCall stands shares after board board_after barrier_row false 0 (Refused NoMemory) → ⊥)
+    {S : Type 0} (stands : S → List Event → Type 0) (shares after : S) (board board_after : BoardView) → (AnswersCall stands shares after board board_after barrier_row made_once 0 (Refused Mismatch) → ⊥)
+    × (AnswersCall stands shares after board board_after loop_next_row made_once 0 (Refused NoMemory) → ⊥) × (AnswersCall stands shares after board board_after barrier_row made_again 0 (Refused NoMemory) → ⊥)
+    × ((after ≡ shares → ⊥) → AnswersCall stands shares after board board_after barrier_row made_once 0 (Refused NoMemory) → ⊥)
 refusals_that_are_no_answers stands shares after board board_after = (
   λ answers. absurd (let other = answers.refuses Mismatch refl in cc),
   λ answers. let room = (answers.lacks refl).2 in omega (arith, room),
@@ -163,27 +180,30 @@ refusals_that_are_no_answers stands shares after board board_after = (
 
 -- a wait that goes on and changes the shares or the board, and one of a start without its room
 pub waits_that_are_no_answers :
-    {S : Type 0} (stands : S → List Event → Type 0) (shares after : S) (board board_after : BoardView) → ((after ≡ shares → ⊥) → AnswersCall stands shares after board board_after barrier_row true 0 Wait → ⊥)
-    × ((board_after ≡ board → ⊥) → AnswersCall stands shares after board board_after barrier_row true 0 Wait → ⊥) × (kept_by 0 board_after ≡ 0 → AnswersCall stands shares after board board_after single_copy_start_row false 0 Wait → ⊥)
+    {S : Type 0} (stands : S → List Event → Type 0) (shares after : S) (board board_after : BoardView) → ((after ≡ shares → ⊥) → AnswersCall stands shares after board board_after barrier_row made_again 0 Wait → ⊥)
+    × ((board_after ≡ board → ⊥) → AnswersCall stands shares after board board_after barrier_row made_again 0 Wait → ⊥) × (kept_by 0 board_after ≡ 0 → AnswersCall stands shares after board board_after single_copy_start_row made_once 0 Wait → ⊥)
 waits_that_are_no_answers stands shares after board board_after = (
   λ changed answers. changed (answers.waits refl refl).0,
   λ changed answers. changed (answers.waits refl refl).1,
   λ none answers. let keeps = answers.keeps refl in omega (arith, none, keeps),
 )
 
+first_made : IsMadeSo made_once 0 (two_after [])
+first_made = record { leaves = record { region = refl; task = refl }; allowed = refl }
+
 -- a pass before all have arrived, and a first arrival after which the board has asked for no more room
 pub replies_that_are_no_answers :
-    {S : Type 0} (stands : S → List Event → Type 0) (shares after : S) (board board_after : BoardView) → PartsStand stands shares board (two_after []) → (AnswersCall stands shares after board board_after barrier_row false 0 Passed → ⊥)
-    × (board_after.room ≡ board.room → AnswersCall stands shares after board board_after barrier_row false 0 Wait → ⊥)
+    {S : Type 0} (stands : S → List Event → Type 0) (shares after : S) (board board_after : BoardView) → PartsStand stands shares board (two_after []) → (AnswersCall stands shares after board board_after barrier_row made_once 0 Passed → ⊥)
+    × (board_after.room ≡ board.room → AnswersCall stands shares after board board_after barrier_row made_once 0 Wait → ⊥)
 replies_that_are_no_answers stands shares after board board_after stand = (
-  λ answers. absurd (let may = answers.answer (two_after []) stand (ready_calls board).0 in cc),
-  λ same answers. let after = (answers.stands_for (two_after []) stand (ready_calls board).0).room in let before = stand.room in omega (arith, same, after, before),
+  λ answers. absurd (let may = answers.answer (two_after []) stand (ready_calls board).0 first_made in cc),
+  λ same answers. let after = (answers.stands_for (two_after []) stand (ready_calls board).0 first_made).room in let before = stand.room in omega (arith, same, after, before),
 )
 
 -- How the parts serve a call
 
 -- an arrival comes once, the end of a group too
-pub ops_of_waits : (map (λ repeated. arrival_op repeated (tag_with Barrier 3)) (false ∷ true ∷ []) ≡ ops.Arrive (tag_with Barrier 3) ∷ ops.AwaitBarrier ∷ []) × (map group_op (false ∷ true ∷ []) ≡ ops.EndGroup ∷ ops.AwaitGroup ∷ [])
+pub ops_of_waits : (map (λ repeated. arrival_op repeated true (tag_with Barrier 3)) (false ∷ true ∷ []) ≡ ops.Arrive (tag_with Barrier 3) true ∷ ops.AwaitBarrier ∷ []) × (map group_op (false ∷ true ∷ []) ≡ ops.EndGroup ∷ ops.AwaitGroup ∷ [])
 ops_of_waits = (refl, refl)
 
 -- an item of a clause
@@ -195,13 +215,13 @@ pub ops_of_creations : map (λ repeated. create_op repeated seven) (false ∷ tr
 ops_of_creations = refl
 
 -- a taskwait that goes on asks for the same items
-pub op_of_a_taskwait : board_op true (calls.Taskwait on_seven) ≡ Some (ops.AwaitChildren on_seven)
+pub op_of_a_taskwait : board_op made_again (calls.Taskwait on_seven) ≡ Some (ops.AwaitChildren on_seven)
 op_of_a_taskwait = refl
 
 -- the board alone answers calls on tasks and groups, and the stop
 pub ops_of_calls :
-    map (board_op false) (calls.TaskCreate seven ∷ calls.TaskEnd ∷ calls.Taskwait on_seven ∷ calls.GroupStart ∷ calls.GroupEnd ∷ calls.Stop ∷ calls.Barrier ∷ calls.LoopNext ∷ calls.LockInit ∷ [])
-    ≡ Some (ops.Create seven) ∷ Some ops.EndTask ∷ Some (ops.AwaitChildren on_seven) ∷ Some ops.OpenGroup ∷ Some ops.EndGroup ∷ Some (ops.Break AtStop) ∷ None ∷ None ∷ None ∷ []
+    map (board_op made_once) (calls.TaskCreate seven ∷ calls.TaskEnd ∷ calls.Taskwait on_seven ∷ calls.GroupStart ∷ calls.GroupEnd ∷ calls.Stop ∷ calls.Barrier ∷ calls.LoopNext ∷ calls.LockInit ∷ [])
+    ≡ Some (ops.Create seven) ∷ Some (ops.EndTask false) ∷ Some (ops.AwaitChildren on_seven) ∷ Some ops.OpenGroup ∷ Some ops.EndGroup ∷ Some (ops.Break AtStop) ∷ None ∷ None ∷ None ∷ []
 ops_of_calls = refl
 
 -- the shares answer neither arrivals nor words
@@ -236,3 +256,43 @@ events_of_a_share = (
 -- a reply that gives no words changes nothing of the board
 pub no_words_noted : (board after : BoardView) → (after ≡ board → ⊥) → NotesWords 3 0 Wait board after → ⊥
 no_words_noted board after changed notes = changed notes
+
+-- Cancellation
+
+-- of the constructs that cancel, the board answers those that name the region or a group, the shares the others
+pub ops_of_cancels :
+    (map (board_op (record made_once { allowed = true })) (calls.Cancel kinds.Parallel true ∷ calls.Cancel kinds.Taskgroup false ∷ calls.Cancel kinds.Loop true ∷ calls.Point kinds.Taskgroup ∷ calls.Point kinds.Sections ∷ [])
+    ≡ Some (ops.Cancel named.Parallel true true) ∷ Some (ops.Cancel named.Taskgroup false true) ∷ None ∷ Some (ops.Point named.Taskgroup true) ∷ None ∷ [])
+    × (map of_shares (calls.Cancel kinds.Parallel true ∷ calls.Cancel kinds.Loop true ∷ calls.Point kinds.Sections ∷ calls.Point kinds.Taskgroup ∷ []) ≡ false ∷ true ∷ true ∷ false ∷ [])
+ops_of_cancels = (refl, refl)
+
+-- a call that would wait is cut short in a cancelled region alone, and no other reply is
+pub replies_cut : (map (cut_reply true) (Wait ∷ NoChunk ∷ Finished ∷ []) ≡ Cancelled ∷ NoChunk ∷ Finished ∷ []) × (map (cut_reply false) (Wait ∷ NoChunk ∷ []) ≡ Wait ∷ NoChunk ∷ [])
+replies_cut = (refl, refl)
+
+-- a member that has seen that the region is cancelled leaves it; flags that say otherwise are wrong, as are those of another member
+pub leaves_as_seen :
+    LeavesAs (record stays { region = true }) 0 (See 0 kinds.Parallel ∷ []) × LeavesAs (record stays { task = true }) 0 (See 0 kinds.Taskgroup ∷ []) × LeavesAs stays 0 (See 1 kinds.Parallel ∷ []) × (LeavesAs stays 0 (See 0 kinds.Parallel ∷ []) → ⊥)
+    × (LeavesAs stays 0 (See 0 kinds.Taskgroup ∷ []) → ⊥)
+leaves_as_seen = (
+  record { region = refl; task = refl },
+  record { region = refl; task = refl },
+  record { region = refl; task = refl },
+  λ leaves. absurd (let region = leaves.region in cc),
+  λ leaves. absurd (let task = leaves.task in cc),
+)
+
+-- what it leaves after a reply: nothing more by a false one, by one of a share, or by a task that it runs
+pub leaving_after_replies :
+    (leaving_after Cancelled calls.Barrier stays ≡ record stays { region = true }) × (leaving_after (Cancelling true) (calls.Cancel kinds.Taskgroup true) stays ≡ record stays { task = true }) × (leaving_after (Cancelling false) (calls.Cancel kinds.Parallel true) stays ≡ stays)
+    × (leaving_after (Cancelling true) (calls.Point kinds.Loop) stays ≡ stays) × (leaving_after (TaskDone 3 true) calls.TaskEnd (record { region = true; task = true }) ≡ record stays { region = true }) × (leaving_after (Run 3 0 0 false) calls.Barrier (record stays { task = true }) ≡ stays)
+leaving_after_replies = (refl, refl, refl, refl, refl, refl)
+
+-- a call is not made so if its team allows what the manner says it does not
+pub manner_of_the_team : (IsMadeSo (record made_once { allowed = true }) 0 (two_after []) → ⊥) × (IsMadeSo (record made_once { leaving = record stays { region = true } }) 0 (two_after []) → ⊥)
+manner_of_the_team = (λ made. absurd (let allowed = made.allowed in cc), λ made. absurd (let region = made.leaves.region in cc))
+
+-- a member of a cancelled region that waits at a barrier by its events does not wait there, one at the region's end does
+pub waits_in_cancelled_regions :
+    (waits_there 0 (Arrive 0 0 (tag_with Barrier 0) ∷ []) ≡ true) × (waits_there 0 (Cancel 1 Region ∷ Arrive 0 0 (tag_with Barrier 0) ∷ []) ≡ false) × (waits_there 0 (Arrive 0 0 (tag_with RegionEnd 0) ∷ Cancel 1 Region ∷ []) ≡ true)
+waits_in_cancelled_regions = (refl, refl, refl)

@@ -11,13 +11,14 @@ use Rattle.gomp_types.specs.Tests.{Test}
 use Rattle.gomp_types.specs.TaskCalls.{outside_tasks_tests, room_tests}
 use Rattle.gomp_types.proofs.LeastTests.{AllFail}
 use Rattle.gomp_model.specs.Past.{Past}
-use Rattle.gomp_model.specs.Row.{Row}
+use Rattle.gomp_model.specs.Row.{Row, asked_tests, board_tests}
 use Rattle.gomp_board.specs.declared.op.Op.TheVariants.{Reserve}
 use Rattle.gomp_board.specs.Ops.{op_refusal, OpAnswer}
 use Rattle.gomp_board.specs.Boards.{BoardView, Stands as BoardStands, IsSame, Performs, members_of, kept_by}
-use Rattle.gomp_parts.specs.Answers.{room_left, SomeReady, AnswersCall}
+use Rattle.gomp_parts.specs.declared.leaving.Manner.{Manner}
+use Rattle.gomp_parts.specs.Answers.{room_left, PartsStand, IsReady, SomeReady, AnswersCall}
 use Rattle.gomp_parts.specs.Serves.{asked_once, is_finished, KeepsMore}
-use Rattle.gomp_parts.proofs.OpAnswers.{refused_for_memory, memory_was_asked, own_room_kept, others_kept, room_made, parts_at, positive_once}
+use Rattle.gomp_parts.proofs.OpAnswers.{refused_for_memory, memory_was_asked, room_was_asked, own_room_kept, others_kept, room_made, parts_at, positive_once}
 use Rattle.gomp_parts.proofs.CallOps.{tests_of_board, waits_nowhere, ready_op_fine}
 use Rattle.gomp_parts.proofs.ShareRows.{IsShareRow}
 
@@ -35,7 +36,7 @@ reserve_keeps more m board after reply low some performs is =
       stands = λ h st. there.stands h st;
       members = there.members;
       limits = there.limits;
-      room = room_made (Reserve more) m board after Finished there tt;
+      room = room_made (Reserve more) m board after Finished there tt refl;
       own = own_room_kept (Reserve more) m board after Finished low there tt;
       others = λ k other. others_kept (Reserve more) m k board after Finished there other;
       nothing = λ none. absurd (some none);
@@ -49,7 +50,7 @@ lacks_by : (more m : ℕ) (board after : BoardView) (h : List Event) (reply : Re
 lacks_by more m board after h (Refused refusal) st fine performs is answer =
     let memory = refused_for_memory board.limits board.room (kept_by m board) (members_of board) m (Reserve more) h refusal fine answer in
     let there = subst (λ (r : Refusal). Performs (Reserve more) m board after (Refused r)) memory performs in
-    (memory_was_asked board.limits board.room (kept_by m board) (members_of board) m (Reserve more) h (there.answer h st), there.same NoMemory refl (λ e. cc))
+    (room_was_asked (Reserve more) (kept_by m board) m h (memory_was_asked board.limits board.room (kept_by m board) (members_of board) m (Reserve more) h (there.answer h st)), there.same NoMemory refl (λ e. cc))
 lacks_by more m board after h _ st fine performs is answer = absurd (not_finished answer.1 is)
 
 pub reserve_lacks : (more m : ℕ) (board after : BoardView) (reply : Reply) (h : List Event) → BoardStands board h → op_refusal board.limits board.room (kept_by m board) m (Reserve more) h ≡ None → Performs (Reserve more) m board after reply → is_finished reply ≡ false →
@@ -75,25 +76,30 @@ some_more (suc n) some = omega arith
 
 -- The call
 
-reserve_tests : (row : Row) → IsShareRow row → (m : ℕ) (p : Past) (tests : List Test) → AllFail (row.by_task m p ++ tests) → AllFail (outside_tasks_tests m p.events ++ tests)
-reserve_tests row is m p tests fail = subst (λ (own : List Test). AllFail (own ++ tests)) (is.by_task m p) fail
+reserve_tests : (row : Row) → IsShareRow row → (m : ℕ) (p : Past) → AllFail (board_tests false row m p) → AllFail (outside_tasks_tests m p.events ++ room_tests p.terms.limits p.room row.room)
+reserve_tests row is m p fail =
+    subst (λ (own : List Test). AllFail (own ++ room_tests p.terms.limits p.room row.room)) (is.by_task m p) (subst (λ (dropped : Bool). AllFail (row.by_task m p ++ asked_tests dropped row p)) (is.drops m p) fail)
 
 -- no test refuses the room that a share's call asks for
-pub reserve_fine : {S : Type 0} (stands : S → List Event → Type 0) (shares : S) (row : Row) → IsShareRow row → (repeated : Bool) (m : ℕ) (board : BoardView) → SomeReady stands shares board row repeated m → 0 < asked_once repeated row.room →
-    (h : List Event) × BoardStands board h × (op_refusal board.limits board.room (kept_by m board) m (Reserve (asked_once repeated row.room)) h ≡ None)
-reserve_fine stands shares row is true m board (p, parts, ready) much = absurd (omega (arith, much))
-reserve_fine stands shares row is false m board (p, parts, ready) much = (
-  p.events,
-  parts.board_is,
-  ready_op_fine stands shares row false m board p parts ready (Reserve row.room)
-      (waits_nowhere row false m board p is.arrives (is.stops m) ready, reserve_tests row is m p (room_tests p.terms.limits p.room row.room) (tests_of_board row false m board p ready)),
-)
+pub reserve_fine : {S : Type 0} (stands : S → List Event → Type 0) (shares : S) (row : Row) → IsShareRow row → (manner : Manner) (m : ℕ) (board : BoardView) → SomeReady stands shares board row manner m → 0 < asked_once manner.repeated row.room →
+    (h : List Event) × BoardStands board h × (op_refusal board.limits board.room (kept_by m board) m (Reserve (asked_once manner.repeated row.room)) h ≡ None)
+reserve_fine stands shares row is manner m board (p, parts, ready, made) much =
+    reserve_once stands shares row is manner.repeated m board p parts ready much
+  where
+    reserve_once : {S : Type 0} (stands : S → List Event → Type 0) (shares : S) (row : Row) → IsShareRow row → (repeated : Bool) (m : ℕ) (board : BoardView) (p : Past) → PartsStand stands shares board p → IsReady row repeated m board p → 0 < asked_once repeated row.room →
+        (h : List Event) × BoardStands board h × (op_refusal board.limits board.room (kept_by m board) m (Reserve (asked_once repeated row.room)) h ≡ None)
+    reserve_once stands shares row is true m board p parts ready much = absurd (omega (arith, much))
+    reserve_once stands shares row is false m board p parts ready much = (
+      p.events,
+      parts.board_is,
+      ready_op_fine stands shares row false m board p parts ready (Reserve row.room) (waits_nowhere row false m board p is.arrives (is.stops m) ready, reserve_tests row is m p (tests_of_board row false m board p ready)),
+    )
 
 -- there is no memory for it
-pub no_room_answers : {S : Type 0} (stands : S → List Event → Type 0) (shares : S) (row : Row) → IsShareRow row → (repeated : Bool) (m : ℕ) (board after : BoardView) → 0 < asked_once repeated row.room → IsSame board after → after.limits ≡ board.limits →
-    AnswersCall stands shares shares board after row repeated m (Refused NoMemory)
-no_room_answers stands shares row is repeated m board after much same limits =
-    let once = positive_once repeated row.room much in
+pub no_room_answers : {S : Type 0} (stands : S → List Event → Type 0) (shares : S) (row : Row) → IsShareRow row → (manner : Manner) (m : ℕ) (board after : BoardView) → 0 < asked_once manner.repeated row.room → IsSame board after → after.limits ≡ board.limits →
+    AnswersCall stands shares shares board after row manner m (Refused NoMemory)
+no_room_answers stands shares row is manner m board after much same limits =
+    let once = positive_once manner.repeated row.room much in
     let members : members_of after ≡ members_of board = ap (λ (kept : List ℕ). length kept) same.kept in
     let keeps : (k : ℕ) → kept_by k after ≡ kept_by k board = λ k. ap (λ (kept : List ℕ). slice_index_or kept k 0) same.kept in
     record {
@@ -101,8 +107,8 @@ no_room_answers stands shares row is repeated m board after much same limits =
       waits = λ again wait. absurd (cc);
       lacks = λ lack. ((refl, same), once.0, once.1);
       refuses = λ refusal refused. cc;
-      answer = λ p parts ready. is.memory once.1;
-      stands_for = λ p parts ready.
+      answer = λ p parts ready made. is.asks once.1 m p;
+      stands_for = λ p parts ready made.
           parts_at stands shares after p p.terms p.events p.room refl refl refl parts.shares_are (same.stands p.events parts.board_is) (parts.members ∙ sym members) (parts.limits ∙ sym limits) (parts.room ∙ sym same.room)
           (λ k. subst (λ (n : ℕ). room_left (open_share k p.events) ≤ n) (sym (keeps k)) (parts.kept k)) parts.puts;
       keeps = λ wait. absurd (cc);

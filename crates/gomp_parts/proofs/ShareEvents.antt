@@ -1,20 +1,33 @@
 -- What a member does in its shares changes nothing for the board, and leaves it the room that it keeps.
-use Rattle.std.proofs.Common.{◌≡◌, ◌≤◌, ℕ, Bool, true, false, subst, zero, suc, List, [], ◌∷◌, ◌++◌, Option, Some, None, refl, sym, ◌∙◌, arith, inl, inr}
-use Rattle.std.specs.Prelude.{ℤ, ◌==◌, IfSome}
+use Rattle.std.proofs.Common.{◌≡◌, ◌≤◌, ℕ, Bool, true, false, subst, zero, suc, List, [], ◌∷◌, ◌++◌, Option, Some, None, refl, ap, sym, ◌∙◌, arith, inl, inr}
+use Rattle.std.specs.Prelude.{ℤ, ◌==◌, ◌&&◌, ◌||◌, not, if◌then◌else◌, IfSome}
+use Rattle.gomp_types.specs.declared.cancel.CancelKind.{CancelKind}
+use Rattle.gomp_types.specs.declared.cancel.CancelKind.TheVariants as kinds
+use Rattle.gomp_types.specs.declared.cancel.Scope.{Scope}
+use Rattle.gomp_types.specs.declared.cancel.Scope.TheVariants.{Region, OneShare, OneGroup}
+use Rattle.gomp_types.specs.Cancels.{was_cancelled, some_cancelled, is_covered, own_cancelled, leaves_share, share_scope, scope_of}
+use Rattle.gomp_types.specs.CancelCalls.{sees_cancelled, discards_to, cancels, cancels_by, tells_cancelled}
+use Rattle.gomp_types.specs.Goals.{is_unstarted}
+use Rattle.gomp_types.specs.Groups.{groups_around}
+use Rattle.gomp_types.specs.Tasks.{tasks_created}
+use Rattle.gomp_types.specs.Shapes.{is_loop, is_sections}
 use Rattle.std.proofs.lemmas.Bool.{cases_Bool}
 use Rattle.gomp_types.specs.declared.event.Event.{Event}
-use Rattle.gomp_types.specs.declared.event.Event.TheVariants.{Enter, End, Put}
+use Rattle.gomp_types.specs.declared.event.Event.TheVariants.{Enter, End, Put, Cancel, See}
 use Rattle.gomp_types.specs.declared.reply.Reply.{Reply}
-use Rattle.gomp_types.specs.declared.reply.Reply.TheVariants.{Chunk, NoChunk, Section, Executor, Finished}
+use Rattle.gomp_types.specs.declared.reply.Reply.TheVariants.{Chunk, NoChunk, Section, Executor, Finished, Cancelled, Cancelling}
 use Rattle.gomp_types.specs.declared.shape.Shape.{Shape}
-use Rattle.gomp_types.specs.Events.{open_share}
+use Rattle.gomp_types.specs.Events.{open_share, has_drained}
 use Rattle.gomp_types.specs.Laws.{Always}
 use Rattle.gomp_types.proofs.Booleans.{is_equal}
 use Rattle.gomp_shares.specs.Loops.{piece_given, handed_on, next_given}
 use Rattle.gomp_shares.specs.Sections.{section_given, section_next_given}
 use Rattle.gomp_shares.specs.Singles.{single_given}
 use Rattle.gomp_shares.specs.OrderedParts.{part_given}
-use Rattle.gomp_shares.specs.Starts.{behind, entry_and}
+use Rattle.gomp_shares.specs.Calls.{kind_in}
+use Rattle.gomp_shares.specs.Cancels.{names_share}
+use Rattle.gomp_shares.specs.Starts.{behind, entry_and, leaves}
+use Rattle.gomp_board.specs.Boards.{AreSealed}
 use Rattle.gomp_model.specs.Row.{unless_repeated}
 use Rattle.gomp_model.specs.Starts.{share_room}
 use Rattle.gomp_board.specs.Stored.{IsAside, AreAside}
@@ -119,3 +132,71 @@ pub part_share_events : (m : ℕ) (starts : Option Shape) (share : Option (ℕ �
 part_share_events m starts None value reply = tt
 part_share_events m starts (Some share) value Finished = (tt, tt)
 part_share_events m starts (Some share) value _ = tt
+
+-- a call that waits may be answered that the region is cancelled
+pub cut_share_events : (m : ℕ) (starts : Option Shape) (reply : Reply) (events : List Event) → AreShareEvents m starts events → AreShareEvents m starts (sees_cancelled m reply events)
+cut_share_events m starts Cancelled events are = (tt, tt)
+cut_share_events m starts _ events are = are
+
+-- the end of a share, before which its member may see that it is cancelled
+see_first : (sees : Bool) (m : ℕ) (kind : CancelKind) → AreShareEvents m None (if sees then See m kind ∷ [] else [])
+see_first true m kind = (tt, tt)
+see_first false m kind = tt
+
+pub leave_share_events : (m : ℕ) (h : List Event) → AreShareEvents m None (leaves m h)
+leave_share_events m h = (tt, see_first (own_cancelled m h && not (has_drained m h || leaves_share m h)) m (kind_in (open_share m h)))
+
+-- Cancelled shares
+
+groups_stay : (qs : List ℕ) (m i : ℕ) (h : List Event) → some_cancelled qs (Cancel m (OneShare i) ∷ h) ≡ some_cancelled qs h
+groups_stay [] m i h = refl
+groups_stay (q ∷ qs) m i h = ap (λ (b : Bool). was_cancelled (OneGroup q) h || b) (groups_stay qs m i h)
+
+-- the cancellation of a share reaches no task
+share_covers_none : (t m i : ℕ) (h : List Event) → is_covered t (Cancel m (OneShare i) ∷ h) ≡ is_covered t h
+share_covers_none t m i h = ap (λ (b : Bool). was_cancelled Region h || b) (groups_stay (groups_around t h) m i h)
+
+not_both_so : (a b : Bool) → (a ≡ true → b ≡ false) → (a && b) ≡ false
+not_both_so true b none = none refl
+not_both_so false b none = refl
+
+-- so it discards none, if each that another reaches was discarded
+share_cancel_discards_none : (n m i : ℕ) (h : List Event) → AreSealed h → discards_to n m (Cancel m (OneShare i) ∷ h) ≡ []
+share_cancel_discards_none zero m i h sealed = refl
+share_cancel_discards_none (suc k) m i h sealed =
+    let none : (is_unstarted (suc k) h && is_covered (suc k) (Cancel m (OneShare i) ∷ h)) ≡ false = not_both_so (is_unstarted (suc k) h) _ (λ unstarted. share_covers_none (suc k) m i h ∙ sealed (suc k) unstarted) in
+    rw none (share_cancel_discards_none k m i h sealed)
+
+-- a share's
+abbrev IsOfShare : Option Scope → Type 0
+IsOfShare None = Unit {0}
+IsOfShare (Some (OneShare i)) = Unit {0}
+IsOfShare (Some scope) = ⊥
+
+scope_if : (b : Bool) (i : ℕ) → IsOfShare (if b then Some (OneShare i) else None)
+scope_if true i = tt
+scope_if false i = tt
+
+share_scope_of_share : (is : Shape → Bool) (share : Option (ℕ × Shape)) → IsOfShare (share_scope is share)
+share_scope_of_share is None = tt
+share_scope_of_share is (Some share) = scope_if (is share.1) share.0
+
+named_of_share : (kind : CancelKind) (m : ℕ) (h : List Event) → names_share kind ≡ true → IsOfShare (scope_of kind m h)
+named_of_share kinds.Loop m h names = share_scope_of_share (λ shape. is_loop shape.kind) (open_share m h)
+named_of_share kinds.Sections m h names = share_scope_of_share (λ shape. is_sections shape.kind) (open_share m h)
+named_of_share _ m h names = absurd (cc)
+
+cancel_share_events : (m : ℕ) (scope : Option Scope) (h : List Event) → IsOfShare scope → AreSealed h → AreShareEvents m None (cancels m scope h)
+cancel_share_events m None h of sealed = tt
+cancel_share_events m (Some (OneShare i)) h of sealed =
+    subst (λ (events : List Event). AreShareEvents m None (events ++ (Cancel m (OneShare i) ∷ []))) (sym (share_cancel_discards_none (tasks_created h) m i h sealed)) (tt, tt)
+cancel_share_events m (Some _) h of sealed = absurd of
+
+cancels_by_share_events : (clause : Bool) (kind : CancelKind) (m : ℕ) (h : List Event) → names_share kind ≡ true → AreSealed h → AreShareEvents m None (cancels_by clause kind m h)
+cancels_by_share_events true kind m h names sealed = cancel_share_events m (scope_of kind m h) h (named_of_share kind m h names) sealed
+cancels_by_share_events false kind m h names sealed = tt
+
+pub tell_share_events : (kind : CancelKind) (clause : Bool) (m : ℕ) (h : List Event) (reply : Reply) → names_share kind ≡ true → AreSealed h → AreShareEvents m None (tells_cancelled kind clause m h reply)
+tell_share_events kind clause m h (Cancelling true) names sealed = (tt, cancels_by_share_events clause kind m h names sealed)
+tell_share_events kind clause m h (Cancelling false) names sealed = tt
+tell_share_events kind clause m h _ names sealed = tt

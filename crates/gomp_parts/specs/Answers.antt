@@ -1,5 +1,5 @@
 -- What a team knows of a call that no test refuses, and what its parts stand for after the answer. OpenMP API 5.2, chapters 11, 12 and 15, section 5.7.2.
-use Rattle.std.specs.Prelude.{ℕ, ◌≤◌, ◌<◌, ◌≡◌, ◌≢◌, ◌&&◌, is_some, not, Bool, true, false, List, Option, Some, None, IfSome, Result, IfOk}
+use Rattle.std.specs.Prelude.{ℕ, ◌≤◌, ◌<◌, ◌≡◌, ◌≢◌, ◌&&◌, is_some, not, Bool, true, false, List, ◌++◌, Option, Some, None, IfSome, Result, IfOk}
 use Rattle.std.specs.Result.{result_err}
 use Rattle.gomp_types.specs.declared.shape.Shape.{Shape}
 use Rattle.gomp_types.specs.declared.limits.Limits.{Limits}
@@ -9,29 +9,40 @@ use Rattle.gomp_types.specs.declared.reply.Reply.{Reply}
 use Rattle.gomp_types.specs.declared.reply.Reply.TheVariants.{Wait, Stopped, Refused}
 use Rattle.gomp_types.specs.declared.event.Event.{Event}
 use Rattle.gomp_types.specs.declared.event.Event.TheVariants.{Put}
-use Rattle.gomp_types.specs.Events.{open_share, has_left_region, clash_of}
+use Rattle.gomp_types.specs.declared.event.Arrival.{Arrival}
+use Rattle.gomp_types.specs.Events.{open_share, at_region_end, is_region_end, has_left_region, clash_of}
 use Rattle.gomp_types.specs.Laws.{Always}
 use Rattle.gomp_types.specs.Least.{lesser, least}
+use Rattle.gomp_types.specs.TaskCalls.{unless_given_up}
+use Rattle.gomp_types.specs.Tests.{Test}
 use Rattle.gomp_types.specs.declared.seen.Seen.{Seen}
 use Rattle.gomp_types.specs.Seen.{seen_of}
-use Rattle.gomp_shares.specs.Calls.{MayOpenAs}
+use Rattle.gomp_shares.specs.Calls.{MayOpenAs, EachStands}
+use Rattle.gomp_shares.specs.Starts.{is_drained}
 use Rattle.gomp_model.specs.Past.{Past}
-use Rattle.gomp_model.specs.Row.{Row, board_tests, MayGoOn, MayGive, past_given}
+use Rattle.gomp_model.specs.Row.{Row, drain_tests, board_tests, MayGoOn, MayGive, past_given}
 use Rattle.gomp_model.specs.Starts.{share_room}
 use Rattle.gomp_barrier.specs.Stands.{BarriersView, Stands as BarriersStand}
-use Rattle.gomp_board.specs.Ops.{awaits_barrier}
+use Rattle.gomp_board.specs.Ops.{awaits_barrier, is_cut_short}
 use Rattle.gomp_board.specs.Boards.{BoardView, Stands as BoardStands, IsSame, members_of, kept_by}
+use Rattle.gomp_parts.specs.declared.leaving.Manner.{Manner}
+use Rattle.gomp_parts.specs.Leaves.{IsMadeSo}
 
 -- Tests
 
--- the refusal, if there is one, comes first: no comparison of the call has one with a lesser number
+-- the tests behind those of the member's place: whether it was answered that nothing is left, and the comparison; of a call that is repeated the comparison alone
+abbrev pub later_tests : Bool → Row → ℕ → Past → List Test
+later_tests true row m p = row.compared true m p
+later_tests false row m p = drain_tests row.drains m p.events ++ row.compared false m p
+
+-- the refusal, if there is one, comes first: no later test of the call has one with a lesser number
 abbrev pub ComesFirst : Row → Option Refusal → Type 0
 ComesFirst row found =
-    IfSome found (λ refusal. (m : ℕ) (p : Past) → lesser (Some refusal) (least (row.compared false m p)) ≡ Some refusal)
+    IfSome found (λ refusal. (m : ℕ) (p : Past) → lesser (Some refusal) (least (later_tests false row m p)) ≡ Some refusal)
 
--- a call's refusal by its member's place: the least of these tests, before which no comparison comes
-pub record ByPlace (row : Row) (limits : Limits) (seen : Seen) (found : Option Refusal) : Type 0 where
-  pub place : found ≡ least (row.by_place limits seen)
+-- a call's refusal by its member's place, unless the member gives its share up: the least of these tests, before which no later one comes
+pub record ByPlace (row : Row) (limits : Limits) (gives_up : Bool) (seen : Seen) (found : Option Refusal) : Type 0 where
+  pub place : found ≡ least (unless_given_up gives_up (row.by_place limits seen))
   pub first : ComesFirst row found
 
 -- the share that a call with this row starts, if it starts one, is one that its member may open
@@ -40,10 +51,14 @@ StartsShare row seen starts = (starts ≡ row.starts) × IfSome starts (MayOpenA
 
 -- what the member's place makes of a call: its refusal, or the share that it starts
 pub record Admits (row : Row) (limits : Limits) (seen : Seen) (found : Result (Option Shape) Refusal) : Type 0 where
-  pub place : ByPlace row limits seen (result_err found)
+  pub place : ByPlace row limits false seen (result_err found)
   pub starts : IfOk found (StartsShare row seen)
   -- a call whose member leaves its place before it waits starts no share
   pub leaving : row.stays ≡ false → row.starts ≡ None
+
+-- a member that ends its share was answered that nothing is left, or the share is cancelled; one that repeats the end has left it
+abbrev pub IsDrained : {S : Type 0} → Bool → Row → (S → List Event → Type 0) → S → ℕ → Type 0
+IsDrained repeated row stands shares m = repeated ≡ false → row.drains ≡ true → EachStands (stands shares) (λ h. is_drained m h ≡ true)
 
 -- whether what its place has shown of a call holds: it does if the call is made, and if it is repeated by a member that has stayed there
 abbrev pub in_place : Bool → Bool → Bool
@@ -86,17 +101,25 @@ KeepsStart row m board = IfSome row.starts (λ (shape : Shape). share_room shape
 
 -- A call that no test refuses
 
--- none of the tests of a call with this row holds, those of names and locks aside; one that is repeated is one that may go on
+-- whether the member waits at a barrier; one of a cancelled region waits at the region's end alone
+abbrev pub waits_there : ℕ → List Event → Bool
+waits_there m h = awaits_barrier m h && not (is_cut_short m h)
+
+-- none of the tests of a call with this row holds, those of names and locks and that of an end's share aside; one that is repeated is one that may go on
 pub record IsReady (row : Row) (repeated : Bool) (m : ℕ) (board : BoardView) (p : Past) : Type 0 where
-  pub place : in_place row.stays repeated ≡ true → least (row.by_place p.terms.limits (seen_of m p.events)) ≡ None
+  pub place : in_place row.stays repeated ≡ true → row.gives_up m p.events ≡ false → least (row.by_place p.terms.limits (seen_of m p.events)) ≡ None
   pub compared : least (row.compared repeated m p) ≡ None
   pub tasks : least (board_tests repeated row m p) ≡ None
   pub waits : repeated ≡ true → MayGoOn row m
   -- the member is in the region, and the team is not broken
   pub inside : has_left_region m p.events ≡ false
   pub whole : clash_of p.events ≡ None
-  -- a member that does not stop the team waits at a barrier if it repeats a call that arrived there, and only then
-  pub barrier : ((q : Past) → row.may_reply m q Stopped → ⊥) → awaits_barrier m p.events ≡ (repeated && is_some row.arrives)
+  -- a member that repeats a call which arrived at a barrier waits there
+  pub arrived : (repeated && is_some row.arrives) ≡ true → awaits_barrier m p.events ≡ true
+  -- and one that makes another call, and does not stop the team, waits at none
+  pub away : ((q : Past) → row.may_reply m q Stopped → ⊥) → (repeated && is_some row.arrives) ≡ false → waits_there m p.events ≡ false
+  -- a member whose call arrives has arrived at the region's end only if it repeats that
+  pub ends : IfSome row.arrives (λ (kind : Arrival). at_region_end m p.events ≡ (repeated && is_region_end kind))
   -- a start that waits has its room
   pub kept : repeated ≡ true → KeepsStart row m board
 
@@ -104,17 +127,17 @@ pub record IsReady (row : Row) (repeated : Bool) (m : ℕ) (board : BoardView) (
 abbrev pub IsPlaced : Row → Seen → Type 0
 IsPlaced row seen = (limits : Limits) × (least (row.by_place limits seen) ≡ None)
 
--- the parts stand for some past in which a call with this row is ready
-abbrev pub SomeReady : {S : Type 0} → (S → List Event → Type 0) → S → BoardView → Row → Bool → ℕ → Type 0
-SomeReady stands shares board row repeated m = (p : Past) × PartsStand stands shares board p × IsReady row repeated m board p
+-- the parts stand for some past in which a call with this row, made so, is ready
+abbrev pub SomeReady : {S : Type 0} → (S → List Event → Type 0) → S → BoardView → Row → Manner → ℕ → Type 0
+SomeReady stands shares board row manner m = (p : Past) × PartsStand stands shares board p × IsReady row manner.repeated m board p × IsMadeSo manner m p
 
 -- of each such past this holds
-abbrev pub EachReady : {S : Type 0} → (S → List Event → Type 0) → S → BoardView → Row → Bool → ℕ → (Past → Type 0) → Type 0
-EachReady stands shares board row repeated m P = (p : Past) → PartsStand stands shares board p → IsReady row repeated m board p → P p
+abbrev pub EachReady : {S : Type 0} → (S → List Event → Type 0) → S → BoardView → Row → Manner → ℕ → (Past → Type 0) → Type 0
+EachReady stands shares board row manner m P = (p : Past) → PartsStand stands shares board p → IsReady row manner.repeated m board p → IsMadeSo manner m p → P p
 
 -- and after the reply to it the parts stand for this past with what the reply gives
-abbrev pub StandAfter : {S : Type 0} → (S → List Event → Type 0) → S → BoardView → Row → Bool → ℕ → Reply → Past → Type 0
-StandAfter stands shares board row repeated m reply p = PartsStand stands shares board (past_given row repeated m p reply)
+abbrev pub StandAfter : {S : Type 0} → (S → List Event → Type 0) → S → BoardView → Row → Manner → ℕ → Reply → Past → Type 0
+StandAfter stands shares board row manner m reply p = PartsStand stands shares board (past_given row manner.repeated m p reply)
 
 -- what a reply leaves of a board beside: its size and its limits, and what it keeps for other members
 pub record LeavesBoard (m : ℕ) (board after : BoardView) : Type 0 where
@@ -123,17 +146,17 @@ pub record LeavesBoard (m : ℕ) (board after : BoardView) : Type 0 where
   pub others : (k : ℕ) → k ≢ m → kept_by k after ≡ kept_by k board
 
 -- what the parts promise of their reply to a call that is ready, over each such past
-pub record AnswersCall {S : Type 0} (stands : S → List Event → Type 0) (shares shares_after : S) (board board_after : BoardView) (row : Row) (repeated : Bool) (m : ℕ) (reply : Reply) : Type 0 where
+pub record AnswersCall {S : Type 0} (stands : S → List Event → Type 0) (shares shares_after : S) (board board_after : BoardView) (row : Row) (manner : Manner) (m : ℕ) (reply : Reply) : Type 0 where
   pub leaves : LeavesBoard m board board_after
   -- a wait that goes on changes nothing
-  pub waits : repeated ≡ true → reply ≡ Wait → (shares_after ≡ shares) × (board_after ≡ board)
+  pub waits : manner.repeated ≡ true → reply ≡ Wait → (shares_after ≡ shares) × (board_after ≡ board)
   -- there is no memory: of a call that asks for room, once, and nothing changes
-  pub lacks : reply ≡ Refused NoMemory → ArePartsKept shares board shares_after board_after × (repeated ≡ false) × (0 < row.room)
+  pub lacks : reply ≡ Refused NoMemory → ArePartsKept shares board shares_after board_after × (manner.repeated ≡ false) × (0 < row.room)
   -- there is no other refusal
   pub refuses : (refusal : Refusal) → reply ≡ Refused refusal → refusal ≡ NoMemory
-  -- the reply is one that the row has
-  pub answer : EachReady stands shares board row repeated m (λ p. MayGive row repeated m p reply)
+  -- the reply is one that the row has, or want of memory of a call that asks for some
+  pub answer : EachReady stands shares board row manner m (λ p. MayGive row manner.repeated m p reply)
   -- and the parts then stand for the past after it
-  pub stands_for : EachReady stands shares board row repeated m (StandAfter stands shares_after board_after row repeated m reply)
+  pub stands_for : EachReady stands shares board row manner m (StandAfter stands shares_after board_after row manner m reply)
   -- a start that waits has its room
   pub keeps : reply ≡ Wait → KeepsStart row m board_after

@@ -1,2 +1,3 @@
+pub mod Leaves
 pub mod Answers
 pub mod Serves

@@ -1,7 +1,9 @@
 -- What each part promises of a call that the parts answer together: the shares of theirs, the board of an operation on it. (own; OpenMP API 5.2, chapters 11, 12 and 15, section 5.7.2)
 use Rattle.std.specs.Prelude.{ℕ, ◌+◌, ◌≡◌, ◌≢◌, Bool, true, false, List, [], ◌∷◌, ◌++◌, Option, Some, None}
 use Rattle.gomp_types.specs.declared.call.Call.{Call}
-use Rattle.gomp_types.specs.declared.call.Call.TheVariants.{LoopStart, LoopNext, LoopEndNowait, SectionsStart, SectionsNext, SectionsEndNowait, SingleStart, OrderedStart, OrderedEnd, TaskCreate, TaskEnd, Taskwait, GroupStart, GroupEnd, Stop}
+use Rattle.gomp_types.specs.declared.call.Call.TheVariants.{LoopStart, LoopNext, LoopEndNowait, SectionsStart, SectionsNext, SectionsEndNowait, SingleStart, OrderedStart, OrderedEnd, TaskCreate, TaskEnd, Taskwait, GroupStart, GroupEnd, Cancel, Point, Stop}
+use Rattle.gomp_types.specs.declared.cancel.CancelKind.{CancelKind}
+use Rattle.gomp_types.specs.declared.cancel.CancelKind.TheVariants.{Parallel, Taskgroup}
 use Rattle.gomp_types.specs.declared.task.TaskDesc.{TaskDesc}
 use Rattle.gomp_types.specs.declared.event.Event.{Event}
 use Rattle.gomp_types.specs.declared.event.Event.TheVariants.{Enter}
@@ -9,16 +11,21 @@ use Rattle.gomp_types.specs.declared.event.Tag.{Tag}
 use Rattle.gomp_types.specs.declared.refusal.Place.TheVariants.{Stopped}
 use Rattle.gomp_types.specs.declared.refusal.Refusal.{Refusal}
 use Rattle.gomp_types.specs.declared.reply.Reply.{Reply}
-use Rattle.gomp_types.specs.declared.reply.Reply.TheVariants.{Finished, Wait, Copied, Refused}
+use Rattle.gomp_types.specs.declared.reply.Reply.TheVariants.{Finished, Wait, Cancelled, Copied, Refused}
 use Rattle.gomp_types.specs.declared.shape.Shape.{Shape}
+use Rattle.gomp_types.specs.Cancels.{is_cancelled}
 use Rattle.gomp_types.specs.Least.{least}
 use Rattle.gomp_shares.specs.Starts.{leaves}
+use Rattle.gomp_shares.specs.Cancels.{names_share}
 use Rattle.gomp_model.specs.Past.{Past}
 use Rattle.gomp_model.specs.Row.{Row, unless_repeated, begun_past, MayReply, given_after, MayGoOn}
 use Rattle.gomp_board.specs.declared.op.Op.{Op}
 use Rattle.gomp_board.specs.declared.op.Op.TheVariants as ops
+use Rattle.gomp_board.specs.declared.op.TeamCancel.{TeamCancel}
+use Rattle.gomp_board.specs.declared.op.TeamCancel.TheVariants as named
 use Rattle.gomp_board.specs.Stored.{IsAside}
-use Rattle.gomp_board.specs.Boards.{BoardView, Stands as BoardStands, Performs, members_of, kept_by}
+use Rattle.gomp_board.specs.Boards.{BoardView, Stands as BoardStands, AreSealed, Performs, members_of, kept_by}
+use Rattle.gomp_parts.specs.declared.leaving.Manner.{Manner}
 
 -- Room
 
@@ -44,10 +51,10 @@ pub record KeepsMore (more m : ℕ) (board after : BoardView) : Type 0 where
 
 -- Operations on the board
 
--- an arrival with this tag, or the wait after it
-abbrev pub arrival_op : Bool → Tag → Op
-arrival_op true tag = ops.AwaitBarrier
-arrival_op false tag = ops.Arrive tag
+-- an arrival with this tag, by a member that leaves the region or does not, or the wait after it
+abbrev pub arrival_op : Bool → Bool → Tag → Op
+arrival_op true leaving tag = ops.AwaitBarrier
+arrival_op false leaving tag = ops.Arrive tag leaving
 
 -- the end of a group, or the wait for its tasks that goes on
 abbrev pub group_op : Bool → Op
@@ -65,15 +72,32 @@ abbrev pub create_op : Bool → TaskDesc → Op
 create_op true desc = ops.AwaitOwn
 create_op false desc = ops.Create desc
 
+-- what a construct of this kind names of the team, if it names no share
+abbrev pub team_cancel : CancelKind → Option TeamCancel
+team_cancel Parallel = Some named.Parallel
+team_cancel Taskgroup = Some named.Taskgroup
+team_cancel _ = None
+
+-- how the board cancels what is named so, or answers whether it is cancelled, if it does
+abbrev pub cancel_op : Bool → Bool → Option TeamCancel → Option Op
+cancel_op allowed clause None = None
+cancel_op allowed clause (Some what) = Some (ops.Cancel what clause allowed)
+
+abbrev pub point_op : Bool → Option TeamCancel → Option Op
+point_op allowed None = None
+point_op allowed (Some what) = Some (ops.Point what allowed)
+
 -- how the board alone answers a call, if it does
-abbrev pub board_op : Bool → Call → Option Op
-board_op repeated (TaskCreate desc) = Some (create_op repeated desc)
-board_op repeated TaskEnd = Some ops.EndTask
-board_op repeated (Taskwait items) = Some (ops.AwaitChildren items)
-board_op repeated GroupStart = Some ops.OpenGroup
-board_op repeated GroupEnd = Some (group_op repeated)
-board_op repeated Stop = Some (ops.Break Stopped)
-board_op repeated _ = None
+abbrev pub board_op : Manner → Call → Option Op
+board_op manner (TaskCreate desc) = Some (create_op manner.repeated desc)
+board_op manner TaskEnd = Some (ops.EndTask manner.leaving.task)
+board_op manner (Taskwait items) = Some (ops.AwaitChildren items)
+board_op manner GroupStart = Some ops.OpenGroup
+board_op manner GroupEnd = Some (group_op manner.repeated)
+board_op manner (Cancel kind clause) = cancel_op manner.allowed clause (team_cancel kind)
+board_op manner (Point kind) = point_op manner.allowed (team_cancel kind)
+board_op manner Stop = Some (ops.Break Stopped)
+board_op manner _ = None
 
 -- the words that a reply gives a member are noted; another reply changes nothing
 abbrev pub NotesWords : ℕ → ℕ → Reply → BoardView → BoardView → Type 0
@@ -93,6 +117,8 @@ of_shares SectionsEndNowait = true
 of_shares SingleStart = true
 of_shares (OrderedStart value) = true
 of_shares OrderedEnd = true
+of_shares (Cancel kind clause) = names_share kind
+of_shares (Point kind) = names_share kind
 of_shares _ = false
 
 -- an event that changes nothing for the board; an entry is this member's, into a share of this shape
@@ -105,29 +131,40 @@ abbrev pub AreShareEvents : ℕ → Option Shape → List Event → Type 0
 AreShareEvents m starts [] = Unit {0}
 AreShareEvents m starts (event ∷ earlier) = IsShareEvent m starts event × AreShareEvents m starts earlier
 
+-- the shares stand for these events, of a region that is cancelled or not
+abbrev pub SharesStand : {S : Type 0} → (S → List Event → Type 0) → S → Bool → List Event → Type 0
+SharesStand stands shares cancelled h = stands shares h × (is_cancelled h ≡ cancelled)
+
 -- its construct differs from no other member's, and if it is repeated it may go on
 pub record GoesOn (row : Row) (repeated : Bool) (m : ℕ) (p : Past) : Type 0 where
   pub compared : least (row.compared repeated m p) ≡ None
   pub waits : repeated ≡ true → MayGoOn row m
 
--- of each past of a team of so many members for whose events the parts stand and in which the call goes on, this holds
-abbrev pub EachServed : (List Event → Type 0) → ℕ → Row → ℕ → (Bool → Past → Type 0) → Type 0
-EachServed stand members row m P = (repeated : Bool) (p : Past) → p.terms.members ≡ members → stand p.events → GoesOn row repeated m p → P repeated p
+-- of each past of a team of so many members that allows cancellation or not, for whose events the parts stand and in which the call goes on, this holds
+abbrev pub EachServed : (List Event → Type 0) → ℕ → Bool → Row → ℕ → (Bool → Past → Type 0) → Type 0
+EachServed stand members allowed row m P =
+    (repeated : Bool) (p : Past) → p.terms.members ≡ members → p.terms.cancellation ≡ allowed → stand p.events → GoesOn row repeated m p → P repeated p
 
 -- what the shares promise of their reply to such a call, whether it is repeated or not, if the parts stand so before it
-pub record SharesServe {S : Type 0} (stand : List Event → Type 0) (stands : S → List Event → Type 0) (members : ℕ) (before after : S) (row : Row) (m : ℕ) (reply : Reply) : Type 0 where
+pub record SharesServe {S : Type 0} (stand : List Event → Type 0) (stands : S → List Event → Type 0) (members : ℕ) (allowed : Bool) (before after : S) (row : Row) (m : ℕ) (reply : Reply) : Type 0 where
   -- a wait changes nothing
   pub waits : reply ≡ Wait → after ≡ before
   -- the reply is one that the row has, and no refusal
-  pub answer : EachServed stand members row m (λ repeated p. MayReply row repeated m p reply)
+  pub answer : EachServed stand members allowed row m (λ repeated p. MayReply row repeated m p reply)
   pub accepts : (repeated : Bool) (p : Past) (refusal : Refusal) → MayReply row repeated m p (Refused refusal) → ⊥
   -- the shares stand for what it gives
-  pub stands_for : EachServed stand members row m (λ repeated p. stands after (given_after row repeated m p reply))
+  pub stands_for : EachServed stand members allowed row m (λ repeated p. stands after (given_after row repeated m p reply))
 
--- the events of such a call and its reply change nothing for the board
+-- the events of such a call and its reply change nothing for the board, once each task that a cancellation reaches was started or discarded
 abbrev pub GivesShareEvents : Row → ℕ → Reply → Type 0
 GivesShareEvents row m reply =
-    (repeated : Bool) (p : Past) → AreShareEvents m row.starts (unless_repeated (row.begins m p) repeated) × AreShareEvents m row.starts (row.gives m (begun_past repeated row m p) reply)
+    (repeated : Bool) (p : Past) → AreSealed p.events → AreShareEvents m row.starts (unless_repeated (row.begins m p) repeated) × AreShareEvents m row.starts (row.gives m (begun_past repeated row m p) reply)
+
+-- the reply in a region that is cancelled or not, to a call that would wait: cancelled if it is
+abbrev pub cut_reply : Bool → Reply → Reply
+cut_reply true Wait = Cancelled
+cut_reply true reply = reply
+cut_reply false reply = reply
 
 -- the events after a member has left its share, unless its call is repeated
 abbrev pub left_once : Bool → ℕ → List Event → List Event

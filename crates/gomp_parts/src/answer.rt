@@ -1,58 +1,65 @@
 //! What a member is answered if no test of its call holds.
 
 ghost use Rattle.std.specs.Prelude.{◌≡◌, ◌<◌, false, true};
+ghost use Rattle.gomp_shares.specs.Cancels.{names_share};
 ghost use Rattle.gomp_types.specs.Singles.{single_shape};
 ghost use Rattle.gomp_shares.specs.Calls.{MayOpenAs};
 ghost use Rattle.gomp_model.specs.Singles.{single_copy_start_row};
 ghost use Rattle.gomp_model.specs.Calls.{row_of};
 ghost use Rattle.gomp_board.specs.Boards.{members_of};
-ghost use Rattle.gomp_parts.specs.Answers.{StartsShare, SomeReady, AnswersCall};
+ghost use Rattle.gomp_parts.specs.Answers.{StartsShare, IsDrained, SomeReady, AnswersCall};
 ghost use Rattle.gomp_parts.specs.Serves.{of_shares};
 
 use crate::arrivals::{arrival_reply, end_reply};
+use crate::leaving::Manner;
 use crate::room::{asked_once, keep_room};
-use crate::shares::{copy_reply, put_words, share_reply};
+use crate::shares::{Team, copy_reply, cut_reply, put_words, share_reply};
 use crate::tasks::task_reply;
 use gomp_board::Board;
 use gomp_shares::Shares;
-use gomp_types::{Arrival, Call, Refusal, Reply, Shape};
+use gomp_types::{Arrival, Call, CancelKind, Refusal, Reply, Shape};
 
 /// Answers a call of the member, numbered from 0, which starts a share of this shape if it starts
-/// one (`starts`), or goes on with one that waits (`repeated`). The book of names and locks answers
-/// the calls on these.
+/// one (`starts`), made so (`manner`), or goes on with one that waits. The book of names and locks
+/// answers the calls on these.
 ///
 /// No test of the call holds. `NoMemory` if there is none for the room that the call asks for:
 /// nothing changes then. If a call that waits is asked about again and waits on, nothing changes.
+/// In a cancelled region a call that would wait at its share or at a barrier is answered
+/// `Cancelled` (OpenMP API 5.2, section 16.1).
 pub fn answer<S: Shares>(
     shares: &mut S,
     board: &mut Board,
     member: u16,
     call: &Call,
     starts: &Option<Shape>,
-    repeated: bool,
+    manner: Manner,
 ) -> Reply
     requires member { member < S.members shares.old }
     requires aside { (row_of call.now).asks_book ≡ false }
     requires starts { StartsShare (row_of call.now) (S.seen shares.old member) starts.now }
+    requires drained { IsDrained manner.repeated (row_of call.now) S.stands shares.old member }
     requires team { members_of board.old ≡ S.members shares.old }
-    requires ready { SomeReady S.stands shares.old board.old (row_of call.now) repeated member }
+    requires ready { SomeReady S.stands shares.old board.old (row_of call.now) manner member }
     ensures members { S.members shares.new ≡ S.members shares.old }
     ensures answers { AnswersCall S.stands shares.old shares.new board.old board.new
-        (row_of call.now) repeated member result }
+        (row_of call.now) manner member result }
 {
     match call {
-        Call::LoopEnd => end_reply(shares, board, member, repeated),
-        Call::SectionsEnd => end_reply(shares, board, member, repeated),
-        Call::Barrier => arrival_reply(shares, board, member, Arrival::Barrier, repeated),
-        Call::RegionEnd => arrival_reply(shares, board, member, Arrival::RegionEnd, repeated),
+        Call::LoopEnd => end_reply(shares, board, member, manner),
+        Call::LoopEndCancel => end_reply(shares, board, member, manner),
+        Call::SectionsEnd => end_reply(shares, board, member, manner),
+        Call::SectionsEndCancel => end_reply(shares, board, member, manner),
+        Call::Barrier => arrival_reply(shares, board, member, Arrival::Barrier, manner),
+        Call::RegionEnd => arrival_reply(shares, board, member, Arrival::RegionEnd, manner),
         Call::SingleCopyEnd(words) => put_words(shares, board, member, words),
         Call::TaskCreate(_)
         | Call::TaskEnd
         | Call::Taskwait(_)
         | Call::GroupStart
         | Call::GroupEnd
-        | Call::Stop => task_reply(board, member, call, repeated),
-        Call::SingleCopyStart => start_copy(shares, board, member, repeated),
+        | Call::Stop => task_reply(board, member, call, manner),
+        Call::SingleCopyStart => start_copy(shares, board, member, manner),
         Call::LoopStart(_)
         | Call::LoopNext
         | Call::LoopEndNowait
@@ -61,20 +68,27 @@ pub fn answer<S: Shares>(
         | Call::SectionsEndNowait
         | Call::SingleStart
         | Call::OrderedStart(_)
-        | Call::OrderedEnd => serve_share(shares, board, member, call, starts, repeated),
+        | Call::OrderedEnd => serve_share(shares, board, member, call, starts, manner),
+        Call::Cancel { kind, .. } | Call::Point(kind) => {
+            if names_share(*kind) {
+                serve_share(shares, board, member, call, starts, manner)
+            } else {
+                task_reply(board, member, call, manner)
+            }
+        }
         Call::Resume => unreachable!(),
-        Call::CriticalStart(_)
-        | Call::CriticalEnd(_)
-        | Call::LockInit
-        | Call::NestInit
-        | Call::LockDestroy(_)
-        | Call::Set(_)
-        | Call::Test(_)
-        | Call::Unset(_)
-        | Call::SetNest(_)
-        | Call::TestNest(_)
-        | Call::UnsetNest(_) => unreachable!(),
+        Call::CriticalStart(_) | Call::CriticalEnd(_) => unreachable!(),
+        Call::LockInit | Call::NestInit | Call::LockDestroy(_) => unreachable!(),
+        Call::Set(_) | Call::Test(_) | Call::Unset(_) => unreachable!(),
+        Call::SetNest(_) | Call::TestNest(_) | Call::UnsetNest(_) => unreachable!(),
     }
+}
+
+/// Whether a construct of this kind names a share.
+fn names_share(kind: CancelKind) -> bool
+    ensures { result ≡ names_share kind }
+{
+    matches!(kind, CancelKind::Loop | CancelKind::Sections)
 }
 
 /// Answers a call on a share that has no words and no barrier, once the room is kept that it asks
@@ -85,35 +99,46 @@ fn serve_share<S: Shares>(
     member: u16,
     call: &Call,
     starts: &Option<Shape>,
-    repeated: bool,
+    manner: Manner,
 ) -> Reply
     requires member { member < S.members shares.old }
     requires served { of_shares call.now ≡ true }
     requires starts { StartsShare (row_of call.now) (S.seen shares.old member) starts.now }
+    requires drained { IsDrained manner.repeated (row_of call.now) S.stands shares.old member }
     requires team { members_of board.old ≡ S.members shares.old }
-    requires ready { SomeReady S.stands shares.old board.old (row_of call.now) repeated member }
+    requires ready { SomeReady S.stands shares.old board.old (row_of call.now) manner member }
     ensures members { S.members shares.new ≡ S.members shares.old }
     ensures answers { AnswersCall S.stands shares.old shares.new board.old board.new
-        (row_of call.now) repeated member result }
+        (row_of call.now) manner member result }
 {
-    if !keep_room(board, member, asked_once(repeated, call)) {
+    if !keep_room(board, member, asked_once(manner.repeated, call)) {
         return Reply::Refused(Refusal::NoMemory);
     }
-    share_reply(shares, member, call, starts)
+    let team = Team {
+        cancelled: board.is_cancelled(),
+        allowed: manner.allowed,
+    };
+    share_reply(shares, member, call, starts, team)
 }
 
 /// Answers the start of a `single` with words, once the room is kept that they need.
-fn start_copy<S: Shares>(shares: &mut S, board: &mut Board, member: u16, repeated: bool) -> Reply
+fn start_copy<S: Shares>(shares: &mut S, board: &mut Board, member: u16, manner: Manner) -> Reply
     requires member { member < S.members shares.old }
     requires starts { MayOpenAs (S.seen shares.old member) (single_shape true) }
     requires team { members_of board.old ≡ S.members shares.old }
-    requires ready { SomeReady S.stands shares.old board.old single_copy_start_row repeated member }
+    requires ready { SomeReady S.stands shares.old board.old single_copy_start_row manner member }
     ensures members { S.members shares.new ≡ S.members shares.old }
     ensures answers { AnswersCall S.stands shares.old shares.new board.old board.new
-        single_copy_start_row repeated member result }
+        single_copy_start_row manner member result }
 {
-    if !keep_room(board, member, asked_once(repeated, &Call::SingleCopyStart)) {
+    if !keep_room(
+        board,
+        member,
+        asked_once(manner.repeated, &Call::SingleCopyStart),
+    ) {
         return Reply::Refused(Refusal::NoMemory);
     }
-    copy_reply(shares, board, member)
+    let cancelled = board.is_cancelled();
+    let reply = copy_reply(shares, board, member);
+    cut_reply(reply, cancelled)
 }

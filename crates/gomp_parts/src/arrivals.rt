@@ -8,81 +8,95 @@ ghost use Rattle.std.specs.Prelude.{◌≡◌, ◌<◌, true, false};
 ghost use Rattle.gomp_types.specs.declared.event.Arrival.TheVariants.{ShareEnd};
 ghost use Rattle.gomp_types.specs.Compare.{tag_with};
 ghost use Rattle.gomp_types.specs.Events.{shares_entered};
-ghost use Rattle.gomp_shares.specs.Calls.{CanLeave, EachStands};
+ghost use Rattle.gomp_shares.specs.Calls.{CanEnd, EachStands};
+ghost use Rattle.gomp_shares.specs.Starts.{is_drained};
 ghost use Rattle.gomp_board.specs.Boards.{Performs, members_of};
 ghost use Rattle.gomp_parts.specs.Serves.{arrival_op, left_once};
 
+use crate::leaving::Manner;
 use gomp_board::{Board, Op};
 use gomp_shares::Shares;
+use gomp_shares::ends::leave_construct;
 use gomp_types::{Arrival, Reply, Tag};
 
-/// Ends a construct with a barrier at its end, or goes on at that (`repeated`): the member leaves
-/// the construct, arrives, and passes if it may; else it executes a task, or waits.
+/// Ends a construct with a barrier at its end, or goes on at that if the call is repeated: the
+/// member leaves the construct, which it sees to be cancelled if it leaves it since it is, and
+/// arrives. It passes if it may, and else executes a task, or waits; in a cancelled region it does
+/// not arrive, and is answered `Cancelled`.
 pub(crate) fn end_reply<S: Shares>(
     shares: &mut S,
     board: &mut Board,
     member: u16,
-    repeated: bool,
+    manner: Manner,
 ) -> Reply
     requires member { member < S.members shares.old }
     requires team { members_of board.old ≡ S.members shares.old }
-    requires place { repeated ≡ false →
-        CanLeave (S.members shares.old) member (S.seen shares.old member) }
+    requires place { manner.repeated ≡ false →
+        CanEnd (S.members shares.old) member (S.seen shares.old member) }
+    requires drained { manner.repeated ≡ false →
+        EachStands (S.stands shares.old) (λ h. is_drained member h ≡ true) }
     ensures members { S.members shares.new ≡ S.members shares.old }
-    ensures kept { repeated ≡ true → shares.new ≡ shares.old }
+    ensures kept { manner.repeated ≡ true → shares.new ≡ shares.old }
     ensures left { EachStands (S.stands shares.old)
-        (λ h. S.stands shares.new (left_once repeated member h)) }
-    ensures performs { EachStands (S.stands shares.old)
-        (λ h. Performs (arrival_op repeated (tag_with ShareEnd (shares_entered member h)))
-        member board.old board.new result) }
+        (λ h. S.stands shares.new (left_once manner.repeated member h)) }
+    ensures performs { EachStands (S.stands shares.old) (λ h.
+        Performs (arrival_op manner.repeated manner.leaving.region
+        (tag_with ShareEnd (shares_entered member h))) member board.old board.new result) }
 {
-    leave(shares, member, repeated);
-    arrival_reply(shares, board, member, Arrival::ShareEnd, repeated)
+    leave(shares, member, manner.repeated);
+    arrival_reply(shares, board, member, Arrival::ShareEnd, manner)
 }
 
-/// The member arrives at its next barrier, or goes on there (`repeated`), and passes it if it may;
-/// else it executes a task, or waits.
+/// The member arrives at its next barrier, or goes on there if the call is repeated, and passes it
+/// if it may; else it executes a task, or waits. A cancelled region has it arrive at the region's
+/// end alone.
 pub(crate) fn arrival_reply<S: Shares>(
     shares: &S,
     board: &mut Board,
     member: u16,
     kind: Arrival,
-    repeated: bool,
+    manner: Manner,
 ) -> Reply
     requires member { member < S.members shares.now }
     requires team { members_of board.old ≡ S.members shares.now }
-    ensures performs { EachStands (S.stands shares.now)
-        (λ h. Performs (arrival_op repeated (tag_with kind (shares_entered member h)))
-        member board.old board.new result) }
+    ensures performs { EachStands (S.stands shares.now) (λ h.
+        Performs (arrival_op manner.repeated manner.leaving.region
+        (tag_with kind (shares_entered member h))) member board.old board.new result) }
 {
     let tag = Tag {
         kind,
         shares: shares.look(member).entered,
     };
-    board.step(member, arrival_op(repeated, tag))
+    board.step(
+        member,
+        arrival_op(manner.repeated, manner.leaving.region, tag),
+    )
 }
 
-/// An arrival with this tag, or the wait after it (`repeated`).
-fn arrival_op(repeated: bool, tag: Tag) -> Op
-    ensures { result ≡ arrival_op repeated tag }
+/// An arrival with this tag, of a member that leaves the region or does not (`leaving`), or the
+/// wait after it (`repeated`).
+fn arrival_op(repeated: bool, leaving: bool, tag: Tag) -> Op
+    ensures { result ≡ arrival_op repeated leaving tag }
 {
     if repeated {
         Op::AwaitBarrier
     } else {
-        Op::Arrive(tag)
+        Op::Arrive { tag, leaving }
     }
 }
 
-/// Leaves the member's share; nothing changes if the call is repeated (`repeated`).
+/// Leaves the member's construct; nothing changes if the call is repeated (`repeated`).
 fn leave<S: Shares>(shares: &mut S, member: u16, repeated: bool)
     requires place { repeated ≡ false →
-        CanLeave (S.members shares.old) member (S.seen shares.old member) }
+        CanEnd (S.members shares.old) member (S.seen shares.old member) }
+    requires drained { repeated ≡ false →
+        EachStands (S.stands shares.old) (λ h. is_drained member h ≡ true) }
     ensures members { S.members shares.new ≡ S.members shares.old }
     ensures kept { repeated ≡ true → shares.new ≡ shares.old }
     ensures left { EachStands (S.stands shares.old)
         (λ h. S.stands shares.new (left_once repeated member h)) }
 {
     if !repeated {
-        shares.leave(member);
+        leave_construct(shares, member);
     }
 }

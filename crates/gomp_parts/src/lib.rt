@@ -1,19 +1,23 @@
-//! The parts of a team: its work-shares and its board, which answer one call of one member together.
+//! The parts of a team: its work-shares and its board, which answer one call of one member
+//! together.
 //!
 //! [`admit_call`] says why the call is refused by its member's place among the shares, and by the
 //! comparison with other members, or what share it starts; [`task_refusal`] says why tasks, groups
-//! or want of room refuse it; they change nothing. [`answer`](answer::answer) answers a call that no
-//! test refuses, by the crate that serves its construct. Each part stands for all events of the
-//! team, so the parts are never interleaved. Who the member is, whether its team is broken and what
-//! it waits for is the team's (gomp_core).
+//! or want of room refuse it; they change nothing. [`answer`](answer::answer) answers a call that
+//! no test refuses, by the crate that serves its construct. [`leaving_refusal`] says why a member
+//! that leaves something cancelled does not make the call, and [`Leaving`] what it leaves. Each
+//! part stands for all events of the team, so the parts are never interleaved. Who the member is,
+//! whether its team is broken and what it waits for is the team's (gomp_core).
 #![tactic(auto)]
 
 pub mod answer;
 mod arrivals;
+pub mod leaving;
 pub mod refusals;
 mod room;
 mod shares;
 mod tasks;
 
+pub use leaving::{Leaving, Manner, leaving_refusal};
 pub use refusals::{admit_call, place_of, unless_refused};
 pub use tasks::task_refusal;

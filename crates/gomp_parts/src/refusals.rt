@@ -1,27 +1,34 @@
 //! Why a call is refused, layer by layer: by the member's place among the shares, and by how it
 //! compares with other members' calls.
 
-ghost use Rattle.std.specs.Prelude.{◌≡◌, ◌<◌, true, Some, None, Ok, IfOk};
+ghost use Rattle.std.specs.Prelude.{◌≡◌, ◌<◌, true, false, List, Some, None, Ok, IfOk};
 ghost use Rattle.std.specs.Result.{result_err, result_map_both};
-ghost use Rattle.gomp_types.specs.Tests.{outcome};
+ghost use Rattle.gomp_types.specs.declared.event.Event.{Event};
+ghost use Rattle.gomp_types.specs.Tests.{outcome, first_refusal};
 ghost use Rattle.gomp_types.specs.declared.limits.Limits.{Limits};
+ghost use Rattle.gomp_types.specs.Compare.{tag_differs, tag_with};
+ghost use Rattle.gomp_types.specs.Events.{shares_entered, barriers_passed, tag_at};
 ghost use Rattle.gomp_types.specs.Least.{lesser, least};
 ghost use Rattle.gomp_types.specs.Limits.{shown_number};
 ghost use Rattle.gomp_shares.specs.Calls.{EachStands};
 ghost use Rattle.gomp_shares.specs.Starts.{compared_share};
+ghost use Rattle.gomp_shares.specs.Cancels.{cancel_place_tests};
 ghost use Rattle.gomp_shares.specs.OrderedParts.{part_tests, part_end_tests};
 ghost use Rattle.gomp_ordered.specs.Iterations.{HasShape};
 ghost use Rattle.gomp_barrier.specs.Stands.{members_of as barrier_members};
 ghost use Rattle.gomp_model.specs.Past.{Past};
-ghost use Rattle.gomp_model.specs.Row.{place_tests};
+ghost use Rattle.gomp_model.specs.Row.{drain_tests, place_tests};
 ghost use Rattle.gomp_model.specs.Arrivals.{outside_tests, compared_arrival};
 ghost use Rattle.gomp_model.specs.Calls.{row_of};
-ghost use Rattle.gomp_parts.specs.Answers.{BothStand, StartsShare, Admits};
+ghost use Rattle.gomp_parts.specs.Leaves.{LeavesAs};
+ghost use Rattle.gomp_parts.specs.Answers.{BothStand, StartsShare, ByPlace, Admits, IsDrained, later_tests};
 ghost use Rattle.gomp_types.specs.declared.refusal.Place.TheVariants.{Share};
 
+use crate::leaving::Leaving;
 use gomp_barrier::Barriers;
 use gomp_sections::admission::{admit_single, copy_end_refusal};
-use gomp_shares::admission::{end_refusal, next_refusal};
+use gomp_shares::admission::{cancel_refusal, end_refusal, next_refusal};
+use gomp_shares::ends::drained_refusal;
 use gomp_shares::{Construct, Shares};
 use gomp_types::{Arrival, Call, EndKind, Limits, Place, Refusal, Seen, Shape, Tag};
 
@@ -48,11 +55,12 @@ pub fn unless_refused(
 }
 
 /// The shape of the share that the call starts, if it starts one, unless one of its own tests
-/// refuses it: those on the place of the member, numbered from 0, among the shares (E8 to E22, E34),
-/// and the comparison with other members' calls (`Mismatch`). A call that is repeated (`repeated`) is
-/// only compared: its place was tested when it was made. What names and locks refuse is none of this,
-/// nor what tasks and groups do ([`task_refusal`](crate::task_refusal); OpenMP API 5.2, chapter 11 and
-/// section 17.1).
+/// refuses it: those on the place of the member, numbered from 0, among the shares (E8 to E23,
+/// E34), and the comparison with other members' calls (`Mismatch`). A call that is repeated
+/// (`repeated`) is only compared: its place was tested when it was made. A member that leaves the
+/// region (`leaving`) gives up its share at the region's end. What names and locks refuse is none
+/// of this, nor what tasks and groups do ([`task_refusal`](crate::task_refusal); OpenMP API 5.2,
+/// chapter 11 and sections 16.1 and 17.1).
 pub fn admit_call<S: Shares>(
     shares: &mut S,
     barriers: &Barriers,
@@ -60,6 +68,7 @@ pub fn admit_call<S: Shares>(
     member: u16,
     call: &Call,
     repeated: bool,
+    leaving: Leaving,
 ) -> Result<Option<Shape>, Refusal>
     requires member { member < S.members shares.old }
     requires team { barrier_members barriers.now ≡ S.members shares.old }
@@ -67,20 +76,46 @@ pub fn admit_call<S: Shares>(
         least ((row_of call.now).by_place limits.now (S.seen shares.old member)) ≡ None }
     ensures kept { shares.new ≡ shares.old }
     ensures least { (p : Past) → p.terms.limits ≡ limits.now →
-        BothStand S.stands shares.old barriers.now p.events →
+        BothStand S.stands shares.old barriers.now p.events → LeavesAs leaving member p.events →
         result_err result ≡ least (place_tests repeated (row_of call.now) member p) }
     ensures starts { IfOk result (StartsShare (row_of call.now) (S.seen shares.old member)) }
+    ensures drained { IfOk result (λ starts.
+        IsDrained repeated (row_of call.now) S.stands shares.old member) }
 {
-    let starts = match admit_place(shares, limits, member, call) {
+    let starts = match admit_or_give_up(shares, limits, member, call, leaving) {
         Ok(starts) => starts,
         // A member that waits at a barrier may have left its place.
         Err(_) if repeated => None,
         Err(refusal) => return Err(refusal),
     };
-    match compared_refusal(shares, barriers, member, call, &starts, repeated) {
+    match later_refusal(shares, barriers, member, call, &starts, repeated) {
         Some(refusal) => Err(refusal),
         None => Ok(starts),
     }
+}
+
+/// The shape of the share that the call starts, if it starts one, if the member may make it from
+/// its place among the shares, or gives up its share by it (`leaving`).
+fn admit_or_give_up<S: Shares>(
+    shares: &S,
+    limits: &Limits,
+    member: u16,
+    call: &Call,
+    leaving: Leaving,
+) -> Result<Option<Shape>, Refusal>
+    requires member { member < S.members shares.now }
+    ensures place { (h : List Event) → LeavesAs leaving member h →
+        ByPlace (row_of call.now) limits.now ((row_of call.now).gives_up member h)
+        (S.seen shares.now member) (result_err result) }
+    ensures starts { IfOk result (StartsShare (row_of call.now) (S.seen shares.now member)) }
+    ensures stays { (row_of call.now).stays ≡ true → result_err result ≡
+        least ((row_of call.now).by_place limits.now (S.seen shares.now member)) }
+    ensures leaving { (row_of call.now).stays ≡ false → (row_of call.now).starts ≡ None }
+{
+    if leaving.region && matches!(call, Call::RegionEnd) {
+        return Ok(None);
+    }
+    admit_place(shares, limits, member, call)
 }
 
 /// The shape of the share that the call starts, if it starts one, if the member may make it from
@@ -107,32 +142,30 @@ fn admit_place<S: Shares>(
         Call::LoopNext => none_started(next_refusal(&seen, Construct::Loop)),
         Call::LoopEnd => none_started(end_refusal(&seen, Construct::Loop, EndKind::Wait)),
         Call::LoopEndNowait => none_started(end_refusal(&seen, Construct::Loop, EndKind::Nowait)),
+        Call::LoopEndCancel => {
+            none_started(end_refusal(&seen, Construct::Loop, EndKind::Cancellable))
+        }
         Call::SectionsNext => none_started(next_refusal(&seen, Construct::Sections)),
         Call::SectionsEnd => none_started(end_refusal(&seen, Construct::Sections, EndKind::Wait)),
         Call::SectionsEndNowait => {
             none_started(end_refusal(&seen, Construct::Sections, EndKind::Nowait))
         }
+        Call::SectionsEndCancel => {
+            none_started(end_refusal(&seen, Construct::Sections, EndKind::Cancellable))
+        }
         Call::SingleCopyEnd(_) => none_started(copy_end_refusal(&seen)),
         Call::OrderedStart(value) => none_started(part_refusal(&seen, *value)),
         Call::OrderedEnd => none_started(part_end_refusal(&seen)),
         Call::Barrier | Call::RegionEnd => none_started(barrier_refusal(&seen)),
-        Call::TaskCreate(_)
-        | Call::TaskEnd
-        | Call::Taskwait(_)
-        | Call::GroupStart
-        | Call::GroupEnd => Ok(None),
+        Call::TaskCreate(_) | Call::TaskEnd | Call::Taskwait(_) => Ok(None),
+        Call::GroupStart | Call::GroupEnd => Ok(None),
+        Call::Cancel { kind, .. } => none_started(cancel_refusal(&seen, *kind)),
+        Call::Point(kind) => none_started(cancel_refusal(&seen, *kind)),
         Call::Stop | Call::Resume => Ok(None),
-        Call::CriticalStart(_)
-        | Call::CriticalEnd(_)
-        | Call::LockInit
-        | Call::NestInit
-        | Call::LockDestroy(_)
-        | Call::Set(_)
-        | Call::Test(_)
-        | Call::Unset(_)
-        | Call::SetNest(_)
-        | Call::TestNest(_)
-        | Call::UnsetNest(_) => Ok(None),
+        Call::CriticalStart(_) | Call::CriticalEnd(_) => Ok(None),
+        Call::LockInit | Call::NestInit | Call::LockDestroy(_) => Ok(None),
+        Call::Set(_) | Call::Test(_) | Call::Unset(_) => Ok(None),
+        Call::SetNest(_) | Call::TestNest(_) | Call::UnsetNest(_) => Ok(None),
     }
 }
 
@@ -187,9 +220,67 @@ fn barrier_refusal(seen: &Seen) -> Option<Refusal>
     }
 }
 
-/// Why the call, which starts a share of this shape if it starts one, is refused when it is compared
-/// with other members': `Mismatch` if its construct is another, and for a resume with no wait open
-/// `NotInside`.
+/// Why the call is refused behind the tests of the member's place: `NotDrained`, or by the
+/// comparison with other members' calls. A call that is repeated (`repeated`) is only compared.
+fn later_refusal<S: Shares>(
+    shares: &mut S,
+    barriers: &Barriers,
+    member: u16,
+    call: &Call,
+    starts: &Option<Shape>,
+    repeated: bool,
+) -> Option<Refusal>
+    requires starts { starts.now ≡ (row_of call.now).starts }
+    requires member { member < S.members shares.old }
+    requires team { barrier_members barriers.now ≡ S.members shares.old }
+    ensures kept { shares.new ≡ shares.old }
+    ensures later { (p : Past) → BothStand S.stands shares.old barriers.now p.events →
+        result ≡ least (later_tests repeated (row_of call.now) member p) }
+    ensures drained { result ≡ None →
+        IsDrained repeated (row_of call.now) S.stands shares.old member }
+{
+    if repeated {
+        return compared_refusal(shares, barriers, member, call, starts, true);
+    }
+    if let Some(refusal) = undrained_refusal(shares, member, call) {
+        return Some(refusal);
+    }
+    compared_refusal(shares, barriers, member, call, starts, false)
+}
+
+/// Why the call does not end the member's share: `NotDrained`, if it is an end, the member was not
+/// answered that nothing is left, and the share is not cancelled.
+fn undrained_refusal<S: Shares>(shares: &mut S, member: u16, call: &Call) -> Option<Refusal>
+    requires member { member < S.members shares.old }
+    ensures kept { shares.new ≡ shares.old }
+    ensures drains { EachStands (S.stands shares.old)
+        (λ h. result ≡ least (drain_tests (row_of call.now).drains member h)) }
+{
+    if !drains(call) {
+        return None;
+    }
+    let seen = shares.look(member);
+    drained_refusal(shares, member, &seen)
+}
+
+/// Whether the call ends a loop or sections.
+fn drains(call: &Call) -> bool
+    ensures { result ≡ (row_of call.now).drains }
+{
+    matches!(
+        call,
+        Call::LoopEnd
+            | Call::LoopEndNowait
+            | Call::LoopEndCancel
+            | Call::SectionsEnd
+            | Call::SectionsEndNowait
+            | Call::SectionsEndCancel
+    )
+}
+
+/// Why the call, which starts a share of this shape if it starts one, is refused when it is
+/// compared with other members': `Mismatch` if its construct is another, and for a resume with no
+/// wait open `NotInside`.
 fn compared_refusal<S: Shares>(
     shares: &mut S,
     barriers: &Barriers,
@@ -213,7 +304,7 @@ fn compared_refusal<S: Shares>(
             let Some(shape) = starts else { unreachable!() };
             share_refusal(shares, member, shape)
         }
-        Call::LoopEnd | Call::SectionsEnd => {
+        Call::LoopEnd | Call::LoopEndCancel | Call::SectionsEnd | Call::SectionsEndCancel => {
             arrival_refusal(shares, barriers, member, Arrival::ShareEnd, repeated)
         }
         Call::Barrier => arrival_refusal(shares, barriers, member, Arrival::Barrier, repeated),
@@ -227,11 +318,8 @@ fn compared_refusal<S: Shares>(
         | Call::OrderedStart(_)
         | Call::OrderedEnd
         | Call::Stop => None,
-        Call::TaskCreate(_)
-        | Call::TaskEnd
-        | Call::Taskwait(_)
-        | Call::GroupStart
-        | Call::GroupEnd => None,
+        Call::TaskCreate(_) | Call::TaskEnd | Call::Taskwait(_) => None,
+        Call::GroupStart | Call::GroupEnd | Call::Cancel { .. } | Call::Point(_) => None,
         Call::CriticalStart(_)
         | Call::CriticalEnd(_)
         | Call::LockInit
@@ -262,7 +350,8 @@ fn share_refusal<S: Shares>(shares: &mut S, member: u16, shape: &Shape) -> Optio
 }
 
 /// Why the member may not arrive so at its next barrier: `Mismatch` if others arrived there
-/// otherwise. A member that has arrived (`repeated`) is not compared any more.
+/// otherwise. A member that has arrived (`repeated`) is not compared any more, nor is one of a
+/// cancelled region.
 fn arrival_refusal<S: Shares>(
     shares: &S,
     barriers: &Barriers,
@@ -278,13 +367,30 @@ fn arrival_refusal<S: Shares>(
     if repeated {
         return None;
     }
+    if barriers.is_cancelled() {
+        return None;
+    }
+    if arrival_differs(shares, barriers, member, kind) {
+        return Some(Refusal::Mismatch);
+    }
+    None
+}
+
+/// Whether others arrived otherwise at the member's next barrier.
+fn arrival_differs<S: Shares>(shares: &S, barriers: &Barriers, member: u16, kind: Arrival) -> bool
+    requires member { member < S.members shares.now }
+    requires team { barrier_members barriers.now ≡ S.members shares.now }
+    ensures compared { EachStands (BothStand S.stands shares.now barriers.now) (λ h.
+        result ≡ tag_differs (tag_with kind (shares_entered member h))
+        (tag_at (barriers_passed member h) h)) }
+{
     let own = Tag {
         kind,
         shares: shares.look(member).entered,
     };
     match barriers.look(member).tag {
-        Some(other) if !other.is_same(&own) => Some(Refusal::Mismatch),
-        _ => None,
+        Some(other) => !other.is_same(&own),
+        None => false,
     }
 }
 

@@ -2,6 +2,7 @@
 
 ghost use Rattle.std.specs.Prelude.{◌≡◌, ◌<◌, List, true, false, None};
 ghost use Rattle.gomp_types.specs.declared.event.Event.{Event};
+ghost use Rattle.gomp_types.specs.CancelCalls.{cancel_room};
 ghost use Rattle.gomp_model.specs.Calls.{row_of};
 ghost use Rattle.gomp_model.specs.Starts.{end_room};
 ghost use Rattle.gomp_board.specs.declared.op.Op.TheVariants.{Reserve};
@@ -10,7 +11,7 @@ ghost use Rattle.gomp_board.specs.Boards.{Stands as BoardStands, IsSame, members
 ghost use Rattle.gomp_parts.specs.Serves.{asked_once, is_finished, KeepsMore};
 
 use gomp_board::{Board, Op};
-use gomp_types::{Call, EndKind, Reply};
+use gomp_types::{Call, CancelKind, EndKind, Reply};
 
 /// The room that a task asks for: it is created, started and ended.
 const TASK_ROOM: u32 = 3;
@@ -24,8 +25,12 @@ const ARRIVAL_ROOM: u32 = 2;
 /// The room that words ask for: that they are put, or given to a member.
 const WORDS_ROOM: u32 = 1;
 
-/// For how many events the call asks room (own): for those of a task or a group, for an arrival at a
-/// barrier, and at the start of a construct for the barrier at its end, or for its words.
+/// The room that the cancellation of the region or of a group asks for.
+const CANCEL_ROOM: u32 = 1;
+
+/// For how many events the call asks room (own): for those of a task or a group, for an arrival at
+/// a barrier, at the start of a construct for the barrier at its end, or for its words, and for the
+/// cancellation of the region or of a group.
 pub(crate) fn room_asked(call: &Call) -> u32
     ensures { result ≡ (row_of call.now).room }
 {
@@ -36,6 +41,7 @@ pub(crate) fn room_asked(call: &Call) -> u32
         Call::Barrier => ARRIVAL_ROOM,
         Call::TaskCreate(_) => TASK_ROOM,
         Call::GroupStart => GROUP_ROOM,
+        Call::Cancel { kind, .. } => cancel_room(*kind),
         _ => 0,
     }
 }
@@ -45,8 +51,18 @@ fn end_room(kind: EndKind) -> u32
     ensures { result ≡ end_room kind }
 {
     match kind {
-        EndKind::Wait => ARRIVAL_ROOM,
+        EndKind::Wait | EndKind::Cancellable => ARRIVAL_ROOM,
         EndKind::Nowait => 0,
+    }
+}
+
+/// The room for a cancellation of this kind; that of a share is stored nowhere.
+fn cancel_room(kind: CancelKind) -> u32
+    ensures { result ≡ cancel_room kind }
+{
+    match kind {
+        CancelKind::Parallel | CancelKind::Taskgroup => CANCEL_ROOM,
+        CancelKind::Loop | CancelKind::Sections => 0,
     }
 }
 

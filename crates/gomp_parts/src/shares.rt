@@ -1,9 +1,9 @@
 //! The calls on the shares: starts, which ask for room first, nexts, ordered parts, ends with no
-//! barrier, and the words of singles.
+//! barrier, constructs that cancel a share, and the words of singles.
 //!
-//! OpenMP API 5.2, sections 11.1, 11.3, 11.5, 15.10.2 and 5.7.2.
+//! OpenMP API 5.2, sections 11.1, 11.3, 11.5, 15.10.2, 16.1, 16.2 and 5.7.2.
 
-ghost use Rattle.std.specs.Prelude.{◌≡◌, ◌<◌, List, None, true};
+ghost use Rattle.std.specs.Prelude.{◌≡◌, ◌<◌, List, None, true, false};
 ghost use Rattle.gomp_types.specs.declared.event.Event.{Event};
 ghost use Rattle.gomp_types.specs.declared.reply.Reply.TheVariants.{Wait};
 ghost use Rattle.gomp_types.specs.Events.{open_number};
@@ -16,16 +16,27 @@ ghost use Rattle.gomp_shares.specs.Singles.{DealsCopy, copy_started, put_tests};
 ghost use Rattle.gomp_model.specs.Calls.{row_of};
 ghost use Rattle.gomp_board.specs.declared.op.Op.TheVariants.{Put};
 ghost use Rattle.gomp_board.specs.Boards.{Stands as BoardStands, Performs, members_of};
-ghost use Rattle.gomp_parts.specs.Answers.{IsPlaced, StartsShare, PutsInside};
-ghost use Rattle.gomp_parts.specs.Serves.{of_shares, SharesServe, GivesShareEvents, NotesWords};
+ghost use Rattle.gomp_parts.specs.Answers.{IsPlaced, IsDrained, StartsShare, PutsInside};
+ghost use Rattle.gomp_parts.specs.Serves.{of_shares, SharesServe, SharesStand, GivesShareEvents, NotesWords, cut_reply};
 
 use gomp_board::{Board, Op};
 use gomp_shares::Shares;
+use gomp_shares::cancels::cancel_share;
 use gomp_shares::ends::leave_at_once;
 use gomp_types::{Call, Payload, Reply, Shape};
 
+/// What a call on the shares is answered by, beside the shares.
+#[derive(Clone, Copy, Debug, PartialEq, Eq)]
+pub(crate) struct Team {
+    /// Whether the region is cancelled.
+    pub(crate) cancelled: bool,
+    /// Whether something may be cancelled.
+    pub(crate) allowed: bool,
+}
+
 /// Answers a call that neither arrives at a barrier nor has words, or goes on with it: that it is
 /// repeated changes nothing. `starts` is the shape of the share that it starts, if it starts one.
+/// In a cancelled region a call that would wait is answered `Cancelled`.
 ///
 /// The call was tested, and its room is kept: here it is performed.
 pub(crate) fn share_reply<S: Shares>(
@@ -33,35 +44,63 @@ pub(crate) fn share_reply<S: Shares>(
     member: u16,
     call: &Call,
     starts: &Option<Shape>,
+    team: Team,
 ) -> Reply
     requires member { member < S.members shares.old }
     requires served { of_shares call.now ≡ true }
     requires starts { StartsShare (row_of call.now) (S.seen shares.old member) starts.now }
     requires place { IsPlaced (row_of call.now) (S.seen shares.old member) }
+    requires drained { IsDrained false (row_of call.now) S.stands shares.old member }
     requires known { (h : List Event) × S.stands shares.old h }
     ensures members { S.members shares.new ≡ S.members shares.old }
-    ensures serves { SharesServe (S.stands shares.old) S.stands (S.members shares.old)
-        shares.old shares.new (row_of call.now) member result }
+    ensures serves { SharesServe (SharesStand S.stands shares.old team.cancelled) S.stands
+        (S.members shares.old) team.allowed shares.old shares.new (row_of call.now) member result }
     ensures events { GivesShareEvents (row_of call.now) member result }
 {
     match call {
         Call::LoopStart(_) => {
             let Some(shape) = starts else { unreachable!() };
-            gomp_loops::begin_loop(shares, member, shape)
+            let reply = gomp_loops::begin_loop(shares, member, shape);
+            cut_reply(reply, team.cancelled)
         }
-        Call::LoopNext => gomp_loops::take_next(shares, member),
+        Call::LoopNext => {
+            let reply = gomp_loops::take_next(shares, member);
+            cut_reply(reply, team.cancelled)
+        }
         Call::LoopEndNowait => leave_at_once(shares, member),
         Call::SectionsStart { .. } => {
             let Some(shape) = starts else { unreachable!() };
-            gomp_sections::begin_sections(shares, member, shape)
+            let reply = gomp_sections::begin_sections(shares, member, shape);
+            cut_reply(reply, team.cancelled)
         }
         Call::SectionsNext => gomp_sections::take_section(shares, member),
         Call::SectionsEndNowait => leave_at_once(shares, member),
-        Call::SingleStart => gomp_sections::begin_single(shares, member),
-        Call::OrderedStart(value) => gomp_ordered::begin_part(shares, member, *value),
+        Call::SingleStart => {
+            let reply = gomp_sections::begin_single(shares, member);
+            cut_reply(reply, team.cancelled)
+        }
+        Call::OrderedStart(value) => {
+            let reply = gomp_ordered::begin_part(shares, member, *value);
+            cut_reply(reply, team.cancelled)
+        }
         Call::OrderedEnd => gomp_ordered::finish_part(shares, member),
+        Call::Cancel { kind, clause } => {
+            cancel_share(shares, member, *kind, team.allowed, *clause)
+        }
+        Call::Point(kind) => cancel_share(shares, member, *kind, team.allowed, false),
         _ => unreachable!(),
     }
+}
+
+/// The reply in a region that is cancelled or not, to a call that would wait: `Cancelled` if it is
+/// (OpenMP API 5.2, section 16.1).
+pub(crate) fn cut_reply(reply: Reply, cancelled: bool) -> Reply
+    ensures { result ≡ cut_reply cancelled reply }
+{
+    if cancelled && matches!(reply, Reply::Wait) {
+        return Reply::Cancelled;
+    }
+    reply
 }
 
 /// Answers the start of a `single` with words for the other members, by those that were put in the

@@ -1,44 +1,82 @@
-//! The calls on tasks and groups, and the stop of the team: the board answers them alone.
+//! The calls on tasks and groups, the constructs that cancel the region or a group, and the stop of
+//! the team: the board answers them alone.
 //!
-//! OpenMP API 5.2, chapter 12 and sections 15.4 and 15.5; libgomp's `GOMP_task`, `GOMP_taskwait`,
-//! `GOMP_taskgroup_start` and `GOMP_taskgroup_end`.
+//! OpenMP API 5.2, chapter 12 and sections 15.4, 15.5, 16.1 and 16.2; libgomp's `GOMP_task`,
+//! `GOMP_taskwait`, `GOMP_taskgroup_start`, `GOMP_taskgroup_end`, `GOMP_cancel` and
+//! `GOMP_cancellation_point`.
 
-ghost use Rattle.std.specs.Prelude.{◌≡◌, ◌<◌, true, is_some, Some};
+ghost use Rattle.std.specs.Prelude.{◌≡◌, ◌<◌, true, is_some, List, Some};
+ghost use Rattle.gomp_types.specs.declared.event.Event.{Event};
+ghost use Rattle.gomp_types.specs.CancelCalls.{cancel_tests};
 ghost use Rattle.gomp_types.specs.Least.{least, lesser};
 ghost use Rattle.gomp_model.specs.Past.{Past};
-ghost use Rattle.gomp_model.specs.Row.{board_tests};
-ghost use Rattle.gomp_model.specs.Arrivals.{region_end_row};
+ghost use Rattle.gomp_model.specs.Row.{asked_tests, board_tests};
 ghost use Rattle.gomp_model.specs.Calls.{row_of};
 ghost use Rattle.gomp_board.specs.declared.op.Op.{Op as BoardOp};
 ghost use Rattle.gomp_board.specs.Boards.{Stands as BoardStands, Performs, members_of};
-ghost use Rattle.gomp_parts.specs.Serves.{board_op, create_op, group_op, has_no_clause};
+ghost use Rattle.gomp_parts.specs.Leaves.{LeavesAs};
+ghost use Rattle.gomp_parts.specs.Serves.{board_op, create_op, group_op, team_cancel, has_no_clause};
 
+use crate::leaving::{Leaving, Manner};
 use crate::room::room_asked;
-use gomp_board::{Board, Op, items_refusal};
-use gomp_types::{Call, Place, Refusal, Reply, TaskDesc};
+use gomp_board::{Board, Op, TeamCancel, items_refusal};
+use gomp_types::{Call, CancelKind, Place, Refusal, Reply, TaskDesc};
 
-/// Why tasks, groups or want of room for events refuse the call of the member, numbered from 0:
-/// `InsideTask` if no explicit task may make it, `TooDeep`, `TooManyTasks`, `TooManyDepends`,
-/// `NotInTask`, `NoGroup`, `GroupOpen` or `TraceFull`. A call that is repeated (`repeated`) was tested
-/// when it was made.
-pub fn task_refusal(board: &Board, member: u16, call: &Call, repeated: bool) -> Option<Refusal>
+/// Why tasks, groups, cancellation or want of room for events refuse the call of the member,
+/// numbered from 0: `InsideTask` if no explicit task may make it, `TooDeep`, `TooManyTasks`,
+/// `TooManyDepends`, `NotInTask`, `NoGroup`, `GroupOpen` or `TraceFull`. A call that is repeated
+/// (`repeated`) was tested when it was made. A member that leaves its task or the region
+/// (`leaving`) gives up the groups that it has open there.
+pub fn task_refusal(
+    board: &Board,
+    member: u16,
+    call: &Call,
+    repeated: bool,
+    leaving: Leaving,
+) -> Option<Refusal>
     requires member { member < members_of board.now }
-    ensures least { (p : Past) → BoardStands board.now p.events →
-        p.terms.limits ≡ board.now.limits → p.room ≡ board.now.room →
+    ensures least { (p : Past) → BoardStands board.now p.events → p.terms.limits ≡
+        board.now.limits → p.room ≡ board.now.room → LeavesAs leaving member p.events →
         result ≡ least (board_tests repeated (row_of call.now) member p) }
 {
     if repeated {
         return None;
     }
-    let own = own_refusal(board, member, call);
-    lesser(own, board.room_refusal(room_asked(call)))
+    let own = own_refusal(board, member, call, leaving);
+    lesser(own, asked_refusal(board, member, call))
 }
 
-/// Why tasks and groups refuse it.
-fn own_refusal(board: &Board, member: u16, call: &Call) -> Option<Refusal>
+/// Why there is no room for the events of the call: `TraceFull`. A creation that is dropped asks
+/// for none.
+fn asked_refusal(board: &Board, member: u16, call: &Call) -> Option<Refusal>
     requires member { member < members_of board.now }
     ensures least { (p : Past) → BoardStands board.now p.events →
-        p.terms.limits ≡ board.now.limits →
+        p.terms.limits ≡ board.now.limits → p.room ≡ board.now.room →
+        result ≡ least (asked_tests ((row_of call.now).drops member p) (row_of call.now) p) }
+{
+    if is_dropped(board, member, call) {
+        return None;
+    }
+    board.room_refusal(room_asked(call))
+}
+
+/// Whether the call creates a task that a cancellation would reach.
+fn is_dropped(board: &Board, member: u16, call: &Call) -> bool
+    requires member { member < members_of board.now }
+    ensures drops { (p : Past) → BoardStands board.now p.events →
+        result ≡ (row_of call.now).drops member p }
+{
+    match call {
+        Call::TaskCreate(_) => board.drops_creation(member),
+        _ => false,
+    }
+}
+
+/// Why tasks, groups and cancellation refuse it.
+fn own_refusal(board: &Board, member: u16, call: &Call, leaving: Leaving) -> Option<Refusal>
+    requires member { member < members_of board.now }
+    ensures least { (p : Past) → BoardStands board.now p.events →
+        p.terms.limits ≡ board.now.limits → LeavesAs leaving member p.events →
         result ≡ least ((row_of call.now).by_task member p) }
 {
     match call {
@@ -46,22 +84,26 @@ fn own_refusal(board: &Board, member: u16, call: &Call) -> Option<Refusal>
         | Call::LoopNext
         | Call::LoopEnd
         | Call::LoopEndNowait
+        | Call::LoopEndCancel
         | Call::SectionsStart { .. }
         | Call::SectionsNext
         | Call::SectionsEnd
         | Call::SectionsEndNowait
+        | Call::SectionsEndCancel
         | Call::SingleStart
         | Call::SingleCopyStart
         | Call::SingleCopyEnd(_)
         | Call::OrderedStart(_)
         | Call::OrderedEnd
         | Call::Barrier => board.inside_task_refusal(member),
-        Call::RegionEnd => region_end_refusal(board, member),
+        Call::RegionEnd => board.region_end_refusal(member, leaving.region),
         Call::TaskCreate(desc) => board.creation_refusal(member, desc.deps.as_slice()),
-        Call::TaskEnd => board.task_end_refusal(member),
+        Call::TaskEnd => board.task_end_refusal(member, leaving.task),
         Call::GroupEnd => board.group_end_refusal(member),
         Call::Taskwait(items) => items_refusal(items.as_slice()),
         Call::GroupStart => None,
+        Call::Cancel { kind, .. } => cancel_refusal(board, member, *kind),
+        Call::Point(kind) => cancel_refusal(board, member, *kind),
         Call::Stop | Call::Resume => None,
         Call::CriticalStart(_)
         | Call::CriticalEnd(_)
@@ -77,16 +119,18 @@ fn own_refusal(board: &Board, member: u16, call: &Call) -> Option<Refusal>
     }
 }
 
-/// Why the member does not end the region: `InsideTask`, or `GroupOpen`.
-fn region_end_refusal(board: &Board, member: u16) -> Option<Refusal>
+/// Why a construct of this kind does not name what it does where the member is: `InsideTask`,
+/// `NotInTask`, `NoGroup` or `GroupOpen`.
+fn cancel_refusal(board: &Board, member: u16, kind: CancelKind) -> Option<Refusal>
     requires member { member < members_of board.now }
-    ensures least { (p : Past) → BoardStands board.now p.events →
-        result ≡ least (region_end_row.by_task member p) }
+    ensures least { (h : List Event) → BoardStands board.now h →
+        result ≡ least (cancel_tests kind member h) }
 {
-    lesser(
-        board.inside_task_refusal(member),
-        board.group_open_refusal(member),
-    )
+    match kind {
+        CancelKind::Parallel => board.cancel_refusal(member, TeamCancel::Parallel),
+        CancelKind::Taskgroup => board.cancel_refusal(member, TeamCancel::Taskgroup),
+        CancelKind::Loop | CancelKind::Sections => board.inside_task_refusal(member),
+    }
 }
 
 /// Of two refusals the one with the lesser number.
@@ -106,17 +150,18 @@ fn lesser(one: Option<Refusal>, other: Option<Refusal>) -> Option<Refusal>
     }
 }
 
-/// Answers a call on tasks or groups, or the stop of the team, or goes on with one that waits.
-pub(crate) fn task_reply(board: &mut Board, member: u16, call: &Call, repeated: bool) -> Reply
+/// Answers a call on tasks or groups, a construct that names the region or a group, or the stop of
+/// the team, or goes on with a call that waits.
+pub(crate) fn task_reply(board: &mut Board, member: u16, call: &Call, manner: Manner) -> Reply
     requires member { member < members_of board.old }
-    requires served { is_some (board_op repeated call.now) ≡ true }
-    ensures performs { (op : BoardOp) → board_op repeated call.now ≡ Some op →
+    requires served { is_some (board_op manner call.now) ≡ true }
+    ensures performs { (op : BoardOp) → board_op manner call.now ≡ Some op →
         Performs op member board.old board.new result }
 {
     match call {
-        Call::TaskCreate(desc) => create_reply(board, member, desc, repeated),
+        Call::TaskCreate(desc) => create_reply(board, member, desc, manner.repeated),
         Call::Taskwait(items) => board.wait_for_children(member, items.as_slice()),
-        _ => match plain_op(repeated, call) {
+        _ => match plain_op(manner, call) {
             Some(op) => board.step(member, op),
             None => unreachable!(),
         },
@@ -135,16 +180,42 @@ fn create_reply(board: &mut Board, member: u16, desc: &TaskDesc, repeated: bool)
     }
 }
 
-/// How the board alone answers a call with no items, or one that waits (`repeated`), if it does.
-fn plain_op(repeated: bool, call: &Call) -> Option<Op>
-    ensures { has_no_clause call.now → result ≡ board_op repeated call.now }
+/// How the board alone answers a call with no items, or one that waits, if it does.
+fn plain_op(manner: Manner, call: &Call) -> Option<Op>
+    ensures { has_no_clause call.now → result ≡ board_op manner call.now }
 {
     match call {
-        Call::TaskEnd => Some(Op::EndTask),
+        Call::TaskEnd => Some(Op::EndTask(manner.leaving.task)),
         Call::GroupStart => Some(Op::OpenGroup),
-        Call::GroupEnd => Some(group_op(repeated)),
+        Call::GroupEnd => Some(group_op(manner.repeated)),
+        Call::Cancel { kind, clause } => {
+            let named = team_cancel(*kind)?;
+            Some(Op::Cancel {
+                named,
+                clause: *clause,
+                allowed: manner.allowed,
+            })
+        }
+        Call::Point(kind) => {
+            let named = team_cancel(*kind)?;
+            Some(Op::Point {
+                named,
+                allowed: manner.allowed,
+            })
+        }
         Call::Stop => Some(Op::Break(Place::Stopped)),
         _ => None,
+    }
+}
+
+/// What a construct of this kind names of the team, if it names no share.
+fn team_cancel(kind: CancelKind) -> Option<TeamCancel>
+    ensures { result ≡ team_cancel kind }
+{
+    match kind {
+        CancelKind::Parallel => Some(TeamCancel::Parallel),
+        CancelKind::Taskgroup => Some(TeamCancel::Taskgroup),
+        CancelKind::Loop | CancelKind::Sections => None,
     }
 }
 

@@ -1,3 +1,4 @@
 pub mod Laws
 mod ReadyExamples
 mod TakenOnce
+mod Without

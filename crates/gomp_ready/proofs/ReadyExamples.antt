@@ -1,8 +1,8 @@
--- A list of tasks: what a put and a take leave, when a task stands twice, and for how many more there is room.
+-- A list of tasks: what a put, a take and a removal leave, when a task stands twice, and for how many more there is room.
 use Rattle.std.proofs.Common.{◌≡◌, ℕ, List, [], ◌∷◌, ◌++◌, Some, slice_get, refl, arith}
 use Rattle.std.specs.Prelude.{map}
 use Rattle.std.specs.List.{remove}
-use Rattle.gomp_ready.specs.Ready.{AreOnce, ready_room}
+use Rattle.gomp_ready.specs.Ready.{AreOnce, ready_room, room_without, without}
 
 -- two tasks, and three
 abbrev two : List ℕ
@@ -32,6 +32,18 @@ without_the_first = refl
 -- of a task that was put twice one is taken
 pub one_of_two : remove {X = ℕ} (4 ∷ 7 ∷ 4 ∷ []) 0 ≡ 7 ∷ 4 ∷ []
 one_of_two = refl
+
+-- the second is removed by its number, and the others keep their order; one that is not there is not
+pub seven_is_removed : (without 7 three ≡ 4 ∷ 9 ∷ []) × (without 9 three ≡ two) × (without 5 three ≡ three) × (without 5 [] ≡ [])
+seven_is_removed = (refl, refl, refl, refl)
+
+-- it goes where it stands first, and no other goes
+pub removed_where_first : (without 4 (4 ∷ 7 ∷ 4 ∷ []) ≡ 7 ∷ 4 ∷ []) × (without 4 three ≡ 4 ∷ 9 ∷ [] → ⊥) × (without 4 three ≡ 9 ∷ 7 ∷ [] → ⊥)
+removed_where_first = (refl, λ e. absurd (cc), λ e. absurd (cc))
+
+-- there is room for one more if it was there, and else for as many as before
+pub room_after_removal : (room_without 7 three 2 ≡ 3) × (room_without 5 three 2 ≡ 2) × (room_without 5 three 2 ≡ 3 → ⊥)
+room_after_removal = (refl, refl, λ e. absurd (omega (arith, e)))
 
 -- three tasks
 pub three_once : AreOnce three

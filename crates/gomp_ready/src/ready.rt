@@ -1,10 +1,11 @@
 //! The list of tasks that may be taken.
 
-ghost use Rattle.std.specs.Prelude.{◌≡◌, ◌<◌, ◌≤◌, ◌+◌, [], ◌∷◌, ◌++◌, Some, length, slice_get, OnOk, OnErr, IsOk, IsTrue, ◌↔◌};
-ghost use Rattle.std.specs.List.{remove};
-ghost use Rattle.gomp_ready.specs.Ready.{ready_room};
+ghost use Rattle.std.specs.Prelude.{◌≡◌, ◌<◌, ◌≤◌, ◌+◌, [], ◌∷◌, ◌++◌, Some, length, slice_get, OnOk, OnErr, IsOk, IsTrue, ◌↔◌, ◌==◌};
+ghost use Rattle.std.specs.List.{position_from, remove};
+ghost use Rattle.gomp_ready.specs.Ready.{ready_room, room_without, without};
 
 use std::alloc::{AllocError, Global};
+use std::collections::VecDeque;
 use std::marker::Model;
 
 /// The list grows by this part of the tasks in it.
@@ -16,16 +17,17 @@ const LEAST_STEP: usize = 64;
 /// The tasks that may be taken, by their numbers, the one that was put first at the front.
 #[derive(Debug, Drop)]
 pub struct Ready {
-    ids: Vec<u32>,
+    ids: VecDeque<u32>,
 }
 
 impl Model for Ready {
-    ghost use Rattle.std.specs.Prelude.{◌-◌, vec_len, vec_capacity};
+    ghost use Rattle.std.specs.Prelude.{◌-◌};
+    ghost use Rattle.std.specs.VecDeque.{deque_len, deque_capacity};
     ghost use Rattle.gomp_ready.specs.Ready.{ReadyView};
 
     ghost Value = { ReadyView };
 
-    ghost view = { λ r. record { ids = r.ids.items; room = vec_capacity r.ids - vec_len r.ids } };
+    ghost view = { λ r. record { ids = r.ids.items; room = deque_capacity r.ids - deque_len r.ids } };
 }
 
 impl Ready {
@@ -34,7 +36,7 @@ impl Ready {
         ensures { result.ids ≡ [] }
     {
         Ready {
-            ids: Vec::new(alloc),
+            ids: VecDeque::new(alloc),
         }
     }
 
@@ -63,25 +65,41 @@ impl Ready {
         ensures ids { self.new.ids ≡ self.old.ids ++ task ∷ [] }
         ensures room { self.new.room + 1 ≡ self.old.room }
     {
-        self.ids.push_reserved(task);
+        self.ids.push_back_reserved(task);
     }
 
     /// Takes the task at this place, from 0, out of the list; the others keep their order. A place
-    /// near the end costs least, since those behind it move down.
+    /// near either end costs least, since those on its shorter side move.
     pub fn take(&mut self, index: usize) -> u32
         requires within { index < length self.old.ids }
         ensures task { slice_get self.old.ids index ≡ Some result }
         ensures ids { self.new.ids ≡ remove self.old.ids index }
         ensures room { self.new.room ≡ self.old.room + 1 }
     {
-        self.ids.remove(index)
+        match self.ids.remove(index) {
+            Some(task) => task,
+            None => unreachable!(),
+        }
     }
 
-    /// The tasks, in the order in which they were put.
-    pub fn as_slice(&self) -> &[u32]
-        ensures { result.now ≡ self.now.ids }
+    /// Takes the task out of the list, if it is there, where it stands first; the others keep their
+    /// order. It costs a step for each task before it.
+    pub fn remove(&mut self, task: u32)
+        ensures ids { self.new.ids ≡ without task self.old.ids }
+        ensures room { self.new.room ≡ room_without task self.old.ids self.old.room }
     {
-        self.ids.as_slice()
+        let Some(index) = place_of(&self.ids, task) else {
+            return;
+        };
+        let _ = self.take(index);
+    }
+
+    /// The task at this place, from 0, in the order in which they were put.
+    pub fn at(&self, index: usize) -> u32
+        requires within { index < length self.now.ids }
+        ensures task { slice_get self.now.ids index ≡ Some result }
+    {
+        self.ids[index]
     }
 
     /// How many tasks there are.
@@ -97,4 +115,11 @@ impl Ready {
     {
         self.ids.is_empty()
     }
+}
+
+/// The place of the task in the list, from 0, where it stands first.
+fn place_of(ids: &VecDeque<u32>, task: u32) -> Option<usize>
+    ensures { result ≡ position_from (λ id. id == task) 0 ids.now.items }
+{
+    ids.iter().position(|id| *id == task)
 }

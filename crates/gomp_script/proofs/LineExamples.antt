@@ -1,32 +1,33 @@
 -- What the lines of a text say, computed: each word, each number at its ends, each fault and which comes first. (own)
 use Rattle.std.proofs.Common.{◌≡◌, ℕ, pos, negsuc, Bool, true, false, List, [], ◌∷◌, ◌++◌, Some, None, Ok, Err, Bor, length, codes, refl, ap, arith}
 use Rattle.std.specs.Prelude.{map, replicate}
-use Rattle.gomp_types.specs.declared.call.Call.TheVariants.{LoopStart, LoopNext, LoopEnd, LoopEndNowait, SectionsStart, SectionsNext, SectionsEnd, SectionsEndNowait, SingleStart, SingleCopyStart, SingleCopyEnd, OrderedStart, OrderedEnd, Barrier, RegionEnd, CriticalStart, CriticalEnd, LockInit, NestInit, LockDestroy, Set, Test, Unset, SetNest, TestNest, UnsetNest, TaskCreate, TaskEnd, Taskwait, GroupStart, GroupEnd, Resume, Stop}
+use Rattle.gomp_types.specs.declared.call.Call.TheVariants.{LoopStart, LoopNext, LoopEnd, LoopEndNowait, LoopEndCancel, SectionsStart, SectionsNext, SectionsEnd, SectionsEndNowait, SectionsEndCancel, SingleStart, SingleCopyStart, SingleCopyEnd, OrderedStart, OrderedEnd, Barrier, RegionEnd, CriticalStart, CriticalEnd, LockInit, NestInit, LockDestroy, Set, Test, Unset, SetNest, TestNest, UnsetNest, TaskCreate, TaskEnd, Taskwait, GroupStart, GroupEnd, Cancel, Point, Resume, Stop}
+use Rattle.gomp_types.specs.declared.cancel.CancelKind.TheVariants.{Parallel, Loop, Sections, Taskgroup}
 use Rattle.gomp_types.specs.declared.depend.DepKind.TheVariants.{DepIn, DepOut, DepInout, DepInoutset, DepMutex}
-use Rattle.gomp_types.specs.declared.loop_desc.EndKind.TheVariants.{Wait, Nowait}
+use Rattle.gomp_types.specs.declared.loop_desc.EndKind.TheVariants.{Wait, Nowait, Cancellable}
 use Rattle.gomp_types.specs.declared.loop_desc.Sched.TheVariants.{Static, Dynamic, Guided, Runtime}
 use Rattle.gomp_script.specs.declared.parse.Why.TheVariants.{NotAscii, FirstLine, UnknownWord, MissingWord, BadNumber, ExtraWord}
 use Rattle.gomp_text.specs.Words.{words_of}
-use Rattle.gomp_script.specs.StepText.{IsBehindItems, IsItem, TakesOption, behind_items, fault_in, first_item, items_of, option_of, without_value, read_line, step_of, plain_step, loop_step, sections_step, copy_end_step, ordered_step, critical_step, critical_end_step, lock_step, task_step, taskwait_step, team_of}
+use Rattle.gomp_script.specs.StepText.{IsBehindItems, IsItem, TakesOption, behind_items, fault_in, first_item, items_of, option_of, without_value, read_line, step_of, plain_step, loop_step, sections_step, copy_end_step, ordered_step, critical_step, critical_end_step, cancel_step, point_step, lock_step, task_step, taskwait_step, team_of}
 use Rattle.gomp_script.specs.Examples.{parts, steps_said, teams_said, calls, each_bad, by_first, loop_of_four, task_of, task_with, item_of}
 
 -- the calls that stand alone, each by its word
-pub calls_alone : steps_said (calls (codes "next|end|end_nowait|section_next|sections_end|sections_end_nowait|single|single_copy|ordered_end|barrier|region_end|lock_init|nest_init|task_end|group|group_end|resume|stop")) ≡ map by_first (LoopNext ∷ LoopEnd ∷ LoopEndNowait ∷ SectionsNext ∷ SectionsEnd ∷ SectionsEndNowait ∷ SingleStart ∷ SingleCopyStart ∷ OrderedEnd ∷ Barrier ∷ RegionEnd ∷ LockInit ∷ NestInit ∷ TaskEnd ∷ GroupStart ∷ GroupEnd ∷ Resume ∷ Stop ∷ [])
+pub calls_alone : steps_said (calls (codes "next|end|end_nowait|end_cancel|section_next|sections_end|sections_end_nowait|sections_end_cancel|single|single_copy|ordered_end|barrier|region_end|lock_init|nest_init|task_end|group|group_end|resume|stop")) ≡ map by_first (LoopNext ∷ LoopEnd ∷ LoopEndNowait ∷ LoopEndCancel ∷ SectionsNext ∷ SectionsEnd ∷ SectionsEndNowait ∷ SectionsEndCancel ∷ SingleStart ∷ SingleCopyStart ∷ OrderedEnd ∷ Barrier ∷ RegionEnd ∷ LockInit ∷ NestInit ∷ TaskEnd ∷ GroupStart ∷ GroupEnd ∷ Resume ∷ Stop ∷ [])
 unfolding plain_step loop_step sections_step copy_end_step ordered_step team_of
 calls_alone = refl
 
 -- each of them with a letter too few
-pub calls_shortened : steps_said (calls (codes "nex|en|end_nowai|section_nex|sections_en|sections_end_nowai|singl|single_cop|ordered_en|barrie|region_en|lock_ini|nest_ini|task_en|grou|group_en|resum|sto")) ≡ each_bad 18 UnknownWord
+pub calls_shortened : steps_said (calls (codes "nex|en|end_nowai|end_cance|section_nex|sections_en|sections_end_nowai|sections_end_cance|singl|single_cop|ordered_en|barrie|region_en|lock_ini|nest_ini|task_en|grou|group_en|resum|sto")) ≡ each_bad 20 UnknownWord
 unfolding plain_step loop_step sections_step copy_end_step ordered_step team_of
 calls_shortened = refl
 
 -- with a letter too many
-pub calls_lengthened : steps_said (calls (codes "nexts|ends|end_nowaits|section_nexts|sections_ends|sections_end_nowaits|singles|single_copys|ordered_ends|barriers|region_ends|lock_inits|nest_inits|task_ends|groups|group_ends|resumes|stops")) ≡ each_bad 18 UnknownWord
+pub calls_lengthened : steps_said (calls (codes "nexts|ends|end_nowaits|end_cancels|section_nexts|sections_ends|sections_end_nowaits|sections_end_cancels|singles|single_copys|ordered_ends|barriers|region_ends|lock_inits|nest_inits|task_ends|groups|group_ends|resumes|stops")) ≡ each_bad 20 UnknownWord
 unfolding plain_step loop_step sections_step copy_end_step ordered_step team_of
 calls_lengthened = refl
 
 -- and with a capital
-pub calls_in_capitals : steps_said (calls (codes "Next|End|End_nowait|Section_next|Sections_end|Sections_end_nowait|Single|Single_copy|Ordered_end|Barrier|Region_end|Lock_init|Nest_init|Task_end|Group|Group_end|Resume|Stop")) ≡ each_bad 18 UnknownWord
+pub calls_in_capitals : steps_said (calls (codes "Next|End|End_nowait|End_cancel|Section_next|Sections_end|Sections_end_nowait|Sections_end_cancel|Single|Single_copy|Ordered_end|Barrier|Region_end|Lock_init|Nest_init|Task_end|Group|Group_end|Resume|Stop")) ≡ each_bad 20 UnknownWord
 unfolding plain_step loop_step sections_step copy_end_step ordered_step team_of
 calls_in_capitals = refl
 
@@ -46,12 +47,12 @@ unfolding plain_step loop_step sections_step copy_end_step ordered_step team_of
 other_schedules = refl
 
 -- what stands at the end of a loop, and an ordered one
-pub ends_of_loops : steps_said (parts (codes "0 loop static 0 0 4 1 nowait|0 loop static 0 0 4 1 nowait ordered|0 loop static 0 0 4 1 wait ordered")) ≡ map (λ loop. by_first (LoopStart loop)) (loop_of_four Static Nowait false ∷ loop_of_four Static Nowait true ∷ loop_of_four Static Wait true ∷ [])
+pub ends_of_loops : steps_said (parts (codes "0 loop static 0 0 4 1 nowait|0 loop static 0 0 4 1 nowait ordered|0 loop static 0 0 4 1 wait ordered|0 loop static 0 0 4 1 cancellable|0 loop static 0 0 4 1 cancellable ordered")) ≡ map (λ loop. by_first (LoopStart loop)) (loop_of_four Static Nowait false ∷ loop_of_four Static Nowait true ∷ loop_of_four Static Wait true ∷ loop_of_four Static Cancellable false ∷ loop_of_four Static Cancellable true ∷ [])
 unfolding plain_step loop_step sections_step copy_end_step ordered_step team_of
 ends_of_loops = refl
 
 -- other words are no end
-pub other_ends : steps_said (parts (codes "0 loop static 0 0 4 1 Wait|0 loop static 0 0 4 1 no|0 loop static 0 0 4 1 waits|0 loop static 0 0 4 1 nowai|0 sections 4 Nowait|0 sections 4 ordered")) ≡ each_bad 6 UnknownWord
+pub other_ends : steps_said (parts (codes "0 loop static 0 0 4 1 Wait|0 loop static 0 0 4 1 no|0 loop static 0 0 4 1 waits|0 loop static 0 0 4 1 nowai|0 loop static 0 0 4 1 cancellabl|0 loop static 0 0 4 1 cancellables|0 loop static 0 0 4 1 Cancellable|0 sections 4 Nowait|0 sections 4 cancel|0 sections 4 ordered")) ≡ each_bad 10 UnknownWord
 unfolding plain_step loop_step sections_step copy_end_step ordered_step team_of
 other_ends = refl
 
@@ -96,7 +97,7 @@ unfolding plain_step loop_step sections_step copy_end_step ordered_step team_of
 word_too_many = refl
 
 -- sections, up to the largest count of their type
-pub sections_said : steps_said (parts (codes "0 sections 0 wait|0 sections 4294967295 nowait")) ≡ map by_first (SectionsStart 0 Wait ∷ SectionsStart 4294967295 Nowait ∷ [])
+pub sections_said : steps_said (parts (codes "0 sections 0 wait|0 sections 4294967295 nowait|0 sections 4 cancellable")) ≡ map by_first (SectionsStart 0 Wait ∷ SectionsStart 4294967295 Nowait ∷ SectionsStart 4 Cancellable ∷ [])
 unfolding plain_step loop_step sections_step copy_end_step ordered_step team_of
 sections_said = refl
 
@@ -154,6 +155,46 @@ bad_members_that_hold = refl
 pub more_than_a_lock : steps_said (calls (codes "critical a b|critical_end a b c|lock_init 0|nest_init 0|lock_destroy 0 1|set 0 1|test 0 1|unset 0 1|set_nest 0 1|test_nest 0 1|unset_nest 0 1")) ≡ each_bad 11 ExtraWord
 unfolding plain_step critical_step critical_end_step lock_step
 more_than_a_lock = refl
+
+-- a cancellation of each kind, with an `if` clause that is false and one that is true
+pub cancels_said : steps_said (calls (codes "cancel parallel 0|cancel parallel 1|cancel loop 0|cancel loop 1|cancel sections 0|cancel sections 1|cancel taskgroup 0|cancel taskgroup 1")) ≡ map by_first (Cancel Parallel false ∷ Cancel Parallel true ∷ Cancel Loop false ∷ Cancel Loop true ∷ Cancel Sections false ∷ Cancel Sections true ∷ Cancel Taskgroup false ∷ Cancel Taskgroup true ∷ [])
+unfolding plain_step cancel_step point_step
+cancels_said = refl
+
+-- a cancellation point of each kind
+pub points_said : steps_said (calls (codes "point parallel|point loop|point sections|point taskgroup")) ≡ map (λ kind. by_first (Point kind)) (Parallel ∷ Loop ∷ Sections ∷ Taskgroup ∷ [])
+unfolding plain_step cancel_step point_step
+points_said = refl
+
+-- both calls and each kind with a letter too few, with one too many and with a capital, and words of other lists
+pub cancels_miswritten : steps_said (calls (codes "cance loop 1|cancels loop 1|Cancel loop 1|poin loop|points loop|Point loop|cancel paralle 1|cancel loo 1|cancel section 1|cancel taskgrou 1|point parallels|point loops|point sectionss|point taskgroups|cancel Parallel 1|point Loop|cancel Sections 1|point Taskgroup|cancel for 1|point group|cancel 1 loop|point 1|cancel wait 1|point static")) ≡ each_bad 24 UnknownWord
+unfolding plain_step cancel_step point_step
+cancels_miswritten = refl
+
+-- an `if` clause is the word 0 or 1, and no other way to write a number
+pub other_clauses : steps_said (calls (codes "cancel loop 2|cancel loop 00|cancel loop 01|cancel loop -0|cancel loop +1|cancel loop 10|cancel loop yes|cancel loop true|cancel loop if0|cancel loop loop")) ≡ each_bad 10 UnknownWord
+unfolding plain_step cancel_step point_step
+other_clauses = refl
+
+-- the unknown word comes before a missing clause, a bad number of the member and a word too many
+pub unknown_cancels_first : steps_said (parts (codes "0 cancel foo|x cancel foo|x cancel foo 1|x cancel loop foo|0 cancel loop foo 1|x point foo|0 point foo loop|x point foo loop")) ≡ each_bad 8 UnknownWord
+unfolding plain_step cancel_step point_step
+unknown_cancels_first = refl
+
+-- a kind or a clause is missing, before a bad number of the member
+pub cancel_missing : steps_said (parts (codes "0 cancel|0 point|x cancel|x point|0 cancel parallel|0 cancel loop|0 cancel sections|x cancel taskgroup")) ≡ each_bad 8 MissingWord
+unfolding plain_step cancel_step point_step
+cancel_missing = refl
+
+-- a bad number of the member comes before a word too many
+pub bad_members_that_cancel : steps_said (parts (codes "x cancel loop 1|65536 cancel parallel 0|-1 point loop|x point taskgroup|x cancel sections 1 1|x point parallel 1|x end_cancel|x sections_end_cancel 1")) ≡ each_bad 8 BadNumber
+unfolding plain_step cancel_step point_step
+bad_members_that_cancel = refl
+
+-- a word too many; a cancellation point has no clause
+pub more_than_a_cancel : steps_said (calls (codes "cancel loop 1 1|cancel parallel 0 loop|cancel taskgroup 1 foo|point loop 1|point parallel 0|point sections sections|point taskgroup foo|end_cancel 1|sections_end_cancel loop")) ≡ each_bad 9 ExtraWord
+unfolding plain_step cancel_step point_step
+more_than_a_cancel = refl
 
 -- a task, by its code and its argument, up to the largest numbers of their types
 pub tasks_said : steps_said (calls (codes "task 7 5|task 0 18446744073709551615|task 18446744073709551615 0|task 007 00")) ≡ map (λ task. by_first (TaskCreate task)) (task_of 7 5 ∷ task_of 0 18446744073709551615 ∷ task_of 18446744073709551615 0 ∷ task_of 7 0 ∷ [])

@@ -1,11 +1,12 @@
 -- What the lines of a talk ask for, computed, before and after a team stands. (own)
 use Rattle.std.proofs.Common.{◌≡◌, true, false, [], ◌∷◌, Some, None, Ok, Err, codes, refl}
 use Rattle.std.specs.Prelude.{map}
-use Rattle.gomp_types.specs.declared.call.Call.TheVariants.{Barrier, UnsetNest, TaskCreate, Taskwait}
+use Rattle.gomp_types.specs.declared.call.Call.TheVariants.{Barrier, Cancel, Point, UnsetNest, TaskCreate, Taskwait}
+use Rattle.gomp_types.specs.declared.cancel.CancelKind.TheVariants.{Taskgroup}
 use Rattle.gomp_types.specs.declared.depend.DepKind.TheVariants.{DepIn, DepOut}
 use Rattle.gomp_script.specs.declared.live.LiveLine.TheVariants.{NewTeam, NextStep}
 use Rattle.gomp_script.specs.declared.parse.Why.TheVariants.{FirstLine, UnknownWord, MissingWord, BadNumber, ExtraWord}
-use Rattle.gomp_script.specs.StepText.{plain_step, loop_step, sections_step, copy_end_step, ordered_step, lock_step, task_step, taskwait_step, team_of}
+use Rattle.gomp_script.specs.StepText.{plain_step, loop_step, sections_step, copy_end_step, ordered_step, cancel_step, point_step, lock_step, task_step, taskwait_step, team_of}
 use Rattle.gomp_script.specs.LiveText.{LiveHasItems, read_live_line}
 use Rattle.gomp_script.specs.Examples.{parts, task_of, task_with, item_of}
 
@@ -23,6 +24,11 @@ steps_asked = (refl, refl)
 pub lock_asked : read_live_line true (codes "3 unset_nest 7") ≡ Ok (Some (NextStep (record { member = 3; call = UnsetNest 7 })))
 unfolding lock_step
 lock_asked = refl
+
+-- a cancellation, a point of one, and one without its clause
+pub cancel_asked : map (read_live_line true) (parts (codes "3 cancel taskgroup 0|3 point taskgroup|3 cancel taskgroup")) ≡ Ok (Some (NextStep (record { member = 3; call = Cancel Taskgroup false }))) ∷ Ok (Some (NextStep (record { member = 3; call = Point Taskgroup }))) ∷ Err MissingWord ∷ []
+unfolding cancel_step point_step
+cancel_asked = refl
 
 -- a step on tasks
 pub task_asked : read_live_line true (codes "3 task 7 5") ≡ Ok (Some (NextStep (record { member = 3; call = TaskCreate (task_of 7 5) })))

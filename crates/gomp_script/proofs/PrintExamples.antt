@@ -2,8 +2,8 @@
 use Rattle.std.proofs.Common.{◌≡◌, pos, negsuc, true, false, [], ◌∷◌, codes, refl}
 use Rattle.std.specs.Fmt.{digits}
 use Rattle.gomp_types.specs.declared.refusal.Place.TheVariants.{Share}
-use Rattle.gomp_types.specs.declared.refusal.Refusal.TheVariants.{Broken, TooManyDepends, Mismatch, BadTeam}
-use Rattle.gomp_types.specs.declared.reply.Reply.TheVariants.{Chunk, NoChunk, Section, Executor, Copied, Finished, Passed, Wait, Created, Run, TaskDone, Lock, Got, Count, Stopped, Refused}
+use Rattle.gomp_types.specs.declared.refusal.Refusal.TheVariants.{Broken, Leaving, OrderedLoop, NotCancellable, TooManyDepends, Mismatch, BadTeam}
+use Rattle.gomp_types.specs.declared.reply.Reply.TheVariants.{Chunk, NoChunk, Section, Executor, Copied, Finished, Passed, Cancelled, Wait, Created, Dropped, Cancelling, Run, TaskDone, Lock, Got, Count, Stopped, Refused}
 use Rattle.gomp_script.specs.declared.parse.Why.TheVariants.{NotAscii, FirstLine, UnknownWord, MissingWord, BadNumber, ExtraWord}
 use Rattle.gomp_script.specs.Printing.{reply_text, reply_line, refusal_line, bad_line_text}
 
@@ -97,6 +97,21 @@ pub passed_printed : reply_text Passed ≡ codes "passed"
 unfolding digits
 passed_printed = refl
 
+-- a region that is cancelled, which the member leaves
+pub cancelled_printed : reply_text Cancelled ≡ codes "cancelled"
+unfolding digits
+cancelled_printed = refl
+
+-- whether what is named is cancelled
+pub cancelling_printed : (reply_text (Cancelling true) ≡ codes "cancel yes") × (reply_text (Cancelling false) ≡ codes "cancel no")
+unfolding digits
+cancelling_printed = (refl, refl)
+
+-- a task that was not created, or was discarded
+pub dropped_printed : reply_text Dropped ≡ codes "dropped"
+unfolding digits
+dropped_printed = refl
+
 -- a wait
 pub wait_printed : reply_text Wait ≡ codes "wait"
 unfolding digits
@@ -116,6 +131,11 @@ refused_printed = refl
 pub too_many_items_printed : reply_text (Refused TooManyDepends) ≡ codes "refused E28 TooManyDepends"
 unfolding digits
 too_many_items_printed = refl
+
+-- those of cancellation
+pub refused_cancels_printed : (reply_text (Refused Leaving) ≡ codes "refused E5 Leaving") × (reply_text (Refused OrderedLoop) ≡ codes "refused E16 OrderedLoop") × (reply_text (Refused NotCancellable) ≡ codes "refused E23 NotCancellable")
+unfolding digits
+refused_cancels_printed = (refl, refl, refl)
 
 -- one that tells where the team broke
 pub broken_printed : reply_text (Refused (Broken (record { member = 7; place = Share 255 }))) ≡ codes "refused E3 Broken 7 share 255"

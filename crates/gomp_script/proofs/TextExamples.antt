@@ -1,12 +1,13 @@
 -- What texts say, computed, and which line of them is bad. (own)
-use Rattle.std.proofs.Common.{◌≡◌, ℕ, [], ◌∷◌, ◌++◌, Some, None, Result, Ok, Err, codes, refl, ap, sym, arith}
-use Rattle.gomp_types.specs.declared.call.Call.TheVariants.{Barrier, CriticalStart, CriticalEnd, LockInit, Set, TaskCreate, Taskwait}
+use Rattle.std.proofs.Common.{◌≡◌, ℕ, true, [], ◌∷◌, ◌++◌, Some, None, Result, Ok, Err, codes, refl, ap, sym, arith}
+use Rattle.gomp_types.specs.declared.call.Call.TheVariants.{Barrier, Cancel, Point, CriticalStart, CriticalEnd, LockInit, Set, TaskCreate, Taskwait}
+use Rattle.gomp_types.specs.declared.cancel.CancelKind.TheVariants.{Parallel}
 use Rattle.gomp_types.specs.declared.depend.DepKind.TheVariants.{DepIn, DepOut}
 use Rattle.gomp_script.specs.declared.parse.BadLine.{BadLine}
 use Rattle.gomp_script.specs.declared.parse.LineError.TheVariants.{NoMemory, Fault}
 use Rattle.gomp_script.specs.declared.parse.Why.TheVariants.{NotAscii, FirstLine, UnknownWord, MissingWord, BadNumber, ExtraWord}
 use Rattle.gomp_script.specs.declared.parse.ParseError.TheVariants.{Memory, Bad}
-use Rattle.gomp_script.specs.StepText.{steps_of, steps_from, text_from, bad_line, lines_left, steps_kept, fault_in, Gives, HasItems, HasStep, LineHasItems, Reads, TeamHasStep, refused_by, plain_step, loop_step, sections_step, copy_end_step, ordered_step, critical_step, critical_end_step, lock_step, task_step, taskwait_step, team_of}
+use Rattle.gomp_script.specs.StepText.{steps_of, steps_from, text_from, bad_line, lines_left, steps_kept, fault_in, Gives, HasItems, HasStep, LineHasItems, Reads, TeamHasStep, refused_by, plain_step, loop_step, sections_step, copy_end_step, ordered_step, critical_step, critical_end_step, cancel_step, point_step, lock_step, task_step, taskwait_step, team_of}
 use Rattle.gomp_script.specs.Examples.{IsBad, item_of, next_step, second_line, task_of, task_with}
 
 -- a text of two steps
@@ -43,6 +44,16 @@ text_of_items = refl
 pub bad_line_of_items : IsBad 3 MissingWord (codes "team 1\n0 task 7 5 out 100\n0 taskwait in\n0 task x 5\n")
 unfolding task_step taskwait_step team_of
 bad_line_of_items = refl
+
+-- a text of a cancellation
+pub text_of_a_cancel : steps_of (codes "team 2\n0 cancel parallel 1\n1 point parallel\n") ≡ Ok (2, record { member = 0; call = Cancel Parallel true } ∷ record { member = 1; call = Point Parallel } ∷ [])
+unfolding plain_step cancel_step point_step team_of
+text_of_a_cancel = refl
+
+-- a line of one is bad
+pub bad_line_of_a_cancel : IsBad 3 UnknownWord (codes "team 2\n0 point loop\n1 cancel loop 2\n0 point\n")
+unfolding plain_step cancel_step point_step team_of
+bad_line_of_a_cancel = refl
 
 -- a text may have no step
 pub no_step : steps_of (codes "team 2\n# none\n\n") ≡ Ok (2, [])

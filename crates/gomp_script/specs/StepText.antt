@@ -3,15 +3,17 @@ use Rattle.std.specs.Prelude.{ℕ, ℤ, ◌≡◌, ◌≢◌, ◌+◌, ◌++◌,
 use Rattle.std.specs.Borrow.{Bor}
 use Rattle.std.specs.Option.{option_map_or, option_or}
 use Rattle.gomp_types.specs.declared.call.Call.{Call}
-use Rattle.gomp_types.specs.declared.call.Call.TheVariants.{LoopStart, LoopNext, LoopEnd, LoopEndNowait, SectionsStart, SectionsNext, SectionsEnd, SectionsEndNowait, SingleStart, SingleCopyStart, SingleCopyEnd, OrderedStart, OrderedEnd, Barrier, RegionEnd, CriticalStart, CriticalEnd, LockInit, NestInit, LockDestroy, Set, Test, Unset, SetNest, TestNest, UnsetNest, TaskCreate, TaskEnd, Taskwait, GroupStart, GroupEnd, Resume, Stop}
+use Rattle.gomp_types.specs.declared.call.Call.TheVariants.{LoopStart, LoopNext, LoopEnd, LoopEndNowait, LoopEndCancel, SectionsStart, SectionsNext, SectionsEnd, SectionsEndNowait, SectionsEndCancel, SingleStart, SingleCopyStart, SingleCopyEnd, OrderedStart, OrderedEnd, Barrier, RegionEnd, CriticalStart, CriticalEnd, LockInit, NestInit, LockDestroy, Set, Test, Unset, SetNest, TestNest, UnsetNest, TaskCreate, TaskEnd, Taskwait, GroupStart, GroupEnd, Cancel, Point, Resume, Stop}
 use Rattle.gomp_types.specs.declared.call.Step.{Step}
+use Rattle.gomp_types.specs.declared.cancel.CancelKind.{CancelKind}
+use Rattle.gomp_types.specs.declared.cancel.CancelKind.TheVariants.{Parallel, Loop, Sections, Taskgroup}
 use Rattle.gomp_types.specs.declared.depend.Dep.{Dep}
 use Rattle.gomp_types.specs.declared.depend.DepKind.{DepKind}
 use Rattle.gomp_types.specs.declared.depend.DepKind.TheVariants.{DepIn, DepOut, DepInout, DepInoutset, DepMutex}
 use Rattle.gomp_types.specs.declared.loop_desc.Sched.{Sched}
 use Rattle.gomp_types.specs.declared.loop_desc.Sched.TheVariants.{Static, Dynamic, Guided, Runtime}
 use Rattle.gomp_types.specs.declared.loop_desc.EndKind.{EndKind}
-use Rattle.gomp_types.specs.declared.loop_desc.EndKind.TheVariants.{Wait, Nowait}
+use Rattle.gomp_types.specs.declared.loop_desc.EndKind.TheVariants.{Wait, Nowait, Cancellable}
 use Rattle.gomp_types.specs.declared.critical_name.TheConstants.{KEPT_BYTES}
 use Rattle.gomp_types.specs.declared.payload.TheConstants.{MAX_WORDS}
 use Rattle.gomp_types.specs.Limits.{shown_number}
@@ -82,7 +84,27 @@ sched_of word =
     else None
 
 abbrev pub end_of : List ℕ → Option EndKind
-end_of word = if same_word word (codes "wait") then Some Wait else if same_word word (codes "nowait") then Some Nowait else None
+end_of word =
+    if same_word word (codes "wait") then Some Wait
+    else if same_word word (codes "nowait") then Some Nowait
+    else if same_word word (codes "cancellable") then Some Cancellable
+    else None
+
+-- what a construct of cancellation names
+abbrev pub cancel_kind_of : List ℕ → Option CancelKind
+cancel_kind_of word =
+    if same_word word (codes "parallel") then Some Parallel
+    else if same_word word (codes "loop") then Some Loop
+    else if same_word word (codes "sections") then Some Sections
+    else if same_word word (codes "taskgroup") then Some Taskgroup
+    else None
+
+-- an `if` clause, false or true
+abbrev pub clause_of : List ℕ → Option Bool
+clause_of word =
+    if same_word word (codes "0") then Some false
+    else if same_word word (codes "1") then Some true
+    else None
 
 -- the calls of a work-share that stand alone
 abbrev pub share_call_of : List ℕ → Option Call
@@ -90,9 +112,11 @@ share_call_of word =
     if same_word word (codes "next") then Some LoopNext
     else if same_word word (codes "end") then Some LoopEnd
     else if same_word word (codes "end_nowait") then Some LoopEndNowait
+    else if same_word word (codes "end_cancel") then Some LoopEndCancel
     else if same_word word (codes "section_next") then Some SectionsNext
     else if same_word word (codes "sections_end") then Some SectionsEnd
     else if same_word word (codes "sections_end_nowait") then Some SectionsEndNowait
+    else if same_word word (codes "sections_end_cancel") then Some SectionsEndCancel
     else if same_word word (codes "single") then Some SingleStart
     else if same_word word (codes "single_copy") then Some SingleCopyStart
     else None
@@ -214,6 +238,26 @@ critical_end_step member words = do
   name ← critical_name_of words
   Ok (record { member = number; call = CriticalEnd name })
 
+-- `MEMBER cancel CANCEL 0|1`. OpenMP API 5.2, section 16.1.
+unfoldable pub cancel_step : List ℕ → List (List ℕ) → Result Step Why
+cancel_step member words = do
+  named ← next_word words
+  kind ← or_why UnknownWord (cancel_kind_of named.0)
+  truth ← next_word named.1
+  clause ← or_why UnknownWord (clause_of truth.0)
+  number ← member_of member
+  done ← no_more_words truth.1
+  Ok (record { member = number; call = Cancel kind clause })
+
+-- `MEMBER point CANCEL`. OpenMP API 5.2, section 16.2.
+unfoldable pub point_step : List ℕ → List (List ℕ) → Result Step Why
+point_step member words = do
+  named ← next_word words
+  kind ← or_why UnknownWord (cancel_kind_of named.0)
+  number ← member_of member
+  done ← no_more_words named.1
+  Ok (record { member = number; call = Point kind })
+
 -- the calls on a lock, each a call once the lock's number is read
 abbrev pub lock_call_of : List ℕ → Option (ℕ → Call)
 lock_call_of word =
@@ -320,6 +364,8 @@ other_step member call words =
     else if same_word call (codes "ordered") then ordered_step member words
     else if same_word call (codes "critical") then critical_step member words
     else if same_word call (codes "critical_end") then critical_end_step member words
+    else if same_word call (codes "cancel") then cancel_step member words
+    else if same_word call (codes "point") then point_step member words
     else option_map_or (λ lock_call. lock_step lock_call member words) (lock_call_of call) (plain_step member call words)
 
 -- the step of a member, by the word of its call and those that follow

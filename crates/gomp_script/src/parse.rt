@@ -6,6 +6,7 @@ ghost use Rattle.gomp_script.specs.declared.parse.LineError.TheVariants.{NoMemor
 ghost use Rattle.gomp_script.specs.declared.parse.ParseError.TheVariants.{Memory};
 ghost use Rattle.gomp_script.specs.StepText.{IsFirstOfLine, call_step, other_step, step_of, team_of, read_line, steps_left, steps_of, steps_kept, begins_comment, fault_in, Gives, HasItems, HasStep, LineHasItems, Reads, TeamHasStep, refused_by};
 
+mod cancel;
 mod critical;
 mod items;
 mod locks;
@@ -17,6 +18,7 @@ mod sections;
 mod task;
 mod words;
 
+use cancel::{cancel_step, point_step};
 use critical::{critical_end_step, critical_step};
 use gomp_text::{cut_at, is_ascii, is_word, next_word};
 use gomp_types::Step;
@@ -325,6 +327,12 @@ fn other_step(member: &[u8], call: &[u8], rest: &[u8]) -> Result<Step, Why>
     }
     if is_word(call, b"critical_end") {
         return critical_end_step(member, rest);
+    }
+    if is_word(call, b"cancel") {
+        return cancel_step(member, rest);
+    }
+    if is_word(call, b"point") {
+        return point_step(member, rest);
     }
     match lock_call_of(call) {
         Some(lock_call) => lock_step(lock_call, member, rest),

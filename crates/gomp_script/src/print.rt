@@ -1,12 +1,26 @@
 //! How replies are printed.
 
 ghost use Rattle.std.specs.Prelude.{◌≡◌, ◌≢◌, ◌++◌, [], Some, string_bytes, IfOk, IfErr, OnOk, flat_map};
-ghost use Rattle.gomp_script.specs.Printing.{reply_text, reply_line, word_text, refusal_line, why_text, bad_line_text};
+ghost use Rattle.gomp_script.specs.Printing.{yes_text, waiting_text, reply_text, reply_line, word_text, refusal_line, why_text, bad_line_text};
 
 use crate::parse::{BadLine, Why};
 use gomp_types::{Refusal, Reply};
 use std::alloc::{AllocError, Global};
 use std::fmt;
+
+/// The word of a truth.
+fn yes_or_no(truth: bool) -> &'static str
+    ensures { result.now ≡ yes_text truth }
+{
+    if truth { "yes" } else { "no" }
+}
+
+/// The word that says whether the wait beneath a task is open again.
+fn waiting_or_free(waiting: bool) -> &'static str
+    ensures { result.now ≡ waiting_text waiting }
+{
+    if waiting { "waiting" } else { "free" }
+}
 
 /// A reply as it is printed, without the line feed.
 #[derive(Clone, Copy)]
@@ -20,13 +34,15 @@ impl fmt::Display for Printed<'_> {
             Reply::Chunk { first, count } => write!(f, "chunk {first} {count}"),
             Reply::NoChunk => write!(f, "none"),
             Reply::Section(number) => write!(f, "section {number}"),
-            Reply::Executor(true) => write!(f, "executor yes"),
-            Reply::Executor(false) => write!(f, "executor no"),
+            Reply::Executor(executes) => write!(f, "executor {}", yes_or_no(*executes)),
             Reply::Copied(payload) => write!(f, "copied{}", Words(payload.as_slice())),
             Reply::Finished => write!(f, "ok"),
             Reply::Passed => write!(f, "passed"),
+            Reply::Cancelled => write!(f, "cancelled"),
             Reply::Wait => write!(f, "wait"),
             Reply::Created(task) => write!(f, "created {task}"),
+            Reply::Dropped => write!(f, "dropped"),
+            Reply::Cancelling(cancelled) => write!(f, "cancel {}", yes_or_no(*cancelled)),
             Reply::Run {
                 task,
                 code,
@@ -39,17 +55,11 @@ impl fmt::Display for Printed<'_> {
                 arg,
                 own: true,
             } => write!(f, "run {task} {code} {arg} own"),
-            Reply::TaskDone {
-                task,
-                waiting: true,
-            } => write!(f, "task_done {task} waiting"),
-            Reply::TaskDone {
-                task,
-                waiting: false,
-            } => write!(f, "task_done {task} free"),
+            Reply::TaskDone { task, waiting } => {
+                write!(f, "task_done {task} {}", waiting_or_free(*waiting))
+            }
             Reply::Lock(number) => write!(f, "lock {number}"),
-            Reply::Got(true) => write!(f, "got yes"),
-            Reply::Got(false) => write!(f, "got no"),
+            Reply::Got(free) => write!(f, "got {}", yes_or_no(*free)),
             Reply::Count(count) => write!(f, "count {count}"),
             Reply::Stopped => write!(f, "stopped"),
             Reply::Refused(refusal) => write!(f, "refused {refusal}"),

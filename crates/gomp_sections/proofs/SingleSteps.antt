@@ -15,10 +15,11 @@ use Rattle.gomp_types.specs.Deals.{schedule, next_for}
 use Rattle.gomp_types.specs.Shapes.{is_copy, is_single}
 use Rattle.gomp_types.specs.Events.{shares_entered, open_share, in_kind, has_drained, last_piece}
 use Rattle.gomp_types.specs.Least.{least}
+use Rattle.gomp_types.specs.Cancels.{leaves_share}
 use Rattle.gomp_types.specs.Seen.{seen_of}
 use Rattle.gomp_shares.specs.Calls.{Claims, CanLeave, events_claimed, events_left, is_done, taken_of, was_taken}
 use Rattle.gomp_shares.specs.Singles.{DealsSingle, single_started, copy_started, is_executor, put_tests}
-use Rattle.gomp_types.proofs.Booleans.{same_number, not_false, and_left, and_right}
+use Rattle.gomp_types.proofs.Booleans.{or_left, same_number, not_false, and_left, and_right}
 use Rattle.gomp_types.proofs.LeastTests.{all_fail}
 use Rattle.gomp_shares.proofs.PartsKeep.{copy_away}
 use Rattle.gomp_sections.proofs.Tests.{claim_entered}
@@ -58,7 +59,7 @@ pub may_leave : (members m i : ℕ) (copies : Bool) (answer : Option Piece) (see
 may_leave members m i copies answer seen h e lt = record {
   member = lt;
   inside = rw e (inside answer);
-  done = rw e (done copies answer);
+  done = rw e (or_left _ _ (done copies answer));
   apart = rw e (apart answer);
 }
   where
@@ -132,6 +133,6 @@ copy_may_leave members m seen h lt e law none =
     record {
       member = lt;
       inside = rw e (in_some_share is_copy (open_share m h) copies);
-      done = rw e (done_or (has_drained m h) (in_kind is_single (open_share m h)) (is_some (last_piece m h)) (in_copy (open_share m h) copies) piece);
+      done = rw e (or_left _ (leaves_share m h) (done_or (has_drained m h) (in_kind is_single (open_share m h)) (is_some (last_piece m h)) (in_copy (open_share m h) copies) piece));
       apart = rw e (in_no_part m h law (copy_away (open_share m h) copies));
     }

@@ -23,6 +23,7 @@ pub mod sections;
 pub mod single;
 
 pub use sections::{
-    begin_sections, sections_end, sections_end_nowait, sections_next, sections_start, take_section,
+    begin_sections, sections_end, sections_end_cancel, sections_end_nowait, sections_next,
+    sections_start, take_section,
 };
 pub use single::{begin_copy, begin_single, single_copy_end, single_copy_start, single_start};

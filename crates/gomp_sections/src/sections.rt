@@ -5,13 +5,15 @@
 ghost use Rattle.std.specs.Prelude.{◌≡◌, ◌<◌, List, None};
 ghost use Rattle.std.specs.Option.{ForSome};
 ghost use Rattle.gomp_types.specs.declared.event.Event.{Event};
-ghost use Rattle.gomp_types.specs.declared.loop_desc.EndKind.TheVariants.{Wait as WaitEnd, Nowait};
+ghost use Rattle.gomp_types.specs.declared.loop_desc.EndKind.TheVariants.{Wait as WaitEnd, Nowait, Cancellable};
 ghost use Rattle.gomp_types.specs.Least.{least};
 ghost use Rattle.gomp_types.specs.declared.shape.ShareKind.TheVariants.{Sections};
+ghost use Rattle.gomp_shares.specs.declared.admission.Construct.TheVariants.{Sections as AnySections};
+ghost use Rattle.gomp_shares.specs.Admission.{all_end_tests};
 ghost use Rattle.gomp_shares.specs.Calls.{CanOpen};
-ghost use Rattle.gomp_shares.specs.Serves.{Leaves, Serves};
+ghost use Rattle.gomp_shares.specs.Serves.{Ends, Serves};
 ghost use Rattle.gomp_shares.specs.Starts.{AnswersBegin, left_at_once};
-ghost use Rattle.gomp_shares.specs.Sections.{AnswersSectionsStart, DealsSections, TakesSection, sections_begun, sections_started, AnswersSectionsNext, section_next_taken, section_next_tests, AnswersSectionsEnd, sections_end_tests};
+ghost use Rattle.gomp_shares.specs.Sections.{AnswersSectionsStart, DealsSections, TakesSection, sections_begun, sections_started, AnswersSectionsNext, section_next_taken, section_next_tests, AnswersSectionsEnd};
 ghost use Rattle.gomp_sections.specs.Answers.{section_of};
 
 use crate::admission::admit_start;
@@ -101,10 +103,24 @@ pub fn take_section<S: Shares>(shares: &mut S, member: u16) -> Reply
 pub fn sections_end<S: Shares>(shares: &mut S, member: u16) -> Result<(), Refusal>
     requires member { member < S.members shares.old }
     ensures members { S.members shares.new ≡ S.members shares.old }
-    ensures leaves { Leaves S.stands shares.old shares.new result
-        (sections_end_tests WaitEnd) member }
+    ensures ends { Ends S.stands shares.old shares.new result
+        (all_end_tests AnySections WaitEnd) member }
 {
     end_construct(shares, member, Construct::Sections, EndKind::Wait)
+}
+
+/// Leaves the member's sections, which may be cancelled, and at the end of which a barrier stands, as
+/// [`sections_end`] does (OpenMP API 5.2, section 16.1; libgomp's `GOMP_sections_end_cancel`).
+///
+/// Refused as [`sections_end`] is, but that `NotDrained` does not come if the construct is cancelled:
+/// then the member sees that.
+pub fn sections_end_cancel<S: Shares>(shares: &mut S, member: u16) -> Result<(), Refusal>
+    requires member { member < S.members shares.old }
+    ensures members { S.members shares.new ≡ S.members shares.old }
+    ensures ends { Ends S.stands shares.old shares.new result
+        (all_end_tests AnySections Cancellable) member }
+{
+    end_construct(shares, member, Construct::Sections, EndKind::Cancellable)
 }
 
 /// Leaves the member's sections, which have no barrier at their end.

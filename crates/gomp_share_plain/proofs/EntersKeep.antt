@@ -1,5 +1,5 @@
 -- A member that enters a share, which it opens if nobody else has, keeps the plain shares in step with the events.
-use Rattle.std.proofs.Common.{◌≡◌, ◌≢◌, ℕ, ◌+◌, ◌%◌, ◌<◌, ◌≤◌, nat_lt, List, ◌∷◌, length, slice_get, slice_set, Some, None, inl, inr, refl, ap, ◌∙◌, sym, subst, arith}
+use Rattle.std.proofs.Common.{◌≡◌, ◌≢◌, ℕ, ◌+◌, ◌%◌, ◌<◌, ◌≤◌, nat_lt, false, List, ◌∷◌, length, slice_get, slice_set, Some, None, inl, inr, refl, ap, ◌∙◌, sym, subst, arith}
 use Rattle.std.specs.Prelude.{Option}
 use Rattle.std.proofs.lemmas.Bool.Decides.{nat_tests, eqb_tells}
 use Rattle.std.proofs.lemmas.List.{length-set}
@@ -12,6 +12,7 @@ use Rattle.gomp_types.specs.Limits.{shown_number}
 use Rattle.gomp_chunks.specs.Spots.{CursorView}
 use Rattle.gomp_types.proofs.Booleans.{same_number, share_is}
 use Rattle.gomp_types.proofs.Lists.{slice_get-set, slice_get-set_same, slice_get-set_other}
+use Rattle.gomp_types.specs.Cancels.{share_cancelled}
 use Rattle.gomp_types.specs.Seen.{seen_of}
 use Rattle.gomp_shares.specs.declared.Opening.TheVariants.{Entered}
 use Rattle.gomp_shares.specs.Calls.{CanOpen, MayOpen, taken_of}
@@ -48,6 +49,7 @@ entered_again i m shape h here = record {
   ];
   taken = λ queue_of j q. refl;
   turn = λ j. refl;
+  cancelled = λ j. refl;
 }
 
 -- a member enters a share that another opened
@@ -70,7 +72,7 @@ entering_stands members seats opened places h m seat shape st at can may before 
 pub opening_stands : (members : ℕ) (seats : List Seat) (count : ℕ) (places : List (Option OpenShare)) (h : List Event) (m : ℕ) (seat : Seat) (shape : Shape) (cursor : CursorView) → cursor.plan ≡ record { members = members; shape = shape } →
     StandsFor members seats count places h → slice_get seats m ≡ Some seat → CanOpen members m shape (seen_of m h) → MayOpen members m shape Entered h → seat.seen.entered ≡ count →
     ((k : ℕ) (other : Seat) → slice_get seats k ≡ Some other → count < ended_of other + OPEN_SHARES) →
-    StandsFor members (slice_set seats m (seat_in_share count shape)) (count + 1) (slice_set places (count % OPEN_SHARES) (Some (record { shape = shape; taken = 0; turn = 0; cursor = cursor }))) (Enter (shares_entered m h) m shape ∷ h)
+    StandsFor members (slice_set seats m (seat_in_share count shape)) (count + 1) (slice_set places (count % OPEN_SHARES) (Some (record { shape = shape; taken = 0; turn = 0; cancelled = false; cursor = cursor }))) (Enter (shares_entered m h) m shape ∷ h)
 opening_stands members seats count places h m seat shape cursor plan st at can may now room =
     let s : SeatStands members m seat count h = st.seat m seat at in
     let number : seat.seen.entered ≡ shares_entered m h = seat_entered members m seat count h s in
@@ -93,17 +95,18 @@ opening_stands members seats count places h m seat shape cursor plan st at can m
       ];
       place = λ i low high. elim (eqb_tells i count) [
         | inl e ↦ record {
-          share = record { shape = shape; taken = 0; turn = 0; cursor = cursor };
+          share = record { shape = shape; taken = 0; turn = 0; cancelled = false; cursor = cursor };
           there = rw e.1 (slice_get-set_same places (count % OPEN_SHARES) _ within);
           shape = grind (arith, nat_tests, here, e.1);
           taken_is = let zero_taken = none.1 (λ k. 0) 0 in ap (λ n. shown_number (taken_of n h)) e.1 ∙ ap shown_number zero_taken;
           turn_is = ap (λ n. turn n h) e.1 ∙ none.2;
+          cancelled_is = ap (λ n. share_cancelled n h) e.1 ∙ none.3;
           cursor_is = plan;
           valid = can.valid;
         }
         | inr e ↦ place_same members i (slice_get places (i % OPEN_SHARES)) _ (Enter (shares_entered m h) m shape ∷ h) h (st.place i (omega (arith, e.1)) (omega arith))
-            (slice_get-set_other places (count % OPEN_SHARES) (i % OPEN_SHARES) _ (places_differ i count (omega (arith, e.1)) (omega arith))) (away i e.1) refl refl
+            (slice_get-set_other places (count % OPEN_SHARES) (i % OPEN_SHARES) _ (places_differ i count (omega (arith, e.1)) (omega arith))) (away i e.1) refl refl refl
       ];
-      beyond = λ i past. let b = st.beyond i (omega arith) in (away i (λ same. omega arith) ∙ b.0, b.1, b.2);
+      beyond = λ i past. let b = st.beyond i (omega arith) in (away i (λ same. omega arith) ∙ b.0, b.1, b.2, b.3);
       rule = (enter_rule members m shape h can may, st.rule);
     }

@@ -1,3 +1,4 @@
+pub mod CancelsKeep
 pub mod EntersKeep
 pub mod LeavesKeep
 pub mod PartsKeep

@@ -15,6 +15,7 @@ use Rattle.gomp_types.proofs.Booleans.{same_number}
 use Rattle.gomp_types.proofs.Lists.{slice_get-set_same, slice_get-set_other}
 use Rattle.gomp_shares.specs.Calls.{CanBeginPart, CanEndPart, CanHandOn, own_turn, number_in, taken_of}
 use Rattle.gomp_shares.proofs.AnswerRules.{part_rule, part_end_follows_the_rule, hand_on_rule, begins_inside, hands_inside}
+use Rattle.gomp_types.specs.Cancels.{share_cancelled}
 use Rattle.gomp_types.specs.Seen.{seen_of}
 use Rattle.gomp_types.specs.declared.seen.Seen.{Seen}
 use Rattle.gomp_share_plain.specs.declared.seat.Seat.{Seat}
@@ -80,7 +81,7 @@ part_start_stands members seats count places h m seat iteration st at can next =
     let s : SeatStands members m seat count h = st.seat m seat at in
     let own = seat_inside members m seat count h s (begins_inside members m iteration h can) in
     seat_steps members seats count places h (Part (open_number m h) m iteration) _ st
-    (record { shape = λ i. refl; taken = λ queue_of i q. refl; turn = λ i. refl })
+    (record { shape = λ i. refl; taken = λ queue_of i q. refl; turn = λ i. refl; cancelled = λ i. refl })
     (record {
       seen = rw (same_number m) (ap (λ (seen : Seen). record seen { next_part = iteration + 1; in_part = true }) s.seen);
       ended = s.ended;
@@ -101,7 +102,7 @@ pub part_end_stands : (members : ℕ) (seats : List Seat) (count : ℕ) (places 
 part_end_stands members seats count places h m seat st at can =
     let s : SeatStands members m seat count h = st.seat m seat at in
     seat_steps members seats count places h (PartEnd (open_number m h) m) _ st
-    (record { shape = λ i. refl; taken = λ queue_of i q. refl; turn = λ i. refl })
+    (record { shape = λ i. refl; taken = λ queue_of i q. refl; turn = λ i. refl; cancelled = λ i. refl })
     (record {
       seen = rw (same_number m) (ap (λ (seen : Seen). record seen { in_part = false }) s.seen);
       ended = s.ended;
@@ -151,15 +152,16 @@ hand_on_stands members seats count places h m seat share st at found can next is
           taken_is = ap (λ n. shown_number (taken_of n h)) e.1 ∙ taken;
           turn_is = subst (λ (n : ℕ). turn n (HandOn (open_number m h) m (number_in members (open_share m h) m h) ∷ h) ≡ seat.number + 1) (sym e.1)
               (rw here (turn_here (ended_of seat) m (number_in members (open_share m h) m h) h ∙ ap (λ (n : ℕ). n + 1) (before ∙ sym is)));
+          cancelled_is = ap (λ n. share_cancelled n h) e.1 ∙ (rw (← same) now.cancelled_is);
           cursor_is = rw (← same) now.cursor_is;
           valid = rw (← same) now.valid;
         }
         | inr e ↦
             let apart : (i % OPEN_SHARES) ≢ (ended_of seat % OPEN_SHARES) = places_apart i (ended_of seat) count e.1 (omega arith) (let k = s.known in omega arith) (omega arith) (let k = s.near in omega arith) in
             place_same members i (slice_get places (i % OPEN_SHARES)) _ (HandOn (open_number m h) m (number_in members (open_share m h) m h) ∷ h) h (st.place i low high)
-            (slice_get-set_other places (ended_of seat % OPEN_SHARES) (i % OPEN_SHARES) _ apart) refl refl (rw here (turn_else i (ended_of seat) m (number_in members (open_share m h) m h) h e.1))
+            (slice_get-set_other places (ended_of seat % OPEN_SHARES) (i % OPEN_SHARES) _ apart) refl refl (rw here (turn_else i (ended_of seat) m (number_in members (open_share m h) m h) h e.1)) refl
       ];
       beyond = λ i past. let b = st.beyond i past in
-          (b.0, b.1, rw here (turn_else i (ended_of seat) m (number_in members (open_share m h) m h) h (λ same. let k = s.known in omega arith) ∙ b.2));
+          (b.0, b.1, rw here (turn_else i (ended_of seat) m (number_in members (open_share m h) m h) h (λ same. let k = s.known in omega arith) ∙ b.2), b.3);
       rule = (hand_on_rule members m h can next, st.rule);
     }

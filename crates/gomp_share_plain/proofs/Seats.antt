@@ -7,7 +7,7 @@ use Rattle.std.proofs.lemmas.List.{length-set}
 use Rattle.gomp_types.specs.declared.limits.TheConstants.{OPEN_SHARES}
 use Rattle.gomp_types.specs.declared.shape.Shape.{Shape}
 use Rattle.gomp_types.specs.declared.event.Event.{Event}
-use Rattle.gomp_types.specs.declared.event.Event.TheVariants.{Enter, Take, Drained, End, Part, PartEnd}
+use Rattle.gomp_types.specs.declared.event.Event.TheVariants.{Enter, Take, Drained, End, Part, PartEnd, See}
 use Rattle.gomp_types.specs.Events.{open_share, open_number, share_number, shape_at, is_inside, member_of}
 use Rattle.gomp_types.specs.declared.seen.Seen.{Seen}
 use Rattle.gomp_types.proofs.Booleans.{some_of, none_of}
@@ -77,6 +77,7 @@ other_seat (Drained share m) k h other kept = record { seen = rw (number_is_anot
 other_seat (End share m) k h other kept = record { seen = rw (number_is_another k m other) refl; left = λ i. grind (arith, nat_tests, other); taken = λ i. refl; shape = kept }
 other_seat (Part share m iteration) k h other kept = record { seen = rw (number_is_another k m other) refl; left = λ i. refl; taken = λ i. refl; shape = kept }
 other_seat (PartEnd share m) k h other kept = record { seen = rw (number_is_another k m other) refl; left = λ i. refl; taken = λ i. refl; shape = kept }
+other_seat (See m kind) k h other kept = record { seen = rw (number_is_another k m other) refl; left = λ i. refl; taken = λ i. refl; shape = kept }
 other_seat _ k h other kept = record { seen = refl; left = λ i. refl; taken = λ i. refl; shape = kept }
 
 -- A step of a member

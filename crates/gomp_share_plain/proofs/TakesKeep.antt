@@ -14,6 +14,7 @@ use Rattle.gomp_types.specs.Limits.{shown_number}
 use Rattle.gomp_chunks.specs.Plans.{PlanView, next_piece, pieces}
 use Rattle.gomp_chunks.specs.Spots.{CursorView}
 use Rattle.gomp_types.proofs.Lists.{slice_get-set, slice_get-set_same, slice_get-set_other}
+use Rattle.gomp_types.specs.Cancels.{share_cancelled}
 use Rattle.gomp_types.specs.Seen.{seen_of}
 use Rattle.gomp_types.specs.declared.seen.Seen.{Seen}
 use Rattle.gomp_types.proofs.Booleans.{same_number}
@@ -104,18 +105,20 @@ claim_stands members seats count places h m seat share number piece cursor plan 
               subst (λ (n : ℕ). shown_number (taken_of n (Take (open_number m h) m piece.0 piece.1 ∷ h)) ≡ shown_number (share.taken + 1)) (sym e.1)
               (rw here (ap shown_number (taken_here (ended_of seat) m piece.0 piece.1 h) ∙ shown_more (taken_of (ended_of seat) h) ∙ ap (λ (n : ℕ). shown_number (n + 1)) before));
           turn_is = ap (λ n. turn n h) e.1 ∙ (rw (← same) now.turn_is);
+          cancelled_is = ap (λ n. share_cancelled n h) e.1 ∙ (rw (← same) now.cancelled_is);
           cursor_is = plan ∙ (rw (← same) now.cursor_is);
           valid = rw (← same) now.valid;
         }
         | inr e ↦
             let apart : (i % OPEN_SHARES) ≢ (ended_of seat % OPEN_SHARES) = places_apart i (ended_of seat) count e.1 (omega arith) (let k = s.known in omega arith) (omega arith) (let k = s.near in omega arith) in
             place_same members i (slice_get places (i % OPEN_SHARES)) _ (Take (open_number m h) m piece.0 piece.1 ∷ h) h (st.place i low high)
-            (slice_get-set_other places (ended_of seat % OPEN_SHARES) (i % OPEN_SHARES) _ apart) refl (taken_else (λ k. 0) 0 i (open_number m h) m piece.0 piece.1 h (away i e.1)) refl
+            (slice_get-set_other places (ended_of seat % OPEN_SHARES) (i % OPEN_SHARES) _ apart) refl (taken_else (λ k. 0) 0 i (open_number m h) m piece.0 piece.1 h (away i e.1)) refl refl
       ];
       beyond = λ i past. let b = st.beyond i past in (
         b.0,
         λ queue_of q. taken_else queue_of q i (open_number m h) m piece.0 piece.1 h (away i (λ same. let k = s.known in omega arith)) ∙ b.1 queue_of q,
         b.2,
+        b.3,
       );
       rule = (take_rule members m piece h can may, st.rule);
     }
@@ -127,7 +130,7 @@ pub drained_stands : (members : ℕ) (seats : List Seat) (count : ℕ) (places :
 drained_stands members seats count places h m seat st at can may =
     let s : SeatStands members m seat count h = st.seat m seat at in
     seat_steps members seats count places h (Drained (open_number m h) m) _ st
-    (record { shape = λ i. refl; taken = λ queue_of i q. refl; turn = λ i. refl })
+    (record { shape = λ i. refl; taken = λ queue_of i q. refl; turn = λ i. refl; cancelled = λ i. refl })
     (record {
       seen = rw (same_number m) (ap (λ (seen : Seen). record seen { drained = true; piece = None }) s.seen);
       ended = s.ended;

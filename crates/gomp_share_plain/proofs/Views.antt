@@ -46,6 +46,6 @@ new_shares_stand seats n small e = record {
         near = omega arith;
       });
   place = λ i low high. absurd (omega arith);
-  beyond = λ i past. (refl, (λ queue_of q. refl), refl);
+  beyond = λ i past. (refl, (λ queue_of q. refl), refl, refl);
   rule = tt;
 }

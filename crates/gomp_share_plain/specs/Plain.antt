@@ -5,6 +5,7 @@ use Rattle.gomp_types.specs.declared.event.Event.{Event}
 use Rattle.gomp_types.specs.Values.{IsShape}
 use Rattle.gomp_types.specs.Pieces.{Piece, pieces_of}
 use Rattle.gomp_types.specs.Events.{has_ended, turn, shape_at}
+use Rattle.gomp_types.specs.Cancels.{share_cancelled}
 use Rattle.gomp_types.specs.Seen.{seen_of}
 use Rattle.gomp_types.specs.Limits.{shown_number}
 use Rattle.gomp_types.specs.declared.limits.TheConstants.{OPEN_SHARES}
@@ -25,7 +26,7 @@ pub record PlainView : Type 0 where
 -- the seat of a member that has entered no share
 abbrev pub new_seat : Seat
 new_seat = record {
-  seen = record { entered = 0; current = None; drained = false; piece = None; next_part = 0; in_part = false };
+  seen = record { entered = 0; current = None; drained = false; piece = None; next_part = 0; in_part = false; leaving = false };
   taken = 0;
   number = 0;
 }
@@ -33,7 +34,7 @@ new_seat = record {
 -- the seat of a member that has just entered the share of this number, in this shape
 abbrev pub seat_in_share : ℕ → Shape → Seat
 seat_in_share number shape = record {
-  seen = record { entered = number + 1; current = Some (number, shape); drained = false; piece = None; next_part = 0; in_part = false };
+  seen = record { entered = number + 1; current = Some (number, shape); drained = false; piece = None; next_part = 0; in_part = false; leaving = false };
   taken = 0;
   number = 0;
 }
@@ -67,19 +68,20 @@ pub record SeatStands (members m : ℕ) (seat : Seat) (opened : ℕ) (h : List E
   pub known : seat.seen.entered ≤ opened
   pub near : opened ≤ ended_of seat + OPEN_SHARES
 
--- the place of a share has its shape, a cursor in its pieces, and how many of them were taken and handed on
+-- the place of a share has its shape, a cursor in its pieces, how many of them were taken and handed on, and whether it was cancelled
 pub record PlaceStands (members i : ℕ) (place : Option (Option OpenShare)) (h : List Event) : Type 0 where
   pub share : OpenShare
   pub there : place ≡ Some (Some share)
   pub shape : shape_at i h ≡ Some share.shape
   pub taken_is : shown_number (taken_of i h) ≡ share.taken
   pub turn_is : turn i h ≡ share.turn
+  pub cancelled_is : share_cancelled i h ≡ share.cancelled
   pub cursor_is : share.cursor.plan ≡ record { members = members; shape = share.shape }
   pub valid : IsShape share.shape
 
--- nobody entered the share, took a piece of it or handed one on
+-- nobody entered the share, took a piece of it, handed one on or cancelled it
 abbrev pub Untouched : ℕ → List Event → Type 0
-Untouched i h = (shape_at i h ≡ None) × ((queue_of : ℕ → ℕ) (q : ℕ) → taken_in queue_of i q h ≡ 0) × (turn i h ≡ 0)
+Untouched i h = (shape_at i h ≡ None) × ((queue_of : ℕ → ℕ) (q : ℕ) → taken_in queue_of i q h ≡ 0) × (turn i h ≡ 0) × (share_cancelled i h ≡ false)
 
 -- the seats and places stand for these events, which kept the rule
 pub record StandsFor (members : ℕ) (seats : List Seat) (opened : ℕ) (places : List (Option OpenShare)) (h : List Event) : Type 0 where

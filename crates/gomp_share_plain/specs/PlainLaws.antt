@@ -1,9 +1,13 @@
 -- The plain shares keep the laws of the trait. (own)
-use Rattle.std.specs.Prelude.{ℕ, ◌+◌, ◌%◌, ◌<◌, ◌≡◌, List, ◌∷◌, Option, Some, length, slice_get, refl}
+use Rattle.std.specs.Prelude.{ℕ, ◌+◌, ◌%◌, ◌<◌, ◌≡◌, ◌==◌, List, ◌∷◌, Option, Some, length, slice_get, refl}
 use Rattle.std.proofs.Common.{sym, ap, ◌∙◌, arith, get_or}
 use Rattle.std.proofs.lemmas.Option.{slice_get-get_or}
 use Rattle.gomp_types.specs.declared.event.Event.{Event}
-use Rattle.gomp_types.specs.declared.event.Event.TheVariants.{Enter, Take, Drained, End, HandOn, Part, PartEnd}
+use Rattle.gomp_types.specs.declared.event.Event.TheVariants.{Enter, Take, Drained, End, HandOn, Part, PartEnd, Cancel, See}
+use Rattle.gomp_types.specs.declared.cancel.CancelKind.TheVariants.{Parallel, Loop, Sections, Taskgroup}
+use Rattle.gomp_types.specs.declared.cancel.Scope.TheVariants.{OneShare}
+use Rattle.gomp_types.specs.Cancels.{leaves_share}
+use Rattle.gomp_shares.proofs.Only.{sees_another}
 use Rattle.gomp_shares.specs.Rules.{ShareRule}
 use Rattle.gomp_types.specs.Values.{IsShape}
 use Rattle.gomp_types.specs.declared.limits.TheConstants.{OPEN_SHARES}
@@ -61,9 +65,22 @@ aside_says members (End share k) h is = absurd is
 aside_says members (HandOn share k piece) h is = absurd is
 aside_says members (Part share k iteration) h is = absurd is
 aside_says members (PartEnd share k) h is = absurd is
+aside_says members (Cancel k (OneShare share)) h is = absurd is
+aside_says members (See k Loop) h is = absurd is
+aside_says members (See k Sections) h is = absurd is
+aside_says members (See k Parallel) h is = record {
+  seat = λ m. record { seen = rw (sees_another (k == m) (leaves_share m h)) refl; left = λ i. refl; taken = λ i. refl; shape = λ i shape at. at };
+  places = record { shape = λ i. refl; taken = λ queue_of i q. refl; turn = λ i. refl; cancelled = λ i. refl };
+  rule = tt;
+}
+aside_says members (See k Taskgroup) h is = record {
+  seat = λ m. record { seen = rw (sees_another (k == m) (leaves_share m h)) refl; left = λ i. refl; taken = λ i. refl; shape = λ i shape at. at };
+  places = record { shape = λ i. refl; taken = λ queue_of i q. refl; turn = λ i. refl; cancelled = λ i. refl };
+  rule = tt;
+}
 aside_says members _ h is = record {
   seat = λ m. record { seen = refl; left = λ i. refl; taken = λ i. refl; shape = λ i shape at. at };
-  places = record { shape = λ i. refl; taken = λ queue_of i q. refl; turn = λ i. refl };
+  places = record { shape = λ i. refl; taken = λ queue_of i q. refl; turn = λ i. refl; cancelled = λ i. refl };
   rule = tt;
 }
 

@@ -7,6 +7,7 @@ use Rattle.gomp_types.specs.Events.{has_ended, turn, shape_at}
 use Rattle.gomp_types.specs.Limits.{shown_number}
 use Rattle.gomp_types.specs.declared.limits.TheConstants.{OPEN_SHARES}
 use Rattle.gomp_types.specs.Deals.{taken_in}
+use Rattle.gomp_types.specs.Cancels.{share_cancelled}
 use Rattle.gomp_types.specs.Seen.{seen_of}
 use Rattle.gomp_shares.specs.Calls.{taken_of}
 use Rattle.gomp_share_plain.specs.Plain.{SeatStands, PlaceStands, Untouched, taken_by, number_or, ended_of}
@@ -45,28 +46,30 @@ seat_same members m seat opened after before same s = seat_near members m seat o
 
 -- Places
 
--- the later events say the same of the shape of each share, of what was taken from it and handed on
+-- the later events say the same of the shape of each share, of what was taken from it and handed on, and of whether it was cancelled
 pub record SamePlaces (after before : List Event) : Type 0 where
   pub shape : (i : ℕ) → shape_at i after ≡ shape_at i before
   pub taken : (queue_of : ℕ → ℕ) (i q : ℕ) → taken_in queue_of i q after ≡ taken_in queue_of i q before
   pub turn : (i : ℕ) → turn i after ≡ turn i before
+  pub cancelled : (i : ℕ) → share_cancelled i after ≡ share_cancelled i before
 
 -- then a place stands as before; so does one that has the same after a write elsewhere
-pub place_same : (members i : ℕ) (place now : Option (Option OpenShare)) (after before : List Event) → PlaceStands members i place before → now ≡ place → shape_at i after ≡ shape_at i before → taken_of i after ≡ taken_of i before → turn i after ≡ turn i before →
+pub place_same : (members i : ℕ) (place now : Option (Option OpenShare)) (after before : List Event) → PlaceStands members i place before → now ≡ place → shape_at i after ≡ shape_at i before → taken_of i after ≡ taken_of i before → turn i after ≡ turn i before → share_cancelled i after ≡ share_cancelled i before →
     PlaceStands members i now after
-place_same members i place now after before p here shape taken handed = record {
+place_same members i place now after before p here shape taken handed cancelled = record {
   share = p.share;
   there = here ∙ p.there;
   shape = shape ∙ p.shape;
   taken_is = ap shown_number taken ∙ p.taken_is;
   turn_is = handed ∙ p.turn_is;
+  cancelled_is = cancelled ∙ p.cancelled_is;
   cursor_is = p.cursor_is;
   valid = p.valid;
 }
 
 pub same_place_kept : (members i : ℕ) (place : Option (Option OpenShare)) (after before : List Event) → SamePlaces after before → PlaceStands members i place before → PlaceStands members i place after
-same_place_kept members i place after before same p = place_same members i place place after before p refl (same.shape i) (same.taken (λ k. 0) i 0) (same.turn i)
+same_place_kept members i place after before same p = place_same members i place place after before p refl (same.shape i) (same.taken (λ k. 0) i 0) (same.turn i) (same.cancelled i)
 
 -- and a share is untouched if it was
 pub beyond_kept : (i : ℕ) (after before : List Event) → SamePlaces after before → Untouched i before → Untouched i after
-beyond_kept i after before same none = (same.shape i ∙ none.0, λ queue_of q. same.taken queue_of i q ∙ none.1 queue_of q, same.turn i ∙ none.2)
+beyond_kept i after before same none = (same.shape i ∙ none.0, λ queue_of q. same.taken queue_of i q ∙ none.1 queue_of q, same.turn i ∙ none.2, same.cancelled i ∙ none.3)

@@ -15,6 +15,8 @@ pub struct OpenShare {
     /// How many of its pieces were handed on; so it is the number of the piece whose ordered parts
     /// are next.
     pub turn: u64,
+    /// Whether it was cancelled.
+    pub cancelled: bool,
     /// Its pieces, with the place of the last one of a guided loop that was taken.
     pub cursor: Cursor,
 }

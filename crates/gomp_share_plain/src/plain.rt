@@ -108,6 +108,7 @@ impl Shares for PlainShares {
             shape: *shape,
             taken: 0,
             turn: 0,
+            cancelled: false,
             cursor: Cursor::new(Plan::of(shape, members)),
         };
         self.places.put(number, new);
@@ -176,6 +177,35 @@ impl Shares for PlainShares {
     }
 
     fn leave(&mut self, member: u16) {
-        self.seats[member as usize].seen.current = None;
+        let seat = &mut self.seats[member as usize];
+        seat.seen.current = None;
+        seat.seen.leaving = false;
+    }
+
+    fn cancel(&mut self, member: u16) {
+        let number = ended_shares(&self.seats[member as usize]);
+        let Some(share) = self.places.at(number) else {
+            unreachable!()
+        };
+        let cancelled = OpenShare {
+            cancelled: true,
+            ..*share
+        };
+        self.places.put(number, cancelled);
+    }
+
+    fn cancelled(&mut self, member: u16) -> bool {
+        let seat = &self.seats[member as usize];
+        if seat.seen.current.is_none() {
+            return false;
+        }
+        let Some(share) = self.places.at(ended_shares(seat)) else {
+            unreachable!()
+        };
+        share.cancelled
+    }
+
+    fn see(&mut self, member: u16) {
+        self.seats[member as usize].seen.leaving = true;
     }
 }

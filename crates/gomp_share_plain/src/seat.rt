@@ -28,6 +28,7 @@ impl Seat {
             piece: None,
             next_part: 0,
             in_part: false,
+            leaving: false,
         },
         taken: 0,
         number: 0,

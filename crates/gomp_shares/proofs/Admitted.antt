@@ -3,7 +3,7 @@ use Rattle.std.proofs.Common.{◌≡◌, ◌<◌, ◌≤◌, ℕ, Bool, true, fa
 use Rattle.std.proofs.lemmas.Bool.{cases_Bool}
 use Rattle.std.proofs.lemmas.Bool.Decides.{nat_tests}
 use Rattle.std.proofs.lemmas.Int.{ints}
-use Rattle.std.specs.Prelude.{if◌then◌else◌, Ok, is_some, nat_le}
+use Rattle.std.specs.Prelude.{if◌then◌else◌, Ok, not, is_some, nat_le}
 use Rattle.std.specs.Result.{result_err}
 use Rattle.gomp_types.specs.declared.limits.Limits.{Limits}
 use Rattle.gomp_types.specs.declared.loop_desc.EndKind.{EndKind}
@@ -14,7 +14,7 @@ use Rattle.gomp_types.specs.declared.shape.Shape.{Shape}
 use Rattle.gomp_types.specs.declared.shape.ShareKind.{ShareKind}
 use Rattle.gomp_types.specs.declared.event.Event.{Event}
 use Rattle.gomp_types.specs.declared.refusal.Refusal.{Refusal}
-use Rattle.gomp_types.specs.declared.refusal.Refusal.TheVariants.{Mismatch}
+use Rattle.gomp_types.specs.declared.refusal.Refusal.TheVariants.{NotDrained, Mismatch}
 use Rattle.gomp_types.specs.Compare.{shape_differs}
 use Rattle.gomp_types.specs.Events.{shares_entered, in_kind, in_part, open_share, shape_at}
 use Rattle.gomp_types.specs.Deals.{schedule}
@@ -24,15 +24,16 @@ use Rattle.gomp_types.specs.Singles.{single_shape}
 use Rattle.gomp_types.specs.Tests.{Test, first_refusal, outcome}
 use Rattle.gomp_types.specs.Least.{lesser, least, Answers}
 use Rattle.gomp_types.specs.Seen.{seen_of}
-use Rattle.gomp_types.proofs.Booleans.{not_false}
+use Rattle.gomp_types.proofs.Booleans.{not_false, or_left, or_right}
+use Rattle.gomp_types.proofs.TestRows.{front_holds}
 use Rattle.gomp_types.proofs.LeastTests.{all_fail, first_is_least, from, least_append}
 use Rattle.gomp_shares.specs.declared.admission.Construct.{Construct}
 use Rattle.gomp_shares.specs.declared.admission.Construct.TheVariants.{Loop, Sections}
-use Rattle.gomp_shares.specs.Calls.{CanLeave, CanOpen, most_shares}
-use Rattle.gomp_shares.specs.Admission.{end_tests_of}
+use Rattle.gomp_shares.specs.Calls.{CanEnd, CanOpen, most_shares}
+use Rattle.gomp_shares.specs.Admission.{end_tests_of, all_end_tests}
 use Rattle.gomp_shares.specs.Rules.{ShareRule}
 use Rattle.gomp_shares.specs.Sections.{sections_end_tests}
-use Rattle.gomp_shares.specs.Starts.{Deals, Starts, start_tests, compared_share, AnswersBegin, AnswersStart}
+use Rattle.gomp_shares.specs.Starts.{Deals, Starts, start_tests, compared_share, drained_tests, AnswersBegin, AnswersStart}
 use Rattle.gomp_shares.proofs.Entered.{row_is}
 use Rattle.gomp_shares.proofs.Laws.{ordered_part_is_in_a_loop}
 use Rattle.gomp_shares.proofs.PartsKeep.{sections_away}
@@ -105,15 +106,14 @@ in_no_part m h law away =
       | inr apart ↦ apart
     ]
 
--- if no test of an end holds, the member can leave
+-- if no test of an end holds that its place decides, the member can end its construct
 pub end_lets_leave : (construct : Construct) (kind : EndKind) (members m : ℕ) (seen : Seen) (h : List Event) → Always (ShareRule (schedule members) members) h → seen ≡ seen_of m h → m < members →
-    least (end_tests_of construct kind seen) ≡ None → CanLeave members m seen
+    least (end_tests_of construct kind seen) ≡ None → CanEnd members m seen
 end_lets_leave Loop kind members m seen h ruled e lt none =
     let tests = all_fail (end_tests_of Loop kind seen) none in
     record {
       member = lt;
-      inside = in_some_share is_loop seen.current (not_false (in_kind is_loop seen.current) tests.0);
-      done = rw (not_false seen.drained tests.1.1.1.0) refl;
+      inside = or_left (in_kind is_loop seen.current) (in_kind is_sections seen.current) (not_false (in_kind is_loop seen.current) tests.0);
       apart = tests.1.0;
     }
 end_lets_leave Sections kind members m seen h ruled e lt none =
@@ -122,10 +122,35 @@ end_lets_leave Sections kind members m seen h ruled e lt none =
     let here : in_kind is_sections (open_share m h) ≡ true = sym (ap (λ (s : Seen). in_kind is_sections s.current) e) ∙ inside in
     record {
       member = lt;
-      inside = in_some_share is_sections seen.current inside;
-      done = rw (not_false seen.drained tests.1.1.0) refl;
+      inside = or_right (in_kind is_loop seen.current) (in_kind is_sections seen.current) inside;
       apart = rw e (in_no_part m h (ordered_part_is_in_a_loop members m h ruled) (sections_away (open_share m h) here));
     }
+
+-- with the test that the share decides, they stand in the order of their numbers too
+all_tests_rise : (construct : Construct) (kind : EndKind) (m : ℕ) (h : List Event) → from 0 (all_end_tests construct kind m h) ≡ true
+all_tests_rise Loop kind m h = refl
+all_tests_rise Sections kind m h = refl
+
+-- so what refuses by its place refuses the end
+pub refused_by_place : (construct : Construct) (kind : EndKind) (m : ℕ) (seen : Seen) (h : List Event) (refusal : Refusal) → seen ≡ seen_of m h → first_refusal (end_tests_of construct kind seen) ≡ Some refusal →
+    least (all_end_tests construct kind m h) ≡ Some refusal
+refused_by_place construct kind m seen h refusal e is =
+    let first : first_refusal (end_tests_of construct kind (seen_of m h)) ≡ Some refusal = rw e at is in
+    sym (first_is_least 0 (all_end_tests construct kind m h) (all_tests_rise construct kind m h)) ∙ front_holds (end_tests_of construct kind (seen_of m h)) (drained_tests m h) refusal first
+
+-- and if its place lets it, the share decides
+pub refused_by_share : (construct : Construct) (kind : EndKind) (m : ℕ) (seen : Seen) (h : List Event) → seen ≡ seen_of m h → first_refusal (end_tests_of construct kind seen) ≡ None →
+    least (all_end_tests construct kind m h) ≡ least (drained_tests m h)
+refused_by_share construct kind m seen h e is =
+    behind_front (end_tests_of construct kind (seen_of m h)) (drained_tests m h) (no_test_holds (end_tests_of construct kind (seen_of m h)) (end_tests_rise construct kind (seen_of m h)) (sym (rw e at is)))
+
+-- the share lets a member end it that is drained
+pub drained_by_test : (test : Bool) → least ((not test, NotDrained) ∷ []) ≡ None → test ≡ true
+drained_by_test true e = refl
+drained_by_test false e = absurd (cc)
+
+pub test_of_drained : (test : Bool) → test ≡ true → None ≡ least ((not test, NotDrained) ∷ [])
+test_of_drained test e = rw e refl
 
 -- a member outside of every share can open a single
 pub single_may_open : (copies : Bool) (members m : ℕ) (seen : Seen) → m < members → is_some seen.current ≡ false → seen.entered < most_shares → CanOpen members m (single_shape copies) seen
@@ -137,6 +162,7 @@ single_may_open copies members m seen lt out few = record {
     some = omega arith;
     moves = λ is. absurd (cc);
     fits = λ k below. let first : k ≡ 0 = omega arith in rw first (omega (arith, ints));
+    unordered = λ is. refl;
   };
   ordered = λ is. absurd (cc);
   outside = out;

@@ -212,7 +212,7 @@ pub second_leave_adds : events_left 1 in_two_shares ≡ End 1 1 ∷ in_two_share
 second_leave_adds = refl
 
 -- also by an end with no barrier
-pub second_end_adds : left_at_once 1 Finished in_two_shares ≡ End 1 1 ∷ in_two_shares
+pub second_end_adds : left_at_once 1 Finished (Drained 1 1 ∷ in_two_shares) ≡ End 1 1 ∷ Drained 1 1 ∷ in_two_shares
 second_end_adds = refl
 
 -- its part is one of the second share

@@ -1,5 +1,5 @@
 -- From the answer of a call on the shares to the rule of the event that it gives: what each body of the shares has to show of it.
-use Rattle.std.proofs.Common.{◌≡◌, ℕ, ◌<◌, ◌≤◌, true, nat_lt, nat_le, List, Option, Some, None, inl, inr, refl, ap, sym, arith}
+use Rattle.std.proofs.Common.{◌≡◌, ℕ, ◌<◌, ◌≤◌, true, nat_lt, nat_le, List, Option, Some, None, ◌⊎◌, inl, inr, refl, ap, sym, arith}
 use Rattle.std.specs.Prelude.{◌&&◌, is_some}
 use Rattle.std.proofs.lemmas.Bool.Decides.{nat_tests}
 use Rattle.gomp_types.specs.declared.shape.Shape.{Shape}
@@ -10,11 +10,13 @@ use Rattle.gomp_types.specs.Events.{shares_entered, open_share, open_number, sha
 use Rattle.gomp_types.specs.Ordered.{is_ordered, is_in_rest}
 use Rattle.gomp_types.specs.Deals.{schedule, next_for}
 use Rattle.gomp_types.specs.Laws.{Always}
-use Rattle.gomp_shares.specs.Rules.{ShareRule, MayEnter, MayTake, HasNone, MayHandOn, MayPart, MayEndPart}
+use Rattle.gomp_shares.specs.Rules.{ShareRule, MayEnter, MayTake, HasNone, MayLeave, MayCancelShare, MayHandOn, MayPart, MayEndPart}
+use Rattle.gomp_types.specs.Cancels.{may_be_cancelled, leaves_share}
 use Rattle.gomp_types.specs.Seen.{seen_of}
 use Rattle.gomp_types.proofs.Booleans.{some_of, none_of, or_tells, and_left, and_right}
 use Rattle.gomp_types.proofs.Compared.{same_shapes}
 use Rattle.gomp_types.proofs.Dealing.{schedule_deals, pieces_tile_all}
+use Rattle.gomp_shares.proofs.CancelledShares.{cancellable_end}
 use Rattle.gomp_shares.proofs.SharesKeep.{drained_none}
 use Rattle.gomp_shares.proofs.SinglesKeep.{single_is_done}
 use Rattle.gomp_shares.proofs.PartsKeep.{part_inside}
@@ -33,6 +35,7 @@ enter_rule members m shape h can may = let lt = can.member in record {
   tiles = pieces_tile_all members shape (omega arith) can.valid;
   moves = can.valid.moves;
   ordered = can.ordered;
+  unordered = can.valid.unordered;
   same = same_shapes shape (shape_at (shares_entered m h) h) may.0;
   room = may.1;
 }
@@ -60,12 +63,26 @@ none_left members m i shape h rule there done =
           single_is_done members m i shape h rule there (rw there at kind) (and_right (in_kind is_single (open_share m h)) (is_some (last_piece m h)) took)
     ]
 
--- so it may leave
-pub leave_rule : (members m : ℕ) (h : List Event) → Always (ShareRule (schedule members) members) h → CanLeave members m (seen_of m h) → HasNone (schedule members) (open_number m h) m h
+-- so it may leave, and so may one that has seen that its share is cancelled
+pub leave_rule : (members m : ℕ) (h : List Event) → Always (ShareRule (schedule members) members) h → CanLeave members m (seen_of m h) → MayLeave (schedule members) (open_number m h) m h
 leave_rule members m h rule can =
     let own = some_of (open_share m h) can.inside in
     let number : open_number m h ≡ own.0.0 = ap share_number own.1 in
-    rw number (record { shape = own.0.1; inside = own.1; none = none_left members m own.0.0 own.0.1 h rule own.1 can.done; apart = can.apart })
+    rw number (record { shape = own.0.1; inside = own.1; done = free own.0.0 own.0.1 own.1; apart = can.apart })
+  where
+    free : (i : ℕ) (shape : Shape) → open_share m h ≡ Some (i, shape) → (next_for (schedule members) shape i m h ≡ None) ⊎ (leaves_share m h ≡ true)
+    free i shape there = elim (or_tells (is_done (seen_of m h)) (leaves_share m h) can.done) [
+      | inl done ↦ inl (none_left members m i shape h rule there done)
+      | inr leaving ↦ inr leaving
+    ]
+
+-- a member may cancel the share that it is in, if that may be cancelled
+pub cancel_rule : (m : ℕ) (h : List Event) → may_be_cancelled (open_share m h) ≡ true → MayCancelShare (open_number m h) m h
+cancel_rule m h may = by_share (open_share m h) refl may
+  where
+    by_share : (own : Option (ℕ × Shape)) → open_share m h ≡ own → may_be_cancelled own ≡ true → MayCancelShare (open_number m h) m h
+    by_share None at e = absurd (cc)
+    by_share (Some share) at e = rw at (record { shape = share.1; inside = at; cancellable = cancellable_end share.1.end_kind e })
 
 -- Ordered parts
 

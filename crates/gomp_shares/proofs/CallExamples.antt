@@ -1,6 +1,6 @@
 -- What the calls of the shares ask, answer and add: for each line of a definition what it says, and what it alone refuses.
 use Rattle.std.proofs.Common.{◌≡◌, ℕ, ◌-◌, ◌^◌, true, false, List, [], ◌∷◌, Option, Some, None, Ok, Err, refl, ap, arith, length}
-use Rattle.gomp_types.specs.declared.refusal.Refusal.TheVariants.{NoMemory, InsideShare, OutsideShare, InOrdered, EndDiffers, NotDrained, Drained as DrainedRefusal, TooManyShares}
+use Rattle.gomp_types.specs.declared.refusal.Refusal.TheVariants.{NoMemory, InsideShare, OutsideShare, InOrdered, EndDiffers, Drained as DrainedRefusal, TooManyShares}
 use Rattle.gomp_types.specs.declared.refusal.Place.{Place}
 use Rattle.gomp_types.specs.declared.loop_desc.EndKind.TheVariants.{Wait as WaitEnd, Nowait}
 use Rattle.gomp_types.specs.declared.shape.Shape.{Shape}
@@ -615,13 +615,13 @@ pub tests_of_the_next_section : next_tests_of Sections (sees_loop ten false None
 tests_of_the_next_section = refl
 
 -- those of the end
-pub tests_of_the_end : end_tests_of Loop Nowait (sees_loop ten false (Some (0, 3)) 0 false) ≡ (false, OutsideShare) ∷ (false, InOrdered) ∷ (true, EndDiffers) ∷ (true, NotDrained) ∷ []
+pub tests_of_the_end : end_tests_of Loop Nowait (sees_loop ten false (Some (0, 3)) 0 false) ≡ (false, OutsideShare) ∷ (false, InOrdered) ∷ (true, EndDiffers) ∷ []
 tests_of_the_end = refl
 
 -- in an ordered part the second one holds
-pub tests_of_the_end_in_a_part : end_tests_of Loop WaitEnd (sees_loop ordered_two true None 1 true) ≡ (false, OutsideShare) ∷ (true, InOrdered) ∷ (false, EndDiffers) ∷ (false, NotDrained) ∷ []
+pub tests_of_the_end_in_a_part : end_tests_of Loop WaitEnd (sees_loop ordered_two true None 1 true) ≡ (false, OutsideShare) ∷ (true, InOrdered) ∷ (false, EndDiffers) ∷ []
 tests_of_the_end_in_a_part = refl
 
 -- sections have no test of parts
-pub tests_of_the_sections_end : end_tests_of Sections WaitEnd (sees 1 (Some (0, sections_shape 3 Nowait)) false (Some (0, 1)) 0 false) ≡ (false, OutsideShare) ∷ (true, EndDiffers) ∷ (true, NotDrained) ∷ []
+pub tests_of_the_sections_end : end_tests_of Sections WaitEnd (sees 1 (Some (0, sections_shape 3 Nowait)) false (Some (0, 1)) 0 false) ≡ (false, OutsideShare) ∷ (true, EndDiffers) ∷ []
 tests_of_the_sections_end = refl

@@ -17,7 +17,7 @@ use Rattle.gomp_types.specs.declared.seen.Seen.{Seen}
 use Rattle.gomp_shares.specs.declared.calls.ShareCall.TheVariants.{Open, Claim, Leave, Begin, HandOn}
 use Rattle.gomp_shares.specs.declared.calls.ShareStep.{ShareStep}
 use Rattle.gomp_shares.specs.declared.calls.ShareAnswer.{ShareAnswer}
-use Rattle.gomp_shares.specs.Calls.{CanOpen, CanClaim, CanLeave, CanBeginPart, CanHandOn, is_done}
+use Rattle.gomp_shares.specs.Calls.{CanOpen, CanClaim, CanLeave, CanBeginPart, CanHandOn, is_free}
 use Rattle.gomp_types.specs.Seen.{seen_of}
 use Rattle.gomp_shares.specs.Runs.{may_make, is_made, IsAnswer, events_answered, events_after, AreAnswers}
 
@@ -98,12 +98,12 @@ can_claim members m seen lt may =
 
 pub can_leave : (members m : ℕ) (seen : Seen) → m < members → may_make seen Leave ≡ true → CanLeave members m seen
 can_leave members m seen lt may =
-    let both = and_left (is_some seen.current && is_done seen) (not seen.in_part) may in
+    let both = and_left (is_some seen.current && is_free seen) (not seen.in_part) may in
     record {
       member = lt;
-      inside = and_left (is_some seen.current) (is_done seen) both;
-      done = and_right (is_some seen.current) (is_done seen) both;
-      apart = not_true seen.in_part (and_right (is_some seen.current && is_done seen) (not seen.in_part) may);
+      inside = and_left (is_some seen.current) (is_free seen) both;
+      done = and_right (is_some seen.current) (is_free seen) both;
+      apart = not_true seen.in_part (and_right (is_some seen.current && is_free seen) (not seen.in_part) may);
     }
 
 pub can_begin : (members m iteration : ℕ) (seen : Seen) → m < members → may_make seen (Begin iteration) ≡ true → CanBeginPart members m iteration seen

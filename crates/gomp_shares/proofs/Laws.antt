@@ -9,9 +9,11 @@ use Rattle.gomp_types.specs.Deals.{Queues, FirstOfQueue, schedule, takes_in, nex
 use Rattle.gomp_types.specs.Pieces.{Piece}
 use Rattle.gomp_types.specs.Shapes.{is_loop, is_single}
 use Rattle.gomp_types.specs.Events.{shares_entered, open_share, has_drained, last_piece, shape_at, is_over, in_part}
+use Rattle.gomp_types.specs.Cancels.{own_cancelled, leaves_share}
 use Rattle.gomp_types.specs.Laws.{Always}
 use Rattle.gomp_shares.specs.Rules.{ShareRule}
 use Rattle.gomp_shares.specs.Laws.{OrderedLaws, ShareLaws}
+use Rattle.gomp_shares.proofs.CancelledShares.{leaving_is_cancelled}
 use Rattle.gomp_shares.proofs.FirstOfQueue.{first_of_queue}
 use Rattle.gomp_shares.proofs.OrderedKeep.{ordered_keep}
 use Rattle.gomp_shares.proofs.PartsKeep.{part_inside}
@@ -63,3 +65,7 @@ shares_eight_before_are_over members = eight_before (schedule members) members
 pub ordered_part_is_in_a_loop : (members m : ℕ) (h : List Event) → Always (ShareRule (schedule members) members) h → in_part m h ≡ true →
     (i : ℕ) × (shape : Shape) × (open_share m h ≡ Some (i, shape)) × (is_loop shape.kind ≡ true)
 ordered_part_is_in_a_loop members = part_inside (schedule members) members
+
+-- a member that has seen that its share is cancelled, and has not left it, is in a cancelled share
+pub leaving_member_is_in_a_cancelled_share : (members m : ℕ) (h : List Event) → Always (ShareRule (schedule members) members) h → leaves_share m h ≡ true → own_cancelled m h ≡ true
+leaving_member_is_in_a_cancelled_share members = leaving_is_cancelled (schedule members) members

@@ -4,6 +4,10 @@ pub mod AnswerRules
 pub mod Assigned
 pub mod CallExamples
 pub mod CallRuns
+pub mod CancelledExamples
+pub mod CancelledShares
+pub mod Cancelling
+pub mod Ended
 pub mod Entered
 pub mod FirstOfQueue
 pub mod Laws

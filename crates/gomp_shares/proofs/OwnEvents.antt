@@ -1,9 +1,11 @@
 -- A member's own events tell what it sees of its place.
 use Rattle.std.proofs.Common.{◌≡◌, ◌≢◌, ℕ, ◌+◌, List, [], ◌∷◌, true, false, Some, None, refl, ap, sym, ◌∙◌, inl, inr}
-use Rattle.std.specs.Prelude.{◌==◌, if◌then◌else◌}
+use Rattle.std.specs.Prelude.{◌==◌, ◌&&◌, ◌||◌, if◌then◌else◌}
 use Rattle.std.proofs.lemmas.Bool.{cases_Bool}
 use Rattle.gomp_types.specs.declared.event.Event.{Event}
-use Rattle.gomp_types.specs.declared.event.Event.TheVariants.{Enter, Take, Drained, End, Part, PartEnd}
+use Rattle.gomp_types.specs.declared.event.Event.TheVariants.{Enter, Take, Drained, End, Part, PartEnd, See}
+use Rattle.gomp_types.specs.declared.cancel.CancelKind.TheVariants.{Loop, Sections}
+use Rattle.gomp_types.specs.Cancels.{same_cancel}
 use Rattle.gomp_types.specs.Events.{member_of}
 use Rattle.gomp_types.specs.Seen.{seen_of}
 use Rattle.gomp_types.specs.declared.seen.Seen.{Seen}
@@ -26,16 +28,18 @@ seen_apart (Drained share m) k h other = rw (other_number m k (λ e. other (sym 
 seen_apart (End share m) k h other = rw (other_number m k (λ e. other (sym e))) refl
 seen_apart (Part share m iteration) k h other = rw (other_number m k (λ e. other (sym e))) refl
 seen_apart (PartEnd share m) k h other = rw (other_number m k (λ e. other (sym e))) refl
+seen_apart (See m kind) k h other = rw (other_number m k (λ e. other (sym e))) refl
 seen_apart _ k h other = refl
 
 -- what a member sees after an event follows from what it saw before
 abbrev seen_after_own_event : Event → ℕ → Seen → Seen
-seen_after_own_event (Enter share m shape) k s = if m == k then record { entered = s.entered + 1; current = Some (share, shape); drained = false; piece = None; next_part = 0; in_part = false } else s
+seen_after_own_event (Enter share m shape) k s = if m == k then record { entered = s.entered + 1; current = Some (share, shape); drained = false; piece = None; next_part = 0; in_part = false; leaving = false } else s
 seen_after_own_event (Take share m low high) k s = if m == k then record s { piece = Some (low, high) } else s
 seen_after_own_event (Drained share m) k s = if m == k then record s { drained = true; piece = None } else s
-seen_after_own_event (End share m) k s = if m == k then record s { current = None } else s
+seen_after_own_event (End share m) k s = if m == k then record s { current = None; leaving = false } else s
 seen_after_own_event (Part share m iteration) k s = if m == k then record s { next_part = iteration + 1; in_part = true } else s
 seen_after_own_event (PartEnd share m) k s = if m == k then record s { in_part = false } else s
+seen_after_own_event (See m kind) k s = record s { leaving = (m == k && (same_cancel kind Loop || same_cancel kind Sections)) || s.leaving }
 seen_after_own_event _ k s = s
 
 seen_after : (event : Event) (k : ℕ) (h : List Event) → seen_of k (event ∷ h) ≡ seen_after_own_event event k (seen_of k h)

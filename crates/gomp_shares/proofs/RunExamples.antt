@@ -44,15 +44,15 @@ guided_fits = shape_is guided_ten (search rules) (search rules) refl
 pub single_fits : IsShape (single_shape false)
 single_fits =
     let one = shape_is (loop_of false Dynamic (pos 1) (pos 1)) (search rules) (search rules) refl in
-    record { trips = one.trips; chunk = one.chunk; some = one.some; moves = one.moves; fits = one.fits }
+    record { trips = one.trips; chunk = one.chunk; some = one.some; moves = one.moves; fits = one.fits; unordered = λ is. refl }
 
 sections_fit : IsShape (sections_shape 3 WaitEnd)
 sections_fit =
     let three = shape_is (record (loop_of false Dynamic (pos 4) (pos 1)) { start = pos 1 }) (search rules) (search rules) refl in
-    record { trips = three.trips; chunk = three.chunk; some = three.some; moves = three.moves; fits = three.fits }
+    record { trips = three.trips; chunk = three.chunk; some = three.some; moves = three.moves; fits = three.fits; unordered = λ is. refl }
 
 -- what a claim is answered
-claims_piece : (members m : ℕ) (share : ℕ × Shape) (answer : Option Piece) (h : List Event) → open_share m h ≡ Some share → IsShape share.1 →
+pub claims_piece : (members m : ℕ) (share : ℕ × Shape) (answer : Option Piece) (h : List Event) → open_share m h ≡ Some share → IsShape share.1 →
     answer ≡ next_for (schedule members) share.1 share.0 m h → IfSome answer (λ piece. (piece.0 < piece.1) × (piece.1 ≤ share.1.trips)) → Claims members m answer h
 claims_piece members m share answer h there valid least within = record { share = share; there = there; valid = valid; least = least; within = within }
 

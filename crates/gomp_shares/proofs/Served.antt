@@ -4,12 +4,10 @@ use Rattle.gomp_types.specs.declared.event.Event.{Event}
 use Rattle.gomp_types.specs.declared.refusal.Refusal.{Refusal}
 use Rattle.gomp_types.specs.declared.reply.Reply.{Reply}
 use Rattle.gomp_types.specs.declared.reply.Reply.TheVariants.{Refused, Finished}
-use Rattle.gomp_types.specs.declared.seen.Seen.{Seen}
 use Rattle.gomp_types.specs.Tests.{Test}
 use Rattle.gomp_types.specs.Least.{least, Answers}
-use Rattle.gomp_types.specs.Seen.{seen_of}
 use Rattle.gomp_types.proofs.TestRows.{outcome_refused}
-use Rattle.gomp_shares.specs.Serves.{Leaves, Serves}
+use Rattle.gomp_shares.specs.Serves.{Ends, Serves}
 use Rattle.gomp_shares.specs.Starts.{left_at_once}
 use Rattle.gomp_shares.proofs.Admitted.{outcome_none}
 
@@ -39,23 +37,23 @@ serves_refused stands here refusal May given known may same = record {
 
 -- the end of a construct, as a reply
 
-pub end_serves_refused : {S : Type 0} (stands : S → List Event → Type 0) (before after : S) (refusal : Refusal) (tests : Seen → List Test) (m : ℕ) →
-    Leaves stands before after (Err refusal) tests m →
-    Serves stands before after (Refused refusal) (λ reply h. Answers (tests (seen_of m h)) (λ given. given ≡ Finished) reply) (left_at_once m)
+pub end_serves_refused : {S : Type 0} (stands : S → List Event → Type 0) (before after : S) (refusal : Refusal) (tests : ℕ → List Event → List Test) (m : ℕ) →
+    Ends stands before after (Err refusal) tests m →
+    Serves stands before after (Refused refusal) (λ reply h. Answers (tests m h) (λ given. given ≡ Finished) reply) (left_at_once m)
 end_serves_refused stands before after refusal tests m ended = record {
   known = ended.known;
-  answer = λ h st. outcome_refused (least (tests (seen_of m h))) tt refusal (sym (ended.answer h st));
+  answer = λ h st. outcome_refused (least (tests m h)) tt refusal (sym (ended.answer h st));
   stands_for = ended.stands_for;
   kept = λ other is. ended.kept refusal refl;
   waits = λ is. absurd (cc);
 }
 
-pub end_serves_done : {S : Type 0} (stands : S → List Event → Type 0) (before after : S) (tests : Seen → List Test) (m : ℕ) →
-    Leaves stands before after (Ok tt) tests m →
-    Serves stands before after Finished (λ reply h. Answers (tests (seen_of m h)) (λ given. given ≡ Finished) reply) (left_at_once m)
+pub end_serves_done : {S : Type 0} (stands : S → List Event → Type 0) (before after : S) (tests : ℕ → List Event → List Test) (m : ℕ) →
+    Ends stands before after (Ok tt) tests m →
+    Serves stands before after Finished (λ reply h. Answers (tests m h) (λ given. given ≡ Finished) reply) (left_at_once m)
 end_serves_done stands before after tests m ended = record {
   known = ended.known;
-  answer = λ h st. (sym (outcome_none (least (tests (seen_of m h))) tt tt (sym (ended.answer h st))), refl);
+  answer = λ h st. (sym (outcome_none (least (tests m h)) tt tt (sym (ended.answer h st))), refl);
   stands_for = ended.stands_for;
   kept = λ other is. absurd (cc);
   waits = λ is. absurd (cc);

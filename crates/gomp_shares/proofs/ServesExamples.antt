@@ -1,8 +1,9 @@
 -- What the calls of a member on its team's shares promise alike: for each line of that what it alone refuses.
-use Rattle.std.proofs.Common.{◌≡◌, ℕ, List, [], ◌∷◌, refl, arith, ap}
+use Rattle.std.proofs.Common.{◌≡◌, ℕ, false, List, [], ◌∷◌, refl, arith, ap}
 use Rattle.std.specs.Prelude.{Ok, Err, length}
 use Rattle.gomp_types.specs.declared.event.Event.{Event}
-use Rattle.gomp_types.specs.declared.event.Event.TheVariants.{End}
+use Rattle.gomp_types.specs.declared.event.Event.TheVariants.{Enter, Drained, End}
+use Rattle.gomp_types.specs.Singles.{single_shape}
 use Rattle.gomp_types.specs.declared.refusal.Refusal.TheVariants.{NotInside, NotDrained}
 use Rattle.gomp_types.specs.declared.reply.Reply.{Reply}
 use Rattle.gomp_types.specs.declared.reply.Reply.TheVariants.{Wait, Finished, Refused}
@@ -26,12 +27,16 @@ for_none shares h = ⊥
 abbrev anything : Reply → List Event → Type 0
 anything reply h = Unit {0}
 
+-- a member was told that nothing is left
+abbrev told_one : List Event
+told_one = Drained 0 0 ∷ Enter 0 0 (single_shape false) ∷ []
+
 -- A call that answers a reply
 
 -- a member leaves its share
-pub served_end : Serves stand_for (0, []) (1, End 0 0 ∷ []) Finished IsDone (left_at_once 0)
+pub served_end : Serves stand_for (0, told_one) (1, End 0 0 ∷ told_one) Finished IsDone (left_at_once 0)
 served_end = record {
-  known = ([], refl);
+  known = (told_one, refl);
   answer = λ h is. refl;
   stands_for = λ h is. ap (left_at_once 0 Finished) is;
   kept = λ refusal is. absurd (cc);

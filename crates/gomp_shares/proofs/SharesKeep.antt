@@ -6,15 +6,18 @@ use Rattle.std.proofs.lemmas.Bool.{cases_Bool}
 use Rattle.gomp_types.specs.declared.shape.Shape.{Shape}
 use Rattle.gomp_types.specs.declared.limits.TheConstants.{OPEN_SHARES}
 use Rattle.gomp_types.specs.declared.event.Event.{Event}
-use Rattle.gomp_types.specs.declared.event.Event.TheVariants.{Enter, Take, Drained, End}
+use Rattle.gomp_types.specs.declared.event.Event.TheVariants.{Enter, Take, Drained, End, Cancel}
+use Rattle.gomp_types.specs.declared.cancel.Scope.TheVariants.{OneShare}
+use Rattle.gomp_types.specs.Cancels.{share_cancelled}
 use Rattle.gomp_types.specs.Pieces.{Piece}
 use Rattle.gomp_types.specs.Events.{shares_entered, open_share, has_drained, has_ended, shape_at, is_over, has_room, has_iteration, times_taken}
 use Rattle.gomp_types.specs.Deals.{Queues, IsDealt, taken_in, takes_in, next_in, next_for, times}
 use Rattle.gomp_types.proofs.Always.{always_so}
 use Rattle.gomp_types.specs.Laws.{Always, Happened}
-use Rattle.gomp_shares.specs.Rules.{MayTake, HasNone, ShareRule}
-use Rattle.gomp_shares.specs.Laws.{IsOver, TakesNext, TakesWithin, LeavesNothing, EntersOneByOne, EndsInside, EntersWithRoom, ShareLaws}
+use Rattle.gomp_shares.specs.Rules.{MayTake, HasNone, MayLeave, ShareRule}
+use Rattle.gomp_shares.specs.Laws.{IsOver, TakesNext, TakesWithin, LeavesNothing, CancelsCancellable, LeavesCancelled, EntersOneByOne, EndsInside, EntersWithRoom, ShareLaws}
 use Rattle.gomp_types.proofs.Booleans.{which_branch, is_equal, unequal_numbers, same_number, share_is, and_left, and_right, or_tells, or_right, not_both, every_tells}
+use Rattle.gomp_shares.proofs.CancelledShares.{not_cancelled_before, none_or_cancelled, cancel_stands}
 use Rattle.gomp_types.proofs.Tiling.{still_past, later_none, times-append, times-take, take_next, take_past, none_has}
 
 -- The shape of a share
@@ -194,29 +197,46 @@ none_stays queues shape i q (Take share member low high) earlier e =
     ]
 none_stays queues shape i q _ earlier e = e
 
-pub ended_none : (queues : Queues) (members m i : ℕ) (h : List Event) → Always (ShareRule queues members) h → has_ended i m h ≡ true →
+-- unless the share was cancelled
+pub ended_none : (queues : Queues) (members m i : ℕ) (h : List Event) → Always (ShareRule queues members) h → has_ended i m h ≡ true → share_cancelled i h ≡ false →
     (shape : Shape) × (shape_at i h ≡ Some shape) × (next_for queues shape i m h ≡ None)
-ended_none queues members m i [] all ended = absurd (cc)
-ended_none queues members m i (End share member ∷ earlier) all ended =
+ended_none queues members m i [] all ended whole = absurd (cc)
+ended_none queues members m i (End share member ∷ earlier) all ended whole =
     elim (cases_Bool (share == i && member == m)) [
       | inl e ↦
           let is = is_equal share i (and_left (share == i) (member == m) e) in
           let who = is_equal member m (and_right (share == i) (member == m) e) in
-          let end : HasNone queues i m earlier = rw (is, who) at all.0 in
-          (end.shape, (member_is_inside queues members m i end.shape earlier all.1 end.inside).0, end.none)
-      | inr e ↦ ended_none queues members m i earlier all.1 (rw e at ended)
+          let end : MayLeave queues i m earlier = rw (is, who) at all.0 in
+          (end.shape, (member_is_inside queues members m i end.shape earlier all.1 end.inside).0, none_or_cancelled queues members m i earlier all.1 end whole)
+      | inr e ↦ ended_none queues members m i earlier all.1 (rw e at ended) whole
     ]
-ended_none queues members m i (event ∷ earlier) all ended =
-    let before = ended_none queues members m i earlier all.1 ended in
+ended_none queues members m i (event ∷ earlier) all ended whole =
+    let before = ended_none queues members m i earlier all.1 ended (not_cancelled_before (OneShare i) event earlier whole) in
     (before.0, shape_stays queues members i before.0 event earlier all.0 before.1, none_stays queues before.0 i (queues.queue_of before.0 m) event earlier before.2)
 
--- a share that every member has left had each of its iterations taken
+-- a share that a member left was entered
+pub ended_shape : (queues : Queues) (members m i : ℕ) (h : List Event) → Always (ShareRule queues members) h → has_ended i m h ≡ true → (shape : Shape) × (shape_at i h ≡ Some shape)
+ended_shape queues members m i [] all ended = absurd (cc)
+ended_shape queues members m i (End share member ∷ earlier) all ended =
+    elim (cases_Bool (share == i && member == m)) [
+      | inl e ↦
+          let is = is_equal share i (and_left (share == i) (member == m) e) in
+          let who = is_equal member m (and_right (share == i) (member == m) e) in
+          let end : MayLeave queues i m earlier = rw (is, who) at all.0 in
+          (end.shape, (member_is_inside queues members m i end.shape earlier all.1 end.inside).0)
+      | inr e ↦ ended_shape queues members m i earlier all.1 (rw e at ended)
+    ]
+ended_shape queues members m i (event ∷ earlier) all ended =
+    let before = ended_shape queues members m i earlier all.1 ended in
+    (before.0, shape_stays queues members i before.0 event earlier all.0 before.1)
+
+-- a share that every member has left had each of its iterations taken, unless it was cancelled
 pub taken_whole : (queues : Queues) (members i k : ℕ) (shape : Shape) (h : List Event) → Always (ShareRule queues members) h → shape_at i h ≡ Some shape →
-    ((m : ℕ) → m < members → has_ended i m h ≡ true) → k < shape.trips → times_taken i k h ≡ 1
-taken_whole queues members i k shape h all at over lt =
+    ((m : ℕ) → m < members → has_ended i m h ≡ true) → share_cancelled i h ≡ false → k < shape.trips → times_taken i k h ≡ 1
+taken_whole queues members i k shape h all at over whole lt =
     let d = share_is_dealt queues members i shape h all at in
     let who = d.taker k lt in
-    let left = ended_none queues members who.0 i h all (over who.0 who.1) in
+    let left = ended_none queues members who.0 i h all (over who.0 who.1) whole in
     let same : left.0 ≡ shape = let one = left.1 in cc in
     let none : next_for queues shape i who.0 h ≡ None = rw same at left.2 in
     let none_left : next_in queues shape i (d.queue_with k) h ≡ None = rw who.2 at none in
@@ -413,12 +433,31 @@ takes_within queues members (Take share m low high) earlier rule all =
 takes_within queues members _ earlier rule all = tt
 
 leaves_nothing : (queues : Queues) (members : ℕ) (event : Event) (earlier : List Event) → ShareRule queues members event earlier → Always (ShareRule queues members) earlier → LeavesNothing queues event earlier
-leaves_nothing queues members (End share m) earlier rule all = λ shape stands.
+leaves_nothing queues members (End share m) earlier rule all = λ shape stands whole.
     let one : shape_at share earlier ≡ Some rule.shape = (member_is_inside queues members m share rule.shape earlier all rule.inside).0 in
     let other : shape_at share earlier ≡ Some shape = (enter_has_its_shape queues members share m shape earlier all stands).1 in
     let same : rule.shape ≡ shape = let both = sym one ∙ other in cc in
-    rw (← same) rule.none
+    rw (← same) (none_or_cancelled queues members m share earlier all rule whole)
 leaves_nothing queues members _ earlier rule all = tt
+
+-- who cancels a share is in it
+cancels_cancellable : (queues : Queues) (members : ℕ) (event : Event) (earlier : List Event) → ShareRule queues members event earlier → Always (ShareRule queues members) earlier → CancelsCancellable event earlier
+cancels_cancellable queues members (Cancel m (OneShare share)) earlier rule all = (
+  rule.shape,
+  inside_stands m share rule.shape earlier rule.inside,
+  (λ stands. not_both (has_ended share m earlier) (stands_ended share m earlier stands) (not_ended queues members m share rule.shape earlier all rule.inside)),
+  rule.cancellable,
+)
+cancels_cancellable queues members _ earlier rule all = tt
+
+-- and who leaves it with a piece left leaves a cancelled one
+leaves_cancelled : (queues : Queues) (members : ℕ) (event : Event) (earlier : List Event) → ShareRule queues members event earlier → Always (ShareRule queues members) earlier → LeavesCancelled queues event earlier
+leaves_cancelled queues members (End share m) earlier rule all = λ shape stands some.
+    elim (cases_Bool (share_cancelled share earlier)) [
+      | inl is ↦ cancel_stands (OneShare share) earlier is
+      | inr whole ↦ absurd (some (leaves_nothing queues members (End share m) earlier rule all shape stands whole))
+    ]
+leaves_cancelled queues members _ earlier rule all = tt
 
 enters_one_by_one : (queues : Queues) (members : ℕ) (event : Event) (earlier : List Event) → ShareRule queues members event earlier → Always (ShareRule queues members) earlier → EntersOneByOne members event earlier
 enters_one_by_one queues members (Enter share m shape) earlier rule all = (rule.member, rule.number, left_before queues members m earlier all rule.outside)
@@ -447,8 +486,10 @@ shares_keep queues members h all = record {
     left = always_so (ShareRule queues members) (LeavesNothing queues) (leaves_nothing queues members) h all;
     order = λ share m q shape stands. taken_front_of_queue queues members share q shape h all (enter_has_its_shape queues members share m shape h all stands).1;
   };
-  whole = λ share m shape stands over k lt.
-      taken_whole queues members share k shape h all (enter_has_its_shape queues members share m shape h all stands).1 (λ x below. stands_ended share x h (over x below)) lt;
+  whole = λ share m shape stands over whole k lt.
+      taken_whole queues members share k shape h all (enter_has_its_shape queues members share m shape h all stands).1 (λ x below. stands_ended share x h (over x below)) whole lt;
+  cancelled = always_so (ShareRule queues members) CancelsCancellable (cancels_cancellable queues members) h all;
+  left_early = always_so (ShareRule queues members) (LeavesCancelled queues) (leaves_cancelled queues members) h all;
   same_shares = record {
     one_by_one = always_so (ShareRule queues members) (EntersOneByOne members) (enters_one_by_one queues members) h all;
     ends = always_so (ShareRule queues members) EndsInside (ends_inside queues members) h all;

@@ -12,7 +12,7 @@ use Rattle.gomp_types.specs.Deals.{Queues}
 use Rattle.gomp_types.specs.Laws.{Always}
 use Rattle.gomp_shares.specs.Rules.{ShareRule}
 use Rattle.gomp_types.proofs.Booleans.{which_branch, is_equal, or_tells, or_right, not_both, every_tells, every_by}
-use Rattle.gomp_shares.proofs.SharesKeep.{member_is_inside, ended_none, ended_below, not_ended}
+use Rattle.gomp_shares.proofs.SharesKeep.{member_is_inside, ended_shape, ended_below, not_ended}
 
 -- a member that has not left the share keeps it open
 stays_open : (members i m : ℕ) (h : List Event) → m < members → has_ended i m h ≡ false → is_over members i h ≡ false
@@ -69,7 +69,7 @@ over_before queues (suc others) (suc most) i j shape h all at few far (suc zero)
 over_before queues (suc others) (suc most) i j shape h all at few far (suc (suc k)) number =
     let over = room_was queues (suc others) i shape h all at (omega arith) in
     let ended = every_tells (suc others) (λ x. has_ended (i - OPEN_SHARES) x h) 0 over (omega arith) in
-    let found = ended_none queues (suc others) 0 (i - OPEN_SHARES) h all ended in
+    let found = ended_shape queues (suc others) 0 (i - OPEN_SHARES) h all ended in
     over_before queues (suc others) most (i - OPEN_SHARES) j found.0 h all found.1 (omega arith) (omega arith) (suc k) (omega arith)
 
 pub eight_before : (queues : Queues) (members i j k : ℕ) (shape : Shape) (h : List Event) → Always (ShareRule queues members) h → shape_at i h ≡ Some shape → i ≡ OPEN_SHARES * suc k + j → is_over members j h ≡ true

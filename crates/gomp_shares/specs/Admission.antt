@@ -1,13 +1,16 @@
 -- The tests that a member can make by what it sees of its own place, in the order of their numbers. (own)
-use Rattle.std.specs.Prelude.{Bool, false, List}
+use Rattle.std.specs.Prelude.{ℕ, Bool, false, List, ◌++◌}
 use Rattle.gomp_types.specs.declared.loop_desc.EndKind.{EndKind}
 use Rattle.gomp_types.specs.declared.shape.ShareKind.{ShareKind}
 use Rattle.gomp_types.specs.Tests.{Test}
 use Rattle.gomp_types.specs.Shapes.{is_loop, is_sections}
 use Rattle.gomp_types.specs.Events.{in_kind}
 use Rattle.gomp_types.specs.declared.seen.Seen.{Seen}
+use Rattle.gomp_types.specs.declared.event.Event.{Event}
+use Rattle.gomp_types.specs.Seen.{seen_of}
 use Rattle.gomp_shares.specs.declared.admission.Construct.{Construct}
 use Rattle.gomp_shares.specs.declared.admission.Construct.TheVariants.{Loop, Sections}
+use Rattle.gomp_shares.specs.Starts.{drained_tests}
 use Rattle.gomp_shares.specs.Loops.{next_tests, end_tests}
 use Rattle.gomp_shares.specs.Sections.{section_next_tests, sections_end_tests}
 
@@ -34,3 +37,7 @@ next_tests_of Sections seen = section_next_tests seen
 abbrev pub end_tests_of : Construct → EndKind → Seen → List Test
 end_tests_of Loop kind seen = end_tests kind seen
 end_tests_of Sections kind seen = sections_end_tests kind seen
+
+-- with the test that the share decides
+abbrev pub all_end_tests : Construct → EndKind → ℕ → List Event → List Test
+all_end_tests construct kind m h = end_tests_of construct kind (seen_of m h) ++ drained_tests m h

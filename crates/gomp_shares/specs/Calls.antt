@@ -1,15 +1,19 @@
 -- What the calls on a team's work-shares ask, answer and add to the events. The newest event stands first. OpenMP API 5.2, chapter 11.
-use Rattle.std.specs.Prelude.{ℕ, ◌<◌, ◌≤◌, ◌≡◌, ◌^◌, ◌&&◌, ◌||◌, nat_lt, Bool, true, false, List, ◌∷◌, Option, Some, None, Result, Ok, Err, is_some, IfSome}
+use Rattle.std.specs.Prelude.{ℕ, ◌<◌, ◌≤◌, ◌≡◌, ◌^◌, ◌&&◌, ◌||◌, nat_lt, if◌then◌else◌, Bool, true, false, List, ◌∷◌, Option, Some, None, Result, Ok, Err, is_some, IfSome}
 use Rattle.std.specs.Bool.{OnTrue}
 use Rattle.gomp_types.specs.declared.shape.Shape.{Shape}
 use Rattle.gomp_types.specs.declared.refusal.Refusal.{Refusal}
 use Rattle.gomp_types.specs.declared.event.Event.{Event}
-use Rattle.gomp_types.specs.declared.event.Event.TheVariants.{Enter, Take, Drained, End, HandOn, Part, PartEnd}
+use Rattle.gomp_types.specs.declared.event.Event.TheVariants.{Enter, Take, Drained, End, HandOn, Part, PartEnd, Cancel, See}
+use Rattle.gomp_types.specs.declared.cancel.CancelKind.{CancelKind}
+use Rattle.gomp_types.specs.declared.cancel.CancelKind.TheVariants.{Loop, Sections}
+use Rattle.gomp_types.specs.declared.cancel.Scope.TheVariants.{OneShare}
+use Rattle.gomp_types.specs.Cancels.{may_be_cancelled}
 use Rattle.gomp_types.specs.Pieces.{Piece}
 use Rattle.gomp_types.specs.Values.{IsShape}
 use Rattle.gomp_types.specs.Events.{shares_entered, open_share, open_number, in_kind, shape_at, has_room}
 use Rattle.gomp_types.specs.Ordered.{has_turn, last_number, is_ordered, is_in_rest}
-use Rattle.gomp_types.specs.Shapes.{is_loop, is_single}
+use Rattle.gomp_types.specs.Shapes.{is_loop, is_sections, is_single}
 use Rattle.gomp_types.specs.Deals.{schedule, next_for, taken_in}
 use Rattle.gomp_types.specs.Compare.{shape_differs}
 use Rattle.gomp_types.specs.declared.seen.Seen.{Seen}
@@ -81,16 +85,59 @@ events_claimed m None h = Drained (open_number m h) m ∷ h
 abbrev pub is_done : Seen → Bool
 is_done seen = seen.drained || in_kind is_single seen.current && is_some seen.piece
 
--- a member may leave a share of which nothing is left for it
+-- whether it may leave its share: nothing is left there for it, or it has seen that the share is cancelled
+abbrev pub is_free : Seen → Bool
+is_free seen = is_done seen || seen.leaving
+
+-- a member may leave such a share, out of an ordered part
 pub record CanLeave (members m : ℕ) (seen : Seen) : Type 0 where
   pub member : m < members
   pub inside : is_some seen.current ≡ true
-  pub done : is_done seen ≡ true
+  pub done : is_free seen ≡ true
   pub apart : seen.in_part ≡ false
 
 -- the events after the member has left its share
 abbrev pub events_left : ℕ → List Event → List Event
 events_left m h = End (open_number m h) m ∷ h
+
+-- Cancellation (OpenMP API 5.2, section 16.1)
+
+-- whether a member is in a loop or a sections construct
+abbrev pub in_construct : Option (ℕ × Shape) → Bool
+in_construct own = in_kind is_loop own || in_kind is_sections own
+
+-- which of the two a cancellation of the member's share names
+abbrev pub kind_in : Option (ℕ × Shape) → CancelKind
+kind_in own = if in_kind is_sections own then Sections else Loop
+
+-- a member that is in a share whose end kind lets it be cancelled may cancel it
+pub record CanCancel (members m : ℕ) (seen : Seen) : Type 0 where
+  pub member : m < members
+  pub cancellable : may_be_cancelled seen.current ≡ true
+
+-- the events after the member has cancelled its share
+abbrev pub events_cancelled : ℕ → List Event → List Event
+events_cancelled m h = Cancel m (OneShare (open_number m h)) ∷ h
+
+-- a member in a loop or in sections may see that it is cancelled
+pub record CanSee (members m : ℕ) (seen : Seen) : Type 0 where
+  pub member : m < members
+  pub inside : in_construct seen.current ≡ true
+
+-- the events after the member has seen that its share is cancelled
+abbrev pub events_seen : ℕ → List Event → List Event
+events_seen m h = See m (kind_in (open_share m h)) ∷ h
+
+-- and after it has seen that, or has not
+abbrev pub seen_if : Bool → ℕ → List Event → List Event
+seen_if true m h = events_seen m h
+seen_if false m h = h
+
+-- a member in a loop or in sections, out of an ordered part, may end it
+pub record CanEnd (members m : ℕ) (seen : Seen) : Type 0 where
+  pub member : m < members
+  pub inside : in_construct seen.current ≡ true
+  pub apart : seen.in_part ≡ false
 
 -- a member in an ordered loop may begin the part of an iteration of its piece, after those whose parts it has begun
 pub record CanBeginPart (members m iteration : ℕ) (seen : Seen) : Type 0 where
@@ -160,6 +207,9 @@ is_of_shares (End share m) = true
 is_of_shares (HandOn share m piece) = true
 is_of_shares (Part share m iteration) = true
 is_of_shares (PartEnd share m) = true
+is_of_shares (Cancel m (OneShare share)) = true
+is_of_shares (See m Loop) = true
+is_of_shares (See m Sections) = true
 is_of_shares _ = false
 
 -- an event that the shares do not see

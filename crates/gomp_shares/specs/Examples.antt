@@ -1,22 +1,26 @@
 -- Calls, runs and events that the examples share. Each run has the oldest call first. (own)
 use Rattle.std.specs.Prelude.{ℕ, ℤ, pos, Bool, true, false, List, [], ◌∷◌, ◌++◌, map, Option, Some, None}
-use Rattle.gomp_types.specs.declared.loop_desc.EndKind.TheVariants.{Wait as WaitEnd}
+use Rattle.gomp_types.specs.declared.loop_desc.EndKind.TheVariants.{Wait as WaitEnd, Cancellable}
 use Rattle.gomp_types.specs.declared.loop_desc.LoopDesc.{LoopDesc}
 use Rattle.gomp_types.specs.declared.loop_desc.Sched.{Sched}
 use Rattle.gomp_types.specs.declared.loop_desc.Sched.TheVariants.{Static, Dynamic, Guided}
 use Rattle.gomp_types.specs.declared.shape.Shape.{Shape}
 use Rattle.gomp_types.specs.declared.shape.ShareKind.TheVariants as kind
 use Rattle.gomp_types.specs.declared.event.Event.{Event}
+use Rattle.gomp_types.specs.declared.event.Event.TheVariants.{Enter, Take, Cancel as CancelEvent, See as SeeEvent}
+use Rattle.gomp_types.specs.declared.cancel.CancelKind.TheVariants.{Loop as LoopKind}
+use Rattle.gomp_types.specs.declared.cancel.Scope.TheVariants.{OneShare}
+use Rattle.gomp_types.specs.Sections.{sections_shape}
 use Rattle.gomp_types.specs.Pieces.{Piece, shape_of}
 use Rattle.gomp_types.specs.Singles.{single_shape}
 use Rattle.gomp_types.specs.declared.seen.Seen.{Seen}
 use Rattle.gomp_shares.specs.declared.Opening.{Opening}
 use Rattle.gomp_shares.specs.declared.Opening.TheVariants.{Entered, NotYet, Differs}
 use Rattle.gomp_shares.specs.declared.calls.ShareCall.{ShareCall}
-use Rattle.gomp_shares.specs.declared.calls.ShareCall.TheVariants.{Open, OpenSections, OpenSingle, Claim, Leave, Begin, EndPart, HandOn}
+use Rattle.gomp_shares.specs.declared.calls.ShareCall.TheVariants.{Open, OpenSections, OpenSingle, Claim, Leave, Begin, EndPart, HandOn, Cancel, See}
 use Rattle.gomp_shares.specs.declared.calls.ShareStep.{ShareStep}
 use Rattle.gomp_shares.specs.declared.calls.ShareAnswer.{ShareAnswer}
-use Rattle.gomp_shares.specs.declared.calls.ShareAnswer.TheVariants.{Opened, Claimed, Left, Turned, Ended, NotMade}
+use Rattle.gomp_shares.specs.declared.calls.ShareAnswer.TheVariants.{Opened, Claimed, Left, Turned, Ended, Cancelled, Saw, NotMade}
 use Rattle.gomp_shares.specs.Runs.{IsAnswer, AreAnswers, events_after}
 
 -- calls with their answers
@@ -262,7 +266,7 @@ ninth_share =
 -- what a member sees of its place, field by field
 abbrev pub sees : ℕ → Option (ℕ × Shape) → Bool → Option Piece → ℕ → Bool → Seen
 sees entered current drained piece next_part in_part =
-    record { entered = entered; current = current; drained = drained; piece = piece; next_part = next_part; in_part = in_part }
+    record { entered = entered; current = current; drained = drained; piece = piece; next_part = next_part; in_part = in_part; leaving = false }
 
 -- outside, after so many shares
 abbrev pub sees_outside : ℕ → Seen
@@ -275,3 +279,48 @@ sees_loop loop drained piece next_part in_part = sees 1 (Some (0, shape_of loop)
 -- and in a single
 abbrev pub sees_single : Bool → Option Piece → Seen
 sees_single copies piece = sees 1 (Some (0, single_shape copies)) false piece 0 false
+
+-- one that has seen that its share is cancelled
+abbrev pub sees_leaving : Seen → Seen
+sees_leaving seen = record seen { leaving = true }
+
+-- Loops and sections that may be cancelled
+
+-- ten iterations in chunks of three
+abbrev pub cancellable_ten : LoopDesc
+cancellable_ten = record ten { end_kind = Cancellable }
+
+-- two members are in that loop, each with its first piece
+abbrev pub in_cancellable : List Event
+in_cancellable = Take 0 1 3 6 ∷ Enter 0 1 (shape_of cancellable_ten) ∷ Take 0 0 0 3 ∷ Enter 0 0 (shape_of cancellable_ten) ∷ []
+
+-- the first cancels it
+abbrev pub loop_cancelled : List Event
+loop_cancelled = CancelEvent 0 (OneShare 0) ∷ in_cancellable
+
+-- and has seen that it is cancelled
+abbrev pub loop_seen : List Event
+loop_seen = SeeEvent 0 LoopKind ∷ loop_cancelled
+
+-- a member alone is in sections, and cancels them
+abbrev pub sections_cancelled : List Event
+sections_cancelled = CancelEvent 0 (OneShare 0) ∷ Take 0 0 0 1 ∷ Enter 0 0 (sections_shape 3 Cancellable) ∷ []
+
+-- a member leaves a loop that is cancelled when it has seen that; the other is handed pieces until then
+abbrev pub left_cancelled : Run
+left_cancelled =
+    (asks 0 (Open cancellable_ten), Opened Entered)
+    ∷ (asks 1 (Open cancellable_ten), Opened Entered)
+    ∷ (asks 0 Claim, Claimed (Some (0, 3)))
+    ∷ (asks 0 Leave, NotMade)
+    ∷ (asks 1 See, Saw false)
+    ∷ (asks 0 Cancel, Cancelled)
+    ∷ (asks 0 Leave, NotMade)
+    ∷ (asks 0 See, Saw true)
+    ∷ (asks 0 Leave, Left)
+    ∷ (asks 1 Claim, Claimed (Some (3, 6)))
+    ∷ (asks 1 See, Saw true)
+    ∷ (asks 1 Leave, Left)
+    ∷ (asks 0 Cancel, NotMade)
+    ∷ (asks 0 See, NotMade)
+    ∷ []

@@ -1,9 +1,12 @@
 -- The laws of the work-shares, each clause in the words of the promise that it keeps.
-use Rattle.std.specs.Prelude.{ℕ, ◌+◌, ◌%◌, ◌<◌, ◌≤◌, ◌≡◌, slice_get, List, Some, None, true, take}
+use Rattle.std.specs.Prelude.{ℕ, ◌+◌, ◌%◌, ◌<◌, ◌≤◌, ◌≡◌, slice_get, List, Some, None, true, false, take}
 use Rattle.gomp_types.specs.declared.shape.Shape.{Shape}
 use Rattle.gomp_types.specs.declared.limits.TheConstants.{OPEN_SHARES}
 use Rattle.gomp_types.specs.declared.event.Event.{Event}
-use Rattle.gomp_types.specs.declared.event.Event.TheVariants.{Enter, Take, End, HandOn, Part, PartEnd}
+use Rattle.gomp_types.specs.declared.event.Event.TheVariants.{Enter, Take, End, HandOn, Part, PartEnd, Cancel}
+use Rattle.gomp_types.specs.declared.cancel.Scope.TheVariants.{OneShare}
+use Rattle.gomp_types.specs.declared.loop_desc.EndKind.TheVariants.{Cancellable}
+use Rattle.gomp_types.specs.Cancels.{share_cancelled}
 use Rattle.gomp_types.specs.Shapes.{is_static}
 use Rattle.gomp_types.specs.Pieces.{pieces_of}
 use Rattle.gomp_types.specs.Events.{shares_entered, last_piece, turn, open_part, times_taken}
@@ -28,9 +31,10 @@ abbrev pub TakesWithin : Event → List Event → Type 0
 TakesWithin (Take share m low high) earlier = (shape : Shape) × Happened (Enter share m shape) earlier × (low < high) × (high ≤ shape.trips)
 TakesWithin _ earlier = Unit {0}
 
--- a member leaves a share only if nothing is left there for it
+-- a member leaves a share only if nothing is left there for it, unless the share was cancelled before
 abbrev pub LeavesNothing : Queues → Event → List Event → Type 0
-LeavesNothing queues (End share m) earlier = (shape : Shape) → Happened (Enter share m shape) earlier → next_for queues shape share m earlier ≡ None
+LeavesNothing queues (End share m) earlier =
+    (shape : Shape) → Happened (Enter share m shape) earlier → share_cancelled share earlier ≡ false → next_for queues shape share m earlier ≡ None
 LeavesNothing queues _ earlier = Unit {0}
 
 -- Taken once (OpenMP API 5.2, section 11.5: each iteration is executed once).
@@ -41,7 +45,7 @@ pub record TakenOnce (queues : Queues) (h : List Event) : Type 0 where
   pub pieces : Always (TakesNext queues) h
   -- of iterations that the share has
   pub within : Always TakesWithin h
-  -- its member leaves the share when nothing is left for it, and not before
+  -- its member leaves the share when nothing is left for it, and not before, unless the share was cancelled
   pub left : Always (LeavesNothing queues) h
   -- the takes from a queue are its pieces 0, 1, 2 and on
   pub order : (share m q : ℕ) (shape : Shape) → Happened (Enter share m shape) h → takes_in (queues.queue_of shape) share q h ≡ take (taken_in (queues.queue_of shape) share q h) (queues.queue shape q)
@@ -52,10 +56,22 @@ TakesItsOwn members (Take share m low high) earlier =
     (shape : Shape) → Happened (Enter share m shape) earlier → is_static shape.kind ≡ true → (number : ℕ) × (slice_get (pieces_of members shape) number ≡ Some (low, high)) × (number % members ≡ m)
 TakesItsOwn members _ earlier = Unit {0}
 
--- Whole: a share that every member has left had each of its iterations taken, once.
+-- Whole: a share that every member has left, and that nobody cancelled, had each of its iterations taken, once.
 abbrev pub WholeWhereOver : ℕ → List Event → Type 0
 WholeWhereOver members h =
-    (share m : ℕ) (shape : Shape) → Happened (Enter share m shape) h → IsOver members share h → (k : ℕ) → k < shape.trips → times_taken share k h ≡ 1
+    (share m : ℕ) (shape : Shape) → Happened (Enter share m shape) h → IsOver members share h → share_cancelled share h ≡ false → (k : ℕ) → k < shape.trips → times_taken share k h ≡ 1
+
+-- Cancelled shares (OpenMP API 5.2, section 16.1): a share is cancelled by a member that has entered it and not left it, and only if its end kind allows that
+abbrev pub CancelsCancellable : Event → List Event → Type 0
+CancelsCancellable (Cancel m (OneShare share)) earlier =
+    (shape : Shape) × Happened (Enter share m shape) earlier × (Happened (End share m) earlier → ⊥) × (shape.end_kind ≡ Cancellable)
+CancelsCancellable _ earlier = Unit {0}
+
+-- a member leaves a share with a piece left for it only after some member cancelled that share
+abbrev pub LeavesCancelled : Queues → Event → List Event → Type 0
+LeavesCancelled queues (End share m) earlier =
+    (shape : Shape) → Happened (Enter share m shape) earlier → (next_for queues shape share m earlier ≡ None → ⊥) → (n : ℕ) × Happened (Cancel n (OneShare share)) earlier
+LeavesCancelled queues _ earlier = Unit {0}
 
 -- a member of the team enters its shares one by one, by their numbers, each after it has left those before
 abbrev pub EntersOneByOne : ℕ → Event → List Event → Type 0
@@ -135,4 +151,6 @@ pub record OrderedLaws (members : ℕ) (h : List Event) : Type 0 where
 pub record ShareLaws (queues : Queues) (members : ℕ) (h : List Event) : Type 0 where
   pub taken_once : TakenOnce queues h
   pub whole : WholeWhereOver members h
+  pub cancelled : Always CancelsCancellable h
+  pub left_early : Always (LeavesCancelled queues) h
   pub same_shares : SameShares members h

@@ -1,7 +1,7 @@
 -- Loops: what a call on one is tested for, answered and gives. OpenMP API 5.2, section 11.5.
 use Rattle.std.specs.Prelude.{ℕ, ℤ, ◌+◌, not, ◌≡◌, if◌then◌else◌, true, false, List, [], ◌∷◌, ◌++◌, Option, Some, None}
 use Rattle.gomp_types.specs.declared.loop_desc.EndKind.{EndKind}
-use Rattle.gomp_types.specs.declared.refusal.Refusal.TheVariants.{OutsideShare, InOrdered, EndDiffers, NotDrained, Drained as DrainedAlready}
+use Rattle.gomp_types.specs.declared.refusal.Refusal.TheVariants.{OutsideShare, InOrdered, EndDiffers, Drained as DrainedAlready}
 use Rattle.gomp_types.specs.declared.reply.Reply.{Reply}
 use Rattle.gomp_types.specs.declared.reply.Reply.TheVariants.{Chunk, NoChunk, Finished, Wait}
 use Rattle.gomp_types.specs.declared.shape.Shape.{Shape}
@@ -21,7 +21,7 @@ use Rattle.gomp_types.specs.declared.loop_desc.LoopDesc.{LoopDesc}
 use Rattle.gomp_types.specs.Least.{Answers}
 use Rattle.gomp_types.specs.Seen.{seen_of}
 use Rattle.gomp_types.specs.Iterations.{loop_tests}
-use Rattle.gomp_shares.specs.Starts.{AnswersStart, entry_and}
+use Rattle.gomp_shares.specs.Starts.{AnswersStart, entry_and, drained_tests}
 
 -- a piece is answered by its first iteration's value and its length
 abbrev pub IsChunk : Shape → Option Piece → ℤ → ℕ → Type 0
@@ -62,13 +62,12 @@ next_given members (Some share) m h _ = []
 abbrev pub next_tests : Seen → List Test
 next_tests seen = (not (in_kind is_loop seen.current), OutsideShare) ∷ (seen.in_part, InOrdered) ∷ (seen.drained, DrainedAlready) ∷ []
 
--- the end, by the call for this end kind
+-- the end, by the call for this end kind; whether anything is left is tested behind these
 abbrev pub end_tests : EndKind → Seen → List Test
 end_tests kind seen =
     (not (in_kind is_loop seen.current), OutsideShare)
     ∷ (seen.in_part, InOrdered)
     ∷ (end_differs kind seen.current, EndDiffers)
-    ∷ (not seen.drained, NotDrained)
     ∷ []
 
 -- The answers, and the events after them
@@ -100,4 +99,4 @@ loop_next_taken members m reply h = next_given members (open_share m h) m h repl
 
 -- of the end by this call
 abbrev pub AnswersLoopEnd : EndKind → ℕ → Reply → List Event → Type 0
-AnswersLoopEnd kind m reply h = Answers (end_tests kind (seen_of m h)) (λ given. given ≡ Finished) reply
+AnswersLoopEnd kind m reply h = Answers (end_tests kind (seen_of m h) ++ drained_tests m h) (λ given. given ≡ Finished) reply

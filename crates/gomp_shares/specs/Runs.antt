@@ -9,12 +9,13 @@ use Rattle.gomp_types.specs.Singles.{single_shape}
 use Rattle.gomp_types.specs.Ordered.{is_ordered, is_in_rest}
 use Rattle.gomp_types.specs.declared.seen.Seen.{Seen}
 use Rattle.gomp_shares.specs.declared.calls.ShareCall.{ShareCall}
-use Rattle.gomp_shares.specs.declared.calls.ShareCall.TheVariants.{Open, OpenSections, OpenSingle, Claim, Leave, Begin, EndPart, HandOn}
+use Rattle.gomp_shares.specs.declared.calls.ShareCall.TheVariants.{Open, OpenSections, OpenSingle, Claim, Leave, Begin, EndPart, HandOn, Cancel, See}
 use Rattle.gomp_shares.specs.declared.calls.ShareStep.{ShareStep}
 use Rattle.gomp_shares.specs.declared.calls.ShareAnswer.{ShareAnswer}
-use Rattle.gomp_shares.specs.declared.calls.ShareAnswer.TheVariants.{Opened, Claimed, Left, Turned, Ended, NotMade}
+use Rattle.gomp_shares.specs.declared.calls.ShareAnswer.TheVariants.{Opened, Claimed, Left, Turned, Ended, Cancelled, Saw, NotMade}
+use Rattle.gomp_types.specs.Cancels.{may_be_cancelled, own_cancelled}
 use Rattle.gomp_types.specs.Seen.{seen_of}
-use Rattle.gomp_shares.specs.Calls.{most_shares, is_done, MayOpen, events_opened, Claims, events_claimed, events_left, own_turn, part_begun, part_ended, piece_handed}
+use Rattle.gomp_shares.specs.Calls.{most_shares, is_free, in_construct, events_cancelled, seen_if, MayOpen, events_opened, Claims, events_claimed, events_left, own_turn, part_begun, part_ended, piece_handed}
 
 -- whether a member that sees this of its place may open its next share, if these are the tests of the construct by itself
 abbrev pub may_open : Seen → List Test → Bool
@@ -26,10 +27,12 @@ may_make seen (Open loop) = may_open seen (loop_tests loop)
 may_make seen (OpenSections count end_kind) = may_open seen (sections_tests count)
 may_make seen (OpenSingle copies) = may_open seen []
 may_make seen Claim = is_some seen.current && not seen.drained && not seen.in_part
-may_make seen Leave = is_some seen.current && is_done seen && not seen.in_part
+may_make seen Leave = is_some seen.current && is_free seen && not seen.in_part
 may_make seen (Begin iteration) = is_ordered seen.current && not seen.in_part && is_in_rest seen.piece seen.next_part (Some iteration)
 may_make seen EndPart = seen.in_part
 may_make seen HandOn = is_ordered seen.current && not seen.in_part
+may_make seen Cancel = may_be_cancelled seen.current
+may_make seen See = in_construct seen.current
 
 -- a call is made exactly if its member is in the team and may make it
 abbrev pub is_made : ℕ → ShareStep → List Event → Bool
@@ -45,6 +48,8 @@ Answers members m Leave Left h = Unit {0}
 Answers members m (Begin iteration) (Turned begun) h = begun ≡ own_turn members m h
 Answers members m EndPart Ended h = Unit {0}
 Answers members m HandOn (Turned handed) h = handed ≡ own_turn members m h
+Answers members m Cancel Cancelled h = Unit {0}
+Answers members m See (Saw cancelled) h = cancelled ≡ own_cancelled m h
 Answers members m _ _ h = ⊥
 
 -- the answer to a step: that of its call if it is made, else that it is not made
@@ -63,6 +68,8 @@ answered_call members m Left call h = events_left m h
 answered_call members m (Turned begun) (Begin iteration) h = part_begun m iteration begun h
 answered_call members m (Turned handed) HandOn h = piece_handed members m handed h
 answered_call members m Ended call h = part_ended m h
+answered_call members m Cancelled call h = events_cancelled m h
+answered_call members m (Saw cancelled) call h = seen_if cancelled m h
 answered_call members m _ _ h = h
 
 -- the events after a step and its answer

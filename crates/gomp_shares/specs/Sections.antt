@@ -1,7 +1,7 @@
 -- Sections: what a call on them is tested for, answered and gives. OpenMP API 5.2, section 11.3.
 use Rattle.std.specs.Prelude.{ℕ, zero, suc, not, ◌≡◌, List, [], ◌∷◌, ◌++◌, Option, Some, None}
 use Rattle.gomp_types.specs.declared.loop_desc.EndKind.{EndKind}
-use Rattle.gomp_types.specs.declared.refusal.Refusal.TheVariants.{OutsideShare, EndDiffers, NotDrained, Drained as DrainedAlready}
+use Rattle.gomp_types.specs.declared.refusal.Refusal.TheVariants.{OutsideShare, EndDiffers, Drained as DrainedAlready}
 use Rattle.gomp_types.specs.declared.reply.Reply.{Reply}
 use Rattle.gomp_types.specs.declared.reply.Reply.TheVariants.{Section, Finished}
 use Rattle.gomp_types.specs.declared.shape.Shape.{Shape}
@@ -17,7 +17,7 @@ use Rattle.gomp_types.specs.declared.limits.Limits.{Limits}
 use Rattle.gomp_types.specs.Least.{Answers}
 use Rattle.gomp_types.specs.Seen.{seen_of}
 use Rattle.gomp_types.specs.Sections.{sections_shape, sections_tests}
-use Rattle.gomp_shares.specs.Starts.{AnswersStart, entry_and}
+use Rattle.gomp_shares.specs.Starts.{AnswersStart, entry_and, drained_tests}
 
 -- the first section that nobody took, by its number from 1, and 0 if none is left
 abbrev pub DealsSections : ℕ → ℕ → Option (ℕ × Shape) → Reply → List Event → Type 0
@@ -41,10 +41,10 @@ section_next_given (Some share) m reply = section_given share.0 share.1 m reply
 abbrev pub section_next_tests : Seen → List Test
 section_next_tests seen = (not (in_kind is_sections seen.current), OutsideShare) ∷ (seen.drained, DrainedAlready) ∷ []
 
--- the end, by the call for this end kind
+-- the end, by the call for this end kind; whether anything is left is tested behind these
 abbrev pub sections_end_tests : EndKind → Seen → List Test
 sections_end_tests kind seen =
-    (not (in_kind is_sections seen.current), OutsideShare) ∷ (end_differs kind seen.current, EndDiffers) ∷ (not seen.drained, NotDrained) ∷ []
+    (not (in_kind is_sections seen.current), OutsideShare) ∷ (end_differs kind seen.current, EndDiffers) ∷ []
 
 -- The answers, and the events after them
 
@@ -76,4 +76,4 @@ section_next_taken m reply h = section_next_given (open_share m h) m reply ++ h
 
 -- of the end by this call
 abbrev pub AnswersSectionsEnd : EndKind → ℕ → Reply → List Event → Type 0
-AnswersSectionsEnd kind m reply h = Answers (sections_end_tests kind (seen_of m h)) (λ given. given ≡ Finished) reply
+AnswersSectionsEnd kind m reply h = Answers (sections_end_tests kind (seen_of m h) ++ drained_tests m h) (λ given. given ≡ Finished) reply

@@ -1,18 +1,20 @@
 -- What the constructs that are shares have in common: how one is started. OpenMP API 5.2, chapter 11.
-use Rattle.std.specs.Prelude.{◌⊎◌, ℕ, nat_le, ◌≡◌, is_some, true, false, List, [], ◌∷◌, ◌++◌, Option, Some}
+use Rattle.std.specs.Prelude.{◌⊎◌, ℕ, nat_le, not, ◌&&◌, ◌||◌, if◌then◌else◌, ◌≡◌, is_some, Bool, true, false, List, [], ◌∷◌, ◌++◌, Option, Some}
 use Rattle.gomp_types.specs.declared.limits.Limits.{Limits}
-use Rattle.gomp_types.specs.declared.refusal.Refusal.TheVariants.{InsideShare, TooManyShares, Mismatch}
+use Rattle.gomp_types.specs.declared.refusal.Refusal.TheVariants.{InsideShare, TooManyShares, NotDrained, Mismatch}
 use Rattle.gomp_types.specs.declared.reply.Reply.{Reply}
 use Rattle.gomp_types.specs.declared.reply.Reply.TheVariants.{Wait, Finished}
 use Rattle.gomp_types.specs.declared.shape.Shape.{Shape}
 use Rattle.gomp_types.specs.declared.seen.Seen.{Seen}
 use Rattle.gomp_types.specs.declared.event.Event.{Event}
-use Rattle.gomp_types.specs.declared.event.Event.TheVariants.{Enter, End}
+use Rattle.gomp_types.specs.declared.event.Event.TheVariants.{Enter, End, See}
 use Rattle.gomp_types.specs.Tests.{Test}
 use Rattle.gomp_types.specs.Compare.{shape_differs}
-use Rattle.gomp_types.specs.Events.{shares_entered, open_number, has_room, shape_at}
+use Rattle.gomp_types.specs.Events.{shares_entered, open_share, open_number, has_drained, has_room, shape_at}
+use Rattle.gomp_types.specs.Cancels.{own_cancelled, leaves_share}
 use Rattle.gomp_types.specs.Seen.{seen_of}
 use Rattle.gomp_types.specs.Least.{Answers}
+use Rattle.gomp_shares.specs.Calls.{kind_in}
 
 -- how a member's share answers it: of how many members, which member, the share
 abbrev pub Deals : Type 1
@@ -61,9 +63,21 @@ AnswersBegin shape deals members m reply h = Answers (compared_share shape m h) 
 
 -- Ends
 
+-- whether the member was told that nothing is left of its share, or the share is cancelled
+abbrev pub is_drained : ℕ → List Event → Bool
+is_drained m h = has_drained m h || own_cancelled m h
+
+-- the test of an end that the share decides
+abbrev pub drained_tests : ℕ → List Event → List Test
+drained_tests m h = (not (is_drained m h), NotDrained) ∷ []
+
+-- a member that ends a cancelled share, and was neither told that nothing is left nor has seen that it is cancelled, sees that now (own)
+abbrev pub sees_at_end : ℕ → List Event → List Event
+sees_at_end m h = if own_cancelled m h && not (has_drained m h || leaves_share m h) then See m (kind_in (open_share m h)) ∷ [] else []
+
 -- the member's share is left
 abbrev pub leaves : ℕ → List Event → List Event
-leaves m h = End (open_number m h) m ∷ []
+leaves m h = End (open_number m h) m ∷ sees_at_end m h
 
 -- the events after an end with no barrier
 abbrev pub left_at_once : ℕ → Reply → List Event → List Event

@@ -7,13 +7,15 @@ ghost use Rattle.gomp_types.specs.Deals.{schedule};
 ghost use Rattle.gomp_types.specs.Limits.{IsTeamSize};
 ghost use Rattle.gomp_shares.specs.Laws.{OrderedLaws, ShareLaws};
 ghost use Rattle.gomp_types.specs.Ordered.{is_ordered, is_in_rest};
-ghost use Rattle.gomp_shares.specs.Calls.{EachStands, is_done};
+ghost use Rattle.gomp_types.specs.Cancels.{may_be_cancelled};
+ghost use Rattle.gomp_shares.specs.Calls.{EachStands, in_construct, is_done, is_free};
 ghost use Rattle.gomp_shares.specs.declared.calls.ShareAnswer.TheVariants.{NotMade};
 ghost use Rattle.gomp_shares.specs.Runs.{may_make, IsAnswer, events_answered, AreAnswers, events_after};
 
 use crate::admission::is_in_rest;
+use crate::cancels::see_if_cancelled;
 use crate::{Opening, Shares};
-use gomp_types::{EndKind, LoopDesc, MAX_SECTIONS, Seen, sections_shape, single_shape, trips};
+use gomp_types::{EndKind, LoopDesc, MAX_SECTIONS, Seen, ShareKind, sections_shape, single_shape};
 use std::alloc::{AllocError, Global};
 
 /// One call of a member on its shares.
@@ -36,6 +38,10 @@ pub enum ShareCall {
     EndPart,
     /// Hands the piece of an ordered loop on.
     HandOn,
+    /// Cancels the share, which its end kind allows.
+    Cancel,
+    /// Sees that the loop or sections construct is cancelled, if it is.
+    See,
 }
 
 /// A call with the member that makes it.
@@ -62,6 +68,10 @@ pub enum ShareAnswer {
     Turned(bool),
     /// To `EndPart`.
     Ended,
+    /// To `Cancel`.
+    Cancelled,
+    /// To `See`: whether the construct is cancelled, and so the member saw that.
+    Saw(bool),
     /// The call was not made, since its premise does not hold.
     NotMade,
 }
@@ -77,11 +87,11 @@ pub fn make_call<S: Shares>(shares: &mut S, count: u16, step: &ShareStep) -> Sha
     ensures stands { EachStands (S.stands shares.old) (λ h.
         S.stands shares.new (events_answered count step.now result h)) }
 {
-    if step.member >= count {
+    let member = step.member;
+    if member >= count {
         return ShareAnswer::NotMade;
     }
-    let seen = shares.look(step.member);
-    if !may_make(&seen, &step.call) {
+    if !may_make(&shares.look(member), &step.call) {
         return ShareAnswer::NotMade;
     }
     match step.call {
@@ -89,30 +99,33 @@ pub fn make_call<S: Shares>(shares: &mut S, count: u16, step: &ShareStep) -> Sha
             let Ok(shape) = desc.shape() else {
                 return ShareAnswer::NotMade;
             };
-            ShareAnswer::Opened(shares.try_open(step.member, &shape))
+            ShareAnswer::Opened(shares.try_open(member, &shape))
         }
         ShareCall::OpenSections { count, end_kind } => {
             let Ok(shape) = sections_shape(count, end_kind) else {
                 return ShareAnswer::NotMade;
             };
-            ShareAnswer::Opened(shares.try_open(step.member, &shape))
+            ShareAnswer::Opened(shares.try_open(member, &shape))
         }
         ShareCall::OpenSingle { copies } => {
-            ShareAnswer::Opened(shares.try_open(step.member, &single_shape(copies)))
+            ShareAnswer::Opened(shares.try_open(member, &single_shape(copies)))
         }
-        ShareCall::Claim => ShareAnswer::Claimed(shares.claim(step.member)),
+        ShareCall::Claim => ShareAnswer::Claimed(shares.claim(member)),
         ShareCall::Leave => {
-            shares.leave(step.member);
+            shares.leave(member);
             ShareAnswer::Left
         }
-        ShareCall::Begin(iteration) => {
-            ShareAnswer::Turned(shares.try_turn(step.member, iteration))
-        }
+        ShareCall::Begin(iteration) => ShareAnswer::Turned(shares.try_turn(member, iteration)),
         ShareCall::EndPart => {
-            shares.end_part(step.member);
+            shares.end_part(member);
             ShareAnswer::Ended
         }
-        ShareCall::HandOn => ShareAnswer::Turned(shares.hand_on(step.member)),
+        ShareCall::HandOn => ShareAnswer::Turned(shares.hand_on(member)),
+        ShareCall::Cancel => {
+            shares.cancel(member);
+            ShareAnswer::Cancelled
+        }
+        ShareCall::See => ShareAnswer::Saw(see_if_cancelled(shares, member)),
     }
 }
 
@@ -127,19 +140,48 @@ fn may_make(seen: &Seen, call: &ShareCall) -> bool
     let enters = seen.current.is_none() && seen.entered < MOST_SHARES;
     match call {
         ShareCall::Open(desc) => {
-            let is_loop = trips(desc).is_ok();
+            let is_loop = desc.shape().is_ok();
             enters && is_loop
         }
         ShareCall::OpenSections { count, .. } => enters && *count <= MAX_SECTIONS,
         ShareCall::OpenSingle { .. } => enters,
         ShareCall::Claim => seen.current.is_some() && !seen.drained && !seen.in_part,
-        ShareCall::Leave => seen.current.is_some() && is_done(seen) && !seen.in_part,
+        ShareCall::Leave => seen.current.is_some() && is_free(seen) && !seen.in_part,
         ShareCall::Begin(iteration) => {
             is_ordered(seen) && !seen.in_part && is_in_rest(seen, *iteration)
         }
         ShareCall::EndPart => seen.in_part,
         ShareCall::HandOn => is_ordered(seen) && !seen.in_part,
+        ShareCall::Cancel => may_be_cancelled(seen),
+        ShareCall::See => is_in_construct(seen),
     }
+}
+
+/// Whether a member that sees this of its place is in a share that may be cancelled.
+fn may_be_cancelled(seen: &Seen) -> bool
+    ensures { result ≡ may_be_cancelled seen.now.current }
+{
+    let Some((_, shape)) = seen.current else {
+        return false;
+    };
+    matches!(shape.end_kind, EndKind::Cancellable)
+}
+
+/// Whether it is in a loop or in sections.
+fn is_in_construct(seen: &Seen) -> bool
+    ensures { result ≡ in_construct seen.now.current }
+{
+    let Some((_, shape)) = seen.current else {
+        return false;
+    };
+    shape.kind.is_loop() || matches!(shape.kind, ShareKind::Sections)
+}
+
+/// Whether it may leave its share, if it is in no ordered part of it.
+fn is_free(seen: &Seen) -> bool
+    ensures { result ≡ is_free seen.now }
+{
+    is_done(seen) || seen.leaving
 }
 
 /// Whether a member that sees this of its place is in an ordered loop.
@@ -166,9 +208,10 @@ fn is_done(seen: &Seen) -> bool
 /// an answer for each. Calls of members that the team does not have are not made.
 ///
 /// Whatever the body `S` and whatever the calls: no iteration, section or `single` is taken twice,
-/// a share that every member left had each of its own taken, ordered parts of a loop run in the
-/// order of its iterations, all members go through the same shares, and no more than eight are
-/// open.
+/// a share that every member left, and that nobody cancelled, had each of its own taken, ordered
+/// parts of a loop run in the order of its iterations, all members go through the same shares, and
+/// no more than eight are open. Only a share whose end kind allows it is cancelled, by a member that
+/// is in it.
 pub fn make_calls<S: Shares>(
     alloc: Global,
     count: u16,

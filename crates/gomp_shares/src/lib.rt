@@ -11,10 +11,11 @@
 
 pub mod admission;
 pub mod calls;
+pub mod cancels;
 pub mod ends;
 mod places;
 
-ghost use Rattle.std.specs.Prelude.{◌≡◌, ◌<◌, ℕ, List, [], ◌∷◌, IfOk, Some, false};
+ghost use Rattle.std.specs.Prelude.{◌≡◌, ◌<◌, ℕ, List, [], ◌∷◌, IfOk, Some, true, false};
 ghost use Rattle.gomp_types.specs.declared.event.Event.{Event};
 ghost use Rattle.gomp_types.specs.Laws.{Always};
 ghost use Rattle.gomp_shares.specs.Rules.{ShareRule};
@@ -23,9 +24,10 @@ ghost use Rattle.gomp_types.specs.declared.shape.Shape.{Shape};
 ghost use Rattle.gomp_types.specs.Values.{IsShape};
 ghost use Rattle.gomp_types.specs.Limits.{IsTeamSize};
 ghost use Rattle.gomp_types.specs.Events.{shares_entered, open_share, shape_at};
+ghost use Rattle.gomp_types.specs.Cancels.{own_cancelled};
 ghost use Rattle.gomp_types.specs.Compare.{shape_differs};
 ghost use Rattle.gomp_types.specs.Seen.{seen_of};
-ghost use Rattle.gomp_shares.specs.Calls.{was_taken, CanOpen, MayOpen, events_opened, CanClaim, Claims, events_claimed, CanLeave, events_left, CanBeginPart, CanEndPart, CanHandOn, own_turn, part_begun, part_ended, piece_handed, IsAside, EachStands};
+ghost use Rattle.gomp_shares.specs.Calls.{was_taken, CanOpen, MayOpen, events_opened, CanClaim, Claims, events_claimed, CanLeave, events_left, CanCancel, events_cancelled, CanSee, events_seen, CanBeginPart, CanEndPart, CanHandOn, own_turn, part_begun, part_ended, piece_handed, IsAside, EachStands};
 ghost use Rattle.gomp_types.specs.declared.seen.Seen.{Seen};
 ghost use Rattle.gomp_shares.specs.declared.Opening.TheVariants.{Entered};
 
@@ -155,8 +157,8 @@ pub trait Shares: Sized {
             stands self.new (piece_handed (members self.old) member result h)) }
         ensures kept { result ≡ false → self.new ≡ self.old };
 
-    /// Leaves the member's share, of which nothing is left for it: it was told so, or it took the
-    /// one piece of a `single`.
+    /// Leaves the member's share. Nothing is left of it for the member, which was told so, or took
+    /// the one piece of a `single`; or the member has seen that the share is cancelled.
     ///
     /// The member is in no ordered part.
     fn leave(&mut self, member: u16)
@@ -165,6 +167,33 @@ pub trait Shares: Sized {
         ensures known { (h : List Event) × stands self.old h }
         ensures stands { EachStands (stands self.old)
             (λ h. stands self.new (events_left member h)) };
+
+    /// Cancels the share that the member is in, whose end kind lets it be cancelled (OpenMP API 5.2,
+    /// section 16.1). It may be cancelled already.
+    fn cancel(&mut self, member: u16)
+        requires place { CanCancel (members self.old) member (seen self.old member) }
+        ensures members { members self.new ≡ members self.old }
+        ensures known { (h : List Event) × stands self.old h }
+        ensures stands { EachStands (stands self.old) (λ h.
+            stands self.new (events_cancelled member h)) };
+
+    /// Whether the share that the member is in was cancelled; false outside of every share. Nothing
+    /// changes.
+    fn cancelled(&mut self, member: u16) -> bool
+        requires member { member < members self.old }
+        ensures known { (h : List Event) × stands self.old h }
+        ensures answer { EachStands (stands self.old) (λ h. result ≡ own_cancelled member h) }
+        ensures kept { self.new ≡ self.old };
+
+    /// The member sees that the loop or sections construct that it is in is cancelled, and from then
+    /// on it may leave that (OpenMP API 5.2, section 16.1).
+    fn see(&mut self, member: u16)
+        requires place { CanSee (members self.old) member (seen self.old member) }
+        requires cancelled { EachStands (stands self.old) (λ h. own_cancelled member h ≡ true) }
+        ensures members { members self.new ≡ members self.old }
+        ensures known { (h : List Event) × stands self.old h }
+        ensures stands { EachStands (stands self.old) (λ h.
+            stands self.new (events_seen member h)) };
 
     /// Arrivals, payloads and the like change nothing.
     ghost aside: { (s : Self) (h : List Event) (event : Event) →

@@ -1,11 +1,11 @@
 -- What becomes of the rows of a team's tasks as events come.
-use Rattle.std.proofs.Common.{◌≡◌, ◌≢◌, ℕ, ◌+◌, ◌-◌, ◌<◌, Bool, true, false, List, [], ◌∷◌, ◌++◌, Some, length, slice_get, slice_set, refl, ap, ◌∙◌, sym, subst, arith, suc, zero, inl, inr, ◌⊎◌}
+use Rattle.std.proofs.Common.{◌≡◌, ◌≢◌, ℕ, ◌+◌, ◌-◌, ◌<◌, Bool, true, false, List, [], ◌∷◌, ◌++◌, Some, None, length, slice_get, slice_set, refl, ap, ◌∙◌, sym, subst, arith, suc, zero, inl, inr, ◌⊎◌}
 use Rattle.std.specs.Prelude.{◌==◌, ◌||◌}
 use Rattle.gomp_types.specs.declared.task.Task.{Task}
 use Rattle.gomp_types.specs.declared.task.Task.TheVariants.{Implicit, Explicit}
 use Rattle.gomp_types.specs.declared.task.TaskDesc.{TaskDesc}
 use Rattle.gomp_types.specs.declared.event.Event.{Event}
-use Rattle.gomp_types.specs.declared.event.Event.TheVariants.{Create, Start, Done}
+use Rattle.gomp_types.specs.declared.event.Event.TheVariants.{Create, Start, Done, Discard}
 use Rattle.gomp_types.specs.Tasks.{same_task, of_explicit, has_started, task_runner, is_complete, is_ancestor, task_depth, depth_of, epoch, epoch_of_child, is_odd, is_final}
 use Rattle.gomp_types.proofs.Booleans.{same_number, other_number}
 use Rattle.gomp_types.proofs.Lists.{slice_get-set}
@@ -15,12 +15,13 @@ use Rattle.gomp_tasks.specs.declared.rows.TaskRow.{TaskRow}
 use Rattle.gomp_tasks.specs.Rows.{IsState, RowStands, unstarted_row}
 use Rattle.gomp_tasks.specs.Calls.{IsAside}
 
--- An event that creates, starts or ends no task
+-- An event that creates, starts, ends or discards no task
 
 pub aside_row : (t : ℕ) (row : TaskRow) (event : Event) (h : List Event) → IsAside event → RowStands t row h → RowStands t row (event ∷ h)
 aside_row t row (Create task m p desc) h is st = absurd is
 aside_row t row (Start task m) h is st = absurd is
 aside_row t row (Done task m) h is st = absurd is
+aside_row t row (Discard task m) h is st = absurd is
 aside_row t row _ h is st = record {
   job = st.job;
   parent = record { children = st.parent.children; ancestors = st.parent.ancestors; older = st.parent.older };
@@ -76,6 +77,34 @@ completed_row t m row h on who st = record {
 
 pub other_completed_row : (task m t : ℕ) (row : TaskRow) (h : List Event) → (task == t) ≡ false → RowStands t row h → RowStands t row (Done task m ∷ h)
 other_completed_row task m t row h other st = record {
+  job = st.job;
+  parent = record { children = st.parent.children; ancestors = st.parent.ancestors; older = st.parent.older };
+  depth = st.depth;
+  odd = st.odd;
+  undeferred = st.undeferred;
+  final_is = st.final_is;
+  state = record { started = st.state.started; complete = rw other st.state.complete; runner = st.state.runner };
+}
+
+-- A task that is discarded
+
+-- the row once a cancellation has discarded the task
+abbrev pub discarded : TaskRow → TaskRow
+discarded row = record row { state = states.Discarded }
+
+pub discarded_row : (t m : ℕ) (row : TaskRow) (h : List Event) → has_started t h ≡ false → task_runner t h ≡ None → RowStands t row h → RowStands t (discarded row) (Discard t m ∷ h)
+discarded_row t m row h fresh nobody st = record {
+  job = st.job;
+  parent = record { children = st.parent.children; ancestors = st.parent.ancestors; older = st.parent.older };
+  depth = st.depth;
+  odd = st.odd;
+  undeferred = st.undeferred;
+  final_is = st.final_is;
+  state = record { started = fresh; complete = rw (same_number t) refl; runner = nobody };
+}
+
+pub other_discarded_row : (task m t : ℕ) (row : TaskRow) (h : List Event) → (task == t) ≡ false → RowStands t row h → RowStands t row (Discard task m ∷ h)
+other_discarded_row task m t row h other st = record {
   job = st.job;
   parent = record { children = st.parent.children; ancestors = st.parent.ancestors; older = st.parent.older };
   depth = st.depth;

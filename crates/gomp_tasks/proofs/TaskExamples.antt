@@ -1,6 +1,9 @@
 -- When rows and stacks stand for events, and what the calls ask for: for each line of a definition what it says, and what it alone refuses.
 use Rattle.std.proofs.Common.{◌≡◌, ℕ, ◌<◌, true, false, List, [], ◌∷◌, Some, None, slice_get, refl, subst, ap, arith, suc, zero}
 use Rattle.std.specs.Prelude.{map}
+use Rattle.gomp_types.specs.declared.cancel.CancelKind.{CancelKind}
+use Rattle.gomp_types.specs.declared.cancel.Scope.{Scope}
+use Rattle.gomp_types.specs.declared.cancel.Scope.TheVariants.{Region}
 use Rattle.gomp_types.specs.declared.refusal.Place.{Place}
 use Rattle.gomp_types.specs.declared.shape.Shape.{Shape}
 use Rattle.gomp_types.specs.declared.key.Key.{Key}
@@ -10,7 +13,7 @@ use Rattle.gomp_types.specs.declared.task.Task.{Task}
 use Rattle.gomp_types.specs.declared.depend.Dep.{Dep}
 use Rattle.gomp_types.specs.declared.task.Task.TheVariants.{Implicit, Explicit}
 use Rattle.gomp_types.specs.declared.task.TaskDesc.{TaskDesc}
-use Rattle.gomp_types.specs.declared.event.Event.TheVariants.{Enter, Take, Drained, End, HandOn, Part, PartEnd, Put, Got, Arrive, Pass, Hold, Free, Create, Start, Done, Group, GroupEnd, Waited, Break}
+use Rattle.gomp_types.specs.declared.event.Event.TheVariants.{Enter, Take, Drained, End, HandOn, Part, PartEnd, Put, Got, Arrive, Pass, Hold, Free, Create, Start, Done, Group, GroupEnd, Waited, Cancel, Discard, See, Break}
 use Rattle.gomp_types.specs.Tasks.{task_stack, executed_task, innermost_task}
 use Rattle.gomp_tasks.specs.declared.tasks.TheConstants.{MAX_TASKS}
 use Rattle.gomp_tasks.specs.declared.rows.TaskState.TheVariants as states
@@ -19,17 +22,17 @@ use Rattle.gomp_tasks.specs.Rows.{is_started, is_over, Follows, runner_of, first
 use Rattle.gomp_tasks.specs.Stands.{TasksView, members_of, count_of, IsNumber, IsTask, Stands, AreSame, AreTasks}
 use Rattle.gomp_tasks.specs.Calls.{MayCreateNext, task_or_implicit, is_under_all, tasks_room, IsAside}
 use Rattle.gomp_tasks.proofs.TasksKeep.{executed_number}
-use Rattle.gomp_tasks.specs.Examples.{first_desc, one_created, two_created, two_started, second_done, first_with, second_with, first_running, second_running, tasks_with, both_running}
+use Rattle.gomp_tasks.specs.Examples.{first_desc, one_created, two_created, two_started, second_done, second_discarded, first_with, second_with, first_running, second_running, tasks_with, both_running}
 
 -- What is kept of a task
 
--- a task that runs was started, and one that is complete too
-pub states_started : (is_started states.Unstarted ≡ false) × (is_started (states.Running 3) ≡ true) × (is_started (states.Done 3) ≡ true)
-states_started = (refl, refl, refl)
+-- a task that runs was started, and one that a member has ended; not one that was discarded
+pub states_started : (is_started states.Unstarted ≡ false) × (is_started (states.Running 3) ≡ true) × (is_started (states.Done 3) ≡ true) × (is_started states.Discarded ≡ false)
+states_started = (refl, refl, refl, refl)
 
--- only the latter is complete
-pub states_over : (is_over states.Unstarted ≡ false) × (is_over (states.Running 3) ≡ false) × (is_over (states.Done 3) ≡ true)
-states_over = (refl, refl, refl)
+-- the latter two are complete
+pub states_over : (is_over states.Unstarted ≡ false) × (is_over (states.Running 3) ≡ false) × (is_over (states.Done 3) ≡ true) × (is_over states.Discarded ≡ true)
+states_over = (refl, refl, refl, refl)
 
 -- a state stays, or moves forward
 pub states_that_follow : Follows states.Unstarted states.Unstarted × Follows states.Unstarted (states.Running 3) × Follows states.Unstarted (states.Done 3) × Follows (states.Running 3) (states.Running 3) × Follows (states.Running 3) (states.Done 3) × Follows (states.Done 3) (states.Done 3)
@@ -38,6 +41,14 @@ states_that_follow = (tt, tt, tt, tt, tt, tt)
 -- and never back
 pub states_that_do_not : (Follows (states.Running 3) states.Unstarted → ⊥) × (Follows (states.Done 3) states.Unstarted → ⊥) × (Follows (states.Done 3) (states.Running 3) → ⊥)
 states_that_do_not = (λ is. is, λ is. is, λ is. is)
+
+-- a task that nobody has started may be discarded
+pub discarded_states_follow : Follows states.Unstarted states.Discarded × Follows states.Discarded states.Discarded
+discarded_states_follow = (tt, tt)
+
+-- one that was started never is, and one that was discarded is not started
+pub discarded_states_do_not : (Follows (states.Running 3) states.Discarded → ⊥) × (Follows (states.Done 3) states.Discarded → ⊥) × (Follows states.Discarded states.Unstarted → ⊥) × (Follows states.Discarded (states.Running 3) → ⊥) × (Follows states.Discarded (states.Done 3) → ⊥)
+discarded_states_do_not = (λ is. is, λ is. is, λ is. is, λ is. is, λ is. is)
 
 -- the innermost of two tasks, and of none
 pub first_of_a_stack : (first_of (2 ∷ 1 ∷ []) ≡ Some 2) × (first_of [] ≡ None)
@@ -61,9 +72,25 @@ state_not_complete is = absurd (let over = is.complete in cc)
 pub state_of_another_runner : IsState 2 (states.Running 1) two_started → ⊥
 state_of_another_runner is = absurd (let runner = is.runner in cc)
 
+-- one that was discarded
+pub state_of_a_discarded : IsState 2 states.Discarded second_discarded
+state_of_a_discarded = record { started = refl; complete = refl; runner = refl }
+
+-- as if a member had ended it
+pub discarded_not_ended : IsState 2 (states.Done 0) second_discarded → ⊥
+discarded_not_ended is = absurd (let on = is.started in cc)
+
+-- as if it could be started
+pub discarded_not_unstarted : IsState 2 states.Unstarted second_discarded → ⊥
+discarded_not_unstarted is = absurd (let over = is.complete in cc)
+
+-- one that a member ended, as if it was discarded, and one that nobody has started
+pub ended_not_discarded : (IsState 2 states.Discarded second_done → ⊥) × (IsState 2 states.Discarded two_created → ⊥)
+ended_not_discarded = (λ is. absurd (let on = is.started in cc), λ is. absurd (let over = is.complete in cc))
+
 -- who started a task
-pub runners_of_states : (runner_of states.Unstarted ≡ None) × (runner_of (states.Running 3) ≡ Some 3) × (runner_of (states.Done 3) ≡ Some 3)
-runners_of_states = (refl, refl, refl)
+pub runners_of_states : (runner_of states.Unstarted ≡ None) × (runner_of (states.Running 3) ≡ Some 3) × (runner_of (states.Done 3) ≡ Some 3) × (runner_of states.Discarded ≡ None)
+runners_of_states = (refl, refl, refl, refl)
 
 -- When a parent does
 
@@ -163,14 +190,33 @@ tasks_stand = record {
   rule = (
     record { member = omega arith; may = refl; own = λ undeferred. refl },
     (
-      record { member = omega arith; number = refl; current = refl; away = λ e. refl; shallow = omega arith },
+      record { member = omega arith; number = refl; current = refl; away = λ e. refl; shallow = omega arith; uncovered = refl },
       (
         record { member = omega arith; may = refl; own = λ undeferred. absurd (cc) },
-        (record { member = omega arith; number = refl; current = refl; away = λ e. refl; shallow = omega arith }, (tt, tt)),
+        (record { member = omega arith; number = refl; current = refl; away = λ e. refl; shallow = omega arith; uncovered = refl }, (tt, tt)),
       ),
     ),
   );
 }
+
+-- the first runs the first, and the second was discarded
+pub discarded_tasks_stand : Stands (tasks_with (first_running ∷ second_with states.Discarded ∷ []) (1 ∷ []) [] 3) second_discarded
+discarded_tasks_stand = record {
+  count = refl;
+  row = of_two_rows (λ k row. RowStands (suc k) row second_discarded) first_running (second_with states.Discarded)
+      (record { job = (refl, refl); parent = record { children = λ p. refl; ancestors = λ a. refl; older = λ p e. absurd (cc) }; depth = refl; odd = refl; undeferred = refl; final_is = refl; state = record { started = refl; complete = refl; runner = refl } })
+      (record { job = (refl, refl); parent = record { children = λ p. refl; ancestors = λ a. refl; older = first_is_parent.older }; depth = refl; odd = refl; undeferred = refl; final_is = refl; state = state_of_a_discarded });
+  stack = of_two_stacks (λ m ts. task_stack m second_discarded ≡ ts) (1 ∷ []) [] refl refl;
+  rule = (record { member = omega arith; unstarted = refl; covered = refl }, (tt, tasks_stand.rule.1));
+}
+
+-- as if the first member had started it
+pub discarded_on_a_stack : Stands (tasks_with (first_running ∷ second_with states.Discarded ∷ []) (2 ∷ 1 ∷ []) [] 3) second_discarded → ⊥
+discarded_on_a_stack stands = absurd (let stack = stands.stack 0 (2 ∷ 1 ∷ []) refl in let same = ap first_of stack in cc)
+
+-- a task that runs and was discarded
+pub discarded_while_it_runs : Stands (tasks_with (first_running ∷ second_running ∷ []) (2 ∷ 1 ∷ []) [] 3) (Discard 2 0 ∷ Cancel 0 Region ∷ two_started) → ⊥
+discarded_while_it_runs stands = absurd (let unstarted = stands.rule.0.unstarted in cc)
 
 -- whatever room there is
 pub tasks_stand_in_any_room : (room : ℕ) → Stands (tasks_with (first_running ∷ second_running ∷ []) (2 ∷ 1 ∷ []) [] room) two_started
@@ -246,14 +292,14 @@ are_too_many_tasks tasks more are = absurd (let few = are.1 in omega (arith, mor
 -- the first member creates a task in the second one
 pub next_in_a_task : MayCreateNext both_running 0 true two_started
 next_in_a_task = record {
-  rule = record { member = omega arith; number = refl; current = refl; away = λ e. refl; shallow = omega arith };
+  rule = record { member = omega arith; number = refl; current = refl; away = λ e. refl; shallow = omega arith; uncovered = refl };
   odd_is = refl;
 }
 
 -- the second member in its implicit one, which is bound to the barrier before
 pub next_in_an_implicit_task : MayCreateNext both_running 1 false two_started
 next_in_an_implicit_task = record {
-  rule = record { member = omega arith; number = refl; current = refl; away = λ e. refl; shallow = omega arith };
+  rule = record { member = omega arith; number = refl; current = refl; away = λ e. refl; shallow = omega arith; uncovered = refl };
   odd_is = refl;
 }
 
@@ -289,13 +335,17 @@ tasks_room_stays = refl
 pub tasks_room_never_doubles : (tasks_room 16000 0 ≡ 16000 → ⊥) × (tasks_room 16000 0 ≡ 1 → ⊥)
 tasks_room_never_doubles = (λ e. absurd (let wrong : 1001 ≡ 16000 = e in omega (arith, wrong)), λ e. absurd (let wrong : 1001 ≡ 1 = e in omega (arith, wrong)))
 
--- the tasks see what creates, starts and ends one
-pub tasks_are_found : (t m : ℕ) (parent : Task) (desc : TaskDesc) → (IsAside (Create t m parent desc) → ⊥) × (IsAside (Start t m) → ⊥) × (IsAside (Done t m) → ⊥)
-tasks_are_found t m parent desc = (λ is. is, λ is. is, λ is. is)
+-- the tasks see what creates, starts, ends and discards one
+pub tasks_are_found : (t m : ℕ) (parent : Task) (desc : TaskDesc) → (IsAside (Create t m parent desc) → ⊥) × (IsAside (Start t m) → ⊥) × (IsAside (Done t m) → ⊥) × (IsAside (Discard t m) → ⊥)
+tasks_are_found t m parent desc = (λ is. is, λ is. is, λ is. is, λ is. is)
 
 -- and nothing of the shares
 pub shares_are_not_seen : (share m low high k : ℕ) (shape : Shape) (payload : List ℕ) → IsAside (Enter share m shape) × IsAside (Take share m low high) × IsAside (Drained share m) × IsAside (End share m) × IsAside (HandOn share m k) × IsAside (Part share m k) × IsAside (PartEnd share m) × IsAside (Put share m payload) × IsAside (Got share m payload)
 shares_are_not_seen share m low high k shape payload = (tt, tt, tt, tt, tt, tt, tt, tt, tt)
+
+-- nor of cancellations, and of who leaves
+pub cancellations_are_not_seen : (m : ℕ) (scope : Scope) (kind : CancelKind) → IsAside (Cancel m scope) × IsAside (See m kind)
+cancellations_are_not_seen m scope kind = (tt, tt)
 
 -- nor of barriers, names, locks, groups and waits
 pub others_are_not_seen : (g m : ℕ) (tag : Tag) (key : Key) (task : Task) (items : List Dep) (place : Place) → IsAside (Arrive g m tag) × IsAside (Pass g m) × IsAside (Hold key m task) × IsAside (Free key m task) × IsAside (Group g m) × IsAside (GroupEnd g m) × IsAside (Waited m items) × IsAside (Break m place)

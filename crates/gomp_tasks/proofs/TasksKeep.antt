@@ -1,4 +1,4 @@
--- What becomes of a team's tasks as they are created, started and ended.
+-- What becomes of a team's tasks as they are created, started, ended and discarded.
 use Rattle.std.proofs.Common.{◌≡◌, ℕ, ◌+◌, ◌-◌, ◌<◌, ◌≤◌, Bool, false, List, [], ◌∷◌, ◌++◌, Option, Some, None, length, slice_get, slice_set, refl, ap, ◌∙◌, sym, subst, arith, suc, zero, inl, inr, ◌⊎◌, replicate}
 use Rattle.std.specs.Prelude.{◌==◌, IfSome}
 use Rattle.std.proofs.lemmas.List.{length-set, length-append}
@@ -7,21 +7,21 @@ use Rattle.gomp_types.specs.declared.task.Task.TheVariants.{Explicit}
 use Rattle.gomp_types.specs.declared.task.TaskDesc.{TaskDesc}
 use Rattle.gomp_types.specs.declared.limits.TheConstants.{MAX_TASK_DEPTH}
 use Rattle.gomp_types.specs.declared.event.Event.{Event}
-use Rattle.gomp_types.specs.declared.event.Event.TheVariants.{Create, Start, Done}
-use Rattle.gomp_types.specs.Tasks.{tasks_created, task_stack, executed_task, innermost_task, after_first, task_runner, depth_of, epoch_of_child, is_odd, of_explicit, is_final}
+use Rattle.gomp_types.specs.declared.event.Event.TheVariants.{Create, Start, Done, Discard}
+use Rattle.gomp_types.specs.Tasks.{tasks_created, has_started, task_stack, executed_task, innermost_task, after_first, task_runner, depth_of, epoch_of_child, is_odd, of_explicit, is_final}
 use Rattle.gomp_types.specs.Laws.{Always}
-use Rattle.gomp_types.specs.TaskRules.{TaskRule, MayCreate, MayStart}
+use Rattle.gomp_types.specs.TaskRules.{TaskRule, MayCreate, MayStart, MayDiscard}
 use Rattle.gomp_types.proofs.Booleans.{same_number, other_number}
 use Rattle.gomp_types.proofs.Lists.{slice_get-set}
 use Rattle.gomp_types.proofs.OpenTasks.{created_low, created_high}
-use Rattle.gomp_types.proofs.Suspended.{runner_has_started, current_open, startable_is_fresh}
+use Rattle.gomp_types.proofs.Suspended.{runner_has_started, unstarted_has_no_runner, current_open, unstarted_is_fresh, startable_is_fresh}
 use Rattle.gomp_types.proofs.TaskDepths.{few_suspended}
 use Rattle.gomp_types.proofs.TaskRoom.{uncreated_not_started}
 use Rattle.gomp_tasks.specs.declared.rows.TaskRow.{TaskRow}
 use Rattle.gomp_tasks.specs.Rows.{RowStands, first_of, unstarted_row}
 use Rattle.gomp_tasks.specs.Stands.{TasksView, RowsStand, Stands}
 use Rattle.gomp_tasks.specs.Calls.{IsAside, task_or_implicit}
-use Rattle.gomp_tasks.proofs.RowsKeep.{started_by, completed, aside_row, started_row, other_started_row, completed_row, other_completed_row, old_row, new_row, row_set, row_appended, row_named}
+use Rattle.gomp_tasks.proofs.RowsKeep.{started_by, completed, discarded, aside_row, started_row, other_started_row, completed_row, other_completed_row, discarded_row, other_discarded_row, old_row, new_row, row_set, row_appended, row_named}
 
 -- the tasks of another value with the same view
 pub tasks_of_view_stand : (view now : TasksView) (h : List Event) → view ≡ now → Stands now h → Stands view h
@@ -31,11 +31,12 @@ tasks_of_view_stand view now h e st = subst (λ (v : TasksView). Stands v h) (sy
 pub task_row_of : (rows : List TaskRow) (stacks : List (List ℕ)) (t : ℕ) (row : TaskRow) (h : List Event) → RowsStand rows stacks h → 0 < t → slice_get rows (t - 1) ≡ Some row → RowStands t row h
 task_row_of rows stacks t row h st low at = subst (λ (x : ℕ). RowStands x row h) (omega (arith, low)) (st.row (t - 1) row at)
 
--- an event that creates, starts or ends no task
+-- an event that creates, starts, ends or discards no task
 pub aside_keeps_tasks : (rows : List TaskRow) (stacks : List (List ℕ)) (event : Event) (h : List Event) → IsAside event → TaskRule (length stacks) event h → RowsStand rows stacks h → RowsStand rows stacks (event ∷ h)
 aside_keeps_tasks rows stacks (Create task m p desc) h is rule st = absurd is
 aside_keeps_tasks rows stacks (Start task m) h is rule st = absurd is
 aside_keeps_tasks rows stacks (Done task m) h is rule st = absurd is
+aside_keeps_tasks rows stacks (Discard task m) h is rule st = absurd is
 aside_keeps_tasks rows stacks _ h is rule st = record {
   count = st.count;
   row = λ k row at. aside_row (suc k) row _ h is (st.row k row at);
@@ -136,15 +137,42 @@ task_end_keeps rows stacks m t row ts h st member at at_row top =
       rule = subst (λ (n : ℕ). Always (TaskRule n) (Done t m ∷ h)) (sym (length-set stacks m (after_first ts))) (record { member = member; current = top }, st.rule);
     }
 
+-- A task that is discarded
+
+-- a task that was not started has no runner
+nobody_runs : (t : ℕ) (h : List Event) → has_started t h ≡ false → task_runner t h ≡ None
+nobody_runs t h off = by (task_runner t h) refl
+  where
+    by : (found : Option ℕ) → task_runner t h ≡ found → task_runner t h ≡ None
+    by None e = e
+    by (Some m) e = absurd (unstarted_has_no_runner t m h off e)
+
+pub unstarted_number : (rows : List TaskRow) (stacks : List (List ℕ)) (m t : ℕ) (h : List Event) → RowsStand rows stacks h → MayDiscard (length stacks) t m h → (0 < t) × (t ≤ length rows)
+unstarted_number rows stacks m t h st rule =
+    let is = unstarted_is_fresh t h rule.unstarted in
+    let high = created_high t h is.0 in
+    let count = st.count in
+    (created_low t h is.0, omega (arith, high, count))
+
+pub task_discard_keeps : (rows : List TaskRow) (stacks : List (List ℕ)) (m t : ℕ) (row : TaskRow) (h : List Event) → RowsStand rows stacks h → slice_get rows (t - 1) ≡ Some row → MayDiscard (length stacks) t m h →
+    RowsStand (slice_set rows (t - 1) (discarded row)) stacks (Discard t m ∷ h)
+task_discard_keeps rows stacks m t row h st at_row rule =
+    let is = unstarted_is_fresh t h rule.unstarted in
+    let low = created_low t h is.0 in record {
+      count = st.count ∙ sym (length-set rows (t - 1) (discarded row));
+      row = λ k found at_k. elim (row_set rows t (discarded row) k found low at_k) [
+        | inl here ↦ row_named (suc k) t found (discarded row) (Discard t m ∷ h) here.0 here.1 (discarded_row t m row h is.1 (nobody_runs t h is.1) (task_row_of rows stacks t row h st low at_row))
+        | inr away ↦ other_discarded_row t m (suc k) found h (other_number t (suc k) (λ same. away.0 (sym same))) (st.row k found away.1)
+      ];
+      stack = st.stack;
+      rule = (rule, st.rule);
+    }
+
 -- A task that is created
 
 -- nobody has started a task with a higher number
 not_run_yet : (members t : ℕ) (h : List Event) → Always (TaskRule members) h → tasks_created h < t → task_runner t h ≡ None
-not_run_yet members t h all lt = by (task_runner t h) refl
-  where
-    by : (found : Option ℕ) → task_runner t h ≡ found → task_runner t h ≡ None
-    by None e = e
-    by (Some m) e = absurd (let on = runner_has_started t m h e in let off = (uncreated_not_started members h all t lt).0 in cc)
+not_run_yet members t h all lt = nobody_runs t h (uncreated_not_started members h all t lt).0
 
 pub task_create_keeps : (rows : List TaskRow) (stacks : List (List ℕ)) (m t depth : ℕ) (odd in_final : Bool) (p : Task) (desc : TaskDesc) (h : List Event) → RowsStand rows stacks h → MayCreate (length stacks) t m p h → depth ≡ depth_of p h + 1 → odd ≡ is_odd (epoch_of_child p h) → in_final ≡ of_explicit (λ q. is_final q h) p →
     RowsStand (rows ++ unstarted_row desc p depth odd in_final ∷ []) stacks (Create t m p desc ∷ h)

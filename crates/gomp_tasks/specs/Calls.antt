@@ -4,7 +4,7 @@ use Rattle.std.proofs.Common.{suc}
 use Rattle.gomp_types.specs.declared.task.Task.{Task}
 use Rattle.gomp_types.specs.declared.task.Task.TheVariants.{Implicit, Explicit}
 use Rattle.gomp_types.specs.declared.event.Event.{Event}
-use Rattle.gomp_types.specs.declared.event.Event.TheVariants.{Create, Start, Done}
+use Rattle.gomp_types.specs.declared.event.Event.TheVariants.{Create, Start, Done, Discard}
 use Rattle.gomp_types.specs.Tasks.{executed_task, epoch_of_child, is_odd, is_ancestor}
 use Rattle.gomp_types.specs.Goals.{each_of, is_unstarted, may_descend}
 use Rattle.gomp_types.specs.TaskRules.{MayCreate}
@@ -24,7 +24,7 @@ task_or_implicit m (Some t) = Explicit t
 abbrev pub is_under_all : List ℕ → ℕ → List Event → Bool
 is_under_all ss t h = each_of (λ s. is_ancestor (Explicit s) t h) ss
 
--- whether the member may start the task, if the task waits for no other: nobody has started it, and it descends so
+-- whether the member may start the task, if it waits for no other and no cancellation reaches it: nobody has started it, and it descends so
 abbrev pub may_run : ℕ → ℕ → List Event → Bool
 may_run m t h = is_unstarted t h && may_descend m t h
 
@@ -32,9 +32,10 @@ may_run m t h = is_unstarted t h && may_descend m t h
 abbrev pub tasks_room : ℕ → ℕ → ℕ
 tasks_room count room = if nat_lt 0 room then room else max (count / 16) 64 + 1
 
--- an event that creates, starts or ends no task
+-- an event that creates, starts, ends or discards no task
 abbrev pub IsAside : Event → Type 0
 IsAside (Create t m parent desc) = ⊥
 IsAside (Start t m) = ⊥
 IsAside (Done t m) = ⊥
+IsAside (Discard t m) = ⊥
 IsAside _ = Unit {0}

@@ -1,9 +1,10 @@
 -- Events, and the tasks of a team that stand for them or do not, that the examples share. Each list has the newest event first. (own)
 use Rattle.std.specs.Prelude.{ℕ, true, false, List, [], ◌∷◌}
+use Rattle.gomp_types.specs.declared.cancel.Scope.TheVariants.{Region}
 use Rattle.gomp_types.specs.declared.task.Task.TheVariants.{Implicit, Explicit}
 use Rattle.gomp_types.specs.declared.task.TaskDesc.{TaskDesc}
 use Rattle.gomp_types.specs.declared.event.Event.{Event}
-use Rattle.gomp_types.specs.declared.event.Event.TheVariants.{Create, Start, Done, Pass}
+use Rattle.gomp_types.specs.declared.event.Event.TheVariants.{Create, Start, Done, Cancel, Discard, Pass}
 use Rattle.gomp_tasks.specs.declared.rows.TaskState.{TaskState}
 use Rattle.gomp_tasks.specs.declared.rows.TaskState.TheVariants as states
 use Rattle.gomp_tasks.specs.declared.rows.TaskRow.{TaskRow}
@@ -31,6 +32,10 @@ two_started = Start 2 0 ∷ two_created
 -- and ends it
 abbrev pub second_done : List Event
 second_done = Done 2 0 ∷ two_started
+
+-- or it cancels the region before, and the second task is discarded
+abbrev pub second_discarded : List Event
+second_discarded = Discard 2 0 ∷ Cancel 0 Region ∷ two_created
 
 -- what is kept of the first task, and of the second
 abbrev pub first_with : TaskState → TaskRow

@@ -7,7 +7,7 @@ use Rattle.gomp_types.specs.declared.event.Event.{Event}
 use Rattle.gomp_types.specs.Tasks.{same_task, of_explicit, has_started, task_runner, is_complete, task_desc, is_child, is_ancestor, task_depth, epoch, is_odd, is_final, is_undeferred}
 use Rattle.gomp_types.specs.TaskCalls.{HasJob}
 use Rattle.gomp_tasks.specs.declared.rows.TaskState.{TaskState}
-use Rattle.gomp_tasks.specs.declared.rows.TaskState.TheVariants.{Unstarted, Running, Done}
+use Rattle.gomp_tasks.specs.declared.rows.TaskState.TheVariants.{Unstarted, Running, Done, Discarded}
 use Rattle.gomp_tasks.specs.declared.rows.TaskRow.{TaskRow}
 
 -- whether a member has started the task
@@ -15,24 +15,32 @@ abbrev pub is_started : TaskState → Bool
 is_started Unstarted = false
 is_started (Running m) = true
 is_started (Done m) = true
+is_started Discarded = false
 
 -- whether the task is complete
 abbrev pub is_over : TaskState → Bool
 is_over Unstarted = false
 is_over (Running m) = false
 is_over (Done m) = true
+is_over Discarded = true
 
 -- the member that started it, if one has
 abbrev pub runner_of : TaskState → Option ℕ
 runner_of Unstarted = None
 runner_of (Running m) = Some m
 runner_of (Done m) = Some m
+runner_of Discarded = None
 
 -- a state that a task may come to after this one, or the same
 abbrev pub Follows : TaskState → TaskState → Type 0
 Follows (Running m) Unstarted = ⊥
 Follows (Done m) Unstarted = ⊥
 Follows (Done m) (Running n) = ⊥
+Follows (Running m) Discarded = ⊥
+Follows (Done m) Discarded = ⊥
+Follows Discarded Unstarted = ⊥
+Follows Discarded (Running n) = ⊥
+Follows Discarded (Done n) = ⊥
 Follows _ _ = Unit {0}
 
 -- a new task, which nobody has started: created in a final task or not

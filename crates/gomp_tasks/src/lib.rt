@@ -2,9 +2,10 @@
 //! the tasks that each member has started and not ended.
 //!
 //! A task is created in the task that a member executes, its parent; it is started by some member,
-//! and ended by the same one. Tasks are numbered from 1 in the order of their creation. [`Tasks`]
-//! stands for a list of events, the newest first: each call says what it answers after such a list,
-//! and what list the value then stands for. OpenMP API 5.2, chapter 12.
+//! and ended by the same one, unless a cancellation discards it before. Tasks are numbered from 1
+//! in the order of their creation. [`Tasks`] stands for a list of events, the newest first: each
+//! call says what it answers after such a list, and what list the value then stands for. OpenMP API
+//! 5.2, chapter 12.
 #![tactic(auto)]
 
 pub mod rows;

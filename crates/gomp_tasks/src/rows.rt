@@ -15,6 +15,9 @@ pub enum TaskState {
     Running(u16),
     /// It is complete: this member has ended it.
     Done(u16),
+    /// It is complete, and nobody starts it: a cancellation has discarded it (OpenMP API 5.2,
+    /// section 16.1).
+    Discarded,
 }
 
 impl TaskState {
@@ -23,7 +26,7 @@ impl TaskState {
         ensures { result ≡ runner_of self }
     {
         match self {
-            TaskState::Unstarted => None,
+            TaskState::Unstarted | TaskState::Discarded => None,
             TaskState::Running(member) | TaskState::Done(member) => Some(member),
         }
     }

@@ -2,12 +2,12 @@
 
 ghost use Rattle.std.specs.Prelude.{◌≡◌, ◌<◌, ◌≤◌, ◌+◌, ◌-◌, ℕ, List, [], ◌∷◌, Some, None, ◌⊎◌, IfOk, OnOk, OnErr, IfSome, replicate, slice_get};
 ghost use Rattle.gomp_types.specs.declared.event.Event.{Event};
-ghost use Rattle.gomp_types.specs.declared.event.Event.TheVariants.{Create, Start, Done};
+ghost use Rattle.gomp_types.specs.declared.event.Event.TheVariants.{Create, Start, Done, Discard};
 ghost use Rattle.gomp_types.specs.Events.{at_barrier as waits_at_barrier};
 ghost use Rattle.gomp_types.specs.Tasks.{same_task, tasks_created, task_stack, executed_task, depth_of, epoch, is_odd, task_desc, task_runner, is_ancestor, of_explicit, is_final, is_undeferred, newest_child};
 ghost use Rattle.gomp_types.specs.Goals.{is_unstarted, may_descend, is_own};
 ghost use Rattle.gomp_types.specs.TaskCalls.{HasJob};
-ghost use Rattle.gomp_types.specs.TaskRules.{MayStart};
+ghost use Rattle.gomp_types.specs.TaskRules.{MayStart, MayDiscard};
 ghost use Rattle.gomp_tasks.specs.Rows.{IsState, IsParent, RowStands};
 ghost use Rattle.gomp_tasks.specs.Stands.{Stands, AreSame, members_of, count_of, IsNumber, IsTask};
 ghost use Rattle.gomp_tasks.specs.Calls.{MayCreateNext, task_or_implicit, is_under_all, may_run, tasks_room};
@@ -196,7 +196,7 @@ impl Tasks {
         self.row(task).state
     }
 
-    /// Whether nobody has started the task.
+    /// Whether nobody has started the task, and no cancellation has discarded it.
     pub fn is_unstarted(&self, task: u32) -> bool
         requires task { IsNumber task self.now }
         ensures known { (h : List Event) × Stands self.now h }
@@ -223,9 +223,9 @@ impl Tasks {
     }
 
     /// Whether the member, numbered from 0, may start the task at a wait, which is at a barrier or
-    /// elsewhere, if the task waits for no other: nobody has started it, and it descends from all
-    /// tasks that the member has started and not ended, and from its implicit one unless it waits at a
-    /// barrier (own).
+    /// elsewhere, if the task waits for no other and no cancellation reaches it: nobody has started
+    /// it, and it descends from all tasks that the member has started and not ended, and from its
+    /// implicit one unless it waits at a barrier (own).
     pub fn may_run(&self, member: u16, at_barrier: bool, task: u32) -> bool
         requires member { member < members_of self.now }
         requires task { IsNumber task self.now }
@@ -283,8 +283,9 @@ impl Tasks {
         task
     }
 
-    /// The member, numbered from 0, starts the task, which it may start: the caller knows by `may_run`, and that the task waits
-    /// for no other; if it is undeferred, by `is_own`.
+    /// The member, numbered from 0, starts the task, which it may start: the caller knows by
+    /// `may_run`, and that the task waits for no other and no cancellation reaches it; if it is
+    /// undeferred, by `is_own`.
     pub fn start(&mut self, member: u16, task: u32)
         requires may { (h : List Event) × Stands self.old h ×
             MayStart (members_of self.old) task member h }
@@ -320,6 +321,20 @@ impl Tasks {
         self.rows[task as usize - 1].state = TaskState::Done(member);
         self.stacks[member as usize].pop();
         Some(task)
+    }
+
+    /// The task is discarded: nobody has started it, and a cancellation reaches it, as the caller
+    /// knows. It is complete from now on (OpenMP API 5.2, section 16.1).
+    pub fn discard(&mut self, task: u32)
+        requires may { (h : List Event) × (m : ℕ) × Stands self.old h ×
+            MayDiscard (members_of self.old) task m h }
+        ensures room { self.new.room ≡ self.old.room }
+        ensures count { count_of self.new ≡ count_of self.old }
+        ensures members { members_of self.new ≡ members_of self.old }
+        ensures stands { (h : List Event) (m : ℕ) → Stands self.old h →
+            MayDiscard (members_of self.old) task m h → Stands self.new (Discard task m ∷ h) }
+    {
+        self.rows[task as usize - 1].state = TaskState::Discarded;
     }
 
     /// What is kept of the task with this number.

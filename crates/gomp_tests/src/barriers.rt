@@ -15,6 +15,8 @@ use std::test::Fail;
 enum Act {
     Arrive(Tag),
     Turn,
+    /// It cancels the region.
+    Cancel,
 }
 
 // A member of the team, what it does, the answer, and what it sees then: the barrier's number and tag,
@@ -29,6 +31,10 @@ fn answer(barriers: &mut Barriers, member: u16, act: Act) -> bool
     match act {
         Act::Arrive(tag) => barriers.arrive(member, tag),
         Act::Turn => barriers.turn(member),
+        Act::Cancel => {
+            barriers.cancel();
+            true
+        }
     }
 }
 
@@ -94,6 +100,8 @@ const AT: Option<Tag> = Some(BARRIER);
 
 const LAST: Option<Tag> = Some(END);
 
+const OTHER_LAST: Option<Tag> = Some(OTHER);
+
 /// A barrier opens when all are there.
 const BARRIERS: &[Line] = &[
     (0, Act::Arrive(BARRIER), true, (0, AT, AT, false)),
@@ -115,11 +123,33 @@ const ENDS: &[Line] = &[
     (1, Act::Turn, true, (1, None, None, true)),
 ];
 
+/// Once the region is cancelled nobody passes a barrier, and each member arrives at the region's end alone, with any tag,
+/// and passes it once.
+const CANCELLED: &[Line] = &[
+    (0, Act::Arrive(BARRIER), true, (0, AT, AT, false)),
+    (1, Act::Cancel, true, (0, AT, None, false)),
+    (0, Act::Turn, false, (0, AT, AT, false)),
+    (1, Act::Arrive(BARRIER), false, (0, AT, None, false)),
+    (1, Act::Arrive(END), true, (0, LAST, LAST, false)),
+    (1, Act::Turn, false, (0, LAST, LAST, false)),
+    (
+        0,
+        Act::Arrive(OTHER),
+        true,
+        (0, OTHER_LAST, OTHER_LAST, false),
+    ),
+    (0, Act::Turn, true, (1, None, None, true)),
+    (0, Act::Turn, false, (1, None, None, true)),
+    (0, Act::Arrive(END), false, (1, None, None, true)),
+    (1, Act::Turn, true, (1, None, None, true)),
+];
+
 #[test]
 fn barriers_open(rt: HostRuntime) -> Result<(), Fail> {
     let alloc = rt.alloc();
     walk(&rt, alloc, "a barrier opens: line", BARRIERS)?;
     walk(&rt, alloc, "the region's end: line", ENDS)?;
+    walk(&rt, alloc, "a cancelled region: line", CANCELLED)?;
     // No team is larger than 64, but barriers are made for as many as are asked for.
     for count in 1..67 {
         meet(&rt, alloc, count)?;

@@ -6,7 +6,8 @@ ghost use Rattle.gomp_types.specs.Limits.{IsTeamSize};
 ghost use Rattle.gomp_board.specs.Boards.{members_of};
 
 use crate::checks::{SIZES, items_of, same};
-use gomp_board::{Board, Op};
+use gomp_board::{Board, Op, TeamCancel};
+use gomp_cancel::Cancellation;
 use gomp_depend::Depends;
 use gomp_groups::Groups;
 use gomp_ready::Ready;
@@ -33,6 +34,8 @@ enum Ask {
     End,
     /// It ends its undeferred task.
     EndOwn,
+    /// It ends one that it leaves.
+    Leave,
     /// It waits for its children, which are complete.
     Children,
     /// It waits for those that write at the address, which are complete.
@@ -41,6 +44,10 @@ enum Ask {
     Open,
     /// It ends a group.
     Close,
+    /// It ends a group, and is given a task to execute.
+    CloseRun,
+    /// It waits on for that group, and ends it.
+    Closed,
     /// It puts the words of a single.
     Put,
     /// It is given them.
@@ -53,9 +60,42 @@ enum Ask {
     ArriveLast(Arrival),
     /// It waits on, and passes.
     WaitOn,
+    /// It cancels this.
+    Cancel(TeamCancel),
+    /// It does not, since its clause is false, and sees whether that is cancelled.
+    Decline(TeamCancel, bool),
+    /// It does not, since its team allows no cancellation.
+    Forbidden(TeamCancel),
+    /// It comes to a cancellation point of this, and sees whether that is cancelled.
+    Point(TeamCancel, bool),
+    /// It creates a task where that is cancelled.
+    Drop,
+    /// It arrives at a barrier there.
+    Cut,
+    /// It arrives at the region's end, which it leaves, before another member.
+    Depart,
+    /// It does so after all others.
+    DepartLast,
 }
 
 const CODE: u64 = 7;
+
+/// A cancel construct with this clause in a team that allows cancellation, or does not.
+fn cancel(named: TeamCancel, clause: bool, allowed: bool) -> Op {
+    Op::Cancel {
+        named,
+        clause,
+        allowed,
+    }
+}
+
+/// An arrival with this tag, of a member that leaves the region or does not.
+fn arrival(kind: Arrival, leaving: bool) -> Op {
+    Op::Arrive {
+        tag: Tag { kind, shares: 0 },
+        leaving,
+    }
+}
 
 /// The creation of the task with this number.
 fn creation(next: u32, undeferred: bool, deps: Deps) -> Op {
@@ -72,16 +112,18 @@ impl Ask {
     /// The operation; `next` is the number of the next task.
     fn op(self, alloc: Global, next: u32) -> Result<Op, AllocError> {
         Ok(match self {
-            Ask::Create => creation(next, false, Deps::new(alloc)),
+            Ask::Create | Ask::Drop => creation(next, false, Deps::new(alloc)),
             Ask::CreateWriter => creation(next, false, items_of(alloc, DepKind::DepOut, 1)?),
             Ask::CreateOwn => creation(next, true, items_of(alloc, DepKind::DepIn, 1)?),
             Ask::Run | Ask::Children => Op::AwaitChildren(Deps::new(alloc)),
             Ask::RunWriter | Ask::Writers => {
                 Op::AwaitChildren(items_of(alloc, DepKind::DepIn, 1)?)
             }
-            Ask::End | Ask::EndOwn => Op::EndTask,
+            Ask::End | Ask::EndOwn => Op::EndTask(false),
+            Ask::Leave => Op::EndTask(true),
             Ask::Open => Op::OpenGroup,
-            Ask::Close => Op::EndGroup,
+            Ask::Close | Ask::CloseRun => Op::EndGroup,
+            Ask::Closed => Op::AwaitGroup,
             Ask::Put => Op::Put {
                 share: 0,
                 words: Payload::new(),
@@ -91,8 +133,17 @@ impl Ask {
                 words: Payload::new(),
             },
             Ask::Reserve => Op::Reserve(1),
-            Ask::Arrive(kind) | Ask::ArriveLast(kind) => Op::Arrive(Tag { kind, shares: 0 }),
+            Ask::Arrive(kind) | Ask::ArriveLast(kind) => arrival(kind, false),
+            Ask::Cut => arrival(Arrival::Barrier, false),
+            Ask::Depart | Ask::DepartLast => arrival(Arrival::RegionEnd, true),
             Ask::WaitOn => Op::AwaitBarrier,
+            Ask::Cancel(named) => cancel(named, true, true),
+            Ask::Decline(named, _) => cancel(named, false, true),
+            Ask::Forbidden(named) => cancel(named, true, false),
+            Ask::Point(named, _) => Op::Point {
+                named,
+                allowed: true,
+            },
         })
     }
 
@@ -100,20 +151,25 @@ impl Ask {
     fn reply(self, next: u32) -> Reply {
         match self {
             Ask::Create | Ask::CreateWriter => Reply::Created(next),
-            Ask::Run | Ask::RunWriter | Ask::CreateOwn => Reply::Run {
+            Ask::Run | Ask::RunWriter | Ask::CloseRun | Ask::CreateOwn => Reply::Run {
                 task: 0,
                 code: CODE,
                 arg: 0,
                 own: matches!(self, Ask::CreateOwn),
             },
-            Ask::End | Ask::EndOwn => Reply::TaskDone {
+            Ask::End | Ask::EndOwn | Ask::Leave => Reply::TaskDone {
                 task: 0,
-                waiting: matches!(self, Ask::End),
+                waiting: !matches!(self, Ask::EndOwn),
             },
             Ask::Open | Ask::Put | Ask::Got | Ask::Reserve => Reply::Finished,
-            Ask::Arrive(_) => Reply::Wait,
-            Ask::Children | Ask::Writers | Ask::Close => Reply::Passed,
-            Ask::ArriveLast(_) | Ask::WaitOn => Reply::Passed,
+            Ask::Arrive(_) | Ask::Depart => Reply::Wait,
+            Ask::Children | Ask::Writers | Ask::Close | Ask::Closed => Reply::Passed,
+            Ask::ArriveLast(_) | Ask::DepartLast | Ask::WaitOn => Reply::Passed,
+            Ask::Cancel(_) => Reply::Cancelling(true),
+            Ask::Decline(_, cancelled) | Ask::Point(_, cancelled) => Reply::Cancelling(cancelled),
+            Ask::Forbidden(_) => Reply::Cancelling(false),
+            Ask::Drop => Reply::Dropped,
+            Ask::Cut => Reply::Cancelled,
         }
     }
 }
@@ -158,6 +214,20 @@ fn board_of(alloc: Global, members: u16, forgiven: u32) -> Result<Board, AllocEr
         Err(_) if forgiven > 0 => Board::new(alloc, members, Limits::STANDARD),
         board => board,
     }
+}
+
+/// A new board of which nothing was asked yet.
+fn trial_of(alloc: Global, members: u16, forgiven: u32) -> Result<Trial, AllocError>
+    requires size { IsTeamSize members }
+{
+    let board = board_of(alloc, members, forgiven)?;
+    Ok(Trial {
+        alloc,
+        board,
+        members,
+        next: 1,
+        forgiven,
+    })
 }
 
 impl Trial {
@@ -213,7 +283,68 @@ impl Trial {
         }
         Ok(())
     }
+
+    /// That the member, which executes a task of its group, cancels the group, with so many tasks that nobody has started.
+    fn cancels_group(
+        &mut self,
+        rt: &impl Abort,
+        member: u16,
+        count: usize,
+    ) -> Result<(), AllocError> {
+        self.is_answered(rt, member, &[Ask::Open, Ask::Create, Ask::CloseRun], 1)?;
+        self.is_answered(rt, member, &[Ask::Create], count)?;
+        self.is_answered(rt, member, GROUP_CANCELLED, 1)
+    }
+
+    /// That the first member cancels the region, with so many tasks of each member that nobody has started, and that all
+    /// leave it.
+    fn cancels_region(&mut self, rt: &impl Abort, count: usize) -> Result<(), AllocError> {
+        for member in 0..self.members {
+            self.is_answered(rt, member, &[Ask::Open, Ask::CreateWriter], 1)?;
+            self.is_answered(rt, member, &[Ask::Create], count)?;
+        }
+        self.is_answered(rt, 0, REGION_CANCELLED, 1)?;
+        for member in 1..self.members {
+            self.is_answered(rt, member, CANCELLED_BY_ANOTHER, 1)?;
+        }
+        self.is_answered(rt, 0, &[Ask::DepartLast], 1)?;
+        for member in 1..self.members {
+            self.is_answered(rt, member, &[Ask::WaitOn], 1)?;
+        }
+        Ok(())
+    }
 }
+
+/// What a member asks that cancels the group of its task.
+const GROUP_CANCELLED: &[Ask] = &[
+    Ask::CreateWriter,
+    Ask::Forbidden(TeamCancel::Taskgroup),
+    Ask::Decline(TeamCancel::Taskgroup, false),
+    Ask::Point(TeamCancel::Taskgroup, false),
+    Ask::Cancel(TeamCancel::Taskgroup),
+    Ask::Decline(TeamCancel::Taskgroup, true),
+    Ask::Point(TeamCancel::Taskgroup, true),
+    Ask::Drop,
+    Ask::Leave,
+    Ask::Closed,
+];
+
+/// What a member asks that cancels the region.
+const REGION_CANCELLED: &[Ask] = &[
+    Ask::Forbidden(TeamCancel::Parallel),
+    Ask::Decline(TeamCancel::Parallel, false),
+    Ask::Point(TeamCancel::Parallel, false),
+    Ask::Cancel(TeamCancel::Parallel),
+];
+
+/// What another asks then.
+const CANCELLED_BY_ANOTHER: &[Ask] = &[
+    Ask::Drop,
+    Ask::Cut,
+    Ask::Decline(TeamCancel::Parallel, true),
+    Ask::Point(TeamCancel::Parallel, true),
+    Ask::Depart,
+];
 
 /// What each member asks so many times, one member after another.
 const ASKS: &[&[Ask]] = &[
@@ -240,14 +371,7 @@ fn region(
 ) -> Result<Trial, AllocError>
     requires size { IsTeamSize members }
 {
-    let board = board_of(alloc, members, forgiven)?;
-    let mut trial = Trial {
-        alloc,
-        board,
-        members,
-        next: 1,
-        forgiven,
-    };
+    let mut trial = trial_of(alloc, members, forgiven)?;
     for asks in ASKS {
         for member in 0..members {
             trial.is_answered(rt, member, *asks, count)?;
@@ -266,7 +390,38 @@ fn region(
     Ok(trial)
 }
 
-/// That the parts of a board for so many members, and lists of so many ready tasks, are made.
+/// So many tasks at most are discarded at once: for each the list of tasks that are ready is moved.
+const MOST_DISCARDED: usize = 1_001;
+
+/// A team of this size whose members each cancel a group, and of which one cancels the region, each with so many tasks and
+/// after so many groups.
+fn cancelled_region(
+    rt: &impl Abort,
+    alloc: Global,
+    members: u16,
+    count: usize,
+    forgiven: u32,
+) -> Result<Trial, AllocError>
+    requires size { IsTeamSize members }
+{
+    let mut trial = trial_of(alloc, members, forgiven)?;
+    let tasks = count.min(MOST_DISCARDED);
+    for member in 0..members {
+        trial.is_answered(rt, member, &[Ask::Open, Ask::Close], count)?;
+        trial.cancels_group(rt, member, tasks)?;
+    }
+    trial.cancels_region(rt, tasks)?;
+    // of each group two, of the task that cancels one three, and its cancellation; of the group that is given up one, two at
+    // the region's end, and of each task that is discarded two
+    let of_groups = count.wrapping_mul(2);
+    let of_member = of_groups.wrapping_add(tasks * 4).wrapping_add(13);
+    let stored = trial.board.history().len();
+    let expected = of_member.wrapping_mul(members as usize).wrapping_add(1);
+    same(rt, &stored, &expected, "events of cancelled", count as u64);
+    Ok(trial)
+}
+
+/// That the parts of a board for so many members, and lists of so many ready tasks and of the marks of groups, are made.
 fn parts(rt: &impl Abort, alloc: Global, members: u16, count: usize) -> Result<(), AllocError> {
     let mut tasks = Tasks::make(alloc, members)?;
     tasks.reserve()?;
@@ -278,10 +433,14 @@ fn parts(rt: &impl Abort, alloc: Global, members: u16, count: usize) -> Result<(
     depends.reserve()?;
     same(rt, &depends.as_slice().len(), &0, "open tasks", 0);
     let mut ready = Ready::new(alloc);
+    let mut cancelled = Cancellation::new(alloc);
     for _ in 0..count {
         ready.reserve()?;
         ready.put(1);
+        cancelled.reserve()?;
+        cancelled.open();
     }
+    same(rt, &cancelled.is_cancelled(), &false, "cancelled", 0);
     same(rt, &ready.len(), &count, "ready tasks", members as u64);
     Ok(())
 }
@@ -328,11 +487,13 @@ const KINDS: &[DepKind] = &[
 fn boards_give_up_nothing(rt: HostRuntime) -> Result<(), Fail> {
     for count in SIZES {
         region(&rt, rt.alloc(), 1, *count, 0)?;
+        cancelled_region(&rt, rt.alloc(), 1, *count, 0)?;
         parts(&rt, rt.alloc(), 1, *count)?;
     }
     for members in 1..=64 {
         for count in 0..3 {
             region(&rt, rt.alloc(), members, count, 0)?;
+            cancelled_region(&rt, rt.alloc(), members, count, 0)?;
         }
         parts(&rt, rt.alloc(), members, 2)?;
     }
@@ -360,6 +521,10 @@ fn refused_memory_is_asked_for_again(rt: HostRuntime) -> Result<(), Fail> {
             let other = region(&rt, rt.alloc(), members, *count, 1)?;
             let (one, other) = (one.board.history(), other.board.history());
             same(&rt, &one, &other, "histories of", *count as u64);
+            let one = cancelled_region(&rt, rt.alloc(), members, *count, 1)?;
+            let other = cancelled_region(&rt, rt.alloc(), members, *count, 1)?;
+            let (one, other) = (one.board.history(), other.board.history());
+            same(&rt, &one, &other, "histories of cancelled", *count as u64);
         }
     }
     Ok(())

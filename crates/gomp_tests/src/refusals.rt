@@ -69,10 +69,11 @@ const MEMBERS: &[(u16, &str)] = &[
 ];
 
 /// The refusals that say no more than their number and name.
-const REFUSALS: [(Refusal, &str); 34] = [
+const REFUSALS: [(Refusal, &str); 37] = [
     (Refusal::BadMember, "E1 BadMember"),
     (Refusal::Ended, "E2 Ended"),
     (Refusal::Waiting, "E4 Waiting"),
+    (Refusal::Leaving, "E5 Leaving"),
     (Refusal::InsideTask, "E6 InsideTask"),
     (Refusal::NotInTask, "E7 NotInTask"),
     (Refusal::InsideShare, "E8 InsideShare"),
@@ -83,12 +84,14 @@ const REFUSALS: [(Refusal, &str); 34] = [
     (Refusal::BadChunk, "E13 BadChunk"),
     (Refusal::LoopTooLong, "E14 LoopTooLong"),
     (Refusal::BadSections, "E15 BadSections"),
+    (Refusal::OrderedLoop, "E16 OrderedLoop"),
     (Refusal::EndDiffers, "E17 EndDiffers"),
     (Refusal::NotDrained, "E18 NotDrained"),
     (Refusal::Drained, "E19 Drained"),
     (Refusal::NotOrdered, "E20 NotOrdered"),
     (Refusal::OrderedBackwards, "E21 OrderedBackwards"),
     (Refusal::NotInside, "E22 NotInside"),
+    (Refusal::NotCancellable, "E23 NotCancellable"),
     (Refusal::NoGroup, "E24 NoGroup"),
     (Refusal::GroupOpen, "E25 GroupOpen"),
     (Refusal::TooDeep, "E26 TooDeep"),

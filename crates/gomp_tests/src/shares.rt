@@ -1,8 +1,10 @@
 //! The plain shares, called as a library.
 
 use crate::checks::{LOOP, SIZES, same};
-use ShareAnswer::{Claimed, Ended, Left, NotMade, Opened, Turned};
-use ShareCall::{Begin, Claim, EndPart, HandOn, Leave, Open, OpenSections, OpenSingle};
+use ShareAnswer::{Cancelled, Claimed, Ended, Left, NotMade, Opened, Saw, Turned};
+use ShareCall::{
+    Begin, Cancel, Claim, EndPart, HandOn, Leave, Open, OpenSections, OpenSingle, See,
+};
 use gomp_share_plain::PlainShares;
 use gomp_shares::{Opening, ShareAnswer, ShareCall, ShareStep, Shares, make_calls};
 use gomp_types::{EndKind, LoopDesc, Sched, is_team_size};
@@ -97,6 +99,19 @@ const ONE: ShareCall = Open(LoopDesc {
     end_kind: EndKind::Nowait,
     ..LOOP
 });
+
+// Of these the end says that they may be cancelled.
+const CANCELLABLE: ShareCall = Open(LoopDesc {
+    end: 10,
+    chunk: 1,
+    end_kind: EndKind::Cancellable,
+    ..LOOP
+});
+
+const CANCELLABLE_SECTIONS: ShareCall = OpenSections {
+    count: 3,
+    end_kind: EndKind::Cancellable,
+};
 
 const NO_SECTIONS: ShareCall = OpenSections {
     count: 0,
@@ -228,6 +243,49 @@ const RUNS: &[(&str, &[Line])] = &[
             (1, Leave, Left),
             (1, COPIED, ENTERED),
             (1, Claim, Claimed(Some((0, 1)))),
+        ],
+    ),
+    (
+        "a cancelled loop",
+        &[
+            (0, CANCELLABLE, ENTERED),
+            (0, See, Saw(false)),
+            (0, Claim, Claimed(Some((0, 1)))),
+            (1, CANCELLABLE, ENTERED),
+            (1, Claim, Claimed(Some((1, 2)))),
+            (1, Leave, NotMade),
+            (0, Cancel, Cancelled),
+            (0, Leave, NotMade),
+            (0, See, Saw(true)),
+            (0, Leave, Left),
+            (1, Leave, NotMade),
+            (1, Claim, Claimed(Some((2, 3)))),
+            (1, See, Saw(true)),
+            (1, Leave, Left),
+            (0, Cancel, NotMade),
+            (0, See, NotMade),
+            (0, TEN, ENTERED),
+            (0, Cancel, NotMade),
+            (0, See, Saw(false)),
+            (0, Claim, Claimed(Some((0, 3)))),
+        ],
+    ),
+    (
+        "cancelled sections",
+        &[
+            (0, CANCELLABLE_SECTIONS, ENTERED),
+            (1, THREE, Opened(Opening::Differs)),
+            (0, Claim, Claimed(Some((0, 1)))),
+            (0, Cancel, Cancelled),
+            (1, CANCELLABLE_SECTIONS, ENTERED),
+            (1, Cancel, Cancelled),
+            (1, See, Saw(true)),
+            (1, Leave, Left),
+            (0, See, Saw(true)),
+            (0, Leave, Left),
+            (0, SINGLE, ENTERED),
+            (0, See, NotMade),
+            (0, Cancel, NotMade),
         ],
     ),
     (

@@ -2,10 +2,10 @@
 
 use crate::checks::{SIZES, each_is, same, text_of};
 use gomp_core::{Team, run};
-use gomp_icv::{Icv, child_icv};
+use gomp_icv::{Icv, child_icv, read_env};
 use gomp_script::print_replies;
 use gomp_share_plain::PlainShares;
-use gomp_types::{Call, Limits, Refusal, Reply, Step};
+use gomp_types::{Call, CancelKind, Limits, Refusal, Reply, Step};
 use std::alloc::Global;
 use std::process::Abort;
 use std::test::Fail;
@@ -89,6 +89,44 @@ fn arrival(is_full: bool) -> Call {
     }
 }
 
+/// That a member of a team of this size cancels the region, if there is room for one more event than the team is made with,
+/// and that all then leave it.
+fn leave(rt: &impl Abort, alloc: Global, count: u16, is_full: bool) -> Result<(), Fail> {
+    let made_with = 2 * count as u32 + 1;
+    let limits = Limits {
+        shares: 0,
+        tasks: 0,
+        events: if is_full { made_with } else { made_with + 1 },
+    };
+    let (icv, _) = read_env(alloc, &[("OMP_CANCELLATION", "true")])?;
+    let mut team: Team<PlainShares> = Team::with_limits(alloc, count, icv, limits)?;
+    let reply = team.step(0, cancel_region());
+    let expected = if is_full {
+        Reply::Refused(Refusal::TraceFull)
+    } else {
+        Reply::Cancelling(true)
+    };
+    same(rt, &reply, &expected, "cancelled by one of", count as u64);
+    for member in 1..count {
+        let reply = team.step(member, Call::Point(CancelKind::Parallel));
+        let expected = Reply::Cancelling(!is_full);
+        same(rt, &reply, &expected, "seen by all of", count as u64);
+        let reply = team.step(member, Call::RegionEnd);
+        same(rt, &reply, &Reply::Wait, "left by some of", count as u64);
+    }
+    let reply = team.step(0, Call::RegionEnd);
+    same(rt, &reply, &Reply::Passed, "left by all of", count as u64);
+    Ok(())
+}
+
+/// The call that cancels the region.
+fn cancel_region() -> Call {
+    Call::Cancel {
+        kind: CancelKind::Parallel,
+        clause: true,
+    }
+}
+
 #[test]
 fn nothing_gives_up(rt: HostRuntime) -> Result<(), Fail> {
     for count in SIZES {
@@ -97,6 +135,9 @@ fn nothing_gives_up(rt: HostRuntime) -> Result<(), Fail> {
     for count in 1..=64 {
         for number in &[0, 1, u32::MAX] {
             meet(&rt, rt.alloc(), count, *number)?;
+        }
+        for is_full in [false, true] {
+            leave(&rt, rt.alloc(), count, is_full)?;
         }
         are_refused(&rt, rt.alloc(), count, 300)?;
     }

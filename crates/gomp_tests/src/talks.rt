@@ -21,6 +21,7 @@ const LINES: &[(&str, &str)] = &[
     ("0 barrier\n", "passed\n"),
     ("foo\n", "bad line 7: missing word\n"),
     ("team 2\n", "ok\n"),
+    ("0 cancel parallel 1\n", "cancel no\n"),
     ("0 barrier\n", "wait\n"),
     ("team 0\n", "refused E38 BadTeam\n"),
     ("1 barrier\n", "passed\n"),

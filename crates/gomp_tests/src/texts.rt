@@ -105,10 +105,15 @@ const CALLS: &[&str] = &[
     "next",
     "end",
     "end_nowait",
+    "end_cancel",
+    "loop guided 1 0 10 1 cancellable",
+    "loop dynamic 1 0 10 1 cancellable ordered",
     "sections 4294967295 wait",
+    "sections 0 cancellable",
     "section_next",
     "sections_end",
     "sections_end_nowait",
+    "sections_end_cancel",
     "single",
     "single_copy",
     "single_copy_end",
@@ -140,6 +145,14 @@ const CALLS: &[&str] = &[
     "taskwait mutexinoutset 0 in 18446744073709551615",
     "group",
     "group_end",
+    "cancel parallel 0",
+    "cancel loop 1",
+    "cancel sections 0",
+    "cancel taskgroup 1",
+    "point parallel",
+    "point loop",
+    "point sections",
+    "point taskgroup",
     "resume",
     "stop",
 ];
@@ -230,6 +243,24 @@ const BAD_TEXTS: &[BadRow] = &[
         2,
         Why::BadNumber,
     ),
+    ("team 1\n0 cancel ", "x", "y 1\n", 0, 2, Why::UnknownWord),
+    (
+        "team 1\n0 cancel loop ",
+        "0",
+        "01\n",
+        0,
+        2,
+        Why::UnknownWord,
+    ),
+    (
+        "team 1\n0 cancel loop 1",
+        " x",
+        " y\n",
+        0,
+        2,
+        Why::ExtraWord,
+    ),
+    ("team 1\n0 point loop", " x", " y\n", 0, 2, Why::ExtraWord),
     ("te", "a", "mm 1\n", 0, 1, Why::FirstLine),
 ];
 
@@ -431,7 +462,7 @@ fn prints_number(rt: &impl Abort, alloc: Global, number: u64, written: &str) -> 
     Ok(())
 }
 
-/// That the replies on locks and tasks are printed, with the least numbers and the largest.
+/// That the replies on locks, tasks and cancellation are printed, with the least numbers and the largest.
 fn prints_extremes(rt: &impl Abort, alloc: Global) -> Result<(), Fail> {
     let replies = [
         Reply::Lock(0),
@@ -462,10 +493,14 @@ fn prints_extremes(rt: &impl Abort, alloc: Global) -> Result<(), Fail> {
             task: u32::MAX,
             waiting: false,
         },
+        Reply::Cancelling(true),
+        Reply::Cancelling(false),
+        Reply::Cancelled,
+        Reply::Dropped,
     ];
     let expected = "lock 0\nlock 4294967295\ngot yes\ngot no\ncount 0\ncount 4294967295\n\
 created 1\ncreated 4294967295\nrun 1 0 18446744073709551615\nrun 4294967295 18446744073709551615 0 own\n\
-task_done 1 waiting\ntask_done 4294967295 free\n";
+task_done 1 waiting\ntask_done 4294967295 free\ncancel yes\ncancel no\ncancelled\ndropped\n";
     print_so(rt, alloc, &replies, expected, 0)
 }
 

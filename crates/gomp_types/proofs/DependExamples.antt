@@ -2,6 +2,7 @@
 use Rattle.std.proofs.Common.{◌≡◌, true, false, List, [], ◌∷◌, ◌++◌, refl, rules, inl, inr}
 use Rattle.std.specs.Prelude.{◌==◌, ◌≢◌, map}
 use Rattle.std.proofs.lemmas.Bool.{cases_Bool}
+use Rattle.gomp_types.proofs.TaskEvents.{open_is_not_done}
 use Rattle.gomp_types.specs.declared.depend.DepKind.{DepKind}
 use Rattle.gomp_types.specs.declared.depend.DepKind.TheVariants.{DepIn, DepOut, DepInout, DepInoutset, DepMutex}
 use Rattle.gomp_types.specs.declared.task.Task.TheVariants.{Implicit, Explicit}
@@ -171,21 +172,15 @@ tasks_started_at_waits = (refl, refl, refl, refl, refl, refl)
 
 -- a member starts a reader, and the writer is open
 pub start_before_writer : Forbids StartsAfterNamed (pair DepIn DepOut) (Start 2 0)
-start_before_writer law = elim (law 1 refl).1 [ inl e ↦ absurd (cc) | inr (inl e) ↦ absurd (cc) | inr (inr never) ↦ never ]
+start_before_writer law = open_is_not_done 1 (after (pair DepIn DepOut)) refl (law 1 refl)
 
 -- or runs
 pub start_beside_writer : Forbids StartsAfterNamed (pair DepIn DepOut ++ Start 1 1 ∷ []) (Start 2 0)
-start_beside_writer law = elim (law 1 refl).1 [ inl e ↦ absurd (cc) | inr (inl e) ↦ absurd (cc) | inr (inr (inl e)) ↦ absurd (cc) | inr (inr (inr never)) ↦ never ]
+start_beside_writer law = open_is_not_done 1 (after (pair DepIn DepOut ++ Start 1 1 ∷ [])) refl (law 1 refl)
 
 -- a writer, and a reader is open while the last writer is done
 pub start_before_reader : Forbids StartsAfterNamed (Create 1 0 (Implicit 0) (with_items (item DepIn 9 ∷ [])) ∷ Create 2 0 (Implicit 0) (with_items (item DepOut 9 ∷ [])) ∷ Create 3 0 (Implicit 0) (with_items (item DepInout 9 ∷ [])) ∷ Done 2 0 ∷ []) (Start 3 0)
-start_before_reader law = elim (law 1 refl).1 [
-  | inl e ↦ absurd (cc)
-  | inr (inl e) ↦ absurd (cc)
-  | inr (inr (inl e)) ↦ absurd (cc)
-  | inr (inr (inr (inl e))) ↦ absurd (cc)
-  | inr (inr (inr (inr never))) ↦ never
-]
+start_before_reader law = open_is_not_done 1 (after (Create 1 0 (Implicit 0) (with_items (item DepIn 9 ∷ [])) ∷ Create 2 0 (Implicit 0) (with_items (item DepOut 9 ∷ [])) ∷ Create 3 0 (Implicit 0) (with_items (item DepInout 9 ∷ [])) ∷ Done 2 0 ∷ [])) refl (law 1 refl)
 
 -- a reader beside a reader
 pub start_beside_reader : Allows StartsAfterNamed (pair DepIn DepIn) (Start 2 0)
@@ -193,7 +188,7 @@ start_beside_reader q waits = elim (cases_Bool (1 == q)) [ inl same ↦ absurd (
 
 -- or after the writer is done
 pub start_after_writer : Allows StartsAfterNamed (pair DepIn DepOut ++ Start 1 1 ∷ Done 1 1 ∷ []) (Start 2 0)
-start_after_writer q waits = elim (cases_Bool (1 == q)) [ inl same ↦ (1, inl (let here = is_equal 1 q same in rw here refl)) | inr other ↦ absurd (let is = rw other at waits in cc) ]
+start_after_writer q waits = elim (cases_Bool (1 == q)) [ inl same ↦ (1, inl (inl (let here = is_equal 1 q same in rw here refl))) | inr other ↦ absurd (let is = rw other at waits in cc) ]
 
 -- the writer first
 pub start_writer_first : Allows StartsAfterNamed (pair DepIn DepOut) (Start 1 0)
@@ -256,7 +251,7 @@ own_alone = ((λ laws. start_undeferred_of_another laws.0), others)
 
 -- a task has waited for the writer of an address, which is open
 pub wait_for_writer : Forbids WaitsForTasks (Create 1 0 (Implicit 0) (with_items (item DepOut 9 ∷ [])) ∷ []) (Waited 0 (item DepIn 9 ∷ []))
-wait_for_writer law = elim (law 1 refl).1 [ inl e ↦ absurd (cc) | inr never ↦ never ]
+wait_for_writer law = open_is_not_done 1 (after (Create 1 0 (Implicit 0) (with_items (item DepOut 9 ∷ [])) ∷ [])) refl (law 1 refl)
 
 -- or of another address
 pub wait_for_another : Allows WaitsForTasks (Create 1 0 (Implicit 0) (with_items (item DepOut 9 ∷ [])) ∷ []) (Waited 0 (item DepIn 8 ∷ []))

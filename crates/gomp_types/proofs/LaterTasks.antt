@@ -7,16 +7,17 @@ use Rattle.gomp_types.specs.declared.task.Task.{Task}
 use Rattle.gomp_types.specs.declared.task.Task.TheVariants.{Implicit, Explicit}
 use Rattle.gomp_types.specs.declared.task.TaskDesc.{TaskDesc}
 use Rattle.gomp_types.specs.declared.event.Event.{Event}
-use Rattle.gomp_types.specs.declared.event.Event.TheVariants.{Create, Done, Arrive, Pass}
-use Rattle.gomp_types.specs.Events.{barriers_passed, arrival, at_barrier, all_arrived}
-use Rattle.gomp_types.specs.Tasks.{tasks_created, is_created, task_stack, innermost_task, is_complete, epoch, of_explicit}
-use Rattle.gomp_types.specs.Goals.{bound_complete, barrier_met}
+use Rattle.gomp_types.specs.declared.event.Event.TheVariants.{Create, Done, Arrive, Pass, Cancel, Discard}
+use Rattle.gomp_types.specs.Events.{every_member, barriers_passed, arrival, at_barrier, at_region_end, all_arrived}
+use Rattle.gomp_types.specs.Tasks.{tasks_created, is_created, task_stack, innermost_task, is_complete, all_complete, epoch, of_explicit}
+use Rattle.gomp_types.specs.Goals.{bound_complete, barrier_met, region_met}
+use Rattle.gomp_types.specs.Cancels.{is_cancelled, some_cancelled, groups_within, would_be_covered}
 use Rattle.gomp_types.specs.Laws.{Always, Happened}
 use Rattle.gomp_types.specs.Arrivals.{ArrivalRule}
 use Rattle.gomp_types.specs.TaskRules.{TaskRule}
 use Rattle.gomp_types.specs.TaskLaws.{CreatesLater}
-use Rattle.gomp_types.proofs.Booleans.{and_left, and_right, and_false, same_number, other_number, is_equal, not_both, every_tells}
-use Rattle.gomp_types.proofs.ArrivalsKeep.{passed_met}
+use Rattle.gomp_types.proofs.Booleans.{and_left, and_right, and_false, or_false, same_number, other_number, is_equal, not_both, every_tells}
+use Rattle.gomp_types.proofs.ArrivalsKeep.{uncancelled_before, passed_met, passed_cancelled}
 use Rattle.gomp_types.proofs.OpenTasks.{created_high, complete_at}
 use Rattle.gomp_types.proofs.Suspended.{current_open}
 
@@ -49,16 +50,18 @@ is_some_stays : (b : Bool) {A : Type 0} (x : A) (rest : Option A) → is_some re
 is_some_stays true x rest e = refl
 is_some_stays false x rest e = e
 
-arrived_all : (members g n x : ℕ) (h : List Event) → Always (ArrivalRule members) h → Happened (Pass g n) h → x < members → is_some (arrival g x h) ≡ true
-arrived_all members g n x [] all past lt = absurd past
-arrived_all members g n x (Pass barrier member ∷ earlier) all (inl e) lt =
+arrived_all : (members g n x : ℕ) (h : List Event) → is_cancelled h ≡ false → Always (ArrivalRule members) h → Happened (Pass g n) h → x < members → is_some (arrival g x h) ≡ true
+arrived_all members g n x [] whole all past lt = absurd past
+arrived_all members g n x (Pass barrier member ∷ earlier) whole all (inl e) lt =
     let here : barrier ≡ g = cc in
-    let met = and_left (all_arrived members barrier earlier) (bound_complete barrier earlier) (passed_met members barrier member earlier all.0) in
+    let met = and_left (all_arrived members barrier earlier) (bound_complete barrier earlier) (passed_met members barrier member earlier whole all.0) in
     let there : is_some (arrival g x earlier) ≡ true = rw (← here) (every_tells members (λ m. is_some (arrival barrier m earlier)) x met lt) in there
-arrived_all members g n x (Arrive barrier member tag ∷ earlier) all (inr past) lt =
-    is_some_stays (barrier == g && member == x) tag (arrival g x earlier) (arrived_all members g n x earlier all.1 past lt)
-arrived_all members g n x (_ ∷ earlier) all (inl e) lt = absurd (cc)
-arrived_all members g n x (_ ∷ earlier) all (inr past) lt = arrived_all members g n x earlier all.1 past lt
+arrived_all members g n x (Arrive barrier member tag ∷ earlier) whole all (inr past) lt =
+    is_some_stays (barrier == g && member == x) tag (arrival g x earlier) (arrived_all members g n x earlier whole all.1 past lt)
+arrived_all members g n x (Cancel member scope ∷ earlier) whole all (inl e) lt = absurd (cc)
+arrived_all members g n x (Cancel member scope ∷ earlier) whole all (inr past) lt = arrived_all members g n x earlier (uncancelled_before (Cancel member scope) earlier whole) all.1 past lt
+arrived_all members g n x (_ ∷ earlier) whole all (inl e) lt = absurd (cc)
+arrived_all members g n x (_ ∷ earlier) whole all (inr past) lt = arrived_all members g n x earlier whole all.1 past lt
 
 -- After a barrier was passed
 
@@ -82,11 +85,19 @@ implicit_is : (m x : ℕ) (ts : List ℕ) → Implicit x ≡ innermost_task m ts
 implicit_is m x [] e = (cc, refl)
 implicit_is m x (t ∷ ts) e = absurd (cc)
 
+neither_left : (b c : Bool) → (b || c) ≡ false → b ≡ false
+neither_left true c e = absurd (cc)
+neither_left false c e = refl
+
+-- where a task may be created nothing is cancelled
+uncovered_whole : (p : Task) (h : List Event) → would_be_covered p h ≡ false → is_cancelled h ≡ false
+uncovered_whole p h e = neither_left (is_cancelled h) (some_cancelled (groups_within p h) h) e
+
 new_later : (members g n task member : ℕ) (p : Task) (desc : TaskDesc) (h : List Event) → Always (ArrivalRule members) h → Always (TaskRule members) h → TaskRule members (Create task member p desc) h → Happened (Pass g n) h → LaterOpen g h →
     g < epoch task (Create task member p desc ∷ h)
 new_later members g n task member (Implicit x) desc h arrivals tasks rule past later =
     let who = implicit_is member x (task_stack member h) rule.current in
-    rw (same_number task, who.0) (elim (arrived_is_beyond members g member h arrivals (arrived_all members g n member h arrivals past rule.member)) [
+    rw (same_number task, who.0) (elim (arrived_is_beyond members g member h arrivals (arrived_all members g n member h (uncovered_whole (Implicit x) h rule.uncovered) arrivals past rule.member)) [
       | inl past ↦ past
       | inr waits ↦ absurd (not_both (at_barrier member h) waits.1 (rule.away who.1))
     ])
@@ -110,15 +121,17 @@ old_created t task h number other made =
     let high = and_right (nat_lt 0 t) (nat_le t (suc (tasks_created h))) made in
     rw low (grind (arith, nat_tests, high, number, other))
 
-or_false : (b c : Bool) → (b || c) ≡ false → c ≡ false
-or_false true c e = absurd (cc)
-or_false false c e = e
-
 later_open : (members g n : ℕ) (h : List Event) → Always (ArrivalRule members) h → Always (TaskRule members) h → Happened (Pass g n) h → LaterOpen g h
 later_open members g n [] arrivals tasks past = absurd past
 later_open members g n (Pass barrier member ∷ earlier) arrivals tasks (inl e) = λ t made incomplete.
     let here : barrier ≡ g = cc in
-    met_open members g t earlier (rw (← here) (passed_met members barrier member earlier arrivals.0)) made incomplete
+    elim (cases_Bool (is_cancelled earlier)) [
+      | inl cancelled ↦
+          let met = and_right (at_region_end member earlier) (region_met members earlier) (passed_cancelled members barrier member earlier arrivals.0 cancelled) in
+          let every = and_right (every_member members (λ x. at_region_end x earlier)) (all_complete (λ u. true) earlier) met in
+          absurd (not_both (is_complete t earlier) (complete_at (λ u. true) earlier t every made refl) incomplete)
+      | inr whole ↦ met_open members g t earlier (rw (← here) (passed_met members barrier member earlier whole arrivals.0)) made incomplete
+    ]
 later_open members g n (Create task member p desc ∷ earlier) arrivals tasks (inr past) = λ t made incomplete.
     let before = later_open members g n earlier arrivals.1 tasks.1 past in
     elim (cases_Bool (task == t)) [
@@ -126,6 +139,9 @@ later_open members g n (Create task member p desc ∷ earlier) arrivals tasks (i
       | inr other ↦ rw (old_epoch t task member p desc earlier other) (before t (old_created t task earlier tasks.0.number other made) incomplete)
     ]
 later_open members g n (Done task member ∷ earlier) arrivals tasks (inr past) = λ t made incomplete.
+    later_open members g n earlier arrivals.1 tasks.1 past t made (or_false (task == t) (is_complete t earlier) incomplete)
+later_open members g n (Discard task member ∷ earlier) arrivals tasks (inl e) = absurd (cc)
+later_open members g n (Discard task member ∷ earlier) arrivals tasks (inr past) = λ t made incomplete.
     later_open members g n earlier arrivals.1 tasks.1 past t made (or_false (task == t) (is_complete t earlier) incomplete)
 later_open members g n (_ ∷ earlier) arrivals tasks (inl e) = absurd (cc)
 later_open members g n (_ ∷ earlier) arrivals tasks (inr past) = later_open members g n earlier arrivals.1 tasks.1 past

@@ -4,6 +4,8 @@ pub mod Booleans
 pub mod BoundTasks
 pub mod Compared
 pub mod Dealing
+pub mod CancelExamples
+pub mod CancelRuleExamples
 pub mod DependExamples
 pub mod EvenTiling
 pub mod EventExamples

@@ -6,7 +6,7 @@ use Rattle.std.proofs.lemmas.Bool.Decides.{nat_tests, eqb_tells}
 use Rattle.gomp_types.specs.declared.task.Task.{Task}
 use Rattle.gomp_types.specs.declared.task.TaskDesc.{TaskDesc}
 use Rattle.gomp_types.specs.declared.event.Event.{Event}
-use Rattle.gomp_types.specs.declared.event.Event.TheVariants.{Create, Done}
+use Rattle.gomp_types.specs.declared.event.Event.TheVariants.{Create, Done, Discard}
 use Rattle.gomp_types.specs.Tasks.{tasks_created, is_created, is_complete, all_complete, how_many, open_tasks}
 use Rattle.gomp_types.proofs.Booleans.{and_left, and_right, and_false, every_tells, every_by, same_number, other_number, implied_by}
 
@@ -67,6 +67,21 @@ pub open_done : (test : ℕ → Bool) (t m : ℕ) (h : List Event) → is_create
 open_done test t m h made counted incomplete =
     one_less (tasks_created h) t (λ u. test u && not (is_complete u h)) (λ u. test u && not (t == u || is_complete u h)) (created_low t h made) (created_high t h made)
     (rw (counted, incomplete) refl) (rw (same_number t) (and_false (test t) false refl)) (λ u differ. rw (other_number t u (λ e. differ (sym e))) refl)
+
+-- so is it if a task is discarded
+pub open_discard : (test : ℕ → Bool) (t m : ℕ) (h : List Event) → is_created t h ≡ true → test t ≡ true → is_complete t h ≡ false →
+    open_tasks test h ≡ open_tasks test (Discard t m ∷ h) + 1
+open_discard test t m h made counted incomplete =
+    one_less (tasks_created h) t (λ u. test u && not (is_complete u h)) (λ u. test u && not (t == u || is_complete u h)) (created_low t h made) (created_high t h made)
+    (rw (counted, incomplete) refl) (rw (same_number t) (and_false (test t) false refl)) (λ u differ. rw (other_number t u (λ e. differ (sym e))) refl)
+
+pub open_discard_other : (test : ℕ → Bool) (t m : ℕ) (h : List Event) → test t ≡ false → open_tasks test h ≡ open_tasks test (Discard t m ∷ h)
+open_discard_other test t m h not_counted =
+    how_many_same (tasks_created h) (λ u. test u && not (is_complete u h)) (λ u. test u && not (t == u || is_complete u h)) (λ u low high.
+    elim (eqb_tells t u) [
+      | inl e ↦ rw (← e.1, not_counted) refl
+      | inr e ↦ rw e.0 refl
+    ])
 
 -- and a count that does not have it stays
 pub open_done_other : (test : ℕ → Bool) (t m : ℕ) (h : List Event) → test t ≡ false → open_tasks test h ≡ open_tasks test (Done t m ∷ h)

@@ -5,7 +5,7 @@ use Rattle.std.proofs.Common.{◌≡◌, ℕ, List, refl}
 use Rattle.std.specs.Prelude.{codes}
 use Rattle.std.specs.Fmt.{digits}
 use Rattle.gomp_types.specs.declared.refusal.Place.TheVariants.{Share, Barrier, Stopped}
-use Rattle.gomp_types.specs.declared.refusal.Refusal.TheVariants.{BadMember, Ended, Broken, Waiting, InsideTask, NotInTask, InsideShare, OutsideShare, InOrdered, HoldsCritical, ZeroStep, BadChunk, LoopTooLong, BadSections, EndDiffers, NotDrained, Drained, NotOrdered, OrderedBackwards, NotInside, NoGroup, GroupOpen, TooDeep, TooManyTasks, TooManyDepends, NameTooLong, AlreadyHeld, NotHolder, NoLock, CountTooLarge, TooManyShares, Mismatch, TraceFull, NoMemory, BadTeam, BadEnv}
+use Rattle.gomp_types.specs.declared.refusal.Refusal.TheVariants.{BadMember, Ended, Broken, Waiting, Leaving, InsideTask, NotInTask, InsideShare, OutsideShare, InOrdered, HoldsCritical, ZeroStep, BadChunk, LoopTooLong, BadSections, OrderedLoop, EndDiffers, NotDrained, Drained, NotOrdered, OrderedBackwards, NotInside, NotCancellable, NoGroup, GroupOpen, TooDeep, TooManyTasks, TooManyDepends, NameTooLong, AlreadyHeld, NotHolder, NoLock, CountTooLarge, TooManyShares, Mismatch, TraceFull, NoMemory, BadTeam, BadEnv}
 use Rattle.gomp_types.specs.RefusalTexts.{Prints, text_of, clash_text, place_text}
 
 -- the member's number is not below the team's size
@@ -22,6 +22,11 @@ ended_prints = (refl, refl, refl)
 pub waiting_prints : Prints Waiting 4 (codes "Waiting") (codes "E4 Waiting")
 unfolding digits
 waiting_prints = (refl, refl, refl)
+
+-- the member leaves what was cancelled
+pub leaving_prints : Prints Leaving 5 (codes "Leaving") (codes "E5 Leaving")
+unfolding digits
+leaving_prints = (refl, refl, refl)
 
 -- the member executes an explicit task
 pub inside_task_prints : Prints InsideTask 6 (codes "InsideTask") (codes "E6 InsideTask")
@@ -73,6 +78,11 @@ pub bad_sections_prints : Prints BadSections 15 (codes "BadSections") (codes "E1
 unfolding digits
 bad_sections_prints = (refl, refl, refl)
 
+-- the loop is ordered, and may be cancelled
+pub ordered_loop_prints : Prints OrderedLoop 16 (codes "OrderedLoop") (codes "E16 OrderedLoop")
+unfolding digits
+ordered_loop_prints = (refl, refl, refl)
+
 -- the share ends otherwise
 pub end_differs_prints : Prints EndDiffers 17 (codes "EndDiffers") (codes "E17 EndDiffers")
 unfolding digits
@@ -102,6 +112,11 @@ ordered_backwards_prints = (refl, refl, refl)
 pub not_inside_prints : Prints NotInside 22 (codes "NotInside") (codes "E22 NotInside")
 unfolding digits
 not_inside_prints = (refl, refl, refl)
+
+-- the end is not that of a construct that may be cancelled
+pub not_cancellable_prints : Prints NotCancellable 23 (codes "NotCancellable") (codes "E23 NotCancellable")
+unfolding digits
+not_cancellable_prints = (refl, refl, refl)
 
 -- there is no group to end
 pub no_group_prints : Prints NoGroup 24 (codes "NoGroup") (codes "E24 NoGroup")

@@ -4,8 +4,8 @@ use Rattle.std.specs.Prelude.{ℤ, pos, negsuc, map}
 use Rattle.gomp_types.specs.declared.loop_desc.LoopDesc.{LoopDesc}
 use Rattle.gomp_types.specs.declared.loop_desc.Sched.{Sched}
 use Rattle.gomp_types.specs.declared.loop_desc.Sched.TheVariants.{Static, Guided, Dynamic, Runtime}
-use Rattle.gomp_types.specs.declared.loop_desc.EndKind.TheVariants.{Wait, Nowait}
-use Rattle.gomp_types.specs.declared.refusal.Refusal.TheVariants.{ZeroStep, BadChunk, LoopTooLong, BadSections}
+use Rattle.gomp_types.specs.declared.loop_desc.EndKind.TheVariants.{Wait, Nowait, Cancellable}
+use Rattle.gomp_types.specs.declared.refusal.Refusal.TheVariants.{ZeroStep, BadChunk, LoopTooLong, BadSections, OrderedLoop}
 use Rattle.gomp_types.specs.declared.shape.Shape.{Shape}
 use Rattle.gomp_types.specs.declared.shape.ShareKind.{ShareKind}
 use Rattle.gomp_types.specs.declared.shape.ShareKind.TheVariants as kind
@@ -15,7 +15,7 @@ use Rattle.gomp_types.specs.declared.event.Event.TheVariants.{Take}
 use Rattle.gomp_types.specs.Limits.{standard, capped_limits}
 use Rattle.gomp_types.specs.Tests.{first_refusal, outcome}
 use Rattle.gomp_types.specs.Shapes.{is_loop, is_static, is_sections, is_single, is_copy, same_kind, same_end, same_bool, same_shape, same_arrival, same_tag}
-use Rattle.gomp_types.specs.Iterations.{trip_count, iteration_value, lies_before_end, is_bad_chunk, loop_tests}
+use Rattle.gomp_types.specs.Iterations.{trip_count, iteration_value, lies_before_end, is_bad_chunk, trip_tests, loop_tests}
 use Rattle.gomp_types.specs.Sections.{sections_shape, sections_tests}
 use Rattle.gomp_types.specs.Singles.{single_shape, with_word}
 use Rattle.gomp_types.specs.Pieces.{resolved_loop, resolved_chunk, kind_of, shape_of, pieces_of, Tiles}
@@ -110,13 +110,20 @@ pub chunks_that_are_bad :
     ≡ true ∷ false ∷ false ∷ true ∷ false ∷ true ∷ []
 chunks_that_are_bad = refl
 
--- a loop is refused for its step before its chunk, and for its chunk before its length
+-- a loop is refused for its step before its chunk, for its chunk before its length, and then if it is ordered and may be cancelled
 pub loops_that_are_refused :
     map (λ loop. first_refusal (loop_tests loop))
     (loop_from (pos 0) (pos 549755813889) (pos 0) Static (negsuc 0) ∷ loop_from (pos 0) (pos 549755813889) (pos 1) Static (negsuc 0)
-    ∷ loop_from (pos 0) (pos 549755813889) (pos 1) Static (pos 0) ∷ loop_from (pos 0) (pos 549755813888) (pos 1) Static (pos 0) ∷ [])
-    ≡ Some ZeroStep ∷ Some BadChunk ∷ Some LoopTooLong ∷ None ∷ []
+    ∷ loop_from (pos 0) (pos 549755813889) (pos 1) Static (pos 0) ∷ loop_from (pos 0) (pos 549755813888) (pos 1) Static (pos 0) ∷ record (loop_from (pos 0) (pos 549755813889) (pos 1) Static (pos 0)) { end_kind = Cancellable }
+    ∷ record (loop_from (pos 0) (pos 9) (pos 3) Static (pos 0)) { end_kind = Cancellable } ∷ record (loop_from (pos 0) (pos 9) (pos 3) Static (pos 0)) { end_kind = Cancellable; ordered = false }
+    ∷ [])
+    ≡ Some ZeroStep ∷ Some BadChunk ∷ Some LoopTooLong ∷ None ∷ Some LoopTooLong ∷ Some OrderedLoop ∷ None ∷ []
 loops_that_are_refused = refl
+
+-- whether it can be counted is nothing of its order
+pub loop_counted_in_any_order :
+    first_refusal (trip_tests (record (loop_from (pos 0) (pos 9) (pos 3) Static (pos 0)) { end_kind = Cancellable })) ≡ None
+loop_counted_in_any_order = refl
 
 -- what is compared of a loop, with a chunk and without
 pub shapes_of_loops :
@@ -265,6 +272,10 @@ shape_of_no_step is = is.moves refl
 -- or an iteration whose value is none
 pub shape_of_no_value : IsShape (record (four false) { start = pos 9223372036854775805 }) → ⊥
 shape_of_no_value is = absurd (let last = is.fits 3 (omega arith) in omega arith)
+
+-- nor is one ordered that may be cancelled
+pub shape_that_loses_order : IsShape (record (four false) { end_kind = Cancellable; ordered = true }) → ⊥
+shape_that_loses_order is = absurd (let unordered = is.unordered refl in cc)
 
 -- Tests and limits
 

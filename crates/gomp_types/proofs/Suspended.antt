@@ -5,9 +5,10 @@ use Rattle.std.proofs.lemmas.Bool.{cases_Bool}
 use Rattle.std.proofs.lemmas.Bool.Decides.{nat_tests}
 use Rattle.gomp_types.specs.declared.task.Task.TheVariants.{Explicit}
 use Rattle.gomp_types.specs.declared.event.Event.{Event}
-use Rattle.gomp_types.specs.declared.event.Event.TheVariants.{Create, Start, Done}
+use Rattle.gomp_types.specs.declared.event.Event.TheVariants.{Create, Start, Done, Discard}
 use Rattle.gomp_types.specs.Tasks.{contains, tasks_created, is_created, task_stack, executed_task, innermost_task, after_first, has_started, task_runner, is_complete}
 use Rattle.gomp_types.specs.Goals.{is_unstarted, is_ready, may_descend, may_start}
+use Rattle.gomp_types.specs.Cancels.{is_covered}
 use Rattle.gomp_types.specs.Depends.{is_free}
 use Rattle.gomp_types.specs.Laws.{Always}
 use Rattle.gomp_types.specs.TaskRules.{TaskRule}
@@ -24,11 +25,16 @@ unstarted_is_fresh t h is =
     (made, false_of_not (has_started t h) (and_left (not (has_started t h)) (not (is_complete t h)) rest), false_of_not (is_complete t h) (and_right (not (has_started t h)) (not (is_complete t h)) rest))
 
 pub startable_is_fresh : (m t : ℕ) (h : List Event) → may_start m t h ≡ true → IsFresh t h
-startable_is_fresh m t h may = unstarted_is_fresh t h (and_left (is_unstarted t h) (is_free t h) (and_left (is_ready t h) (may_descend m t h) may))
+startable_is_fresh m t h may = unstarted_is_fresh t h (and_left (is_unstarted t h) (is_free t h && not (is_covered t h)) (and_left (is_ready t h) (may_descend m t h) may))
 
 -- and it waits for no task that is not complete
 pub startable_is_free : (m t : ℕ) (h : List Event) → may_start m t h ≡ true → is_free t h ≡ true
-startable_is_free m t h may = and_right (is_unstarted t h) (is_free t h) (and_left (is_ready t h) (may_descend m t h) may)
+startable_is_free m t h may = and_left (is_free t h) (not (is_covered t h)) (and_right (is_unstarted t h) (is_free t h && not (is_covered t h)) (and_left (is_ready t h) (may_descend m t h) may))
+
+-- nor does a cancellation reach it
+pub startable_is_uncovered : (m t : ℕ) (h : List Event) → may_start m t h ≡ true → is_covered t h ≡ false
+startable_is_uncovered m t h may =
+    false_of_not (is_covered t h) (and_right (is_free t h) (not (is_covered t h)) (and_right (is_unstarted t h) (is_free t h && not (is_covered t h)) (and_left (is_ready t h) (may_descend m t h) may)))
 
 -- a task that has a runner was started
 pub runner_has_started : (t m : ℕ) (h : List Event) → task_runner t h ≡ Some m → has_started t h ≡ true
@@ -137,6 +143,14 @@ ended_stack_open m t task member h known top false e there =
       | inr other ↦ (was.0, rw other was.1, was.2)
     ]
 
+-- a task that its member has started is not the one that is discarded now
+open_after_discard : (m t task member : ℕ) (h : List Event) → IsFresh task h → IsOpen m t h → IsOpen m t (Discard task member ∷ h)
+open_after_discard m t task member h new is =
+    elim (cases_Bool (task == t)) [
+      | inl same ↦ absurd (unstarted_has_no_runner t m h (rw (← is_equal task t same) new.1) is.2)
+      | inr other ↦ (is.0, rw other is.1, is.2)
+    ]
+
 -- so the stacks hold the tasks that are started and not ended, each once and on one member
 pub tasks_stacked : (members : ℕ) (h : List Event) → Always (TaskRule members) h → Stacked h
 tasks_stacked members [] all = λ m. (tt, λ t there. absurd (cc))
@@ -147,6 +161,10 @@ tasks_stacked members (Start task member ∷ earlier) all =
 tasks_stacked members (Done task member ∷ earlier) all =
     let known = tasks_stacked members earlier all.1 in
     λ m. (ended_stack_apart m member earlier known (member == m) refl, λ t there. ended_stack_open m t task member earlier known all.0.current (member == m) refl there)
+tasks_stacked members (Discard task member ∷ earlier) all =
+    let known = tasks_stacked members earlier all.1 in
+    let new = unstarted_is_fresh task earlier all.0.unstarted in
+    λ m. ((known m).0, λ t there. open_after_discard m t task member earlier new ((known m).1 t there))
 tasks_stacked members (Create task member p desc ∷ earlier) all =
     let known = tasks_stacked members earlier all.1 in
     λ m. ((known m).0, λ t there. let was = (known m).1 t there in (created_stays t earlier was.0, was.1, was.2))

@@ -1,37 +1,65 @@
 -- What happened to a task, and what the events say of it.
-use Rattle.std.proofs.Common.{◌≡◌, ℕ, true, List, [], ◌∷◌, Some, refl, ◌∙◌, sym, arith, suc, inl, inr}
+use Rattle.std.proofs.Common.{false, ◌≡◌, ℕ, true, List, [], ◌∷◌, Some, refl, ◌∙◌, sym, arith, suc, inl, inr}
 use Rattle.std.specs.Prelude.{◌&&◌, ◌==◌, nat_lt, nat_le}
 use Rattle.std.proofs.lemmas.Bool.{cases_Bool}
 use Rattle.std.proofs.lemmas.Bool.Decides.{nat_tests}
 use Rattle.gomp_types.specs.declared.task.Task.{Task}
 use Rattle.gomp_types.specs.declared.task.TaskDesc.{TaskDesc}
 use Rattle.gomp_types.specs.declared.event.Event.{Event}
-use Rattle.gomp_types.specs.declared.event.Event.TheVariants.{Create, Start, Done}
+use Rattle.gomp_types.specs.declared.event.Event.TheVariants.{Create, Start, Done, Discard}
 use Rattle.gomp_types.specs.Tasks.{tasks_created, is_created, has_started, task_runner, is_complete}
 use Rattle.gomp_types.specs.Laws.{Always, Happened}
 use Rattle.gomp_types.specs.TaskRules.{TaskRule}
 use Rattle.gomp_types.specs.TaskLaws.{IsCreated, IsDone}
-use Rattle.gomp_types.proofs.Booleans.{or_tells, or_right, same_number, is_equal}
+use Rattle.gomp_types.proofs.Booleans.{not_both, or_tells, or_right, same_number, is_equal}
 use Rattle.gomp_types.proofs.OpenTasks.{created_low, created_high}
 use Rattle.gomp_types.proofs.Suspended.{created_stays}
 use Rattle.gomp_types.proofs.LaterTasks.{old_created}
 
--- a task that is complete was ended
+-- a task that is done stays so
+pub done_stays : (event : Event) (t : ℕ) (h : List Event) → IsDone t h → IsDone t (event ∷ h)
+done_stays event t h (m, inl done) = (m, inl (inr done))
+done_stays event t h (m, inr gone) = (m, inr (inr gone))
+
+-- a task that is complete was ended or discarded
 pub complete_is_done : (t : ℕ) (h : List Event) → is_complete t h ≡ true → IsDone t h
 complete_is_done t [] e = absurd (cc)
 complete_is_done t (Done task m ∷ earlier) e = elim (or_tells (task == t) (is_complete t earlier) e) [
-  | inl same ↦ (m, inl (let here = is_equal task t same in rw here refl))
-  | inr before ↦ let was = complete_is_done t earlier before in (was.0, inr was.1)
+  | inl same ↦ (m, inl (inl (let here = is_equal task t same in rw here refl)))
+  | inr before ↦ done_stays (Done task m) t earlier (complete_is_done t earlier before)
 ]
-complete_is_done t (_ ∷ earlier) e = let was = complete_is_done t earlier e in (was.0, inr was.1)
+complete_is_done t (Discard task m ∷ earlier) e = elim (or_tells (task == t) (is_complete t earlier) e) [
+  | inl same ↦ (m, inr (inl (let here = is_equal task t same in rw here refl)))
+  | inr before ↦ done_stays (Discard task m) t earlier (complete_is_done t earlier before)
+]
+complete_is_done t (_ ∷ earlier) e = done_stays _ t earlier (complete_is_done t earlier e)
 
 -- and the other way round
 pub done_is_complete : (t m : ℕ) (h : List Event) → Happened (Done t m) h → is_complete t h ≡ true
 done_is_complete t m [] done = absurd done
 done_is_complete t m (Done task member ∷ earlier) (inl e) = let here : task ≡ t = cc in rw (here, same_number t) refl
 done_is_complete t m (Done task member ∷ earlier) (inr done) = or_right (task == t) (is_complete t earlier) (done_is_complete t m earlier done)
+done_is_complete t m (Discard task member ∷ earlier) (inl e) = absurd (cc)
+done_is_complete t m (Discard task member ∷ earlier) (inr done) = or_right (task == t) (is_complete t earlier) (done_is_complete t m earlier done)
 done_is_complete t m (_ ∷ earlier) (inl e) = absurd (cc)
 done_is_complete t m (_ ∷ earlier) (inr done) = done_is_complete t m earlier done
+
+pub gone_is_complete : (t m : ℕ) (h : List Event) → Happened (Discard t m) h → is_complete t h ≡ true
+gone_is_complete t m [] gone = absurd gone
+gone_is_complete t m (Discard task member ∷ earlier) (inl e) = let here : task ≡ t = cc in rw (here, same_number t) refl
+gone_is_complete t m (Discard task member ∷ earlier) (inr gone) = or_right (task == t) (is_complete t earlier) (gone_is_complete t m earlier gone)
+gone_is_complete t m (Done task member ∷ earlier) (inl e) = absurd (cc)
+gone_is_complete t m (Done task member ∷ earlier) (inr gone) = or_right (task == t) (is_complete t earlier) (gone_is_complete t m earlier gone)
+gone_is_complete t m (_ ∷ earlier) (inl e) = absurd (cc)
+gone_is_complete t m (_ ∷ earlier) (inr gone) = gone_is_complete t m earlier gone
+
+pub done_or_gone : (t : ℕ) (h : List Event) → IsDone t h → is_complete t h ≡ true
+done_or_gone t h (m, inl done) = done_is_complete t m h done
+done_or_gone t h (m, inr gone) = gone_is_complete t m h gone
+
+-- so one that is not complete was neither ended nor discarded
+pub open_is_not_done : (t : ℕ) (h : List Event) → is_complete t h ≡ false → IsDone t h → ⊥
+open_is_not_done t h incomplete done = not_both (is_complete t h) (done_or_gone t h done) incomplete
 
 -- a task of which a start happened has started
 pub start_happened : (t m : ℕ) (h : List Event) → Happened (Start t m) h → has_started t h ≡ true

@@ -3,14 +3,16 @@
 use Rattle.std.proofs.Common.{◌≡◌, ℕ, false, List, [], ◌∷◌, refl, arith, rules, inl, inr}
 use Rattle.std.specs.Prelude.{◌==◌, ◌≢◌}
 use Rattle.std.proofs.lemmas.Bool.{cases_Bool}
+use Rattle.gomp_types.proofs.TaskEvents.{open_is_not_done}
 use Rattle.gomp_types.specs.Laws.{Always}
 use Rattle.gomp_types.specs.declared.task.Task.TheVariants.{Implicit, Explicit}
 use Rattle.gomp_types.specs.declared.event.Arrival.TheVariants.{Barrier, RegionEnd}
 use Rattle.gomp_types.specs.declared.event.Event.{Event}
-use Rattle.gomp_types.specs.declared.event.Event.TheVariants.{Create, Start, Done, Group, GroupEnd, Waited, Arrive, Pass}
+use Rattle.gomp_types.specs.declared.event.Event.TheVariants.{Create, Start, Done, Group, GroupEnd, Waited, Arrive, Pass, Cancel, Discard}
+use Rattle.gomp_types.specs.declared.cancel.Scope.TheVariants.{Region, OneGroup}
 use Rattle.gomp_types.specs.EventLists.{at}
 use Rattle.gomp_types.specs.TaskLaws.{IsCreated, IsDone, CreatesOnce, CreatesInItsOwn, StartsOnce, StartsAfterNamed, StartsDescendant, EndsItsOwn, WaitsForTasks, OpensOnce, EndsItsGroup, PassesAfterTasks, CreatesLater, EndsAfterTasks, TaskLaws, BoundIsDone}
-use Rattle.gomp_types.specs.TaskExamples.{after, Allows, Forbids, TaskLaw, CreatedOnce, CreatedIn, StartedOnce, AfterNamed, Descendants, EndedOnce, Waits, OpenedOnce, GroupsEnded, Passes, Later, AtTheEnd, law_of, RefusedAlone, one_job, other_job, task_tree, child_ended, across_barrier, whole_region}
+use Rattle.gomp_types.specs.TaskExamples.{after, Allows, Forbids, TaskLaw, CreatedOnce, CreatedIn, StartedOnce, AfterNamed, Descendants, EndedOnce, StartedUncovered, CreatedUncovered, Discarded, Waits, OpenedOnce, GroupsEnded, Passes, Later, AtTheEnd, law_of, RefusedAlone, one_job, other_job, task_tree, child_ended, across_barrier, whole_region}
 use Rattle.gomp_types.specs.Tasks.{is_child}
 use Rattle.gomp_types.specs.Depends.{waits_for}
 use Rattle.gomp_types.proofs.Booleans.{and_false, not_both}
@@ -29,11 +31,14 @@ created_another made = elim made.3 [ inl e ↦ absurd (cc) | inr (inl e) ↦ abs
 
 -- a task was ended by any member
 pub done_by_any : IsDone 1 (after (Done 1 1 ∷ Done 2 0 ∷ []))
-done_by_any = (1, inr (inl refl))
+done_by_any = (1, inl (inr (inl refl)))
 
 -- and another was not
 pub done_another : IsDone 2 (after (Start 2 0 ∷ Done 1 0 ∷ [])) → ⊥
-done_another done = elim done.1 [ inl e ↦ absurd (cc) | inr (inl e) ↦ absurd (cc) | inr (inr never) ↦ never ]
+done_another done = elim done.1 [
+  | inl ended ↦ elim ended [ inl e ↦ absurd (cc) | inr (inl e) ↦ absurd (cc) | inr (inr never) ↦ never ]
+  | inr gone ↦ elim gone [ inl e ↦ absurd (cc) | inr (inl e) ↦ absurd (cc) | inr (inr never) ↦ never ]
+]
 
 -- Created once, in the task that the member executes
 
@@ -73,7 +78,7 @@ start_twice law = law.1 1 (inl refl)
 
 -- one that is done
 pub start_done : Forbids StartsOnce (Create 1 0 (Implicit 0) one_job ∷ Done 1 1 ∷ []) (Start 1 0)
-start_done law = law.2 (1, inl refl)
+start_done law = law.2 (1, inl (inl refl))
 
 -- one beside another that is started and done
 pub start_beside : Allows StartsOnce (Create 1 0 (Implicit 0) one_job ∷ Create 2 0 (Implicit 0) one_job ∷ Start 2 0 ∷ Done 2 0 ∷ []) (Start 1 0)
@@ -137,15 +142,15 @@ end_outer_last = search rules
 
 -- a task has waited, and its child is open
 pub wait_open : Forbids WaitsForTasks (Create 1 0 (Implicit 0) one_job ∷ []) (Waited 0 [])
-wait_open law = elim (law 1 refl).1 [ inl e ↦ absurd (cc) | inr never ↦ never ]
+wait_open law = open_is_not_done 1 (after (Create 1 0 (Implicit 0) one_job ∷ [])) refl (law 1 refl)
 
 -- or runs
 pub wait_running : Forbids WaitsForTasks (Create 1 0 (Implicit 0) one_job ∷ Start 1 1 ∷ []) (Waited 0 [])
-wait_running law = elim (law 1 refl).1 [ inl e ↦ absurd (cc) | inr (inl e) ↦ absurd (cc) | inr (inr never) ↦ never ]
+wait_running law = open_is_not_done 1 (after (Create 1 0 (Implicit 0) one_job ∷ Start 1 1 ∷ [])) refl (law 1 refl)
 
 -- the task that it executes has an open child
 pub wait_in_task : Forbids WaitsForTasks (Create 1 0 (Implicit 0) one_job ∷ Start 1 0 ∷ Create 2 0 (Explicit 1) one_job ∷ []) (Waited 0 [])
-wait_in_task law = elim (law 2 refl).1 [ inl e ↦ absurd (cc) | inr (inl e) ↦ absurd (cc) | inr (inr (inl e)) ↦ absurd (cc) | inr (inr (inr never)) ↦ never ]
+wait_in_task law = open_is_not_done 2 (after (Create 1 0 (Implicit 0) one_job ∷ Start 1 0 ∷ Create 2 0 (Explicit 1) one_job ∷ [])) refl (law 2 refl)
 
 -- the child of the task is done, that of the child is open, and so are those of the implicit tasks
 pub wait_for_children : Allows WaitsForTasks child_ended (Waited 0 [])
@@ -153,18 +158,11 @@ wait_for_children = search rules
 
 -- a group has ended, and its task is open
 pub group_open : Forbids WaitsForTasks (Group 0 0 ∷ Create 1 0 (Implicit 0) one_job ∷ []) (GroupEnd 0 0)
-group_open law = elim (law 1 refl).1 [ inl e ↦ absurd (cc) | inr (inl e) ↦ absurd (cc) | inr (inr never) ↦ never ]
+group_open law = open_is_not_done 1 (after (Group 0 0 ∷ Create 1 0 (Implicit 0) one_job ∷ [])) refl (law 1 refl)
 
 -- or the child of its task
 pub group_open_child : Forbids WaitsForTasks (Group 0 0 ∷ Create 1 0 (Implicit 0) one_job ∷ Start 1 0 ∷ Create 2 0 (Explicit 1) one_job ∷ Done 1 0 ∷ []) (GroupEnd 0 0)
-group_open_child law = elim (law 2 refl).1 [
-  | inl e ↦ absurd (cc)
-  | inr (inl e) ↦ absurd (cc)
-  | inr (inr (inl e)) ↦ absurd (cc)
-  | inr (inr (inr (inl e))) ↦ absurd (cc)
-  | inr (inr (inr (inr (inl e)))) ↦ absurd (cc)
-  | inr (inr (inr (inr (inr never)))) ↦ never
-]
+group_open_child law = open_is_not_done 2 (after (Group 0 0 ∷ Create 1 0 (Implicit 0) one_job ∷ Start 1 0 ∷ Create 2 0 (Explicit 1) one_job ∷ Done 1 0 ∷ [])) refl (law 2 refl)
 
 -- a task that was created before the group is open
 pub group_beside : Allows WaitsForTasks (Create 1 0 (Implicit 0) one_job ∷ Group 0 0 ∷ []) (GroupEnd 0 0)
@@ -215,21 +213,15 @@ end_group_outer_last = (inr (inr (inl refl)), ([], refl), search rules)
 
 -- a member passes a barrier, and a task that is bound to it is open
 pub pass_open : Forbids PassesAfterTasks (Create 1 0 (Implicit 0) one_job ∷ Arrive 0 0 (at Barrier 0) ∷ []) (Pass 0 0)
-pass_open law = elim (law 1 (0, Implicit 0, one_job, inr (inl refl)) (omega arith)).1 [ inl e ↦ absurd (cc) | inr (inl e) ↦ absurd (cc) | inr (inr never) ↦ never ]
+pass_open law = open_is_not_done 1 (after (Create 1 0 (Implicit 0) one_job ∷ Arrive 0 0 (at Barrier 0) ∷ [])) refl (law 1 (0, Implicit 0, one_job, inr (inl refl)) (omega arith))
 
 -- or to an earlier one
 pub pass_open_earlier : Forbids PassesAfterTasks (Create 1 0 (Implicit 0) one_job ∷ []) (Pass 1 0)
-pass_open_earlier law = elim (law 1 (0, Implicit 0, one_job, inl refl) (omega arith)).1 [ inl e ↦ absurd (cc) | inr never ↦ never ]
+pass_open_earlier law = open_is_not_done 1 (after (Create 1 0 (Implicit 0) one_job ∷ [])) refl (law 1 (0, Implicit 0, one_job, inl refl) (omega arith))
 
 -- or the child of such a task, that was created by a member which has passed more barriers
 pub pass_open_child : Forbids PassesAfterTasks (Create 1 0 (Implicit 0) one_job ∷ Pass 0 1 ∷ Create 2 1 (Explicit 1) one_job ∷ Done 1 0 ∷ []) (Pass 0 0)
-pass_open_child law = elim (law 2 (1, Explicit 1, one_job, inr (inl refl)) (omega arith)).1 [
-  | inl e ↦ absurd (cc)
-  | inr (inl e) ↦ absurd (cc)
-  | inr (inr (inl e)) ↦ absurd (cc)
-  | inr (inr (inr (inl e))) ↦ absurd (cc)
-  | inr (inr (inr (inr never))) ↦ never
-]
+pass_open_child law = open_is_not_done 2 (after (Create 1 0 (Implicit 0) one_job ∷ Pass 0 1 ∷ Create 2 1 (Explicit 1) one_job ∷ Done 1 0 ∷ [])) refl (law 2 (1, Explicit 1, one_job, inr (inl refl)) (omega arith))
 
 -- tasks that are bound to the next barrier are open
 pub pass_with_later_tasks : Allows PassesAfterTasks across_barrier (Pass 0 1)
@@ -261,7 +253,7 @@ create_child_past = search rules
 
 -- a member passes the region's end, and a task is open that is bound to a later barrier
 pub end_open : Forbids EndsAfterTasks (Arrive 0 0 (at RegionEnd 0) ∷ Pass 0 1 ∷ Create 1 1 (Implicit 1) one_job ∷ []) (Pass 0 0)
-end_open law = elim (law refl 1 (1, Implicit 1, one_job, inl refl)).1 [ inl e ↦ absurd (cc) | inr (inl e) ↦ absurd (cc) | inr (inr (inl e)) ↦ absurd (cc) | inr (inr (inr never)) ↦ never ]
+end_open law = open_is_not_done 1 (after (Arrive 0 0 (at RegionEnd 0) ∷ Pass 0 1 ∷ Create 1 1 (Implicit 1) one_job ∷ [])) refl (law refl 1 (1, Implicit 1, one_job, inl refl))
 
 -- another barrier is passed, or another member waits at the region's end
 pub pass_not_the_end : Allows EndsAfterTasks (Create 1 0 (Implicit 0) one_job ∷ Arrive 0 0 (at Barrier 0) ∷ Arrive 0 1 (at RegionEnd 0) ∷ []) (Pass 0 0)
@@ -273,7 +265,7 @@ end_all_done ended t made = elim made.3 [
   | inl e ↦ absurd (cc)
   | inr (inl e) ↦ absurd (cc)
   | inr (inr (inl e)) ↦ absurd (cc)
-  | inr (inr (inr (inl e))) ↦ let same : 1 ≡ t = cc in (0, inl (rw same refl))
+  | inr (inr (inr (inl e))) ↦ let same : 1 ≡ t = cc in (0, inl (inl (rw same refl)))
   | inr (inr (inr (inr never))) ↦ absurd never
 ]
 
@@ -281,17 +273,15 @@ end_all_done ended t made = elim made.3 [
 
 -- a task that is bound to a barrier is done after a member passed it
 pub bound_done_late : BoundIsDone (after (Create 1 0 (Implicit 0) one_job ∷ Pass 0 0 ∷ Done 1 0 ∷ [])) → ⊥
-bound_done_late law =
-    elim (law (Done 1 0 ∷ []) (Create 1 0 (Implicit 0) one_job ∷ []) 0 0 refl 1 (0, Implicit 0, one_job, inr (inr (inl refl))) (omega arith)).1 [ inl e ↦ absurd (cc) | inr never ↦ never ]
+bound_done_late law = open_is_not_done 1 (Create 1 0 (Implicit 0) one_job ∷ []) refl (law (Done 1 0 ∷ []) (Create 1 0 (Implicit 0) one_job ∷ []) 0 0 refl 1 (0, Implicit 0, one_job, inr (inr (inl refl))) (omega arith))
 
 -- or to an earlier one
 pub bound_done_later_still : BoundIsDone (after (Create 1 0 (Implicit 0) one_job ∷ Pass 1 0 ∷ Done 1 0 ∷ [])) → ⊥
-bound_done_later_still law =
-    elim (law (Done 1 0 ∷ []) (Create 1 0 (Implicit 0) one_job ∷ []) 1 0 refl 1 (0, Implicit 0, one_job, inr (inr (inl refl))) (omega arith)).1 [ inl e ↦ absurd (cc) | inr never ↦ never ]
+bound_done_later_still law = open_is_not_done 1 (Create 1 0 (Implicit 0) one_job ∷ []) refl (law (Done 1 0 ∷ []) (Create 1 0 (Implicit 0) one_job ∷ []) 1 0 refl 1 (0, Implicit 0, one_job, inr (inr (inl refl))) (omega arith))
 
 -- or is created after that
 pub bound_created_late : BoundIsDone (after (Pass 0 0 ∷ Create 1 1 (Implicit 1) one_job ∷ Done 1 0 ∷ [])) → ⊥
-bound_created_late law = (law (Done 1 0 ∷ Create 1 1 (Implicit 1) one_job ∷ []) [] 0 0 refl 1 (1, Implicit 1, one_job, inr (inl refl)) (omega arith)).1
+bound_created_late law = open_is_not_done 1 [] refl (law (Done 1 0 ∷ Create 1 1 (Implicit 1) one_job ∷ []) [] 0 0 refl 1 (1, Implicit 1, one_job, inr (inl refl)) (omega arith))
 
 -- Each law alone
 
@@ -422,6 +412,67 @@ ended_innermost_alone = ((λ laws. elim (laws.0.2 2 (inl refl) (search rules)) [
     others EndedOnce differ = absurd (differ refl)
     others AfterNamed differ = starts_without_items (after ended_outer) (search rules)
     others StartedOnce differ = (tt, (((0, Explicit 1, one_job, inl refl), search rules, search rules), (tt, (starts_first 0, (tt, tt)))))
+    others _ differ = search rules
+
+-- a task is started that a cancellation reaches
+abbrev started_covered : List Event
+started_covered = Create 1 0 (Implicit 0) one_job ∷ Cancel 1 Region ∷ Start 1 0 ∷ []
+
+pub started_uncovered_alone : RefusedAlone StartedUncovered started_covered
+started_uncovered_alone = ((λ laws. absurd (let covered = laws.0 in cc)), others)
+  where
+    others : (other : TaskLaw) → other ≢ StartedUncovered → law_of other (after started_covered)
+    others StartedUncovered differ = absurd (differ refl)
+    others AfterNamed differ = starts_without_items (after started_covered) (search rules)
+    others StartedOnce differ = (((0, Implicit 0, one_job, inr (inl refl)), search rules, search rules), (tt, (tt, tt)))
+    others _ differ = search rules
+
+-- or created
+pub created_uncovered_alone : RefusedAlone CreatedUncovered (Cancel 1 Region ∷ Create 1 0 (Implicit 0) one_job ∷ [])
+created_uncovered_alone = ((λ laws. absurd (let covered = laws.0 in cc)), others)
+  where
+    others : (other : TaskLaw) → other ≢ CreatedUncovered → law_of other (after (Cancel 1 Region ∷ Create 1 0 (Implicit 0) one_job ∷ []))
+    others CreatedUncovered differ = absurd (differ refl)
+    others _ differ = search rules
+
+-- a task is discarded that no cancellation reaches
+pub discarded_covered_alone : RefusedAlone Discarded (Create 1 0 (Implicit 0) one_job ∷ Cancel 1 (OneGroup 0) ∷ Discard 1 1 ∷ [])
+discarded_covered_alone = ((λ laws. absurd (let covered = laws.0.0 in cc)), others)
+  where
+    others : (other : TaskLaw) → other ≢ Discarded → law_of other (after (Create 1 0 (Implicit 0) one_job ∷ Cancel 1 (OneGroup 0) ∷ Discard 1 1 ∷ []))
+    others Discarded differ = absurd (differ refl)
+    others _ differ = search rules
+
+-- one that runs
+abbrev discarded_running : List Event
+discarded_running = Create 1 0 (Implicit 0) one_job ∷ Start 1 0 ∷ Cancel 1 Region ∷ Discard 1 1 ∷ []
+
+pub discarded_running_alone : RefusedAlone Discarded discarded_running
+discarded_running_alone = ((λ laws. laws.0.2 0 (inr (inl refl))), others)
+  where
+    others : (other : TaskLaw) → other ≢ Discarded → law_of other (after discarded_running)
+    others Discarded differ = absurd (differ refl)
+    others AfterNamed differ = starts_without_items (after discarded_running) (search rules)
+    others StartedOnce differ = (tt, (tt, (starts_first 0, (tt, tt))))
+    others _ differ = search rules
+
+-- one that was discarded
+abbrev discarded_again : List Event
+discarded_again = Create 1 0 (Implicit 0) one_job ∷ Cancel 1 Region ∷ Discard 1 1 ∷ Discard 1 1 ∷ []
+
+pub discarded_once_alone : RefusedAlone Discarded discarded_again
+discarded_once_alone = ((λ laws. laws.0.3 (1, inr (inl refl))), others)
+  where
+    others : (other : TaskLaw) → other ≢ Discarded → law_of other (after discarded_again)
+    others Discarded differ = absurd (differ refl)
+    others _ differ = search rules
+
+-- or one that was not created
+pub discarded_created_alone : RefusedAlone Discarded (Cancel 1 Region ∷ Discard 1 1 ∷ [])
+discarded_created_alone = ((λ laws. elim laws.0.1.3 [ inl e ↦ absurd (cc) | inr never ↦ never ]), others)
+  where
+    others : (other : TaskLaw) → other ≢ Discarded → law_of other (after (Cancel 1 Region ∷ Discard 1 1 ∷ []))
+    others Discarded differ = absurd (differ refl)
     others _ differ = search rules
 
 -- a task waits, and its child is open

@@ -11,6 +11,9 @@ use Rattle.gomp_types.specs.EventLists.{at}
 use Rattle.gomp_types.specs.Events.{at_barrier}
 use Rattle.gomp_types.specs.Tasks.{tasks_created, executed_task, depth_of}
 use Rattle.gomp_types.specs.Laws.{Always}
+use Rattle.gomp_types.specs.declared.cancel.Scope.{Scope}
+use Rattle.gomp_types.specs.declared.cancel.Scope.TheVariants.{Region, OneGroup}
+use Rattle.gomp_types.specs.Cancels.{was_cancelled, some_cancelled, groups_within}
 use Rattle.gomp_types.specs.Arrivals.{ArrivalRule}
 use Rattle.gomp_types.specs.TaskRules.{TaskRule}
 use Rattle.gomp_types.specs.TaskExamples.{after, Allows, Forbids, one_job, other_job, task_tree, child_ended, across_barrier, nested_groups, whole_region}
@@ -95,11 +98,20 @@ away_with_innermost (suc k) = away_with_innermost k
 pub rule_create_too_deep : (k : ℕ) → MAX_TASK_DEPTH ≤ k → TaskRule 1 (Create (suc k) 0 (innermost k) one_job) (tasks_in_tasks k) → ⊥
 rule_create_too_deep k deep may = absurd (let shallow = may.shallow in let depth = depth_of_innermost k in omega (arith, shallow, depth, deep))
 
+-- nothing is cancelled there
+never_cancelled : (k : ℕ) (scope : Scope) → was_cancelled scope (tasks_in_tasks k) ≡ false
+never_cancelled zero scope = refl
+never_cancelled (suc k) scope = never_cancelled k scope
+
+none_cancelled : (qs : List ℕ) (h : List Event) → ((scope : Scope) → was_cancelled scope h ≡ false) → some_cancelled qs h ≡ false
+none_cancelled [] h never = refl
+none_cancelled (q ∷ qs) h never = rw (never (OneGroup q)) (none_cancelled qs h never)
+
 -- it creates one in any before
 pub rule_create_shallow : (k : ℕ) → k < MAX_TASK_DEPTH → TaskRule 1 (Create (suc k) 0 (innermost k) one_job) (tasks_in_tasks k)
 rule_create_shallow k few =
     let depth = depth_of_innermost k in let before = number_of_innermost k in
-    record { member = omega arith; number = rw before refl; current = executed_is_innermost k; away = λ outside. away_with_innermost k; shallow = omega (arith, depth, few) }
+    record { member = omega arith; number = rw before refl; current = executed_is_innermost k; away = λ outside. away_with_innermost k; shallow = omega (arith, depth, few); uncovered = rw (never_cancelled k Region) (none_cancelled (groups_within (innermost k) (tasks_in_tasks k)) (tasks_in_tasks k) (never_cancelled k)) }
 
 -- A member starts
 

@@ -6,7 +6,7 @@ use Rattle.gomp_types.specs.declared.task.Task.{Task}
 use Rattle.gomp_types.specs.declared.task.Task.TheVariants.{Implicit, Explicit}
 use Rattle.gomp_types.specs.declared.task.TaskDesc.{TaskDesc}
 use Rattle.gomp_types.specs.declared.event.Event.{Event}
-use Rattle.gomp_types.specs.declared.event.Event.TheVariants.{Create, Start, Done}
+use Rattle.gomp_types.specs.declared.event.Event.TheVariants.{Create, Start, Done, Discard}
 use Rattle.gomp_types.specs.Events.{at_barrier}
 use Rattle.gomp_types.specs.Tasks.{contains, task_stack, innermost_task, after_first, is_complete, is_ancestor}
 use Rattle.gomp_types.specs.Goals.{is_ready, each_of, may_descend, may_start}
@@ -37,6 +37,12 @@ running_in_stack members t m (Done task member ∷ earlier) all (inr start) inco
             | inl who ↦ rw who (rest_contains m task (task_stack m earlier) (rw (is_equal member m who) at all.0.current) t another was)
             | inr other ↦ rw other was
           ]
+    ]
+running_in_stack members t m (Discard task member ∷ earlier) all (inl e) incomplete = absurd (cc)
+running_in_stack members t m (Discard task member ∷ earlier) all (inr start) incomplete =
+    elim (cases_Bool (task == t)) [
+      | inl same ↦ let done : true ≡ false = rw same at incomplete in absurd (cc)
+      | inr another ↦ running_in_stack members t m earlier all.1 start (rw another at incomplete)
     ]
 running_in_stack members t m (_ ∷ earlier) all (inl e) incomplete = absurd (cc)
 running_in_stack members t m (_ ∷ earlier) all (inr start) incomplete = running_in_stack members t m earlier all.1 start incomplete

@@ -1,6 +1,6 @@
 -- Tasks and groups that keep their rule keep their laws.
 use Rattle.std.proofs.Common.{◌≡◌, ℕ, Bool, true, false, List, [], ◌∷◌, refl, ◌∙◌, sym, arith, inl, inr}
-use Rattle.std.specs.Prelude.{◌&&◌, ◌||◌, ◌==◌, nat_le, not}
+use Rattle.std.specs.Prelude.{◌&&◌, ◌||◌, ◌==◌, nat_le}
 use Rattle.std.proofs.lemmas.Bool.{cases_Bool}
 use Rattle.std.proofs.lemmas.Bool.Decides.{nat_tests}
 use Rattle.gomp_types.specs.declared.task.Task.{Task}
@@ -8,23 +8,24 @@ use Rattle.gomp_types.specs.declared.task.Task.TheVariants.{Implicit, Explicit}
 use Rattle.gomp_types.specs.declared.task.TaskDesc.{TaskDesc}
 use Rattle.gomp_types.specs.declared.depend.Dep.{Dep}
 use Rattle.gomp_types.specs.declared.event.Event.{Event}
-use Rattle.gomp_types.specs.declared.event.Event.TheVariants.{Create, Start, Done, GroupEnd, Waited, Pass}
-use Rattle.gomp_types.specs.Events.{every_member, barriers_passed, all_arrived, at_barrier, at_region_end}
+use Rattle.gomp_types.specs.declared.event.Event.TheVariants.{Create, Start, Done, Discard, GroupEnd, Waited, Pass}
+use Rattle.gomp_types.specs.Events.{every_member, all_arrived, at_barrier, at_region_end}
 use Rattle.gomp_types.specs.Tasks.{is_created, task_stack, executed_task, has_started, is_complete, all_complete, epoch, same_task, is_child, is_created_by, is_ancestor}
 use Rattle.gomp_types.specs.Depends.{items_wait, task_items, child_waits, waits_for}
 use Rattle.gomp_types.specs.Groups.{in_group}
-use Rattle.gomp_types.specs.Goals.{bound_complete, barrier_met, region_met, is_ready, each_of, may_descend}
+use Rattle.gomp_types.specs.Goals.{bound_complete, region_met, is_ready, each_of, may_descend}
 use Rattle.gomp_types.specs.Laws.{Always, Happened}
 use Rattle.gomp_types.specs.Arrivals.{ArrivalRule}
 use Rattle.gomp_types.specs.TaskRules.{TaskRule}
-use Rattle.gomp_types.specs.TaskLaws.{IsDone, CreatesOnce, CreatesInItsOwn, StartsOnce, StartsAfterNamed, StartsItsOwn, StartsDescendant, EndsItsOwn, WaitsForTasks, OpensOnce, EndsItsGroup, PassesAfterTasks, EndsAfterTasks, TaskLaws}
-use Rattle.gomp_types.proofs.Booleans.{and_left, and_right, is_equal, not_both, implied_by}
+use Rattle.gomp_types.specs.Cancels.{is_cancelled}
+use Rattle.gomp_types.specs.TaskLaws.{IsDone, CreatesOnce, CreatesInItsOwn, StartsOnce, StartsAfterNamed, StartsItsOwn, StartsDescendant, EndsItsOwn, StartsUncovered, CreatesUncovered, DiscardsUnstarted, WaitsForTasks, OpensOnce, EndsItsGroup, PassesAfterTasks, EndsAfterTasks, TaskLaws}
+use Rattle.gomp_types.proofs.Booleans.{and_left, and_right, is_equal, not_both}
 use Rattle.gomp_types.proofs.Always.{always_so, both_so}
-use Rattle.gomp_types.proofs.ArrivalsKeep.{passed_met}
+use Rattle.gomp_types.proofs.ArrivalsKeep.{passed_met, passed_cancelled, passed_region}
 use Rattle.gomp_types.proofs.OpenTasks.{created_high, complete_at}
-use Rattle.gomp_types.proofs.Suspended.{startable_is_fresh, startable_is_free, current_open, created_stays}
+use Rattle.gomp_types.proofs.Suspended.{unstarted_is_fresh, startable_is_fresh, startable_is_free, startable_is_uncovered, current_open, created_stays}
 use Rattle.gomp_types.proofs.GroupsKeep.{same_is_one, opens_once, ends_its_group}
-use Rattle.gomp_types.proofs.TaskEvents.{complete_is_done, done_is_complete, start_happened, runner_happened, newest_created, was_created, created_happened}
+use Rattle.gomp_types.proofs.TaskEvents.{complete_is_done, done_is_complete, done_or_gone, start_happened, runner_happened, newest_created, was_created, created_happened}
 use Rattle.gomp_types.proofs.TaskStacks.{each_tells, running_in_stack, stack_descends, innermost_descends}
 use Rattle.gomp_types.proofs.LaterTasks.{creates_later}
 
@@ -44,7 +45,7 @@ starts_once members (Start t m) h rule all =
     let is = startable_is_fresh m t h rule.may in (
       created_happened members t h all is.0,
       (λ n start. not_both (has_started t h) (start_happened t n h start) is.1),
-      (λ done. not_both (is_complete t h) (done_is_complete t done.0 h done.1) is.2),
+      (λ done. not_both (is_complete t h) (done_or_gone t h done) is.2),
     )
 starts_once members _ h rule all = tt
 
@@ -120,6 +121,26 @@ ends_its_own members (Done t m) h rule all =
     )
 ends_its_own members _ h rule all = tt
 
+-- Cancellation
+
+starts_uncovered : (members : ℕ) (event : Event) (h : List Event) → TaskRule members event h → Always (TaskRule members) h → StartsUncovered event h
+starts_uncovered members (Start t m) h rule all = startable_is_uncovered m t h rule.may
+starts_uncovered members _ h rule all = tt
+
+creates_uncovered : (members : ℕ) (event : Event) (h : List Event) → TaskRule members event h → Always (TaskRule members) h → CreatesUncovered event h
+creates_uncovered members (Create t m p desc) h rule all = rule.uncovered
+creates_uncovered members _ h rule all = tt
+
+discards_unstarted : (members : ℕ) (event : Event) (h : List Event) → TaskRule members event h → Always (TaskRule members) h → DiscardsUnstarted event h
+discards_unstarted members (Discard t m) h rule all =
+    let is = unstarted_is_fresh t h rule.unstarted in (
+      rule.covered,
+      created_happened members t h all is.0,
+      (λ n start. not_both (has_started t h) (start_happened t n h start) is.1),
+      (λ done. not_both (is_complete t h) (done_or_gone t h done) is.2),
+    )
+discards_unstarted members _ h rule all = tt
+
 -- Waits
 
 -- a task in a group was created
@@ -147,17 +168,21 @@ waits_for_tasks members _ h rule all = tt
 -- Barriers
 
 passes_after_tasks : (members : ℕ) (event : Event) (h : List Event) → ArrivalRule members event h → Always (TaskRule members) h → PassesAfterTasks event h
-passes_after_tasks members (Pass barrier m) h rule all = λ t made early.
-    let bound = and_right (all_arrived members barrier h) (bound_complete barrier h) (passed_met members barrier m h rule) in
-    let within : nat_le (epoch t h) barrier ≡ true = grind (arith, nat_tests, early) in
-    complete_is_done t h (complete_at (λ u. nat_le (epoch u h) barrier) h t bound (was_created members t h all made) within)
+passes_after_tasks members (Pass barrier m) h rule all = λ t made early. elim (cases_Bool (is_cancelled h)) [
+  | inl cancelled ↦
+      let met = and_right (at_region_end m h) (region_met members h) (passed_cancelled members barrier m h rule cancelled) in
+      let every = and_right (every_member members (λ x. at_region_end x h)) (all_complete (λ u. true) h) met in
+      complete_is_done t h (complete_at (λ u. true) h t every (was_created members t h all made) refl)
+  | inr whole ↦
+      let bound = and_right (all_arrived members barrier h) (bound_complete barrier h) (passed_met members barrier m h whole rule) in
+      let within : nat_le (epoch t h) barrier ≡ true = grind (arith, nat_tests, early) in
+      complete_is_done t h (complete_at (λ u. nat_le (epoch u h) barrier) h t bound (was_created members t h all made) within)
+]
 passes_after_tasks members _ h rule all = tt
 
 ends_after_tasks : (members : ℕ) (event : Event) (h : List Event) → ArrivalRule members event h → Always (TaskRule members) h → EndsAfterTasks event h
 ends_after_tasks members (Pass barrier m) h rule all = λ at t made.
-    let met = and_right (barrier_met members (barriers_passed m h) h) (not (at_region_end m h) || region_met members h) rule.met in
-    let over = implied_by (at_region_end m h) (region_met members h) met at in
-    let every = and_right (every_member members (λ x. at_region_end x h)) (all_complete (λ u. true) h) over in
+    let every = and_right (every_member members (λ x. at_region_end x h)) (all_complete (λ u. true) h) (passed_region members barrier m h rule at) in
     complete_is_done t h (complete_at (λ u. true) h t every (was_created members t h all made) refl)
 ends_after_tasks members _ h rule all = tt
 
@@ -172,6 +197,9 @@ tasks_keep members h arrivals tasks =
       own = always_so (TaskRule members) StartsItsOwn (starts_its_own members) h tasks;
       descendants = always_so (TaskRule members) StartsDescendant (starts_descendant members) h tasks;
       ended_once = always_so (TaskRule members) EndsItsOwn (ends_its_own members) h tasks;
+      started_uncovered = always_so (TaskRule members) StartsUncovered (starts_uncovered members) h tasks;
+      created_uncovered = always_so (TaskRule members) CreatesUncovered (creates_uncovered members) h tasks;
+      discarded = always_so (TaskRule members) DiscardsUnstarted (discards_unstarted members) h tasks;
       waits = always_so (TaskRule members) WaitsForTasks (waits_for_tasks members) h tasks;
       opened_once = always_so (TaskRule members) OpensOnce (opens_once members) h tasks;
       groups_ended = always_so (TaskRule members) EndsItsGroup (ends_its_group members) h tasks;

@@ -9,7 +9,7 @@ use Rattle.gomp_types.specs.declared.event.Arrival.{Arrival}
 use Rattle.gomp_types.specs.declared.event.Arrival.TheVariants.{RegionEnd}
 use Rattle.gomp_types.specs.declared.event.Tag.{Tag}
 use Rattle.gomp_types.specs.declared.event.Event.{Event}
-use Rattle.gomp_types.specs.declared.event.Event.TheVariants.{Enter, Take, Drained, End, HandOn, Part, PartEnd, Put, Got, Arrive, Pass, Hold, Free, Create, Start, Done, Group, GroupEnd, Waited, Break}
+use Rattle.gomp_types.specs.declared.event.Event.TheVariants.{Enter, Take, Drained, End, HandOn, Part, PartEnd, Put, Got, Arrive, Pass, Hold, Free, Create, Start, Done, Group, GroupEnd, Waited, Cancel, Discard, See, Break}
 
 -- whether each member of a team of this size passes the test
 abbrev pub every_member : ℕ → (ℕ → Bool) → Bool
@@ -37,6 +37,9 @@ member_of (Done task m) = m
 member_of (Group group m) = m
 member_of (GroupEnd group m) = m
 member_of (Waited m deps) = m
+member_of (Cancel m scope) = m
+member_of (Discard task m) = m
+member_of (See m kind) = m
 member_of (Break m place) = m
 
 -- Work-shares (OpenMP API 5.2, chapter 11)

@@ -1,12 +1,13 @@
 -- What a wait waits for, and which tasks a member may start meanwhile. OpenMP API 5.2, sections 12.9 and 15.3 to 15.5.
-use Rattle.std.specs.Prelude.{ℕ, ◌&&◌, ◌||◌, not, nat_le, Bool, true, List, [], ◌∷◌}
+use Rattle.std.specs.Prelude.{ℕ, ◌&&◌, ◌||◌, not, nat_le, if◌then◌else◌, Bool, true, List, [], ◌∷◌}
 use Rattle.gomp_types.specs.declared.task.Task.{Task}
 use Rattle.gomp_types.specs.declared.task.Task.TheVariants.{Implicit, Explicit}
 use Rattle.gomp_types.specs.declared.depend.Dep.{Dep}
 use Rattle.gomp_types.specs.declared.event.Event.{Event}
-use Rattle.gomp_types.specs.Events.{every_member, barriers_passed, all_arrived, at_barrier, at_region_end}
+use Rattle.gomp_types.specs.Events.{every_member, barriers_passed, all_arrived, at_barrier, at_region_end, has_left_region}
 use Rattle.gomp_types.specs.Tasks.{task_stack, executed_task, some_task, is_created, has_started, is_complete, all_complete, epoch, is_child, is_created_by, is_ancestor, is_undeferred}
 use Rattle.gomp_types.specs.Depends.{taskwait_waits, is_free}
+use Rattle.gomp_types.specs.Cancels.{is_cancelled, is_covered}
 
 -- Goals
 
@@ -22,9 +23,11 @@ barrier_met members barrier h = all_arrived members barrier h && bound_complete 
 abbrev pub region_met : ℕ → List Event → Bool
 region_met members h = every_member members (λ m. at_region_end m h) && all_complete (λ t. true) h
 
--- whether the member may pass its next barrier; the region's end it passes only once the region may end
+-- whether the member may pass its next barrier; the region's end it passes only once the region may end, and in a cancelled region it passes no other, and that once (OpenMP API 5.2, section 16.1)
 abbrev pub may_pass : ℕ → ℕ → List Event → Bool
-may_pass members m h = barrier_met members (barriers_passed m h) h && (not (at_region_end m h) || region_met members h)
+may_pass members m h =
+    if is_cancelled h then at_region_end m h && (not (has_left_region m h) && region_met members h)
+    else barrier_met members (barriers_passed m h) h && (not (at_region_end m h) || region_met members h)
 
 -- what a taskwait in this task waits for: all its children are complete
 abbrev pub children_complete : Task → List Event → Bool
@@ -40,9 +43,9 @@ taskwait_met p items h = all_complete (λ t. taskwait_waits p items t h) h
 abbrev pub is_unstarted : ℕ → List Event → Bool
 is_unstarted t h = is_created t h && (not (has_started t h) && not (is_complete t h))
 
--- whether it was, and waits for no task that is not complete (OpenMP API 5.2, section 15.9.5)
+-- whether it was, waits for no task that is not complete (OpenMP API 5.2, section 15.9.5), and no cancellation reaches it (section 16.1)
 abbrev pub is_ready : ℕ → List Event → Bool
-is_ready t h = is_unstarted t h && is_free t h
+is_ready t h = is_unstarted t h && (is_free t h && not (is_covered t h))
 
 -- whether a test holds of each of these tasks
 abbrev pub each_of : (ℕ → Bool) → List ℕ → Bool

@@ -1,4 +1,7 @@
 pub mod Arrivals
+pub mod CancelCalls
+pub mod CancelRules
+pub mod Cancels
 pub mod Compare
 pub mod Deals
 pub mod Depends

@@ -5,7 +5,7 @@ use Rattle.gomp_types.specs.declared.refusal.Place.{Place}
 use Rattle.gomp_types.specs.declared.refusal.Place.TheVariants.{Share, Barrier, Stopped}
 use Rattle.gomp_types.specs.declared.refusal.Clash.{Clash}
 use Rattle.gomp_types.specs.declared.refusal.Refusal.{Refusal}
-use Rattle.gomp_types.specs.declared.refusal.Refusal.TheVariants.{BadMember, Ended, Broken, Waiting, InsideTask, NotInTask, InsideShare, OutsideShare, InOrdered, HoldsCritical, ZeroStep, BadChunk, LoopTooLong, BadSections, EndDiffers, NotDrained, Drained, NotOrdered, OrderedBackwards, NotInside, NoGroup, GroupOpen, TooDeep, TooManyTasks, TooManyDepends, NameTooLong, AlreadyHeld, NotHolder, NoLock, CountTooLarge, TooManyShares, Mismatch, TraceFull, NoMemory, BadTeam, BadEnv}
+use Rattle.gomp_types.specs.declared.refusal.Refusal.TheVariants.{BadMember, Ended, Broken, Waiting, Leaving, InsideTask, NotInTask, InsideShare, OutsideShare, InOrdered, HoldsCritical, ZeroStep, BadChunk, LoopTooLong, BadSections, OrderedLoop, EndDiffers, NotDrained, Drained, NotOrdered, OrderedBackwards, NotInside, NotCancellable, NoGroup, GroupOpen, TooDeep, TooManyTasks, TooManyDepends, NameTooLong, AlreadyHeld, NotHolder, NoLock, CountTooLarge, TooManyShares, Mismatch, TraceFull, NoMemory, BadTeam, BadEnv}
 
 -- the number of a refusal: of several that hold the least is the answer
 abbrev pub number_of : Refusal → ℕ
@@ -13,6 +13,7 @@ number_of BadMember = 1
 number_of Ended = 2
 number_of (Broken clash) = 3
 number_of Waiting = 4
+number_of Leaving = 5
 number_of InsideTask = 6
 number_of NotInTask = 7
 number_of InsideShare = 8
@@ -23,12 +24,14 @@ number_of ZeroStep = 12
 number_of BadChunk = 13
 number_of LoopTooLong = 14
 number_of BadSections = 15
+number_of OrderedLoop = 16
 number_of EndDiffers = 17
 number_of NotDrained = 18
 number_of Drained = 19
 number_of NotOrdered = 20
 number_of OrderedBackwards = 21
 number_of NotInside = 22
+number_of NotCancellable = 23
 number_of NoGroup = 24
 number_of GroupOpen = 25
 number_of TooDeep = 26
@@ -52,6 +55,7 @@ name_of BadMember = codes "BadMember"
 name_of Ended = codes "Ended"
 name_of (Broken clash) = codes "Broken"
 name_of Waiting = codes "Waiting"
+name_of Leaving = codes "Leaving"
 name_of InsideTask = codes "InsideTask"
 name_of NotInTask = codes "NotInTask"
 name_of InsideShare = codes "InsideShare"
@@ -62,12 +66,14 @@ name_of ZeroStep = codes "ZeroStep"
 name_of BadChunk = codes "BadChunk"
 name_of LoopTooLong = codes "LoopTooLong"
 name_of BadSections = codes "BadSections"
+name_of OrderedLoop = codes "OrderedLoop"
 name_of EndDiffers = codes "EndDiffers"
 name_of NotDrained = codes "NotDrained"
 name_of Drained = codes "Drained"
 name_of NotOrdered = codes "NotOrdered"
 name_of OrderedBackwards = codes "OrderedBackwards"
 name_of NotInside = codes "NotInside"
+name_of NotCancellable = codes "NotCancellable"
 name_of NoGroup = codes "NoGroup"
 name_of GroupOpen = codes "GroupOpen"
 name_of TooDeep = codes "TooDeep"

@@ -1,5 +1,5 @@
 -- The calls on tasks and groups: what each is tested for, what it is answered, and which events it gives. OpenMP API 5.2, chapter 12 and sections 15.3 to 15.5.
-use Rattle.std.specs.Prelude.{ℕ, ◌+◌, ◌≡◌, nat_le, nat_lt, not, Bool, true, false, List, [], ◌∷◌, length, Option, Some, None}
+use Rattle.std.specs.Prelude.{ℕ, ◌+◌, ◌≡◌, nat_le, nat_lt, not, Bool, true, false, List, [], ◌∷◌, ◌++◌, length, Option, Some, None}
 use Rattle.std.proofs.Common.{zero, suc}
 use Rattle.gomp_types.specs.declared.task.Task.{Task}
 use Rattle.gomp_types.specs.declared.task.Task.TheVariants.{Implicit, Explicit}
@@ -32,7 +32,12 @@ has_some (x ∷ xs) = true
 abbrev pub group_is_open : ℕ → List Event → Bool
 group_is_open m h = has_some (open_groups (executed_task m h) h)
 
--- the end of the region leaves no group open
+-- tests that are not made of a member which gives up what they ask about
+abbrev pub unless_given_up : Bool → List Test → List Test
+unless_given_up true tests = []
+unless_given_up false tests = tests
+
+-- what leaves no group open
 abbrev pub group_open_tests : ℕ → List Event → List Test
 group_open_tests m h = (group_is_open m h, GroupOpen) ∷ []
 
@@ -45,9 +50,13 @@ abbrev pub create_tests : Limits → List Dep → ℕ → List Event → List Te
 create_tests limits items m h =
     (nat_le MAX_TASK_DEPTH (depth_of (executed_task m h) h), TooDeep) ∷ (nat_le limits.tasks (tasks_created h), TooManyTasks) ∷ items_tests items
 
--- its end
-abbrev pub end_task_tests : ℕ → List Event → List Test
-end_task_tests m h = (not (in_task m h), NotInTask) ∷ group_open_tests m h
+-- its end, which leaves no group open, unless its member gives up those that are
+abbrev pub end_task_tests : Bool → ℕ → List Event → List Test
+end_task_tests gives_up m h = (not (in_task m h), NotInTask) ∷ unless_given_up gives_up (group_open_tests m h)
+
+-- the end of the region, likewise
+abbrev pub end_region_tests : Bool → ℕ → List Event → List Test
+end_region_tests gives_up m h = outside_tasks_tests m h ++ unless_given_up gives_up (group_open_tests m h)
 
 -- the end of a group
 abbrev pub end_group_tests : ℕ → List Event → List Test

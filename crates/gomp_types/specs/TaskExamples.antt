@@ -9,7 +9,7 @@ use Rattle.gomp_types.specs.declared.event.Event.{Event}
 use Rattle.gomp_types.specs.declared.event.Event.TheVariants.{Create, Start, Done, Group, GroupEnd, Waited, Arrive, Pass}
 use Rattle.gomp_types.specs.EventLists.{newest_first, at}
 use Rattle.gomp_types.specs.Laws.{Always}
-use Rattle.gomp_types.specs.TaskLaws.{CreatesOnce, CreatesInItsOwn, StartsOnce, StartsAfterNamed, StartsItsOwn, StartsDescendant, EndsItsOwn, WaitsForTasks, OpensOnce, EndsItsGroup, PassesAfterTasks, CreatesLater, EndsAfterTasks}
+use Rattle.gomp_types.specs.TaskLaws.{CreatesOnce, CreatesInItsOwn, StartsOnce, StartsAfterNamed, StartsItsOwn, StartsDescendant, EndsItsOwn, StartsUncovered, CreatesUncovered, DiscardsUnstarted, WaitsForTasks, OpensOnce, EndsItsGroup, PassesAfterTasks, CreatesLater, EndsAfterTasks}
 
 -- after these events
 abbrev pub after : List Event → List Event
@@ -108,6 +108,9 @@ pub data TaskLaw : Type 0 where
   OwnAlone : TaskLaw
   Descendants : TaskLaw
   EndedOnce : TaskLaw
+  StartedUncovered : TaskLaw
+  CreatedUncovered : TaskLaw
+  Discarded : TaskLaw
   Waits : TaskLaw
   OpenedOnce : TaskLaw
   GroupsEnded : TaskLaw
@@ -124,6 +127,9 @@ law_of AfterNamed h = Always StartsAfterNamed h
 law_of OwnAlone h = Always StartsItsOwn h
 law_of Descendants h = Always StartsDescendant h
 law_of EndedOnce h = Always EndsItsOwn h
+law_of StartedUncovered h = Always StartsUncovered h
+law_of CreatedUncovered h = Always CreatesUncovered h
+law_of Discarded h = Always DiscardsUnstarted h
 law_of Waits h = Always WaitsForTasks h
 law_of OpenedOnce h = Always OpensOnce h
 law_of GroupsEnded h = Always EndsItsGroup h

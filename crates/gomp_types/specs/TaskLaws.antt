@@ -4,20 +4,21 @@ use Rattle.gomp_types.specs.declared.task.Task.{Task}
 use Rattle.gomp_types.specs.declared.task.Task.TheVariants.{Implicit, Explicit}
 use Rattle.gomp_types.specs.declared.task.TaskDesc.{TaskDesc}
 use Rattle.gomp_types.specs.declared.event.Event.{Event}
-use Rattle.gomp_types.specs.declared.event.Event.TheVariants.{Create, Start, Done, Group, GroupEnd, Waited, Pass}
+use Rattle.gomp_types.specs.declared.event.Event.TheVariants.{Create, Start, Done, Discard, Group, GroupEnd, Waited, Pass}
 use Rattle.gomp_types.specs.Laws.{Always, Happened}
 use Rattle.gomp_types.specs.Events.{at_barrier, at_region_end}
 use Rattle.gomp_types.specs.Tasks.{executed_task, epoch, is_child, is_ancestor, is_undeferred}
 use Rattle.gomp_types.specs.Depends.{child_waits, waits_for}
 use Rattle.gomp_types.specs.Groups.{open_groups, in_group}
+use Rattle.gomp_types.specs.Cancels.{is_covered, would_be_covered}
 
 -- the task was created, by some member in some task
 abbrev pub IsCreated : ℕ → List Event → Type 0
 IsCreated t h = (m : ℕ) × (parent : Task) × (desc : TaskDesc) × Happened (Create t m parent desc) h
 
--- the task was ended, by some member
+-- the task is complete: some member ended it, or a cancellation discarded it (OpenMP API 5.2, section 16.1)
 abbrev pub IsDone : ℕ → List Event → Type 0
-IsDone t h = (m : ℕ) × Happened (Done t m) h
+IsDone t h = (m : ℕ) × (Happened (Done t m) h ⊎ Happened (Discard t m) h)
 
 -- Tasks
 
@@ -59,6 +60,23 @@ EndsItsOwn (Done t m) earlier =
     Happened (Start t m) earlier × ((n : ℕ) → Happened (Done t n) earlier → ⊥)
     × ((s : ℕ) → Happened (Start s m) earlier → (IsDone s earlier → ⊥) → (s ≡ t) ⊎ (is_ancestor (Explicit s) t earlier ≡ true))
 EndsItsOwn _ earlier = Unit {0}
+
+-- Cancellation (OpenMP API 5.2, section 16.1)
+
+-- after a cancellation of the region or of a group no task is started that it reaches
+abbrev pub StartsUncovered : Event → List Event → Type 0
+StartsUncovered (Start t m) earlier = is_covered t earlier ≡ false
+StartsUncovered _ earlier = Unit {0}
+
+-- nor is one created
+abbrev pub CreatesUncovered : Event → List Event → Type 0
+CreatesUncovered (Create t m parent desc) earlier = would_be_covered parent earlier ≡ false
+CreatesUncovered _ earlier = Unit {0}
+
+-- a task is discarded only if a cancellation reaches it, it was created, and nobody has started it: running tasks go on; and no task is discarded twice
+abbrev pub DiscardsUnstarted : Event → List Event → Type 0
+DiscardsUnstarted (Discard t m) earlier = (is_covered t earlier ≡ true) × IsCreated t earlier × ((n : ℕ) → Happened (Start t n) earlier → ⊥) × (IsDone t earlier → ⊥)
+DiscardsUnstarted _ earlier = Unit {0}
 
 -- Waits
 
@@ -106,6 +124,9 @@ pub record TaskLaws (h : List Event) : Type 0 where
   pub own : Always StartsItsOwn h
   pub descendants : Always StartsDescendant h
   pub ended_once : Always EndsItsOwn h
+  pub started_uncovered : Always StartsUncovered h
+  pub created_uncovered : Always CreatesUncovered h
+  pub discarded : Always DiscardsUnstarted h
   pub waits : Always WaitsForTasks h
   pub opened_once : Always OpensOnce h
   pub groups_ended : Always EndsItsGroup h

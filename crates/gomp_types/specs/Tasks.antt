@@ -5,7 +5,7 @@ use Rattle.gomp_types.specs.declared.task.Task.{Task}
 use Rattle.gomp_types.specs.declared.task.Task.TheVariants.{Implicit, Explicit}
 use Rattle.gomp_types.specs.declared.task.TaskDesc.{TaskDesc}
 use Rattle.gomp_types.specs.declared.event.Event.{Event}
-use Rattle.gomp_types.specs.declared.event.Event.TheVariants.{Create, Start, Done}
+use Rattle.gomp_types.specs.declared.event.Event.TheVariants.{Create, Start, Done, Discard}
 use Rattle.gomp_types.specs.Events.{every_member, barriers_passed}
 
 -- whether two tasks are one
@@ -85,10 +85,11 @@ task_runner t [] = None
 task_runner t (Start task member ∷ earlier) = if task == t then Some member else task_runner t earlier
 task_runner t (_ ∷ earlier) = task_runner t earlier
 
--- whether the task is complete: its member has ended it
+-- whether the task is complete: its member has ended it, or a cancellation has discarded it (OpenMP API 5.2, section 16.1)
 abbrev pub is_complete : ℕ → List Event → Bool
 is_complete t [] = false
 is_complete t (Done task member ∷ earlier) = task == t || is_complete t earlier
+is_complete t (Discard task member ∷ earlier) = task == t || is_complete t earlier
 is_complete t (_ ∷ earlier) = is_complete t earlier
 
 -- whether every task of which the test holds is complete

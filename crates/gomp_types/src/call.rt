@@ -1,5 +1,6 @@
 //! What a member of a team asks.
 
+use crate::cancel::CancelKind;
 use crate::critical_name::CriticalName;
 use crate::depend::Deps;
 use crate::loop_desc::{EndKind, LoopDesc};
@@ -20,6 +21,8 @@ pub enum Call {
     LoopEnd,
     /// Ends the member's loop, which has no barrier.
     LoopEndNowait,
+    /// Ends the member's loop, which may be cancelled, and waits at its barrier.
+    LoopEndCancel,
     /// Begins a sections construct, and asks for the first section (libgomp manual, the ABI of
     /// `sections`; OpenMP API 5.2, section 11.3).
     SectionsStart {
@@ -34,6 +37,8 @@ pub enum Call {
     SectionsEnd,
     /// Ends the member's sections construct, which has no barrier.
     SectionsEndNowait,
+    /// Ends the member's sections construct, which may be cancelled, and waits at its barrier.
+    SectionsEndCancel,
     /// Goes through a `single` construct: one member of the team is told to execute it. Its body has
     /// no end call, and a barrier at its end is a call of its own (libgomp manual, the ABI of
     /// `single`; OpenMP API 5.2, section 11.1).
@@ -100,6 +105,17 @@ pub enum Call {
     /// Ends the last open group of that task, once the tasks created in it, and all that descend from
     /// these, are complete (OpenMP API 5.2, section 15.4).
     GroupEnd,
+    /// Cancels what the construct names, if its `if` clause is true, and asks whether that is
+    /// cancelled (OpenMP API 5.2, section 16.1; libgomp's `GOMP_cancel`).
+    Cancel {
+        /// What it names.
+        kind: CancelKind,
+        /// Its `if` clause.
+        clause: bool,
+    },
+    /// Asks whether what the construct names is cancelled (OpenMP API 5.2, section 16.2; libgomp's
+    /// `GOMP_cancellation_point`).
+    Point(CancelKind),
     /// Repeats the call whose answer was to wait.
     Resume,
     /// Stops the team, whatever its members are doing: it is broken from then on (own).

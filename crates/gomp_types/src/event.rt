@@ -3,6 +3,7 @@
 ghost use Rattle.std.specs.Prelude.{◌≡◌};
 ghost use Rattle.gomp_types.specs.Shapes.{same_tag};
 
+use crate::cancel::{CancelKind, Scope};
 use crate::depend::Deps;
 use crate::key::Key;
 use crate::payload::Payload;
@@ -146,6 +147,21 @@ pub enum Event {
     Waited {
         member: u16,
         deps: Deps,
+    },
+    /// The member cancelled this.
+    Cancel {
+        member: u16,
+        scope: Scope,
+    },
+    /// The task is discarded, which nobody had started: the member's cancellation reaches it.
+    Discard {
+        task: u32,
+        member: u16,
+    },
+    /// The member saw that a region of this kind is cancelled, and leaves it.
+    See {
+        member: u16,
+        kind: CancelKind,
     },
     /// The member broke the team: its construct differed from the team's there, or it stopped it.
     Break {

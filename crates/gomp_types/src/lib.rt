@@ -6,6 +6,7 @@
 #![tactic(auto)]
 
 pub mod call;
+pub mod cancel;
 pub mod critical_name;
 pub mod depend;
 pub mod event;
@@ -24,6 +25,7 @@ pub mod single;
 pub mod task;
 
 pub use call::{Call, Step};
+pub use cancel::{CancelKind, Scope};
 pub use critical_name::{CriticalName, MAX_NAME};
 pub use depend::{Dep, DepKind, Deps};
 pub use event::{Arrival, Event, Tag};

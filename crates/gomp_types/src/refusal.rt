@@ -41,6 +41,8 @@ pub enum Refusal {
     Broken(Clash),
     /// E4: the member's wait is open, and the call is neither `resume` nor `stop`.
     Waiting,
+    /// E5: the member has seen a cancellation, and leaves what was cancelled.
+    Leaving,
     /// E6: the member executes an explicit task.
     InsideTask,
     /// E7: the member executes no explicit task.
@@ -61,6 +63,8 @@ pub enum Refusal {
     LoopTooLong,
     /// E15: the construct has more than 65,536 sections.
     BadSections,
+    /// E16: the loop is ordered, and may be cancelled.
+    OrderedLoop,
     /// E17: the share ends otherwise.
     EndDiffers,
     /// E18: the member has not been told that nothing is left.
@@ -73,7 +77,10 @@ pub enum Refusal {
     OrderedBackwards,
     /// E22: no such part is open, or `resume` with no wait open.
     NotInside,
-    /// E24: the current task has opened no group that it has not ended.
+    /// E23: the construct's end is not that of one that may be cancelled.
+    NotCancellable,
+    /// E24: the current task has opened no group that it has not ended; at a cancellation, no group's
+    /// end waits for it.
     NoGroup,
     /// E25: the current task has opened a group and not ended it.
     GroupOpen,
@@ -118,6 +125,7 @@ impl Refusal {
             Refusal::Ended => 2,
             Refusal::Broken(_) => 3,
             Refusal::Waiting => 4,
+            Refusal::Leaving => 5,
             Refusal::InsideTask => 6,
             Refusal::NotInTask => 7,
             Refusal::InsideShare => 8,
@@ -128,12 +136,14 @@ impl Refusal {
             Refusal::BadChunk => 13,
             Refusal::LoopTooLong => 14,
             Refusal::BadSections => 15,
+            Refusal::OrderedLoop => 16,
             Refusal::EndDiffers => 17,
             Refusal::NotDrained => 18,
             Refusal::Drained => 19,
             Refusal::NotOrdered => 20,
             Refusal::OrderedBackwards => 21,
             Refusal::NotInside => 22,
+            Refusal::NotCancellable => 23,
             Refusal::NoGroup => 24,
             Refusal::GroupOpen => 25,
             Refusal::TooDeep => 26,
@@ -162,6 +172,7 @@ impl Refusal {
             Refusal::Ended => "Ended",
             Refusal::Broken(_) => "Broken",
             Refusal::Waiting => "Waiting",
+            Refusal::Leaving => "Leaving",
             Refusal::InsideTask => "InsideTask",
             Refusal::NotInTask => "NotInTask",
             Refusal::InsideShare => "InsideShare",
@@ -172,12 +183,14 @@ impl Refusal {
             Refusal::BadChunk => "BadChunk",
             Refusal::LoopTooLong => "LoopTooLong",
             Refusal::BadSections => "BadSections",
+            Refusal::OrderedLoop => "OrderedLoop",
             Refusal::EndDiffers => "EndDiffers",
             Refusal::NotDrained => "NotDrained",
             Refusal::Drained => "Drained",
             Refusal::NotOrdered => "NotOrdered",
             Refusal::OrderedBackwards => "OrderedBackwards",
             Refusal::NotInside => "NotInside",
+            Refusal::NotCancellable => "NotCancellable",
             Refusal::NoGroup => "NoGroup",
             Refusal::GroupOpen => "GroupOpen",
             Refusal::TooDeep => "TooDeep",

@@ -24,10 +24,18 @@ pub enum Reply {
     Finished,
     /// The barrier is passed; at the region's end the member has left the region.
     Passed,
+    /// The region is cancelled, and the member leaves it: it goes to the region's end.
+    Cancelled,
     /// Not yet: the call stands, and `Resume` asks again.
     Wait,
     /// The number of the task that was created, from 1.
     Created(u32),
+    /// No task was created, or the member's undeferred task was discarded: the region or a group is
+    /// cancelled.
+    Dropped,
+    /// Whether what a `cancel` or `cancellation point` names is cancelled; if it is, the member leaves
+    /// it.
+    Cancelling(bool),
     /// The member executes this task from now on, of which this was asked when it was created, and
     /// ends it by `TaskEnd`; `own` if it is the undeferred task of this very call.
     Run {

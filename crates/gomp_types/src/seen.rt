@@ -18,4 +18,7 @@ pub struct Seen {
     pub next_part: u64,
     /// Whether it is in an ordered part.
     pub in_part: bool,
+    /// Whether it has seen that the share that it is in is cancelled, and so leaves it (OpenMP API
+    /// 5.2, section 16.1).
+    pub leaving: bool,
 }

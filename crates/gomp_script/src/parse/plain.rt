@@ -23,6 +23,9 @@ fn share_call_of(word: &[u8]) -> Option<Call>
     if is_word(word, b"end_nowait") {
         return Some(Call::LoopEndNowait);
     }
+    if is_word(word, b"end_cancel") {
+        return Some(Call::LoopEndCancel);
+    }
     if is_word(word, b"section_next") {
         return Some(Call::SectionsNext);
     }
@@ -31,6 +34,9 @@ fn share_call_of(word: &[u8]) -> Option<Call>
     }
     if is_word(word, b"sections_end_nowait") {
         return Some(Call::SectionsEndNowait);
+    }
+    if is_word(word, b"sections_end_cancel") {
+        return Some(Call::SectionsEndCancel);
     }
     if is_word(word, b"single") {
         return Some(Call::SingleStart);

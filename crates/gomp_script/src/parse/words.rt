@@ -35,6 +35,9 @@ pub(crate) fn end_of(word: &[u8]) -> Option<EndKind>
     if is_word(word, b"nowait") {
         return Some(EndKind::Nowait);
     }
+    if is_word(word, b"cancellable") {
+        return Some(EndKind::Cancellable);
+    }
     None
 }
 

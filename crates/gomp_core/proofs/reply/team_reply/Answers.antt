@@ -9,14 +9,14 @@ pub held_reply-requires-clause-asks : goal.held_reply-requires-clause-asks
 held_reply-requires-clause-asks g c = sym c.asks_book.ensures ∙ c.if-asks_book.true
 
 pub held_reply-requires-clause-free : goal.held_reply-requires-clause-free
-held_reply-requires-clause-free g c = let (p, all, admitted) = c.requires.admitted in (p, all.1, sym (c.current-task.ensures.value p.events all.0.board_is), admitted.1)
+held_reply-requires-clause-free g c = let (p, all, admitted) = c.requires.admitted in (p, all.1, sym (c.current-task.ensures.value p.events all.0.board_is), admitted.2)
 
 pub held_reply-requires-clause-known : goal.held_reply-requires-clause-known
 held_reply-requires-clause-known g c = c.requires.known
 
 pub returns-then-asks_book-clause-answers : goal.returns-then-asks_book-clause-answers
 returns-then-asks_book-clause-answers g c =
-    book_answers g.S.Shares.stands c.args.shares.now c.args.board.now c.args.book.now c.held_reply.new.book c.args.call.now c.args.repeated c.args.member c.current-task.result c.held_reply.result (sym c.asks_book.ensures ∙ c.if-asks_book.true)
+    book_answers g.S.Shares.stands c.args.shares.now c.args.board.now c.args.book.now c.held_reply.new.book c.args.call.now c.args.manner c.args.member c.current-task.result c.held_reply.result (sym c.asks_book.ensures ∙ c.if-asks_book.true)
     (λ h key m task st. (g.met.S.Shares.aside c.args.shares.now h (Hold key m task) tt st, g.met.S.Shares.aside c.args.shares.now h (Free key m task) tt st)) c.current-task.ensures.value c.held_reply.ensures c.requires.admitted
 
 -- The parts answer
@@ -25,9 +25,9 @@ pub answer-requires-clause-aside : goal.answer-requires-clause-aside
 answer-requires-clause-aside g c = sym c.asks_book.ensures ∙ c.if-asks_book.false
 
 pub answer-requires-clause-ready : goal.answer-requires-clause-ready
-answer-requires-clause-ready g c = let (p, all, admitted) = c.requires.admitted in (p, all.0, admitted.0)
+answer-requires-clause-ready g c = let (p, all, admitted) = c.requires.admitted in (p, all.0, admitted.0, admitted.1)
 
 pub returns-else-asks_book-clause-answers : goal.returns-else-asks_book-clause-answers
 returns-else-asks_book-clause-answers g c =
-    parts_answer g.S.Shares.stands c.args.shares.now c.answer.new.shares c.args.board.now c.answer.new.board c.args.book.now c.args.call.now c.args.repeated c.args.member c.answer.result (sym c.asks_book.ensures ∙ c.if-asks_book.false)
+    parts_answer g.S.Shares.stands c.args.shares.now c.answer.new.shares c.args.board.now c.answer.new.board c.args.book.now c.args.call.now c.args.manner c.args.member c.answer.result (sym c.asks_book.ensures ∙ c.if-asks_book.false)
     c.answer.ensures.answers c.requires.admitted

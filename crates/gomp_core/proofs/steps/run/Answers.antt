@@ -4,7 +4,7 @@ use Rattle.gomp_model.specs.Past.{Terms}
 use Rattle.gomp_model.specs.Team.{Caused}
 use Rattle.gomp_core.specs.Stands.{Stands, standard_terms, OnlyTakersLack}
 use Rattle.gomp_core.specs.Resolved.{record_of}
-use Rattle.gomp_laws.proofs.Laws.{headline_holds, replies_on_names_and_locks, replies_on_tasks}
+use Rattle.gomp_laws.proofs.Laws.{headline_holds, replies_on_names_and_locks, replies_on_tasks, replies_on_cancellation}
 use Rattle.gomp_core.proofs.Lists.{resolved_grows, moved_on, all_done, terms_are, takers_more}
 use Rattle.gomp_core.proofs.steps.run.Given.{Over}
 use Rattle.gomp_core.proofs.steps.run.Goals as goal
@@ -83,3 +83,6 @@ returns-in-None-clause-replies g c = replies_on_names_and_locks (standard_terms 
 
 pub returns-in-None-clause-tasks : goal.returns-in-None-clause-tasks
 returns-in-None-clause-tasks g c = replies_on_tasks (standard_terms c.args.count c.args.icv) (record_of c.args.icv c.args.steps.items c.loop-step.replies.items) (returns-in-None-clause-caused g c)
+
+pub returns-in-None-clause-cancels : goal.returns-in-None-clause-cancels
+returns-in-None-clause-cancels g c = replies_on_cancellation (standard_terms c.args.count c.args.icv) (record_of c.args.icv c.args.steps.items c.loop-step.replies.items) (returns-in-None-clause-caused g c)

@@ -1,7 +1,7 @@
-use Rattle.std.proofs.Common.{rules, ◌≡◌, ◌≢◌, [], length, refl, ap, arith}
+use Rattle.std.proofs.Common.{◌≡◌, ◌≢◌, [], length, refl, ap, arith}
 use Rattle.std.specs.Prelude.{IfSome, string_bytes}
 use Rattle.std.specs.Io.BufRead.{take_through}
-use Rattle.gomp_live.proofs.ServeLemmas.{on_no_error, talk_begins, talk_ends, talk_breaks, line_served}
+use Rattle.gomp_live.proofs.ServeLemmas.{on_no_error, talk_begins, talk_ends, talk_breaks, talk_unread, line_served}
 use Rattle.gomp_live.proofs.serve.serve_live.Goals as goal
 
 pub loop-init : goal.loop-init
@@ -12,8 +12,7 @@ returns-in-Ok-eq0 g c = (talk_ends c.loop.invariant (c.in-Ok-eq0.ensures.end c.i
 
 pub returns-in-Err : goal.returns-in-Err
 returns-in-Err g c =
-    let broken = talk_breaks c.loop.invariant in
-    search rules
+    rw c.read_fault.ensures (talk_unread c.args.icv (g.R.Read.remaining c.args.reader) (g.W.Write.contents c.args.writer.now) (g.W.Write.contents c.loop.writer) _ (talk_breaks c.loop.invariant))
 
 pub returns-in_default : goal.returns-in_default
 returns-in_default g c = talk_breaks c.loop.invariant

@@ -66,7 +66,13 @@ returns-in-LoopEnd-clause-compared g c = λ p both.
     let compared = c.arrival_refusal-in-LoopEnd.ensures.compared p.events both in
     elim c.in-LoopEnd.is [
       | inl is ↦ rw is compared
-      | inr is ↦ rw is compared
+      | inr other ↦ elim other [
+        | inl is ↦ rw is compared
+        | inr other ↦ elim other [
+          | inl is ↦ rw is compared
+          | inr is ↦ rw is compared
+        ]
+      ]
     ]
 
 pub returns-in-Resume-clause-compared : goal.returns-in-Resume-clause-compared

@@ -9,4 +9,4 @@ returns-clause-value c = λ h st0.
     let st = view_stands_too _ _ h c.self.view_is st0 in
     let lt : c.args.member < length c.self.inside.seats.items = subst (λ (v : BarriersView). c.args.member < members_of v) (sym c.self.view_is) c.requires.member in
     let at = slice_get_read c.self.inside.seats.items _ c.args.member _ refl lt c.index.ensures in
-    c.is_some.ensures ∙ waits_is c.self.inside.seats.items c.self.inside.front c.self.inside.tasks c.args.member _ h st at
+    c.is_some.ensures ∙ waits_is c.self.inside.seats.items c.self.inside.front c.self.inside.tasks c.self.inside.cancelled c.args.member _ h st at

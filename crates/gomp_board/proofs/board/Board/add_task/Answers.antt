@@ -1,9 +1,10 @@
-use Rattle.std.proofs.Common.{◌≡◌, ◌<◌, ◌+◌, ◌∷◌, [], ◌++◌, ℕ, suc, reverse, refl, sym, subst, ap, ◌∙◌, arith, List}
+use Rattle.std.proofs.Common.{◌≡◌, false, ◌<◌, ◌+◌, ◌∷◌, [], ◌++◌, ℕ, suc, reverse, refl, sym, subst, ap, ◌∙◌, arith, List}
 use Rattle.gomp_types.specs.declared.event.Event.{Event}
 use Rattle.gomp_types.specs.declared.event.Event.TheVariants.{Create}
 use Rattle.gomp_types.specs.declared.task.Task.{Task}
 use Rattle.gomp_types.specs.declared.task.TaskDesc.{TaskDesc}
 use Rattle.gomp_types.specs.Tasks.{tasks_created}
+use Rattle.gomp_types.specs.Cancels.{would_be_covered}
 use Rattle.gomp_types.specs.TaskRules.{MayCreate}
 use Rattle.gomp_tasks.specs.Stands.{Stands as TasksStand, members_of as task_members, count_of}
 use Rattle.gomp_groups.specs.Stands.{Stands as GroupsStand, members_of as group_members}
@@ -20,7 +21,7 @@ use Rattle.gomp_board.proofs.board.Board.add_task.Goals as goal
 pub overflow_add-room : goal.overflow_add-room
 overflow_add-room c =
     let b = the_view c.self.inside in
-    let small = creation_fits c.args.self.now b c.args.member c.args.desc.now _ c.self.view_is c.self.invariant c.requires.admitted in
+    let small = creation_fits c.args.self.now b c.args.member c.args.desc.now _ c.self.view_is c.self.invariant c.requires.admitted (c.requires.uncovered (reverse b.history) (subst (λ (v : BoardView). Stands v (reverse b.history)) c.self.view_is c.self.invariant.stands)) in
     omega (arith, small)
 
 pub create-task-requires-clause-few : goal.create-task-requires-clause-few
@@ -36,7 +37,7 @@ create-task-requires-clause-may c =
     let in_tasks = task_member b m c.self.invariant.members low in
     let now_st = subst (λ (v : BoardView). Stands v own) c.self.view_is st in
     let tasks = more_room c.self.inside.tasks c.reserve_task.new.tasks own c.reserve_task.ensures.tasks st.tasks in
-    (own, tasks, creates_next now b c.reserve_task.new.tasks m c.child_is_odd-odd.result c.args.desc.now own c.self.view_is c.requires.admitted (omega (arith, in_tasks, same_tasks)) tasks (c.child_is_odd-odd.ensures.value own now_st) st)
+    (own, tasks, creates_next now b c.reserve_task.new.tasks m c.child_is_odd-odd.result c.args.desc.now own c.self.view_is c.requires.admitted (omega (arith, in_tasks, same_tasks)) (c.requires.uncovered own now_st) tasks (c.child_is_odd-odd.ensures.value own now_st) st)
 
 pub create-requires-clause-may : goal.create-requires-clause-may
 create-requires-clause-may c =
@@ -46,7 +47,7 @@ create-requires-clause-may c =
     let in_groups = group_member b m c.self.invariant.members low in
     let now_st = subst (λ (v : BoardView). Stands v own) c.self.view_is st in
     let groups = more_task_room c.self.inside.groups c.reserve_task.new.groups own c.reserve_task.ensures.groups st.groups in
-    let may = creates_so now b m (group_members c.reserve_task.new.groups) c.args.desc.now own c.self.view_is c.requires.admitted (omega (arith, in_groups, same_groups)) st in
+    let may = creates_so now b m (group_members c.reserve_task.new.groups) c.args.desc.now own c.self.view_is c.requires.admitted (omega (arith, in_groups, same_groups)) (c.requires.uncovered own now_st) st in
     (own, m, groups, subst (λ (q : Task). MayCreate (group_members c.reserve_task.new.groups) (suc (tasks_created own)) m q own) (sym (c.current-parent.ensures.value own now_st)) may)
 
 pub bind-requires-clause-may : goal.bind-requires-clause-may
@@ -55,6 +56,13 @@ bind-requires-clause-may c =
     let low = subst (λ (v : BoardView). m < members_of v) (sym c.self.view_is) c.requires.member in
     let now_st = subst (λ (v : BoardView). Stands v own) c.self.view_is st in
     (own, suc (tasks_created own), c.current-parent.result, st.barriers, create_binds b m c.current-parent.result c.child_is_odd-odd.result own c.self.invariant.members low (c.current-parent.ensures.value own now_st) (c.child_is_odd-odd.ensures.value own now_st) st)
+
+pub bind-requires-clause-room : goal.bind-requires-clause-room
+bind-requires-clause-room c =
+    let b = the_view c.self.inside in let own = reverse b.history in let st = c.self.invariant.stands in
+    let few = creation_has_number c.args.self.now b b.tasks c.args.member c.args.desc.now _ c.self.view_is c.self.invariant c.requires.admitted refl in
+    let count = st.tasks.count in
+    (own, st.barriers, omega (arith, few, count))
 
 pub invariant_of-self-2 : goal.invariant_of-self-2
 invariant_of-self-2 c =
@@ -74,13 +82,13 @@ invariant_of-self-2 c =
     let groups = more_task_room c.self.inside.groups c.reserve_task.new.groups own c.reserve_task.ensures.groups st.groups in
     let depends = same_rows c.self.inside.depends c.reserve_task.new.depends own c.reserve_task.ensures.depends st.depends in
     let number = next_task_number c.reserve_task.new.tasks c.create-task.new.self t own tasks c.create-task.ensures.number c.create-task.ensures.count in
-    let next = c.create-task.ensures.stands own tasks (creates_next now b c.reserve_task.new.tasks m c.child_is_odd-odd.result d own c.self.view_is c.requires.admitted (omega (arith, in_tasks, same_tasks)) tasks parity st) in
-    let may = creates_so now b m (group_members c.reserve_task.new.groups) d own c.self.view_is c.requires.admitted (omega (arith, in_groups, same_groups)) st in
+    let next = c.create-task.ensures.stands own tasks (creates_next now b c.reserve_task.new.tasks m c.child_is_odd-odd.result d own c.self.view_is c.requires.admitted (omega (arith, in_tasks, same_tasks)) (c.requires.uncovered own now_st) tasks parity st) in
+    let may = creates_so now b m (group_members c.reserve_task.new.groups) d own c.self.view_is c.requires.admitted (omega (arith, in_groups, same_groups)) (c.requires.uncovered own now_st) st in
     let next_groups = c.create.ensures.stands own m d groups (subst (λ (q : Task). MayCreate (group_members c.reserve_task.new.groups) (suc (tasks_created own)) m q own) (sym current) may) in
     let next_barriers = c.bind.ensures.stands own (suc (tasks_created own)) m p d st.barriers (create_binds b m p c.child_is_odd-odd.result own c.self.invariant.members low current parity st) in
     let next_depends = c.create-2.ensures.stands own m d depends number (sym c.in_ok-copies.ensures.items) in
     let plain = listed_so c.is_listed-listed.result c.becomes_undeferred-undeferred.result c.in_ok-copies.copies.items d p own c.is_listed-listed.ensures (c.becomes_undeferred-undeferred.ensures.value own now_st) current c.in_ok-copies.ensures.items in
-    let stands = created_stands b c.push_reserved.new.self.items (c.self.inside.room + 3) c.create-task.new.self c.create.new.self c.bind.new.self c.create-2.new.self c.put_if.new.ready.ids t m c.is_listed-listed.result p d own longer more number plain
+    let stands = created_stands b c.push_reserved.new.self.items (c.self.inside.room + 3) c.create-task.new.self c.create.new.self c.bind.new.self c.create-2.new.self c.put_if.new.ready.ids t m c.is_listed-listed.result p d own longer more number plain (subst (λ (q : Task). would_be_covered q own ≡ false) (sym current) (c.requires.uncovered own now_st))
     (subst (λ (q : Task). TasksStand c.create-task.new.self (Create t m q d ∷ own)) (sym current) next)
     (subst (λ (n : ℕ). GroupsStand c.create.new.self (Create n m p d ∷ own)) (sym number) next_groups)
     (subst (λ (n : ℕ). BarriersStand c.bind.new.self (Create n m p d ∷ own)) (sym number) next_barriers) next_depends st in
@@ -107,13 +115,13 @@ returns-clause-stands c = λ h given.
     let groups = more_task_room c.self.inside.groups c.reserve_task.new.groups h c.reserve_task.ensures.groups st.groups in
     let depends = same_rows c.self.inside.depends c.reserve_task.new.depends h c.reserve_task.ensures.depends st.depends in
     let number = next_task_number c.reserve_task.new.tasks c.create-task.new.self t h tasks c.create-task.ensures.number c.create-task.ensures.count in
-    let next = c.create-task.ensures.stands h tasks (creates_next now b c.reserve_task.new.tasks m c.child_is_odd-odd.result d h c.self.view_is c.requires.admitted (omega (arith, in_tasks, same_tasks)) tasks parity st) in
-    let may = creates_so now b m (group_members c.reserve_task.new.groups) d h c.self.view_is c.requires.admitted (omega (arith, in_groups, same_groups)) st in
+    let next = c.create-task.ensures.stands h tasks (creates_next now b c.reserve_task.new.tasks m c.child_is_odd-odd.result d h c.self.view_is c.requires.admitted (omega (arith, in_tasks, same_tasks)) (c.requires.uncovered h now_st) tasks parity st) in
+    let may = creates_so now b m (group_members c.reserve_task.new.groups) d h c.self.view_is c.requires.admitted (omega (arith, in_groups, same_groups)) (c.requires.uncovered h now_st) st in
     let next_groups = c.create.ensures.stands h m d groups (subst (λ (q : Task). MayCreate (group_members c.reserve_task.new.groups) (suc (tasks_created h)) m q h) (sym current) may) in
     let next_barriers = c.bind.ensures.stands h (suc (tasks_created h)) m p d st.barriers (create_binds b m p c.child_is_odd-odd.result h c.self.invariant.members low current parity st) in
     let next_depends = c.create-2.ensures.stands h m d depends number (sym c.in_ok-copies.ensures.items) in
     let plain = listed_so c.is_listed-listed.result c.becomes_undeferred-undeferred.result c.in_ok-copies.copies.items d p h c.is_listed-listed.ensures (c.becomes_undeferred-undeferred.ensures.value h now_st) current c.in_ok-copies.ensures.items in
-    let stands = created_stands b c.push_reserved.new.self.items (c.self.inside.room + 3) c.create-task.new.self c.create.new.self c.bind.new.self c.create-2.new.self c.put_if.new.ready.ids t m c.is_listed-listed.result p d h longer more number plain
+    let stands = created_stands b c.push_reserved.new.self.items (c.self.inside.room + 3) c.create-task.new.self c.create.new.self c.bind.new.self c.create-2.new.self c.put_if.new.ready.ids t m c.is_listed-listed.result p d h longer more number plain (subst (λ (q : Task). would_be_covered q h ≡ false) (sym current) (c.requires.uncovered h now_st))
     (subst (λ (q : Task). TasksStand c.create-task.new.self (Create t m q d ∷ h)) (sym current) next)
     (subst (λ (n : ℕ). GroupsStand c.create.new.self (Create n m p d ∷ h)) (sym number) next_groups)
     (subst (λ (n : ℕ). BarriersStand c.bind.new.self (Create n m p d ∷ h)) (sym number) next_barriers) next_depends st in

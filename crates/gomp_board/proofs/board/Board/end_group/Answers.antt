@@ -1,4 +1,4 @@
-use Rattle.std.proofs.Common.{reverse, sym, ◌∙◌, arith}
+use Rattle.std.proofs.Common.{refl, reverse, sym, ◌∙◌, arith}
 use Rattle.gomp_types.specs.Tasks.{executed_task}
 use Rattle.gomp_types.specs.Groups.{open_groups}
 use Rattle.gomp_types.specs.TaskCalls.{last_complete}
@@ -13,6 +13,6 @@ returns c = record {
   performs =
       let now = c.args.self.now in let m = c.args.member in let room = c.close_or_wait.ensures.room in let own = reverse now.history in
       let reply = awaits_is_reply m (last_complete (open_groups (executed_task m own) own) own) own c.close_or_wait.result (c.close_or_wait.ensures.answer own c.close_or_wait.ensures.known) in
-      op_performed EndGroup m now c.close_or_wait.new.self c.close_or_wait.result reply c.requires.admitted c.close_or_wait.ensures.answer c.close_or_wait.ensures.stands c.close_or_wait.ensures.limits (omega (arith, room))
+      op_performed EndGroup m now c.close_or_wait.new.self c.close_or_wait.result reply refl c.requires.admitted c.close_or_wait.ensures.answer c.close_or_wait.ensures.stands c.close_or_wait.ensures.limits (omega (arith, room))
       (c.close_or_wait.ensures.kept ∙ sym (set_same now.kept m)) (λ wait goes. c.close_or_wait.ensures.waits wait);
 }

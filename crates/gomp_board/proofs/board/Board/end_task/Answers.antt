@@ -17,7 +17,7 @@ use Rattle.gomp_board.proofs.board.Board.end_task.Goals as goal
 pub unreachable-requires : goal.unreachable-requires
 unreachable-requires c =
     let b = the_view c.self.inside in let own = reverse b.history in
-    never_the_implicit_task c.args.self.now b c.args.member c.finish.result own c.self.view_is c.requires.admitted c.self.invariant.stands (c.finish.ensures.answer own c.self.invariant.stands.tasks) c.in_default.is
+    never_the_implicit_task c.args.self.now b c.args.member c.args.leaving c.finish.result own c.self.view_is c.requires.admitted c.self.invariant.stands (c.finish.ensures.answer own c.self.invariant.stands.tasks) c.in_default.is
 
 pub is_odd-odd-requires : goal.is_odd-odd-requires
 is_odd-odd-requires c =
@@ -79,7 +79,7 @@ returns c =
     let low = subst (λ (v : BoardView). m < members_of v) (sym c.self.view_is) c.requires.member in
     let room : b.room ≡ now.room = ap (λ (v : BoardView). v.room) c.self.view_is in
     record {
-      performs = op_performed EndTask m now _ (TaskDone t (not c.is_undeferred-waiting.result)) tt c.requires.admitted
+      performs = op_performed (EndTask c.args.leaving) m now _ (TaskDone t (not c.is_undeferred-waiting.result)) tt refl c.requires.admitted
           (λ h now_st.
           let st = subst (λ (v : BoardView). Stands v h) (sym c.self.view_is) now_st in
           let current = member_executes m t c.finish.result h (c.finish.ensures.answer h st.tasks) c.in-Some.is in

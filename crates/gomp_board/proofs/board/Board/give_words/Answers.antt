@@ -23,10 +23,10 @@ note_gift-requires c =
     }
 
 pub returns-in-Err : goal.returns-in-Err
-returns-in-Err c = record { performs = nothing_performed (Got c.args.share c.args.words) c.args.member c.args.self.now c.make_words_room.new.self _ refl c.requires.admitted c.in-Err.ensures.err c.in-Err.ensures.there }
+returns-in-Err c = record { performs = nothing_performed (Got c.args.share c.args.words) c.args.member c.args.self.now c.make_words_room.new.self _ refl (λ h. refl) c.requires.admitted c.in-Err.ensures.err c.in-Err.ensures.there }
 
 pub returns-in-Ok : goal.returns-in-Ok
 returns-in-Ok c = record {
-  performs = words_performed (Got c.args.share c.args.words) c.args.member _ c.args.self.now c.make_words_room.new.self c.note_gift.new.self c.requires.admitted (λ h. refl) refl c.in-Ok.ensures.room
+  performs = words_performed (Got c.args.share c.args.words) c.args.member _ c.args.self.now c.make_words_room.new.self c.note_gift.new.self refl c.requires.admitted (λ h. refl) refl c.in-Ok.ensures.room
       c.note_gift.ensures.stands c.note_gift.ensures.limits c.note_gift.ensures.room c.note_gift.ensures.kept;
 }

@@ -19,7 +19,7 @@ pub returns-then-may_run-clause-value : goal.returns-then-may_run-clause-value
 returns-then-may_run-clause-value c = λ h now_st.
     let st = subst (λ (v : BoardView). Stands v h) (sym c.self.view_is) now_st in
     let runs = sym (c.may_run.ensures.value h st.tasks (c.at_barrier-waits.ensures.value h st.barriers)) ∙ c.if-may_run.true in
-    run_then_free c.args.member c.args.task c.is_free.result h runs (c.is_free.ensures.value h st.depends (run_is_open c.args.member c.args.task h runs))
+    run_then_free c.args.member c.args.task c.is_free.result h st.sealed runs (c.is_free.ensures.value h st.depends (run_is_open c.args.member c.args.task h runs))
 
 pub returns-then-may_run-clause-may : goal.returns-then-may_run-clause-may
 returns-then-may_run-clause-may c = λ yes.
@@ -28,7 +28,7 @@ returns-then-may_run-clause-may c = λ yes.
       may = λ h now_st.
           let st = subst (λ (v : BoardView). Stands v h) (sym c.self.view_is) now_st in
           let runs = sym (c.may_run.ensures.value h st.tasks (c.at_barrier-waits.ensures.value h st.barriers)) ∙ c.if-may_run.true in
-          let may = sym (run_then_free c.args.member c.args.task c.is_free.result h runs (c.is_free.ensures.value h st.depends (run_is_open c.args.member c.args.task h runs))) ∙ yes in
+          let may = sym (run_then_free c.args.member c.args.task c.is_free.result h st.sealed runs (c.is_free.ensures.value h st.depends (run_is_open c.args.member c.args.task h runs))) ∙ yes in
           let rule = subst (λ (v : BoardView). members_of v ≡ members_of now) (sym c.self.view_is) refl in
           own_rule (members_of now) c.args.member c.args.task h (subst (λ (n : ℕ). Always (TaskRule n) h) rule (rule_of b h c.self.invariant.members st)) c.requires.member (c.requires.newest h now_st) (c.requires.undeferred h now_st) may;
       apart = λ h now_st. undeferred_is_apart c.args.task h (c.requires.undeferred h now_st);
@@ -38,4 +38,4 @@ returns-then-may_run-clause-may c = λ yes.
 pub returns-else-may_run-clause-value : goal.returns-else-may_run-clause-value
 returns-else-may_run-clause-value c = λ h now_st.
     let st = subst (λ (v : BoardView). Stands v h) (sym c.self.view_is) now_st in
-    c.if-may_run.false ∙ not_run c.args.member c.args.task h (sym (c.may_run.ensures.value h st.tasks (c.at_barrier-waits.ensures.value h st.barriers)) ∙ c.if-may_run.false)
+    c.if-may_run.false ∙ not_run c.args.member c.args.task h st.sealed (sym (c.may_run.ensures.value h st.tasks (c.at_barrier-waits.ensures.value h st.barriers)) ∙ c.if-may_run.false)

@@ -8,7 +8,16 @@ use Rattle.gomp_barrier.specs.Stands.{Stands as BarriersStand}
 use Rattle.gomp_board.specs.Ops.{arrival_asks, arrival_keeps}
 use Rattle.gomp_board.specs.Boards.{BoardView, Stands, HasSpare, ArrivesFirst, members_of, kept_by}
 use Rattle.gomp_board.proofs.Joined.{stands_too, barrier_number_is, arrived_stands_next, arrived_board, arrival_fits}
+use Rattle.gomp_types.proofs.Booleans.{not_both}
+use Rattle.gomp_board.proofs.RegionLeft.{first_is_accepted}
 use Rattle.gomp_board.proofs.board.Board.note_arrival.Goals as goal
+
+pub unreachable-requires : goal.unreachable-requires
+unreachable-requires c =
+    let own = reverse c.self.inside.history.items in
+    let first = subst (λ (b : BoardView). (h : List Event) → Stands b h → ArrivesFirst c.args.member c.args.tag h) (sym c.self.view_is) c.requires.first in
+    let accepted = c.arrive.ensures.answer own c.self.invariant.stands.barriers ∙ first_is_accepted c.args.member c.args.tag own (first own c.self.invariant.stands) in
+    not_both _ accepted c.if-not-arrive.true
 
 pub push_reserved-requires : goal.push_reserved-requires
 push_reserved-requires c =

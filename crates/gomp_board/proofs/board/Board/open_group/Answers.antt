@@ -8,7 +8,7 @@ use Rattle.gomp_board.specs.Boards.{BoardView, Stands, members_of}
 use Rattle.gomp_board.specs.contracts.board.Board.{the_view}
 use Rattle.gomp_board.proofs.OwedKeeps.{group_owes}
 use Rattle.gomp_board.proofs.Performed.{op_performed}
-use Rattle.gomp_board.proofs.TaskEvents.{group_member, board_asked, members_with, rule_of, opened_stands, more_group_room, at_ok, set_same}
+use Rattle.gomp_board.proofs.TaskEvents.{group_member, board_asked, members_with, rule_of, opened_stands, more_group_room, more_mark_room, at_ok, set_same}
 use Rattle.gomp_board.proofs.board.Board.open_group.Goals as goal
 
 pub invariant_of-self-2 : goal.invariant_of-self-2
@@ -24,7 +24,7 @@ invariant_of-self-2 c =
     let capacity = c.push_reserved.ensures.capacity in
     let space = at_ok c.reserve_group.result _ (sym c.is_err.ensures.value ∙ c.if-is_err.false) c.reserve_group.ensures.space in
     board_asked _ _ 2 b (Group c.open-group.result m) c.self.invariant (group_owes (members_of b) m c.open-group.result own (rule_of b own c.self.invariant.members st)) _ longer
-    (opened_stands b c.push_reserved.new.self.items (c.self.inside.room + 2) c.open-group.new.self c.open-group.result m own c.self.invariant.members low longer (c.open-group.ensures.number own groups) next st)
+    (opened_stands b c.push_reserved.new.self.items (c.self.inside.room + 2) c.open-group.new.self c.open.new.self c.open-group.result m own c.self.invariant.members low longer (c.open-group.ensures.number own groups) next (c.open.ensures.stands own c.open-group.result m (more_mark_room c.self.inside.cancelled c.reserve_group.new.cancelled own c.reserve_group.ensures.cancelled st.cancelled)) st)
     (members_with b _ c.self.invariant.members refl refl (c.open-group.ensures.members ∙ same) refl) refl refl refl (omega (arith, capacity, space))
 
 pub returns : goal.returns
@@ -36,12 +36,12 @@ returns c =
     let longer = c.push_reserved.ensures.items ∙ ap (λ (es : List Event). es ++ Group c.open-group.result m ∷ []) c.reserve_group.ensures.history in
     let room : b.room ≡ now.room = ap (λ (v : BoardView). v.room) c.self.view_is in
     record {
-      performs = op_performed OpenGroup m now _ Finished tt c.requires.admitted (λ h now_st. refl)
+      performs = op_performed OpenGroup m now _ Finished tt refl c.requires.admitted (λ h now_st. refl)
           (λ h now_st.
           let st = subst (λ (v : BoardView). Stands v h) (sym c.self.view_is) now_st in
           let groups = more_group_room c.self.inside.groups c.reserve_group.new.groups h c.reserve_group.ensures.groups st.groups in
           let next = c.open-group.ensures.stands h m groups (record { member = omega (arith, inside, same); current = sym (c.current-task.ensures.value h now_st) }) in
           let number = c.open-group.ensures.number h groups in
-          rw (← number) (opened_stands b c.push_reserved.new.self.items (c.self.inside.room + 2) c.open-group.new.self c.open-group.result m h c.self.invariant.members low longer number next st))
+          rw (← number) (opened_stands b c.push_reserved.new.self.items (c.self.inside.room + 2) c.open-group.new.self c.open.new.self c.open-group.result m h c.self.invariant.members low longer number next (c.open.ensures.stands h c.open-group.result m (more_mark_room c.self.inside.cancelled c.reserve_group.new.cancelled h c.reserve_group.ensures.cancelled st.cancelled)) st))
           (ap (λ (v : BoardView). v.limits) c.self.view_is) (ap (λ (n : ℕ). n + 2) room) (ap (λ (v : BoardView). v.kept) c.self.view_is ∙ sym (set_same now.kept m)) (λ wait goes. absurd (cc));
     }

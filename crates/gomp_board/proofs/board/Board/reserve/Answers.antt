@@ -32,7 +32,7 @@ invariant_of-self c =
     rw kept (keeping_board _ c.args.member c.args.more b c.self-2.invariant low spare)
 
 pub returns-in-Err : goal.returns-in-Err
-returns-in-Err c = record { performs = nothing_performed (Reserve c.args.more) c.args.member c.args.self.now c.make_room.new.self c.args.more refl c.requires.admitted c.in-Err.ensures.err c.in-Err.ensures.there }
+returns-in-Err c = record { performs = nothing_performed (Reserve c.args.more) c.args.member c.args.self.now c.make_room.new.self c.args.more refl (λ h. refl) c.requires.admitted c.in-Err.ensures.err c.in-Err.ensures.there }
 
 pub returns-in-Ok : goal.returns-in-Ok
 returns-in-Ok c =

@@ -5,4 +5,4 @@ use Rattle.gomp_board.proofs.Startables.{NoneFrom}
 use Rattle.gomp_board.proofs.board.Board.startable.Given as goal
 
 abbrev pub invariant-loop-place : goal.invariant-loop-place
-invariant-loop-place l = (h : List Event) → Stands l.self h → NoneFrom l.member l.place l.ids h
+invariant-loop-place l = (h : List Event) → Stands l.self h → NoneFrom l.member l.place l.self.ready h

@@ -13,6 +13,6 @@ pub returns : goal.returns
 returns c = record {
   performs =
       let room = c.note_break.ensures.room in
-      op_performed (Break c.args.place) c.args.member c.args.self.now c.note_break.new.self Stopped tt c.requires.admitted (λ h st. refl) c.note_break.ensures.stands c.note_break.ensures.limits (omega (arith, room))
+      op_performed (Break c.args.place) c.args.member c.args.self.now c.note_break.new.self Stopped tt refl c.requires.admitted (λ h st. refl) c.note_break.ensures.stands c.note_break.ensures.limits (omega (arith, room))
       (c.note_break.ensures.kept ∙ sym (set-get_or c.args.self.now.kept c.args.member 0)) (λ wait goes. absurd (cc));
 }

@@ -1,7 +1,6 @@
-use Rattle.std.proofs.Common.{refl}
-use Rattle.gomp_types.specs.TaskCalls.{end_task_tests}
-use Rattle.gomp_types.proofs.LeastTests.{first_is_least}
+use Rattle.gomp_types.specs.TaskCalls.{group_is_open}
+use Rattle.gomp_board.proofs.RefusalOrder.{given_up_is, task_end_is_least}
 use Rattle.gomp_board.proofs.board.Board.task_end_refusal.Goals as goal
 
 pub returns : goal.returns
-returns c = record { value = λ h st. rw (c.first.ensures, c.group_open_refusal-open.ensures.value h st, c.in_task.ensures.value h st) (first_is_least 0 (end_task_tests c.args.member h) refl) }
+returns c = record { value = λ h st. rw (c.first.ensures, c.first-open.ensures, c.keeps_group_open.ensures.value h st, c.in_task.ensures.value h st, given_up_is c.args.leaving (group_is_open c.args.member h)) (task_end_is_least c.args.leaving c.args.member h) }

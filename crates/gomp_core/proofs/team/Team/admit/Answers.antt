@@ -8,7 +8,7 @@ use Rattle.gomp_types.specs.Least.{lesser, least}
 use Rattle.gomp_model.specs.Past.{Waits}
 use Rattle.gomp_model.specs.Team.{call_meant, member_tests, wait_tests, refusal_of, row_at}
 use Rattle.gomp_board.specs.Boards.{members_of as board_members}
-use Rattle.gomp_core.specs.Stands.{TeamView, past, terms_of, members_of}
+use Rattle.gomp_core.specs.Stands.{TeamView, EndsDrained, past, terms_of, members_of}
 use Rattle.gomp_parts.specs.Answers.{StartsShare}
 use Rattle.gomp_core.proofs.Refused.{bad_member, step_refused, all_admitted}
 use Rattle.gomp_core.proofs.Admitted.{same_members, rule_of_holds, step_place}
@@ -48,7 +48,7 @@ admit_call-by_place-requires-clause-team g c =
 
 pub admit_call-by_place-requires-clause-place : goal.admit_call-by_place-requires-clause-place
 admit_call-by_place-requires-clause-place g c = λ repeated stays.
-    let team : TeamView g.row.S.Denot = record { icv = c.self.inside.icv; board = c.self.inside.board; waits = c.self.inside.waits.items; book = c.self.inside.book; shares = c.self.inside.shares } in
+    let team : TeamView g.row.S.Denot = record { icv = c.self.inside.icv; board = c.self.inside.board; waits = c.self.inside.waits.items; leaving = c.self.inside.leaving.items; book = c.self.inside.book; shares = c.self.inside.shares } in
     let (before, st) = c.self.invariant in
     let step : Step = record { member = c.args.member; call = c.args.call.now } in
     let lt : c.args.member < length c.self.inside.waits.items = let under = c.if-member-len.false in let len = c.len.ensures in omega arith in
@@ -60,7 +60,7 @@ admit_call-by_place-requires-clause-place g c = λ repeated stays.
 
 pub returns-clause-least : goal.returns-clause-least
 returns-clause-least g c = λ before st0.
-    let team : TeamView g.row.S.Denot = record { icv = c.self.inside.icv; board = c.self.inside.board; waits = c.self.inside.waits.items; book = c.self.inside.book; shares = c.self.inside.shares } in
+    let team : TeamView g.row.S.Denot = record { icv = c.self.inside.icv; board = c.self.inside.board; waits = c.self.inside.waits.items; leaving = c.self.inside.leaving.items; book = c.self.inside.book; shares = c.self.inside.shares } in
     let st = same_stands g.S.Shares.stands g.S.Shares.members team c.args.self.now before c.self.view_is st0 in
     let p = past team before in
     let m = c.args.member in
@@ -73,16 +73,19 @@ returns-clause-least g c = λ before st0.
     let by_team = c.team_refusal-by_team.ensures p.events parts.board_is
     ∙ ap (λ (w : Option Call). lesser (least (member_tests (board_members team.board) m p.events)) (least (wait_tests c.args.call.now w))) waiting
     ∙ ap (λ (n : ℕ). lesser (least (member_tests n m p.events)) (least (wait_tests c.args.call.now (p.waits m).open_call))) (sym parts.members) in
+    let there = slice_get_read c.self.inside.leaving.items _ m _ refl (rw st.leaving_size lt) c.index-leaving.ensures in
+    let leaves = st.leave m _ there in
+    let by_leaving = rw (is, c.is_resume-repeated.ensures) at (c.leaving_refusal-by_leaving.ensures.least p parts.shares_are leaves) in
     let by_book = rw (is, c.is_resume-repeated.ensures) at (c.held_refusal-by_book.ensures p st.book_are (sym (c.current-task.ensures.value p.events parts.board_is)) (rule_of_holds (terms_of team) before st.caused)) in
-    let by_tasks = rw (is, c.is_resume-repeated.ensures) at (c.task_refusal-by_tasks.ensures.least p parts.board_is parts.limits parts.room) in
-    let by_place = rw (is, c.is_resume-repeated.ensures) at (c.admit_call-by_place.ensures.least p (parts.limits ∙ sym c.limits-limits.ensures.value) (parts.shares_are, rw c.barriers.ensures.value parts.board_is.barriers)) in
+    let by_tasks = rw (is, c.is_resume-repeated.ensures) at (c.task_refusal-by_tasks.ensures.least p parts.board_is parts.limits parts.room leaves) in
+    let by_place = rw (is, c.is_resume-repeated.ensures) at (c.admit_call-by_place.ensures.least p (parts.limits ∙ sym c.limits-limits.ensures.value) (parts.shares_are, rw c.barriers.ensures.value parts.board_is.barriers) leaves) in
     subst (λ (t : TeamView g.row.S.Denot). result_err c.unless_refused.result ≡ refusal_of (past t before) step) c.self.view_is
-    (c.unless_refused.ensures.least ∙ ap (lesser c.team_refusal-by_team.result) (c.unless_also.ensures.least ∙ ap (λ (x : Option _). lesser x c.held_refusal-by_book.result) c.unless_also-by_parts.ensures.least)
-    ∙ step_refused p step c.team_refusal-by_team.result (result_err c.admit_call-by_place.result) c.task_refusal-by_tasks.result c.held_refusal-by_book.result by_team by_place by_tasks by_book)
+    (c.unless_refused.ensures.least ∙ ap (lesser c.team_refusal-by_team.result) (c.unless_also.ensures.least ∙ ap (λ (x : Option _). lesser x c.held_refusal-by_book.result) (c.unless_also-by_parts.ensures.least ∙ ap (λ (x : Option _). lesser x c.task_refusal-by_tasks.result) c.unless_refused-by_own.ensures.least))
+    ∙ step_refused p step c.team_refusal-by_team.result c.leaving_refusal-by_leaving.result (result_err c.admit_call-by_place.result) c.task_refusal-by_tasks.result c.held_refusal-by_book.result by_team by_leaving by_place by_tasks by_book)
 
 pub returns-clause-starts : goal.returns-clause-starts
 returns-clause-starts g c = λ before st0.
-    let team : TeamView g.row.S.Denot = record { icv = c.self.inside.icv; board = c.self.inside.board; waits = c.self.inside.waits.items; book = c.self.inside.book; shares = c.self.inside.shares } in
+    let team : TeamView g.row.S.Denot = record { icv = c.self.inside.icv; board = c.self.inside.board; waits = c.self.inside.waits.items; leaving = c.self.inside.leaving.items; book = c.self.inside.book; shares = c.self.inside.shares } in
     let st = same_stands g.S.Shares.stands g.S.Shares.members team c.args.self.now before c.self.view_is st0 in
     let step : Step = record { member = c.args.member; call = c.args.call.now } in
     let lt : c.args.member < length c.self.inside.waits.items = let under = c.if-member-len.false in let len = c.len.ensures in omega arith in
@@ -90,5 +93,18 @@ returns-clause-starts g c = λ before st0.
     let is = c.call_meant-meant.ensures ∙ ap (call_meant c.args.call.now) c.open_call-waiting.ensures ∙ call_kept g.S.Shares.stands g.S.Shares.members team before step _ st at in
     let starts : IfOk c.admit_call-by_place.result (StartsShare (row_at (past team before) step) (g.S.Shares.seen team.shares c.args.member)) = rw is at c.admit_call-by_place.ensures.starts in
     subst (λ (t : TeamView g.row.S.Denot). IfOk c.unless_refused.result (StartsShare (row_at (past t before) step) (g.S.Shares.seen t.shares c.args.member))) c.self.view_is
-    (all_admitted (StartsShare (row_at (past team before) step) (g.S.Shares.seen team.shares c.args.member)) c.admit_call-by_place.result c.unless_also-by_parts.result c.unless_also.result c.unless_refused.result
-    c.unless_refused.ensures.admitted c.unless_also.ensures.admitted c.unless_also-by_parts.ensures.admitted starts)
+    (all_admitted (StartsShare (row_at (past team before) step) (g.S.Shares.seen team.shares c.args.member)) c.admit_call-by_place.result c.unless_refused-by_own.result c.unless_also-by_parts.result c.unless_also.result c.unless_refused.result
+    c.unless_refused.ensures.admitted c.unless_also.ensures.admitted c.unless_also-by_parts.ensures.admitted c.unless_refused-by_own.ensures.admitted starts)
+
+pub returns-clause-drained : goal.returns-clause-drained
+returns-clause-drained g c = λ before st0.
+    let team : TeamView g.row.S.Denot = record { icv = c.self.inside.icv; board = c.self.inside.board; waits = c.self.inside.waits.items; leaving = c.self.inside.leaving.items; book = c.self.inside.book; shares = c.self.inside.shares } in
+    let st = same_stands g.S.Shares.stands g.S.Shares.members team c.args.self.now before c.self.view_is st0 in
+    let step : Step = record { member = c.args.member; call = c.args.call.now } in
+    let lt : c.args.member < length c.self.inside.waits.items = let under = c.if-member-len.false in let len = c.len.ensures in omega arith in
+    let at = slice_get_read c.self.inside.waits.items _ c.args.member _ refl lt c.index.ensures in
+    let is = c.call_meant-meant.ensures ∙ ap (call_meant c.args.call.now) c.open_call-waiting.ensures ∙ call_kept g.S.Shares.stands g.S.Shares.members team before step _ st at in
+    let drained : IfOk c.admit_call-by_place.result (λ starts. EndsDrained g.S.Shares.stands team before step) = rw (is, c.is_resume-repeated.ensures) at c.admit_call-by_place.ensures.drained in
+    subst (λ (t : TeamView g.row.S.Denot). IfOk c.unless_refused.result (λ starts. EndsDrained g.S.Shares.stands t before step)) c.self.view_is
+    (all_admitted (λ starts. EndsDrained g.S.Shares.stands team before step) c.admit_call-by_place.result c.unless_refused-by_own.result c.unless_also-by_parts.result c.unless_also.result c.unless_refused.result
+    c.unless_refused.ensures.admitted c.unless_also.ensures.admitted c.unless_also-by_parts.ensures.admitted c.unless_refused-by_own.ensures.admitted drained)

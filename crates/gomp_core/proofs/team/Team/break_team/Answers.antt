@@ -12,7 +12,7 @@ use Rattle.gomp_core.proofs.team.Team.break_team.Goals as goal
 
 pub place-place-requires : goal.place-place-requires
 place-place-requires g c =
-    let team : TeamView g.row.S.Denot = record { icv = c.self.inside.icv; board = c.self.inside.board; waits = c.self.inside.waits.items; book = c.self.inside.book; shares = c.self.inside.shares } in
+    let team : TeamView g.row.S.Denot = record { icv = c.self.inside.icv; board = c.self.inside.board; waits = c.self.inside.waits.items; leaving = c.self.inside.leaving.items; book = c.self.inside.book; shares = c.self.inside.shares } in
     let step : Step = record { member = c.args.member; call = c.args.call.now } in
     let (before, st) = c.self.invariant in
     let is = differing_here g.S.Shares.stands g.S.Shares.members team c.args.self.now before step c.self.view_is st c.requires.differs in
@@ -20,7 +20,7 @@ place-place-requires g c =
 
 pub step-requires : goal.step-requires
 step-requires g c =
-    let team : TeamView g.row.S.Denot = record { icv = c.self.inside.icv; board = c.self.inside.board; waits = c.self.inside.waits.items; book = c.self.inside.book; shares = c.self.inside.shares } in
+    let team : TeamView g.row.S.Denot = record { icv = c.self.inside.icv; board = c.self.inside.board; waits = c.self.inside.waits.items; leaving = c.self.inside.leaving.items; book = c.self.inside.book; shares = c.self.inside.shares } in
     let step : Step = record { member = c.args.member; call = c.args.call.now } in
     let (before, st) = c.self.invariant in
     let is = differing_here g.S.Shares.stands g.S.Shares.members team c.args.self.now before step c.self.view_is st c.requires.differs in
@@ -29,7 +29,7 @@ step-requires g c =
 -- What it leaves
 
 abbrev team_of : (g : Over) (c : goal.After-step g) → TeamView g.row.S.Denot
-team_of g c = record { icv = c.self.inside.icv; board = c.self.inside.board; waits = c.self.inside.waits.items; book = c.self.inside.book; shares = c.self.inside.shares }
+team_of g c = record { icv = c.self.inside.icv; board = c.self.inside.board; waits = c.self.inside.waits.items; leaving = c.self.inside.leaving.items; book = c.self.inside.book; shares = c.self.inside.shares }
 
 abbrev step_of : (g : Over) (c : goal.After-step g) → Step
 step_of g c = record { member = c.args.member; call = c.args.call.now }

@@ -8,7 +8,7 @@ use Rattle.gomp_core.proofs.team.Team.perform.Goals as goal
 
 pub returns : goal.returns
 returns g c =
-    let team : TeamView g.row.S.Denot = record { icv = c.self.inside.icv; board = c.self.inside.board; waits = c.self.inside.waits.items; book = c.self.inside.book; shares = c.self.inside.shares } in
+    let team : TeamView g.row.S.Denot = record { icv = c.self.inside.icv; board = c.self.inside.board; waits = c.self.inside.waits.items; leaving = c.self.inside.leaving.items; book = c.self.inside.book; shares = c.self.inside.shares } in
     let step : Step = record { member = c.args.member; call = c.args.call } in
     let (run, known) = c.self.invariant in
     let st1 = other_stands g.S.Shares.stands g.S.Shares.members team c.args.self.now run c.self.view_is known in

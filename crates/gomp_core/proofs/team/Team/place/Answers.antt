@@ -17,7 +17,7 @@ place_of-requires-clause-team g c =
 
 pub returns : goal.returns
 returns g c = λ before st0.
-    let team : TeamView g.row.S.Denot = record { icv = c.self.inside.icv; board = c.self.inside.board; waits = c.self.inside.waits.items; book = c.self.inside.book; shares = c.self.inside.shares } in
+    let team : TeamView g.row.S.Denot = record { icv = c.self.inside.icv; board = c.self.inside.board; waits = c.self.inside.waits.items; leaving = c.self.inside.leaving.items; book = c.self.inside.book; shares = c.self.inside.shares } in
     let step : Step = record { member = c.args.member; call = c.args.call.now } in
     let st = same_stands g.S.Shares.stands g.S.Shares.members team c.args.self.now before c.self.view_is st0 in
     let lt : c.args.member < length c.self.inside.waits.items = rw (← c.self.view_is) at c.requires.member in

@@ -7,9 +7,9 @@ use Rattle.gomp_share_plain.proofs.plain.PlainSharesShares.leave.Goals as goal
 
 pub returns-clause-stands : goal.returns-clause-stands
 returns-clause-stands c = λ h st0.
-    let (can, st, at) = own_seat _ _ c.args.member c.index_mut.result.now h (λ n seen. CanLeave n c.args.member seen) c.self.view_is c.requires.place c.requires.place.member st0 c.index_mut.ensures.value in
+    let (can, st, at) = own_seat _ _ c.args.member c.index_mut-seat.result.now h (λ n seen. CanLeave n c.args.member seen) c.self.view_is c.requires.place c.requires.place.member st0 c.index_mut-seat.ensures.value in
     let none = leave_rule _ c.args.member h st.rule can in
-    rw (length-set c.self.inside.seats.items c.args.member _) (leave_stands _ _ _ _ h c.args.member c.index_mut.result.now st at can.inside none)
+    rw (length-set c.self.inside.seats.items c.args.member _) (leave_stands _ _ _ _ h c.args.member c.index_mut-seat.result.now st at can.inside none)
 
 pub invariant_of-self : goal.invariant_of-self
 invariant_of-self c = let (h, st0) = known_by _ _ c.self.view_is c.self.invariant in (_, returns-clause-stands c h st0)

@@ -1,0 +1,3 @@
+pub mod Laws
+mod CancellationExamples
+pub mod Marked

@@ -1,0 +1,2 @@
+pub mod Cancellations
+pub mod Examples
