@@ -62,7 +62,7 @@ impl Waits {
         ensures { self.new ≡ waits_after reply.now call self.old }
     {
         match reply {
-            Reply::Refused(_) => {}
+            Reply::Refused(_) => (),
             Reply::Wait => self.wait(call),
             Reply::Run { own: false, .. } => self.suspend(call),
             Reply::TaskDone { waiting: true, .. } => self.open_innermost(),
