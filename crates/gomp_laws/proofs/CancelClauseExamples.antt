@@ -73,6 +73,10 @@ see_uncancelled law = absurd (let is = law.1 in cc)
 pub see_another : RefusedAfter (SeesCancelled 2) (Enter 0 0 cancellable_four ∷ Cancel 0 (OneShare 0) ∷ Enter 1 1 cancellable_four ∷ []) (See 1 Loop)
 see_another law = absurd (let is = law.1 in cc)
 
+-- and of its loop if the region alone is
+pub see_loop_of_a_cancelled_region : RefusedAfter (SeesCancelled 2) (Enter 0 0 cancellable_four ∷ Cancel 1 Region ∷ []) (See 0 Loop)
+see_loop_of_a_cancelled_region law = absurd (let is = law.1 in cc)
+
 -- and of its own
 pub see_own_loop : Allows (SeesCancelled 2) (Enter 0 0 cancellable_four ∷ Cancel 0 (OneShare 0) ∷ Enter 0 1 cancellable_four ∷ []) (See 1 Loop)
 see_own_loop = (omega arith, refl)

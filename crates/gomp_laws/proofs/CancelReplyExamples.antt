@@ -2,15 +2,17 @@
 use Rattle.std.proofs.Common.{true, [], ◌∷◌, refl, inl, inr}
 use Rattle.std.specs.Prelude.{take}
 use Rattle.gomp_types.specs.declared.call.Call.TheVariants.{TaskCreate, Barrier, Cancel as CancelCall}
-use Rattle.gomp_types.specs.declared.cancel.CancelKind.TheVariants.{Parallel}
+use Rattle.gomp_types.specs.declared.cancel.CancelKind.TheVariants.{Parallel, Loop, Taskgroup}
 use Rattle.gomp_types.specs.declared.cancel.Scope.TheVariants.{Region, OneShare, OneGroup}
-use Rattle.gomp_types.specs.declared.event.Event.TheVariants.{Group, GroupEnd, Cancel}
+use Rattle.gomp_types.specs.declared.event.Event.TheVariants.{Enter, Create, Start, Group, GroupEnd, Cancel, See}
 use Rattle.gomp_types.specs.declared.reply.Reply.TheVariants.{Cancelled, Dropped, Cancelling}
+use Rattle.gomp_types.specs.declared.task.Task.TheVariants.{Implicit}
 use Rattle.gomp_types.specs.TaskExamples.{one_job}
 use Rattle.gomp_model.specs.Past.{Terms}
 use Rattle.gomp_model.specs.Team.{Record}
 use Rattle.gomp_model.specs.Examples.{Run, team_of, run_recorded, past_with, asks}
 use Rattle.gomp_model.specs.CancelRuns.{cancellable_team, region_cancelled, loop_cancelled}
+use Rattle.gomp_laws.specs.LawExamples.{cancellable_four}
 use Rattle.gomp_laws.specs.Replies.{EachReply, TellsCancelledRegion, DropsCovered, NothingCancelled, CancelReplies}
 use Rattle.gomp_laws.proofs.TaskReplyExamples.{RefusesReplyAfter}
 
@@ -23,6 +25,10 @@ told_cancelled_of_nothing law = absurd (cc)
 -- or a share and a group alone are
 pub told_cancelled_of_a_group : RefusesReplyAfter TellsCancelledRegion (Cancel 1 (OneGroup 0) ∷ Cancel 1 (OneShare 0) ∷ []) (asks 0 Barrier) Cancelled
 told_cancelled_of_a_group law = absurd (cc)
+
+-- though it leaves the task that it executes
+pub told_cancelled_of_a_task : RefusesReplyAfter TellsCancelledRegion (Group 0 0 ∷ Create 1 0 (Implicit 0) one_job ∷ Start 1 0 ∷ Cancel 0 (OneGroup 0) ∷ See 0 Taskgroup ∷ []) (asks 0 Barrier) Cancelled
+told_cancelled_of_a_task law = absurd (cc)
 
 -- it is told so of a cancelled region
 pub told_cancelled_of_region : TellsCancelledRegion (past_with 2 (Cancel 1 Region ∷ [])) (asks 0 Barrier) Cancelled
@@ -37,6 +43,10 @@ drops_uncovered law = absurd (cc)
 -- though a group is cancelled that its creator has ended, or that another member has opened
 pub drops_outside_a_group : RefusesReplyAfter DropsCovered (Group 0 0 ∷ Group 1 1 ∷ GroupEnd 0 0 ∷ Cancel 1 (OneGroup 0) ∷ Cancel 1 (OneGroup 1) ∷ []) (asks 0 (TaskCreate one_job)) Dropped
 drops_outside_a_group law = absurd (cc)
+
+-- or a loop is, which its creator leaves
+pub drops_in_a_cancelled_loop : RefusesReplyAfter DropsCovered (Enter 0 0 cancellable_four ∷ Cancel 0 (OneShare 0) ∷ See 0 Loop ∷ []) (asks 0 (TaskCreate one_job)) Dropped
+drops_in_a_cancelled_loop law = absurd (cc)
 
 -- one in an open group is dropped once that is cancelled
 pub drops_in_a_group : DropsCovered (past_with 2 (Group 0 0 ∷ Cancel 1 (OneGroup 0) ∷ [])) (asks 0 (TaskCreate one_job)) Dropped
