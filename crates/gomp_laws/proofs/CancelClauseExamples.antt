@@ -15,6 +15,8 @@ use Rattle.gomp_types.specs.Cancels.{scope_of}
 use Rattle.gomp_types.specs.Laws.{Always}
 use Rattle.gomp_types.specs.EventLists.{four, at}
 use Rattle.gomp_types.specs.TaskExamples.{after, Allows, one_job}
+use Rattle.gomp_types.specs.Deals.{schedule}
+use Rattle.gomp_shares.specs.Laws.{LeavesCancelled}
 use Rattle.gomp_laws.specs.Laws.{ArrivesOnce, ArrivesOutside, ClosesShares, CancelsNamed, SeesCancelled}
 use Rattle.gomp_laws.specs.Rules.{TeamRule}
 use Rattle.gomp_laws.specs.Headline.{Headline}
@@ -163,9 +165,33 @@ arrive_inside_unseen law = elim (law refl 0 cancellable_four (inr (inr (inl refl
   | inr (inr (inr never)) ↦ never
 ]
 
+-- or leaves a task whose group is cancelled
+pub arrive_inside_leaving_a_task :
+    RefusedAfter ArrivesOutside (Enter 0 0 (four false) ∷ Group 0 0 ∷ Create 1 0 (Implicit 0) one_job ∷ Start 1 0 ∷ Cancel 0 (OneGroup 0) ∷ See 0 Taskgroup ∷ []) (Arrive 0 0 (at ShareEnd 1))
+arrive_inside_leaving_a_task law = elim (law refl 0 (four false) (inr (inr (inr (inr (inr (inl refl))))))) [
+  | inl e ↦ absurd (cc)
+  | inr (inl e) ↦ absurd (cc)
+  | inr (inr (inl e)) ↦ absurd (cc)
+  | inr (inr (inr (inl e))) ↦ absurd (cc)
+  | inr (inr (inr (inr (inl e)))) ↦ absurd (cc)
+  | inr (inr (inr (inr (inr (inl e))))) ↦ absurd (cc)
+  | inr (inr (inr (inr (inr (inr never))))) ↦ never
+]
+
 -- and once it has seen it
 pub arrive_inside_seen : Allows ArrivesOutside (Enter 0 0 (four false) ∷ Cancel 1 Region ∷ See 0 Parallel ∷ []) (Arrive 0 0 (at RegionEnd 1))
 arrive_inside_seen = λ stays. absurd (cc)
+
+-- Shares of a cancelled region
+
+-- a member leaves a loop with a piece left for it, of which the region alone is cancelled
+pub leave_for_the_region : RefusedAfter (LeavesCancelled (schedule 2)) (Enter 0 0 (four false) ∷ Cancel 1 Region ∷ See 0 Parallel ∷ []) (End 0 0)
+leave_for_the_region law = elim (law (four false) (inr (inr (inl refl))) (λ none. absurd (cc))).1 [
+  | inl e ↦ absurd (cc)
+  | inr (inl e) ↦ absurd (cc)
+  | inr (inr (inl e)) ↦ absurd (cc)
+  | inr (inr (inr never)) ↦ never
+]
 
 -- The rule of a team
 
