@@ -511,21 +511,34 @@ fn boards_give_up_nothing(rt: HostRuntime) -> Result<(), Fail> {
     Ok(())
 }
 
+/// That two boards on which an operation is asked again, if memory is refused, come to the same events, whether the region is
+/// cancelled or not.
+fn asked_again(
+    rt: &impl Abort,
+    alloc: Global,
+    members: u16,
+    count: usize,
+) -> Result<(), AllocError>
+    requires size { IsTeamSize members }
+{
+    let one = region(rt, alloc, members, count, 1)?;
+    let other = region(rt, alloc, members, count, 1)?;
+    let (one, other) = (one.board.history(), other.board.history());
+    same(rt, &one, &other, "histories of", count as u64);
+    let one = cancelled_region(rt, alloc, members, count, 1)?;
+    let other = cancelled_region(rt, alloc, members, count, 1)?;
+    let (one, other) = (one.board.history(), other.board.history());
+    same(rt, &one, &other, "histories of cancelled", count as u64);
+    Ok(())
+}
+
 /// An operation that was refused memory is asked again, and at the end the board has the events that it has if no memory
 /// is refused. Here none is: the script `refuse-allocations` refuses each allocation in turn, in a run of its own.
 #[test]
 fn refused_memory_is_asked_for_again(rt: HostRuntime) -> Result<(), Fail> {
-    for members in [1, 3] {
-        for count in &[1, 70] {
-            let one = region(&rt, rt.alloc(), members, *count, 1)?;
-            let other = region(&rt, rt.alloc(), members, *count, 1)?;
-            let (one, other) = (one.board.history(), other.board.history());
-            same(&rt, &one, &other, "histories of", *count as u64);
-            let one = cancelled_region(&rt, rt.alloc(), members, *count, 1)?;
-            let other = cancelled_region(&rt, rt.alloc(), members, *count, 1)?;
-            let (one, other) = (one.board.history(), other.board.history());
-            same(&rt, &one, &other, "histories of cancelled", *count as u64);
-        }
+    for count in &[1, 70] {
+        asked_again(&rt, rt.alloc(), 1, *count)?;
+        asked_again(&rt, rt.alloc(), 3, *count)?;
     }
     Ok(())
 }
