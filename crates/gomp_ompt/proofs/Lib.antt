@@ -1,0 +1,2 @@
+mod RecordExamples
+pub mod TraceSteps

@@ -1,3 +1,5 @@
+pub mod Counts
 pub mod Points
 pub mod Records
 pub mod Table
+pub mod Traces
