@@ -1,2 +1,5 @@
+pub mod Laws
 mod RecordExamples
+pub mod RecordsGiven
+mod ToolExamples
 pub mod TraceSteps

@@ -1,5 +1,5 @@
 -- Traces that are taken back one after another.
-use Rattle.std.proofs.Common.{◌≡◌, List, [], ◌∷◌, ◌++◌, refl, sym, subst}
+use Rattle.std.proofs.Common.{List, [], ◌∷◌, ◌++◌, refl, sym, subst}
 use Rattle.gomp_ompt.specs.Traces.{TraceView, TakesRecords, TakesTraces, with_lost}
 
 -- the traces so far, and then one more

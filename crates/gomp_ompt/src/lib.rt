@@ -14,5 +14,5 @@ pub mod trace;
 pub use counts::Counts;
 pub use record::{Endpoint, POINTS, Point, Record};
 pub use table::{MAX_RECORDS, records};
-pub use tool::Tool;
+pub use tool::{Tool, give_records};
 pub use trace::Trace;

@@ -2,10 +2,14 @@
 //!
 //! OpenMP API 5.2, chapter 19 (OMPT).
 
-ghost use Rattle.std.specs.Prelude.{◌≡◌, ℕ, List, IfOk, vec_len};
+ghost use Rattle.std.specs.Prelude.{◌≡◌, ℕ, List, IfOk, IsOk, vec_len};
 ghost use Rattle.gomp_ompt.specs.declared.record.Record.{Record};
+ghost use Rattle.gomp_ompt.specs.Table.{records_of};
+ghost use Rattle.gomp_ompt.specs.Tools.{AfterEach};
 
 use crate::record::Record;
+use crate::table::records;
+use gomp_types::{Call, Reply};
 use std::alloc::{AllocError, Global};
 
 /// What takes the records of one member. Each member of a team has a tool of its own: a member that
@@ -26,10 +30,22 @@ pub trait Tool: Drop {
 
     /// A tool for each of `count` members of a new team, in their order. The error is want of memory.
     fn fork(&self, alloc: Global, count: u16) -> Result<Vec<Self>, AllocError>
+        // None are made without memory.
+        ensures none { count ≡ 0 → IsOk result }
         ensures one_each { IfOk result (λ tools. vec_len tools ≡ count) }
         ensures tools { IfOk result (λ tools. fork_gives self.now count tools.items) };
 
     /// Takes back the tools of the members of that team, in their order, when all have returned.
     fn join(&mut self, children: Vec<Self>)
         ensures { join_gives self.old children.items self.new };
+}
+
+/// Gives a member's tool the records of its call, in their order: those of [`records`].
+pub fn give_records<T: Tool>(tool: &mut T, call: &Call, first: bool, reply: &Reply)
+    ensures { AfterEach T.on_gives tool.old (records_of call.now first reply.now) tool.new }
+{
+    let events = records(call, first, reply);
+    for event in events.as_slice() {
+        tool.on(event);
+    }
 }
