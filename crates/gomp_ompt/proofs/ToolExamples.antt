@@ -1,11 +1,12 @@
 -- What tools keep and count, by examples: for each line of a definition what it says, and what it alone refuses.
-use Rattle.std.proofs.Common.{◌≡◌, ℕ, List, [], ◌∷◌, ◌+◌, ◌-◌, ◌^◌, inl, inr, get_or, refl, sym, ap, ◌∙◌, arith}
+use Rattle.std.proofs.Common.{◌≡◌, ℕ, List, [], ◌∷◌, ◌++◌, ◌+◌, ◌-◌, ◌^◌, inl, inr, get_or, refl, sym, ap, ◌∙◌, arith}
 use Rattle.gomp_ompt.specs.declared.record.Point.{Point}
 use Rattle.gomp_ompt.specs.declared.record.Point.TheVariants.{ParallelBegin, ParallelEnd, Work, Dispatch, TaskCreate, Dependences, TaskSchedule, ImplicitTask, SyncRegion, MutexAcquire, MutexAcquired, MutexReleased, NestLock, Cancel}
 use Rattle.gomp_ompt.specs.declared.record.Record.{Record}
 use Rattle.gomp_ompt.specs.Points.{point_index}
 use Rattle.gomp_ompt.specs.Records.{begin_record, end_record}
 use Rattle.gomp_ompt.specs.Counts.{count_of, no_counts, with_record, capped, AddsCounts}
+use Rattle.gomp_ompt.specs.Tools.{AfterEach}
 use Rattle.gomp_ompt.specs.Traces.{TraceView, TakesRecord, TakesTraces, empty_trace}
 
 -- Events
@@ -49,6 +50,18 @@ counts_are_added point = refl
 pub counts_of_another_forgotten : AddsCounts no_counts (with_record no_counts a_begin ∷ []) no_counts → ⊥
 counts_of_another_forgotten adds = absurd (let work = adds Work in cc)
 
+-- its own begin is forgotten
+pub own_counts_forgotten : AddsCounts (with_record no_counts a_begin) (with_record no_counts a_begin ∷ []) (with_record no_counts a_begin) → ⊥
+own_counts_forgotten adds = absurd (let work = adds Work in cc)
+
+-- a tool that counts gets two records, and then has counted two
+pub each_record_is_given : AfterEach (λ old event new. new ≡ with_record old event) no_counts (a_begin ∷ an_end ∷ []) (with_record (with_record no_counts a_begin) an_end)
+each_record_is_given = (with_record no_counts a_begin, refl, (with_record (with_record no_counts a_begin) an_end, refl, refl))
+
+-- it gets one record of the two
+pub second_record_is_missing : AfterEach (λ old event new. new ≡ with_record old event) no_counts (a_begin ∷ an_end ∷ []) (with_record no_counts a_begin) → ⊥
+second_record_is_missing (one, first, (two, second, same)) = absurd (let work = ap (λ (counts : List ℕ). count_of counts Work) (ap (λ (counts : List ℕ). with_record counts an_end) (sym first) ∙ sym second ∙ same) in cc)
+
 -- Traces
 
 abbrev trace_of : List Record → ℕ → ℕ → TraceView
@@ -85,3 +98,23 @@ earlier_records_stay takes = elim takes [ inl keeps ↦ absurd (let kept = keeps
 -- the records of two traces in their order, with what the first had lost; there was no memory for those of the second
 pub traces_are_taken : TakesTraces empty_trace (trace_of (a_begin ∷ an_end ∷ []) 2 0 ∷ trace_of (an_end ∷ []) 0 0 ∷ []) (trace_of (a_begin ∷ an_end ∷ []) 3 0)
 traces_are_taken = (trace_of (a_begin ∷ an_end ∷ []) 2 0, inl (record { kept = refl; lost = refl }), (trace_of (a_begin ∷ an_end ∷ []) 3 0, inr (record { full = omega arith; kept = refl; lost = refl }), refl))
+
+-- what a trace had lost is forgotten
+pub lost_count_is_kept : TakesTraces empty_trace (trace_of [] 2 0 ∷ []) (trace_of [] 0 0) → ⊥
+lost_count_is_kept (between, takes, same) = elim takes [ inl keeps ↦ absurd (let lost = keeps.lost in let ends = ap (λ (trace : TraceView). trace.lost) same in omega (arith, lost, ends)) | inr loses ↦ absurd (omega (arith, loses.full)) ]
+
+-- the first of two traces comes last
+pub order_of_traces_is_kept : TakesTraces empty_trace (trace_of (a_begin ∷ []) 0 0 ∷ trace_of (an_end ∷ []) 0 0 ∷ []) (trace_of (an_end ∷ a_begin ∷ []) 0 0) → ⊥
+order_of_traces_is_kept (one, first, (two, second, same)) =
+    let records = ap (λ (trace : TraceView). trace.records) same in
+    let lost = ap (λ (trace : TraceView). trace.lost) same in
+    elim first [
+      | inl keeps ↦ elim second [
+        | inl keeps_too ↦ absurd (let first_scope = ap (λ (kept : List Record). (get_or kept 0 a_begin).scope) (sym records ∙ keeps_too.kept ∙ ap (λ (kept : List Record). kept ++ an_end ∷ []) keeps.kept) in cc)
+        | inr loses_then ↦ absurd (omega (arith, lost, loses_then.lost))
+      ]
+      | inr loses ↦ elim second [
+        | inl keeps_then ↦ absurd (omega (arith, lost, keeps_then.lost, loses.lost))
+        | inr loses_too ↦ absurd (omega (arith, lost, loses_too.lost))
+      ]
+    ]

@@ -36,18 +36,22 @@ executor_number (Executor true) = Some 1
 executor_number (Executor false) = Some 0
 executor_number _ = None
 
+-- that it is the reply to a single's member, the executor or another
 abbrev pub is_executor : Reply → Bool
 is_executor (Executor executes) = true
 is_executor _ = false
 
+-- that the member has the words of the executor
 abbrev pub is_copied : Reply → Bool
 is_copied (Copied words) = true
 is_copied _ = false
 
+-- that the call is done
 abbrev pub is_finished : Reply → Bool
 is_finished Finished = true
 is_finished _ = false
 
+-- that the member has passed
 abbrev pub is_passed : Reply → Bool
 is_passed Passed = true
 is_passed _ = false
@@ -89,7 +93,7 @@ abbrev pub lock_count : Reply → Option ℕ
 lock_count (Count count) = Some count
 lock_count _ = None
 
--- that it gives no record, whatever the call is
+-- that no call gives a record with this reply
 abbrev pub is_silent : Reply → Bool
 is_silent (Refused refusal) = true
 is_silent Stopped = true
@@ -122,6 +126,7 @@ nest_set_record lock count = if count == 0 then None else (if count == 1 then So
 abbrev pub nest_unset_record : ℕ → ℕ → Record
 nest_unset_record lock count = if count == 0 then single_record points.MutexReleased 4 lock else end_record points.NestLock lock count
 
+-- the member asks for a nestable lock, and has it or sets it once more
 abbrev pub nest_set_entries : ℕ → Bool → Reply → List (Option Record)
 nest_set_entries lock first reply = then_some first (single_record points.MutexAcquire 4 lock) ∷ option_and_then (nest_set_record lock) (lock_count reply) ∷ []
 
@@ -136,6 +141,7 @@ cancel_number Loop = 2
 cancel_number Sections = 4
 cancel_number Taskgroup = 8
 
+-- what the construct names is cancelled
 abbrev pub cancel_entries : CancelKind → Reply → List (Option Record)
 cancel_entries kind reply = then_some (is_cancelling reply) (single_record points.Cancel (cancel_number kind) 0) ∷ []
 

@@ -175,7 +175,7 @@ fn single_copy_entries(reply: &Reply) -> Entries
 /// A wait: it begins, the member is given a task, it ends. `place` is the number of what is waited
 /// at.
 fn wait_entries(place: u64, first: bool, reply: &Reply) -> Entries
-    ensures entries { result ≡ wait_entries place first reply.now ++ None ∷ [] }
+    ensures { result ≡ wait_entries place first reply.now ++ None ∷ [] }
 {
     let begin = first.then_some(Record::begin(Point::SyncRegion, place, 0));
     let ends = matches!(reply, Reply::Passed | Reply::Cancelled);
