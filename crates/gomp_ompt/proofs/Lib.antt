@@ -1,4 +1,5 @@
 pub mod Laws
+pub mod Places
 mod RecordExamples
 pub mod RecordsGiven
 mod ToolExamples

@@ -1,27 +1,12 @@
 -- What tools keep and count, by examples: for each line of a definition what it says, and what it alone refuses.
 use Rattle.std.proofs.Common.{◌≡◌, ℕ, List, [], ◌∷◌, ◌++◌, ◌+◌, ◌-◌, ◌^◌, inl, inr, get_or, refl, sym, ap, ◌∙◌, arith}
 use Rattle.gomp_ompt.specs.declared.record.Point.{Point}
-use Rattle.gomp_ompt.specs.declared.record.Point.TheVariants.{ParallelBegin, ParallelEnd, Work, Dispatch, TaskCreate, Dependences, TaskSchedule, ImplicitTask, SyncRegion, MutexAcquire, MutexAcquired, MutexReleased, NestLock, Cancel}
+use Rattle.gomp_ompt.specs.declared.record.Point.TheVariants.{ParallelBegin, Work, Dispatch}
 use Rattle.gomp_ompt.specs.declared.record.Record.{Record}
-use Rattle.gomp_ompt.specs.Points.{point_index}
 use Rattle.gomp_ompt.specs.Records.{begin_record, end_record}
 use Rattle.gomp_ompt.specs.Counts.{count_of, no_counts, with_record, capped, AddsCounts}
 use Rattle.gomp_ompt.specs.Tools.{AfterEach}
 use Rattle.gomp_ompt.specs.Traces.{TraceView, TakesRecord, TakesTraces, empty_trace}
-
--- Events
-
--- all of them, in their order
-abbrev all_points : List Point
-all_points = ParallelBegin ∷ ParallelEnd ∷ Work ∷ Dispatch ∷ TaskCreate ∷ Dependences ∷ TaskSchedule ∷ ImplicitTask ∷ SyncRegion ∷ MutexAcquire ∷ MutexAcquired ∷ MutexReleased ∷ NestLock ∷ Cancel ∷ []
-
-event_at_its_place : (point : Point) → get_or all_points (point_index point) ParallelBegin ≡ point
-event_at_its_place ParallelBegin = refl
-event_at_its_place point = refl
-
--- each has a place of its own
-pub place_tells_the_event : (one other : Point) → point_index one ≡ point_index other → one ≡ other
-place_tells_the_event one other same = sym (event_at_its_place one) ∙ ap (λ (k : ℕ). get_or all_points k ParallelBegin) same ∙ event_at_its_place other
 
 -- Counts
 

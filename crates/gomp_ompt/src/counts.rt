@@ -9,7 +9,7 @@ use crate::tool::Tool;
 use std::alloc::{AllocError, Global};
 use std::marker::Model;
 
-/// How many records of each event there were. A count stays at 2^64 - 1. It takes no memory.
+/// How many records of each event there were. A count stays at 2^64 - 1. To count takes no memory.
 #[derive(Debug, Drop)]
 pub struct Counts {
     counts: [u64; POINTS],
