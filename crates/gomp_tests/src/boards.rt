@@ -513,12 +513,7 @@ fn boards_give_up_nothing(rt: HostRuntime) -> Result<(), Fail> {
 
 /// That two boards on which an operation is asked again, if memory is refused, come to the same events, whether the region is
 /// cancelled or not.
-fn asked_again(
-    rt: &impl Abort,
-    alloc: Global,
-    members: u16,
-    count: usize,
-) -> Result<(), AllocError>
+fn asked_again(rt: &impl Abort, alloc: Global, members: u16, count: usize) -> Result<(), AllocError>
     requires size { IsTeamSize members }
 {
     let one = region(rt, alloc, members, count, 1)?;
