@@ -1,0 +1,2 @@
+pub mod ScriptText
+pub mod Examples
