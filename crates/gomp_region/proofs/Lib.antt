@@ -1,1 +1,3 @@
+mod LineLemmas
+mod TextLemmas
 pub mod ScriptExamples

@@ -1,14 +1,20 @@
 -- The text of a script: a line `region` or `region N`, and then a line for each statement; blocks nest. (own)
-use Rattle.std.specs.Prelude.{ℕ, ◌+◌, ◌++◌, ◌==◌, nat_le, not, Bool, true, false, if◌then◌else◌, List, [], ◌∷◌, length, drop, Option, Some, None, option_map, Result, Ok, Err, codes}
+use Rattle.std.specs.Prelude.{ℕ, ◌≡◌, ◌≢◌, ◌+◌, ◌++◌, ◌==◌, nat_lt, not, Bool, true, false, if◌then◌else◌, List, [], ◌∷◌, length, drop, Option, Some, None, option_map, Result, Ok, Err, codes}
 use Rattle.std.proofs.Common.{zero, suc}
 use Rattle.gomp_types.specs.Limits.{shown_number}
 use Rattle.gomp_text.specs.Words.{lines_of, same_word}
 use Rattle.gomp_script.specs.declared.parse.Why.{Why}
 use Rattle.gomp_script.specs.declared.parse.Why.TheVariants.{FirstLine, UnknownWord, MissingWord, BadNumber}
-use Rattle.gomp_script.specs.StepText.{◌>>=◌, or_why, next_word, no_more_words, member_of, count_of, number_of, sched_of, end_of, cancel_kind_of, ordered_of, critical_name_of, behind_items, items_of, if0_of, final_of, read_line}
+use Rattle.gomp_script.specs.declared.parse.LineError.{LineError}
+use Rattle.gomp_script.specs.declared.parse.LineError.TheVariants.{NoMemory, Fault}
+use Rattle.gomp_script.specs.StepText.{◌>>=◌, or_why, next_word, no_more_words, member_of, count_of, number_of, sched_of, end_of, cancel_kind_of, ordered_of, critical_name_of, behind_items, items_of, if0_of, final_of, read_line, lines_left}
+use Rattle.gomp_region.specs.declared.parse.Stop.{Stop}
+use Rattle.gomp_region.specs.declared.parse.Stop.TheVariants.{OutOfMemory, BadHere}
 use Rattle.gomp_region.specs.declared.nesting.OpenBlock.{OpenBlock}
 use Rattle.gomp_region.specs.declared.nesting.TheConstants.{MAX_BLOCKS}
 use Rattle.gomp_region.specs.declared.script.BadScript.{BadScript}
+use Rattle.gomp_region.specs.declared.script.ScriptError.{ScriptError}
+use Rattle.gomp_region.specs.declared.script.ScriptError.TheVariants.{Memory, Bad}
 use Rattle.gomp_region.specs.declared.script.ScriptLine.{ScriptLine}
 use Rattle.gomp_region.specs.declared.script.ScriptWhy.{ScriptWhy}
 use Rattle.gomp_region.specs.declared.script.ScriptWhy.TheVariants.{Words, NoOpenBlock, TooDeep, NotClosed}
@@ -247,19 +253,15 @@ may_stand (Begins EndSection) blocks = ends_innermost EndSections blocks
 may_stand (Ends word) blocks = ends_innermost word blocks
 may_stand _ blocks = not (ends_innermost EndSections blocks)
 
--- the open blocks behind a statement on the line of this number
-abbrev pub open_behind : ℕ → Nesting → List OpenBlock → List OpenBlock
-open_behind number (Begins word) blocks = record { end = word; line = number } ∷ blocks
-open_behind number (Ends word) blocks = drop 1 blocks
-open_behind number Stands blocks = blocks
+-- the open blocks behind a statement on the line of this number; a block begins in fewer than 32 others
+abbrev pub open_behind : ℕ → Nesting → List OpenBlock → Result (List OpenBlock) ScriptWhy
+open_behind number (Begins word) blocks = if nat_lt (length blocks) MAX_BLOCKS then Ok (record { end = word; line = number } ∷ blocks) else Err TooDeep
+open_behind number (Ends word) blocks = Ok (drop 1 blocks)
+open_behind number Stands blocks = Ok blocks
 
--- these open blocks, unless they are too many
-abbrev pub not_too_deep : List OpenBlock → Result (List OpenBlock) ScriptWhy
-not_too_deep blocks = if nat_le (length blocks) MAX_BLOCKS then Ok blocks else Err TooDeep
-
--- the open blocks behind a statement, or why it may not stand in those around it
+-- the same, or that the statement may not stand in the blocks around it
 abbrev pub nested : ℕ → Nesting → List OpenBlock → Result (List OpenBlock) ScriptWhy
-nested number nesting blocks = if may_stand nesting blocks then not_too_deep (open_behind number nesting blocks) else Err NoOpenBlock
+nested number nesting blocks = if may_stand nesting blocks then open_behind number nesting blocks else Err NoOpenBlock
 
 -- the open blocks behind a line, or why it is bad in those around it: a fault of its words comes first
 abbrev pub line_nested : ℕ → Result (Option Statement) Why → List OpenBlock → Result (List OpenBlock) ScriptWhy
@@ -340,3 +342,81 @@ script_from number (line ∷ lines) = region_line number (read_line region_of li
 -- the script of a text, or its first bad line
 abbrev pub script_of : List ℕ → Result (TeamSize × List ScriptLine × List ℕ) BadScript
 script_of text = script_from 1 (lines_of text)
+
+-- What a function gives of a line
+
+-- a statement that has an item of a `depend` clause: only such a line takes memory to be read
+abbrev pub HasItems : Result Statement Why → Type 0
+HasItems (Ok (Begin (Task clauses))) = clauses.deps ≢ []
+HasItems _ = ⊥
+
+abbrev pub LineHasItems : Result (Option Statement) Why → Type 0
+LineHasItems (Ok (Some statement)) = HasItems (Ok statement)
+LineHasItems _ = ⊥
+
+-- what a line does to the blocks around it, if it has a statement
+abbrev pub line_nesting : Result (Option Statement) Why → Result (Option Nesting) Why
+line_nesting (Ok said) = Ok (option_map nesting_of said)
+line_nesting (Err why) = Err why
+
+-- the innermost of the open blocks
+abbrev pub innermost : List OpenBlock → Option OpenBlock
+innermost [] = None
+innermost (block ∷ blocks) = Some block
+
+-- these are the open blocks behind what was passed, or it is told why it may not stand there
+abbrev pub Nests : Result (Unit {0}) ScriptWhy → Result (List OpenBlock) ScriptWhy → List OpenBlock → Type 0
+Nests (Ok done) found behind = found ≡ Ok behind
+Nests (Err why) found behind = found ≡ Err why
+
+-- the same of a line that is kept, unless memory is refused
+abbrev pub Passes : Result (Unit {0}) Stop → Result (List OpenBlock) ScriptWhy → List OpenBlock → Type 0
+Passes (Ok done) found behind = found ≡ Ok behind
+Passes (Err (BadHere why)) found behind = found ≡ Err why
+Passes (Err OutOfMemory) found behind = Unit {0}
+
+-- the line has a statement, and these are the blocks around it still: memory was refused for it
+abbrev pub IsRefused : Result (Option Statement) Why → List OpenBlock → List OpenBlock → Type 0
+IsRefused (Ok (Some statement)) before behind = behind ≡ before
+IsRefused _ before behind = ⊥
+
+-- the same error of a line that is kept
+abbrev pub stop_of : LineError → Stop
+stop_of NoMemory = OutOfMemory
+stop_of (Fault why) = BadHere (Words why)
+
+-- What a function gives of a text
+
+-- an error is that of the reading, or want of memory
+abbrev pub Fails : {Y : Type 0} → ScriptError → Result Y BadScript → Type 0
+Fails Memory read = Unit {0}
+Fails (Bad bad) read = read ≡ Err bad
+
+-- what is given, seen by `view`, is what reading gives, unless memory is refused
+abbrev pub Gives : {X Y : Type 0} → (X → Y) → Result X ScriptError → Result Y BadScript → Type 0
+Gives view (Ok value) read = read ≡ Ok (view value)
+Gives view (Err error) read = Fails error read
+
+-- there is a statement, and no bad line: only then does a script take memory
+abbrev pub HasStatement : Result (TeamSize × List ScriptLine × List ℕ) BadScript → Type 0
+HasStatement (Ok found) = found.1 ≢ []
+HasStatement (Err bad) = ⊥
+
+-- the same of the lines behind the first
+abbrev pub HasLine : Result (List ScriptLine) BadScript → Type 0
+HasLine (Ok lines) = lines ≢ []
+HasLine (Err bad) = ⊥
+
+-- whether there is a fault, and which
+abbrev pub without_lines : Result (List ScriptLine) BadScript → Result (Unit {0}) BadScript
+without_lines (Ok lines) = Ok tt
+without_lines (Err bad) = Err bad
+
+-- the error once memory was refused: the first bad line of those that are left, if one is bad
+abbrev pub refused_by : Result (List ScriptLine) BadScript → ScriptError
+refused_by (Ok lines) = Memory
+refused_by (Err bad) = Bad bad
+
+-- the statements of what is left of a text, by the number of its first line and the blocks that are open there
+abbrev pub statements_left : ℕ → List OpenBlock → Option (List ℕ) → Result (List ScriptLine) BadScript
+statements_left number blocks text = statements_from number blocks (lines_left text)
