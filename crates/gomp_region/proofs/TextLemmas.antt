@@ -1,18 +1,16 @@
 -- Texts, line by line.
-use Rattle.std.proofs.Common.{◌≡◌, ◌≢◌, ℕ, ◌<◌, suc, List, [], ◌∷◌, ◌++◌, Option, Some, None, Result, Ok, Err, length, Bor, refl, ap, ◌∙◌, sym, append_assoc, arith}
+use Rattle.std.proofs.Common.{◌≡◌, ◌≢◌, ℕ, ◌<◌, suc, List, [], ◌∷◌, ◌++◌, Option, Some, None, Result, Ok, Err, length, Bor, refl, ap, ◌∙◌, sym, arith}
 use Rattle.std.specs.Prelude.{IfSome, option_copied}
 use Rattle.gomp_text.specs.Words.{lines_of}
 use Rattle.gomp_script.specs.declared.parse.Why.{Why}
 use Rattle.gomp_script.specs.StepText.{lines_left}
 use Rattle.gomp_region.specs.declared.nesting.OpenBlock.{OpenBlock}
 use Rattle.gomp_region.specs.declared.script.BadScript.{BadScript}
-use Rattle.gomp_region.specs.declared.script.ScriptError.{ScriptError}
-use Rattle.gomp_region.specs.declared.script.ScriptError.TheVariants.{Memory, Bad}
+use Rattle.gomp_region.specs.declared.script.ScriptError.TheVariants.{Memory}
 use Rattle.gomp_region.specs.declared.script.ScriptLine.{ScriptLine}
 use Rattle.gomp_region.specs.declared.script.ScriptWhy.{ScriptWhy}
-use Rattle.gomp_region.specs.declared.script.TeamSize.{TeamSize}
 use Rattle.gomp_region.specs.declared.statement.Statement.{Statement}
-use Rattle.gomp_region.specs.ScriptText.{Fails, HasLine, HasStatement, IsRefused, bad_script, line_nested, line_said, line_then, refused_by, with_lines, with_team}
+use Rattle.gomp_region.specs.ScriptText.{HasLine, IsRefused, line_then, refused_by, with_lines}
 
 -- how much is left
 abbrev pub left : Option (List ℕ) → ℕ
@@ -30,35 +28,10 @@ lines_here text line before rest is parts = ap lines_left is ∙ parts
 abbrev pub Later : Type 0
 Later = List OpenBlock → Result (List ScriptLine) BadScript
 
--- a part of a script that goes on
-pub with_both : (first second : List ScriptLine) (read : Result (List ScriptLine) BadScript) → with_lines first (with_lines second read) ≡ with_lines (first ++ second) read
-with_both first second (Ok later) = ap (λ (all : List ScriptLine). Ok all) (sym (append_assoc first second later))
-with_both first second (Err bad) = refl
-
--- a line that is kept
-pub line_kept : (lines : List ScriptLine) (number : ℕ) (read : Result (Option Statement) Why) (behind : List OpenBlock) (found : Result (List OpenBlock) ScriptWhy) (later : Later) → found ≡ Ok behind → with_lines lines (line_then number read found later) ≡ with_lines (lines ++ line_said number read) (later behind)
-line_kept lines number read behind found later is = rw is (with_both lines (line_said number read) (later behind))
-
--- a line that is bad
-pub line_bad : (lines : List ScriptLine) (number : ℕ) (read : Result (Option Statement) Why) (why : ScriptWhy) (found : Result (List OpenBlock) ScriptWhy) (later : Later) → found ≡ Err why → with_lines lines (line_then number read found later) ≡ bad_script number why
-line_bad lines number read why found later is = rw is refl
-
+-- what stands before changes no fault
 refused_both : (lines : List ScriptLine) (read : Result (List ScriptLine) BadScript) → refused_by (with_lines lines read) ≡ refused_by read
 refused_both lines (Ok later) = refl
 refused_both lines (Err bad) = refl
-
--- a line that is passed changes no fault behind it
-pub passed : (number : ℕ) (read : Result (Option Statement) Why) (behind : List OpenBlock) (found : Result (List OpenBlock) ScriptWhy) (later : Later) → found ≡ Ok behind → refused_by (line_then number read found later) ≡ refused_by (later behind)
-passed number read behind found later is = rw is (refused_both (line_said number read) (later behind))
-
--- the same of a bad one
-pub not_passed : (number : ℕ) (read : Result (Option Statement) Why) (why : ScriptWhy) (found : Result (List OpenBlock) ScriptWhy) (later : Later) → found ≡ Err why → refused_by (line_then number read found later) ≡ Bad (record { line = number; why = why })
-not_passed number read why found later is = rw is refl
-
--- once memory was refused, the first bad line of those that are left is the text's
-pub fault_behind : (lines : List ScriptLine) (read : Result (List ScriptLine) BadScript) → Fails (refused_by read) (with_lines lines read)
-fault_behind lines (Ok later) = tt
-fault_behind lines (Err bad) = refl
 
 -- a list with a line in it
 not_none : (lines : List ScriptLine) (line : ScriptLine) (later : List ScriptLine) → lines ++ line ∷ later ≢ []
@@ -84,13 +57,3 @@ pub refused_inside : (read : Result (Option Statement) Why) (before behind : Lis
 refused_inside (Err why) before behind refused = absurd refused
 refused_inside (Ok None) before behind refused = absurd refused
 refused_inside (Ok (Some statement)) before behind refused = refused
-
--- an error of the statements is the script's
-pub gives_script : (team : TeamSize) (error : ScriptError) (read : Result (List ScriptLine) BadScript) → Fails error read → Fails error (with_team team read)
-gives_script team Memory read given = tt
-gives_script team (Bad bad) read given = ap (with_team team) given
-
--- if the statements take memory, the script has one
-pub has_statement : (team : TeamSize) (read : Result (List ScriptLine) BadScript) → HasLine read → HasStatement (with_team team read)
-has_statement team (Ok lines) some = some
-has_statement team (Err bad) some = some

@@ -3,10 +3,9 @@
 ghost use Rattle.std.specs.Prelude.{◌≡◌, ◌≤◌, [], length, IfOk, IsOk};
 ghost use Rattle.gomp_region.specs.ScriptText.{ends_from, lines_inside};
 
-use std::alloc::{AllocError, Global};
-
 use crate::script::ScriptLine;
 use crate::statement::Nesting;
+use std::alloc::{AllocError, Global};
 
 /// For each of these lines that begins a block, the index of the one that ends it; for each other one
 /// its own. Blocks nest to 32, so each line is looked at 33 times at most.

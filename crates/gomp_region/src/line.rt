@@ -9,14 +9,15 @@ ghost use Rattle.gomp_region.specs.ScriptText.{HasItems, LineHasItems, line_nest
 mod blocks;
 mod others;
 
+use crate::statement::{EndWord, Nesting, Statement};
 pub(crate) use blocks::size_of;
-use blocks::{copy_line, critical_line, for_line, only_line, parallel_line, sections_line, task_line};
+use blocks::{
+    copy_line, critical_line, for_line, only_line, parallel_line, sections_line, task_line,
+};
 use gomp_script::{LineError, Why, first_word};
 use gomp_text::is_word;
 use others::{add_line, cancel_line, plain_line, point_line};
 use std::alloc::Global;
-
-use crate::statement::{EndWord, Nesting, Statement};
 
 /// The statement of a line, if it has one. The error is the first fault of its words; or want of
 /// memory, but only for a good line with an item of a `depend` clause.

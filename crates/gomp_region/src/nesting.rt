@@ -4,11 +4,10 @@ ghost use Rattle.std.specs.Prelude.{◌≡◌, [], drop};
 ghost use Rattle.gomp_region.specs.declared.statement.Nesting.TheVariants.{Begins};
 ghost use Rattle.gomp_region.specs.ScriptText.{Nests, end_of_text, ends_innermost, innermost, may_stand, nested, open_behind, without_lines};
 
-use arrayvec::ArrayVec;
-use std::marker::Model;
-
 use crate::script::{BadScript, ScriptWhy};
 use crate::statement::{EndWord, Nesting};
+use arrayvec::ArrayVec;
+use std::marker::Model;
 
 /// How many blocks nest at most (own).
 pub const MAX_BLOCKS: usize = 32;

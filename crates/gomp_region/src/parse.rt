@@ -7,14 +7,13 @@ ghost use Rattle.gomp_region.specs.declared.parse.Stop.TheVariants.{OutOfMemory}
 ghost use Rattle.gomp_region.specs.declared.script.ScriptError.TheVariants.{Bad, Memory};
 ghost use Rattle.gomp_region.specs.ScriptText.{Gives, HasLine, HasStatement, IsRefused, Nests, Passes, line_nested, line_said, refused_by, region_of, script_of, statement_of, statements_left, team_size_of, with_team};
 
-use gomp_script::{LineError, Why, finish, first_word};
-use gomp_text::{cut_at, is_word, next_word};
-use std::alloc::{AllocFailed, Global};
-
 use crate::ends::ends_of;
 use crate::line::{line_nesting, read_statement, size_of};
 use crate::nesting::OpenBlocks;
 use crate::script::{BadScript, Script, ScriptError, ScriptLine, ScriptWhy, TeamSize};
+use gomp_script::{LineError, Why, finish, first_word};
+use gomp_text::{cut_at, is_word, next_word};
+use std::alloc::{AllocFailed, Global};
 
 /// Why a line is not kept.
 #[derive(Clone, Copy)]
@@ -125,20 +124,20 @@ fn read_lines(
         HasLine (statements_left first [] (option_copied lines.entry)) }
 {
     let mut kept = Vec::new(alloc);
-    let mut blocks = OpenBlocks::new();
+    let mut around = OpenBlocks::new();
     let mut rest = lines;
     let mut number = first;
     while let Some(lines) = rest {
         let (line, after) = cut_at(lines, b'\n');
-        match keep_line(alloc, line, number, &mut blocks, &mut kept) {
+        match keep_line(alloc, line, number, &mut around, &mut kept) {
             Ok(()) => {}
             Err(Stop::BadHere(why)) => return Err(bad_line(number, why)),
-            Err(Stop::OutOfMemory) => return Err(first_fault(alloc, rest, number, blocks)),
+            Err(Stop::OutOfMemory) => return Err(first_fault(alloc, rest, number, around)),
         }
         rest = after;
         number = number.saturating_add(1);
     }
-    match blocks.finish() {
+    match around.finish() {
         Ok(()) => Ok(kept),
         Err(bad) => Err(ScriptError::Bad(bad)),
     }
@@ -150,22 +149,22 @@ fn keep_line(
     alloc: Global,
     line: &[u8],
     number: u64,
-    blocks: &mut OpenBlocks,
+    around: &mut OpenBlocks,
     kept: &mut Vec<ScriptLine>,
 ) -> Result<(), Stop>
     ensures blocks { Passes result
-        (line_nested number (read_line statement_of line.now) blocks.old) blocks.new }
+        (line_nested number (read_line statement_of line.now) around.old) around.new }
     ensures kept { OnOk result (kept.new.items ≡
         kept.old.items ++ line_said number (read_line statement_of line.now)) }
     ensures memory { IsErrOf result OutOfMemory →
-        IsRefused (read_line statement_of line.now) blocks.old blocks.new }
+        IsRefused (read_line statement_of line.now) around.old around.new }
 {
     let Some(statement) = read_statement(alloc, line)? else {
         return Ok(());
     };
     let nesting = statement.nesting();
     kept.push(ScriptLine { number, statement })?;
-    blocks.pass(number, nesting)?;
+    around.pass(number, nesting)?;
     Ok(())
 }
 
@@ -175,22 +174,22 @@ fn first_fault(
     alloc: Global,
     lines: Option<&[u8]>,
     first: u64,
-    mut blocks: OpenBlocks,
+    mut around: OpenBlocks,
 ) -> ScriptError
     ensures { result ≡ refused_by
-        (statements_left first blocks (option_copied lines.entry)) }
+        (statements_left first around (option_copied lines.entry)) }
 {
     let mut rest = lines;
     let mut number = first;
     while let Some(lines) = rest {
         let (line, after) = cut_at(lines, b'\n');
-        if let Err(why) = pass_line(alloc, line, number, &mut blocks) {
+        if let Err(why) = pass_line(alloc, line, number, &mut around) {
             return bad_line(number, why);
         }
         rest = after;
         number = number.saturating_add(1);
     }
-    match blocks.finish() {
+    match around.finish() {
         Ok(()) => ScriptError::Memory,
         Err(bad) => ScriptError::Bad(bad),
     }
@@ -201,13 +200,13 @@ fn pass_line(
     alloc: Global,
     line: &[u8],
     number: u64,
-    blocks: &mut OpenBlocks,
+    around: &mut OpenBlocks,
 ) -> Result<(), ScriptWhy>
     ensures { Nests result
-        (line_nested number (read_line statement_of line.now) blocks.old) blocks.new }
+        (line_nested number (read_line statement_of line.now) around.old) around.new }
 {
     match line_nesting(alloc, line) {
-        Ok(Some(nesting)) => blocks.pass(number, nesting),
+        Ok(Some(nesting)) => around.pass(number, nesting),
         Ok(None) => Ok(()),
         Err(why) => Err(ScriptWhy::Words(why)),
     }

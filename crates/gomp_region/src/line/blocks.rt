@@ -6,14 +6,13 @@ ghost use Rattle.gomp_script.specs.declared.parse.LineError.TheVariants.{NoMemor
 ghost use Rattle.gomp_script.specs.StepText.{Reads};
 ghost use Rattle.gomp_region.specs.ScriptText.{HasItems, copy_line, critical_line, for_line, only_line, parallel_line, sections_line, size_of, task_line};
 
+use crate::statement::{Construct, Statement, TaskClauses};
 use gomp_script::{
     LineError, Why, behind_items, count_of, critical_name_of, end_of, finish, items_of, member_of,
     number_of, ordered_of, sched_of, take_option, take_word, test_items,
 };
 use gomp_types::LoopDesc;
 use std::alloc::Global;
-
-use crate::statement::{Construct, Statement, TaskClauses};
 
 /// `for KIND CHUNK START END INCR ENDKIND [ordered]`, by what follows the first word.
 #[tactic(auto, unfolding(crate::specs::ScriptText::for_line))]

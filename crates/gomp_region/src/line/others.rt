@@ -4,10 +4,9 @@ ghost use Rattle.std.specs.Prelude.{◌≡◌};
 ghost use Rattle.gomp_text.specs.Words.{words_of};
 ghost use Rattle.gomp_region.specs.ScriptText.{add_line, addend_of, cancel_line, end_word, plain_line, point_line, statement_alone};
 
+use crate::statement::{Addend, Construct, EndWord, Statement};
 use gomp_script::{Why, cancel_kind_of, finish, number_of, take_word};
 use gomp_text::is_word;
-
-use crate::statement::{Addend, Construct, EndWord, Statement};
 
 /// `cancel CANCEL`, by what follows the first word.
 #[tactic(auto, unfolding(crate::specs::ScriptText::cancel_line))]

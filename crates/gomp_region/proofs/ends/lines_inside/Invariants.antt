@@ -1,4 +1,4 @@
-use Rattle.std.proofs.Common.{◌≡◌, ◌≤◌, ◌+◌, ℕ, length}
+use Rattle.std.proofs.Common.{◌≡◌, ◌≤◌, ◌+◌, length}
 use Rattle.gomp_region.specs.ScriptText.{lines_inside}
 use Rattle.gomp_region.proofs.ends.lines_inside.Given as goal
 
@@ -7,7 +7,7 @@ abbrev pub invariant-loop-rest : goal.invariant-loop-rest
 invariant-loop-rest l = record {
   inside : l.count + lines_inside l.depth l.rest ≡ lines_inside 0 l.fn.lines;
   all : l.count + length l.rest ≡ length l.fn.lines;
-  deep : l.depth ≤ l.count
+  deep : l.depth ≤ l.count;
 }
 
 abbrev pub decreases-loop-rest : goal.decreases-loop-rest

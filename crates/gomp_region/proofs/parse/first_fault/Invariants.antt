@@ -6,7 +6,7 @@ use Rattle.gomp_region.proofs.parse.first_fault.Given as goal
 
 -- no line so far is bad
 abbrev pub invariant-loop-rest : goal.invariant-loop-rest
-invariant-loop-rest l = refused_by (statements_left l.number l.blocks (option_copied l.rest)) ≡ refused_by (statements_left l.fn.first l.fn.blocks (option_copied l.fn.lines))
+invariant-loop-rest l = refused_by (statements_left l.number l.around (option_copied l.rest)) ≡ refused_by (statements_left l.fn.first l.fn.around (option_copied l.fn.lines))
 
 abbrev pub decreases-loop-rest : goal.decreases-loop-rest
 decreases-loop-rest l = left (option_copied l.rest)

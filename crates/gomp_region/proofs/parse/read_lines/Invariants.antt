@@ -6,7 +6,7 @@ use Rattle.gomp_region.proofs.parse.read_lines.Given as goal
 
 -- the statements so far, and those of the lines that are left, are those of all lines
 abbrev pub invariant-loop-rest : goal.invariant-loop-rest
-invariant-loop-rest l = with_lines l.kept.items (statements_left l.number l.blocks (option_copied l.rest)) ≡ statements_left l.fn.first [] (option_copied l.fn.lines)
+invariant-loop-rest l = with_lines l.kept.items (statements_left l.number l.around (option_copied l.rest)) ≡ statements_left l.fn.first [] (option_copied l.fn.lines)
 
 abbrev pub decreases-loop-rest : goal.decreases-loop-rest
 decreases-loop-rest l = left (option_copied l.rest)
