@@ -1,3 +1,4 @@
 mod LineLemmas
 mod TextLemmas
+pub mod BlockLaws
 pub mod ScriptExamples

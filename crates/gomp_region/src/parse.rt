@@ -1,10 +1,11 @@
 //! From a text to a script.
 
-ghost use Rattle.std.specs.Prelude.{◌≡◌, ◌++◌, ◌∷◌, [], option_copied, IsErrOf, OnOk};
+ghost use Rattle.std.specs.Prelude.{◌≡◌, ◌++◌, ◌∷◌, [], false, option_copied, IfOk, IsErrOf, OnOk};
 ghost use Rattle.gomp_text.specs.Words.{words_of};
 ghost use Rattle.gomp_script.specs.StepText.{read_line};
 ghost use Rattle.gomp_region.specs.declared.parse.Stop.TheVariants.{OutOfMemory};
 ghost use Rattle.gomp_region.specs.declared.script.ScriptError.TheVariants.{Bad, Memory};
+ghost use Rattle.gomp_region.specs.BlockGrammar.{WellNested};
 ghost use Rattle.gomp_region.specs.ScriptText.{Gives, HasLine, HasStatement, IsRefused, Nests, Passes, line_nested, line_said, refused_by, region_of, script_of, statement_of, statements_left, team_size_of, with_team};
 
 use crate::ends::ends_of;
@@ -64,6 +65,7 @@ impl From<ScriptWhy> for Stop {
 pub fn parse_script(alloc: Global, text: &[u8]) -> Result<Script, ScriptError>
     ensures script { Gives (λ script. (script.team, script.lines.items, script.ends.items))
         result (script_of text.now) }
+    ensures nest { IfOk result (λ script. WellNested 0 false script.lines.items) }
     ensures memory { IsErrOf result Memory → HasStatement (script_of text.now) }
 {
     let mut rest = Some(text);
@@ -99,6 +101,7 @@ fn read_script(
 ) -> Result<Script, ScriptError>
     ensures script { Gives (λ script. (script.team, script.lines.items, script.ends.items))
         result (with_team team (statements_left first [] (option_copied lines.entry))) }
+    ensures nest { IfOk result (λ script. WellNested 0 false script.lines.items) }
     ensures memory { IsErrOf result Memory →
         HasStatement (with_team team (statements_left first [] (option_copied lines.entry))) }
 {
@@ -120,6 +123,7 @@ fn read_lines(
 ) -> Result<Vec<ScriptLine>, ScriptError>
     ensures lines { Gives (λ kept. kept.items) result
         (statements_left first [] (option_copied lines.entry)) }
+    ensures nest { IfOk result (λ kept. WellNested 0 false kept.items) }
     ensures memory { IsErrOf result Memory →
         HasLine (statements_left first [] (option_copied lines.entry)) }
 {

@@ -1,9 +1,10 @@
-use Rattle.std.proofs.Common.{◌+◌, ◌∙◌, List, ap, sym, rules}
+use Rattle.std.proofs.Common.{◌≡◌, ◌+◌, ◌∙◌, List, [], Ok, ap, sym, rules}
 use Rattle.std.specs.Prelude.{option_copied}
 use Rattle.gomp_types.specs.Limits.{shown_number}
 use Rattle.gomp_script.specs.StepText.{lines_left, read_line}
 use Rattle.gomp_region.specs.declared.nesting.OpenBlock.{OpenBlock}
-use Rattle.gomp_region.specs.ScriptText.{IsRefused, line_nested, statement_of, statements_from}
+use Rattle.gomp_region.specs.ScriptText.{IsRefused, line_nested, statement_of, statements_from, statements_left}
+use Rattle.gomp_region.proofs.BlockLaws.{statements_nest}
 use Rattle.gomp_region.proofs.TextLemmas.{has_refused_line, lines_here, refused_inside}
 use Rattle.gomp_region.proofs.parse.read_lines.Goals as goal
 
@@ -19,3 +20,8 @@ returns-in-Err-OutOfMemory-clause-memory c =
     let fault = rw (refused_inside read before behind refused, here) at c.first_fault.ensures in
     let all = rw here at c.loop-rest.invariant in
     λ told. rw (← all) (has_refused_line c.loop-rest.kept.items number read before behind (line_nested number read before) later refused (sym fault ∙ (cc)))
+
+pub returns-in-Ok-finish-clause-nest : goal.returns-in-Ok-finish-clause-nest
+returns-in-Ok-finish-clause-nest c =
+    let read : statements_left c.args.first [] (option_copied c.args.lines) ≡ Ok c.loop-rest.kept.items = search rules in
+    statements_nest (lines_left (option_copied c.args.lines)) c.args.first c.loop-rest.kept.items read
