@@ -2,3 +2,4 @@ mod LineLemmas
 mod TextLemmas
 pub mod BlockLaws
 pub mod ScriptExamples
+pub mod GivenExamples

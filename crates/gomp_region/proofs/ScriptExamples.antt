@@ -185,3 +185,8 @@ blocks_nest = (refl, refl, refl)
 pub no_place_before_depth : IsBad 34 NoOpenBlock (codes "region\n" ++ times 32 (codes "group\n") ++ codes "section\n")
 unfolding plain_line region_of
 no_place_before_depth = refl
+
+-- every block within another
+pub every_block : script_of (codes "region 2\nfor guided 7 0 1000 1 wait\nsingle\ncopy 5\nordered\ncritical a\ntask in 7\ngroup\nparallel 3\nonly 1\nsections wait\nsection\ntaskwait\ncancel taskgroup\npoint taskgroup\nendsection\nendsections\nendonly\nendparallel\nendgroup\nendtask\nendcritical\nendordered\nendcopy\nendsingle\nendfor\nbarrier\n") ≡ Ok (Stated 2, on_line 2 (Begin (Loop (loop_to Guided 7 1000))) ∷ on_line 3 (Begin Single) ∷ on_line 4 (Begin (Copy (pos 5))) ∷ on_line 5 (Begin Ordered) ∷ on_line 6 (Begin (Critical (codes "a"))) ∷ on_line 7 (Begin (Task (with_items (record { kind = DepIn; addr = 7 } ∷ [])))) ∷ on_line 8 (Begin Group) ∷ on_line 9 (Begin (Parallel 3)) ∷ on_line 10 (Begin (Only 1)) ∷ on_line 11 (Begin (Sections Wait)) ∷ on_line 12 (Begin Section) ∷ on_line 13 Taskwait ∷ on_line 14 (Cancel Taskgroup) ∷ on_line 15 (Point Taskgroup) ∷ on_line 16 (End EndSection) ∷ on_line 17 (End EndSections) ∷ on_line 18 (End EndOnly) ∷ on_line 19 (End EndParallel) ∷ on_line 20 (End EndGroup) ∷ on_line 21 (End EndTask) ∷ on_line 22 (End EndCritical) ∷ on_line 23 (End EndOrdered) ∷ on_line 24 (End EndCopy) ∷ on_line 25 (End EndSingle) ∷ on_line 26 (End EndFor) ∷ on_line 27 Barrier ∷ [], 24 ∷ 23 ∷ 22 ∷ 21 ∷ 20 ∷ 19 ∷ 18 ∷ 17 ∷ 16 ∷ 15 ∷ 14 ∷ 11 ∷ 12 ∷ 13 ∷ 14 ∷ 15 ∷ 16 ∷ 17 ∷ 18 ∷ 19 ∷ 20 ∷ 21 ∷ 22 ∷ 23 ∷ 24 ∷ 25 ∷ [])
+unfolding for_line sections_line copy_line critical_line task_line parallel_line only_line cancel_line point_line plain_line region_of
+every_block = refl

@@ -53,3 +53,7 @@ with_items items = record { undeferred = false; final_task = false; deps = items
 -- the same text, so many times
 abbrev pub times : ℕ → List ℕ → List ℕ
 times count text = concat (replicate count text)
+
+-- a statement on line 2
+abbrev pub on_second : Statement → ScriptLine
+on_second statement = on_line 2 statement
