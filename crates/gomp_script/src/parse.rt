@@ -30,7 +30,14 @@ use plain::plain_step;
 use sections::sections_step;
 use std::alloc::{AllocError, AllocFailed, Global};
 use task::{task_step, taskwait_step};
-use words::{count_of, finish, take_word};
+
+pub use cancel::cancel_kind_of;
+pub use critical::critical_name_of;
+pub use items::{behind_items, items_of, test_items};
+pub use loops::sched_of;
+pub use ordered::ordered_of;
+pub use task::take_option;
+pub use words::{count_of, end_of, finish, member_of, number_of, take_word};
 
 /// Why a line is bad. A line is tested for these in this order.
 #[derive(Clone, Copy, Debug, PartialEq, Eq)]
@@ -245,7 +252,7 @@ fn read_step(alloc: Global, line: &[u8]) -> Result<Option<Step>, LineError>
 
 /// The first word of a line, and the rest of the line after it. None if the line has no word, or
 /// is a comment.
-pub(crate) fn first_word(line: &[u8]) -> Result<Option<(&[u8], &[u8])>, Why>
+pub fn first_word(line: &[u8]) -> Result<Option<(&[u8], &[u8])>, Why>
     ensures { IsFirstOfLine line.now result }
 {
     if !is_ascii(line) {

@@ -10,7 +10,7 @@ use gomp_text::is_word;
 use gomp_types::{Call, CancelKind, Step};
 
 /// What a construct of cancellation names by this word.
-fn cancel_kind_of(word: &[u8]) -> Option<CancelKind>
+pub fn cancel_kind_of(word: &[u8]) -> Option<CancelKind>
     ensures { result ≡ cancel_kind_of word.now }
 {
     if is_word(word, b"parallel") {

@@ -11,7 +11,7 @@ use gomp_types::{Call, CriticalName, Step};
 
 /// The name of the construct, by the rest of its line: one word of any length, or none. Whether a
 /// name may be as long is not asked here.
-fn critical_name_of(rest: &[u8]) -> Result<CriticalName, Why>
+pub fn critical_name_of(rest: &[u8]) -> Result<CriticalName, Why>
     ensures { result ≡ critical_name_of (words_of rest.now) }
 {
     let Some((word, rest)) = next_word(rest) else {

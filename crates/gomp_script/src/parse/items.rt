@@ -56,7 +56,7 @@ fn next_item(line: &[u8]) -> Result<Option<Item<'_>>, Why>
 }
 
 /// What follows the items that a line begins with. The error is an item without an address.
-pub(crate) fn behind_items(line: &[u8]) -> Result<&[u8], Why>
+pub fn behind_items(line: &[u8]) -> Result<&[u8], Why>
     ensures { IsBehindItems line.now result }
 {
     let mut rest = line;
@@ -67,7 +67,7 @@ pub(crate) fn behind_items(line: &[u8]) -> Result<&[u8], Why>
 }
 
 /// That the items that a line begins with have good addresses.
-pub(crate) fn test_items(line: &[u8]) -> Result<(), Why>
+pub fn test_items(line: &[u8]) -> Result<(), Why>
     ensures { result ≡ without_value (items_of (words_of line.now)) }
 {
     let mut rest = line;
@@ -79,7 +79,7 @@ pub(crate) fn test_items(line: &[u8]) -> Result<(), Why>
 }
 
 /// The items that a line begins with. Only an item takes memory.
-pub(crate) fn items_of(alloc: Global, line: &[u8]) -> Result<Deps, LineError>
+pub fn items_of(alloc: Global, line: &[u8]) -> Result<Deps, LineError>
     ensures items { Reads result (items_of (words_of line.now)) }
     ensures memory { IsErrOf result NoMemory → items_of (words_of line.now) ≢ Ok [] }
 {

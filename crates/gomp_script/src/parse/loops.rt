@@ -11,7 +11,7 @@ use gomp_text::is_word;
 use gomp_types::{Call, LoopDesc, Sched, Step};
 
 /// The schedule that this word names.
-fn sched_of(word: &[u8]) -> Option<Sched>
+pub fn sched_of(word: &[u8]) -> Option<Sched>
     ensures { result ≡ sched_of word.now }
 {
     if is_word(word, b"static") {

@@ -11,7 +11,7 @@ use gomp_text::{is_word, next_word};
 use gomp_types::{Call, Step};
 
 /// Whether a loop is ordered, by the rest of its line.
-pub(crate) fn ordered_of(rest: &[u8]) -> Result<bool, Why>
+pub fn ordered_of(rest: &[u8]) -> Result<bool, Why>
     ensures { result ≡ ordered_of (words_of rest.now) }
 {
     let Some((word, rest)) = next_word(rest) else {

@@ -30,7 +30,7 @@ pub(crate) fn task_call_of(word: &[u8]) -> Option<Call>
 }
 
 /// Whether a line begins with the word of this option, and what follows it then; else the line.
-fn take_option<'a>(line: &'a [u8], name: &[u8]) -> (bool, &'a [u8])
+pub fn take_option<'a>(line: &'a [u8], name: &[u8]) -> (bool, &'a [u8])
     ensures { TakesOption name.now line.now result }
 {
     let Some((word, rest)) = next_word(line) else {

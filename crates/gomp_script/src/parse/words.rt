@@ -9,14 +9,14 @@ use gomp_text::{is_word, next_word, signed, unsigned};
 use gomp_types::EndKind;
 
 /// The next word of a line, and what follows it.
-pub(crate) fn take_word(line: &[u8]) -> Result<(&[u8], &[u8]), Why>
+pub fn take_word(line: &[u8]) -> Result<(&[u8], &[u8]), Why>
     ensures { TakesWord line.now result }
 {
     next_word(line).ok_or(Why::MissingWord)
 }
 
 /// That the line ends here.
-pub(crate) fn finish(line: &[u8]) -> Result<(), Why>
+pub fn finish(line: &[u8]) -> Result<(), Why>
     ensures { result ≡ no_more_words (words_of line.now) }
 {
     match next_word(line) {
@@ -26,7 +26,7 @@ pub(crate) fn finish(line: &[u8]) -> Result<(), Why>
 }
 
 /// The end of a construct that this word names.
-pub(crate) fn end_of(word: &[u8]) -> Option<EndKind>
+pub fn end_of(word: &[u8]) -> Option<EndKind>
     ensures { result ≡ end_of word.now }
 {
     if is_word(word, b"wait") {
@@ -42,7 +42,7 @@ pub(crate) fn end_of(word: &[u8]) -> Option<EndKind>
 }
 
 /// The number of a member that this word writes.
-pub(crate) fn member_of(word: &[u8]) -> Result<u16, Why>
+pub fn member_of(word: &[u8]) -> Result<u16, Why>
     ensures { result ≡ member_of word.now }
 {
     match unsigned(word, u16::MAX as u64) {
@@ -52,7 +52,7 @@ pub(crate) fn member_of(word: &[u8]) -> Result<u16, Why>
 }
 
 /// The count of members or of sections, or the number of a lock, that this word writes.
-pub(crate) fn count_of(word: &[u8]) -> Result<u32, Why>
+pub fn count_of(word: &[u8]) -> Result<u32, Why>
     ensures { result ≡ count_of word.now }
 {
     match unsigned(word, u32::MAX as u64) {
@@ -70,7 +70,7 @@ pub(crate) fn unsigned_of(word: &[u8]) -> Result<u64, Why>
 }
 
 /// The number of a loop that this word writes: a chunk, a bound, an increment or a value.
-pub(crate) fn number_of(word: &[u8]) -> Result<i64, Why>
+pub fn number_of(word: &[u8]) -> Result<i64, Why>
     ensures { result ≡ number_of word.now }
 {
     signed(word).ok_or(Why::BadNumber)

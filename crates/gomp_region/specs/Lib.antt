@@ -1,0 +1,3 @@
+pub mod ScriptText
+pub mod BlockGrammar
+pub mod Examples

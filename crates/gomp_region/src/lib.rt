@@ -1,0 +1,17 @@
+//! Region scripts: the text of a parallel region, which every member of its team runs.
+//!
+//! [`parse_script`] reads exactly the texts that `ScriptText.antt` defines, and tells of any other
+//! the first bad line and its first fault.
+#![tactic(auto)]
+
+mod ends;
+mod line;
+mod nesting;
+mod parse;
+mod script;
+mod statement;
+
+pub use nesting::{MAX_BLOCKS, OpenBlock};
+pub use parse::parse_script;
+pub use script::{BadScript, Script, ScriptError, ScriptLine, ScriptWhy, TeamSize};
+pub use statement::{Addend, Construct, EndWord, Nesting, Statement, TaskClauses};
