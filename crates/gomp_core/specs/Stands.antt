@@ -1,5 +1,5 @@
 -- When a team stands for a record. (own)
-use Rattle.std.specs.Prelude.{ℕ, ◌<◌, ◌≡◌, ◌≢◌, ◌⊎◌, true, List, [], ◌∷◌, Some, None, length, slice_get}
+use Rattle.std.specs.Prelude.{ℕ, ◌<◌, ◌≡◌, ◌≢◌, ◌⊎◌, true, List, [], ◌∷◌, Option, Some, None, length, option_and_then, slice_get}
 use Rattle.gomp_types.specs.declared.call.Call.{Call}
 use Rattle.gomp_types.specs.declared.call.Call.TheVariants.{Resume}
 use Rattle.gomp_types.specs.declared.call.Step.{Step}
@@ -41,6 +41,10 @@ pub record TeamView (S : Type 0) : Type 0 where
 -- its size
 abbrev pub members_of : {S : Type 0} → TeamView S → ℕ
 members_of team = length team.waits
+
+-- the call of a member that its resume would repeat: none of a member that the team does not have
+abbrev pub open_call_of : {S : Type 0} → TeamView S → ℕ → Option Call
+open_call_of team m = option_and_then (λ waits. waits.open_call) (slice_get team.waits m)
 
 -- what the team was made with
 abbrev pub terms_of : {S : Type 0} → TeamView S → Terms

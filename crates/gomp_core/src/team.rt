@@ -1,6 +1,6 @@
 //! A team that one thread steps.
 
-ghost use Rattle.std.specs.Prelude.{◌≡◌, ◌≢◌, ◌<◌, ◌↔◌, ◌⊎◌, ◌∷◌, List, [], IfOk, Ok, Err, None, Some, replicate};
+ghost use Rattle.std.specs.Prelude.{◌≡◌, ◌≢◌, ◌<◌, ◌↔◌, ◌⊎◌, ◌∷◌, List, [], IfOk, Ok, Err, None, Some, option_copied, replicate};
 ghost use Rattle.std.specs.Result.{result_err};
 ghost use Rattle.gomp_types.specs.declared.refusal.Refusal.{Refusal};
 ghost use Rattle.gomp_types.specs.declared.refusal.Refusal.TheVariants.{BadTeam, NoMemory, Mismatch};
@@ -14,7 +14,7 @@ ghost use Rattle.gomp_model.specs.Team.{Record, row_at, call_meant, is_resume, m
 ghost use Rattle.gomp_board.specs.Boards.{Stands as BoardStands, members_of as board_members};
 ghost use Rattle.gomp_parts.specs.Answers.{StartsShare};
 ghost use Rattle.gomp_parts.specs.Leaves.{leaves_nothing};
-ghost use Rattle.gomp_core.specs.Stands.{Stands, Begins, EndsDrained, terms_by, Keeps, TakesMemory, past, terms_of, members_of};
+ghost use Rattle.gomp_core.specs.Stands.{Stands, Begins, EndsDrained, open_call_of, terms_by, Keeps, TakesMemory, past, terms_of, members_of};
 ghost use Rattle.gomp_core.specs.LocksMade.{kinds_of, locks_made};
 ghost use Rattle.gomp_core.specs.Resolved.{resolved_call, resolved_step, step_by};
 
@@ -215,6 +215,20 @@ impl<S: Shares> Team<S> {
     {
         let call = resolved_call(&self.icv, call);
         self.perform(member, call)
+    }
+
+    /// The call of this member, numbered from 0, that its resume would repeat: the one that waits, if
+    /// one does. None if the team has no such member.
+    pub fn open_call(&self, member: u16) -> Option<&Call>
+        ensures waits { option_copied result ≡ open_call_of self.now member }
+        ensures stands { (before : Record) → Stands S.stands S.members self.now before →
+            member < members_of self.now →
+            option_copied result ≡ ((past self.now before).waits member).open_call }
+    {
+        match self.waits.get(member as usize) {
+            Some(waits) => waits.open_call().as_ref(),
+            None => None,
+        }
     }
 
     /// The reply to a call that has the schedule which counts.

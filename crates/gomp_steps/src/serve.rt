@@ -52,7 +52,7 @@ pub fn serve_steps<R: Read + Drop, W: Write>(
 }
 
 /// All that the reader gives, if that is at most `limit` bytes; or how the program ends.
-fn read_text<R: Read + Drop>(alloc: Global, reader: R, limit: u32) -> Result<Vec<u8>, Ending>
+pub fn read_text<R: Read + Drop>(alloc: Global, reader: R, limit: u32) -> Result<Vec<u8>, Ending>
     ensures whole { IfOk result (λ text. Whole limit (R.remaining reader) text.items) }
     ensures unread { IfErr result (IsUnread limit (R.remaining reader)) }
 {
