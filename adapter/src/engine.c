@@ -199,12 +199,21 @@ void engine_await(struct engine *engine)
         end_by_fault("the engine %s does not answer", getenv("DILLBEAM_ENGINE"));
 }
 
-// At the program's end: closes the engines' inputs, and waits a moment for the first one's notes.
+// Ends an engine's input. Another thread may still write to it: its lines go nowhere then, and not into a file
+// of the program's that was given the number of a closed one.
+static void end_input(struct engine *engine, int nowhere)
+{
+    if (nowhere < 0 || dup3(nowhere, engine->to, O_CLOEXEC) < 0)
+        close(engine->to);
+}
+
+// At the program's end: ends the engines' inputs, and waits a moment for the first one's notes.
 void engines_finish(void)
 {
     struct engine *first = NULL;
+    int nowhere = open("/dev/null", O_WRONLY | O_CLOEXEC);
     for (struct engine *engine = engines; engine != NULL; engine = engine->next) {
-        close(engine->to);
+        end_input(engine, nowhere);
         first = engine;
     }
     engines = NULL;
