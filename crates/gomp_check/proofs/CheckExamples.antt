@@ -3,7 +3,7 @@ use Rattle.std.proofs.Common.{◌≡◌, ℕ, true, false, List, [], ◌∷◌, 
 use Rattle.std.specs.Prelude.{map}
 use Rattle.std.specs.Io.KnownBytes.{Appends}
 use Rattle.std.specs.Fmt.{digits}
-use Rattle.gomp_script.specs.StepText.{team_of}
+use Rattle.gomp_script.specs.StepText.{plain_step, team_of}
 use Rattle.gomp_region.specs.ScriptText.{plain_line, region_of}
 use Rattle.gomp_steps.specs.declared.serve.Ending.TheVariants as ending
 use Rattle.gomp_check.specs.Checked.{checked, is_script, later_lines}
@@ -29,7 +29,7 @@ lines_counted = refl
 
 -- a text of no line, a team that may not be, and one with steps
 pub texts_of_steps : (checked (codes "") ≡ (codes "bad line 1: first line\n", 1)) × (checked (codes "team 65") ≡ (codes "steps 0\n", 0)) × (checked (codes "team 2\n0 barrier\n\n7 barrier") ≡ (codes "steps 2\n", 0)) × (checked (codes "team 2\n0 barrie") ≡ (codes "bad line 2: unknown word\n", 1))
-unfolding digits team_of
+unfolding digits plain_step team_of
 texts_of_steps = (refl, refl, refl, refl)
 
 -- scripts
@@ -39,7 +39,7 @@ texts_of_scripts = (refl, refl, refl, refl)
 
 -- a step in a script, and a statement in a text of steps
 pub mixed_texts : (checked (codes "region 2\n0 barrier") ≡ (codes "bad line 2: unknown word\n", 1)) × (checked (codes "team 2\nbarrier") ≡ (codes "bad line 2: missing word\n", 1))
-unfolding digits team_of plain_line region_of
+unfolding digits plain_step team_of plain_line region_of
 mixed_texts = (refl, refl)
 
 -- How a check ends

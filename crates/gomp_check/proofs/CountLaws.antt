@@ -14,7 +14,7 @@ use Rattle.gomp_region.specs.declared.script.ScriptLine.{ScriptLine}
 use Rattle.gomp_region.specs.declared.script.ScriptWhy.{ScriptWhy}
 use Rattle.gomp_region.specs.declared.script.TeamSize.{TeamSize}
 use Rattle.gomp_region.specs.declared.statement.Statement.{Statement}
-use Rattle.gomp_region.specs.ScriptText.{line_nested, line_then, region_line, region_of, script_from, script_of, statement_of, statements_from, with_lines}
+use Rattle.gomp_region.specs.ScriptText.{ends_from, line_nested, line_then, region_line, region_of, script_from, script_of, statement_of, statements_from, with_lines}
 use Rattle.gomp_region.specs.ScriptText as script
 use Rattle.gomp_check.specs.Checked.{checked, counts, has_words, is_script, later_lines, script_checked, steps_checked}
 
@@ -71,7 +71,7 @@ steps_each_line (line ∷ lines) number steps read =
     step_counted (read_line step_of line) line lines number (steps_from (shown_number (number + 1)) lines) steps (said_counts step_of line) (unsaid_counts step_of line) (steps_each_line lines (shown_number (number + 1))) read
 
 steps_of_team : (count given : ℕ) (read : Result (List Step) BadLine) (steps : List Step) → with_team count read ≡ Ok (given, steps) → read ≡ Ok steps
-steps_of_team count given (Ok found) steps is = let same : found ≡ steps = cc in ap Ok same
+steps_of_team count given (Ok found) steps is = let same : (count, found) ≡ (given, steps) = cc in ap Ok (ap (λ (read : ℕ × List Step). read.1) same)
 steps_of_team count given (Err bad) steps is = absurd (cc)
 
 team_counted : (said : Result (Option ℕ) Why) (line : List ℕ) (lines : List (List ℕ)) (number : ℕ) (later : Result (ℕ × List Step) BadLine) (read : Result (List Step) BadLine) (count : ℕ) (steps : List Step) →
@@ -133,7 +133,7 @@ statements_each_line (line ∷ lines) number blocks all read =
     statement_counted (read_line statement_of line) line lines number blocks (λ (inside : List OpenBlock). statements_from next inside lines) all (said_counts statement_of line) (unsaid_counts statement_of line) (λ inside found. statements_each_line lines next inside found) read
 
 lines_of_region : (size given : TeamSize) (read : Result (List ScriptLine) BadScript) (all : List ScriptLine) (ends : List ℕ) → script.with_team size read ≡ Ok (given, all, ends) → read ≡ Ok all
-lines_of_region size given (Ok found) all ends is = let same : found ≡ all = cc in ap Ok same
+lines_of_region size given (Ok found) all ends is = let same : (size, found, ends_from 0 found) ≡ (given, all, ends) = cc in ap Ok (ap (λ (read : TeamSize × List ScriptLine × List ℕ). read.1) same)
 lines_of_region size given (Err bad) all ends is = absurd (cc)
 
 region_counted : (said : Result (Option TeamSize) Why) (line : List ℕ) (lines : List (List ℕ)) (number : ℕ) (later : Result (TeamSize × List ScriptLine × List ℕ) BadScript) (read : Result (List ScriptLine) BadScript) (team : TeamSize) (all : List ScriptLine) (ends : List ℕ) →
