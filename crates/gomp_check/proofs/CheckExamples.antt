@@ -22,8 +22,8 @@ kind_of_other_bytes = refl
 -- How many lines
 
 -- empty lines, lines of spaces and comments are skipped, and the first that counts is left out
-pub lines_counted : map later_lines (codes "" ∷ codes "region" ∷ codes "team 2\n" ∷ codes "\n# a\nteam 2\n  \n0 barrier\n # b\n#\n1 barrier" ∷ []) ≡ 0 ∷ 0 ∷ 0 ∷ 2 ∷ []
-lines_counted = refl
+pub later_lines_counted : map later_lines (codes "" ∷ codes "region" ∷ codes "team 2\n" ∷ codes "\n# a\nteam 2\n  \n0 barrier\n # b\n#\n1 barrier" ∷ []) ≡ 0 ∷ 0 ∷ 0 ∷ 2 ∷ []
+later_lines_counted = refl
 
 -- What is printed
 

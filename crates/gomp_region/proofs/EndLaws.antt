@@ -44,10 +44,10 @@ EndFrom base lines index (Begins word) end = (place : ℕ) × (end ≡ base + pl
 EndFrom base lines index (Ends word) end = end ≡ base + index
 EndFrom base lines index Stands end = end ≡ base + index
 
-first_end : (base : ℕ) (line : ScriptLine) (lines : List ScriptLine) (nesting : Nesting) → HasEnd nesting lines → EndFrom base (line ∷ lines) 0 nesting (end_index base nesting lines)
-first_end base line lines (Begins word) ended = let less = ended.0 in (suc (lines_inside 0 lines), omega arith, omega arith, omega (arith, less), ended.1)
-first_end base line lines (Ends word) ended = omega arith
-first_end base line lines Stands ended = omega arith
+first_line_end : (base : ℕ) (line : ScriptLine) (lines : List ScriptLine) (nesting : Nesting) → HasEnd nesting lines → EndFrom base (line ∷ lines) 0 nesting (end_index base nesting lines)
+first_line_end base line lines (Begins word) ended = let less = ended.0 in (suc (lines_inside 0 lines), omega arith, omega arith, omega (arith, less), ended.1)
+first_line_end base line lines (Ends word) ended = omega arith
+first_line_end base line lines Stands ended = omega arith
 
 later_end : (base index end : ℕ) (line : ScriptLine) (lines : List ScriptLine) (nesting : Nesting) → EndFrom (base + 1) lines index nesting end → EndFrom base (line ∷ lines) (suc index) nesting end
 later_end base index end line lines (Begins word) found =
@@ -60,7 +60,7 @@ later_end base index end line lines Stands found = omega (arith, found)
 
 end_found : (lines : List ScriptLine) (base index : ℕ) (given : ScriptLine) → EachHasEnd lines → index < length lines → EndFrom base lines index (nesting_of (get_or lines index given).statement) (get_or (ends_from base lines) index 0)
 end_found [] base index given ended less = absurd (omega arith)
-end_found (line ∷ lines) base zero given ended less = first_end base line lines (nesting_of line.statement) ended.0
+end_found (line ∷ lines) base zero given ended less = first_line_end base line lines (nesting_of line.statement) ended.0
 end_found (line ∷ lines) base (suc index) given ended less =
     later_end base index (get_or (ends_from (base + 1) lines) index 0) line lines (nesting_of (get_or lines index given).statement) (end_found lines (base + 1) index given ended.1 (omega arith))
 

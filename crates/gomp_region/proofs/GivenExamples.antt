@@ -24,16 +24,16 @@ use Rattle.gomp_region.specs.ScriptText.{Gives, HasItems, HasLine, HasStatement,
 -- Lines
 
 -- a task with an item may find no memory
-pub item_takes : HasItems (Ok (Begin (Task (with_items (record { kind = DepIn; addr = 4 } ∷ []))))) × LineHasItems (Ok (Some (Begin (Task (with_items (record { kind = DepIn; addr = 4 } ∷ []))))))
-item_takes = (λ same. absurd (cc), λ same. absurd (cc))
+pub item_takes_memory : HasItems (Ok (Begin (Task (with_items (record { kind = DepIn; addr = 4 } ∷ []))))) × LineHasItems (Ok (Some (Begin (Task (with_items (record { kind = DepIn; addr = 4 } ∷ []))))))
+item_takes_memory = (λ same. absurd (cc), λ same. absurd (cc))
 
 -- one without an item may not, nor another statement, a line without one, or a bad line
 pub others_take_none : (HasItems (Ok (Begin (Task (with_items [])))) → ⊥) × (HasItems (Ok Barrier) → ⊥) × (HasItems (Err MissingWord) → ⊥) × (LineHasItems (Ok None) → ⊥) × (LineHasItems (Err MissingWord) → ⊥)
 others_take_none = (λ some. some refl, λ never. never, λ never. never, λ never. never, λ never. never)
 
 -- what lines do to the blocks around them
-pub nestings : (line_nesting (Ok (Some (Begin Single))) ≡ Ok (Some (Begins EndSingle))) × (line_nesting (Ok (Some (End EndTask))) ≡ Ok (Some (Ends EndTask))) × (line_nesting (Ok (Some Barrier)) ≡ Ok (Some Stands)) × (line_nesting (Ok None) ≡ Ok None) × (line_nesting (Err ExtraWord) ≡ Err ExtraWord)
-nestings = (refl, refl, refl, refl, refl)
+pub nestings_of_lines : (line_nesting (Ok (Some (Begin Single))) ≡ Ok (Some (Begins EndSingle))) × (line_nesting (Ok (Some (End EndTask))) ≡ Ok (Some (Ends EndTask))) × (line_nesting (Ok (Some Barrier)) ≡ Ok (Some Stands)) × (line_nesting (Ok None) ≡ Ok None) × (line_nesting (Err ExtraWord) ≡ Err ExtraWord)
+nestings_of_lines = (refl, refl, refl, refl, refl)
 
 -- what they say
 pub said_by_lines : (line_said 2 (Ok (Some Barrier)) ≡ on_second Barrier ∷ []) × (line_said 2 (Ok None) ≡ []) × (line_said 2 (Err ExtraWord) ≡ [])
@@ -69,8 +69,8 @@ pub refused_lines : IsRefused (Ok (Some Barrier)) [] [] × (IsRefused (Ok (Some 
 refused_lines = (refl, λ same. absurd (cc), λ never. never, λ never. never)
 
 -- an error of a line is its own
-pub stops : (stop_of NoMemory ≡ OutOfMemory) × (stop_of (Fault ExtraWord) ≡ BadHere (Words ExtraWord))
-stops = (refl, refl)
+pub stops_of_errors : (stop_of NoMemory ≡ OutOfMemory) × (stop_of (Fault ExtraWord) ≡ BadHere (Words ExtraWord))
+stops_of_errors = (refl, refl)
 
 -- Texts
 
@@ -83,8 +83,8 @@ pub faults_of_texts : (without_lines (Ok []) ≡ Ok tt) × (without_lines (Err (
 faults_of_texts = (refl, refl, refl, refl)
 
 -- what was read may be given, or want of memory, or the bad line
-pub given : Gives {X = ℕ} {Y = ℕ} (λ n. n) (Ok 4) (Ok 4) × Gives {X = ℕ} {Y = ℕ} (λ n. n) (Err Memory) (Ok 4) × Gives {X = ℕ} {Y = ℕ} (λ n. n) (Err (Bad (record { line = 2; why = TooDeep }))) (Err (record { line = 2; why = TooDeep }))
-given = (refl, tt, refl)
+pub given_results : Gives {X = ℕ} {Y = ℕ} (λ n. n) (Ok 4) (Ok 4) × Gives {X = ℕ} {Y = ℕ} (λ n. n) (Err Memory) (Ok 4) × Gives {X = ℕ} {Y = ℕ} (λ n. n) (Err (Bad (record { line = 2; why = TooDeep }))) (Err (record { line = 2; why = TooDeep }))
+given_results = (refl, tt, refl)
 
 -- the bad line of what was read
 abbrev bad_in : Result ℕ BadScript → BadScript
@@ -129,8 +129,8 @@ ends_of_a_block =
     have_ends ended_block (1 ∷ 1 ∷ 2 ∷ []) (block 0 false EndSingle (on_line 2 (Begin Single)) (on_line 3 (End EndSingle)) [] (on_line 4 Barrier ∷ []) (omega arith) refl refl refl (nothing 1 false) (stands 0 (on_line 4 Barrier) [] refl (nothing 0 false))) refl
 
 -- each line has one, and one that begins no block is its own
-pub other_ends : (HaveEnds ended_block (1 ∷ 1 ∷ []) → ⊥) × (HaveEnds ended_block (1 ∷ 1 ∷ 1 ∷ []) → ⊥) × (HaveEnds ended_block (1 ∷ 2 ∷ 2 ∷ []) → ⊥)
-other_ends =
+pub other_ends_refused : (HaveEnds ended_block (1 ∷ 1 ∷ []) → ⊥) × (HaveEnds ended_block (1 ∷ 1 ∷ 1 ∷ []) → ⊥) × (HaveEnds ended_block (1 ∷ 2 ∷ 2 ∷ []) → ⊥)
+other_ends_refused =
     (λ have. absurd (let each = have.each in omega (arith, each)), λ have. absurd (let own = have.at 2 (omega arith) (on_second Barrier) in omega (arith, own)), λ have. absurd (let own = have.at 1 (omega arith) (on_second Barrier) in omega (arith, own)))
 
 -- a block ends behind its beginning, among the lines, at its end word
