@@ -1,5 +1,5 @@
 -- What is printed of texts, computed, and ends that the definitions refuse. (own)
-use Rattle.std.proofs.Common.{◌≡◌, ℕ, true, false, List, [], ◌∷◌, ◌++◌, Option, Some, None, codes, refl, subst, arith}
+use Rattle.std.proofs.Common.{◌≡◌, ℕ, true, false, List, [], ◌∷◌, ◌++◌, Option, Some, None, codes, length, refl, ap, subst, arith}
 use Rattle.std.specs.Prelude.{map}
 use Rattle.std.specs.Io.KnownBytes.{Appends}
 use Rattle.std.specs.Fmt.{digits}
@@ -57,10 +57,10 @@ pub short_text_is_read : Checks (Some three) (Some []) (Some []) ending.TooLong 
 short_text_is_read ends = absurd (let longer = ends.1 in omega arith)
 
 -- an answer is that of the whole text, with its status
-pub answer_is_of_the_text : (Checks (Some (codes "region")) (Some []) (Some (codes "script 1\n")) (ending.Answered 0) → ⊥) × (Checks (Some (codes "region")) (Some []) (Some (codes "script 0\n")) (ending.Answered 1) → ⊥) × (Checks (Some (codes "region")) (Some []) (Some []) (ending.Answered 0) → ⊥)
+pub answer_is_of_the_text : (Checks (Some (codes "region")) (Some []) (Some (codes "script 10\n")) (ending.Answered 0) → ⊥) × (Checks (Some (codes "region")) (Some []) (Some (codes "script 0\n")) (ending.Answered 1) → ⊥) × (Checks (Some (codes "region")) (Some []) (Some []) (ending.Answered 0) → ⊥)
 unfolding digits region_of
 answer_is_of_the_text = (
-    λ serves. absurd (let is = subst (λ (text : List ℕ). Appends (Some []) (Some (codes "script 1\n")) (checked text).0) serves.whole.0 serves.written in cc),
-    λ serves. absurd (let is = subst (λ (text : List ℕ). 1 ≡ (checked text).1) serves.whole.0 serves.code_is in omega (arith, is)),
-    λ serves. absurd (let is = subst (λ (text : List ℕ). Appends (Some []) (Some []) (checked text).0) serves.whole.0 serves.written in cc),
+  λ serves. absurd (let size = ap length (subst (λ (text : List ℕ). Appends (Some []) (Some (codes "script 10\n")) (checked text).0) serves.whole.0 serves.written) in omega (arith, size)),
+  λ serves. absurd (let is = subst (λ (text : List ℕ). 1 ≡ (checked text).1) serves.whole.0 serves.code_is in omega (arith, is)),
+  λ serves. absurd (let size = ap length (subst (λ (text : List ℕ). Appends (Some []) (Some []) (checked text).0) serves.whole.0 serves.written) in omega (arith, size)),
 )

@@ -9,11 +9,7 @@ use std::io::{Read, Write};
 
 /// Reads a text of at most 2^24 bytes, whole, and writes the line that says what it is, or its first bad
 /// line, and nothing else. No team is made.
-pub fn serve_check<R: Read + Drop, W: Write>(
-    alloc: Global,
-    reader: R,
-    writer: &mut W,
-) -> Ending
+pub fn serve_check<R: Read + Drop, W: Write>(alloc: Global, reader: R, writer: &mut W) -> Ending
     ensures { Checks
         (R.remaining reader) (W.contents writer.old) (W.contents writer.new) result }
 {
