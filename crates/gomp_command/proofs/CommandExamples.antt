@@ -5,8 +5,8 @@ use Rattle.clap.specs.declared.error.kind.ErrorKind.TheVariants as kinds
 use Rattle.clap.proofs.OnLiterals.{clap_on_literals}
 use Rattle.gomp_types.specs.declared.refusal.Refusal.TheVariants.{BadEnv}
 use Rattle.gomp_command.specs.CommandLine.{asked_of, faults_of}
-use Rattle.gomp_command.specs.declared.command.Service.TheVariants.{Steps, Live}
-use Rattle.gomp_command.specs.Examples.{with_another_command, with_live, with_settings, with_two_faults, without_command}
+use Rattle.gomp_command.specs.declared.command.Service.TheVariants.{Steps, Live, Check}
+use Rattle.gomp_command.specs.Examples.{with_another_command, with_check, with_live, with_settings, with_two_faults, without_command}
 use Rattle.gomp_command.specs.Settings.{first_without, read_settings}
 
 -- words with two settings are served
@@ -32,7 +32,16 @@ pub live_is_found : asked_of with_live ≡ Some (record { service = Live; settin
 unfolding clap_on_literals
 live_is_found = refl
 
--- another command than `steps` and `live`
+-- and the third
+pub check_is_served : faults_of with_check ≡ []
+unfolding clap_on_literals
+check_is_served = refl
+
+pub check_is_found : asked_of with_check ≡ Some (record { service = Check; settings = codes "OMP_SCHEDULE=guided,7" ∷ [] })
+unfolding clap_on_literals
+check_is_found = refl
+
+-- another command than those of the services
 pub another_command_is_refused : faults_of with_another_command ≡ kinds.UnknownArgument ∷ kinds.InvalidSubcommand ∷ []
 unfolding clap_on_literals
 another_command_is_refused = refl

@@ -19,8 +19,7 @@ use Rattle.clap.specs.declared.builder.range.ValueRange.{ValueRange}
 use Rattle.clap.specs.declared.error.Error.{Error}
 use Rattle.clap.proofs.OnLiterals.{clap_on_literals}
 use Rattle.clap.specs.declared.error.kind.ErrorKind.TheVariants as kinds
-use Rattle.gomp_command.specs.CommandLine.{AskFor, Asked, HasRequest, asked_in, asked_of, faults_of, ompteam, service_app, service_of, settings_in, settings_name, settings_rule, values_given, word_of}
-use Rattle.gomp_command.specs.declared.command.Service.{Service}
+use Rattle.gomp_command.specs.CommandLine.{AskFor, Asked, HasRequest, asked_in, asked_of, faults_of, ompteam, service_of, settings_in, settings_name, settings_rule, values_given}
 
 -- clap's clauses on the kinds of errors speak of such commands alone
 pub is_covered : is_simple_and_free ompteam ≡ true
@@ -168,9 +167,9 @@ has_request app words (Err error) same fails has = tt
 -- The command, put together
 
 -- a subcommand that is named so, with the argument of the settings
-pub is_service_app : (service : Service) (named : Command) (settings : Arg) (whole : Command) → app_of named ≡ new_app (word_of service) → rule_of settings ≡ settings_rule → settings.global ≡ false → AddsArg named settings whole → app_of whole ≡ service_app service
-is_service_app service named settings whole new rule local adds =
-    adds.shape local ∙ ap (λ (app : App). with_rule app (rule_of settings)) new ∙ ap (with_rule (new_app (word_of service))) rule
+pub is_service_app : (word : Text) (named : Command) (settings : Arg) (whole : Command) → app_of named ≡ new_app word → rule_of settings ≡ settings_rule → settings.global ≡ false → AddsArg named settings whole → app_of whole ≡ with_rule (new_app word) settings_rule
+is_service_app word named settings whole new rule local adds =
+    adds.shape local ∙ ap (λ (app : App). with_rule app (rule_of settings)) new ∙ ap (with_rule (new_app word)) rule
 
 -- its argument is its own
 pub is_service_local : (named : Command) (settings : Arg) (whole : Command) → (out-Command named).has_globals ≡ false → settings.global ≡ false → AddsArg named settings whole → (out-Command whole).has_globals ≡ false

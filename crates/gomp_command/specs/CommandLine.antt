@@ -1,13 +1,15 @@
 -- The words of the command line: why they are refused, or what they ask for. (own)
-use Rattle.std.specs.Prelude.{◌≡◌, ◌≢◌, true, if◌then◌else◌, List, [], ◌∷◌, Option, Some, codes, find, is_some, map}
+use Rattle.std.specs.Prelude.{◌≡◌, ◌≢◌, true, false, if◌then◌else◌, List, [], ◌∷◌, Option, Some, codes, find, is_some, map}
 use Rattle.std.specs.Borrow.{Bor}
 use Rattle.std.specs.Option.{option_map, option_map_or}
 use Rattle.std.specs.Str.{bytes_eq}
 use Rattle.clap.specs.Lexer.{usize_max}
-use Rattle.clap.specs.Words.{App, Kinds, Row, Rule, Text, fault_of, new_app, new_rule, subcommand_of, subcommand_rows_of, with_rule, with_subcommand}
+use Rattle.clap.specs.Words.{App, Kinds, Row, Rule, Text, app_of, fault_of, new_app, new_rule, subcommand_of, subcommand_rows_of, with_rule, with_subcommand}
+use Rattle.clap.specs.declared.builder.command.Command.{Command}
+use Rattle.clap.specs.declared.builder.command.Command.TheViews.{out-Command}
 use Rattle.clap.specs.declared.parser.matches.ArgMatches.{ArgMatches}
 use Rattle.gomp_command.specs.declared.command.Service.{Service}
-use Rattle.gomp_command.specs.declared.command.Service.TheVariants.{Steps, Live}
+use Rattle.gomp_command.specs.declared.command.Service.TheVariants.{Steps, Live, Check}
 use Rattle.gomp_command.specs.declared.command.Request.{Request}
 
 -- by which the settings are found
@@ -22,10 +24,15 @@ settings_rule = record (new_rule settings_name) { range = Some (record { start_i
 abbrev pub word_of : Service → Text
 word_of Steps = codes "steps"
 word_of Live = codes "live"
+word_of Check = codes "check"
 
 -- the subcommand of a service
 abbrev pub service_app : Service → App
 service_app service = with_rule (new_app (word_of service)) settings_rule
+
+-- a command as it is built has this name and the settings, and no argument that those below it share
+abbrev pub IsServiceCommand : Text → Command → Type 0
+IsServiceCommand word command = (app_of command ≡ with_rule (new_app word) settings_rule) × ((out-Command command).has_globals ≡ false)
 
 -- the command `ompteam`, which has a version and wants a subcommand
 abbrev pub ompteam_alone : App
@@ -35,7 +42,7 @@ ompteam_alone = record (new_app (codes "ompteam")) {
 
 -- the command with its subcommands
 abbrev pub ompteam : App
-ompteam = with_subcommand (with_subcommand ompteam_alone (service_app Steps).top) (service_app Live).top
+ompteam = with_subcommand (with_subcommand (with_subcommand ompteam_alone (service_app Steps).top) (service_app Live).top) (service_app Check).top
 
 -- why the words of a command line, of which the first is the program's name, are not served; none
 -- where they are
@@ -49,7 +56,7 @@ pub record Asked : Type 0 where
 
 -- the service that a subcommand names
 abbrev pub service_of : Text → Service
-service_of name = if bytes_eq name (codes "live") then Live else Steps
+service_of name = if bytes_eq name (codes "live") then Live else if bytes_eq name (codes "check") then Check else Steps
 
 -- the values of the settings among these rows
 abbrev pub settings_in : List Row → List Text

@@ -10,11 +10,15 @@ with_settings = codes "ompteam" ∷ codes "steps" ∷ codes "OMP_SCHEDULE=guided
 abbrev pub with_live : List Text
 with_live = codes "ompteam" ∷ codes "live" ∷ codes "OMP_SCHEDULE=guided,7" ∷ []
 
+-- the third service
+abbrev pub with_check : List Text
+with_check = codes "ompteam" ∷ codes "check" ∷ codes "OMP_SCHEDULE=guided,7" ∷ []
+
 -- the program's name alone
 abbrev pub without_command : List Text
 without_command = codes "ompteam" ∷ []
 
--- another command than `steps` and `live`
+-- another command than those of the services
 abbrev pub with_another_command : List Text
 with_another_command = codes "ompteam" ∷ codes "run" ∷ []
 

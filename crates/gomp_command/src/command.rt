@@ -2,7 +2,7 @@
 
 ghost use Rattle.std.specs.Prelude.{◌≡◌, false, Some, IfOk, map};
 ghost use Rattle.clap.specs.Words.{FailsBy, app_of, rule_of};
-ghost use Rattle.gomp_command.specs.CommandLine.{AskFor, HasRequest, asked_by, asked_of, faults_of, ompteam, service_of, settings_rule, values_given};
+ghost use Rattle.gomp_command.specs.CommandLine.{AskFor, HasRequest, IsServiceCommand, asked_by, asked_of, faults_of, ompteam, service_of, settings_rule, values_given};
 
 use clap::{Arg, ArgMatches, Command, Error};
 use std::alloc::{AllocError, Global};
@@ -15,6 +15,8 @@ pub enum Service {
     Steps,
     /// `ompteam live`: each line is answered before the next is read.
     Live,
+    /// `ompteam check`: a text is read whole, and what it is is said, or its first bad line.
+    Check,
 }
 
 /// What the words of a command line ask for.
@@ -69,6 +71,8 @@ fn service_of(name: &str) -> Service
 {
     if name == "live" {
         Service::Live
+    } else if name == "check" {
+        Service::Check
     } else {
         Service::Steps
     }
@@ -81,18 +85,41 @@ const SETTINGS: &str = "NAME=VALUE";
 fn ompteam<'a>(alloc: Global) -> Result<Command<'a>, AllocError>
     ensures { IfOk result (λ command. app_of command ≡ ompteam) }
 {
-    let steps = Command::new(alloc, "steps")
-        .about("Run the text of steps on standard input and print each reply")
-        .arg(settings_arg(alloc))?;
-    let live = Command::new(alloc, "live")
-        .about("Answer each line of standard input before the next is read")
-        .arg(settings_arg(alloc))?;
+    let steps = service_command(
+        alloc,
+        "steps",
+        "Run the text of steps on standard input and print each reply",
+    )?;
+    let live = service_command(
+        alloc,
+        "live",
+        "Answer each line of standard input before the next is read",
+    )?;
+    let check = service_command(
+        alloc,
+        "check",
+        "Check the text on standard input and print what it is, or its first bad line",
+    )?;
     Command::new(alloc, "ompteam")
         .version("0.1.0")
         .about("An OpenMP team, step by step")
         .subcommand_required(true)
         .subcommand(steps)?
-        .subcommand(live)
+        .subcommand(live)?
+        .subcommand(check)
+}
+
+/// The subcommand of this name, which takes settings, with what the help says of it.
+fn service_command<'a>(
+    alloc: Global,
+    word: &'a str,
+    about: &'a str,
+) -> Result<Command<'a>, AllocError>
+    ensures { IfOk result (IsServiceCommand word.now) }
+{
+    Command::new(alloc, word)
+        .about(about)
+        .arg(settings_arg(alloc))
 }
 
 /// The argument that takes the settings, any number of them.

@@ -51,9 +51,9 @@ with_begin number word (around ∷ blocks) first lines less is fits closed =
 
 -- Places
 
-not_true : (b : Bool) → not b ≡ true → b ≡ false
-not_true true is = absurd (cc)
-not_true false is = refl
+not_true_is_false : (b : Bool) → not b ≡ true → b ≡ false
+not_true_is_false true is = absurd (cc)
+not_true_is_false false is = refl
 
 sections_same : (word : EndWord) → same_end_word EndSections word ≡ has_sections word
 sections_same EndSections = refl
@@ -64,7 +64,7 @@ inside_same [] = refl
 inside_same (around ∷ blocks) = sections_same around.end
 
 none_inside : (blocks : List OpenBlock) → not (ends_innermost EndSections blocks) ≡ true → has_sections_inside blocks ≡ false
-none_inside blocks may = not_true (has_sections_inside blocks) (rw (inside_same blocks) at may)
+none_inside blocks may = not_true_is_false (has_sections_inside blocks) (rw (inside_same blocks) at may)
 
 fits_inside : (word : EndWord) (blocks : List OpenBlock) → may_stand (Begins word) blocks ≡ true → is_section word ≡ has_sections_inside blocks
 fits_inside EndSection blocks may = sym may ∙ inside_same blocks
@@ -148,19 +148,19 @@ statements_nest texts number lines read = closes_lines texts number [] lines rea
 
 -- Where blocks end
 
-one_more : (depth : ℕ) (line : ScriptLine) (lines : List ScriptLine) (nesting : Nesting) → nesting_of line.statement ≡ nesting → lines_inside depth (line ∷ lines) ≡ inside_then depth nesting (λ inner. lines_inside inner lines)
-one_more depth line lines nesting is = rw is refl
+one_more_inside : (depth : ℕ) (line : ScriptLine) (lines : List ScriptLine) (nesting : Nesting) → nesting_of line.statement ≡ nesting → lines_inside depth (line ∷ lines) ≡ inside_then depth nesting (λ inner. lines_inside inner lines)
+one_more_inside depth line lines nesting is = rw is refl
 
 -- lines that nest are passed as a whole
 inside_nested : (rest : List ScriptLine) (outer : ℕ) (sections : Bool) (body : List ScriptLine) → WellNested outer sections body → (depth : ℕ) → lines_inside depth (body ++ rest) ≡ length body + lines_inside depth rest
 inside_nested rest outer sections body (nothing o s) depth = omega arith
 inside_nested rest outer sections body (stands o line later is nest) depth =
-    one_more depth line (later ++ rest) Stands is ∙ ap (λ (n : ℕ). n + 1) (inside_nested rest o false later nest depth) ∙ omega arith
+    one_more_inside depth line (later ++ rest) Stands is ∙ ap (λ (n : ℕ). n + 1) (inside_nested rest o false later nest depth) ∙ omega arith
 inside_nested rest outer sections body (block o s word first last lines later less begins ends fits inner nest) depth =
     let all : (lines ++ last ∷ later) ++ rest ≡ lines ++ last ∷ (later ++ rest) = append_assoc lines (last ∷ later) rest in
-    let here = one_more depth first ((lines ++ last ∷ later) ++ rest) (Begins word) begins in
+    let here = one_more_inside depth first ((lines ++ last ∷ later) ++ rest) (Begins word) begins in
     let within = inside_nested (last ∷ later ++ rest) (suc o) (has_sections word) lines inner (depth + 1) in
-    let closing : lines_inside (depth + 1) (last ∷ later ++ rest) ≡ lines_inside depth (later ++ rest) + 1 = rw (add-one depth) (one_more (suc depth) last (later ++ rest) (Ends word) ends) in
+    let closing : lines_inside (depth + 1) (last ∷ later ++ rest) ≡ lines_inside depth (later ++ rest) + 1 = rw (add-one depth) (one_more_inside (suc depth) last (later ++ rest) (Ends word) ends) in
     let behind = inside_nested rest o s later nest depth in
     let sizes : length (lines ++ last ∷ later) ≡ length lines + suc (length later) = length-append lines (last ∷ later) in
     here ∙ ap (λ (n : ℕ). n + 1) (ap (λ (l : List ScriptLine). lines_inside (depth + 1) l) all ∙ within) ∙ omega arith
@@ -168,5 +168,5 @@ inside_nested rest outer sections body (block o s word first last lines later le
 -- so the block that begins before them ends right behind them
 pub block_ends : (outer : ℕ) (sections : Bool) (word : EndWord) (body later : List ScriptLine) (last : ScriptLine) → nesting_of last.statement ≡ Ends word → WellNested outer sections body → lines_inside 0 (body ++ last ∷ later) ≡ length body
 block_ends outer sections word body later last is nest =
-    let here : lines_inside 0 (last ∷ later) ≡ 0 = one_more 0 last later (Ends word) is in
+    let here : lines_inside 0 (last ∷ later) ≡ 0 = one_more_inside 0 last later (Ends word) is in
     inside_nested (last ∷ later) outer sections body nest 0 ∙ omega arith

@@ -1,5 +1,6 @@
 -- What a function gives of a line and of a text, computed: what it may give, and what not. (own)
-use Rattle.std.proofs.Common.{◌≡◌, ℕ, false, [], ◌∷◌, Some, None, Result, Ok, Err, refl, ap, arith}
+use Rattle.std.proofs.Common.{◌≡◌, ℕ, false, List, [], ◌∷◌, Some, None, Result, Ok, Err, refl, ap, codes, arith}
+use Rattle.std.specs.Fmt.{digits}
 use Rattle.gomp_types.specs.declared.depend.DepKind.TheVariants.{DepIn}
 use Rattle.gomp_script.specs.declared.parse.LineError.TheVariants.{NoMemory, Fault}
 use Rattle.gomp_script.specs.declared.parse.Why.TheVariants.{MissingWord, ExtraWord}
@@ -12,6 +13,10 @@ use Rattle.gomp_region.specs.declared.statement.Construct.TheVariants.{Single, T
 use Rattle.gomp_region.specs.declared.statement.EndWord.TheVariants.{EndSingle, EndTask}
 use Rattle.gomp_region.specs.declared.statement.Nesting.TheVariants.{Begins, Ends, Stands}
 use Rattle.gomp_region.specs.declared.statement.Statement.TheVariants.{Begin, End, Barrier}
+use Rattle.gomp_region.specs.declared.script.ScriptLine.{ScriptLine}
+use Rattle.gomp_region.specs.BlockEnds.{HaveEnds}
+use Rattle.gomp_region.specs.Printing.{bad_script_text}
+use Rattle.gomp_region.proofs.EndLaws.{have_ends}
 use Rattle.gomp_region.specs.BlockGrammar.{WellNested, nothing, stands, block}
 use Rattle.gomp_region.specs.Examples.{on_line, on_second, with_items}
 use Rattle.gomp_region.specs.ScriptText.{Gives, HasItems, HasLine, HasStatement, IsRefused, LineHasItems, Nests, Passes, end_index, end_of_text, innermost, line_nesting, line_said, lines_inside, nested, refused_by, stop_of, without_lines}
@@ -19,16 +24,16 @@ use Rattle.gomp_region.specs.ScriptText.{Gives, HasItems, HasLine, HasStatement,
 -- Lines
 
 -- a task with an item may find no memory
-pub item_takes : HasItems (Ok (Begin (Task (with_items (record { kind = DepIn; addr = 4 } ∷ []))))) × LineHasItems (Ok (Some (Begin (Task (with_items (record { kind = DepIn; addr = 4 } ∷ []))))))
-item_takes = (λ same. absurd (cc), λ same. absurd (cc))
+pub item_takes_memory : HasItems (Ok (Begin (Task (with_items (record { kind = DepIn; addr = 4 } ∷ []))))) × LineHasItems (Ok (Some (Begin (Task (with_items (record { kind = DepIn; addr = 4 } ∷ []))))))
+item_takes_memory = (λ same. absurd (cc), λ same. absurd (cc))
 
 -- one without an item may not, nor another statement, a line without one, or a bad line
 pub others_take_none : (HasItems (Ok (Begin (Task (with_items [])))) → ⊥) × (HasItems (Ok Barrier) → ⊥) × (HasItems (Err MissingWord) → ⊥) × (LineHasItems (Ok None) → ⊥) × (LineHasItems (Err MissingWord) → ⊥)
 others_take_none = (λ some. some refl, λ never. never, λ never. never, λ never. never, λ never. never)
 
 -- what lines do to the blocks around them
-pub nestings : (line_nesting (Ok (Some (Begin Single))) ≡ Ok (Some (Begins EndSingle))) × (line_nesting (Ok (Some (End EndTask))) ≡ Ok (Some (Ends EndTask))) × (line_nesting (Ok (Some Barrier)) ≡ Ok (Some Stands)) × (line_nesting (Ok None) ≡ Ok None) × (line_nesting (Err ExtraWord) ≡ Err ExtraWord)
-nestings = (refl, refl, refl, refl, refl)
+pub nestings_of_lines : (line_nesting (Ok (Some (Begin Single))) ≡ Ok (Some (Begins EndSingle))) × (line_nesting (Ok (Some (End EndTask))) ≡ Ok (Some (Ends EndTask))) × (line_nesting (Ok (Some Barrier)) ≡ Ok (Some Stands)) × (line_nesting (Ok None) ≡ Ok None) × (line_nesting (Err ExtraWord) ≡ Err ExtraWord)
+nestings_of_lines = (refl, refl, refl, refl, refl)
 
 -- what they say
 pub said_by_lines : (line_said 2 (Ok (Some Barrier)) ≡ on_second Barrier ∷ []) × (line_said 2 (Ok None) ≡ []) × (line_said 2 (Err ExtraWord) ≡ [])
@@ -64,8 +69,8 @@ pub refused_lines : IsRefused (Ok (Some Barrier)) [] [] × (IsRefused (Ok (Some 
 refused_lines = (refl, λ same. absurd (cc), λ never. never, λ never. never)
 
 -- an error of a line is its own
-pub stops : (stop_of NoMemory ≡ OutOfMemory) × (stop_of (Fault ExtraWord) ≡ BadHere (Words ExtraWord))
-stops = (refl, refl)
+pub stops_of_errors : (stop_of NoMemory ≡ OutOfMemory) × (stop_of (Fault ExtraWord) ≡ BadHere (Words ExtraWord))
+stops_of_errors = (refl, refl)
 
 -- Texts
 
@@ -78,8 +83,8 @@ pub faults_of_texts : (without_lines (Ok []) ≡ Ok tt) × (without_lines (Err (
 faults_of_texts = (refl, refl, refl, refl)
 
 -- what was read may be given, or want of memory, or the bad line
-pub given : Gives {X = ℕ} {Y = ℕ} (λ n. n) (Ok 4) (Ok 4) × Gives {X = ℕ} {Y = ℕ} (λ n. n) (Err Memory) (Ok 4) × Gives {X = ℕ} {Y = ℕ} (λ n. n) (Err (Bad (record { line = 2; why = TooDeep }))) (Err (record { line = 2; why = TooDeep }))
-given = (refl, tt, refl)
+pub given_results : Gives {X = ℕ} {Y = ℕ} (λ n. n) (Ok 4) (Ok 4) × Gives {X = ℕ} {Y = ℕ} (λ n. n) (Err Memory) (Ok 4) × Gives {X = ℕ} {Y = ℕ} (λ n. n) (Err (Bad (record { line = 2; why = TooDeep }))) (Err (record { line = 2; why = TooDeep }))
+given_results = (refl, tt, refl)
 
 -- the bad line of what was read
 abbrev bad_in : Result ℕ BadScript → BadScript
@@ -111,3 +116,35 @@ block_nests = block 0 false EndSingle (on_line 2 (Begin Single)) (on_line 4 (End
 -- so many lines stand in it, and it ends there
 pub block_of_one : (lines_inside 0 (on_line 3 Barrier ∷ on_line 4 (End EndSingle) ∷ on_line 5 Barrier ∷ []) ≡ 1) × (end_index 7 (Begins EndSingle) (on_line 3 Barrier ∷ on_line 4 (End EndSingle) ∷ on_line 5 Barrier ∷ []) ≡ 9) × (end_index 7 Stands (on_line 3 Barrier ∷ on_line 4 (End EndSingle) ∷ []) ≡ 7) × (end_index 7 (Ends EndSingle) (on_line 3 Barrier ∷ on_line 4 (End EndSingle) ∷ []) ≡ 7)
 block_of_one = (refl, refl, refl, refl)
+
+-- Where blocks end
+
+-- a block that is ended, and a barrier behind it
+abbrev ended_block : List ScriptLine
+ended_block = on_line 2 (Begin Single) ∷ on_line 3 (End EndSingle) ∷ on_line 4 Barrier ∷ []
+
+-- their ends
+pub ends_of_a_block : HaveEnds ended_block (1 ∷ 1 ∷ 2 ∷ [])
+ends_of_a_block =
+    have_ends ended_block (1 ∷ 1 ∷ 2 ∷ []) (block 0 false EndSingle (on_line 2 (Begin Single)) (on_line 3 (End EndSingle)) [] (on_line 4 Barrier ∷ []) (omega arith) refl refl refl (nothing 1 false) (stands 0 (on_line 4 Barrier) [] refl (nothing 0 false))) refl
+
+-- each line has one, and one that begins no block is its own
+pub other_ends_refused : (HaveEnds ended_block (1 ∷ 1 ∷ []) → ⊥) × (HaveEnds ended_block (1 ∷ 1 ∷ 1 ∷ []) → ⊥) × (HaveEnds ended_block (1 ∷ 2 ∷ 2 ∷ []) → ⊥)
+other_ends_refused =
+    (λ have. absurd (let each = have.each in omega (arith, each)), λ have. absurd (let own = have.at 2 (omega arith) (on_second Barrier) in omega (arith, own)), λ have. absurd (let own = have.at 1 (omega arith) (on_second Barrier) in omega (arith, own)))
+
+-- a block ends behind its beginning, among the lines, at its end word
+pub other_ends_of_blocks : (HaveEnds ended_block (0 ∷ 1 ∷ 2 ∷ []) → ⊥) × (HaveEnds ended_block (3 ∷ 1 ∷ 2 ∷ []) → ⊥) × (HaveEnds ended_block (2 ∷ 1 ∷ 2 ∷ []) → ⊥) × (HaveEnds (on_line 2 (Begin Single) ∷ on_line 3 (End EndTask) ∷ []) (1 ∷ 1 ∷ []) → ⊥)
+other_ends_of_blocks = (
+  λ have. absurd (let end = have.at 0 (omega arith) (on_second Barrier) in let behind = end.0 in omega (arith, behind)),
+  λ have. absurd (let end = have.at 0 (omega arith) (on_second Barrier) in let within = end.1 in omega (arith, within)),
+  λ have. absurd (let end = have.at 0 (omega arith) (on_second Barrier) in let word = end.2 (on_second Barrier) in cc),
+  λ have. absurd (let end = have.at 0 (omega arith) (on_second Barrier) in let word = end.2 (on_second Barrier) in cc),
+)
+
+-- Bad lines
+
+-- what is printed of each fault
+pub faults_printed : (bad_script_text (record { line = 2; why = Words ExtraWord }) ≡ codes "bad line 2: extra word\n") × (bad_script_text (record { line = 10; why = NoOpenBlock }) ≡ codes "bad line 10: no open block\n") × (bad_script_text (record { line = 34; why = TooDeep }) ≡ codes "bad line 34: too deep\n") × (bad_script_text (record { line = 1; why = NotClosed }) ≡ codes "bad line 1: block not closed\n")
+unfolding digits
+faults_printed = (refl, refl, refl, refl)

@@ -1,5 +1,6 @@
 mod LineLemmas
-mod TextLemmas
+pub mod TextLemmas
 pub mod BlockLaws
+pub mod EndLaws
 pub mod ScriptExamples
 pub mod GivenExamples

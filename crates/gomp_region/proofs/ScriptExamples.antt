@@ -36,9 +36,9 @@ unfolding region_of
 empty_region = refl
 
 -- an end word without its block
-pub end_alone : IsBad 2 NoOpenBlock (codes "region 2\nendfor\n")
+pub end_without_block : IsBad 2 NoOpenBlock (codes "region 2\nendfor\n")
 unfolding plain_line region_of
-end_alone = refl
+end_without_block = refl
 
 -- a team of nobody
 pub team_of_none : HasBadWords 1 BadNumber (codes "region 0\n")
@@ -46,9 +46,9 @@ unfolding region_of
 team_of_none = refl
 
 -- a word too many
-pub word_too_many : HasBadWords 2 ExtraWord (codes "region 2\nbarrier now\n")
+pub word_too_many_in_scripts : HasBadWords 2 ExtraWord (codes "region 2\nbarrier now\n")
 unfolding plain_line region_of
-word_too_many = refl
+word_too_many_in_scripts = refl
 
 -- a line that ends too early
 pub word_missing : HasBadWords 2 MissingWord (codes "region 2\nfor guided 7\n")
@@ -78,36 +78,36 @@ not_ascii = (refl, refl)
 -- The first line
 
 -- the size is a u32 from 1
-pub sizes_of_teams : HasBadWords 1 BadNumber (codes "region 4294967296") × HasBadWords 1 BadNumber (codes "region -1") × HasBadWords 1 BadNumber (codes "region x 2") × HasBadWords 1 ExtraWord (codes "region 2 2") × HasBadWords 1 ExtraWord (codes "region 2 x") × (script_of (codes "region 4294967295") ≡ Ok (Stated 4294967295, [], []))
+pub sizes_of_regions : HasBadWords 1 BadNumber (codes "region 4294967296") × HasBadWords 1 BadNumber (codes "region -1") × HasBadWords 1 BadNumber (codes "region x 2") × HasBadWords 1 ExtraWord (codes "region 2 2") × HasBadWords 1 ExtraWord (codes "region 2 x") × (script_of (codes "region 4294967295") ≡ Ok (Stated 4294967295, [], []))
 unfolding region_of
-sizes_of_teams = (refl, refl, refl, refl, refl, refl)
+sizes_of_regions = (refl, refl, refl, refl, refl, refl)
 
 -- Statements
 
 -- the lines that begin a block
-pub beginnings : said (parts (codes "for guided 7 0 1000 1 wait|sections nowait|section|single|copy -5|ordered|critical|critical a|task|task if0 final in 7|group|parallel 4294967295|only 65535")) ≡ each_says (map Begin (Loop (loop_to Guided 7 1000) ∷ Sections Nowait ∷ Section ∷ Single ∷ Copy (negsuc 4) ∷ Ordered ∷ Critical [] ∷ Critical (codes "a") ∷ Task (with_items []) ∷ Task (record { undeferred = true; final_task = true; deps = record { kind = DepIn; addr = 7 } ∷ [] }) ∷ Group ∷ Parallel 4294967295 ∷ Only 65535 ∷ []))
+pub block_beginnings : said (parts (codes "for guided 7 0 1000 1 wait|sections nowait|section|single|copy -5|ordered|critical|critical a|task|task if0 final in 7|group|parallel 4294967295|only 65535")) ≡ each_says (map Begin (Loop (loop_to Guided 7 1000) ∷ Sections Nowait ∷ Section ∷ Single ∷ Copy (negsuc 4) ∷ Ordered ∷ Critical [] ∷ Critical (codes "a") ∷ Task (with_items []) ∷ Task (record { undeferred = true; final_task = true; deps = record { kind = DepIn; addr = 7 } ∷ [] }) ∷ Group ∷ Parallel 4294967295 ∷ Only 65535 ∷ []))
 unfolding for_line sections_line copy_line critical_line task_line parallel_line only_line plain_line
-beginnings = refl
+block_beginnings = refl
 
 -- the numbers of a loop stand in this order
-pub numbers_of_a_loop : said (codes "for dynamic 5 -3 9 2 cancellable ordered" ∷ []) ≡ each_says (Begin (Loop (record { start = negsuc 2; end = pos 9; incr = pos 2; sched = Dynamic; chunk = pos 5; ordered = true; end_kind = Cancellable })) ∷ [])
+pub numbers_of_a_for : said (codes "for dynamic 5 -3 9 2 cancellable ordered" ∷ []) ≡ each_says (Begin (Loop (record { start = negsuc 2; end = pos 9; incr = pos 2; sched = Dynamic; chunk = pos 5; ordered = true; end_kind = Cancellable })) ∷ [])
 unfolding for_line
-numbers_of_a_loop = refl
+numbers_of_a_for = refl
 
 -- the lines that end one
-pub endings : said (parts (codes "endfor|endsections|endsection|endsingle|endcopy|endordered|endcritical|endtask|endgroup|endparallel|endonly")) ≡ each_says (map End (EndFor ∷ EndSections ∷ EndSection ∷ EndSingle ∷ EndCopy ∷ EndOrdered ∷ EndCritical ∷ EndTask ∷ EndGroup ∷ EndParallel ∷ EndOnly ∷ []))
+pub block_endings : said (parts (codes "endfor|endsections|endsection|endsingle|endcopy|endordered|endcritical|endtask|endgroup|endparallel|endonly")) ≡ each_says (map End (EndFor ∷ EndSections ∷ EndSection ∷ EndSingle ∷ EndCopy ∷ EndOrdered ∷ EndCritical ∷ EndTask ∷ EndGroup ∷ EndParallel ∷ EndOnly ∷ []))
 unfolding plain_line
-endings = refl
+block_endings = refl
 
 -- the other lines
-pub others : said (parts (codes "taskwait|barrier|cancel taskgroup|point taskgroup|add -1|add it")) ≡ each_says (Taskwait ∷ Barrier ∷ Cancel Taskgroup ∷ Point Taskgroup ∷ Add (Number (negsuc 0)) ∷ Add Iteration ∷ [])
+pub other_statements : said (parts (codes "taskwait|barrier|cancel taskgroup|point taskgroup|add -1|add it")) ≡ each_says (Taskwait ∷ Barrier ∷ Cancel Taskgroup ∷ Point Taskgroup ∷ Add (Number (negsuc 0)) ∷ Add Iteration ∷ [])
 unfolding cancel_line point_line add_line plain_line
-others = refl
+other_statements = refl
 
 -- a letter too few, too many, or a capital
-pub miswritten : said (parts (codes "fo|fors|For|sectio|singles|Copy|orders|critica|tasks|groups|paralle|onl|endfo|endfors|endsingl|endonlys|taskwaits|barrie|cancels|points|ad|adds|region|end")) ≡ each_bad 24 UnknownWord
+pub miswritten_words : said (parts (codes "fo|fors|For|sectio|singles|Copy|orders|critica|tasks|groups|paralle|onl|endfo|endfors|endsingl|endonlys|taskwaits|barrie|cancels|points|ad|adds|region|end")) ≡ each_bad 24 UnknownWord
 unfolding plain_line
-miswritten = refl
+miswritten_words = refl
 
 -- words of a list
 pub words_of_lists : said (parts (codes "for auto 7 0 1000 1 wait|for guided 7 0 1000 1 waits|sections ordered|cancel for|point group")) ≡ each_bad 5 UnknownWord
@@ -120,9 +120,9 @@ unfolding for_line sections_line copy_line task_line parallel_line only_line can
 words_missing = refl
 
 -- numbers
-pub numbers : said (parts (codes "for guided x 0 1000 1 wait|for guided 7 +0 1000 1 wait|for guided 7 0 9223372036854775808 1 wait|for guided 7 0 1000 one wait|copy 9223372036854775808|copy it|task in x|task in -1|parallel 0|parallel 4294967296|parallel -1|only 65536|only -1|add its|add x|add 9223372036854775808")) ≡ each_bad 16 BadNumber
+pub numbers_refused : said (parts (codes "for guided x 0 1000 1 wait|for guided 7 +0 1000 1 wait|for guided 7 0 9223372036854775808 1 wait|for guided 7 0 1000 one wait|copy 9223372036854775808|copy it|task in x|task in -1|parallel 0|parallel 4294967296|parallel -1|only 65536|only -1|add its|add x|add 9223372036854775808")) ≡ each_bad 16 BadNumber
 unfolding for_line copy_line task_line parallel_line only_line add_line
-numbers = refl
+numbers_refused = refl
 
 -- words too many
 pub words_too_many : said (parts (codes "for guided 7 0 1000 1 wait ordered ordered|for guided 7 0 1000 1 wait now|sections wait now|copy 1 2|critical a b|task final if0|task if0 if0|task 7|task in 7 if0|parallel 1 2|only 1 2|cancel loop 1|point loop 1|add 1 2|add it it|section 1|single nowait|ordered 1|group 1|taskwait in 7|barrier now|endfor 1|endonly 1")) ≡ each_bad 23 ExtraWord
@@ -137,9 +137,9 @@ first_of_faults = (refl, refl, refl)
 -- Blocks
 
 -- sections, each a block
-pub two_sections : script_of (codes "region\nsections wait\nsection\nadd 1\nendsection\nsection\nendsection\nendsections\n") ≡ Ok (Unstated, on_line 2 (Begin (Sections Wait)) ∷ on_line 3 (Begin Section) ∷ on_line 4 (Add (Number (pos 1))) ∷ on_line 5 (End EndSection) ∷ on_line 6 (Begin Section) ∷ on_line 7 (End EndSection) ∷ on_line 8 (End EndSections) ∷ [], 6 ∷ 3 ∷ 2 ∷ 3 ∷ 5 ∷ 5 ∷ 6 ∷ [])
+pub sections_of_two : script_of (codes "region\nsections wait\nsection\nadd 1\nendsection\nsection\nendsection\nendsections\n") ≡ Ok (Unstated, on_line 2 (Begin (Sections Wait)) ∷ on_line 3 (Begin Section) ∷ on_line 4 (Add (Number (pos 1))) ∷ on_line 5 (End EndSection) ∷ on_line 6 (Begin Section) ∷ on_line 7 (End EndSection) ∷ on_line 8 (End EndSections) ∷ [], 6 ∷ 3 ∷ 2 ∷ 3 ∷ 5 ∷ 5 ∷ 6 ∷ [])
 unfolding sections_line add_line plain_line region_of
-two_sections = refl
+sections_of_two = refl
 
 -- there may be none of them
 pub no_section : script_of (codes "region\nsections wait\nendsections\n") ≡ Ok (Unstated, on_line 2 (Begin (Sections Wait)) ∷ on_line 3 (End EndSections) ∷ [], 1 ∷ 1 ∷ [])
@@ -172,9 +172,9 @@ unfolding plain_line region_of
 bad_line_first = refl
 
 -- a fault of the words comes before one of the blocks
-pub words_first : HasBadWords 2 ExtraWord (codes "region\nendfor 1\n")
+pub words_before_blocks : HasBadWords 2 ExtraWord (codes "region\nendfor 1\n")
 unfolding plain_line region_of
-words_first = refl
+words_before_blocks = refl
 
 -- 32 blocks nest, 33 do not, and what stands in the innermost is no block
 pub blocks_nest : IsBad 33 NotClosed (codes "region\n" ++ times 32 (codes "group\n")) × IsBad 34 TooDeep (codes "region\n" ++ times 33 (codes "group\n")) × IsBad 33 NotClosed (codes "region\n" ++ times 32 (codes "group\n") ++ codes "barrier\n")

@@ -17,13 +17,13 @@ abbrev pub left : Option (List ℕ) → ℕ
 left None = 0
 left (Some text) = suc (length text)
 
-pub left_less : (rest : Option (Bor (List ℕ))) (n : ℕ) → IfSome rest (λ text. length text.now < n) → left (option_copied rest) < suc n
-left_less None n less = omega arith
-left_less (Some text) n less = omega (arith, less)
+pub script_left_less : (rest : Option (Bor (List ℕ))) (n : ℕ) → IfSome rest (λ text. length text.now < n) → left (option_copied rest) < suc n
+script_left_less None n less = omega arith
+script_left_less (Some text) n less = omega (arith, less)
 
 -- the lines of what is left of a text, by the first one and what is left after it
-pub lines_here : (text line : List ℕ) (before rest : Option (List ℕ)) → before ≡ Some text → lines_of text ≡ line ∷ lines_left rest → lines_left before ≡ line ∷ lines_left rest
-lines_here text line before rest is parts = ap lines_left is ∙ parts
+pub script_lines_here : (text line : List ℕ) (before rest : Option (List ℕ)) → before ≡ Some text → lines_of text ≡ line ∷ lines_left rest → lines_left before ≡ line ∷ lines_left rest
+script_lines_here text line before rest is parts = ap lines_left is ∙ parts
 
 abbrev pub Later : Type 0
 Later = List OpenBlock → Result (List ScriptLine) BadScript
@@ -34,12 +34,12 @@ refused_both lines (Ok later) = refl
 refused_both lines (Err bad) = refl
 
 -- a list with a line in it
-not_none : (lines : List ScriptLine) (line : ScriptLine) (later : List ScriptLine) → lines ++ line ∷ later ≢ []
-not_none [] line later same = absurd (cc)
-not_none (first ∷ lines) line later same = absurd (cc)
+not_without_lines : (lines : List ScriptLine) (line : ScriptLine) (later : List ScriptLine) → lines ++ line ∷ later ≢ []
+not_without_lines [] line later same = absurd (cc)
+not_without_lines (first ∷ lines) line later same = absurd (cc)
 
 with_some : (lines : List ScriptLine) (line : ScriptLine) (read : Result (List ScriptLine) BadScript) → refused_by read ≡ Memory → HasLine (with_lines lines (with_lines (line ∷ []) read))
-with_some lines line (Ok later) memory = not_none lines line later
+with_some lines line (Ok later) memory = not_without_lines lines line later
 with_some lines line (Err bad) memory = absurd (cc)
 
 some_refused : (lines : List ScriptLine) (number : ℕ) (statement : Statement) (found : Result (List OpenBlock) ScriptWhy) (later : Later) → refused_by (line_then number (Ok (Some statement)) found later) ≡ Memory → HasLine (with_lines lines (line_then number (Ok (Some statement)) found later))

@@ -5,6 +5,7 @@ ghost use Rattle.gomp_text.specs.Words.{words_of};
 ghost use Rattle.gomp_script.specs.StepText.{read_line};
 ghost use Rattle.gomp_region.specs.declared.parse.Stop.TheVariants.{OutOfMemory};
 ghost use Rattle.gomp_region.specs.declared.script.ScriptError.TheVariants.{Bad, Memory};
+ghost use Rattle.gomp_region.specs.BlockEnds.{HaveEnds};
 ghost use Rattle.gomp_region.specs.BlockGrammar.{WellNested};
 ghost use Rattle.gomp_region.specs.ScriptText.{Gives, HasLine, HasStatement, IsRefused, Nests, Passes, line_nested, line_said, refused_by, region_of, script_of, statement_of, statements_left, team_size_of, with_team};
 
@@ -66,6 +67,7 @@ pub fn parse_script(alloc: Global, text: &[u8]) -> Result<Script, ScriptError>
     ensures script { Gives (λ script. (script.team, script.lines.items, script.ends.items))
         result (script_of text.now) }
     ensures nest { IfOk result (λ script. WellNested 0 false script.lines.items) }
+    ensures ends { IfOk result (λ script. HaveEnds script.lines.items script.ends.items) }
     ensures memory { IsErrOf result Memory → HasStatement (script_of text.now) }
 {
     let mut rest = Some(text);
@@ -102,6 +104,7 @@ fn read_script(
     ensures script { Gives (λ script. (script.team, script.lines.items, script.ends.items))
         result (with_team team (statements_left first [] (option_copied lines.entry))) }
     ensures nest { IfOk result (λ script. WellNested 0 false script.lines.items) }
+    ensures ends { IfOk result (λ script. HaveEnds script.lines.items script.ends.items) }
     ensures memory { IsErrOf result Memory →
         HasStatement (with_team team (statements_left first [] (option_copied lines.entry))) }
 {

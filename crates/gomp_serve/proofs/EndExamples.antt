@@ -1,5 +1,5 @@
 -- How the program ends: for each line of a definition an end that it alone refuses.
-use Rattle.std.proofs.Common.{◌≡◌, ℕ, List, [], ◌∷◌, Option, Some, None, refl, inl, inr}
+use Rattle.std.proofs.Common.{◌≡◌, ℕ, List, [], ◌∷◌, Option, Some, None, refl, inl, inr, arith}
 use Rattle.std.specs.Prelude.{codes, string_bytes}
 use Rattle.std.specs.declared.io.ErrorKind.TheVariants as io_kinds
 use Rattle.std.specs.declared.string.String.{String}
@@ -10,7 +10,8 @@ use Rattle.gomp_icv.specs.Variables.{Variables}
 use Rattle.gomp_steps.specs.declared.serve.Ending.TheVariants as ending
 use Rattle.gomp_steps.specs.declared.notes.Notes.TheVariants as notes
 use Rattle.gomp_steps.specs.declared.notes.Status.{Status}
-use Rattle.gomp_command.specs.declared.command.Service.TheVariants.{Live, Steps}
+use Rattle.gomp_command.specs.declared.command.Service.TheVariants.{Check, Live, Steps}
+use Rattle.gomp_check.proofs.CountLaws.{checked_number}
 use Rattle.gomp_serve.specs.Ends.{Names, IsStatus, IsFault, HasNoWords, EndsWithRead, IsErrorReport, ServesBy}
 
 -- How the program ends
@@ -68,3 +69,7 @@ refused_words_end before after text code = (λ told. (told.2, told.3), λ told. 
 -- lines that were answered one by one end with 0 alone
 pub live_ends_well : (icv : Variables) (remaining before after : Option (List ℕ)) → ServesBy Live icv remaining before after (ending.Answered 1) → ⊥
 live_ends_well icv remaining before after serves = absurd (let end = serves.1 in cc)
+
+-- a text that is checked has no team that could be refused
+pub check_refuses_no_team : (icv : Variables) (remaining before after : Option (List ℕ)) → ServesBy Check icv remaining before after (ending.Answered 2) → ⊥
+check_refuses_no_team icv remaining before after serves = absurd (let small = checked_number serves.text in let is = serves.code_is in omega (arith, small, is))

@@ -12,8 +12,9 @@ use Rattle.gomp_script.specs.StepText.{steps_of}
 use Rattle.gomp_command.specs.CommandLine.{Asked}
 use Rattle.gomp_command.specs.Settings.{first_without, read_settings}
 use Rattle.gomp_command.specs.declared.command.Service.{Service}
-use Rattle.gomp_command.specs.declared.command.Service.TheVariants.{Steps, Live}
+use Rattle.gomp_command.specs.declared.command.Service.TheVariants.{Steps, Live, Check}
 use Rattle.gomp_serve.specs.Ends.{Ends, EndsWithRead, IsFault, IsStatus, IsErrorReport, ServesBy}
+use Rattle.gomp_check.proofs.CountLaws.{checked_number}
 use Rattle.gomp_steps.specs.Output.{AnswerTo, Runs, is_size, lacks, status_of}
 use Rattle.gomp_steps.specs.declared.notes.Notes.{Notes}
 use Rattle.gomp_steps.specs.declared.notes.Notes.TheVariants as notes
@@ -40,6 +41,7 @@ answer_number icv (Err bad) text code answer = let is = answer.1 in omega (arith
 served_number : (service : Service) (icv : Variables) (remaining before after : Option (List ℕ)) (code : ℕ) → ServesBy service icv remaining before after (ending.Answered code) → code ≤ 3
 served_number Steps icv remaining before after code serves = answer_number icv (steps_of serves.text) serves.output code serves.answer
 served_number Live icv remaining before after code serves = let none = serves.1 in omega (arith, none)
+served_number Check icv remaining before after code serves = let small = checked_number serves.text in let is = serves.code_is in omega (arith, small, is)
 
 status_number : (service : Service) (icv : Variables) (how : Ending) (ignored : List Refusal) (remaining before after : Option (List ℕ)) (status : Status) → ServesBy service icv remaining before after how → IsStatus how ignored status → status.code ≤ 3
 status_number service icv (ending.Answered code) [] remaining before after status serves is =

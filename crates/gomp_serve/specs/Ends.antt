@@ -16,15 +16,17 @@ use Rattle.gomp_steps.specs.declared.notes.Notes.{Notes}
 use Rattle.gomp_steps.specs.declared.notes.Notes.TheVariants as notes
 use Rattle.gomp_steps.specs.declared.notes.Status.{Status}
 use Rattle.gomp_live.specs.Serving.{ServesLive}
+use Rattle.gomp_check.specs.Serving.{Checks}
 use Rattle.gomp_command.specs.CommandLine.{Asked}
 use Rattle.gomp_command.specs.Settings.{first_without, read_settings}
 use Rattle.gomp_command.specs.declared.command.Service.{Service}
-use Rattle.gomp_command.specs.declared.command.Service.TheVariants.{Steps, Live}
+use Rattle.gomp_command.specs.declared.command.Service.TheVariants.{Steps, Live, Check}
 
 -- what becomes of the input and the output, by the service
 abbrev pub ServesBy : Service → Variables → Option (List ℕ) → Option (List ℕ) → Option (List ℕ) → Ending → Type 0
 ServesBy Steps icv remaining before after ended = Serves icv remaining before after ended
 ServesBy Live icv remaining before after ended = ServesLive icv remaining before after ended
+ServesBy Check icv remaining before after ended = Checks remaining before after ended
 
 -- the ignored words are named
 abbrev pub Names : List Refusal → Notes → Type 0
@@ -82,6 +84,10 @@ EndsOnSteps settings remaining before after status = EndsServing (record { servi
 -- how the program ends on the word `live` and these settings
 abbrev pub EndsOnLive : List Text → Option (List ℕ) → Option (List ℕ) → Option (List ℕ) → Status → Type 0
 EndsOnLive settings remaining before after status = EndsServing (record { service = Live; settings = settings }) remaining before after status
+
+-- how the program ends on the word `check` and these settings
+abbrev pub EndsOnCheck : List Text → Option (List ℕ) → Option (List ℕ) → Option (List ℕ) → Status → Type 0
+EndsOnCheck settings remaining before after status = EndsServing (record { service = Check; settings = settings }) remaining before after status
 
 -- an error of this kind asks for help or for the version
 abbrev pub Asks : ErrorKind → Type 0

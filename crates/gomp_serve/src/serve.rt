@@ -2,9 +2,10 @@
 
 ghost use Rattle.std.specs.Prelude.{◌≡◌, ℕ, List, [], ◌∷◌, codes, map};
 ghost use Rattle.gomp_command.specs.CommandLine.{ArePlain, asked_of, faults_of};
-ghost use Rattle.gomp_serve.specs.Ends.{Ends, EndsOnLive, EndsOnSteps, EndsServing, ServesBy};
+ghost use Rattle.gomp_serve.specs.Ends.{Ends, EndsOnCheck, EndsOnLive, EndsOnSteps, EndsServing, ServesBy};
 
 use crate::status::{no_equals, no_memory, report_error, status_of_ending};
+use gomp_check::serve::serve_check;
 use gomp_command::command::{Service, read_words, request_of};
 use gomp_command::settings::{SettingsError, read_settings};
 use gomp_icv::Icv;
@@ -18,7 +19,7 @@ use std::io::{BufReader, Read, Write};
 
 /// Does what the words of the command line say, of which the first is the program's name.
 ///
-/// The words behind `steps` or `live` are settings `NAME=VALUE`, which stand for words of the environment
+/// The words behind `steps`, `live` or `check` are settings `NAME=VALUE`, which stand for words of the environment
 /// (OpenMP API 5.2, chapter 21). One without `=` is a fault, and nothing is read or written then. Those
 /// that set nothing are ignored, and in the notes if the input was answered. [`Status`] says which
 /// status each end has.
@@ -35,6 +36,9 @@ pub fn serve<S: AsStr, R: Read + Drop, W: Write>(
         settings (R.remaining reader) (W.contents writer.old) (W.contents writer.new) result }
     ensures live { (name : List ℕ) (settings : List (List ℕ)) →
         map S.text words.now ≡ name ∷ codes "live" ∷ settings → ArePlain settings → EndsOnLive
+        settings (R.remaining reader) (W.contents writer.old) (W.contents writer.new) result }
+    ensures check { (name : List ℕ) (settings : List (List ℕ)) →
+        map S.text words.now ≡ name ∷ codes "check" ∷ settings → ArePlain settings → EndsOnCheck
         settings (R.remaining reader) (W.contents writer.old) (W.contents writer.new) result }
 {
     match read_words(alloc, words) {
@@ -84,5 +88,6 @@ fn serve_input<R: Read + Drop, W: Write>(
             Ok(reader) => serve_live::<PlainShares, _, _>(alloc, icv, reader, writer),
             Err(_) => Ending::NoMemory,
         },
+        Service::Check => serve_check(alloc, reader, writer),
     }
 }

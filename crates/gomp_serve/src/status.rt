@@ -14,7 +14,7 @@ use gomp_types::Refusal;
 use std::alloc::Global;
 use std::io::{self, Write};
 
-/// The end if the text of steps was served, and these words were ignored before.
+/// The end if the input was served, and these words were ignored before.
 pub(crate) fn status_of_ending(ending: Ending, ignored: Vec<Refusal>) -> Status
     ensures { IsStatus ending ignored.items result }
 {
