@@ -265,6 +265,8 @@ class Picture:
                     self.label(begin + 5, y + 13, bar.name)
                 elif room.put(end + 1, end + 5 + wide):
                     self.label(end + 4, y + 13, bar.name, 'beside')
+                elif room.put(begin - 5 - wide, begin - 1):
+                    self.label(begin - 4, y + 13, bar.name, 'beside', 'end')
 
     def marks(self, lane, top):
         y = top + GAP + BAR / 2
