@@ -11,7 +11,8 @@ mod print;
 pub use live::{LiveLine, parse_live_line};
 pub use parse::{BadLine, LineError, ParseError, Why, parse_steps};
 // The parts of a line, for crates that read lines of other texts.
-pub use parse::{behind_items, cancel_kind_of, count_of, critical_name_of, end_of, finish};
-pub use parse::{first_word, items_of, member_of, number_of, ordered_of, sched_of};
-pub use parse::{take_option, take_word, test_items};
+pub use parse::{
+    behind_items, cancel_kind_of, count_of, critical_name_of, end_of, finish, first_word, items_of,
+    member_of, number_of, ordered_of, sched_of, take_option, take_word, test_items,
+};
 pub use print::{print_bad_line, print_refusal, print_replies, print_reply};

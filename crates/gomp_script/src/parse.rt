@@ -18,25 +18,24 @@ mod sections;
 mod task;
 mod words;
 
+pub use cancel::cancel_kind_of;
 use cancel::{cancel_step, point_step};
+pub use critical::critical_name_of;
 use critical::{critical_end_step, critical_step};
 use gomp_text::{cut_at, is_ascii, is_word, next_word};
 use gomp_types::Step;
+pub use items::{behind_items, items_of, test_items};
 use locks::{lock_call_of, lock_step};
 use loops::loop_step;
+pub use loops::sched_of;
+pub use ordered::ordered_of;
 use ordered::ordered_step;
 use payload::copy_end_step;
 use plain::plain_step;
 use sections::sections_step;
 use std::alloc::{AllocError, AllocFailed, Global};
-use task::{task_step, taskwait_step};
-
-pub use cancel::cancel_kind_of;
-pub use critical::critical_name_of;
-pub use items::{behind_items, items_of, test_items};
-pub use loops::sched_of;
-pub use ordered::ordered_of;
 pub use task::take_option;
+use task::{task_step, taskwait_step};
 pub use words::{count_of, end_of, finish, member_of, number_of, take_word};
 
 /// Why a line is bad. A line is tested for these in this order.
