@@ -1,0 +1,81 @@
+//! The call that a step makes or repeats, kept while the step is made.
+
+use gomp_core::Team;
+use gomp_shares::Shares;
+use gomp_types::{Call, Step, TaskDesc};
+use std::alloc::{AllocError, Global};
+
+/// A copy of the call that this step makes, or repeats if it is a resume. The error is want of memory,
+/// which only the items of a `depend` clause take.
+pub(crate) fn meant_call<S: Shares>(
+    alloc: Global,
+    team: &Team<S>,
+    step: &Step,
+) -> Result<Call, AllocError> {
+    match (&step.call, team.open_call(step.member)) {
+        (Call::Resume, Some(open)) => copied_call(alloc, open),
+        (call, _) => copied_call(alloc, call),
+    }
+}
+
+/// A copy of a call.
+fn copied_call(alloc: Global, call: &Call) -> Result<Call, AllocError> {
+    match call {
+        Call::TaskCreate(desc) => Ok(Call::TaskCreate(copied_task(alloc, desc)?)),
+        Call::Taskwait(deps) => Ok(Call::Taskwait(deps.copied(alloc)?)),
+        call => Ok(copied_plain(call)),
+    }
+}
+
+/// A copy of what is asked of a task.
+fn copied_task(alloc: Global, desc: &TaskDesc) -> Result<TaskDesc, AllocError> {
+    Ok(TaskDesc {
+        code: desc.code,
+        arg: desc.arg,
+        undeferred: desc.undeferred,
+        final_task: desc.final_task,
+        deps: desc.deps.copied(alloc)?,
+    })
+}
+
+/// A copy of a call that has no items.
+fn copied_plain(call: &Call) -> Call {
+    match call {
+        Call::LoopStart(desc) => Call::LoopStart(*desc),
+        Call::LoopNext => Call::LoopNext,
+        Call::LoopEnd => Call::LoopEnd,
+        Call::LoopEndNowait => Call::LoopEndNowait,
+        Call::LoopEndCancel => Call::LoopEndCancel,
+        Call::SectionsStart { count: n, end_kind: end } => Call::SectionsStart { count: *n, end_kind: *end },
+        Call::SectionsNext => Call::SectionsNext,
+        Call::SectionsEnd => Call::SectionsEnd,
+        Call::SectionsEndNowait => Call::SectionsEndNowait,
+        Call::SectionsEndCancel => Call::SectionsEndCancel,
+        Call::SingleStart => Call::SingleStart,
+        Call::SingleCopyStart => Call::SingleCopyStart,
+        Call::SingleCopyEnd(words) => Call::SingleCopyEnd(words.copied()),
+        Call::OrderedStart(value) => Call::OrderedStart(*value),
+        Call::OrderedEnd => Call::OrderedEnd,
+        Call::Barrier => Call::Barrier,
+        Call::RegionEnd => Call::RegionEnd,
+        Call::CriticalStart(name) => Call::CriticalStart(name.copied()),
+        Call::CriticalEnd(name) => Call::CriticalEnd(name.copied()),
+        Call::LockInit => Call::LockInit,
+        Call::NestInit => Call::NestInit,
+        Call::LockDestroy(lock) => Call::LockDestroy(*lock),
+        Call::Set(lock) => Call::Set(*lock),
+        Call::Test(lock) => Call::Test(*lock),
+        Call::Unset(lock) => Call::Unset(*lock),
+        Call::SetNest(lock) => Call::SetNest(*lock),
+        Call::TestNest(lock) => Call::TestNest(*lock),
+        Call::UnsetNest(lock) => Call::UnsetNest(*lock),
+        Call::TaskEnd => Call::TaskEnd,
+        Call::GroupStart => Call::GroupStart,
+        Call::GroupEnd => Call::GroupEnd,
+        Call::Cancel { kind, clause } => Call::Cancel { kind: *kind, clause: *clause },
+        Call::Point(kind) => Call::Point(*kind),
+        Call::Resume => Call::Resume,
+        Call::Stop => Call::Stop,
+        Call::TaskCreate(_) | Call::Taskwait(_) => unreachable!(),
+    }
+}

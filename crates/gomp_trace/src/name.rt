@@ -1,0 +1,98 @@
+//! What a reader of a lane sees: the name of an event, and its category.
+
+use gomp_ompt::{Point, Record};
+use std::alloc::{AllocError, Global};
+use std::fmt;
+
+/// The name of a record's event.
+#[derive(Clone, Copy)]
+pub(crate) struct Name<'a>(pub(crate) &'a Record);
+
+impl fmt::Display for Name<'_> {
+    fn fmt<W: fmt::Write>(&self, f: &mut fmt::Formatter<W>) -> fmt::Result {
+        let Record { id, extra, .. } = *self.0;
+        match self.0.point {
+            Point::ParallelBegin => write!(f, "parallel region begins"),
+            Point::ParallelEnd => write!(f, "parallel region ends"),
+            Point::Work => write!(f, "{}", share_word(id)),
+            Point::Dispatch => write!(f, "dispatch"),
+            Point::TaskCreate => write!(f, "create task {id}"),
+            Point::Dependences => write!(f, "dependences of task {id}"),
+            Point::TaskSchedule => write!(f, "task {id}"),
+            Point::ImplicitTask => write!(f, "implicit task"),
+            Point::SyncRegion => write!(f, "{}", wait_word(id)),
+            Point::MutexAcquire => write!(f, "acquire {}", Mutex(id, extra)),
+            Point::MutexAcquired => write!(f, "{} acquired", Mutex(id, extra)),
+            Point::MutexReleased => write!(f, "{} released", Mutex(id, extra)),
+            Point::NestLock => write!(f, "nestable lock {id} set {extra} times"),
+            Point::Cancel => write!(f, "cancel {}", construct_word(id)),
+        }
+    }
+}
+
+/// What one task holds at a time: its kind, and the number of a nestable lock.
+#[derive(Clone, Copy)]
+struct Mutex(u64, u64);
+
+impl fmt::Display for Mutex {
+    fn fmt<W: fmt::Write>(&self, f: &mut fmt::Formatter<W>) -> fmt::Result {
+        let lock = self.1;
+        match self.0 {
+            1 => write!(f, "critical"),
+            2 => write!(f, "lock"),
+            3 => write!(f, "ordered"),
+            _ => write!(f, "nestable lock {lock}"),
+        }
+    }
+}
+
+/// The work-share with this number.
+fn share_word(id: u64) -> &'static str {
+    if id == 0 { "loop or sections" } else { "single" }
+}
+
+/// What is waited at, by its number.
+fn wait_word(id: u64) -> &'static str {
+    match id {
+        1 => "barrier",
+        2 => "end of work-share",
+        3 => "taskwait",
+        4 => "taskgroup",
+        _ => "end of region",
+    }
+}
+
+/// What is cancelled, by its number.
+fn construct_word(id: u64) -> &'static str {
+    match id {
+        1 => "parallel",
+        2 => "loop",
+        4 => "sections",
+        _ => "taskgroup",
+    }
+}
+
+/// The name of the callback of OMPT that has such records (OpenMP API 5.2, section 19.5.2).
+pub(crate) fn category(point: Point) -> &'static str {
+    match point {
+        Point::ParallelBegin => "parallel_begin",
+        Point::ParallelEnd => "parallel_end",
+        Point::Work => "work",
+        Point::Dispatch => "dispatch",
+        Point::TaskCreate => "task_create",
+        Point::Dependences => "dependences",
+        Point::TaskSchedule => "task_schedule",
+        Point::ImplicitTask => "implicit_task",
+        Point::SyncRegion => "sync_region",
+        Point::MutexAcquire => "mutex_acquire",
+        Point::MutexAcquired => "mutex_acquired",
+        Point::MutexReleased => "mutex_released",
+        Point::NestLock => "nest_lock",
+        Point::Cancel => "cancel",
+    }
+}
+
+/// The name as a text.
+pub(crate) fn name_text(alloc: Global, record: &Record) -> Result<String, AllocError> {
+    format!(in alloc; "{}", Name(record))
+}
