@@ -1,2 +1,6 @@
+pub mod Calls
 pub mod Lanes
 pub mod Runs
+pub mod Names
+pub mod Json
+pub mod Serving

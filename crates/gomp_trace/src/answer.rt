@@ -1,5 +1,8 @@
 //! From a text of steps to the trace of its run, and the exit status.
 
+ghost use Rattle.std.specs.Prelude.{IfOk};
+ghost use Rattle.gomp_trace.specs.Serving.{IsTraced};
+
 use crate::json::trace_text;
 use crate::run::trace_run;
 use gomp_icv::Icv;
@@ -11,7 +14,9 @@ use std::alloc::{AllocError, Global};
 
 /// The trace of a text of steps, run by a team by these control variables; or why the text or its team
 /// is refused. The error is want of memory outside of the steps.
-pub(crate) fn trace_answer(alloc: Global, icv: Icv, text: &[u8]) -> Result<Answer, AllocError> {
+pub(crate) fn trace_answer(alloc: Global, icv: Icv, text: &[u8]) -> Result<Answer, AllocError>
+    ensures { IfOk result (IsTraced icv text.now) }
+{
     let (count, steps) = match parse_steps(alloc, text) {
         Ok(found) => found,
         Err(ParseError::Bad(bad)) => {
@@ -24,9 +29,9 @@ pub(crate) fn trace_answer(alloc: Global, icv: Icv, text: &[u8]) -> Result<Answe
     };
     let members = team_size(count);
     match trace_run::<PlainShares>(alloc, members, icv, steps) {
-        Ok(run) => Ok(Answer {
-            text: trace_text(alloc, members, run.events.as_slice())?,
-            code: run.code,
+        Ok(outcome) => Ok(Answer {
+            text: trace_text(alloc, members, outcome.events.as_slice())?,
+            code: outcome.code,
         }),
         Err(Refusal::BadTeam) => Ok(Answer {
             text: print_refusal(alloc, &Refusal::BadTeam)?,

@@ -1,96 +1,127 @@
-//! The text of a trace: one JSON object, with an event a line.
+//! The text of a trace: one JSON object, an event a line, in the Chrome Trace Event format.
+
+ghost use Rattle.std.specs.Prelude.{◌≡◌, ◌++◌, codes, string_bytes, IfOk, OnOk};
+ghost use Rattle.serde_json.specs.View.{view};
+ghost use Rattle.serde_json.specs.Written.{compact_text};
+ghost use Rattle.gomp_trace.specs.Json.{args_data, event_data, moment_data, name_data, names_text, next_text, slice_data, trace_text};
 
 use crate::event::TraceEvent;
-use crate::name::{category, name_text};
+use crate::name::{Name, category};
 use gomp_ompt::Endpoint;
 use serde_json::{Value, json};
 use std::alloc::{AllocError, Global};
 
-/// The text of a trace of a team of this many members: the name of the team, those of its lanes, and
+/// The text of a trace of a team of this many members: the names of the team and of its lanes, and
 /// these events.
 pub(crate) fn trace_text(
     alloc: Global,
     members: u16,
     events: &[TraceEvent],
-) -> Result<String, AllocError> {
+) -> Result<String, AllocError>
+    ensures { IfOk result (λ text. string_bytes text ≡ trace_text members events.now) }
+{
     let mut text = String::from_str(alloc, "{\"traceEvents\":[\n")?;
     push_names(alloc, members, &mut text)?;
     for event in events {
-        push_line(alloc, &event_value(alloc, event)?, &mut text)?;
+        push_line(event_text(alloc, event)?.as_str(), &mut text)?;
     }
     text.push_str("\n]}\n")?;
     Ok(text)
 }
 
 /// Appends the names of the team and of its lanes.
-fn push_names(alloc: Global, members: u16, text: &mut String) -> Result<(), AllocError> {
-    let team = team_value(alloc, members)?.to_string(alloc)?;
-    text.push_str(team.as_str())?;
+fn push_names(alloc: Global, members: u16, text: &mut String) -> Result<(), AllocError>
+    ensures { OnOk result
+        (string_bytes text.new ≡ string_bytes text.old ++ names_text members members) }
+{
+    let team = format!(in alloc; "team of {members}")?;
+    text.push_str(name_text(alloc, team.as_str(), "process_name", 0)?.as_str())?;
     for member in 0..members {
-        push_line(alloc, &lane_value(alloc, member)?, text)?;
+        let name = format!(in alloc; "member {member}")?;
+        push_line(name_text(alloc, name.as_str(), "thread_name", member)?.as_str(), text)?;
     }
     Ok(())
 }
 
-/// Appends an event that is not the first.
-fn push_line(alloc: Global, value: &Value, text: &mut String) -> Result<(), AllocError> {
-    let line = value.to_string(alloc)?;
+/// Appends a line behind others.
+fn push_line(line: &str, text: &mut String) -> Result<(), AllocError>
+    ensures { OnOk result (string_bytes text.new ≡ string_bytes text.old ++ next_text line.now) }
+{
     text.push_str(",\n")?;
-    text.push_str(line.as_str())
+    text.push_str(line)
 }
 
-/// The name of the team.
-fn team_value(alloc: Global, members: u16) -> Result<Value, AllocError> {
-    let name = format!(in alloc; "team of {members}")?;
-    json!(in alloc; {"name": "process_name", "ph": "M", "pid": 0, "tid": 0, "args": {"name": name}})
-}
-
-/// The name of a member's lane.
-fn lane_value(alloc: Global, member: u16) -> Result<Value, AllocError> {
-    let name = format!(in alloc; "member {member}")?;
-    json!(in alloc; {
-        "name": "thread_name",
+/// The text of what names the team or a lane.
+fn name_text(alloc: Global, name: &str, of: &str, lane: u16) -> Result<String, AllocError>
+    ensures { IfOk result (λ text.
+        string_bytes text ≡ compact_text (name_data name.now of.now lane)) }
+{
+    let value = json!(in alloc; {
+        "args": {"name": name},
+        "name": of,
         "ph": "M",
-        "pid": 0,
-        "tid": u64::from(member),
-        "args": {"name": name}
-    })
+        "pid": 0u64,
+        "tid": u64::from(lane)
+    })?;
+    value.to_string(alloc)
 }
 
-/// An event as a JSON value.
-fn event_value(alloc: Global, event: &TraceEvent) -> Result<Value, AllocError> {
-    match event.record.scope {
-        Endpoint::Begin => slice_value(alloc, event, "B"),
-        Endpoint::End => slice_value(alloc, event, "E"),
-        Endpoint::Single => moment_value(alloc, event),
+/// The text of an event.
+fn event_text(alloc: Global, event: &TraceEvent) -> Result<String, AllocError>
+    ensures { IfOk result (λ text. string_bytes text ≡ compact_text (event_data event.now)) }
+{
+    match event.event.scope {
+        Endpoint::Begin => slice_text(alloc, event, "B"),
+        Endpoint::End => slice_text(alloc, event, "E"),
+        Endpoint::Single => moment_text(alloc, event),
     }
 }
 
-/// The begin or the end of a slice, by its letter.
-fn slice_value(alloc: Global, event: &TraceEvent, phase: &str) -> Result<Value, AllocError> {
-    let name = name_text(alloc, &event.record)?;
-    json!(in alloc; {
+/// The text of the begin or the end of a slice, by its letter.
+fn slice_text(alloc: Global, event: &TraceEvent, phase: &str) -> Result<String, AllocError>
+    ensures { IfOk result (λ text.
+        string_bytes text ≡ compact_text (slice_data phase.now event.now)) }
+{
+    let name = format!(in alloc; "{}", Name(event.event))?;
+    let args = args_value(alloc, event)?;
+    let value = json!(in alloc; {
+        "args": args,
+        "cat": category(event.event.point),
         "name": name,
-        "cat": category(event.record.point),
         "ph": phase,
-        "ts": event.time,
-        "pid": 0,
+        "pid": 0u64,
         "tid": u64::from(event.member),
-        "args": {"id": event.record.id, "extra": event.record.extra, "step": event.time}
-    })
+        "ts": event.time
+    })?;
+    value.to_string(alloc)
 }
 
-/// An event of a moment, on its lane alone.
-fn moment_value(alloc: Global, event: &TraceEvent) -> Result<Value, AllocError> {
-    let name = name_text(alloc, &event.record)?;
-    json!(in alloc; {
+/// The text of what is of a moment, on its lane alone.
+fn moment_text(alloc: Global, event: &TraceEvent) -> Result<String, AllocError>
+    ensures { IfOk result (λ text. string_bytes text ≡ compact_text (moment_data event.now)) }
+{
+    let name = format!(in alloc; "{}", Name(event.event))?;
+    let args = args_value(alloc, event)?;
+    let value = json!(in alloc; {
+        "args": args,
+        "cat": category(event.event.point),
         "name": name,
-        "cat": category(event.record.point),
         "ph": "i",
+        "pid": 0u64,
         "s": "t",
-        "ts": event.time,
-        "pid": 0,
         "tid": u64::from(event.member),
-        "args": {"id": event.record.id, "extra": event.record.extra, "step": event.time}
+        "ts": event.time
+    })?;
+    value.to_string(alloc)
+}
+
+/// The numbers of an event.
+fn args_value(alloc: Global, event: &TraceEvent) -> Result<Value, AllocError>
+    ensures { IfOk result (λ value. view value ≡ args_data event.now) }
+{
+    json!(in alloc; {
+        "extra": event.event.extra,
+        "id": event.event.id,
+        "step": event.time
     })
 }

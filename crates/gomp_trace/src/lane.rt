@@ -1,17 +1,18 @@
-//! The lane of a member: what is open on it, so that what begins and ends on it nests.
+//! The lane of a member: what has begun on it and not ended, so that what is written of it nests.
 
-ghost use Rattle.std.specs.Prelude.{◌≡◌, ◌<◌, ◌≤◌, ◌++◌, ◌∷◌, [], map, reverse, drop, length, OnOk, IfSome};
-ghost use Rattle.gomp_trace.specs.Lanes.{innermost, is_task, ended, lane_records, lane_after, at_time, closing};
+ghost use Rattle.std.specs.Prelude.{◌≡◌, ◌<◌, ◌++◌, ◌∷◌, [], length, IfSome, OnOk};
+ghost use Rattle.gomp_trace.specs.Lanes.{innermost, all_ended, lane_records, lane_after, end_records, after_end, at_time, all_at};
+ghost use Rattle.gomp_trace.specs.Runs.{is_idle};
 
-use crate::event::{TraceEvent, ended, ends, is_span, moment};
-use gomp_ompt::{Endpoint, Point, Record};
+use crate::event::{TraceEvent, ended, ends, is_span, is_task, moment};
+use gomp_ompt::{Endpoint, Record};
 use std::alloc::{AllocError, Global};
 use std::marker::Model;
 
-/// What is open on a lane, the outermost first.
+/// What has begun on a lane and not ended, the outermost first.
 #[derive(Drop)]
 pub(crate) struct Lane {
-    open: Vec<Record>,
+    begun: Vec<Record>,
 }
 
 impl Model for Lane {
@@ -20,70 +21,77 @@ impl Model for Lane {
 
     ghost Value = { List Record };
 
-    ghost view = { λ lane. lane.open.items };
+    ghost view = { λ lane. lane.begun.items };
 }
 
 impl Lane {
-    /// Nothing is open. It takes no memory.
+    /// Nothing has begun. It takes no memory.
     pub(crate) fn new(alloc: Global) -> Lane
         ensures { result ≡ [] }
     {
         Lane {
-            open: Vec::new(alloc),
+            begun: Vec::new(alloc),
         }
     }
 
-    /// Whether nothing is open.
-    pub(crate) fn is_empty(&self) -> bool
-        ensures { result ≡ is_empty_lane self.now }
+    /// Whether nothing goes on.
+    pub(crate) fn is_idle(&self) -> bool
+        ensures { result ≡ is_idle self.now }
     {
-        self.open.is_empty()
+        self.begun.is_empty()
     }
 
-    /// Appends the events of the member's next record to those of the trace.
+    /// Appends what is written of the member's next record to the events of the trace.
     pub(crate) fn take(
         &mut self,
         time: u64,
         member: u16,
-        record: &Record,
+        event: &Record,
         events: &mut Vec<TraceEvent>,
     ) -> Result<(), AllocError>
-        ensures lane { OnOk result (self.new ≡ lane_after record.now self.old) }
+        ensures lane { OnOk result (self.new ≡ lane_after event.now self.old) }
         ensures events { OnOk result (events.new.items ≡
-            events.old.items ++ map (at_time time member) (lane_records record.now self.old)) }
+            events.old.items ++ all_at time member (lane_records event.now self.old)) }
     {
-        match record.scope {
-            Endpoint::Begin if is_span(record.point) => {
-                self.open.push(*record)?;
-                push_event(time, member, *record, events)
+        if !is_span(event.point) {
+            return push_event(time, member, moment(event), events);
+        }
+        match event.scope {
+            Endpoint::Begin => {
+                self.begun.push(*event)?;
+                push_event(time, member, *event, events)
             }
-            Endpoint::End if is_span(record.point) => self.end(time, member, record, events),
-            _ => push_event(time, member, moment(record), events),
+            Endpoint::End => self.end(time, member, event, events),
+            Endpoint::Single => push_event(time, member, moment(event), events),
         }
     }
 
-    /// Appends the events of an end: what is open within it ends first, and what goes on behind it is
-    /// begun again.
+    /// The same of the end of a slice.
     fn end(
         &mut self,
         time: u64,
         member: u16,
         end: &Record,
         events: &mut Vec<TraceEvent>,
-    ) -> Result<(), AllocError> {
-        let Some(place) = innermost(self.open.as_slice(), end) else {
+    ) -> Result<(), AllocError>
+        ensures lane { OnOk result
+            (self.new ≡ after_end end.now (innermost end.now self.old) self.old) }
+        ensures events { OnOk result (events.new.items ≡ events.old.items ++
+            all_at time member (end_records end.now (innermost end.now self.old) self.old)) }
+    {
+        let Some(place) = innermost(self.begun.as_slice(), end) else {
             return push_event(time, member, moment(end), events);
         };
-        close_all(time, member, &self.open[place..], events)?;
+        end_all(time, member, &self.begun[place..], events)?;
         if is_task(end.point) {
-            self.open.truncate(place);
+            self.begun.truncate(place);
             return Ok(());
         }
-        let _ = self.open.remove(place);
-        open_again(time, member, &self.open[place..], events)
+        let _ended = self.begun.remove(place);
+        begin_again(time, member, &self.begun[place..], events)
     }
 
-    /// Appends the ends of all that is open, the innermost first.
+    /// Appends the ends of all that goes on, the innermost first.
     pub(crate) fn close(
         &self,
         time: u64,
@@ -91,69 +99,74 @@ impl Lane {
         events: &mut Vec<TraceEvent>,
     ) -> Result<(), AllocError>
         ensures { OnOk result (events.new.items ≡
-            events.old.items ++ closing time member self.now) }
+            events.old.items ++ all_at time member (all_ended self.now)) }
     {
-        close_all(time, member, self.open.as_slice(), events)
+        end_all(time, member, self.begun.as_slice(), events)
     }
 }
 
-/// Whether it is a task: with it all ends that began in it.
-fn is_task(point: Point) -> bool
-    ensures { result ≡ is_task point }
+/// The place of the innermost that this end ends, if one has begun.
+fn innermost(begun: &[Record], end: &Record) -> Option<usize>
+    ensures place { result ≡ innermost end.now begun.now }
+    ensures within { IfSome result (λ place. place < length begun.now) }
 {
-    matches!(point, Point::TaskSchedule | Point::ImplicitTask)
-}
-
-/// Where the innermost stands that this end ends, if it is open.
-fn innermost(open: &[Record], end: &Record) -> Option<usize>
-    ensures { result ≡ innermost end.now open.now }
-{
-    for (place, record) in open.iter().enumerate().rev() {
-        if ends(end, record) {
-            return Some(place);
+    let mut left = begun.len();
+    while left > 0 {
+        left -= 1;
+        if ends(end, &begun[left]) {
+            return Some(left);
         }
     }
     None
 }
 
 /// Appends the ends of these, the last first.
-fn close_all(
+fn end_all(
     time: u64,
     member: u16,
-    open: &[Record],
+    begun: &[Record],
     events: &mut Vec<TraceEvent>,
-) -> Result<(), AllocError> {
-    for record in open.iter().rev() {
-        push_event(time, member, ended(record), events)?;
+) -> Result<(), AllocError>
+    ensures { OnOk result (events.new.items ≡
+        events.old.items ++ all_at time member (all_ended begun.now)) }
+{
+    let mut left = begun.len();
+    while left > 0 {
+        left -= 1;
+        push_event(time, member, ended(&begun[left]), events)?;
     }
     Ok(())
 }
 
 /// Appends the begins of these again, in their order.
-fn open_again(
+fn begin_again(
     time: u64,
     member: u16,
-    open: &[Record],
+    begun: &[Record],
     events: &mut Vec<TraceEvent>,
-) -> Result<(), AllocError> {
-    for record in open {
-        push_event(time, member, *record, events)?;
+) -> Result<(), AllocError>
+    ensures { OnOk result (events.new.items ≡
+        events.old.items ++ all_at time member begun.now) }
+{
+    for event in begun {
+        push_event(time, member, *event, events)?;
     }
     Ok(())
 }
 
-/// Appends an event.
+/// Appends one event.
 fn push_event(
     time: u64,
     member: u16,
-    record: Record,
+    event: Record,
     events: &mut Vec<TraceEvent>,
 ) -> Result<(), AllocError>
+    ensures { OnOk result (events.new.items ≡ events.old.items ++ at_time time member event ∷ []) }
 {
     events.push(TraceEvent {
         time,
         member,
-        record,
+        event,
     })?;
     Ok(())
 }

@@ -1,5 +1,10 @@
 //! The call that a step makes or repeats, kept while the step is made.
 
+ghost use Rattle.std.specs.Prelude.{◌≡◌, IfOk};
+ghost use Rattle.gomp_model.specs.Team.{call_meant, is_resume};
+ghost use Rattle.gomp_core.specs.Stands.{open_call_of};
+ghost use Rattle.gomp_trace.specs.Calls.{HasNoItems};
+
 use gomp_core::Team;
 use gomp_shares::Shares;
 use gomp_types::{Call, Step, TaskDesc};
@@ -11,15 +16,27 @@ pub(crate) fn meant_call<S: Shares>(
     alloc: Global,
     team: &Team<S>,
     step: &Step,
-) -> Result<Call, AllocError> {
+) -> Result<Call, AllocError>
+    ensures { IfOk result (λ call.
+        call ≡ call_meant step.now.call (open_call_of team.now step.now.member)) }
+{
     match (&step.call, team.open_call(step.member)) {
-        (Call::Resume, Some(open)) => copied_call(alloc, open),
+        (Call::Resume, Some(waiting)) => copied_call(alloc, waiting),
         (call, _) => copied_call(alloc, call),
     }
 }
 
+/// Whether a call asks again what waits.
+pub(crate) fn is_resume(call: &Call) -> bool
+    ensures { result ≡ is_resume call.now }
+{
+    matches!(call, Call::Resume)
+}
+
 /// A copy of a call.
-fn copied_call(alloc: Global, call: &Call) -> Result<Call, AllocError> {
+fn copied_call(alloc: Global, call: &Call) -> Result<Call, AllocError>
+    ensures { IfOk result (λ copy. copy ≡ call.now) }
+{
     match call {
         Call::TaskCreate(desc) => Ok(Call::TaskCreate(copied_task(alloc, desc)?)),
         Call::Taskwait(deps) => Ok(Call::Taskwait(deps.copied(alloc)?)),
@@ -28,7 +45,9 @@ fn copied_call(alloc: Global, call: &Call) -> Result<Call, AllocError> {
 }
 
 /// A copy of what is asked of a task.
-fn copied_task(alloc: Global, desc: &TaskDesc) -> Result<TaskDesc, AllocError> {
+fn copied_task(alloc: Global, desc: &TaskDesc) -> Result<TaskDesc, AllocError>
+    ensures { IfOk result (λ copy. copy ≡ desc.now) }
+{
     Ok(TaskDesc {
         code: desc.code,
         arg: desc.arg,
@@ -39,14 +58,20 @@ fn copied_task(alloc: Global, desc: &TaskDesc) -> Result<TaskDesc, AllocError> {
 }
 
 /// A copy of a call that has no items.
-fn copied_plain(call: &Call) -> Call {
+fn copied_plain(call: &Call) -> Call
+    requires { HasNoItems call.now }
+    ensures { result ≡ call.now }
+{
     match call {
         Call::LoopStart(desc) => Call::LoopStart(*desc),
         Call::LoopNext => Call::LoopNext,
         Call::LoopEnd => Call::LoopEnd,
         Call::LoopEndNowait => Call::LoopEndNowait,
         Call::LoopEndCancel => Call::LoopEndCancel,
-        Call::SectionsStart { count: n, end_kind: end } => Call::SectionsStart { count: *n, end_kind: *end },
+        Call::SectionsStart { count, end_kind } => Call::SectionsStart {
+            count: *count,
+            end_kind: *end_kind,
+        },
         Call::SectionsNext => Call::SectionsNext,
         Call::SectionsEnd => Call::SectionsEnd,
         Call::SectionsEndNowait => Call::SectionsEndNowait,
@@ -69,13 +94,16 @@ fn copied_plain(call: &Call) -> Call {
         Call::SetNest(lock) => Call::SetNest(*lock),
         Call::TestNest(lock) => Call::TestNest(*lock),
         Call::UnsetNest(lock) => Call::UnsetNest(*lock),
+        Call::TaskCreate(_) | Call::Taskwait(_) => unreachable!(),
         Call::TaskEnd => Call::TaskEnd,
         Call::GroupStart => Call::GroupStart,
         Call::GroupEnd => Call::GroupEnd,
-        Call::Cancel { kind, clause } => Call::Cancel { kind: *kind, clause: *clause },
+        Call::Cancel { kind, clause } => Call::Cancel {
+            kind: *kind,
+            clause: *clause,
+        },
         Call::Point(kind) => Call::Point(*kind),
         Call::Resume => Call::Resume,
         Call::Stop => Call::Stop,
-        Call::TaskCreate(_) | Call::Taskwait(_) => unreachable!(),
     }
 }

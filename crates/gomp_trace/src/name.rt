@@ -1,16 +1,20 @@
 //! What a reader of a lane sees: the name of an event, and its category.
 
+ghost use Rattle.std.specs.Prelude.{◌≡◌, Some};
+ghost use Rattle.gomp_trace.specs.Names.{share_word, wait_word, construct_word, mutex_words, event_name, category};
+
 use gomp_ompt::{Point, Record};
-use std::alloc::{AllocError, Global};
 use std::fmt;
 
 /// The name of a record's event.
 #[derive(Clone, Copy)]
-pub(crate) struct Name<'a>(pub(crate) &'a Record);
+pub(crate) struct Name(pub(crate) Record);
 
-impl fmt::Display for Name<'_> {
+impl fmt::Display for Name {
+    ghost output = { λ name. Some (event_name name.0) };
+
     fn fmt<W: fmt::Write>(&self, f: &mut fmt::Formatter<W>) -> fmt::Result {
-        let Record { id, extra, .. } = *self.0;
+        let Record { id, extra, .. } = self.0;
         match self.0.point {
             Point::ParallelBegin => write!(f, "parallel region begins"),
             Point::ParallelEnd => write!(f, "parallel region ends"),
@@ -30,11 +34,13 @@ impl fmt::Display for Name<'_> {
     }
 }
 
-/// What one task holds at a time: its kind, and the number of a nestable lock.
+/// What one task holds at a time, by the number of its kind, and the number of a nestable lock.
 #[derive(Clone, Copy)]
 struct Mutex(u64, u64);
 
 impl fmt::Display for Mutex {
+    ghost output = { λ mutex. Some (mutex_words mutex.0 mutex.1) };
+
     fn fmt<W: fmt::Write>(&self, f: &mut fmt::Formatter<W>) -> fmt::Result {
         let lock = self.1;
         match self.0 {
@@ -47,12 +53,19 @@ impl fmt::Display for Mutex {
 }
 
 /// The work-share with this number.
-fn share_word(id: u64) -> &'static str {
-    if id == 0 { "loop or sections" } else { "single" }
+fn share_word(id: u64) -> &'static str
+    ensures { result.now ≡ share_word id }
+{
+    match id {
+        0 => "loop or sections",
+        _ => "single",
+    }
 }
 
 /// What is waited at, by its number.
-fn wait_word(id: u64) -> &'static str {
+fn wait_word(id: u64) -> &'static str
+    ensures { result.now ≡ wait_word id }
+{
     match id {
         1 => "barrier",
         2 => "end of work-share",
@@ -63,7 +76,9 @@ fn wait_word(id: u64) -> &'static str {
 }
 
 /// What is cancelled, by its number.
-fn construct_word(id: u64) -> &'static str {
+fn construct_word(id: u64) -> &'static str
+    ensures { result.now ≡ construct_word id }
+{
     match id {
         1 => "parallel",
         2 => "loop",
@@ -72,8 +87,10 @@ fn construct_word(id: u64) -> &'static str {
     }
 }
 
-/// The name of the callback of OMPT that has such records (OpenMP API 5.2, section 19.5.2).
-pub(crate) fn category(point: Point) -> &'static str {
+/// The name of the callback of OMPT that gets such records (OpenMP API 5.2, section 19.5.2).
+pub(crate) fn category(point: Point) -> &'static str
+    ensures { result.now ≡ category point }
+{
     match point {
         Point::ParallelBegin => "parallel_begin",
         Point::ParallelEnd => "parallel_end",
@@ -90,9 +107,4 @@ pub(crate) fn category(point: Point) -> &'static str {
         Point::NestLock => "nest_lock",
         Point::Cancel => "cancel",
     }
-}
-
-/// The name as a text.
-pub(crate) fn name_text(alloc: Global, record: &Record) -> Result<String, AllocError> {
-    format!(in alloc; "{}", Name(record))
 }

@@ -1,76 +1,105 @@
-//! A list of steps, run by a new team and traced.
+//! A list of steps, made by a new team and traced.
+
+ghost use Rattle.std.specs.Prelude.{◌≡◌, ◌↔◌, ◌⊎◌, [], length, IfOk, Err};
+ghost use Rattle.gomp_types.specs.declared.refusal.Refusal.{Refusal};
+ghost use Rattle.gomp_types.specs.declared.refusal.Refusal.TheVariants.{BadTeam, NoMemory};
+ghost use Rattle.gomp_types.specs.Limits.{IsTeamSize, standard};
+ghost use Rattle.gomp_core.specs.Stands.{Stands, members_of};
+ghost use Rattle.gomp_steps.specs.Output.{lacks};
+ghost use Rattle.gomp_trace.specs.Runs.{MakesStep, Ran};
 
 use crate::event::TraceEvent;
-use crate::meant::meant_call;
+use crate::meant::{is_resume, meant_call};
 use crate::tracing::Tracing;
 use gomp_core::Team;
 use gomp_icv::Icv;
 use gomp_ompt::records;
 use gomp_shares::Shares;
-use gomp_types::{Call, Refusal, Reply, Step};
+use gomp_types::{Refusal, Reply, Step};
 use std::alloc::{AllocError, Global};
 
-/// What a run gives: its events, and the exit status.
+/// What a run gives.
 #[derive(Drop)]
-pub(crate) struct Run {
+pub(crate) struct Outcome {
+    /// The events of its trace, in their order.
     pub(crate) events: Vec<TraceEvent>,
-    /// 0 if the steps were answered, 3 if one of them with want of memory (E37).
+    /// The exit status: 0 if the steps were answered, 3 if one of them with want of memory (E37).
     pub(crate) code: u8,
 }
 
-/// Runs these steps on a new team of `members`, by these control variables, and traces them. Refused
-/// with `BadTeam` (E38) if the size is not 1 to 64, and with `NoMemory` (E37) for want of memory.
+/// Has a new team of this many members, by these control variables, make these steps, and traces them.
+///
+/// Refused with `BadTeam` (E38) if the size is not 1 to 64, and with `NoMemory` (E37) for want of
+/// memory outside of the steps.
 pub(crate) fn trace_run<S: Shares + Drop>(
     alloc: Global,
     members: u16,
     icv: Icv,
     steps: Vec<Step>,
-) -> Result<Run, Refusal> {
+) -> Result<Outcome, Refusal>
+    ensures size { result ≡ Err BadTeam ↔ (IsTeamSize members → ⊥) }
+    ensures refused { (refusal : Refusal) → result ≡ Err refusal →
+        (refusal ≡ BadTeam) ⊎ (refusal ≡ NoMemory) }
+    ensures ran { IfOk result (λ outcome.
+        Ran icv members steps.items outcome.events.items outcome.code) }
+{
     let team: Team<S> = Team::new(alloc, members, icv)?;
-    match trace_steps(alloc, team, members, steps) {
-        Ok(run) => Ok(run),
+    match make_steps(alloc, team, members, steps) {
+        Ok(outcome) => Ok(outcome),
         Err(_) => Err(Refusal::NoMemory),
     }
 }
 
-/// Traces these steps of a new team of this many members.
-fn trace_steps<S: Shares + Drop>(
+/// Has this new team, of this many members, make these steps, and traces them.
+fn make_steps<S: Shares + Drop>(
     alloc: Global,
     mut team: Team<S>,
     members: u16,
     steps: Vec<Step>,
-) -> Result<Run, AllocError> {
-    let mut tracing = Tracing::begin(alloc, members)?;
-    let mut code = 0;
+) -> Result<Outcome, AllocError>
+    requires size { members_of team ≡ members }
+    requires limits { team.board.limits ≡ standard }
+    requires begins { Stands S.stands S.members team [] }
+    ensures { IfOk result (λ outcome.
+        Ran team.icv members steps.items outcome.events.items outcome.code) }
+{
+    let mut traced = Tracing::begin(alloc, members)?;
     let mut time = 0;
+    let mut code = 0;
     for step in steps {
         time += 1;
-        let reply = trace_step(alloc, &mut team, time, step, &mut tracing)?;
+        let reply = make_step(alloc, &mut team, &mut traced, time, step)?;
         if lacks(&reply) {
             code = 3;
         }
     }
-    let events = tracing.finish(time)?;
-    Ok(Run { events, code })
+    let events = traced.finish(time)?;
+    Ok(Outcome { events, code })
 }
 
-/// Makes a step, whose number is `time`, and traces its records.
-fn trace_step<S: Shares>(
+/// Has the team make a step, and takes the records of its reply. `time` is the step's number, from 1.
+fn make_step<S: Shares>(
     alloc: Global,
     team: &mut Team<S>,
+    traced: &mut Tracing,
     time: u64,
     step: Step,
-    tracing: &mut Tracing,
-) -> Result<Reply, AllocError> {
-    let first = !matches!(step.call, Call::Resume);
+) -> Result<Reply, AllocError>
+    requires lanes { length traced.old.lanes ≡ members_of team.old }
+    ensures { IfOk result (λ reply. MakesStep S.stands S.members time step
+        team.old traced.old reply team.new traced.new) }
+{
+    let first = !is_resume(&step.call);
     let call = meant_call(alloc, team, &step)?;
-    let member = step.member;
-    let reply = team.step(member, step.call);
-    tracing.take_all(time, member, records(&call, first, &reply).as_slice())?;
+    let Step { member, call: made } = step;
+    let reply = team.step(member, made);
+    traced.take_all(time, member, records(&call, first, &reply).as_slice())?;
     Ok(reply)
 }
 
 /// Whether a reply is want of memory.
-fn lacks(reply: &Reply) -> bool {
+fn lacks(reply: &Reply) -> bool
+    ensures { result ≡ lacks reply.now }
+{
     matches!(reply, Reply::Refused(Refusal::NoMemory))
 }

@@ -1,5 +1,7 @@
 //! `ompteam trace`: reads a text of steps, runs it, and writes the trace of the run.
 
+ghost use Rattle.gomp_trace.specs.Serving.{Traces};
+
 use crate::answer::trace_answer;
 use gomp_icv::Icv;
 use gomp_steps::serve::{Ending, MAX_TEXT, read_text};
@@ -13,7 +15,10 @@ pub fn serve_trace<R: Read + Drop, W: Write>(
     icv: Icv,
     reader: R,
     writer: &mut W,
-) -> Ending {
+) -> Ending
+    ensures { Traces icv
+        (R.remaining reader) (W.contents writer.old) (W.contents writer.new) result }
+{
     let text = match read_text(alloc, reader, MAX_TEXT) {
         Ok(text) => text,
         Err(ending) => return ending,

@@ -1,4 +1,8 @@
-//! The lanes of a team and the events of its run.
+//! The lanes of a team, and the events of its run.
+
+ghost use Rattle.std.specs.Prelude.{◌≡◌, ◌<◌, ◌≤◌, length, IfOk, OnOk};
+ghost use Rattle.std.specs.List.{list_all};
+ghost use Rattle.gomp_trace.specs.Runs.{begun, closed, is_idle, with_record, with_records};
 
 use crate::event::TraceEvent;
 use crate::lane::Lane;
@@ -18,77 +22,91 @@ impl Model for Tracing {
 
     ghost Value = { Traced };
 
-    ghost view = { λ tracing. record { lanes = tracing.lanes.items; events = tracing.events.items } };
+    ghost view = { λ t. record { lanes = t.lanes.items; events = t.events.items } };
 }
 
 impl Tracing {
-    /// A team of this many members begins: the region, and the implicit task of each.
-    pub(crate) fn begin(alloc: Global, members: u16) -> Result<Tracing, AllocError> {
+    /// A team of this many members, 1 to 65,535, begins: its region, and the implicit task of each.
+    pub(crate) fn begin(alloc: Global, members: u16) -> Result<Tracing, AllocError>
+        ensures traced { IfOk result (λ tracing. tracing ≡ begun members members) }
+        ensures lanes { IfOk result (λ tracing. length tracing.lanes ≡ members) }
+    {
         let mut tracing = Tracing::with_lanes(alloc, members)?;
-        let fork = Record::single(Point::ParallelBegin, u64::from(members), 0);
-        tracing.events.push(TraceEvent {
-            time: 0,
-            member: 0,
-            record: fork,
-        })?;
         for member in 0..members {
-            let task = Record::begin(
-                Point::ImplicitTask,
-                u64::from(member),
-                u64::from(members),
-            );
+            let id = u64::from(member);
+            let task = Record::begin(Point::ImplicitTask, id, u64::from(members));
             tracing.take(0, member, &task)?;
         }
         Ok(tracing)
     }
 
-    /// Nothing is open on any of this many lanes.
-    fn with_lanes(alloc: Global, members: u16) -> Result<Tracing, AllocError> {
+    /// The region of a team begins. Nothing goes on on its lanes.
+    fn with_lanes(alloc: Global, members: u16) -> Result<Tracing, AllocError>
+        ensures { IfOk result (λ tracing. tracing ≡ begun members 0) }
+    {
         let mut lanes = Vec::with_capacity(alloc, members as usize)?;
         for _ in 0..members {
             lanes.push_reserved(Lane::new(alloc));
         }
-        Ok(Tracing {
-            lanes,
-            events: Vec::new(alloc),
-        })
+        let mut events = Vec::new(alloc);
+        events.push(TraceEvent {
+            time: 0,
+            member: 0,
+            event: Record::single(Point::ParallelBegin, u64::from(members), 0),
+        })?;
+        Ok(Tracing { lanes, events })
     }
 
-    /// Takes the records of a step.
+    /// Takes the records of a step, in their order.
     pub(crate) fn take_all(
         &mut self,
         time: u64,
         member: u16,
-        records: &[Record],
-    ) -> Result<(), AllocError> {
-        for record in records {
-            self.take(time, member, record)?;
+        events: &[Record],
+    ) -> Result<(), AllocError>
+        requires lane { 0 < length events.now → member < length self.old.lanes }
+        ensures traced { OnOk result (self.new ≡ with_records time member events.now self.old) }
+        ensures lanes { OnOk result (length self.new.lanes ≡ length self.old.lanes) }
+    {
+        for event in events {
+            self.take(time, member, event)?;
         }
         Ok(())
     }
 
-    /// Takes the member's next record. If nothing is open on any lane behind it, the region has ended.
-    fn take(&mut self, time: u64, member: u16, record: &Record) -> Result<(), AllocError> {
-        if let Some(lane) = self.lanes.get_mut(member as usize) {
-            lane.take(time, member, record, &mut self.events)?;
-        }
-        if self.lanes.iter().all(|lane| lane.is_empty()) {
-            let join = Record::single(Point::ParallelEnd, self.lanes.len() as u64, 0);
+    /// Takes the member's next record. If nothing goes on on any lane behind it, the region has ended.
+    fn take(&mut self, time: u64, member: u16, event: &Record) -> Result<(), AllocError>
+        requires lane { member < length self.old.lanes }
+        ensures traced { OnOk result (self.new ≡ with_record time member event.now self.old) }
+        ensures lanes { OnOk result (length self.new.lanes ≡ length self.old.lanes) }
+    {
+        self.lanes[member as usize].take(time, member, event, &mut self.events)?;
+        if all_idle(&self.lanes) {
             self.events.push(TraceEvent {
                 time,
                 member: 0,
-                record: join,
+                event: Record::single(Point::ParallelEnd, self.lanes.len() as u64, 0),
             })?;
         }
         Ok(())
     }
 
-    /// The events, with the ends of all that is open at this time, lane by lane.
-    pub(crate) fn finish(mut self, time: u64) -> Result<Vec<TraceEvent>, AllocError> {
-        for (member, lane) in self.lanes.iter().enumerate() {
-            lane.close(time, member as u16, &mut self.events)?;
+    /// The events, and behind them the ends of all that goes on, at this time, lane by lane.
+    pub(crate) fn finish(self, time: u64) -> Result<Vec<TraceEvent>, AllocError>
+        requires few { length self.lanes ≤ 65535 }
+        ensures { IfOk result (λ events. events.items ≡ closed time self) }
+    {
+        let Tracing { lanes, mut events } = self;
+        for (member, lane) in lanes.iter().enumerate() {
+            lane.close(time, member as u16, &mut events)?;
         }
-        let Tracing { lanes: _, events } = self;
         Ok(events)
     }
+}
+
+/// Whether nothing goes on on any of these lanes.
+fn all_idle(lanes: &[Lane]) -> bool
+    ensures { result ≡ list_all is_idle lanes.now }
+{
+    lanes.iter().all(|lane| lane.is_idle())
 }
