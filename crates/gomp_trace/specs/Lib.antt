@@ -1,5 +1,6 @@
 pub mod Calls
 pub mod Lanes
+pub mod Nesting
 pub mod Runs
 pub mod Names
 pub mod Json

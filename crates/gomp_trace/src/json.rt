@@ -52,39 +52,48 @@ fn push_line(line: &str, text: &mut String) -> Result<(), AllocError>
 }
 
 /// The text of what names the team or a lane.
+#[tactic(auto, unfolding(crate::specs::Json::name_data))]
 fn name_text(alloc: Global, name: &str, of: &str, lane: u16) -> Result<String, AllocError>
     ensures { IfOk result (λ text.
         string_bytes text ≡ compact_text (name_data name.now of.now lane)) }
 {
-    let value = json!(in alloc; {
+    name_value(alloc, name, of, lane)?.to_string(alloc)
+}
+
+/// What names the team or a lane.
+#[tactic(auto, unfolding(crate::specs::Json::name_data))]
+fn name_value(alloc: Global, name: &str, of: &str, lane: u16) -> Result<Value, AllocError>
+    ensures { IfOk result (λ value. view value ≡ name_data name.now of.now lane) }
+{
+    json!(in alloc; {
         "args": {"name": name},
         "name": of,
         "ph": "M",
         "pid": 0u64,
         "tid": u64::from(lane)
-    })?;
-    value.to_string(alloc)
+    })
 }
 
 /// The text of an event.
+#[tactic(auto, unfolding(crate::specs::Json::slice_data, crate::specs::Json::moment_data))]
 fn event_text(alloc: Global, event: &TraceEvent) -> Result<String, AllocError>
     ensures { IfOk result (λ text. string_bytes text ≡ compact_text (event_data event.now)) }
 {
     match event.event.scope {
-        Endpoint::Begin => slice_text(alloc, event, "B"),
-        Endpoint::End => slice_text(alloc, event, "E"),
-        Endpoint::Single => moment_text(alloc, event),
+        Endpoint::Begin => slice_value(alloc, event, "B")?.to_string(alloc),
+        Endpoint::End => slice_value(alloc, event, "E")?.to_string(alloc),
+        Endpoint::Single => moment_value(alloc, event)?.to_string(alloc),
     }
 }
 
-/// The text of the begin or the end of a slice, by its letter.
-fn slice_text(alloc: Global, event: &TraceEvent, phase: &str) -> Result<String, AllocError>
-    ensures { IfOk result (λ text.
-        string_bytes text ≡ compact_text (slice_data phase.now event.now)) }
+/// The begin or the end of a slice, by its letter.
+#[tactic(auto, unfolding(crate::specs::Json::slice_data))]
+fn slice_value(alloc: Global, event: &TraceEvent, phase: &str) -> Result<Value, AllocError>
+    ensures { IfOk result (λ value. view value ≡ slice_data phase.now event.now) }
 {
     let name = format!(in alloc; "{}", Name(event.event))?;
     let args = args_value(alloc, event)?;
-    let value = json!(in alloc; {
+    json!(in alloc; {
         "args": args,
         "cat": category(event.event.point),
         "name": name,
@@ -92,17 +101,17 @@ fn slice_text(alloc: Global, event: &TraceEvent, phase: &str) -> Result<String, 
         "pid": 0u64,
         "tid": u64::from(event.member),
         "ts": event.time
-    })?;
-    value.to_string(alloc)
+    })
 }
 
-/// The text of what is of a moment, on its lane alone.
-fn moment_text(alloc: Global, event: &TraceEvent) -> Result<String, AllocError>
-    ensures { IfOk result (λ text. string_bytes text ≡ compact_text (moment_data event.now)) }
+/// What is of a moment, on its lane alone.
+#[tactic(auto, unfolding(crate::specs::Json::moment_data))]
+fn moment_value(alloc: Global, event: &TraceEvent) -> Result<Value, AllocError>
+    ensures { IfOk result (λ value. view value ≡ moment_data event.now) }
 {
     let name = format!(in alloc; "{}", Name(event.event))?;
     let args = args_value(alloc, event)?;
-    let value = json!(in alloc; {
+    json!(in alloc; {
         "args": args,
         "cat": category(event.event.point),
         "name": name,
@@ -111,8 +120,7 @@ fn moment_text(alloc: Global, event: &TraceEvent) -> Result<String, AllocError>
         "s": "t",
         "tid": u64::from(event.member),
         "ts": event.time
-    })?;
-    value.to_string(alloc)
+    })
 }
 
 /// The numbers of an event.

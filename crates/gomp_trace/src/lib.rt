@@ -5,6 +5,7 @@
 #![tactic(auto)]
 
 mod answer;
+mod copy;
 pub mod event;
 mod json;
 mod lane;

@@ -10,6 +10,7 @@ use std::fmt;
 #[derive(Clone, Copy)]
 pub(crate) struct Name(pub(crate) Record);
 
+#[tactic(auto, unfolding(crate::specs::Names::event_name))]
 impl fmt::Display for Name {
     ghost output = { λ name. Some (event_name name.0) };
 
@@ -88,6 +89,7 @@ fn construct_word(id: u64) -> &'static str
 }
 
 /// The name of the callback of OMPT that gets such records (OpenMP API 5.2, section 19.5.2).
+#[tactic(auto, unfolding(crate::specs::Names::category))]
 pub(crate) fn category(point: Point) -> &'static str
     ensures { result.now ≡ category point }
 {

@@ -1,6 +1,6 @@
 //! A list of steps, made by a new team and traced.
 
-ghost use Rattle.std.specs.Prelude.{◌≡◌, ◌↔◌, ◌⊎◌, [], length, IfOk, Err};
+ghost use Rattle.std.specs.Prelude.{◌≡◌, ◌↔◌, ◌⊎◌, [], length, if◌then◌else◌, IfOk, Err};
 ghost use Rattle.gomp_types.specs.declared.refusal.Refusal.{Refusal};
 ghost use Rattle.gomp_types.specs.declared.refusal.Refusal.TheVariants.{BadTeam, NoMemory};
 ghost use Rattle.gomp_types.specs.Limits.{IsTeamSize, standard};
@@ -69,9 +69,7 @@ fn make_steps<S: Shares + Drop>(
     for step in steps {
         time += 1;
         let reply = make_step(alloc, &mut team, &mut traced, time, step)?;
-        if lacks(&reply) {
-            code = 3;
-        }
+        code = code_with(code, &reply);
     }
     let events = traced.finish(time)?;
     Ok(Outcome { events, code })
@@ -97,9 +95,12 @@ fn make_step<S: Shares>(
     Ok(reply)
 }
 
-/// Whether a reply is want of memory.
-fn lacks(reply: &Reply) -> bool
-    ensures { result ≡ lacks reply.now }
+/// The exit status with one more reply: 3 if that is want of memory.
+fn code_with(code: u8, reply: &Reply) -> u8
+    ensures { result ≡ (if lacks reply.now then 3 else code) }
 {
-    matches!(reply, Reply::Refused(Refusal::NoMemory))
+    match reply {
+        Reply::Refused(Refusal::NoMemory) => 3,
+        _ => code,
+    }
 }
