@@ -20,8 +20,8 @@ use std::io::{BufReader, Read, Write};
 
 /// Does what the words of the command line say, of which the first is the program's name.
 ///
-/// The words behind `steps`, `live`, `check` or `trace` are settings `NAME=VALUE`, which stand for words of the environment
-/// (OpenMP API 5.2, chapter 21). One without `=` is a fault, and nothing is read or written then. Those
+/// The words behind `steps`, `live`, `check` or `trace` are settings `NAME=VALUE`, which stand for words
+/// of the environment (OpenMP API 5.2, chapter 21). One without `=` is a fault, and nothing is read or written then. Those
 /// that set nothing are ignored, and in the notes if the input was answered. [`Status`] says which
 /// status each end has.
 pub fn serve<S: AsStr, R: Read + Drop, W: Write>(
