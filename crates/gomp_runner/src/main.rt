@@ -1,4 +1,4 @@
-//! `ompteam`: answers the steps of an OpenMP team, a text whole or line by line.
+//! `ompteam`: answers the steps of an OpenMP team, a text whole or line by line, or says what a text is.
 //!
 //! [`run_process`] does everything; `main` only hands it the process's words, input, output and
 //! standard error.
